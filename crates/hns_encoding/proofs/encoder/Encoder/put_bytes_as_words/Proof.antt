@@ -1,0 +1,28 @@
+-- `put_bytes_as_words` meets its contract: it puts as many words as the bytes fill.
+use Prim.Native.Nat.{ℕ}
+use mathlib.Core.Path.{subst}
+use Rattle.hns_encoding.specs.Words.{wordsOf}
+use Rattle.hns_encoding.specs.Cursor.{Puts}
+use borrow.Author.Needs.{needs}
+use Rattle.hns_encoding.proofs.encoder.Encoder.put_bytes_as_words.Statement.{statement}
+use Rattle.hns_encoding.proofs.encoder.Encoder.put_bytes_as_words.Tie as tie
+
+word-count-requires : tie.Need-word-count-requires
+word-count-requires c κs = search needs
+
+put-padded-as-words-requires : tie.Need-put-padded-as-words-requires
+put-padded-as-words-requires c κs = search needs
+
+same-length : tie.Need-same-length
+same-length c = search needs
+
+returns : tie.Need-returns
+returns c =
+    let p = c .before .before .put-padded-as-words in
+    let s = c .before .before .before in
+    let a = s .before .before .before .before .args in
+    subst (λ (n : ℕ). Puts (p .result) (a .out .now) (p .last .1 .0) (a .self .position) (wordsOf n (a .bytes .now))) (s .word-count .ensures) (p .ensures)
+
+pub put-bytes-as-words-spec : {M : Type 1} → statement M
+put-bytes-as-words-spec =
+    tie.close (tie.spec word-count-requires put-padded-as-words-requires same-length returns)

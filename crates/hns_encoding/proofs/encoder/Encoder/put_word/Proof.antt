@@ -1,0 +1,59 @@
+-- `put_word` meets its contract: the law of a write, at one word.
+use mathlib.Core.Path.{sym, _∙_, ap}
+use lib.ListN.{length}
+use mathlib.Core.Path.{refl}
+use mathlib.Core.List.{[], _∷_}
+use Prim.Native.Nat.{_+_}
+use Rattle.hns_encoding.specs.Laws.Lists.{written-one}
+use Rattle.hns_encoding.specs.Laws.Cursor.{there, puts-ok, puts-err}
+use borrow.Author.Needs.{needs}
+use native.Mathlib.Omega.{arith}
+use Rattle.hns_encoding.proofs.encoder.Encoder.put_word.Statement.{statement}
+use Rattle.hns_encoding.proofs.encoder.Encoder.put_word.Tie as tie
+
+fits-requires : tie.Need-fits-requires
+fits-requires c κs = search needs
+
+set-word-requires : tie.Need-set-word-requires
+set-word-requires c κs =
+    let s = c .before .before in
+    let a = s .before .before .args in
+    omega (arith, there (length (a .out .now)) (a .self .position) (1) (s .fits2 .result) (s .fits2 .ensures) (c .before .if1 .taken))
+
+add-t11 : tie.Need-add-t11
+add-t11 c =
+    let s = c .before .before .before .before .before in
+    let a = s .before .before .args in
+    record { fits = omega (arith, there (length (a .out .now)) (a .self .position) (1) (s .fits2 .result) (s .fits2 .ensures) (c .before .before .before .before .if1 .taken)) }
+
+no-room-requires : tie.Need-no-room-requires
+no-room-requires c κs = search needs
+
+same-length : tie.Need-same-length
+same-length c = search needs
+
+returns : tie.Need-returns
+returns c =
+    let s = c .before .before .before .before .before in
+    let a = s .before .before .args in
+    puts-ok (a .out .now) (a .self .position) (a .value ∷ []) (1) (refl) (s .fits2 .result) (s .fits2 .ensures) (c .before .before .set-word .last .0) (c .before .before .before .before .if1 .taken) (
+    c .before .before .set-word .ensures
+    ∙ written-one (a .out .now) (a .self .position) (a .value) (there (length (a .out .now)) (a .self .position) 1 (s .fits2 .result) (s .fits2 .ensures) (c .before .before .before .before .if1 .taken)))
+
+returns-2 : tie.Need-returns-2
+returns-2 c =
+    let s = c .before .before in
+    let a = s .before .before .args in
+    puts-err (a .out .now) (a .self .position) (a .value ∷ []) (1) (refl) (s .fits2 .result) (s .fits2 .ensures) (c .no-room .result) (c .before .if1 .left) (c .no-room .ensures)
+
+pub put-word-spec : {M : Type 1} → statement M
+put-word-spec =
+    tie.close
+    (tie.spec
+    fits-requires
+    set-word-requires
+    add-t11
+    no-room-requires
+    same-length
+    returns
+    returns-2)

@@ -1,0 +1,37 @@
+-- `word_at` meets its contract: past the end there is nothing, and a field that the bytes end in is as wide as what is left.
+use Prim.Native.Nat.{ℕ, _+_, _*_, _-_, _/_, _%_, _≤_, _<_, _^_}
+use mathlib.Core.Path.{_≡_, sym, _∙_, ap}
+use lib.ListN.{length}
+use Rattle.hns_encoding.specs.Bytes.{le}
+use Rattle.hns_encoding.specs.Cursor.{field}
+use Rattle.hns_encoding.specs.Laws.Bytes.{below-more-digits, le-past}
+use Rattle.hns_encoding.specs.Laws.Lists.{field-short}
+use borrow.Author.Needs.{needs}
+use native.Mathlib.Omega.{arith}
+use Rattle.hns_encoding.proofs.words.word_at.Statement.{statement}
+use Rattle.hns_encoding.proofs.words.word_at.Tie as tie
+
+returns : tie.Need-returns
+returns c = let a = c .before .before .args in le-past (a .bytes .now) (a .at) 4 (c .if1 .taken)
+
+sub-min-usize : tie.Need-sub-min-usize
+sub-min-usize c = search needs
+
+min-usize-requires : tie.Need-min-usize-requires
+min-usize-requires c κs = search needs
+
+le-at-requires : tie.Need-le-at-requires
+le-at-requires c κs = search needs
+
+cast-result : tie.Need-cast-result
+cast-result c = record { fits = below-more-digits (c .le-at .result) (c .before .min-usize .result) 4 (c .le-at .ensures .1) (omega arith) }
+
+returns-2 : tie.Need-returns-2
+returns-2 c =
+    let a = c .before .before .before .before .args in
+    c .le-at .ensures .0 ∙ ap le (ap (λ (w : ℕ). field (a .bytes .now) (a .at) w) (c .before .min-usize .ensures) ∙ field-short (a .bytes .now) (a .at) 4)
+
+pub word-at-spec : {M : Type 1} → statement M
+word-at-spec =
+    tie.close
+    (tie.spec returns sub-min-usize min-usize-requires le-at-requires cast-result returns-2)

@@ -1,0 +1,73 @@
+-- What a method of the cursor answers, over the width and the answer's type: the field and the cursor behind it where the test passed, the
+-- early end where it did not. `b` is what the code's test gave.
+use Prim.Native.Nat.{ℕ, _+_, _≤_}
+use mathlib.Core.Path.{_≡_, sym, _∙_, ap}
+use mathlib.Core.Bool.{Bool, true, false}
+use mathlib.Core.List.{List, []}
+use lib.ListN.{length, take, drop, replicate, length-replicate}
+use borrow.Author.Tests.{leb-true}
+use Rattle.hns_encoding.specs.Words.{wordCount, bytesOf}
+use Rattle.hns_encoding.specs.declared.decoder.Decoder.{Decoder}
+use Rattle.hns_encoding.specs.declared.decoder.DecodeError.{DecodeError}
+use Rattle.hns_encoding.specs.Cursor.{within, field, writtenAt, unexpectedEnd, has, behind, reads, arrayRead, part, bytesRead, noRoom, Puts}
+use Rattle.hns_encoding.specs.declared.encoder.Put.{Put}
+use Rattle.hns_encoding.specs.declared.encoder.Put.the-variants.{Ok}
+use Rattle.hns_encoding.specs.Laws.Tests.{on-true, on-false}
+use Rattle.hns_encoding.specs.Laws.Lists.{field-length, written-whole}
+
+-- a test that passed: the end lies within
+pub there : (size position width : ℕ) (b : Bool) → b ≡ within size position width → b ≡ true → position + width ≤ size
+there size position width b e t = leb-true (position + width) size (sym e ∙ t)
+
+module _ {R : Type 0} (ok : List ℕ → Decoder → R) (err : DecodeError → R) (width : ℕ) (xs : List ℕ) (d : Decoder) (b : Bool) (e : b ≡ has width xs d) where
+  pub read-ok : b ≡ true → ok (field xs (d .position) width) (behind width d) ≡ reads ok err width xs d
+  read-ok t = sym (on-true (ok (field xs (d .position) width) (behind width d)) (err (unexpectedEnd (length xs) (d .position) width)) (sym e ∙ t))
+
+  pub read-err : (error : DecodeError) → b ≡ false → error ≡ unexpectedEnd (length xs) (d .position) width → err error ≡ reads ok err width xs d
+  read-err error f h =
+      ap err h ∙ sym (on-false (ok (field xs (d .position) width) (behind width d)) (err (unexpectedEnd (length xs) (d .position) width)) (sym e ∙ f))
+
+-- the array beside the answer: what a copy over zeros leaves, or the zeros
+module _ (width : ℕ) (xs : List ℕ) (d : Decoder) (b : Bool) (e : b ≡ has width xs d) where
+  pub array-ok : (last : List ℕ) → b ≡ true → last ≡ writtenAt (replicate width 0) 0 (field xs (d .position) width) → last ≡ arrayRead width xs d
+  array-ok last t h =
+      h
+      ∙ written-whole (replicate width 0) (field xs (d .position) width)
+      (length-replicate width 0 ∙ sym (field-length xs (d .position) width (there (length xs) (d .position) width b e t)))
+      ∙ sym (on-true (field xs (d .position) width) (replicate width 0) (sym e ∙ t))
+
+  pub array-err : b ≡ false → replicate width 0 ≡ arrayRead width xs d
+  array-err f = sym (on-false (field xs (d .position) width) (replicate width 0) (sym e ∙ f))
+
+  -- the part of the input
+  pub part-ok : b ≡ true → field xs (d .position) width ≡ part width xs d
+  part-ok t = sym (on-true (field xs (d .position) width) [] (sym e ∙ t))
+
+  pub part-err : b ≡ false → [] ≡ part width xs d
+  part-err f = sym (on-false (field xs (d .position) width) [] (sym e ∙ f))
+
+-- bytes filled from words
+module _ (out xs : List ℕ) (d : Decoder) (b : Bool) (e : b ≡ has (wordCount (length out)) xs d) where
+  pub filled-ok : (last : List ℕ) → b ≡ true → last ≡ take (length out) (bytesOf (drop (d .position) xs)) → last ≡ bytesRead out xs d
+  filled-ok last t h = h ∙ sym (on-true (take (length out) (bytesOf (drop (d .position) xs))) out (sym e ∙ t))
+
+  pub filled-err : b ≡ false → out ≡ bytesRead out xs d
+  filled-err f = sym (on-false (take (length out) (bytesOf (drop (d .position) xs))) out (sym e ∙ f))
+
+-- ---- what a write answers and leaves, over what is written
+module _ (before : List ℕ) (at : ℕ) (ys : List ℕ) (width : ℕ) (w : width ≡ length ys) (b : Bool) (e : b ≡ within (length before) at width) where
+  pub puts-ok : (after : List ℕ) → b ≡ true → after ≡ writtenAt before at ys → Puts (Ok (record { position = at + width })) before after at ys
+  puts-ok after t h =
+      let passed : within (length before) at (length ys) ≡ true = ap (λ (n : ℕ). within (length before) at n) (sym w) ∙ sym e ∙ t in
+      record {
+        answer = ap (λ (n : ℕ). Ok (record { position = at + n })) w ∙ sym (on-true (Ok (record { position = at + length ys })) (noRoom (length before) at (length ys)) passed);
+        leaves = h ∙ sym (on-true (writtenAt before at ys) before passed);
+      }
+
+  pub puts-err : (r : Put) → b ≡ false → r ≡ noRoom (length before) at width → Puts r before before at ys
+  puts-err r f h =
+      let failed : within (length before) at (length ys) ≡ false = ap (λ (n : ℕ). within (length before) at n) (sym w) ∙ sym e ∙ f in
+      record {
+        answer = h ∙ ap (λ (n : ℕ). noRoom (length before) at n) w ∙ sym (on-false (Ok (record { position = at + length ys })) (noRoom (length before) at (length ys)) failed);
+        leaves = sym (on-false (writtenAt before at ys) before failed);
+      }

@@ -1,0 +1,45 @@
+-- Bool tests and `cond`: what a choice is once its test is known, tests joined, and tests of numbers that say the same.
+use Prim.Native.Nat.{ℕ, _≤_}
+use mathlib.Core.Path.{_≡_, refl, sym, _∙_, ap}
+use mathlib.Core.Bool.{Bool, true, false, cond, _&&_, _||_}
+use lib.Dec.{leb}
+use borrow.Author.Tests.{leb-true, le-leb}
+
+module _ {A : Type 0} (x y : A) where
+  pub on-true : {b : Bool} → b ≡ true → cond b x y ≡ x
+  on-true e = ap (λ (t : Bool). cond t x y) e
+
+  pub on-false : {b : Bool} → b ≡ false → cond b x y ≡ y
+  on-false e = ap (λ (t : Bool). cond t x y) e
+
+-- a test is true or false
+pub split {ℓ} : {P : Type ℓ} (b : Bool) → (b ≡ true → P) → (b ≡ false → P) → P
+split true t f = t refl
+split false t f = f refl
+
+-- the same at a property of what is chosen
+pub choose : {A : Type 0} (P : A → Type 0) (b : Bool) (x y : A) → (b ≡ true → P x) → (b ≡ false → P y) → P (cond b x y)
+choose P true x y t f = t refl
+choose P false x y t f = f refl
+
+-- both of two tests, and back
+pub both : (a b : Bool) → a && b ≡ true → (a ≡ true) × (b ≡ true)
+both true b e = (refl, e)
+both false true e = (e, refl)
+both false false e = (e, e)
+
+pub join : {a b : Bool} → a ≡ true → b ≡ true → a && b ≡ true
+join p q = rw (p, q)
+
+-- neither of two tests
+pub neither : (a b : Bool) → a || b ≡ false → (a ≡ false) × (b ≡ false)
+neither true true e = (e, e)
+neither true false e = (e, refl)
+neither false b e = (refl, e)
+
+-- two orders that say the same have the same test
+pub leb-same : (a b c d : ℕ) → (a ≤ b → c ≤ d) → (c ≤ d → a ≤ b) → leb a b ≡ leb c d
+leb-same a b c d there back =
+    split (leb a b)
+    (λ t. t ∙ sym (le-leb c d (there (leb-true a b t))))
+    (λ f. split (leb c d) (λ t. le-leb a b (back (leb-true c d t)) ∙ sym t) (λ g. f ∙ sym g))

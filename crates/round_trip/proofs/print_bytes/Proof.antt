@@ -1,0 +1,51 @@
+-- `print_bytes` is safe and ends: `i` counts up to the length.
+use Prim.Native.Nat.{_≤_, _-_}
+use lib.ListN.{length}
+use borrow.Author.Needs.{needs}
+use Rattle.round_trip.proofs.print_bytes.Statement.{statement}
+use Rattle.round_trip.proofs.print_bytes.Tie as tie
+
+abbrev Inv-loop : tie.InvT-loop
+Inv-loop bytes i₀ i = i ≤ length bytes
+
+abbrev μ-loop : tie.MeasureT-loop
+μ-loop bytes i₀ i = length bytes - i
+
+loop-holds : tie.Need-loop-holds Inv-loop μ-loop
+loop-holds c = search needs
+
+shared-slice-read-say-byte : tie.Need-shared-slice-read-say-byte Inv-loop μ-loop
+shared-slice-read-say-byte c = search needs
+
+say-byte-requires : tie.Need-say-byte-requires Inv-loop μ-loop
+say-byte-requires c κs = search needs
+
+add-i : tie.Need-add-i Inv-loop μ-loop
+add-i c = search needs
+
+loop-less : tie.Need-loop-less Inv-loop μ-loop
+loop-less c = search needs
+
+loop-again : tie.Need-loop-again Inv-loop μ-loop
+loop-again c = search needs
+
+end-line-requires : tie.Need-end-line-requires Inv-loop μ-loop
+end-line-requires c κs = search needs
+
+returns : tie.Need-returns Inv-loop μ-loop
+returns c = search needs
+
+pub print-bytes-spec : {M : Type 1} → statement M
+print-bytes-spec =
+    tie.close
+    (tie.spec
+    Inv-loop
+    μ-loop
+    loop-holds
+    shared-slice-read-say-byte
+    say-byte-requires
+    add-i
+    loop-less
+    loop-again
+    end-line-requires
+    returns)

@@ -1,8 +1,9 @@
 -- Bytes as numbers and numbers as bytes, for any width (document 01, "Bodies and their cursor": little-endian).
-use Prim.Native.Nat.{ℕ, zero, suc, _+_, _*_, _/_, _%_, _^_, _<_}
+use Prim.Native.Nat.{ℕ, zero, suc, _+_, _-_, _*_, _/_, _%_, _^_, _<_}
 use mathlib.Core.Bool.{Bool, true, _&&_}
-use mathlib.Core.List.{List, [], _∷_}
+use mathlib.Core.List.{List, [], _∷_, _++_}
 use lib.Dec.{eqb}
+use lib.ListN.{length, replicate}
 
 -- every element is below a bound: bytes are below 256, words below 2 ^ 32
 abbrev pub Below : ℕ → List ℕ → Type 0
@@ -36,3 +37,7 @@ beBytes (suc width) n = (n / 256 ^ width % 256) ∷ beBytes width n
 unfoldable pub allZero : List ℕ → Bool
 allZero [] = true
 allZero (b ∷ bs) = eqb b 0 && allZero bs
+
+-- bytes up to a width, zeros behind them
+unfoldable pub padded : ℕ → List ℕ → List ℕ
+padded width bs = bs ++ replicate (width - length bs) 0

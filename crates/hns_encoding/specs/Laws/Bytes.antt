@@ -5,11 +5,14 @@ use native.Mathlib.Nat.{pow-suc, pow-succ', pow-zero, pow-le-pow-right, one-le-p
 use native.Mathlib.Numerals.{add-one}
 use native.Mathlib.Omega.{arith}
 use mathlib.Core.Path.{_≡_, refl, sym, _∙_, ap, ap₂}
+use mathlib.Core.Bool.{true, false}
 use mathlib.Core.List.{List, [], _∷_}
+use borrow.Author.Tests.{eq-eqb, ne-eqb}
 use lib.Dec.{lit<}
 use lib.Arith.{mod-mul, digits-lt, digits-div}
-use lib.ListN.{length, getD}
-use Rattle.hns_encoding.specs.Bytes.{Below, le, leBytes, be, beFrom, beBytes}
+use lib.ListN.{length, getD, drop, drop-of-length-le}
+use lib.Seq.{drop-cons}
+use Rattle.hns_encoding.specs.Bytes.{Below, le, leBytes, be, beFrom, beBytes, allZero}
 use Rattle.hns_encoding.specs.Cursor.{field}
 use Rattle.hns_encoding.specs.Laws.Lists.{field-step, field-past}
 
@@ -173,3 +176,16 @@ le-byte (b ∷ bs) h (suc i) =
     let high : (b + 256 * le bs) / 256 ≡ le bs = omega (arith, h .0) in
     ap (λ (k : ℕ). k % 256) (ap (λ (k : ℕ). (b + 256 * le bs) / k) (pow-succ' 256 i) ∙ sym (div-div-eq-div-mul (b + 256 * le bs) 256 (256 ^ i)) ∙ ap (λ (k : ℕ). k / 256 ^ i) high)
     ∙ le-byte bs (h .1) i
+
+-- ---- whether every byte is zero, by one byte and the rest
+pub zero-step : (xs : List ℕ) (i : ℕ) → i < length xs → getD xs i 0 ≡ 0 → allZero (drop (i + 1) xs) ≡ allZero (drop i xs)
+unfolding allZero
+zero-step xs i l e = rw (add-one, drop-cons xs i 0 l, eq-eqb (getD xs i 0) 0 e)
+
+pub zero-not : (xs : List ℕ) (i : ℕ) → i < length xs → (getD xs i 0 ≡ 0 → ⊥) → false ≡ allZero (drop i xs)
+unfolding allZero
+zero-not xs i l n = rw (drop-cons xs i 0 l, ne-eqb (getD xs i 0) 0 n)
+
+pub zero-done : (xs : List ℕ) (i : ℕ) → length xs ≤ i → true ≡ allZero (drop i xs)
+unfolding allZero
+zero-done xs i l = rw (drop-of-length-le xs l)

@@ -1,19 +1,24 @@
 -- What a method of the cursor answers, over the width and the answer's type: the field and the cursor behind it where the test passed, the
 -- early end where it did not. `b` is what the code's test gave.
-use Prim.Native.Nat.{ℕ, _+_, _≤_}
-use mathlib.Core.Path.{_≡_, sym, _∙_, ap}
+use Prim.Native.Nat.{ℕ, _+_, _-_, _≤_}
+use native.Mathlib.Omega.{arith}
+use mathlib.Core.Path.{_≡_, refl, sym, _∙_, ap}
 use mathlib.Core.Bool.{Bool, true, false}
-use mathlib.Core.List.{List, []}
-use lib.ListN.{length, take, drop, replicate, length-replicate}
-use borrow.Author.Tests.{leb-true}
+use mathlib.Core.List.{List, [], _++_}
+use lib.ListN.{length, length-append, take, drop, replicate, length-replicate}
+use lib.Dec.{eqb, ltb}
+use borrow.Author.Tests.{leb-true, le-leb, eqb-true}
 use Rattle.hns_encoding.specs.Words.{wordCount, bytesOf}
 use Rattle.hns_encoding.specs.declared.decoder.Decoder.{Decoder}
 use Rattle.hns_encoding.specs.declared.decoder.DecodeError.{DecodeError}
-use Rattle.hns_encoding.specs.Cursor.{within, field, writtenAt, unexpectedEnd, has, behind, reads, arrayRead, part, bytesRead, noRoom, Puts}
+use Rattle.hns_encoding.specs.Cursor.{within, field, writtenAt, unexpectedEnd, has, behind, reads, steps, written, finishes, arrayRead, part, bytesRead, noRoom, Puts}
+use Rattle.hns_encoding.specs.declared.decoder.DecodeError.the-variants.{TrailingBytes}
+use Rattle.hns_encoding.specs.declared.decoder.Step.the-variants as Step
+use Rattle.hns_encoding.specs.declared.decoder.Finish.the-variants as Finish
 use Rattle.hns_encoding.specs.declared.encoder.Put.{Put}
 use Rattle.hns_encoding.specs.declared.encoder.Put.the-variants.{Ok}
-use Rattle.hns_encoding.specs.Laws.Tests.{on-true, on-false}
-use Rattle.hns_encoding.specs.Laws.Lists.{field-length, written-whole}
+use Rattle.hns_encoding.specs.Laws.Tests.{on-true, on-false, split}
+use Rattle.hns_encoding.specs.Laws.Lists.{field-length, written-whole, written-length, written-behind}
 
 -- a test that passed: the end lies within
 pub there : (size position width : ℕ) (b : Bool) → b ≡ within size position width → b ≡ true → position + width ≤ size
@@ -71,3 +76,71 @@ module _ (before : List ℕ) (at : ℕ) (ys : List ℕ) (width : ℕ) (w : width
         answer = h ∙ ap (λ (n : ℕ). noRoom (length before) at n) w ∙ sym (on-false (Ok (record { position = at + length ys })) (noRoom (length before) at (length ys)) failed);
         leaves = sym (on-false (writtenAt before at ys) before failed);
       }
+
+-- ---- an answer taken apart: what was answered tells where any other reading of the same field goes
+module _ (width : ℕ) (xs : List ℕ) (d : Decoder) {R : Type 0} (ok : Decoder → R) (err : DecodeError → R) where
+  pub step-ok : (next : Decoder) → steps Step.Ok Step.Err width xs d ≡ Step.Ok next → steps ok err width xs d ≡ ok next
+  step-ok next h =
+      split (has width xs d)
+      (λ t.
+      let a = on-true (Step.Ok (behind width d)) (Step.Err (unexpectedEnd (length xs) (d .position) width)) t in
+      let e : behind width d ≡ next = cc in
+      on-true (ok (behind width d)) (err (unexpectedEnd (length xs) (d .position) width)) t ∙ ap ok e)
+      (λ f.
+      let a = on-false (Step.Ok (behind width d)) (Step.Err (unexpectedEnd (length xs) (d .position) width)) f in
+      let z : _≡_ {A = ℕ} 0 1 = cc in
+      absurd (omega arith))
+
+  pub step-err : (error : DecodeError) → steps Step.Ok Step.Err width xs d ≡ Step.Err error → steps ok err width xs d ≡ err error
+  step-err error h =
+      split (has width xs d)
+      (λ t.
+      let a = on-true (Step.Ok (behind width d)) (Step.Err (unexpectedEnd (length xs) (d .position) width)) t in
+      let z : _≡_ {A = ℕ} 0 1 = cc in
+      absurd (omega arith))
+      (λ f.
+      let a = on-false (Step.Ok (behind width d)) (Step.Err (unexpectedEnd (length xs) (d .position) width)) f in
+      let e : unexpectedEnd (length xs) (d .position) width ≡ error = cc in
+      on-false (ok (behind width d)) (err (unexpectedEnd (length xs) (d .position) width)) f ∙ ap err e)
+
+module _ (xs : List ℕ) (d : Decoder) {R : Type 0} (ok : R) (err : DecodeError → R) where
+  pub finish-ok : finishes Finish.Ok Finish.Err xs d ≡ Finish.Ok → (d .position ≡ length xs) × (finishes ok err xs d ≡ ok)
+  finish-ok h =
+      split (eqb (d .position) (length xs))
+      (λ t. (eqb-true (d .position) (length xs) t, rw t))
+      (λ f. absurd (let k = rw f at h in split (ltb (d .position) (length xs)) (λ t. let z = rw t at k in let y : _≡_ {A = ℕ} 0 1 = cc in omega arith) (λ g. let z = rw g at k in let y : _≡_ {A = ℕ} 0 1 = cc in omega arith)))
+
+  pub finish-err : (error : DecodeError) → finishes Finish.Ok Finish.Err xs d ≡ Finish.Err error → finishes ok err xs d ≡ err error
+  finish-err error h =
+      split (eqb (d .position) (length xs))
+      (λ t. let k = rw t at h in let z : _≡_ {A = ℕ} 0 1 = cc in absurd (omega arith))
+      (λ f. let k = rw f at h in
+      split (ltb (d .position) (length xs))
+      (λ t. let z = rw t at k in let e : TrailingBytes (length xs - d .position) ≡ error = cc in rw (f, t) (ap err e))
+      (λ g. let z = rw g at k in let e : unexpectedEnd (length xs) (d .position) 0 ≡ error = cc in rw (f, g) (ap err e)))
+
+-- ---- a run of writes from the front of `xs`: `now` has `done` in front, which is n elements; none yet, one field more, all
+pub record Wrote (xs now done : List ℕ) (n : ℕ) : Type 0 where
+  pub same : now ≡ writtenAt xs 0 done
+  pub size : length done ≡ n
+
+pub wrote-none : (xs : List ℕ) → Wrote xs xs [] 0
+wrote-none xs = record { same = refl; size = refl }
+
+pub wrote-next : {xs before done : List ℕ} {n : ℕ} (after ys : List ℕ) (k : ℕ) → Wrote xs before done n → length ys ≡ k → n + k ≤ length xs
+    → after ≡ written before n ys → Wrote xs after (done ++ ys) (n + k)
+wrote-next {xs} {before} {done} {n} after ys k w e l h =
+    let size = w .size in
+    let long : length before ≡ length xs = ap length (w .same) ∙ written-length xs 0 done (omega arith) in
+    let fits : within (length before) n (length ys) ≡ true = le-leb (n + length ys) (length before) (omega arith) in
+    record {
+      same =
+          h
+          ∙ on-true (writtenAt before n ys) before fits
+          ∙ ap (λ (zs : List ℕ). writtenAt zs n ys) (w .same)
+          ∙ written-behind xs 0 done ys n (omega arith) (omega arith);
+      size = length-append done ys ∙ omega arith;
+    }
+
+pub wrote-all : {xs now done : List ℕ} {n : ℕ} → Wrote xs now done n → n ≡ length xs → now ≡ done
+wrote-all {xs} {now} {done} {n} w e = w .same ∙ written-whole xs done (omega (arith, w .size))

@@ -1,15 +1,15 @@
 -- Parts of lists and lists written into lists: what a loop that reads or stores one element a turn goes by.
 use Prim.Native.Nat.{ℕ, zero, suc, _+_, _-_, _<_, _≤_, min}
-use native.Mathlib.Nat.{le-refl}
+use native.Mathlib.Nat.{le-refl, sub-zero, zero-sub, suc-sub-suc, zero-add}
 use native.Mathlib.Numerals.{add-one}
 use native.Mathlib.Omega.{arith}
 use mathlib.Core.Path.{_≡_, refl, sym, _∙_, ap, ap₂}
 use mathlib.Core.List.{List, [], _∷_, _++_, append-assoc, append-nil}
-use lib.ListN.{length, take, drop, getD, set, length-append, length-drop, drop-of-length-le}
+use lib.ListN.{length, take, drop, getD, set, replicate, length-append, length-drop, drop-of-length-le}
 use lib.Seq.{drop-cons, getD-take, getD-drop, take-nil, take-all, take-length, length-take-le, take-at, drop-at, drop-append-add, drop-drop, paste, paste-suc, paste-zero, length-paste, sets-eq}
 use lib.Dec.{leb}
 use borrow.Author.Tests.{leb-true, leb-false}
-use Rattle.hns_encoding.specs.Bytes.{Below}
+use Rattle.hns_encoding.specs.Bytes.{Below, padded}
 use Rattle.hns_encoding.specs.Cursor.{field, writtenAt}
 use Rattle.hns_encoding.specs.Laws.Tests.{split}
 
@@ -107,3 +107,13 @@ pub field-written : (xs : List ℕ) (at : ℕ) (ys : List ℕ) → at + length y
 field-written xs at ys l =
     let front : length (take at xs) ≡ at = length-take-le at xs (omega arith) in
     rw (append-assoc, drop-at (take at xs) (ys ++ drop (at + length ys) xs) at front) (take-at ys (drop (at + length ys) xs) (length ys) refl)
+
+-- bytes written over zeros are padded with zeros
+drop-replicate : (k n : ℕ) → drop {A = ℕ} k (replicate n 0) ≡ replicate (n - k) 0
+drop-replicate zero n = ap (λ (m : ℕ). replicate m 0) (sym (sub-zero n))
+drop-replicate (suc k) zero = ap (λ (m : ℕ). replicate m 0) (sym (zero-sub (suc k)))
+drop-replicate (suc k) (suc n) = drop-replicate k n ∙ ap (λ (m : ℕ). replicate m 0) (sym (suc-sub-suc n k))
+
+pub written-zeros : (n : ℕ) (ys : List ℕ) → writtenAt (replicate n 0) 0 ys ≡ padded n ys
+unfolding padded
+written-zeros n ys = ap (λ (rest : List ℕ). ys ++ rest) (drop-replicate (0 + length ys) n ∙ ap (λ (m : ℕ). replicate (n - m) 0) (zero-add (length ys)))

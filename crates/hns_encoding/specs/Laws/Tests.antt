@@ -22,6 +22,11 @@ pub choose : {A : Type 0} (P : A → Type 0) (b : Bool) (x y : A) → (b ≡ tru
 choose P true x y t f = t refl
 choose P false x y t f = f refl
 
+-- a function of what is chosen
+pub cond-map : {A B : Type 0} (f : A → B) (b : Bool) (x y : A) → f (cond b x y) ≡ cond b (f x) (f y)
+cond-map f true x y = refl
+cond-map f false x y = refl
+
 -- both of two tests, and back
 pub both : (a b : Bool) → a && b ≡ true → (a ≡ true) × (b ≡ true)
 both true b e = (refl, e)

@@ -1,0 +1,26 @@
+-- `OpenedBody::decode` meets its contract: layout, fields and values are those of the definition.
+use Rattle.hnsr_body.specs.Accept.{decodeOpened}
+use borrow.Author.Needs.{needs}
+use Rattle.hnsr_body.proofs.accept_body.OpenedBody.decode.Statement.{statement}
+use Rattle.hnsr_body.proofs.accept_body.OpenedBody.decode.Tie as tie
+
+slice-aggregate-lay-out : tie.Need-slice-aggregate-lay-out
+slice-aggregate-lay-out c = search needs
+
+lay-out-requires : tie.Need-lay-out-requires
+lay-out-requires c κs = search needs
+
+fields-requires : tie.Need-fields-requires
+fields-requires c κs = search needs
+
+answered-requires : tie.Need-answered-requires
+answered-requires c κs = search needs
+
+returns : tie.Need-returns
+unfolding decodeOpened
+returns c = cc
+
+pub decode-spec : {M : Type 1} → statement M
+decode-spec =
+    tie.close
+    (tie.spec slice-aggregate-lay-out lay-out-requires fields-requires answered-requires returns)

@@ -1,0 +1,49 @@
+-- `OpenedBody::encode` meets its contract: the bytes are put where the values are good.
+use Prim.Native.Nat.{ℕ}
+use mathlib.Core.Path.{_≡_, sym, _∙_, ap}
+use mathlib.Core.Bool.{Bool}
+use mathlib.Core.List.{List}
+use lib.ListN.{replicate}
+use Rattle.hns_encoding.specs.Laws.Tests.{on-true, on-false}
+use Rattle.hnsr_body.specs.declared.error.Checked.the-variants.{Ok}
+use Rattle.hnsr_body.specs.Accept.{encodeOpened, openedGood, openedBytes}
+use borrow.Author.Needs.{needs}
+use Rattle.hnsr_body.proofs.accept_body.OpenedBody.encode.Statement.{statement}
+use Rattle.hnsr_body.proofs.accept_body.OpenedBody.encode.Tie as tie
+
+answered-requires : tie.Need-answered-requires
+answered-requires c κs = search needs
+
+is-valid-requires : tie.Need-is-valid-requires
+is-valid-requires c κs = search needs
+
+slice-aggregate-put : tie.Need-slice-aggregate-put
+slice-aggregate-put c = search needs
+
+put-requires : tie.Need-put-requires
+put-requires c κs = search needs
+
+returns : tie.Need-returns
+unfolding encodeOpened
+returns c =
+    let result = c .before .before .before .before .before .answered .ensures in
+    let bytes = c .before .put .ensures ∙ sym (on-true (openedBytes (c .before .before .before .before .before .before .args .self)) (replicate 28 0) (sym (c .before .before .before .before .is-valid .ensures) ∙ c .before .before .before .if1 .taken)) in
+    λ i. record { result = result i; bytes = bytes i }
+
+returns-2 : tie.Need-returns-2
+unfolding encodeOpened
+returns-2 c =
+    let result = c .before .before .answered .ensures in
+    let bytes = sym (on-false (openedBytes (c .before .before .before .args .self)) (replicate 28 0) (sym (c .before .is-valid .ensures) ∙ c .if1 .left)) in
+    λ i. record { result = result i; bytes = bytes i }
+
+pub encode-spec : {M : Type 1} → statement M
+encode-spec =
+    tie.close
+    (tie.spec
+    answered-requires
+    is-valid-requires
+    slice-aggregate-put
+    put-requires
+    returns
+    returns-2)

@@ -1,0 +1,35 @@
+-- `WindowBody::decode` meets its contract: layout, fields and values are those of the definition.
+use Rattle.hnsr_body.specs.Data.{decodeWindow}
+use borrow.Author.Needs.{needs}
+use Rattle.hnsr_body.proofs.data_body.WindowBody.decode.Statement.{statement}
+use Rattle.hnsr_body.proofs.data_body.WindowBody.decode.Tie as tie
+
+slice-aggregate-lay-out : tie.Need-slice-aggregate-lay-out
+slice-aggregate-lay-out c = search needs
+
+lay-out-requires : tie.Need-lay-out-requires
+lay-out-requires c κs = search needs
+
+fields-requires : tie.Need-fields-requires
+fields-requires c κs = search needs
+
+is-valid-requires : tie.Need-is-valid-requires
+is-valid-requires c κs = search needs
+
+answered-requires : tie.Need-answered-requires
+answered-requires c κs = search needs
+
+returns : tie.Need-returns
+unfolding decodeWindow
+returns c = cc
+
+pub decode-spec : {M : Type 1} → statement M
+decode-spec =
+    tie.close
+    (tie.spec
+    slice-aggregate-lay-out
+    lay-out-requires
+    fields-requires
+    is-valid-requires
+    answered-requires
+    returns)

@@ -1,0 +1,16 @@
+pub mod Utf8
+pub mod Utf8Form
+pub mod Utf8Encode
+pub mod Utf8CodePoints
+pub mod Utf8Examples
+pub mod Causes
+pub mod Layout
+pub mod Values
+pub mod Open
+pub mod Incoming
+pub mod Accept
+pub mod Data
+pub mod Detail
+pub mod Messages
+pub mod Packet
+pub mod Laws

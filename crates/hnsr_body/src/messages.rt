@@ -1,0 +1,98 @@
+// The seven messages by which the relay ends a record: reason and detail are constants.
+use crate::fields::put_bytes_at;
+use crate::fields::put_u8_at;
+use crate::fields::put_u16_at;
+ghost use mathlib.Core.Path.{_≡_};
+ghost use Rattle.hnsr_body.specs.Messages.{messageOf, noticeBody, noticeWritten};
+
+pub enum Notice {
+    PeerDisconnected,
+    ReservationRevoked,
+    AcceptanceExpired,
+    TicketExpired,
+    RelayDisabled,
+    EndpointWriteFailed,
+    OuterWriteFailed,
+}
+
+// The detail is `length` bytes, with zeros behind them.
+pub struct Message {
+    pub reason: u16,
+    pub length: u8,
+    pub detail: [u8; 27],
+}
+
+// The body of the CLOSE or ERROR that carries it: `length` bytes, with zeros behind them.
+pub struct NoticeWritten {
+    pub length: usize,
+    pub bytes: [u8; 30],
+}
+
+const MESSAGES: [Message; 7] = [
+    Message {
+        reason: 11,
+        length: 23,
+        detail: *b"outer peer disconnected\0\0\0\0",
+    },
+    Message {
+        reason: 6,
+        length: 19,
+        detail: *b"reservation revoked\0\0\0\0\0\0\0\0",
+    },
+    Message {
+        reason: 8,
+        length: 27,
+        detail: *b"endpoint acceptance expired",
+    },
+    Message {
+        reason: 6,
+        length: 20,
+        detail: *b"relay ticket expired\0\0\0\0\0\0\0",
+    },
+    Message {
+        reason: 15,
+        length: 21,
+        detail: *b"opaque relay disabled\0\0\0\0\0\0",
+    },
+    Message {
+        reason: 11,
+        length: 21,
+        detail: *b"endpoint write failed\0\0\0\0\0\0",
+    },
+    Message {
+        reason: 11,
+        length: 18,
+        detail: *b"outer write failed\0\0\0\0\0\0\0\0\0",
+    },
+];
+
+impl Notice {
+    pub fn message(self) -> Message
+        ensures { λ r. ⌜ r ≡ messageOf self ⌝ }
+    {
+        match self {
+            Notice::PeerDisconnected => MESSAGES[0],
+            Notice::ReservationRevoked => MESSAGES[1],
+            Notice::AcceptanceExpired => MESSAGES[2],
+            Notice::TicketExpired => MESSAGES[3],
+            Notice::RelayDisabled => MESSAGES[4],
+            Notice::EndpointWriteFailed => MESSAGES[5],
+            Notice::OuterWriteFailed => MESSAGES[6],
+        }
+    }
+
+    pub fn encode(self) -> NoticeWritten
+        ensures { λ r. ⌜ r ≡ noticeWritten self ⌝ }
+    {
+        let mut bytes = [0u8; 30];
+        let message = self.message();
+        let detail = message.detail;
+        put_u16_at(&mut bytes, 0, message.reason);
+        put_u8_at(&mut bytes, 2, message.length);
+        put_bytes_at(&mut bytes, 3, &detail);
+        NoticeWritten {
+            length: 3 + message.length as usize,
+            bytes,
+        }
+    }
+}

@@ -4,3 +4,7 @@ pub mod Utf8Encode
 pub mod Layout
 pub mod Fields
 pub mod Messages
+pub mod Parts
+pub mod Values
+pub mod RoundTrip
+pub mod DetailTrip

@@ -13,4 +13,5 @@ pub mod Data
 pub mod Detail
 pub mod Messages
 pub mod Packet
+pub mod Examples
 pub mod Laws

@@ -5,6 +5,7 @@ use crate::fields::put_u32_at;
 use crate::fields::u32_at;
 use crate::layout::answered;
 use crate::layout::lay_out;
+use crate::values::MAX_WINDOW;
 ghost use mathlib.Core.Path.{_≡_};
 ghost use lib.ListN.{length};
 ghost use Rattle.hnsr_body.specs.Data.{dataChecked, dataGood, decodeWindow, deltaGood, encodeWindow, windowBytes, windowFields};
@@ -64,7 +65,7 @@ impl WindowBody {
 
     pub const MIN_DELTA: u32 = 1;
 
-    pub const MAX_DELTA: u32 = 1_048_576;
+    pub const MAX_DELTA: u32 = MAX_WINDOW;
 
     fn fields(input: &[u8]) -> Self
         ensures { λ r. ⌜ r ≡ windowFields (now (input .entry)) ⌝ }

@@ -9,8 +9,6 @@ pub const MIN_WINDOW: u32 = 16_384;
 
 pub const MAX_WINDOW: u32 = 1_048_576;
 
-pub const MAX_DATA_SIZE: usize = 16_384;
-
 // A reservation id: the first eight bytes on the wire, then the other eight; the first byte of each weighs most.
 #[repr(C)]
 pub struct ReservationId {

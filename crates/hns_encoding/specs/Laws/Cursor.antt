@@ -26,11 +26,11 @@ there size position width b e t = leb-true (position + width) size (sym e ∙ t)
 
 module _ {R : Type 0} (ok : List ℕ → Decoder → R) (err : DecodeError → R) (width : ℕ) (xs : List ℕ) (d : Decoder) (b : Bool) (e : b ≡ has width xs d) where
   pub read-ok : b ≡ true → ok (field xs (d .position) width) (behind width d) ≡ reads ok err width xs d
-  read-ok t = sym (on-true (ok (field xs (d .position) width) (behind width d)) (err (unexpectedEnd (length xs) (d .position) width)) (sym e ∙ t))
+  read-ok t = sym (on-true _ (ok (field xs (d .position) width) (behind width d)) (err (unexpectedEnd (length xs) (d .position) width)) (sym e ∙ t))
 
   pub read-err : (error : DecodeError) → b ≡ false → error ≡ unexpectedEnd (length xs) (d .position) width → err error ≡ reads ok err width xs d
   read-err error f h =
-      ap err h ∙ sym (on-false (ok (field xs (d .position) width) (behind width d)) (err (unexpectedEnd (length xs) (d .position) width)) (sym e ∙ f))
+      ap err h ∙ sym (on-false _ (ok (field xs (d .position) width) (behind width d)) (err (unexpectedEnd (length xs) (d .position) width)) (sym e ∙ f))
 
 -- the array beside the answer: what a copy over zeros leaves, or the zeros
 module _ (width : ℕ) (xs : List ℕ) (d : Decoder) (b : Bool) (e : b ≡ has width xs d) where
@@ -39,25 +39,25 @@ module _ (width : ℕ) (xs : List ℕ) (d : Decoder) (b : Bool) (e : b ≡ has w
       h
       ∙ written-whole (replicate width 0) (field xs (d .position) width)
       (length-replicate width 0 ∙ sym (field-length xs (d .position) width (there (length xs) (d .position) width b e t)))
-      ∙ sym (on-true (field xs (d .position) width) (replicate width 0) (sym e ∙ t))
+      ∙ sym (on-true _ (field xs (d .position) width) (replicate width 0) (sym e ∙ t))
 
   pub array-err : b ≡ false → replicate width 0 ≡ arrayRead width xs d
-  array-err f = sym (on-false (field xs (d .position) width) (replicate width 0) (sym e ∙ f))
+  array-err f = sym (on-false _ (field xs (d .position) width) (replicate width 0) (sym e ∙ f))
 
   -- the part of the input
   pub part-ok : b ≡ true → field xs (d .position) width ≡ part width xs d
-  part-ok t = sym (on-true (field xs (d .position) width) [] (sym e ∙ t))
+  part-ok t = sym (on-true _ (field xs (d .position) width) [] (sym e ∙ t))
 
   pub part-err : b ≡ false → [] ≡ part width xs d
-  part-err f = sym (on-false (field xs (d .position) width) [] (sym e ∙ f))
+  part-err f = sym (on-false _ (field xs (d .position) width) [] (sym e ∙ f))
 
 -- bytes filled from words
 module _ (out xs : List ℕ) (d : Decoder) (b : Bool) (e : b ≡ has (wordCount (length out)) xs d) where
   pub filled-ok : (last : List ℕ) → b ≡ true → last ≡ take (length out) (bytesOf (drop (d .position) xs)) → last ≡ bytesRead out xs d
-  filled-ok last t h = h ∙ sym (on-true (take (length out) (bytesOf (drop (d .position) xs))) out (sym e ∙ t))
+  filled-ok last t h = h ∙ sym (on-true _ (take (length out) (bytesOf (drop (d .position) xs))) out (sym e ∙ t))
 
   pub filled-err : b ≡ false → out ≡ bytesRead out xs d
-  filled-err f = sym (on-false (take (length out) (bytesOf (drop (d .position) xs))) out (sym e ∙ f))
+  filled-err f = sym (on-false _ (take (length out) (bytesOf (drop (d .position) xs))) out (sym e ∙ f))
 
 -- ---- what a write answers and leaves, over what is written
 module _ (before : List ℕ) (at : ℕ) (ys : List ℕ) (width : ℕ) (w : width ≡ length ys) (b : Bool) (e : b ≡ within (length before) at width) where
@@ -65,16 +65,16 @@ module _ (before : List ℕ) (at : ℕ) (ys : List ℕ) (width : ℕ) (w : width
   puts-ok after t h =
       let passed : within (length before) at (length ys) ≡ true = ap (λ (n : ℕ). within (length before) at n) (sym w) ∙ sym e ∙ t in
       record {
-        answer = ap (λ (n : ℕ). Ok (record { position = at + n })) w ∙ sym (on-true (Ok (record { position = at + length ys })) (noRoom (length before) at (length ys)) passed);
-        leaves = h ∙ sym (on-true (writtenAt before at ys) before passed);
+        answer = ap (λ (n : ℕ). Ok (record { position = at + n })) w ∙ sym (on-true _ (Ok (record { position = at + length ys })) (noRoom (length before) at (length ys)) passed);
+        leaves = h ∙ sym (on-true _ (writtenAt before at ys) before passed);
       }
 
   pub puts-err : (r : Put) → b ≡ false → r ≡ noRoom (length before) at width → Puts r before before at ys
   puts-err r f h =
       let failed : within (length before) at (length ys) ≡ false = ap (λ (n : ℕ). within (length before) at n) (sym w) ∙ sym e ∙ f in
       record {
-        answer = h ∙ ap (λ (n : ℕ). noRoom (length before) at n) w ∙ sym (on-false (Ok (record { position = at + length ys })) (noRoom (length before) at (length ys)) failed);
-        leaves = sym (on-false (writtenAt before at ys) before failed);
+        answer = h ∙ ap (λ (n : ℕ). noRoom (length before) at n) w ∙ sym (on-false _ (Ok (record { position = at + length ys })) (noRoom (length before) at (length ys)) failed);
+        leaves = sym (on-false _ (writtenAt before at ys) before failed);
       }
 
 -- ---- an answer taken apart: what was answered tells where any other reading of the same field goes
@@ -83,11 +83,11 @@ module _ (width : ℕ) (xs : List ℕ) (d : Decoder) {R : Type 0} (ok : Decoder 
   step-ok next h =
       split (has width xs d)
       (λ t.
-      let a = on-true (Step.Ok (behind width d)) (Step.Err (unexpectedEnd (length xs) (d .position) width)) t in
+      let a = on-true _ (Step.Ok (behind width d)) (Step.Err (unexpectedEnd (length xs) (d .position) width)) t in
       let e : behind width d ≡ next = cc in
-      on-true (ok (behind width d)) (err (unexpectedEnd (length xs) (d .position) width)) t ∙ ap ok e)
+      on-true _ (ok (behind width d)) (err (unexpectedEnd (length xs) (d .position) width)) t ∙ ap ok e)
       (λ f.
-      let a = on-false (Step.Ok (behind width d)) (Step.Err (unexpectedEnd (length xs) (d .position) width)) f in
+      let a = on-false _ (Step.Ok (behind width d)) (Step.Err (unexpectedEnd (length xs) (d .position) width)) f in
       let z : _≡_ {A = ℕ} 0 1 = cc in
       absurd (omega arith))
 
@@ -95,13 +95,13 @@ module _ (width : ℕ) (xs : List ℕ) (d : Decoder) {R : Type 0} (ok : Decoder 
   step-err error h =
       split (has width xs d)
       (λ t.
-      let a = on-true (Step.Ok (behind width d)) (Step.Err (unexpectedEnd (length xs) (d .position) width)) t in
+      let a = on-true _ (Step.Ok (behind width d)) (Step.Err (unexpectedEnd (length xs) (d .position) width)) t in
       let z : _≡_ {A = ℕ} 0 1 = cc in
       absurd (omega arith))
       (λ f.
-      let a = on-false (Step.Ok (behind width d)) (Step.Err (unexpectedEnd (length xs) (d .position) width)) f in
+      let a = on-false _ (Step.Ok (behind width d)) (Step.Err (unexpectedEnd (length xs) (d .position) width)) f in
       let e : unexpectedEnd (length xs) (d .position) width ≡ error = cc in
-      on-false (ok (behind width d)) (err (unexpectedEnd (length xs) (d .position) width)) f ∙ ap err e)
+      on-false _ (ok (behind width d)) (err (unexpectedEnd (length xs) (d .position) width)) f ∙ ap err e)
 
 module _ (xs : List ℕ) (d : Decoder) {R : Type 0} (ok : R) (err : DecodeError → R) where
   pub finish-ok : finishes Finish.Ok Finish.Err xs d ≡ Finish.Ok → (d .position ≡ length xs) × (finishes ok err xs d ≡ ok)
@@ -136,7 +136,7 @@ wrote-next {xs} {before} {done} {n} after ys k w e l h =
     record {
       same =
           h
-          ∙ on-true (writtenAt before n ys) before fits
+          ∙ on-true _ (writtenAt before n ys) before fits
           ∙ ap (λ (zs : List ℕ). writtenAt zs n ys) (w .same)
           ∙ written-behind xs 0 done ys n (omega arith) (omega arith);
       size = length-append done ys ∙ omega arith;

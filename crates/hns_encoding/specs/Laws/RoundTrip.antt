@@ -22,10 +22,10 @@ pub reads-written : {R : Type 0} (ok : List ℕ → Decoder → R) (err : Decode
     → reads ok err (length ys) (written xs position ys) (record { position = position }) ≡ ok ys (record { position = position + length ys })
 reads-written ok err xs position ys l =
     let fits : within (length xs) position (length ys) ≡ true = le-leb (position + length ys) (length xs) l in
-    let same : written xs position ys ≡ writtenAt xs position ys = on-true (writtenAt xs position ys) xs fits in
+    let same : written xs position ys ≡ writtenAt xs position ys = on-true _ (writtenAt xs position ys) xs fits in
     let long = ap length same ∙ written-length xs position ys l in
     let there : within (length (written xs position ys)) position (length ys) ≡ true = le-leb (position + length ys) (length (written xs position ys)) (omega arith) in
-    on-true (ok (field (written xs position ys) position (length ys)) (record { position = position + length ys })) (err (unexpectedEnd (length (written xs position ys)) position (length ys))) there
+    on-true _ (ok (field (written xs position ys) position (length ys)) (record { position = position + length ys })) (err (unexpectedEnd (length (written xs position ys)) position (length ys))) there
     ∙ ap (λ (bytes : List ℕ). ok bytes (record { position = position + length ys })) (ap (λ (zs : List ℕ). field zs position (length ys)) same ∙ field-written xs position ys l)
 
 module _ {R : Type 0} (ok : ℕ → Decoder → R) (err : DecodeError → R) (xs : List ℕ) (position width n : ℕ) where

@@ -1,16 +1,16 @@
 -- Bool tests and `cond`: what a choice is once its test is known, tests joined, and tests of numbers that say the same.
 use Prim.Native.Nat.{ℕ, _≤_}
 use mathlib.Core.Path.{_≡_, refl, sym, _∙_, ap}
-use mathlib.Core.Bool.{Bool, true, false, cond, _&&_, _||_}
+use mathlib.Core.Bool.{Bool, true, false, cond, _&&_, _||_, true≢false}
+use mathlib.Core.Logic.{_⊎_, inl, inr}
 use lib.Dec.{leb}
 use borrow.Author.Tests.{leb-true, le-leb}
 
-module _ {A : Type 0} (x y : A) where
-  pub on-true : {b : Bool} → b ≡ true → cond b x y ≡ x
-  on-true e = ap (λ (t : Bool). cond t x y) e
+pub on-true : {A : Type 0} (b : Bool) (x y : A) → b ≡ true → cond b x y ≡ x
+on-true b x y e = ap (λ (t : Bool). cond t x y) e
 
-  pub on-false : {b : Bool} → b ≡ false → cond b x y ≡ y
-  on-false e = ap (λ (t : Bool). cond t x y) e
+pub on-false : {A : Type 0} (b : Bool) (x y : A) → b ≡ false → cond b x y ≡ y
+on-false b x y e = ap (λ (t : Bool). cond t x y) e
 
 -- a test is true or false
 pub split {ℓ} : {P : Type ℓ} (b : Bool) → (b ≡ true → P) → (b ≡ false → P) → P
@@ -33,8 +33,8 @@ both true b e = (refl, e)
 both false true e = (e, refl)
 both false false e = (e, e)
 
-pub join : {a b : Bool} → a ≡ true → b ≡ true → a && b ≡ true
-join p q = rw (p, q)
+pub join : (a b : Bool) → a ≡ true → b ≡ true → a && b ≡ true
+join a b p q = rw (p, q)
 
 -- neither of two tests
 pub neither : (a b : Bool) → a || b ≡ false → (a ≡ false) × (b ≡ false)
@@ -48,3 +48,18 @@ leb-same a b c d there back =
     split (leb a b)
     (λ t. t ∙ sym (le-leb c d (there (leb-true a b t))))
     (λ f. split (leb c d) (λ t. le-leb a b (back (leb-true c d t)) ∙ sym t) (λ g. f ∙ sym g))
+
+-- a test that passes and fails
+pub clash : {P : Type 0} {b : Bool} → b ≡ true → b ≡ false → P
+clash t f = absurd (true≢false (sym t ∙ f))
+
+-- one or the other of two tests
+pub either : (a b : Bool) → a || b ≡ true → (a ≡ true) ⊎ (b ≡ true)
+either true b h = inl h
+either false b h = inr h
+
+-- two tests that pass together are one
+pub same : (a b : Bool) → (a ≡ true → b ≡ true) → (b ≡ true → a ≡ true) → a ≡ b
+same true b f g = sym (f refl)
+same false true f g = g refl
+same false false f g = refl

@@ -1,13 +1,15 @@
 -- A field at an offset as a number: the answer's number, or 0, is the number of its bytes, or of zeros.
-use Prim.Native.Nat.{ℕ}
+use Prim.Native.Nat.{ℕ, _+_}
 use mathlib.Core.Path.{_≡_, sym, _∙_, ap₂}
 use mathlib.Core.Bool.{cond}
 use mathlib.Core.List.{List}
-use lib.ListN.{length, replicate}
+use lib.ListN.{length, replicate, length-replicate}
+use borrow.Author.Tests.{leb-true}
 use Rattle.hns_encoding.specs.declared.decoder.Decoder.{Decoder}
 use Rattle.hns_encoding.specs.declared.decoder.DecodeError.{DecodeError}
 use Rattle.hns_encoding.specs.Cursor.{has, behind, field, unexpectedEnd, reads}
-use Rattle.hns_encoding.specs.Laws.Tests.{cond-map}
+use Rattle.hns_encoding.specs.Laws.Tests.{cond-map, split}
+use Rattle.hns_encoding.specs.Laws.Lists.{field-length}
 use Rattle.hnsr_body.specs.Layout.{bytesAt}
 
 -- `value` takes the number out of an answer, `number` is how bytes are read
@@ -22,3 +24,11 @@ number-at value ok err number width input at good bad zero =
     cond-map value b (ok (number bytes) next) (err error)
     ∙ ap₂ (λ (x y : ℕ). cond b x y) (good (number bytes) next) (bad error ∙ sym zero)
     ∙ sym (cond-map number b bytes (replicate width 0))
+
+-- a field read at an offset is as long as it should be, also where the input ends early
+pub bytes-length : (width : ℕ) (input : List ℕ) (at : ℕ) → length (bytesAt width input at) ≡ width
+bytes-length width input at =
+    let d : Decoder = record { position = at } in
+    split (has width input d)
+    (λ t. rw t (field-length input at width (leb-true (at + width) (length input) t)))
+    (λ f. rw f (length-replicate width 0))

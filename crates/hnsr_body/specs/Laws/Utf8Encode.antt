@@ -10,7 +10,8 @@ use native.Mathlib.Omega.{arith}
 use borrow.Author.Tests.{ltb-true, lt-ltb, le-ltb}
 use lib.Dec.{ltb}
 use Rattle.hnsr_body.specs.Utf8.{between, utf8-1, utf8-2, utf8-3, utf8-4, utf8}
-use Rattle.hnsr_body.specs.Laws.Utf8Tests.{both, join, left, right, either, any3, any4, order, Range, in-range, is-between, one-fits, one-test, Fit2, two-fits, two-test, Three, three-fits, three-test, Four, four-fits, four-test}
+use Rattle.hns_encoding.specs.Laws.Tests.{both, join, either}
+use Rattle.hnsr_body.specs.Laws.Utf8Tests.{left, right, any3, any4, order, Range, in-range, is-between, one-fits, one-test, Fit2, two-fits, two-test, Three, three-fits, three-test, Four, four-fits, four-test}
 use Rattle.hnsr_body.specs.Laws.Utf8Form.{three-of, four-of}
 use Rattle.hnsr_body.specs.Utf8Encode.{utf8-char, scalar, low6, encode, decode, scalars, encodeAll, Encodes, Encoded}
 

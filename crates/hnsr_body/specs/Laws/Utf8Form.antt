@@ -14,7 +14,8 @@ use lib.Seq.{drop-cons, drop-drop, take-all}
 use native.Mathlib.Numerals.{add-one}
 use Rattle.hnsr_body.specs.Utf8.{between, tail, utf8-1, utf8-2, utf8-3, utf8-4, utf8}
 use Rattle.hnsr_body.specs.Utf8Form.{leadLength, second, goesOn, charLength, Skipped}
-use Rattle.hnsr_body.specs.Laws.Utf8Tests.{both, join, same, order, Range, in-range, is-between, one-fits, one-test, two-fits, two-test, three-fits, three-test, four-fits, four-test, Three, Four}
+use Rattle.hns_encoding.specs.Laws.Tests.{both, join, same}
+use Rattle.hnsr_body.specs.Laws.Utf8Tests.{order, Range, in-range, is-between, one-fits, one-test, two-fits, two-test, three-fits, three-test, four-fits, four-test, Three, Four}
 
 -- which bytes announce how many
 pub data Lead (a : ℕ) : ℕ → Type 0 where

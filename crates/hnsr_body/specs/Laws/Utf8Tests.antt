@@ -7,19 +7,8 @@ use mathlib.Core.Logic.{_⊎_, inl, inr, ⊎-map}
 use native.Mathlib.Omega.{arith}
 use borrow.Author.Tests.{leb-true, leb-false, le-leb}
 use lib.Dec.{leb}
+use Rattle.hns_encoding.specs.Laws.Tests.{both, join}
 use Rattle.hnsr_body.specs.Utf8.{between, tail, utf8-1, utf8-2, utf8-3, utf8-4}
-
-pub both : (a b : Bool) → (a && b) ≡ true → (a ≡ true) × (b ≡ true)
-both true b h = (refl, h)
-both false b h = absurd (false≢true h)
-
-pub join : (a b : Bool) → a ≡ true → b ≡ true → (a && b) ≡ true
-join true b p q = q
-join false b p q = absurd (false≢true p)
-
-pub either : (a b : Bool) → (a || b) ≡ true → (a ≡ true) ⊎ (b ≡ true)
-either true b h = inl h
-either false b h = inr h
 
 pub left : (a b : Bool) → a ≡ true → (a || b) ≡ true
 left true b h = h
@@ -28,13 +17,6 @@ left false b h = absurd (false≢true h)
 pub right : (a b : Bool) → b ≡ true → (a || b) ≡ true
 right true b h = refl
 right false b h = h
-
--- two tests that pass together are one
-pub same : (a b : Bool) → (a ≡ true → b ≡ true) → (b ≡ true → a ≡ true) → a ≡ b
-same true true f g = refl
-same true false f g = absurd (false≢true (f refl))
-same false true f g = absurd (false≢true (g refl))
-same false false f g = refl
 
 pub order : (m n : ℕ) → (m ≤ n) ⊎ (n < m)
 order m n = go (leb m n) refl

@@ -27,14 +27,14 @@ returns : tie.Need-returns
 unfolding encodeOpened
 returns c =
     let result = c .before .before .before .before .before .answered .ensures in
-    let bytes = c .before .put .ensures ∙ sym (on-true (openedBytes (c .before .before .before .before .before .before .args .self)) (replicate 28 0) (sym (c .before .before .before .before .is-valid .ensures) ∙ c .before .before .before .if1 .taken)) in
+    let bytes = c .before .put .ensures ∙ sym (on-true _ (openedBytes (c .before .before .before .before .before .before .args .self)) (replicate 28 0) (sym (c .before .before .before .before .is-valid .ensures) ∙ c .before .before .before .if1 .taken)) in
     λ i. record { result = result i; bytes = bytes i }
 
 returns-2 : tie.Need-returns-2
 unfolding encodeOpened
 returns-2 c =
     let result = c .before .before .answered .ensures in
-    let bytes = sym (on-false (openedBytes (c .before .before .before .args .self)) (replicate 28 0) (sym (c .before .is-valid .ensures) ∙ c .if1 .left)) in
+    let bytes = sym (on-false _ (openedBytes (c .before .before .before .args .self)) (replicate 28 0) (sym (c .before .is-valid .ensures) ∙ c .if1 .left)) in
     λ i. record { result = result i; bytes = bytes i }
 
 pub encode-spec : {M : Type 1} → statement M

@@ -29,14 +29,14 @@ returns : tie.Need-returns
 unfolding encodeIncoming
 returns c =
     let result = c .before .before .before .before .answered .ensures ∙ ap (λ (v : Bool). answer Ok v IncomingParameters) (c .before .before .before .before .before .is-valid .ensures) in
-    let bytes = c .before .put .ensures ∙ sym (on-true (incomingBytes (c .before .before .before .before .before .before .args .self)) (replicate 62 0) (sym (c .before .before .before .before .before .is-valid .ensures) ∙ c .before .before .before .if1 .taken)) in
+    let bytes = c .before .put .ensures ∙ sym (on-true _ (incomingBytes (c .before .before .before .before .before .before .args .self)) (replicate 62 0) (sym (c .before .before .before .before .before .is-valid .ensures) ∙ c .before .before .before .if1 .taken)) in
     λ i. record { result = result i; bytes = bytes i }
 
 returns-2 : tie.Need-returns-2
 unfolding encodeIncoming
 returns-2 c =
     let result = c .before .answered .ensures ∙ ap (λ (v : Bool). answer Ok v IncomingParameters) (c .before .before .is-valid .ensures) in
-    let bytes = sym (on-false (incomingBytes (c .before .before .before .args .self)) (replicate 62 0) (sym (c .before .before .is-valid .ensures) ∙ c .if1 .left)) in
+    let bytes = sym (on-false _ (incomingBytes (c .before .before .before .args .self)) (replicate 62 0) (sym (c .before .before .is-valid .ensures) ∙ c .if1 .left)) in
     λ i. record { result = result i; bytes = bytes i }
 
 pub encode-spec : {M : Type 1} → statement M

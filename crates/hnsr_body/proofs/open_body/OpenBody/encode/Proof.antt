@@ -29,14 +29,14 @@ returns : tie.Need-returns
 unfolding encodeOpen
 returns c =
     let result = c .before .before .before .before .answered .ensures ∙ ap (λ (v : Bool). answer Ok v OpenParameters) (c .before .before .before .before .before .is-valid .ensures) in
-    let bytes = c .before .put .ensures ∙ sym (on-true (openBytes (c .before .before .before .before .before .before .args .self)) (replicate 103 0) (sym (c .before .before .before .before .before .is-valid .ensures) ∙ c .before .before .before .if1 .taken)) in
+    let bytes = c .before .put .ensures ∙ sym (on-true _ (openBytes (c .before .before .before .before .before .before .args .self)) (replicate 103 0) (sym (c .before .before .before .before .before .is-valid .ensures) ∙ c .before .before .before .if1 .taken)) in
     λ i. record { result = result i; bytes = bytes i }
 
 returns-2 : tie.Need-returns-2
 unfolding encodeOpen
 returns-2 c =
     let result = c .before .answered .ensures ∙ ap (λ (v : Bool). answer Ok v OpenParameters) (c .before .before .is-valid .ensures) in
-    let bytes = sym (on-false (openBytes (c .before .before .before .args .self)) (replicate 103 0) (sym (c .before .before .is-valid .ensures) ∙ c .if1 .left)) in
+    let bytes = sym (on-false _ (openBytes (c .before .before .before .args .self)) (replicate 103 0) (sym (c .before .before .is-valid .ensures) ∙ c .if1 .left)) in
     λ i. record { result = result i; bytes = bytes i }
 
 pub encode-spec : {M : Type 1} → statement M

@@ -1,0 +1,427 @@
+//! The bodies of the circuit messages: reading and checking them.
+//!
+//! Names and field types are those of hns-hnsr-protocol. Two things are asked differently. Whether the endpoint's key is a point of
+//! the curve is the caller's word, since no curve arithmetic stands behind this. And what has no fixed length is lent, not copied.
+//!
+//! ```
+//! use lekchnam_host::body::{Invalid, ProtocolError, WindowBody};
+//!
+//! assert_eq!(WindowBody::decode(&[1, 0, 0, 0]), Ok(WindowBody { credit_delta: 1 }));
+//! assert_eq!(WindowBody::decode(&[0; 4]), Err(ProtocolError::Invalid(Invalid::WindowCredit)));
+//! assert_eq!(
+//!     WindowBody::decode(&[1]).unwrap_err().to_string(),
+//!     "unexpected end of input at byte 0; needed 3 more byte(s)"
+//! );
+//! ```
+use crate::ffi;
+use std::error::Error;
+use std::fmt::{self, Display, Formatter};
+
+/// Where the detail of a CLOSE or an ERROR starts: behind its reason and its length.
+const DETAIL: usize = 3;
+
+/// Which value is wrong. The number is the archive's.
+#[derive(Clone, Copy, Debug, Eq, Hash, PartialEq)]
+#[repr(u64)]
+pub enum Invalid {
+    /// A packet's context is zero, and its opcode is not 6.
+    ContextZero = 1,
+    /// OPEN: an id, the nonce or the profile is zero, the key is not valid, or the window is out of bounds.
+    OpenParameters = 2,
+    /// INCOMING: an id, the nonce or the profile is zero, or the window is out of bounds.
+    IncomingParameters = 3,
+    /// ACCEPT, and OPENED behind its circuit: the nonce is zero or the window is out of bounds.
+    AcceptResponse = 4,
+    /// OPENED: the circuit is zero.
+    CircuitZero = 5,
+    /// DATA: no bytes, or more than 16,384.
+    DataSize = 6,
+    /// WINDOW: a delta of 0, or over 1,048,576.
+    WindowCredit = 7,
+    /// CLOSE, ERROR: the length is over 128, or not the count of bytes left.
+    DiagnosticDetail = 8,
+    /// CLOSE, ERROR: the detail is not UTF-8.
+    NotUtf8 = 9,
+}
+
+impl Invalid {
+    /// All, by number.
+    pub const ALL: [Self; 9] = [
+        Self::ContextZero,
+        Self::OpenParameters,
+        Self::IncomingParameters,
+        Self::AcceptResponse,
+        Self::CircuitZero,
+        Self::DataSize,
+        Self::WindowCredit,
+        Self::DiagnosticDetail,
+        Self::NotUtf8,
+    ];
+
+    /// The text that hns-hnsr-protocol has for it.
+    pub const fn text(self) -> &'static str {
+        match self {
+            Self::ContextZero => "HNSR context ID is zero",
+            Self::OpenParameters => "invalid HNSR open parameters",
+            Self::IncomingParameters => "invalid HNSR incoming parameters",
+            Self::AcceptResponse => "invalid HNSR accept response",
+            Self::CircuitZero => "HNSR circuit ID is zero",
+            Self::DataSize => "invalid HNSR DATA size",
+            Self::WindowCredit => "invalid HNSR window credit",
+            Self::DiagnosticDetail => "invalid HNSR diagnostic detail",
+            Self::NotUtf8 => "HNSR detail is not UTF-8",
+        }
+    }
+
+    fn numbered(number: u64) -> Self {
+        Self::ALL
+            .into_iter()
+            .find(|invalid| *invalid as u64 == number)
+            .unwrap_or_else(|| panic!("libhnsr_body.a is of another version: text number {number}"))
+    }
+}
+
+/// Why a body or a packet is refused.
+#[derive(Clone, Copy, Debug, Eq, Hash, PartialEq)]
+pub enum ProtocolError {
+    /// The input ends before the field that starts at `offset` does.
+    UnexpectedEnd {
+        /// Where the field starts.
+        offset: usize,
+        /// How many bytes the field lacks.
+        needed: usize,
+    },
+    /// Bytes are left behind the last field.
+    TrailingBytes {
+        /// How many.
+        remaining: usize,
+    },
+    /// A value that is not allowed.
+    Invalid(Invalid),
+    /// A packet over its size.
+    TooLarge {
+        /// The size with the header.
+        actual: usize,
+        /// The most it may be.
+        maximum: usize,
+    },
+    /// The OPEN was not admitted. No reader answers this: it is the relay's, and in hns-hnsr-protocol has the words of the service that
+    /// admits.
+    Admission,
+}
+
+impl Display for ProtocolError {
+    fn fmt(&self, f: &mut Formatter<'_>) -> fmt::Result {
+        match self {
+            Self::UnexpectedEnd { offset, needed } => {
+                write!(f, "unexpected end of input at byte {offset}; needed {needed} more byte(s)")
+            }
+            Self::TrailingBytes { remaining } => write!(f, "{remaining} trailing byte(s) remain"),
+            Self::Invalid(invalid) => write!(f, "invalid HNSR value: {}", invalid.text()),
+            Self::TooLarge { actual, maximum } => {
+                write!(f, "HNSR field length {actual} exceeds maximum {maximum}")
+            }
+            Self::Admission => write!(f, "HNSR circuit is not admitted"),
+        }
+    }
+}
+
+impl Error for ProtocolError {}
+
+/// The archive's cause by its name. A value that a kind does not use is 0.
+fn checked(cause: ffi::Cause) -> Result<(), ProtocolError> {
+    let size = |value: u64| value as usize;
+    Err(match (cause.kind, cause.first, cause.second) {
+        (0, 0, 0) => return Ok(()),
+        (1, offset, needed) => ProtocolError::UnexpectedEnd { offset: size(offset), needed: size(needed) },
+        (2, remaining, 0) => ProtocolError::TrailingBytes { remaining: size(remaining) },
+        (3, number, 0) => ProtocolError::Invalid(Invalid::numbered(number)),
+        (4, actual, maximum) => ProtocolError::TooLarge { actual: size(actual), maximum: size(maximum) },
+        (5, 0, 0) => ProtocolError::Admission,
+        unknown => panic!("libhnsr_body.a is of another version: cause {unknown:?}"),
+    })
+}
+
+/// What was read, accepted or not.
+#[derive(Clone, Copy, Debug, Eq, PartialEq)]
+pub struct Read<Body> {
+    /// Whether the body is accepted, or why not.
+    pub result: Result<(), ProtocolError>,
+    /// The fields as far as the input reaches; one that the input ends before is zero.
+    pub body: Body,
+}
+
+impl<Body> Read<Body> {
+    fn of<Raw>(answer: ffi::Answer<Raw>) -> Self
+    where
+        Body: From<Raw>,
+    {
+        Self { result: checked(answer.cause), body: answer.body.into() }
+    }
+
+    /// The body if it is accepted.
+    pub fn accepted(self) -> Result<Body, ProtocolError> {
+        self.result.map(|()| self.body)
+    }
+}
+
+/// OPEN: a requester asks for a circuit under a reservation.
+#[derive(Clone, Copy, Debug, Eq, PartialEq)]
+pub struct OpenBody {
+    /// The ticket that it goes by.
+    pub ticket_id: [u8; 32],
+    /// The reservation that it goes by.
+    pub reservation_id: [u8; 16],
+    /// The endpoint's key.
+    pub endpoint_key: [u8; 33],
+    /// The profile that the circuit is for.
+    pub profile: u16,
+    /// The requester's nonce.
+    pub requester_nonce: [u8; 16],
+    /// The window that the requester offers.
+    pub initial_window: u32,
+}
+
+impl OpenBody {
+    /// Reads and checks a body; `key_valid` says whether the bytes at `endpoint_key` are a valid key.
+    pub fn decode(input: &[u8], key_valid: bool) -> Result<Self, ProtocolError> {
+        Self::read(input, key_valid).accepted()
+    }
+
+    /// As [`decode`](Self::decode), with the fields of a refused body too.
+    pub fn read(input: &[u8], key_valid: bool) -> Read<Self> {
+        Read::of(ffi::decode_open(input, key_valid))
+    }
+}
+
+impl From<ffi::OpenBody> for OpenBody {
+    fn from(body: ffi::OpenBody) -> Self {
+        Self {
+            ticket_id: body.ticket_id,
+            reservation_id: reservation_bytes(body.reservation_id),
+            endpoint_key: body.endpoint_key,
+            profile: body.profile,
+            requester_nonce: body.requester_nonce,
+            initial_window: body.initial_window,
+        }
+    }
+}
+
+/// An id's bytes in the order of the wire.
+fn reservation_bytes(id: ffi::ReservationId) -> [u8; 16] {
+    (u128::from(id.high) << 64 | u128::from(id.low)).to_be_bytes()
+}
+
+/// INCOMING: the relay tells an endpoint of an OPEN.
+#[derive(Clone, Copy, Debug, Eq, PartialEq)]
+pub struct IncomingBody {
+    /// The ticket of the OPEN.
+    pub ticket_id: [u8; 32],
+    /// The context of the OPEN.
+    pub open_request_id: [u8; 8],
+    /// The profile that the circuit is for.
+    pub profile: u16,
+    /// The requester's nonce.
+    pub requester_nonce: [u8; 16],
+    /// The window that the requester offers.
+    pub initial_window: u32,
+}
+
+impl IncomingBody {
+    /// Reads and checks a body.
+    pub fn decode(input: &[u8]) -> Result<Self, ProtocolError> {
+        Self::read(input).accepted()
+    }
+
+    /// As [`decode`](Self::decode), with the fields of a refused body too.
+    pub fn read(input: &[u8]) -> Read<Self> {
+        Read::of(ffi::read(ffi::hnsr_body_decode_incoming, input))
+    }
+}
+
+impl From<ffi::IncomingBody> for IncomingBody {
+    fn from(body: ffi::IncomingBody) -> Self {
+        Self {
+            ticket_id: body.ticket_id,
+            open_request_id: body.open_request_id.to_be_bytes(),
+            profile: body.profile,
+            requester_nonce: body.requester_nonce,
+            initial_window: body.initial_window,
+        }
+    }
+}
+
+/// ACCEPT: an endpoint takes a circuit.
+#[derive(Clone, Copy, Debug, Eq, PartialEq)]
+pub struct AcceptBody {
+    /// The window that both sides start with.
+    pub accepted_window: u32,
+    /// The endpoint's nonce.
+    pub endpoint_nonce: [u8; 16],
+}
+
+impl AcceptBody {
+    /// Reads and checks a body.
+    pub fn decode(input: &[u8]) -> Result<Self, ProtocolError> {
+        Self::read(input).accepted()
+    }
+
+    /// As [`decode`](Self::decode), with the fields of a refused body too.
+    pub fn read(input: &[u8]) -> Read<Self> {
+        Read::of(ffi::read(ffi::hnsr_body_decode_accept, input))
+    }
+}
+
+impl From<ffi::AcceptBody> for AcceptBody {
+    fn from(body: ffi::AcceptBody) -> Self {
+        Self { accepted_window: body.accepted_window, endpoint_nonce: body.endpoint_nonce }
+    }
+}
+
+/// OPENED: the relay tells the requester that its circuit is taken.
+#[derive(Clone, Copy, Debug, Eq, PartialEq)]
+pub struct OpenedBody {
+    /// The circuit.
+    pub circuit_id: [u8; 8],
+    /// The window that both sides start with.
+    pub accepted_window: u32,
+    /// The endpoint's nonce.
+    pub endpoint_nonce: [u8; 16],
+}
+
+impl OpenedBody {
+    /// Reads and checks a body.
+    pub fn decode(input: &[u8]) -> Result<Self, ProtocolError> {
+        Self::read(input).accepted()
+    }
+
+    /// As [`decode`](Self::decode), with the fields of a refused body too.
+    pub fn read(input: &[u8]) -> Read<Self> {
+        Read::of(ffi::read(ffi::hnsr_body_decode_opened, input))
+    }
+}
+
+impl From<ffi::OpenedBody> for OpenedBody {
+    fn from(body: ffi::OpenedBody) -> Self {
+        Self {
+            circuit_id: body.circuit_id.to_be_bytes(),
+            accepted_window: body.accepted_window,
+            endpoint_nonce: body.endpoint_nonce,
+        }
+    }
+}
+
+/// DATA: bytes that are passed on as they are.
+#[derive(Clone, Copy, Debug, Eq, PartialEq)]
+pub struct DataBody<'input> {
+    /// The bytes.
+    pub bytes: &'input [u8],
+}
+
+impl<'input> DataBody<'input> {
+    /// Checks the size.
+    pub fn decode(input: &'input [u8]) -> Result<Self, ProtocolError> {
+        checked(ffi::read(ffi::hnsr_body_decode_data, input)).map(|()| Self { bytes: input })
+    }
+}
+
+/// WINDOW: credit for the other side.
+#[derive(Clone, Copy, Debug, Eq, PartialEq)]
+pub struct WindowBody {
+    /// How much more the other side may send.
+    pub credit_delta: u32,
+}
+
+impl WindowBody {
+    /// Reads and checks a body.
+    pub fn decode(input: &[u8]) -> Result<Self, ProtocolError> {
+        Self::read(input).accepted()
+    }
+
+    /// As [`decode`](Self::decode), with the field of a refused body too.
+    pub fn read(input: &[u8]) -> Read<Self> {
+        Read::of(ffi::read(ffi::hnsr_body_decode_window, input))
+    }
+}
+
+impl From<ffi::WindowBody> for WindowBody {
+    fn from(body: ffi::WindowBody) -> Self {
+        Self { credit_delta: body.credit_delta }
+    }
+}
+
+/// The two fields in front of a CLOSE's or an ERROR's detail.
+#[derive(Clone, Copy, Debug, Eq, PartialEq)]
+pub struct ReasonDetail {
+    /// Why the circuit ends. Every number is allowed.
+    pub reason: u16,
+    /// How long the detail says it is.
+    pub detail_length: usize,
+}
+
+impl ReasonDetail {
+    /// The detail of an accepted body.
+    fn detail(input: &[u8]) -> &str {
+        std::str::from_utf8(&input[DETAIL..]).expect("an accepted detail is UTF-8")
+    }
+}
+
+impl From<ffi::ReasonDetail> for ReasonDetail {
+    fn from(body: ffi::ReasonDetail) -> Self {
+        Self { reason: body.reason, detail_length: body.detail_length }
+    }
+}
+
+/// CLOSE: one side ends a circuit.
+#[derive(Clone, Copy, Debug, Eq, PartialEq)]
+pub struct CloseBody<'input> {
+    /// Why. Every number is allowed.
+    pub reason: u16,
+    /// Why, in words.
+    pub detail: &'input str,
+}
+
+impl<'input> CloseBody<'input> {
+    /// Reads and checks a body.
+    pub fn decode(input: &'input [u8]) -> Result<Self, ProtocolError> {
+        let ReasonDetail { reason, .. } = Self::read(input).accepted()?;
+        Ok(Self { reason, detail: ReasonDetail::detail(input) })
+    }
+
+    /// The fields in front of the detail, of a refused body too.
+    pub fn read(input: &[u8]) -> Read<ReasonDetail> {
+        Read::of(ffi::read(ffi::hnsr_body_decode_close, input))
+    }
+}
+
+/// ERROR: one side, or the relay, ends a circuit that went wrong.
+#[derive(Clone, Copy, Debug, Eq, PartialEq)]
+pub struct ErrorBody<'input> {
+    /// What went wrong. Every number is allowed.
+    pub reason: u16,
+    /// What went wrong, in words.
+    pub detail: &'input str,
+}
+
+impl<'input> ErrorBody<'input> {
+    /// Reads and checks a body.
+    pub fn decode(input: &'input [u8]) -> Result<Self, ProtocolError> {
+        let ReasonDetail { reason, .. } = Self::read(input).accepted()?;
+        Ok(Self { reason, detail: ReasonDetail::detail(input) })
+    }
+
+    /// The fields in front of the detail, of a refused body too.
+    pub fn read(input: &[u8]) -> Read<ReasonDetail> {
+        Read::of(ffi::read(ffi::hnsr_body_decode_error, input))
+    }
+}
+
+/// Whether a text is UTF-8 by RFC 3629.
+pub fn is_utf8(text: &[u8]) -> bool {
+    ffi::read(ffi::hnsr_body_is_utf8, text)
+}
+
+/// What hns-hnsr-protocol's `HnsrPacket::new` checks: the size first, then that the context is not zero, which opcode 6 may have.
+pub fn validate_packet(opcode: u8, context_id: [u8; 8], body_length: usize) -> Result<(), ProtocolError> {
+    checked(ffi::validate_packet(opcode, u64::from_be_bytes(context_id), body_length))
+}

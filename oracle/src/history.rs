@@ -1,0 +1,140 @@
+//! Document 01, "Reckoned from history", and its sentence on the counters, held against the Rust's state after each call. This is a
+//! check of the document, not part of the oracle.
+
+use crate::trace::Call;
+use crate::{CircuitView, Outcome, StateView};
+use std::collections::BTreeMap;
+
+const COUNTERS: [&str; 5] = ["admitted_opens", "opened_circuits", "bytes_sent", "bytes_received", "revoked_work"];
+
+#[derive(Default)]
+pub struct History {
+    /// Count DATA and WINDOW refused with 6 as taken, which document 01 does not say.
+    lenient: bool,
+    /// Of the requester and of the endpoint.
+    credit: BTreeMap<[u8; 8], (u64, u64)>,
+    bytes: BTreeMap<[u8; 8], u64>,
+    ledger: BTreeMap<[u8; 16], u64>,
+    counters: [u64; 5],
+}
+
+impl History {
+    pub fn lenient() -> Self {
+        Self { lenient: true, ..Self::default() }
+    }
+
+    /// Reckons one call, and says what then differs from the Rust's state.
+    pub fn step(&mut self, before: &StateView, call: &Call, outcome: &Outcome, after: &StateView) -> Vec<&'static str> {
+        let taken = match outcome {
+            Ok(_) => true,
+            Err(refusal) => self.lenient && refusal.number == 6,
+        };
+        let mut accepted = None;
+        if let Call::Handle { source, opcode, context, body, .. } = call {
+            match opcode {
+                13 => self.open(before, after),
+                15 if after.circuits.len() > before.circuits.len() => {
+                    self.accept(*context, number(body));
+                    accepted = Some(*context);
+                }
+                17 if taken => self.data(circuit(before, context), source, body.len() as u64),
+                18 if taken => self.window(circuit(before, context), source, number(body)),
+                _ => {}
+            }
+        }
+        self.count_ends(before, after, accepted);
+        let mut wrong = self.mismatches(after);
+        wrong.extend(broken(after));
+        wrong
+    }
+
+    fn open(&mut self, before: &StateView, after: &StateView) {
+        for record in &after.ledger {
+            let old = before.ledger.iter().find(|l| l.reservation_id == record.reservation_id);
+            // dropped and made anew in one OPEN shows by its expiry
+            if old.is_none_or(|l| l.expires_at != record.expires_at) {
+                self.ledger.insert(record.reservation_id, 0);
+            }
+        }
+        if after.pending.len() > before.pending.len() {
+            self.counters[0] += 1;
+        }
+    }
+
+    fn accept(&mut self, id: [u8; 8], window: u64) {
+        self.credit.insert(id, (window, window));
+        self.bytes.insert(id, 0);
+        self.counters[1] += 1;
+    }
+
+    fn data(&mut self, circuit: &CircuitView, source: &[u8], amount: u64) {
+        let credit = self.credit.get_mut(&circuit.id).expect("reckoned from its ACCEPT");
+        let sender = if circuit.requester == source { &mut credit.0 } else { &mut credit.1 };
+        *sender -= amount;
+        *self.bytes.get_mut(&circuit.id).expect("reckoned from its ACCEPT") += amount;
+        *self.ledger.get_mut(&circuit.reservation_id).expect("reckoned from its OPEN") += amount;
+        self.counters[2] += amount;
+        self.counters[3] += amount;
+    }
+
+    fn window(&mut self, circuit: &CircuitView, source: &[u8], delta: u64) {
+        let credit = self.credit.get_mut(&circuit.id).expect("reckoned from its ACCEPT");
+        let other = if circuit.requester == source { &mut credit.1 } else { &mut credit.0 };
+        *other += delta;
+    }
+
+    /// "revoked_work every other end of a pending record or circuit"
+    fn count_ends(&mut self, before: &StateView, after: &StateView, accepted: Option<[u8; 8]>) {
+        let pending = before.pending.iter().filter(|p| !after.pending.iter().any(|q| q.id == p.id));
+        let circuits = before.circuits.iter().filter(|c| !after.circuits.iter().any(|d| d.id == c.id));
+        self.counters[4] += (pending.filter(|p| accepted != Some(p.id)).count() + circuits.count()) as u64;
+    }
+
+    fn mismatches(&self, after: &StateView) -> Vec<&'static str> {
+        let mut wrong = Vec::new();
+        for c in &after.circuits {
+            if self.credit.get(&c.id) != Some(&(u64::from(c.requester_credit), u64::from(c.endpoint_credit))) {
+                wrong.push("credit");
+            }
+            if self.bytes.get(&c.id) != Some(&c.forwarded_bytes) {
+                wrong.push("circuit bytes");
+            }
+            let of = |kind| after.actions.iter().filter(move |a| a.circuit_id == c.id && a.kind == kind);
+            let queued = |kind| of(kind).map(|a| a.bytes).sum::<usize>();
+            if (queued(2), queued(3)) != (c.queued_to_requester, c.queued_to_endpoint) {
+                wrong.push("queued is not the outstanding DATA");
+            }
+        }
+        let ledger = after.ledger.iter().filter(|l| self.ledger.get(&l.reservation_id) != Some(&l.bytes));
+        wrong.extend(ledger.map(|_| "ledger bytes"));
+        wrong.extend((0..COUNTERS.len()).filter(|at| self.counters[*at] != after.counters[*at]).map(|at| COUNTERS[at]));
+        wrong
+    }
+}
+
+/// What no call may break: deadlines end by the expiry, ids differ, and an action has its record.
+fn broken(state: &StateView) -> Vec<&'static str> {
+    let mut wrong = Vec::new();
+    let live = |id| state.circuits.iter().any(|c| c.id == id);
+    let open = |id| state.pending.iter().any(|p| p.id == id);
+    for p in &state.pending {
+        if p.deadline > p.expires_at || live(p.id) || p.id == [0; 8] {
+            wrong.push("pending invariant");
+        }
+    }
+    for a in &state.actions {
+        if (a.kind == 0 && !open(a.circuit_id)) || ((1..=4).contains(&a.kind) && !live(a.circuit_id)) {
+            wrong.push("action without its record");
+        }
+    }
+    wrong
+}
+
+fn circuit<'a>(state: &'a StateView, id: &[u8; 8]) -> &'a CircuitView {
+    state.circuits.iter().find(|c| c.id == *id).expect("what was taken has its circuit")
+}
+
+/// The window or delta that a body starts with.
+fn number(body: &[u8]) -> u64 {
+    u64::from(u32::from_le_bytes(body[..4].try_into().expect("four bytes")))
+}

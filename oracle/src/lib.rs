@@ -1,0 +1,196 @@
+//! The oracle: the Rust's `OpaqueRelayRuntime`, unchanged but for walking its maps by ascending
+//! key, behind calls on plain bytes and numbers.
+
+pub mod generate;
+pub mod history;
+mod refusal;
+pub mod trace;
+mod words;
+
+use hns_hnsr_protocol as protocol;
+pub use protocol::{ActionView, CircuitView, LedgerView, OpaqueRelayConfig as Config, PendingView, StateView};
+use protocol::{
+    ConfirmedReservation, HnsrActionId, HnsrOpcode, HnsrPacket, HnsrPeerId, OpaqueRelayRuntime, QueuedHnsrRoute, RelayService,
+    RelayTicket,
+};
+pub use refusal::{Cause, Refusal};
+pub use words::{fnv, words};
+
+/// What the host hands over with an OPEN that it admits.
+#[derive(Clone, Debug, Eq, PartialEq)]
+pub struct Grant {
+    pub endpoint: Vec<u8>,
+    pub reservation_id: [u8; 16],
+    pub expires_at: u64,
+    pub max_active_circuits: u16,
+    pub max_bytes_per_circuit: u64,
+    pub max_total_bytes: u64,
+}
+
+#[derive(Clone, Debug, Eq, PartialEq)]
+pub struct Route {
+    pub peer: Vec<u8>,
+    pub generation: u64,
+    pub sequence: u64,
+    pub opcode: u8,
+    pub context: [u8; 8],
+    pub body: Vec<u8>,
+}
+
+pub type Outcome = Result<Vec<Route>, Refusal>;
+
+fn routes(list: Vec<QueuedHnsrRoute>) -> Vec<Route> {
+    list.into_iter()
+        .map(|queued| Route {
+            peer: queued.route.destination.as_bytes().to_vec(),
+            generation: queued.action_id.generation,
+            sequence: queued.action_id.sequence,
+            opcode: queued.route.packet.opcode as u8,
+            context: queued.route.packet.context_id,
+            body: queued.route.packet.body,
+        })
+        .collect()
+}
+
+fn peer(bytes: &[u8]) -> Result<HnsrPeerId, Refusal> {
+    Ok(HnsrPeerId::new(bytes.to_vec())?)
+}
+
+/// The reservation behind a grant. What a grant does not say is zero: the relay does not look at it.
+fn confirmed(grant: &Grant) -> ConfirmedReservation {
+    let ticket = RelayTicket {
+        network_magic: 0,
+        profile: 0,
+        transport: 0,
+        host_type: 0,
+        host: [0; 16],
+        port: 0,
+        relay_key: [0; 33],
+        endpoint_key: [0; 33],
+        reservation_id: grant.reservation_id,
+        issued_at: 0,
+        expires_at: grant.expires_at,
+        max_active_circuits: grant.max_active_circuits,
+        max_bytes_per_circuit: grant.max_bytes_per_circuit,
+        max_total_bytes: grant.max_total_bytes,
+        flags: 0,
+        relay_signature: Vec::new(),
+        endpoint_signature: Vec::new(),
+    };
+    ConfirmedReservation { ticket, source: protocol::runtime::Source(grant.endpoint.clone()) }
+}
+
+/// Document 01's `status`, in the Rust's field order.
+#[derive(Clone, Copy, Debug, Eq, PartialEq)]
+pub struct Status {
+    pub generation: u64,
+    pub enabled: bool,
+    pub pending_circuits: u64,
+    pub active_circuits: u64,
+    pub queued_bytes: u64,
+    pub queued_actions: u64,
+    pub trusted_time_high_water: u64,
+    pub admitted_opens: u64,
+    pub opened_circuits: u64,
+    pub bytes_sent: u64,
+    pub bytes_received: u64,
+    pub revoked_work: u64,
+}
+
+/// Inputs of `handle`.
+#[derive(Clone, Debug, Eq, PartialEq)]
+pub struct Packet<'a> {
+    pub source: &'a [u8],
+    pub opcode: u8,
+    pub context: [u8; 8],
+    pub body: &'a [u8],
+    pub now: u64,
+    pub key_valid: bool,
+    pub admission: Option<Grant>,
+    pub random: &'a [u8],
+}
+
+pub struct Oracle {
+    runtime: OpaqueRelayRuntime,
+}
+
+impl Oracle {
+    pub fn new(session: [u8; 16], generation: u64, config: Config, now: u64) -> Result<Self, Refusal> {
+        Ok(Self { runtime: OpaqueRelayRuntime::new(session, generation, config, now)? })
+    }
+
+    /// Peer length first (4), then the packet (1), as document 01's row "entry" has them: in the
+    /// Rust both are made before `handle`. An opcode of 21 up has no `HnsrPacket`; here it gives
+    /// the 1 of `HnsrOpcode::try_from` (document 01: 16 at the gate).
+    pub fn handle(&mut self, call: &Packet<'_>) -> Outcome {
+        let source = peer(call.source)?;
+        let opcode = HnsrOpcode::try_from(call.opcode)?;
+        let packet = HnsrPacket::new(opcode, call.context, call.body.to_vec())?;
+        k256::set_key_valid(call.key_valid);
+        getrandom::set_queue(call.random);
+        let service = RelayService { admission: call.admission.as_ref().map(confirmed) };
+        let answer = self.runtime.handle(&service, &source, &packet, call.now);
+        getrandom::set_queue(&[]);
+        Ok(routes(answer?))
+    }
+
+    pub fn acknowledge(&mut self, generation: u64, sequence: u64, delivered: bool) -> Outcome {
+        Ok(routes(self.runtime.acknowledge(HnsrActionId { generation, sequence }, delivered)?))
+    }
+
+    pub fn disconnect(&mut self, bytes: &[u8]) -> Outcome {
+        let peer = peer(bytes)?;
+        Ok(routes(self.runtime.disconnect(&peer)))
+    }
+
+    pub fn revoke_reservation(&mut self, reservation_id: [u8; 16]) -> Outcome {
+        Ok(routes(self.runtime.revoke_reservation(reservation_id)))
+    }
+
+    pub fn expire(&mut self, now: u64) -> Outcome {
+        Ok(routes(self.runtime.expire(now)?))
+    }
+
+    pub fn observe_time(&mut self, now: u64) -> Outcome {
+        self.runtime.observe_time(now)?;
+        Ok(Vec::new())
+    }
+
+    pub fn replace_enabled(&mut self, expected: u64, enabled: bool) -> Outcome {
+        Ok(routes(self.runtime.replace_enabled(expected, enabled)?))
+    }
+
+    pub fn status(&self) -> Status {
+        let s = self.runtime.status();
+        Status {
+            generation: s.generation,
+            enabled: s.enabled,
+            pending_circuits: s.pending_circuits as u64,
+            active_circuits: s.active_circuits as u64,
+            queued_bytes: s.queued_bytes as u64,
+            queued_actions: s.queued_actions as u64,
+            trusted_time_high_water: s.trusted_time_high_water,
+            admitted_opens: s.admitted_opens,
+            opened_circuits: s.opened_circuits,
+            bytes_sent: s.bytes_sent,
+            bytes_received: s.bytes_received,
+            revoked_work: s.revoked_work,
+        }
+    }
+
+    /// Added by document 01; not in the Rust. Reckoned here from the probe.
+    pub fn next_due(&self) -> Option<u64> {
+        let state = self.probe();
+        state.pending.iter().map(|p| p.deadline).chain(state.circuits.iter().map(|c| c.expires_at)).min()
+    }
+
+    /// All private state, ids ascending.
+    pub fn probe(&self) -> StateView {
+        self.runtime.probe()
+    }
+
+    /// Not a call of document 01: sets the next sequence number.
+    pub fn poke_sequence(&mut self, value: u64) {
+        self.runtime.probe_set_next_sequence(value);
+    }
+}

@@ -1,0 +1,38 @@
+//! Document 01, "Output words", and their hash.
+use crate::Route;
+
+fn pack(out: &mut Vec<u32>, bytes: &[u8], count: usize) {
+    for index in 0..count {
+        let byte = |lane: usize| bytes.get(index * 4 + lane).copied().unwrap_or(0);
+        out.push(u32::from_le_bytes([byte(0), byte(1), byte(2), byte(3)]));
+    }
+}
+
+fn push_number(out: &mut Vec<u32>, number: u64) {
+    out.extend([(number >> 32) as u32, number as u32]);
+}
+
+pub fn words(routes: &[Route]) -> Vec<u32> {
+    let mut out = Vec::new();
+    for route in routes {
+        out.push(1 << 28 | route.peer.len() as u32);
+        push_number(&mut out, route.generation);
+        push_number(&mut out, route.sequence);
+        pack(&mut out, &route.peer, 32);
+        out.push(2 << 28 | u32::from(route.opcode) << 16 | route.body.len() as u32);
+        pack(&mut out, &route.context, 2);
+        pack(&mut out, &route.body, route.body.len().div_ceil(4));
+    }
+    out
+}
+
+/// FNV-1a, 64 bits, over the words' bytes, lowest byte first.
+pub fn fnv(words: &[u32]) -> u64 {
+    let mut hash = 0xcbf2_9ce4_8422_2325_u64;
+    for word in words {
+        for byte in word.to_le_bytes() {
+            hash = (hash ^ u64::from(byte)).wrapping_mul(0x0000_0100_0000_01b3);
+        }
+    }
+    hash
+}

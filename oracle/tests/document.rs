@@ -1,0 +1,73 @@
+//! What document 01 says of itself: that its rule of details is UTF-8, and that its sizes of output are enough.
+use oracle::generate::{invalid_details, valid_details};
+
+/// Document 01, "Bodies and their cursor": the rule of details.
+fn rule(bytes: &[u8]) -> bool {
+    let mut at = 0;
+    while at < bytes.len() {
+        let lead = bytes[at];
+        let length = match lead {
+            0x00..=0x7f => 1,
+            0xc2..=0xdf => 2,
+            0xe0..=0xef => 3,
+            0xf0..=0xf4 => 4,
+            _ => 0,
+        };
+        if length == 0 || bytes.len() - at < length {
+            return false;
+        }
+        for k in 1..length {
+            let (low, high) = match (k, lead) {
+                (1, 0xe0) => (0xa0, 0xbf),
+                (1, 0xed) => (0x80, 0x9f),
+                (1, 0xf0) => (0x90, 0xbf),
+                (1, 0xf4) => (0x80, 0x8f),
+                _ => (0x80, 0xbf),
+            };
+            if !(low..=high).contains(&bytes[at + k]) {
+                return false;
+            }
+        }
+        at += length;
+    }
+    true
+}
+
+#[test]
+fn details_are_what_from_utf8_takes() {
+    for n in 0..1_u32 << 24 {
+        let b = n.to_le_bytes();
+        for length in 1..=3 {
+            if length == 3 || b[length..3].iter().all(|x| *x == 0) {
+                assert_eq!(rule(&b[..length]), std::str::from_utf8(&b[..length]).is_ok(), "{:?}", &b[..length]);
+            }
+        }
+        for lead in [0xe1, 0xef, 0xf0, 0xf1, 0xf3, 0xf4, 0xf5] {
+            let four = [lead, b[0], b[1], b[2]];
+            assert_eq!(rule(&four), std::str::from_utf8(&four).is_ok(), "{four:?}");
+        }
+    }
+    for detail in valid_details() {
+        assert!(rule(&detail));
+    }
+    for detail in invalid_details() {
+        assert!(!rule(&detail));
+    }
+}
+
+#[test]
+fn output_sizes() {
+    // 4,136 words for handle; 96 for a record
+    assert_eq!(40 + 16_384 / 4, 4_136);
+    let texts = [
+        "outer peer disconnected",
+        "reservation revoked",
+        "endpoint acceptance expired",
+        "relay ticket expired",
+        "opaque relay disabled",
+        "endpoint write failed",
+        "outer write failed",
+    ];
+    let most = texts.iter().map(|t| 2 * (40 + (3 + t.len()).div_ceil(4))).max();
+    assert_eq!(most, Some(96));
+}

@@ -3,8 +3,9 @@ use Prim.Native.Nat.{ℕ, _≤_}
 use mathlib.Core.Path.{_≡_, refl, sym, _∙_, ap}
 use mathlib.Core.Bool.{Bool, true, false, cond, _&&_, _||_, true≢false}
 use mathlib.Core.Logic.{_⊎_, inl, inr}
-use lib.Dec.{leb}
-use borrow.Author.Tests.{leb-true, le-leb}
+use native.Mathlib.Omega.{arith}
+use lib.Dec.{leb, eqb}
+use borrow.Author.Tests.{leb-true, le-leb, eq-eqb, ne-eqb, eqb-true, eqb-false}
 
 pub on-true : {A : Type 0} (b : Bool) (x y : A) → b ≡ true → cond b x y ≡ x
 on-true b x y e = ap (λ (t : Bool). cond t x y) e
@@ -63,3 +64,19 @@ pub same : (a b : Bool) → (a ≡ true → b ≡ true) → (b ≡ true → a �
 same true b f g = sym (f refl)
 same false true f g = g refl
 same false false f g = refl
+
+-- small laws of tests
+pub eqb-comm : (m n : ℕ) → eqb m n ≡ eqb n m
+eqb-comm m n = split (eqb m n) (λ e. e ∙ sym (eq-eqb n m (sym (eqb-true m n e)))) (λ e. e ∙ sym (ne-eqb n m (λ q. eqb-false m n e (sym q))))
+
+pub cond-le : (b : Bool) → cond b 1 0 ≤ 1
+cond-le true = omega arith
+cond-le false = omega arith
+
+pub or-assoc : (a b c : Bool) → ((a || b) || c) ≡ (a || (b || c))
+or-assoc true b c = refl
+or-assoc false b c = refl
+
+pub or-none : (a : Bool) → a ≡ (a || false)
+or-none true = refl
+or-none false = refl

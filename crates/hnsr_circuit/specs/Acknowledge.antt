@@ -1,0 +1,81 @@
+-- Acknowledge: removes the action; for Data lowers that one circuit's queued count; undelivered, it ends what the action was for
+-- (document 01, "Down through the call").
+use Prim.Native.Nat.{ℕ}
+use mathlib.Core.Bool.{Bool, true, false, cond, not}
+use mathlib.Core.List.{List, []}
+use lib.Dec.{eqb}
+use Rattle.hnsr_body.specs.declared.messages.Notice.the-variants.{EndpointWriteFailed, OuterWriteFailed}
+use Rattle.hnsr_circuit.specs.declared.records.RelayPending.{RelayPending}
+use Rattle.hnsr_circuit.specs.declared.records.RelayCircuit.{RelayCircuit}
+use Rattle.hnsr_circuit.specs.declared.records.InflightAction.{InflightAction}
+use Rattle.hnsr_circuit.specs.declared.answer.HnsrAnswer.{HnsrAnswer}
+use Rattle.hnsr_circuit.specs.declared.answer.HnsrRuntimeError.the-variants.{StaleGeneration, UnknownAction}
+use Rattle.hnsr_circuit.specs.Table.{any, pick, edit}
+use Rattle.hnsr_circuit.specs.Answers.{check, _then_}
+use Rattle.hnsr_circuit.specs.Pending.{pendingAt}
+use Rattle.hnsr_circuit.specs.Circuits.{circuitAt, lowered}
+use Rattle.hnsr_circuit.specs.Inflight.{noAction, actionAt, clearAction, InflightKind, Incoming, Opened, Data, Control, Close, kindOf, towardSide}
+use Rattle.hnsr_circuit.specs.Header.{countRevoked}
+use Rattle.hnsr_circuit.specs.World.{World, Outcome, done, proceed, withCircuits, withInflight, counting}
+use Rattle.hnsr_circuit.specs.Queue.{finished, send, generationOf}
+use Rattle.hnsr_circuit.specs.Entry.{acknowledgeWords, roomAnswer}
+use Rattle.hnsr_circuit.specs.Revocation.{withoutPending, errorToRequester, hasPending, pendingIn, revokeCircuit}
+
+-- ---- rows
+-- 5: generation; also replace_enabled's
+unfoldable pub generationAnswer : (current given : ℕ) → HnsrAnswer
+generationAnswer current given = check (not (eqb given current)) StaleGeneration
+
+-- 20: unknown
+unfoldable pub actionAnswer : (found : Bool) → HnsrAnswer
+actionAnswer found = check (not found) UnknownAction
+
+-- ---- the action removed
+abbrev pub withoutAction : World → (generation sequence : ℕ) → World
+withoutAction w generation sequence = withInflight w (edit (actionAt generation sequence) clearAction (w .inflight))
+
+-- for Data that one circuit's queued count is lowered; where the circuit is no longer there, nothing is
+unfoldable pub lowerFor : InflightKind → InflightAction → List RelayCircuit → List RelayCircuit
+lowerFor Data a circuits = edit (circuitAt (a .«circuit_id»)) (lowered (towardSide a) (a .bytes)) circuits
+lowerFor Incoming a circuits = circuits
+lowerFor Opened a circuits = circuits
+lowerFor Control a circuits = circuits
+lowerFor Close a circuits = circuits
+
+unfoldable pub released : World → InflightAction → World
+released w a = withCircuits w (lowerFor (kindOf (a .kind)) a (w .circuits))
+
+-- ---- undelivered
+-- Incoming ends the pending record, other actions staying, and sends ERROR; a refusal of that leaves all removed
+unfoldable pub failPending : World → (id : ℕ) → RelayPending → Outcome
+failPending w id p = send (counting countRevoked (withoutPending w (pendingAt id))) (errorToRequester EndpointWriteFailed p)
+
+unfoldable pub failIncoming : World → (id : ℕ) → Outcome
+failIncoming w id = cond (hasPending w id) (failPending w id (pendingIn w id)) (done w [])
+
+-- Opened, Data, Control revoke the circuit; Close, or a record no longer there, does nothing
+unfoldable pub undelivered : InflightKind → World → (id : ℕ) → Outcome
+undelivered Incoming w id = failIncoming w id
+undelivered Opened w id = finished (revokeCircuit OuterWriteFailed w id)
+undelivered Data w id = finished (revokeCircuit OuterWriteFailed w id)
+undelivered Control w id = finished (revokeCircuit OuterWriteFailed w id)
+undelivered Close w id = done w []
+
+unfoldable pub settled : World → InflightAction → (delivered : Bool) → Outcome
+settled w a true = done w []
+settled w a false = undelivered (kindOf (a .kind)) w (a .«circuit_id»)
+
+-- ---- the steps, in the table's order
+unfoldable pub acknowledgeTaken : World → (generation sequence room : ℕ) → HnsrAnswer
+acknowledgeTaken w generation sequence room =
+    roomAnswer w room acknowledgeWords
+    then generationAnswer (generationOf w) generation
+    then actionAnswer (any (actionAt generation sequence) (w .inflight))
+
+unfoldable pub acknowledgeAction : World → (generation sequence : ℕ) → (delivered : Bool) → InflightAction → Outcome
+acknowledgeAction w generation sequence delivered a = settled (released (withoutAction w generation sequence) a) a delivered
+
+unfoldable pub acknowledge : World → (generation sequence : ℕ) → (delivered : Bool) → (room : ℕ) → Outcome
+acknowledge w generation sequence delivered room =
+    proceed w (acknowledgeTaken w generation sequence room)
+    (acknowledgeAction w generation sequence delivered (pick (actionAt generation sequence) noAction (w .inflight)))

@@ -1,0 +1,67 @@
+-- The calls, each with all its inputs, the room of the lent output included; one step; a run (document 01, "What the host hands over").
+use Prim.Native.Nat.{ℕ}
+use mathlib.Core.Bool.{Bool}
+use mathlib.Core.List.{List, [], _∷_}
+use Rattle.hnsr_body.specs.declared.values.ReservationId.{ReservationId}
+use Rattle.hnsr_circuit.specs.declared.config.OpaqueRelayConfig.{OpaqueRelayConfig}
+use Rattle.hnsr_circuit.specs.declared.answer.HnsrAnswer.{HnsrAnswer}
+use Rattle.hnsr_circuit.specs.declared.answer.HnsrAnswer.the-variants.{Taken, Refused}
+use Rattle.hnsr_circuit.specs.World.{World, Outcome}
+use Rattle.hnsr_circuit.specs.Packet.{Packet}
+use Rattle.hnsr_circuit.specs.Handle.{handle}
+use Rattle.hnsr_circuit.specs.Acknowledge.{acknowledge}
+use Rattle.hnsr_circuit.specs.RevokingCalls.{disconnect, revokeReservation, expire, replaceEnabled}
+use Rattle.hnsr_circuit.specs.New.{newRelay, observeTime}
+use Rattle.hnsr_circuit.specs.Status.{status}
+use Rattle.hnsr_circuit.specs.NextDue.{nextDue}
+
+-- what `new` is given
+pub record Start : Type 0 where
+  pub session : List ℕ
+  pub generation : ℕ
+  pub config : OpaqueRelayConfig
+  pub now : ℕ
+
+-- the other calls
+pub data Call : Type 0 where
+  callStatus : Call
+  callNextDue : Call
+  callObserveTime : (now : ℕ) → Call
+  callReplaceEnabled : (expected : ℕ) → (enabled : Bool) → (room : ℕ) → Call
+  callHandle : (packet : Packet) → (room : ℕ) → Call
+  callAcknowledge : (generation sequence : ℕ) → (delivered : Bool) → (room : ℕ) → Call
+  callDisconnect : (peer : List ℕ) → (room : ℕ) → Call
+  callRevokeReservation : (id : ReservationId) → (room : ℕ) → Call
+  callExpire : (now : ℕ) → (room : ℕ) → Call
+
+unfoldable pub start : World → Start → Outcome
+start w s = newRelay w (s .session) (s .generation) (s .config) (s .now)
+
+unfoldable pub step : World → Call → Outcome
+step w callStatus = status w
+step w callNextDue = nextDue w
+step w (callObserveTime now) = observeTime w now
+step w (callReplaceEnabled expected enabled room) = replaceEnabled w expected enabled room
+step w (callHandle packet room) = handle w packet room
+step w (callAcknowledge generation sequence delivered room) = acknowledge w generation sequence delivered room
+step w (callDisconnect peer room) = disconnect w peer room
+step w (callRevokeReservation id room) = revokeReservation w id room
+step w (callExpire now room) = expire w now room
+
+-- each call is given what the one before left
+unfoldable pub steps : World → List Call → List Outcome
+steps w [] = []
+steps w (c ∷ cs) = let o = step w c in o ∷ steps (o .world) cs
+
+-- a run is a taken `new`, then any list of the other calls
+unfoldable pub runAfter : HnsrAnswer → World → List Call → List Outcome
+runAfter Taken w calls = steps w calls
+runAfter (Refused e) w calls = []
+
+unfoldable pub run : World → Start → List Call → List Outcome
+run w s calls = let o = start w s in o ∷ runAfter (o .answer) (o .world) calls
+
+-- the world that a list of calls leaves
+unfoldable pub leftBy : World → List Call → World
+leftBy w [] = w
+leftBy w (c ∷ cs) = leftBy (step w c .world) cs

@@ -1,0 +1,164 @@
+-- Lent tables read as found (document 01, "What the host hands over"): examples that no trace of the Rust reaches, by computation. Here 22,
+-- 23, equal ids and records that replace; the rest is in FoundMore. Above each stands what it reads.
+use mathlib.Core.Path.{_≡_, refl}
+use mathlib.Core.Bool.{true, false}
+use mathlib.Core.List.{[], _∷_}
+use lib.ListN.{replicate}
+use Rattle.hnsr_circuit.specs.declared.answer.HnsrAnswer.{HnsrAnswer}
+use Rattle.hnsr_circuit.specs.declared.answer.HnsrAnswer.the-variants.{Taken, Refused}
+use Rattle.hnsr_circuit.specs.declared.answer.HnsrRuntimeError.the-variants.{InvalidAdmission, UnknownAction, Short, LedgerFull}
+use Rattle.hnsr_circuit.specs.Pending.{noPending}
+use Rattle.hnsr_circuit.specs.Circuits.{noCircuit}
+use Rattle.hnsr_circuit.specs.Ledger.{noUsage}
+use Rattle.hnsr_circuit.specs.World.{World, dueIs, due}
+use Rattle.hnsr_circuit.specs.Queue.{opClose, opError}
+use Rattle.hnsr_circuit.specs.Call.{callStatus, callNextDue, callObserveTime, callAcknowledge, callDisconnect, callExpire, start}
+use Rattle.hnsr_circuit.specs.All.{machine}
+use Rattle.hnsr_circuit.specs.Cases.{lent, newAt, requesterPeer, endpointPeer, openCall, acceptCall, packetCall}
+use Rattle.hnsr_circuit.specs.FoundWorlds.{peer, pendingBetween, pendingOn, circuitOn, usageOn, actionOn, found, free, answerOf, toldOf, routes, pendingAfter, firstCircuit, firstAction}
+
+-- ---- "22 output words too few or a table shorter than its maximum"
+unfoldable pub quiet : World
+unfolding found free
+quiet = found (replicate 2 noPending) (replicate 2 noCircuit) (noUsage ∷ []) (free 8)
+
+unfoldable pub fewPending : World
+unfolding found free
+fewPending = found (noPending ∷ []) (replicate 2 noCircuit) (noUsage ∷ []) (free 8)
+
+unfoldable pub fewActions : World
+unfolding found free
+fewActions = found (replicate 2 noPending) (replicate 2 noCircuit) (noUsage ∷ []) (free 7)
+
+-- "acknowledge 96"
+pub acknowledge-wants-96 : answerOf quiet (callAcknowledge 1 9 true 95) ≡ Refused Short
+unfolding answerOf quiet
+acknowledge-wants-96 = refl
+
+pub acknowledge-has-96 : answerOf quiet (callAcknowledge 1 9 true 96) ≡ Refused UnknownAction
+unfolding answerOf quiet
+acknowledge-has-96 = refl
+
+pub status-wants-its-tables : answerOf fewPending callStatus ≡ Refused Short
+unfolding answerOf fewPending
+status-wants-its-tables = refl
+
+pub due-wants-its-tables : answerOf fewActions callNextDue ≡ Refused Short
+unfolding answerOf fewActions
+due-wants-its-tables = refl
+
+-- observe_time is lent neither
+pub observe-wants-none : answerOf fewPending (callObserveTime 100) ≡ Taken
+unfolding answerOf fewPending
+observe-wants-none = refl
+
+-- "22 ..; 4 peer length": in this order. The peer has no byte
+pub short-before-peer : answerOf fewActions (callDisconnect [] 0) ≡ Refused Short
+unfolding answerOf fewActions
+short-before-peer = refl
+
+-- "or the ledger none"
+unfoldable pub newAnswerOn : World → HnsrAnswer
+unfolding machine newAt
+newAnswerOn w = start w (newAt 65536) .answer
+
+pub new-wants-a-ledger : newAnswerOn (lent 2 2 8 0) ≡ Refused Short
+unfolding newAnswerOn lent
+new-wants-a-ledger = refl
+
+pub new-has-a-ledger : newAnswerOn (lent 2 2 8 1) ≡ Taken
+unfolding newAnswerOn lent
+new-has-a-ledger = refl
+
+-- "the revoking calls 96 for each pending record and circuit"
+unfoldable pub one-of-each : World
+unfolding found pendingOn circuitOn usageOn free peer
+one-of-each = found (noPending ∷ pendingOn 7 9 ∷ []) (circuitOn 8 (peer 1) (peer 3) 0 0 ∷ noCircuit ∷ []) (usageOn 5 0 ∷ []) (free 8)
+
+pub revoking-wants-192 : answerOf one-of-each (callExpire 100 191) ≡ Refused Short
+unfolding answerOf one-of-each
+revoking-wants-192 = refl
+
+pub revoking-has-192 : answerOf one-of-each (callExpire 100 192) ≡ Taken
+unfolding answerOf one-of-each
+revoking-has-192 = refl
+
+-- "the earliest deadline of a pending record or expiry of a circuit"
+pub due-of-both : toldOf one-of-each callNextDue ≡ dueIs (due 110)
+unfolding toldOf one-of-each
+due-of-both = refl
+
+-- ---- "23 ledger full and record missing": with the record there the OPEN goes on
+unfoldable pub otherLedger : World
+unfolding found usageOn free
+otherLedger = found (replicate 2 noPending) (replicate 2 noCircuit) (usageOn 6 0 ∷ []) (free 8)
+
+unfoldable pub sameLedger : World
+unfolding found usageOn free
+sameLedger = found (replicate 2 noPending) (replicate 2 noCircuit) (usageOn 5 29999 ∷ []) (free 8)
+
+pub ledger-full : answerOf otherLedger openCall ≡ Refused LedgerFull
+unfolding answerOf otherLedger openCall
+ledger-full = refl
+
+pub ledger-has-it : answerOf sameLedger openCall ≡ Taken
+unfolding answerOf sameLedger openCall
+ledger-has-it = refl
+
+-- ---- "of used places with one key a lookup takes the lowest, a count takes all", "walks take equal ids by place"
+unfoldable pub twins : World
+unfolding found pendingOn usageOn free
+twins = found (pendingOn 7 9 ∷ pendingOn 7 11 ∷ []) (replicate 2 noCircuit) (usageOn 5 0 ∷ []) (free 8)
+
+pub accept-takes-the-lower : pendingAfter twins (acceptCall 100) ≡ false ∷ true ∷ []
+unfolding pendingAfter twins acceptCall
+accept-takes-the-lower = refl
+
+pub expire-takes-both : routes twins (callExpire 110 192)
+    ≡ (1 ∷ 1 ∷ opError ∷ 9 ∷ [])
+    ∷ (2 ∷ 2 ∷ opClose ∷ 7 ∷ [])
+    ∷ (3 ∷ 1 ∷ opError ∷ 11 ∷ [])
+    ∷ (4 ∷ 2 ∷ opClose ∷ 7 ∷ []) ∷ []
+unfolding routes twins
+expire-takes-both = refl
+
+pub expire-clears-both : pendingAfter twins (callExpire 110 192) ≡ false ∷ false ∷ []
+unfolding pendingAfter twins
+expire-clears-both = refl
+
+-- "11 two pending records match": the endpoint names both by circuit id
+pub close-names-two : answerOf twins (packetCall endpointPeer opClose 7 (0 ∷ 0 ∷ 0 ∷ []) 100) ≡ Refused InvalidAdmission
+unfolding answerOf twins packetCall endpointPeer
+close-names-two = refl
+
+-- "which the requester names by its own context": the second alone
+pub close-names-one : pendingAfter twins (packetCall requesterPeer opClose 11 (0 ∷ 0 ∷ 0 ∷ []) 100) ≡ true ∷ false ∷ []
+unfolding pendingAfter twins packetCall requesterPeer
+close-names-one = refl
+
+-- a walk goes by the property, and ends what the lookup of the id then finds: here the lower place, a stranger's
+unfoldable pub strangers : World
+unfolding found pendingOn pendingBetween usageOn free peer
+strangers = found (pendingBetween 7 13 (peer 3) (peer 4) ∷ pendingOn 7 9 ∷ []) (replicate 2 noCircuit) (usageOn 5 0 ∷ []) (free 8)
+
+pub walk-ends-the-lowest : pendingAfter strangers (callDisconnect requesterPeer 192) ≡ false ∷ true ∷ []
+unfolding pendingAfter strangers requesterPeer
+walk-ends-the-lowest = refl
+
+pub walk-tells-the-lowest : routes strangers (callDisconnect requesterPeer 192) ≡ (1 ∷ 3 ∷ opClose ∷ 13 ∷ []) ∷ []
+unfolding routes strangers requesterPeer
+walk-tells-the-lowest = refl
+
+-- ---- "a new record replaces the one its lookup finds": a circuit of the pending's id, an action of the next sequence number
+unfoldable pub already : World
+unfolding found pendingOn circuitOn usageOn actionOn free peer
+already =
+    found (pendingOn 7 9 ∷ noPending ∷ []) (circuitOn 7 (peer 1) (peer 3) 5 5 ∷ noCircuit ∷ []) (usageOn 5 0 ∷ []) (actionOn 1 99 3 0 ∷ free 7)
+
+pub accept-replaces : firstCircuit already (acceptCall 100) .endpoint .bytes ≡ 2 ∷ replicate 127 0
+unfolding firstCircuit already acceptCall
+accept-replaces = refl
+
+pub opened-replaces : firstAction already (acceptCall 100) .«circuit_id» ≡ 7
+unfolding firstAction already acceptCall
+opened-replaces = refl

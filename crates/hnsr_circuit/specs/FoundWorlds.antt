@@ -1,0 +1,159 @@
+-- Worlds as a host may lend them, and what is looked at, for the examples of Found and FoundMore. Names of one byte: the requester is 1,
+-- the endpoint 2, as in the cases.
+use Prim.Native.Nat.{ℕ}
+use mathlib.Core.Bool.{Bool, true}
+use mathlib.Core.List.{List, [], _∷_}
+use lib.ListN.{replicate, getD}
+use Rattle.hns_encoding.specs.Numbers.{top}
+use Rattle.hnsr_circuit.specs.declared.peer.HnsrPeerId.{HnsrPeerId}
+use Rattle.hnsr_circuit.specs.declared.records.RelayTicket.{RelayTicket}
+use Rattle.hnsr_circuit.specs.declared.records.RelayPending.{RelayPending}
+use Rattle.hnsr_circuit.specs.declared.records.RelayCircuit.{RelayCircuit}
+use Rattle.hnsr_circuit.specs.declared.records.ReservationUsage.{ReservationUsage}
+use Rattle.hnsr_circuit.specs.declared.records.InflightAction.{InflightAction}
+use Rattle.hnsr_circuit.specs.declared.runtime.OpaqueRelayRuntime.{OpaqueRelayRuntime}
+use Rattle.hnsr_circuit.specs.declared.answer.HnsrAnswer.{HnsrAnswer}
+use Rattle.hnsr_circuit.specs.Circuits.{noCircuit}
+use Rattle.hnsr_circuit.specs.Inflight.{noAction}
+use Rattle.hnsr_circuit.specs.Header.{newHeader, withSequence}
+use Rattle.hnsr_circuit.specs.Route.{Route, outWords, output}
+use Rattle.hnsr_circuit.specs.World.{World, Told, silent, statusIs, dueIs, withHeader}
+use Rattle.hnsr_circuit.specs.Call.{Call, callStatus, step}
+use Rattle.hnsr_circuit.specs.All.{machine}
+use Rattle.hnsr_circuit.specs.Cases.{caseConfig}
+
+-- ---- records
+unfoldable pub peer : ℕ → HnsrPeerId
+peer b = record { len = 1; bytes = b ∷ replicate 127 0 }
+
+unfoldable pub foundTicket : RelayTicket
+foundTicket = record {
+  «reservation_id» = record { high = 0; low = 5 };
+  «expires_at» = 1000;
+  «max_active_circuits» = 2;
+  «max_bytes_per_circuit» = 20000;
+  «max_total_bytes» = 30000;
+}
+
+unfoldable pub pendingBetween : (id context : ℕ) → (requester endpoint : HnsrPeerId) → RelayPending
+unfolding foundTicket
+pendingBetween id context requester endpoint = record {
+  used = true;
+  «circuit_id» = id;
+  requester = requester;
+  endpoint = endpoint;
+  «requester_context» = context;
+  ticket = foundTicket;
+  «initial_window» = 32768;
+  deadline = 110;
+}
+
+unfoldable pub pendingOn : (id context : ℕ) → RelayPending
+unfolding peer pendingBetween
+pendingOn id context = pendingBetween id context (peer 1) (peer 2)
+
+unfoldable pub circuitOn : (id : ℕ) → (requester endpoint : HnsrPeerId) → (forwarded queued : ℕ) → RelayCircuit
+circuitOn id requester endpoint forwarded queued = record {
+  used = true;
+  «circuit_id» = id;
+  requester = requester;
+  endpoint = endpoint;
+  «reservation_id» = record { high = 0; low = 5 };
+  «expires_at» = 1000;
+  «maximum_bytes» = (top 64);
+  «maximum_total_bytes» = (top 64);
+  «requester_credit» = 32768;
+  «endpoint_credit» = 32768;
+  «forwarded_bytes» = forwarded;
+  «queued_to_requester» = 0;
+  «queued_to_endpoint» = queued;
+}
+
+unfoldable pub usageOn : (low bytes : ℕ) → ReservationUsage
+usageOn low bytes = record { used = true; «reservation_id» = record { high = 0; low = low }; bytes = bytes; «expires_at» = 1000 }
+
+unfoldable pub actionOn : (sequence id kind bytes : ℕ) → InflightAction
+unfolding peer
+actionOn sequence id kind bytes = record
+    { used = true; generation = 1; sequence = sequence; «circuit_id» = id; destination = peer 2; kind = kind; «to_endpoint» = true; bytes = bytes }
+
+-- ---- worlds
+unfoldable pub found : List RelayPending → List RelayCircuit → List ReservationUsage → List InflightAction → World
+unfolding caseConfig machine
+found pending circuits ledger inflight = record
+    { header = newHeader (replicate 16 1) 1 (caseConfig 65536) 100; pending = pending; circuits = circuits; ledger = ledger; inflight = inflight }
+
+unfoldable pub free : ℕ → List InflightAction
+free n = replicate n noAction
+
+-- the next action number and the generation at their tops
+unfoldable pub lastSequence : World → World
+lastSequence w = withHeader w (withSequence (w .header) (top 64))
+
+unfoldable pub lastGeneration : World → World
+unfolding caseConfig
+lastGeneration w = withHeader w (newHeader (replicate 16 1) (top 64) (caseConfig 65536) 100)
+
+-- ---- what is looked at
+unfoldable pub answerOf : World → Call → HnsrAnswer
+unfolding machine
+answerOf w c = step w c .answer
+
+unfoldable pub toldOf : World → Call → Told
+unfolding machine
+toldOf w c = step w c .told
+
+unfoldable pub wordsOf : World → Call → List ℕ
+unfolding machine
+wordsOf w c = outWords (step w c .routes)
+
+unfoldable pub outputAfter : World → Call → List ℕ → List ℕ
+unfolding machine
+outputAfter w c out = output out (step w c .routes)
+
+-- of each route its sequence number, to whom (the first byte of the name), opcode and context
+unfoldable pub routesOf : List Route → List (List ℕ)
+routesOf [] = []
+routesOf (r ∷ rs) = (r .sequence ∷ getD (r .destination .bytes) 0 0 ∷ r .opcode ∷ r .context ∷ []) ∷ routesOf rs
+
+unfoldable pub routes : World → Call → List (List ℕ)
+unfolding machine routesOf
+routes w c = routesOf (step w c .routes)
+
+unfoldable pub pendingMarks : List RelayPending → List Bool
+pendingMarks [] = []
+pendingMarks (p ∷ ps) = p .used ∷ pendingMarks ps
+
+unfoldable pub pendingAfter : World → Call → List Bool
+unfolding machine pendingMarks
+pendingAfter w c = pendingMarks (step w c .world .pending)
+
+unfoldable pub firstCircuit : World → Call → RelayCircuit
+unfolding machine
+firstCircuit w c = getD (step w c .world .circuits) 0 noCircuit
+
+unfoldable pub firstAction : World → Call → InflightAction
+unfolding machine
+firstAction w c = getD (step w c .world .inflight) 0 noAction
+
+unfoldable pub headerAfter : World → Call → OpaqueRelayRuntime
+unfolding machine
+headerAfter w c = step w c .world .header
+
+unfoldable pub queuedActions : Told → ℕ
+queuedActions silent = 0
+queuedActions (statusIs s) = s .«queued_actions»
+queuedActions (dueIs d) = 0
+
+unfoldable pub queuedBytes : Told → ℕ
+queuedBytes silent = 0
+queuedBytes (statusIs s) = s .«queued_bytes»
+queuedBytes (dueIs d) = 0
+
+unfoldable pub bytesQueued : World → ℕ
+unfolding machine queuedBytes
+bytesQueued w = queuedBytes (step w callStatus .told)
+
+unfoldable pub actionsAfter : World → Call → ℕ
+unfolding machine queuedActions
+actionsAfter w c = queuedActions (step (step w c .world) callStatus .told)

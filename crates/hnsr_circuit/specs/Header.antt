@@ -1,0 +1,88 @@
+-- The header with one part replaced, and the counters (document 01, "Down through the call": opened_circuits counts ACCEPTs, bytes_sent and
+-- bytes_received the bytes of each DATA, revoked_work every other end of a pending record or circuit).
+use Prim.Native.Nat.{ℕ, _+_}
+use mathlib.Core.Bool.{Bool, true}
+use mathlib.Core.List.{List}
+use Rattle.hns_encoding.specs.Numbers.{saturatingAdd}
+use Rattle.hnsr_circuit.specs.declared.config.OpaqueRelayConfig.{OpaqueRelayConfig}
+use Rattle.hnsr_circuit.specs.declared.runtime.OpaqueRelayRuntime.{OpaqueRelayRuntime}
+use Rattle.hnsr_circuit.specs.declared.runtime.RuntimeCounters.{RuntimeCounters}
+
+-- ---- counters: sums that stop at their top
+abbrev pub counters : (admitted opened sent received revoked : ℕ) → RuntimeCounters
+counters admitted opened sent received revoked = record
+    { «admitted_opens» = admitted; «opened_circuits» = opened; «bytes_sent» = sent; «bytes_received» = received; «revoked_work» = revoked }
+
+abbrev pub noCounts : RuntimeCounters
+noCounts = counters 0 0 0 0 0
+
+abbrev pub countOpen : RuntimeCounters → RuntimeCounters
+countOpen c = counters (saturatingAdd 64 (c .«admitted_opens») 1) (c .«opened_circuits») (c .«bytes_sent») (c .«bytes_received») (c .«revoked_work»)
+
+abbrev pub countAccept : RuntimeCounters → RuntimeCounters
+countAccept c = counters (c .«admitted_opens») (saturatingAdd 64 (c .«opened_circuits») 1) (c .«bytes_sent») (c .«bytes_received») (c .«revoked_work»)
+
+abbrev pub countBytes : ℕ → RuntimeCounters → RuntimeCounters
+countBytes n c =
+    counters (c .«admitted_opens») (c .«opened_circuits») (saturatingAdd 64 (c .«bytes_sent») n) (saturatingAdd 64 (c .«bytes_received») n) (c .«revoked_work»)
+
+abbrev pub countRevoked : RuntimeCounters → RuntimeCounters
+countRevoked c = counters (c .«admitted_opens») (c .«opened_circuits») (c .«bytes_sent») (c .«bytes_received») (saturatingAdd 64 (c .«revoked_work») 1)
+
+-- ---- the header
+abbrev pub withClock : OpaqueRelayRuntime → (now : ℕ) → OpaqueRelayRuntime
+withClock h now = record {
+  session = h .session;
+  generation = h .generation;
+  enabled = h .enabled;
+  «trusted_time_high_water» = now;
+  config = h .config;
+  «next_action_sequence» = h .«next_action_sequence»;
+  counters = h .counters;
+}
+
+abbrev pub withSequence : OpaqueRelayRuntime → (next : ℕ) → OpaqueRelayRuntime
+withSequence h next = record {
+  session = h .session;
+  generation = h .generation;
+  enabled = h .enabled;
+  «trusted_time_high_water» = h .«trusted_time_high_water»;
+  config = h .config;
+  «next_action_sequence» = next;
+  counters = h .counters;
+}
+
+abbrev pub withCounters : OpaqueRelayRuntime → RuntimeCounters → OpaqueRelayRuntime
+withCounters h c = record {
+  session = h .session;
+  generation = h .generation;
+  enabled = h .enabled;
+  «trusted_time_high_water» = h .«trusted_time_high_water»;
+  config = h .config;
+  «next_action_sequence» = h .«next_action_sequence»;
+  counters = c;
+}
+
+-- a changed enabled state raises the generation and sets the sequence to 1
+abbrev pub withEnabled : OpaqueRelayRuntime → Bool → OpaqueRelayRuntime
+withEnabled h on = record {
+  session = h .session;
+  generation = h .generation + 1;
+  enabled = on;
+  «trusted_time_high_water» = h .«trusted_time_high_water»;
+  config = h .config;
+  «next_action_sequence» = 1;
+  counters = h .counters;
+}
+
+-- what `new` makes
+abbrev pub newHeader : (session : List ℕ) → (generation : ℕ) → OpaqueRelayConfig → (now : ℕ) → OpaqueRelayRuntime
+newHeader session generation config now = record {
+  session = session;
+  generation = generation;
+  enabled = true;
+  «trusted_time_high_water» = now;
+  config = config;
+  «next_action_sequence» = 1;
+  counters = noCounts;
+}

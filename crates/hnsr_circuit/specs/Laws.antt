@@ -1,0 +1,27 @@
+-- ---- tables
+pub mod Totals
+pub mod Lookups
+pub mod Marks
+pub mod Edits
+pub mod Folds
+pub mod Lowest
+pub mod Walks
+pub mod WalkOrder
+pub mod Keyed
+pub mod Bag
+pub mod Sweep
+-- ---- answers and records
+pub mod Answers
+pub mod Peer
+pub mod Inflight
+pub mod Keys
+pub mod Route
+-- ---- what holds of every call
+pub mod Refusals
+pub mod Places
+pub mod StepPlaces
+pub mod BodySizes
+pub mod Room
+pub mod RoomEnds
+pub mod HandleRoom
+pub mod StepRoom

@@ -1,0 +1,66 @@
+-- The ledger (`reservation_usage`): what is asked of a record, what becomes of one, and the rules of OPEN and DATA that go by it.
+use Prim.Native.Nat.{ℕ}
+use mathlib.Core.Bool.{Bool, true, false, not, _&&_, _||_}
+use mathlib.Core.List.{List}
+use lib.Dec.{eqb, leb}
+use Rattle.hns_encoding.specs.Numbers.{saturatingAdd}
+use Rattle.hnsr_body.specs.declared.values.ReservationId.{ReservationId}
+use Rattle.hnsr_body.specs.Values.{sameReservation}
+use Rattle.hnsr_circuit.specs.declared.records.RelayTicket.{RelayTicket}
+use Rattle.hnsr_circuit.specs.declared.records.ReservationUsage.{ReservationUsage}
+use Rattle.hnsr_circuit.specs.declared.answer.HnsrAnswer.{HnsrAnswer}
+use Rattle.hnsr_circuit.specs.declared.answer.HnsrRuntimeError.the-variants.{ByteLimit, LedgerFull}
+use Rattle.hnsr_circuit.specs.Table.{any, pick, put, clear}
+use Rattle.hnsr_circuit.specs.Answers.{check}
+use Rattle.hnsr_circuit.specs.Pending.{noReservation}
+
+-- what a table has past its end
+abbrev pub noUsage : ReservationUsage
+noUsage = record { used = false; «reservation_id» = noReservation; bytes = 0; «expires_at» = 0 }
+
+-- ---- questions
+unfoldable pub isUsage : ReservationUsage → Bool
+isUsage u = u .used
+
+unfoldable pub usageAt : ReservationId → ReservationUsage → Bool
+usageAt id u = u .used && sameReservation (u .«reservation_id») id
+
+-- expiry not after now
+unfoldable pub usageOver : (now : ℕ) → ReservationUsage → Bool
+usageOver now u = u .used && leb (u .«expires_at») now
+
+-- ---- changes
+abbrev pub clearUsage : ReservationUsage → ReservationUsage
+clearUsage u = record { used = false; «reservation_id» = u .«reservation_id»; bytes = u .bytes; «expires_at» = u .«expires_at» }
+
+abbrev pub freshUsage : RelayTicket → ReservationUsage
+freshUsage t = record { used = true; «reservation_id» = t .«reservation_id»; bytes = 0; «expires_at» = t .«expires_at» }
+
+-- DATA of n bytes
+abbrev pub spent : ℕ → ReservationUsage → ReservationUsage
+spent n u = record { used = u .used; «reservation_id» = u .«reservation_id»; bytes = saturatingAdd 64 (u .bytes) n; «expires_at» = u .«expires_at» }
+
+-- ---- the whole table
+-- ledger records with expiry not after now are dropped
+unfoldable pub lapsed : (now : ℕ) → List ReservationUsage → List ReservationUsage
+lapsed now ledger = clear clearUsage (usageOver now) ledger
+
+-- the record under an id, if there is one
+abbrev pub hasUsage : ReservationId → List ReservationUsage → Bool
+hasUsage id ledger = any (usageAt id) ledger
+
+abbrev pub usageOf : ReservationId → List ReservationUsage → ReservationUsage
+usageOf id ledger = pick (usageAt id) noUsage ledger
+
+-- a missing ledger record is made: the one that is found stays as it is. The ledger goes by the grant's id
+unfoldable pub booked : RelayTicket → List ReservationUsage → List ReservationUsage
+booked t ledger = put isUsage (usageAt (t .«reservation_id»)) (pick (usageAt (t .«reservation_id»)) (freshUsage t) ledger) ledger
+
+-- ---- rows
+-- 23: ledger full and record missing
+unfoldable pub ledgerAnswer : (found : Bool) → (used places : ℕ) → HnsrAnswer
+ledgerAnswer found used places = check (not found && leb places used) LedgerFull
+
+-- 18 (OPEN): expiry differs or bytes used up
+unfoldable pub usageAnswer : RelayTicket → ReservationUsage → HnsrAnswer
+usageAnswer t u = check (not (eqb (u .«expires_at») (t .«expires_at»)) || leb (t .«max_total_bytes») (u .bytes)) ByteLimit

@@ -1,0 +1,144 @@
+-- Queueing: a message becomes a route and an outstanding action (document 01, "Where a call is turned away", last row).
+-- The last step of a call sends, and can be refused; a revocation tells, and skips silently what cannot be sent.
+use Prim.Native.Nat.{ℕ, _+_}
+use mathlib.Core.Bool.{Bool, true, false}
+use mathlib.Core.List.{List, [], _∷_, _++_}
+use lib.Dec.{eqb}
+use Rattle.hns_encoding.specs.Numbers.{top}
+use Rattle.hnsr_body.specs.declared.error.HnsrInvalid.the-variants.{ContextZero}
+use Rattle.hnsr_body.specs.declared.error.HnsrProtocolError.the-variants.{Invalid}
+use Rattle.hnsr_circuit.specs.declared.peer.HnsrPeerId.{HnsrPeerId}
+use Rattle.hnsr_circuit.specs.declared.config.OpaqueRelayConfig.{OpaqueRelayConfig}
+use Rattle.hnsr_circuit.specs.declared.records.InflightAction.{InflightAction}
+use Rattle.hnsr_circuit.specs.declared.records.InflightTally.{InflightTally}
+use Rattle.hnsr_circuit.specs.declared.answer.HnsrAnswer.{HnsrAnswer}
+use Rattle.hnsr_circuit.specs.declared.answer.HnsrAnswer.the-variants.{Taken, Refused}
+use Rattle.hnsr_circuit.specs.declared.answer.HnsrRuntimeError.the-variants.{Protocol, GenerationExhausted}
+use Rattle.hnsr_circuit.specs.Table.{put}
+use Rattle.hnsr_circuit.specs.Answers.{check, _then_}
+use Rattle.hnsr_circuit.specs.Inflight.{InflightKind, kindNumber, isAction, actionAt, tallied, capacityAnswer}
+use Rattle.hnsr_circuit.specs.Route.{Route}
+use Rattle.hnsr_circuit.specs.Header.{withSequence}
+use Rattle.hnsr_circuit.specs.World.{World, Outcome, configOf, done, proceed, withHeader, withInflight}
+
+-- ---- opcodes
+abbrev pub opOpen : ℕ
+opOpen = 13
+
+abbrev pub opIncoming : ℕ
+opIncoming = 14
+
+abbrev pub opAccept : ℕ
+opAccept = 15
+
+abbrev pub opOpened : ℕ
+opOpened = 16
+
+abbrev pub opData : ℕ
+opData = 17
+
+abbrev pub opWindow : ℕ
+opWindow = 18
+
+abbrev pub opClose : ℕ
+opClose = 19
+
+abbrev pub opError : ℕ
+opError = 20
+
+-- ---- a message: where it goes, the circuit that it is about, the packet, and what its action holds. The direction and the bytes are
+-- of Data alone
+pub record Message : Type 0 where
+  pub destination : HnsrPeerId
+  pub circuit : ℕ
+  pub opcode : ℕ
+  pub context : ℕ
+  pub body : List ℕ
+  pub kind : InflightKind
+  pub toEndpoint : Bool
+  pub bytes : ℕ
+
+abbrev pub message : HnsrPeerId → (circuit opcode context : ℕ) → (body : List ℕ) → InflightKind → Message
+message destination circuit opcode context body kind = record
+    { destination = destination; circuit = circuit; opcode = opcode; context = context; body = body; kind = kind; toEndpoint = false; bytes = 0 }
+
+-- ---- any queueing: 1 `HnsrPacket::new` refuses the made message; 10 actions; 6 sequence at 2^64 − 1. A made body is never too large, so
+-- of what `HnsrPacket::new` refuses only the zero context is left
+unfoldable pub queueAnswer : OpaqueRelayConfig → InflightTally → (sequence context : ℕ) → HnsrAnswer
+queueAnswer c t sequence context =
+    check (eqb context 0) (Protocol (Invalid ContextZero)) then capacityAnswer c t then check (eqb sequence (top 64)) GenerationExhausted
+
+abbrev pub actionFor : Message → (generation sequence : ℕ) → InflightAction
+actionFor m generation sequence = record {
+  used = true;
+  generation = generation;
+  sequence = sequence;
+  «circuit_id» = m .circuit;
+  destination = m .destination;
+  kind = kindNumber (m .kind);
+  «to_endpoint» = m .toEndpoint;
+  bytes = m .bytes;
+}
+
+abbrev pub routeFor : Message → (generation sequence : ℕ) → Route
+routeFor m generation sequence = record {
+  circuit = m .circuit;
+  destination = m .destination;
+  generation = generation;
+  sequence = sequence;
+  opcode = m .opcode;
+  context = m .context;
+  body = m .body;
+}
+
+abbrev pub generationOf : World → ℕ
+generationOf w = w .header .generation
+
+abbrev pub sequenceOf : World → ℕ
+sequenceOf w = w .header .«next_action_sequence»
+
+-- whether a message can be queued now
+unfoldable pub canQueue : Message → World → HnsrAnswer
+canQueue m w = queueAnswer (configOf w) (tallied false (m .circuit) (m .destination) (w .inflight)) (sequenceOf w) (m .context)
+
+-- the action written and the sequence moved on
+unfoldable pub queued : Message → World → World
+queued m w =
+    withHeader
+    (withInflight w
+    (put isAction (actionAt (generationOf w) (sequenceOf w)) (actionFor m (generationOf w) (sequenceOf w)) (w .inflight)))
+    (withSequence (w .header) (sequenceOf w + 1))
+
+abbrev pub routed : Message → World → Route
+routed m w = routeFor m (generationOf w) (sequenceOf w)
+
+-- ---- the last step of a call: everything earlier in the step stays, also if the message is refused
+unfoldable pub send : World → Message → Outcome
+send w m = proceed w (canQueue m w) (done (queued m w) (routed m w ∷ []))
+
+-- ---- a part of a call that cannot be refused: the world that it leaves and the routes that it adds
+pub record Sent : Type 0 where
+  pub world : World
+  pub routes : List Route
+
+abbrev pub silently : World → Sent
+silently w = record { world = w; routes = [] }
+
+abbrev pub andThen : Sent → (World → Sent) → Sent
+andThen s g = let r = g (s .world) in record { world = r .world; routes = s .routes ++ r .routes }
+
+-- a part that is there only where a test holds
+unfoldable pub when : Bool → (World → Sent) → World → Sent
+when true part w = part w
+when false part w = silently w
+
+abbrev pub finished : Sent → Outcome
+finished s = done (s .world) (s .routes)
+
+-- a message that cannot be formed, or finds no capacity or no sequence number, is skipped silently
+unfoldable pub tellIf : HnsrAnswer → Message → World → Sent
+tellIf Taken m w = record { world = queued m w; routes = routed m w ∷ [] }
+tellIf (Refused e) m w = silently w
+
+unfoldable pub tell : Message → World → Sent
+tell m w = tellIf (canQueue m w) m w

@@ -1,0 +1,94 @@
+-- The end of a record, and revocation (document 01, "Down through the call"): it ends the record, drops its actions, then tells both sides.
+-- A walk revokes what has a property, by ascending id.
+use Prim.Native.Nat.{ℕ, zero, suc}
+use mathlib.Core.Bool.{Bool}
+use mathlib.Core.List.{List}
+use lib.ListN.{length}
+use Rattle.hnsr_body.specs.declared.messages.Notice.{Notice}
+use Rattle.hnsr_body.specs.Messages.{noticeBody}
+use Rattle.hnsr_circuit.specs.declared.peer.HnsrPeerId.{HnsrPeerId}
+use Rattle.hnsr_circuit.specs.declared.records.RelayPending.{RelayPending}
+use Rattle.hnsr_circuit.specs.declared.records.RelayCircuit.{RelayCircuit}
+use Rattle.hnsr_circuit.specs.declared.records.Walked.{Walked}
+use Rattle.hnsr_circuit.specs.Table.{any, pick, edit, notYet, next}
+use Rattle.hnsr_circuit.specs.Pending.{noPending, pendingId, pendingAt, clearPending}
+use Rattle.hnsr_circuit.specs.Circuits.{circuitId, circuitAt, clearCircuit}
+use Rattle.hnsr_circuit.specs.Inflight.{Close, actionUnder, dropped}
+use Rattle.hnsr_circuit.specs.Header.{countRevoked}
+use Rattle.hnsr_circuit.specs.World.{World, Outcome, withPending, withCircuits, withInflight, counting}
+use Rattle.hnsr_circuit.specs.Queue.{Message, message, Sent, silently, andThen, when, finished, tell, opClose, opError}
+use Rattle.hnsr_circuit.specs.Packet.{hasCircuit, circuitIn}
+
+-- ---- the end of the record that a lookup finds: its mark is cleared, its actions are dropped, revoked_work counts
+unfoldable pub withoutActions : World → (id : ℕ) → World
+withoutActions w id = withInflight w (dropped (actionUnder id) (w .inflight))
+
+unfoldable pub withoutPending : World → (RelayPending → Bool) → World
+withoutPending w p = withPending w (edit p clearPending (w .pending))
+
+unfoldable pub endPending : World → (RelayPending → Bool) → (id : ℕ) → World
+endPending w p id = counting countRevoked (withoutActions (withoutPending w p) id)
+
+unfoldable pub endCircuit : World → (id : ℕ) → World
+endCircuit w id = counting countRevoked (withoutActions (withCircuits w (edit (circuitAt id) clearCircuit (w .circuits))) id)
+
+-- ---- a CLOSE or ERROR of the relay's own: stored as Close under the circuit id
+abbrev pub closing : HnsrPeerId → (circuit opcode context : ℕ) → Notice → Message
+closing destination circuit opcode context n = message destination circuit opcode context (noticeBody n) Close
+
+-- to the requester of a pending record under its own context, to the endpoint under the circuit id
+unfoldable pub errorToRequester : Notice → RelayPending → Message
+errorToRequester n p = closing (p .requester) (p .«circuit_id») opError (p .«requester_context») n
+
+unfoldable pub closeToRequester : Notice → RelayPending → Message
+closeToRequester n p = closing (p .requester) (p .«circuit_id») opClose (p .«requester_context») n
+
+unfoldable pub closeToEndpoint : Notice → RelayPending → Message
+closeToEndpoint n p = closing (p .endpoint) (p .«circuit_id») opClose (p .«circuit_id») n
+
+-- to a side of a circuit, under the circuit id
+unfoldable pub closeTo : Notice → HnsrPeerId → (id : ℕ) → Message
+closeTo n peer id = closing peer id opClose id n
+
+-- ---- revocation, by id; a record no longer there is nothing to revoke
+abbrev pub hasPending : World → (id : ℕ) → Bool
+hasPending w id = any (pendingAt id) (w .pending)
+
+abbrev pub pendingIn : World → (id : ℕ) → RelayPending
+pendingIn w id = pick (pendingAt id) noPending (w .pending)
+
+-- a pending record revoked gives ERROR to the requester, CLOSE to the endpoint
+unfoldable pub revokedPending : Notice → (id : ℕ) → RelayPending → World → Sent
+revokedPending n id p w = andThen (tell (errorToRequester n p) (endPending w (pendingAt id) id)) (tell (closeToEndpoint n p))
+
+unfoldable pub revokePending : Notice → World → (id : ℕ) → Sent
+revokePending n w id = when (hasPending w id) (revokedPending n id (pendingIn w id)) w
+
+-- a circuit revoked sends CLOSE to requester, then endpoint
+unfoldable pub revokedCircuit : Notice → (id : ℕ) → RelayCircuit → World → Sent
+revokedCircuit n id c w = andThen (tell (closeTo n (c .requester) id) (endCircuit w id)) (tell (closeTo n (c .endpoint) id))
+
+unfoldable pub revokeCircuit : Notice → World → (id : ℕ) → Sent
+revokeCircuit n w id = when (hasCircuit w id) (revokedCircuit n id (circuitIn w id)) w
+
+-- ---- a walk: again and again the least (id, place) above the last that has the property; the record that a lookup of that id then finds
+-- is ended. It takes at most as many turns as there are places
+module _ {A : Type 0} (idOf : A → ℕ) (table : World → List A) (p : A → Bool) (end : World → ℕ → Sent) where
+  unfoldable pub walkFrom : (turns : ℕ) → Walked → World → Sent
+  walkFrom zero c w = silently w
+  walkFrom (suc turns) c w =
+      let n = next idOf p c (table w) in
+      when (n .taken) (λ v. andThen (end v (n .id)) (walkFrom turns n)) w
+
+  unfoldable pub walk : World → Sent
+  walk w = walkFrom (length (table w)) notYet w
+
+abbrev pub pendingTable : World → List RelayPending
+pendingTable w = w .pending
+
+abbrev pub circuitTable : World → List RelayCircuit
+circuitTable w = w .circuits
+
+-- pending records come before circuits
+unfoldable pub revokeAll : (World → ℕ → Sent) → (RelayPending → Bool) → (World → ℕ → Sent) → (RelayCircuit → Bool) → World → Outcome
+revokeAll endP p endC c w = finished (andThen (walk pendingId pendingTable p endP w) (walk circuitId circuitTable c endC))

@@ -1,0 +1,96 @@
+-- The revoking calls: disconnect, revoke_reservation, expire, replace_enabled (document 01, "Down through the call").
+use Prim.Native.Nat.{ℕ}
+use mathlib.Core.Bool.{Bool, true, false, cond, not, _&&_, Bool·beq}
+use mathlib.Core.List.{List, []}
+use lib.Dec.{eqb}
+use lib.ListN.{length}
+use Rattle.hns_encoding.specs.Numbers.{top}
+use Rattle.hnsr_body.specs.declared.values.ReservationId.{ReservationId}
+use Rattle.hnsr_body.specs.declared.messages.Notice.the-variants.{PeerDisconnected, ReservationRevoked, AcceptanceExpired, TicketExpired, RelayDisabled}
+use Rattle.hnsr_circuit.specs.declared.peer.HnsrPeerId.{HnsrPeerId}
+use Rattle.hnsr_circuit.specs.declared.records.RelayPending.{RelayPending}
+use Rattle.hnsr_circuit.specs.declared.answer.HnsrAnswer.{HnsrAnswer}
+use Rattle.hnsr_circuit.specs.declared.answer.HnsrRuntimeError.the-variants.{GenerationExhausted}
+use Rattle.hnsr_circuit.specs.Table.{edit}
+use Rattle.hnsr_circuit.specs.Answers.{check, _then_}
+use Rattle.hnsr_circuit.specs.Peer.{peerOf, samePeer}
+use Rattle.hnsr_circuit.specs.Pending.{isPending, pendingAt, pendingOf, pendingUnder, pendingOver}
+use Rattle.hnsr_circuit.specs.Circuits.{isCircuit, circuitOf, circuitUnder, circuitOver}
+use Rattle.hnsr_circuit.specs.Ledger.{usageAt, clearUsage, lapsed}
+use Rattle.hnsr_circuit.specs.Inflight.{isAction, actionToward, dropped}
+use Rattle.hnsr_circuit.specs.Header.{withEnabled}
+use Rattle.hnsr_circuit.specs.World.{World, Outcome, done, proceed, withHeader, withLedger, withInflight, atTime}
+use Rattle.hnsr_circuit.specs.Queue.{Message, Sent, when, tell, generationOf}
+use Rattle.hnsr_circuit.specs.Entry.{roomAnswer, revokingWords, peerAnswer, clockAnswer}
+use Rattle.hnsr_circuit.specs.Revocation.{endPending, closeToRequester, closeToEndpoint, hasPending, pendingIn, revokePending, revokeCircuit, revokeAll}
+use Rattle.hnsr_circuit.specs.Acknowledge.{generationAnswer}
+
+-- ---- disconnect: first drops every action toward that peer, then revokes the records it is a side of
+abbrev pub withoutActionsToward : World → HnsrPeerId → World
+withoutActionsToward w peer = withInflight w (dropped (actionToward peer) (w .inflight))
+
+-- on disconnect only the other peer of a pending record hears, by CLOSE
+unfoldable pub closeToOther : HnsrPeerId → RelayPending → Message
+closeToOther peer p = cond (samePeer (p .requester) peer) (closeToEndpoint PeerDisconnected p) (closeToRequester PeerDisconnected p)
+
+unfoldable pub disconnectedPending : HnsrPeerId → (id : ℕ) → RelayPending → World → Sent
+disconnectedPending peer id p w = tell (closeToOther peer p) (endPending w (pendingAt id) id)
+
+unfoldable pub disconnectPending : HnsrPeerId → World → (id : ℕ) → Sent
+disconnectPending peer w id = when (hasPending w id) (disconnectedPending peer id (pendingIn w id)) w
+
+unfoldable pub disconnectPeer : World → HnsrPeerId → Outcome
+disconnectPeer w peer =
+    revokeAll (disconnectPending peer) (pendingOf peer) (revokeCircuit PeerDisconnected) (circuitOf peer) (withoutActionsToward w peer)
+
+unfoldable pub disconnect : World → (peer : List ℕ) → (room : ℕ) → Outcome
+disconnect w peer room = proceed w (roomAnswer w room (revokingWords w) then peerAnswer (length peer)) (disconnectPeer w (peerOf peer))
+
+-- ---- revoking a reservation revokes the records that store its id and removes its ledger record
+abbrev pub withoutUsage : World → ReservationId → World
+withoutUsage w id = withLedger w (edit (usageAt id) clearUsage (w .ledger))
+
+unfoldable pub revokeUnder : World → ReservationId → Outcome
+revokeUnder w id =
+    revokeAll (revokePending ReservationRevoked) (pendingUnder id) (revokeCircuit ReservationRevoked) (circuitUnder id) (withoutUsage w id)
+
+unfoldable pub revokeReservation : World → ReservationId → (room : ℕ) → Outcome
+revokeReservation w id room = proceed w (roomAnswer w room (revokingWords w)) (revokeUnder w id)
+
+-- ---- expire drops ledger records as OPEN does, then revokes pending records whose deadline or expiry, and circuits whose expiry, is not
+-- after now
+abbrev pub withoutLapsed : World → (now : ℕ) → World
+withoutLapsed w now = withLedger w (lapsed now (w .ledger))
+
+unfoldable pub expireAt : World → (now : ℕ) → Outcome
+expireAt w now =
+    revokeAll (revokePending AcceptanceExpired) (pendingOver now) (revokeCircuit TicketExpired) (circuitOver now)
+    (withoutLapsed (atTime w now) now)
+
+unfoldable pub expire : World → (now room : ℕ) → Outcome
+expire w now room =
+    proceed w (roomAnswer w room (revokingWords w) then clockAnswer (w .header .«trusted_time_high_water») now) (expireAt w now)
+
+-- ---- replace_enabled: a changed enabled state raises the generation, drops every action, sets the sequence to 1 and, if off, revokes all;
+-- the same state changes nothing
+abbrev pub changes : World → Bool → Bool
+changes w on = not (Bool·beq (w .header .enabled) on)
+
+-- 6: generation at 2^64 − 1 and the state would change
+unfoldable pub changeAnswer : (generation : ℕ) → (changes : Bool) → HnsrAnswer
+changeAnswer generation changes = check (changes && eqb generation (top 64)) GenerationExhausted
+
+abbrev pub switched : World → Bool → World
+switched w on = withHeader (withInflight w (dropped isAction (w .inflight))) (withEnabled (w .header) on)
+
+unfoldable pub switchTo : World → Bool → Outcome
+switchTo w true = done (switched w true) []
+switchTo w false = revokeAll (revokePending RelayDisabled) isPending (revokeCircuit RelayDisabled) isCircuit (switched w false)
+
+unfoldable pub replaceEnabled : World → (expected : ℕ) → Bool → (room : ℕ) → Outcome
+replaceEnabled w expected on room =
+    proceed w
+    (roomAnswer w room (revokingWords w)
+    then generationAnswer (generationOf w) expected
+    then changeAnswer (generationOf w) (changes w on))
+    (cond (changes w on) (switchTo w on) (done w []))

@@ -1,0 +1,81 @@
+-- The world that a call is given and leaves: the header by value and the four lent tables; and what a call gives back.
+use Prim.Native.Nat.{ℕ}
+use mathlib.Core.List.{List, []}
+use Rattle.hnsr_circuit.specs.declared.config.OpaqueRelayConfig.{OpaqueRelayConfig}
+use Rattle.hnsr_circuit.specs.declared.records.RelayPending.{RelayPending}
+use Rattle.hnsr_circuit.specs.declared.records.RelayCircuit.{RelayCircuit}
+use Rattle.hnsr_circuit.specs.declared.records.ReservationUsage.{ReservationUsage}
+use Rattle.hnsr_circuit.specs.declared.records.InflightAction.{InflightAction}
+use Rattle.hnsr_circuit.specs.declared.runtime.OpaqueRelayRuntime.{OpaqueRelayRuntime}
+use Rattle.hnsr_circuit.specs.declared.runtime.RuntimeCounters.{RuntimeCounters}
+use Rattle.hnsr_circuit.specs.declared.runtime.HnsrRuntimeStatus.{HnsrRuntimeStatus}
+use Rattle.hnsr_circuit.specs.declared.answer.HnsrRuntimeError.{HnsrRuntimeError}
+use Rattle.hnsr_circuit.specs.declared.answer.HnsrAnswer.{HnsrAnswer}
+use Rattle.hnsr_circuit.specs.declared.answer.HnsrAnswer.the-variants.{Taken, Refused}
+use Rattle.hnsr_circuit.specs.Route.{Route}
+use Rattle.hnsr_circuit.specs.Header.{withClock, withCounters}
+
+pub record World : Type 0 where
+  pub header : OpaqueRelayRuntime
+  pub pending : List RelayPending
+  pub circuits : List RelayCircuit
+  pub ledger : List ReservationUsage
+  pub inflight : List InflightAction
+
+abbrev pub configOf : World → OpaqueRelayConfig
+configOf w = w .header .config
+
+-- ---- what a call gives back
+-- next due: a time, or none
+pub data Due : Type 0 where
+  never : Due
+  due : ℕ → Due
+
+-- what a call tells beside its answer and its routes
+pub data Told : Type 0 where
+  silent : Told
+  statusIs : HnsrRuntimeStatus → Told
+  dueIs : Due → Told
+
+pub record Outcome : Type 0 where
+  pub world : World
+  pub answer : HnsrAnswer
+  pub routes : List Route
+  pub told : Told
+
+abbrev pub refuse : World → HnsrRuntimeError → Outcome
+refuse w e = record { world = w; answer = Refused e; routes = []; told = silent }
+
+abbrev pub done : World → List Route → Outcome
+done w routes = record { world = w; answer = Taken; routes = routes; told = silent }
+
+abbrev pub telling : World → Told → Outcome
+telling w t = record { world = w; answer = Taken; routes = []; told = t }
+
+-- the answer of a row, and what follows if it passes; a refusal leaves the world that it is given, so what stays after a refusal is
+-- always the world named in front of its row
+unfoldable pub proceed : World → HnsrAnswer → Outcome → Outcome
+proceed w Taken o = o
+proceed w (Refused e) o = refuse w e
+
+-- ---- the world with one part replaced
+abbrev pub withHeader : World → OpaqueRelayRuntime → World
+withHeader w h = record { header = h; pending = w .pending; circuits = w .circuits; ledger = w .ledger; inflight = w .inflight }
+
+abbrev pub withPending : World → List RelayPending → World
+withPending w t = record { header = w .header; pending = t; circuits = w .circuits; ledger = w .ledger; inflight = w .inflight }
+
+abbrev pub withCircuits : World → List RelayCircuit → World
+withCircuits w t = record { header = w .header; pending = w .pending; circuits = t; ledger = w .ledger; inflight = w .inflight }
+
+abbrev pub withLedger : World → List ReservationUsage → World
+withLedger w t = record { header = w .header; pending = w .pending; circuits = w .circuits; ledger = t; inflight = w .inflight }
+
+abbrev pub withInflight : World → List InflightAction → World
+withInflight w t = record { header = w .header; pending = w .pending; circuits = w .circuits; ledger = w .ledger; inflight = t }
+
+abbrev pub atTime : World → (now : ℕ) → World
+atTime w now = withHeader w (withClock (w .header) now)
+
+abbrev pub counting : (RuntimeCounters → RuntimeCounters) → World → World
+counting f w = withHeader w (withCounters (w .header) (f (w .header .counters)))

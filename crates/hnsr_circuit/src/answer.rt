@@ -1,0 +1,35 @@
+// What a call answers (document 01, "Where a call is turned away"). Numbers 1 to 21 follow this order; specs/Answers.antt has them.
+use hnsr_body::error::HnsrProtocolError;
+
+pub enum HnsrRuntimeError {
+    Protocol(HnsrProtocolError),
+    InvalidConfig,
+    InvalidSession,
+    InvalidPeer,
+    StaleGeneration,
+    GenerationExhausted,
+    ClockRollback,
+    Randomness,
+    Disabled,
+    Capacity,
+    InvalidAdmission,
+    Deadline,
+    UnknownRequest,
+    UnknownCircuit,
+    WrongPeer,
+    UnexpectedOpcode,
+    FlowControl,
+    ByteLimit,
+    NoQueuedData,
+    UnknownAction,
+    CorruptSnapshot,
+    // added: the lent tables or the lent output are too small
+    Short,
+    // added: the lent ledger is full
+    LedgerFull,
+}
+
+pub enum HnsrAnswer {
+    Taken,
+    Refused(HnsrRuntimeError),
+}

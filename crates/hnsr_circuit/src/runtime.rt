@@ -1,0 +1,38 @@
+// What a host keeps beside the tables, by value, and what `status` tells.
+use crate::config::OpaqueRelayConfig;
+
+#[repr(C)]
+pub struct RuntimeCounters {
+    pub admitted_opens: u64,
+    pub opened_circuits: u64,
+    pub bytes_sent: u64,
+    pub bytes_received: u64,
+    pub revoked_work: u64,
+}
+
+#[repr(C)]
+pub struct OpaqueRelayRuntime {
+    pub session: [u8; 16],
+    pub generation: u64,
+    pub enabled: bool,
+    pub trusted_time_high_water: u64,
+    pub config: OpaqueRelayConfig,
+    pub next_action_sequence: u64,
+    pub counters: RuntimeCounters,
+}
+
+#[repr(C)]
+pub struct HnsrRuntimeStatus {
+    pub generation: u64,
+    pub enabled: bool,
+    pub pending_circuits: usize,
+    pub active_circuits: usize,
+    pub queued_bytes: usize,
+    pub queued_actions: usize,
+    pub trusted_time_high_water: u64,
+    pub admitted_opens: u64,
+    pub opened_circuits: u64,
+    pub bytes_sent: u64,
+    pub bytes_received: u64,
+    pub revoked_work: u64,
+}

@@ -1,0 +1,40 @@
+#!/usr/bin/env python3
+"""Writes crates/hnsr_circuit/specs/All.antt: one name, `machine`, whose unfolding opens every definition, so that a theorem
+by computation says `unfolding machine`.   usage: tools/unfolding.py   (from the repository's root)"""
+import re
+CRATES = ['hns_encoding', 'hnsr_body', 'hnsr_circuit']
+LEFT_OUT = {'All', 'Laws', 'Cases', 'Found', 'FoundMore', 'FoundWorlds', 'Examples', 'Utf8Form', 'Utf8Encode', 'Utf8CodePoints', 'Utf8Examples'}
+
+def modules(crate):
+    return [l.split()[-1] for l in open(f'crates/{crate}/specs/Lib.antt') if l.startswith('pub mod')]
+
+def names(crate, module):
+    return re.findall(r'^\s*unfoldable pub (\S+) :', open(f'crates/{crate}/specs/{module}.antt').read(), re.M)
+
+def main():
+    uses, every, seen = [], [], {}
+    for crate in CRATES:
+        for m in modules(crate):
+            if m in LEFT_OUT: continue
+            ns = names(crate, m)
+            for n in ns:
+                if n in seen: raise SystemExit(f'{n} is declared in {seen[n]} and in {crate}.{m}')
+                seen[n] = f'{crate}.{m}'
+            if not ns: continue
+            path = f'Rattle.{crate}.specs.{m}' if crate == 'hnsr_circuit' else f'Rattle.{crate}.specs.{m}'
+            uses.append(f'use {path}.{{' + ', '.join(ns) + '}')
+            every += ns
+    text = '''-- A run of the machine with every definition open. Made by tools/unfolding.py: not edited by hand.
+use mathlib.Core.List.{List}
+use Rattle.hnsr_circuit.specs.World.{World, Outcome}
+use Rattle.hnsr_circuit.specs.Call.{Start, Call}
+''' + '\n'.join(uses) + '''
+
+unfoldable pub machine : World → Start → List Call → List Outcome
+unfolding ''' + ' '.join(every) + '''
+machine w s calls = run w s calls
+'''
+    open('crates/hnsr_circuit/specs/All.antt', 'w').write(text)
+    print(len(every), 'definitions')
+
+main()

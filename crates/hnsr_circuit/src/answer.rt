@@ -1,4 +1,6 @@
 // What a call answers (document 01, "Where a call is turned away"). Numbers 1 to 21 follow this order; specs/Answers.antt has them.
+ghost use mathlib.Core.Path.{_≡_};
+ghost use Rattle.hnsr_circuit.specs.Answers.{check};
 use hnsr_body::error::HnsrProtocolError;
 
 pub enum HnsrRuntimeError {
@@ -32,4 +34,14 @@ pub enum HnsrRuntimeError {
 pub enum HnsrAnswer {
     Taken,
     Refused(HnsrRuntimeError),
+}
+
+// A row of the table: a test and its refusal.
+pub(crate) fn check(refuse: bool, error: HnsrRuntimeError) -> HnsrAnswer
+    ensures { λ r. ⌜ r ≡ check refuse error ⌝ }
+{
+    if refuse {
+        return HnsrAnswer::Refused(error);
+    }
+    HnsrAnswer::Taken
 }

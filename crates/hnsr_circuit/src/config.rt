@@ -1,10 +1,10 @@
 // The limits of a relay: defaults and ceilings belong to the type (document 01, "Forms to replace").
 ghost use mathlib.Core.Path.{_≡_};
-ghost use mathlib.Core.Bool.{_&&_};
 ghost use lib.Dec.{leb};
 ghost use Rattle.hnsr_circuit.specs.Config.{withinLimits, configGood, defaultConfig, validateConfig};
 use crate::answer::HnsrAnswer;
 use crate::answer::HnsrRuntimeError;
+use crate::logic::both;
 
 #[repr(C)]
 pub struct OpaqueRelayConfig {
@@ -33,15 +33,6 @@ fn some(n: u64) -> bool
     ensures { λ r. ⌜ r ≡ leb 1 n ⌝ }
 {
     1 <= n
-}
-
-fn both(a: bool, b: bool) -> bool
-    ensures { λ r. ⌜ r ≡ (a && b) ⌝ }
-{
-    if a {
-        return b;
-    }
-    false
 }
 
 impl OpaqueRelayConfig {

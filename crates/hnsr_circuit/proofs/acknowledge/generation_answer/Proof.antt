@@ -1,0 +1,22 @@
+-- The row is its tests joined, and its refusal.
+use Rattle.hnsr_circuit.specs.Acknowledge.{generationAnswer}
+use borrow.Author.Needs.{needs}
+use Rattle.hnsr_circuit.proofs.acknowledge.generation_answer.Statement.{statement}
+use Rattle.hnsr_circuit.proofs.acknowledge.generation_answer.Tie as tie
+use Rattle.hnsr_circuit.proofs.acknowledge.generation_answer.Reads as reads
+use Rattle.hnsr_circuit.proofs.acknowledge.generation_answer.Lts as lts
+use Rattle.hnsr_circuit.proofs.logic.no.Reads as no-reads
+use Rattle.hnsr_circuit.proofs.answer.check.Reads as check-reads
+
+no-requires : tie.Need-no-requires
+no-requires c κs = search needs
+
+check-requires : tie.Need-check-requires
+check-requires c κs = search needs
+
+returns : tie.Need-returns
+unfolding generationAnswer
+returns c = cc
+
+pub generation-answer-spec : {M : Type 1} → statement M
+generation-answer-spec = tie.close (tie.spec no-requires check-requires returns)

@@ -1,0 +1,26 @@
+-- The row is its tests joined, and its refusal.
+use Rattle.hnsr_circuit.specs.Ledger.{ledgerAnswer}
+use borrow.Author.Needs.{needs}
+use Rattle.hnsr_circuit.proofs.ledger.ledger_answer.Statement.{statement}
+use Rattle.hnsr_circuit.proofs.ledger.ledger_answer.Tie as tie
+use Rattle.hnsr_circuit.proofs.ledger.ledger_answer.Reads as reads
+use Rattle.hnsr_circuit.proofs.ledger.ledger_answer.Lts as lts
+use Rattle.hnsr_circuit.proofs.logic.both.Reads as both-reads
+use Rattle.hnsr_circuit.proofs.logic.no.Reads as no-reads
+use Rattle.hnsr_circuit.proofs.answer.check.Reads as check-reads
+
+no-requires : tie.Need-no-requires
+no-requires c κs = search needs
+
+both-requires : tie.Need-both-requires
+both-requires c κs = search needs
+
+check-requires : tie.Need-check-requires
+check-requires c κs = search needs
+
+returns : tie.Need-returns
+unfolding ledgerAnswer
+returns c = cc
+
+pub ledger-answer-spec : {M : Type 1} → statement M
+ledger-answer-spec = tie.close (tie.spec no-requires both-requires check-requires returns)

@@ -1,0 +1,42 @@
+// The rows "entry" and "clock" of document 01's table.
+ghost use mathlib.Core.Path.{_≡_};
+ghost use Rattle.hnsr_circuit.specs.Entry.{tooFew, peerAnswer, clockAnswer};
+use crate::answer::HnsrAnswer;
+use crate::answer::HnsrRuntimeError;
+use crate::answer::check;
+use crate::config::OpaqueRelayConfig;
+use crate::logic::both;
+use crate::logic::either;
+use crate::logic::no;
+use crate::peer::MAXIMUM_PEER;
+
+// 22: a table shorter than its maximum; the ledger has none.
+pub(crate) fn too_few(
+    config: OpaqueRelayConfig,
+    pending: usize,
+    circuits: usize,
+    inflight: usize,
+) -> bool
+    ensures { λ r. ⌜ r ≡ tooFew config pending circuits inflight ⌝ }
+{
+    let records = either(
+        pending < config.maximum_pending,
+        circuits < config.maximum_circuits,
+    );
+    either(records, inflight < config.maximum_inflight_actions)
+}
+
+// 4: peer length
+pub(crate) fn peer_answer(length: usize) -> HnsrAnswer
+    ensures { λ r. ⌜ r ≡ peerAnswer length ⌝ }
+{
+    let good = both(1 <= length, length <= MAXIMUM_PEER);
+    check(no(good), HnsrRuntimeError::InvalidPeer)
+}
+
+// 7: now behind the high water
+pub(crate) fn clock_answer(high: u64, now: u64) -> HnsrAnswer
+    ensures { λ r. ⌜ r ≡ clockAnswer high now ⌝ }
+{
+    check(now < high, HnsrRuntimeError::ClockRollback)
+}

@@ -5,4 +5,5 @@
 #![deny(missing_docs)]
 
 pub mod body;
+mod error;
 mod ffi;

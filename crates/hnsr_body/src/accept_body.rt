@@ -9,13 +9,13 @@ use crate::fields::u32_at;
 use crate::fields::u64_be_at;
 use crate::layout::answered;
 use crate::layout::lay_out;
-use crate::values::both;
 use crate::values::is_nonzero;
 use crate::values::is_some;
 use crate::values::is_window;
+use hns_encoding::logic::both;
 ghost use mathlib.Core.Path.{_≡_};
 ghost use lib.ListN.{length};
-ghost use Rattle.hnsr_body.specs.Accept.{acceptBytes, acceptFields, acceptGood, decodeAccept, decodeOpened, encodeAccept, encodeOpened, openedAnswer, openedBytes, openedFields, openedGood, openedRest};
+ghost use Rattle.hnsr_body.specs.Accept.{acceptBytes, acceptFields, acceptGood, acceptSize, decodeAccept, decodeOpened, encodeAccept, encodeOpened, openedAnswer, openedBytes, openedFields, openedGood, openedRest, openedSize};
 
 #[repr(C)]
 pub struct AcceptBody {
@@ -44,12 +44,12 @@ pub struct OpenedRead {
 // Zeros where the result is a refusal.
 pub struct AcceptWritten {
     pub result: Checked,
-    pub bytes: [u8; 20],
+    pub bytes: [u8; AcceptBody::SIZE],
 }
 
 pub struct OpenedWritten {
     pub result: Checked,
-    pub bytes: [u8; 28],
+    pub bytes: [u8; OpenedBody::SIZE],
 }
 
 impl AcceptBody {
@@ -94,7 +94,7 @@ impl AcceptBody {
     }
 
     fn put(self, out: &mut [u8])
-        requires { ⌜ length (now out) ≡ 20 ⌝ }
+        requires { ⌜ length (now out) ≡ acceptSize ⌝ }
         ensures { λ _. ⌜ now (out .exit) ≡ acceptBytes self ⌝ }
     {
         let nonce = self.endpoint_nonce;
@@ -105,7 +105,7 @@ impl AcceptBody {
     pub fn encode(self) -> AcceptWritten
         ensures { λ r. ⌜ r ≡ encodeAccept self ⌝ }
     {
-        let mut bytes = [0u8; 20];
+        let mut bytes = [0u8; Self::SIZE];
         let valid = self.is_valid();
         let result = answered(Checked::Ok, valid, HnsrInvalid::AcceptResponse);
         if valid {
@@ -188,7 +188,7 @@ impl OpenedBody {
     }
 
     fn put(self, out: &mut [u8])
-        requires { ⌜ length (now out) ≡ 28 ⌝ }
+        requires { ⌜ length (now out) ≡ openedSize ⌝ }
         ensures { λ _. ⌜ now (out .exit) ≡ openedBytes self ⌝ }
     {
         let nonce = self.endpoint_nonce;
@@ -200,7 +200,7 @@ impl OpenedBody {
     pub fn encode(self) -> OpenedWritten
         ensures { λ r. ⌜ r ≡ encodeOpened self ⌝ }
     {
-        let mut bytes = [0u8; 28];
+        let mut bytes = [0u8; Self::SIZE];
         let result = self.answered(Checked::Ok);
         if self.is_valid() {
             self.put(&mut bytes);

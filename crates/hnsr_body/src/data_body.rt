@@ -8,7 +8,7 @@ use crate::layout::lay_out;
 use crate::values::MAX_WINDOW;
 ghost use mathlib.Core.Path.{_≡_};
 ghost use lib.ListN.{length};
-ghost use Rattle.hnsr_body.specs.Data.{dataChecked, dataGood, decodeWindow, deltaGood, encodeWindow, windowBytes, windowFields};
+ghost use Rattle.hnsr_body.specs.Data.{dataChecked, dataGood, decodeWindow, deltaGood, encodeWindow, windowBytes, windowFields, windowSize};
 
 pub struct DataBody {
     pub length: usize,
@@ -28,7 +28,7 @@ pub struct WindowRead {
 // Zeros where the result is a refusal.
 pub struct WindowWritten {
     pub result: Checked,
-    pub bytes: [u8; 4],
+    pub bytes: [u8; WindowBody::SIZE],
 }
 
 impl DataBody {
@@ -94,7 +94,7 @@ impl WindowBody {
     }
 
     fn put(self, out: &mut [u8])
-        requires { ⌜ length (now out) ≡ 4 ⌝ }
+        requires { ⌜ length (now out) ≡ windowSize ⌝ }
         ensures { λ _. ⌜ now (out .exit) ≡ windowBytes self ⌝ }
     {
         put_u32_at(out, Self::CREDIT_DELTA, self.credit_delta);
@@ -103,7 +103,7 @@ impl WindowBody {
     pub fn encode(self) -> WindowWritten
         ensures { λ r. ⌜ r ≡ encodeWindow self ⌝ }
     {
-        let mut bytes = [0u8; 4];
+        let mut bytes = [0u8; Self::SIZE];
         let valid = self.is_valid();
         let result = answered(Checked::Ok, valid, HnsrInvalid::WindowCredit);
         if valid {

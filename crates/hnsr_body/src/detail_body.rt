@@ -16,7 +16,7 @@ ghost use mathlib.Core.Path.{_≡_};
 ghost use Prim.Native.Nat.{_≤_};
 ghost use lib.ListN.{drop, length};
 ghost use Rattle.hns_encoding.specs.Cursor.{writtenAt};
-ghost use Rattle.hnsr_body.specs.Detail.{decodeDetail, detailBytes, detailWidths, encodeDetail, headed, lengthIs, reasonDetail};
+ghost use Rattle.hnsr_body.specs.Detail.{decodeDetail, detailBytes, detailSize, detailWidths, encodeDetail, headSize, headed, lengthIs, mostDetail, reasonDetail};
 ghost use Rattle.hnsr_body.specs.Layout.{walked};
 
 // The reason, and how long the detail is, which stands in the body from its fourth byte on.
@@ -36,7 +36,7 @@ pub struct DetailRead {
 pub struct DetailWritten {
     pub result: Checked,
     pub length: usize,
-    pub bytes: [u8; 131],
+    pub bytes: [u8; ReasonDetail::MAX_SIZE],
 }
 
 impl ReasonDetail {
@@ -50,6 +50,8 @@ impl ReasonDetail {
     pub const WIDTHS: [usize; 2] = [Self::LENGTH - Self::REASON, Self::DETAIL - Self::LENGTH];
 
     pub const MAX_DETAIL: usize = 128;
+
+    pub const MAX_SIZE: usize = Self::DETAIL + Self::MAX_DETAIL;
 
     fn fields(input: &[u8]) -> Self
         ensures { λ r. ⌜ r ≡ reasonDetail (now (input .entry)) ⌝ }
@@ -83,7 +85,7 @@ impl ReasonDetail {
 
     // The text: what stands behind the two fields.
     pub fn detail(input: &[u8]) -> &[u8]
-        ensures { λ r. ⌜ now r ≡ drop 3 (now (input .entry)) ⌝ }
+        ensures { λ r. ⌜ now r ≡ drop headSize (now (input .entry)) ⌝ }
     {
         let at = Self::DETAIL;
         if input.len() < at {
@@ -109,7 +111,7 @@ impl ReasonDetail {
     }
 
     fn put(out: &mut [u8], reason: u16, detail: &[u8])
-        requires { ⌜ (length (now out) ≡ 131) × (length (now detail) ≤ 128) ⌝ }
+        requires { ⌜ (length (now out) ≡ detailSize) × (length (now detail) ≤ mostDetail) ⌝ }
         ensures { λ _. ⌜ now (out .exit) ≡ writtenAt (now (out .entry)) 0 (detailBytes reason (now (detail .entry))) ⌝ }
     {
         put_u16_at(out, Self::REASON, reason);
@@ -121,7 +123,7 @@ impl ReasonDetail {
     pub fn encode(reason: u16, detail: &[u8]) -> DetailWritten
         ensures { λ r. ⌜ r ≡ encodeDetail reason (now (detail .entry)) ⌝ }
     {
-        let mut bytes = [0u8; 131];
+        let mut bytes = [0u8; Self::MAX_SIZE];
         let size = detail.len();
         if Self::MAX_DETAIL < size {
             return DetailWritten {

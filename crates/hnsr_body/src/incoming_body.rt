@@ -12,13 +12,13 @@ use crate::fields::u32_at;
 use crate::fields::u64_be_at;
 use crate::layout::answered;
 use crate::layout::lay_out;
-use crate::values::both;
 use crate::values::is_nonzero;
 use crate::values::is_some;
 use crate::values::is_window;
+use hns_encoding::logic::both;
 ghost use mathlib.Core.Path.{_≡_};
 ghost use lib.ListN.{length};
-ghost use Rattle.hnsr_body.specs.Incoming.{decodeIncoming, encodeIncoming, incomingBytes, incomingFields, incomingGood};
+ghost use Rattle.hnsr_body.specs.Incoming.{decodeIncoming, encodeIncoming, incomingBytes, incomingFields, incomingGood, incomingSize};
 
 #[repr(C)]
 pub struct IncomingBody {
@@ -38,7 +38,7 @@ pub struct IncomingRead {
 // Zeros where the result is a refusal.
 pub struct IncomingWritten {
     pub result: Checked,
-    pub bytes: [u8; 62],
+    pub bytes: [u8; IncomingBody::SIZE],
 }
 
 impl IncomingBody {
@@ -98,7 +98,7 @@ impl IncomingBody {
     }
 
     fn put(self, out: &mut [u8])
-        requires { ⌜ length (now out) ≡ 62 ⌝ }
+        requires { ⌜ length (now out) ≡ incomingSize ⌝ }
         ensures { λ _. ⌜ now (out .exit) ≡ incomingBytes self ⌝ }
     {
         let ticket = self.ticket_id;
@@ -113,7 +113,7 @@ impl IncomingBody {
     pub fn encode(self) -> IncomingWritten
         ensures { λ r. ⌜ r ≡ encodeIncoming self ⌝ }
     {
-        let mut bytes = [0u8; 62];
+        let mut bytes = [0u8; Self::SIZE];
         let valid = self.is_valid();
         let result = answered(Checked::Ok, valid, HnsrInvalid::IncomingParameters);
         if valid {

@@ -1,4 +1,5 @@
 // The seven messages by which the relay ends a record: reason and detail are constants.
+use crate::detail_body::ReasonDetail;
 use crate::fields::put_bytes_at;
 use crate::fields::put_u8_at;
 use crate::fields::put_u16_at;
@@ -19,13 +20,20 @@ pub enum Notice {
 pub struct Message {
     pub reason: u16,
     pub length: u8,
-    pub detail: [u8; 27],
+    pub detail: [u8; Message::MAX_DETAIL],
+}
+
+impl Message {
+    // The longest of the seven.
+    pub const MAX_DETAIL: usize = 27;
+
+    pub const MAX_SIZE: usize = ReasonDetail::DETAIL + Self::MAX_DETAIL;
 }
 
 // The body of the CLOSE or ERROR that carries it: `length` bytes, with zeros behind them.
 pub struct NoticeWritten {
     pub length: usize,
-    pub bytes: [u8; 30],
+    pub bytes: [u8; Message::MAX_SIZE],
 }
 
 const MESSAGES: [Message; 7] = [
@@ -84,14 +92,14 @@ impl Notice {
     pub fn encode(self) -> NoticeWritten
         ensures { λ r. ⌜ r ≡ noticeWritten self ⌝ }
     {
-        let mut bytes = [0u8; 30];
+        let mut bytes = [0u8; Message::MAX_SIZE];
         let message = self.message();
         let detail = message.detail;
-        put_u16_at(&mut bytes, 0, message.reason);
-        put_u8_at(&mut bytes, 2, message.length);
-        put_bytes_at(&mut bytes, 3, &detail);
+        put_u16_at(&mut bytes, ReasonDetail::REASON, message.reason);
+        put_u8_at(&mut bytes, ReasonDetail::LENGTH, message.length);
+        put_bytes_at(&mut bytes, ReasonDetail::DETAIL, &detail);
         NoticeWritten {
-            length: 3 + message.length as usize,
+            length: ReasonDetail::DETAIL + message.length as usize,
             bytes,
         }
     }

@@ -13,14 +13,14 @@ use crate::fields::u32_at;
 use crate::layout::answered;
 use crate::layout::lay_out;
 use crate::values::ReservationId;
-use crate::values::both;
 use crate::values::is_nonzero;
 use crate::values::is_some;
 use crate::values::is_window;
 use crate::values::reservation_of;
+use hns_encoding::logic::both;
 ghost use mathlib.Core.Path.{_≡_};
 ghost use lib.ListN.{length};
-ghost use Rattle.hnsr_body.specs.Open.{decodeOpen, encodeOpen, openBytes, openFields, openGood};
+ghost use Rattle.hnsr_body.specs.Open.{decodeOpen, encodeOpen, openBytes, openFields, openGood, openSize};
 
 #[repr(C)]
 pub struct OpenBody {
@@ -41,7 +41,7 @@ pub struct OpenRead {
 // Zeros where the result is a refusal.
 pub struct OpenWritten {
     pub result: Checked,
-    pub bytes: [u8; 103],
+    pub bytes: [u8; OpenBody::SIZE],
 }
 
 impl OpenBody {
@@ -107,7 +107,7 @@ impl OpenBody {
     }
 
     fn put(self, out: &mut [u8])
-        requires { ⌜ length (now out) ≡ 103 ⌝ }
+        requires { ⌜ length (now out) ≡ openSize ⌝ }
         ensures { λ _. ⌜ now (out .exit) ≡ openBytes self ⌝ }
     {
         let ticket = self.ticket_id;
@@ -126,7 +126,7 @@ impl OpenBody {
     pub fn encode(self, key_valid: bool) -> OpenWritten
         ensures { λ r. ⌜ r ≡ encodeOpen «key_valid» self ⌝ }
     {
-        let mut bytes = [0u8; 103];
+        let mut bytes = [0u8; Self::SIZE];
         let valid = self.is_valid(key_valid);
         let result = answered(Checked::Ok, valid, HnsrInvalid::OpenParameters);
         if valid {

@@ -1,7 +1,6 @@
 // Values that the bodies share: ids and nonces that are not zero, windows, and reservation ids.
 use crate::fields::u64_be_at;
 ghost use mathlib.Core.Path.{_≡_};
-ghost use mathlib.Core.Bool.{_&&_};
 ghost use Rattle.hns_encoding.specs.Bytes.{allZero};
 ghost use Rattle.hnsr_body.specs.Values.{nonzero, reservationGood, reservationOf, someByte, windowGood};
 
@@ -50,12 +49,6 @@ pub fn is_some(value: &[u8]) -> bool
     ensures { λ r. ⌜ r ≡ someByte (now (value .entry)) ⌝ }
 {
     !is_zero(value)
-}
-
-pub(crate) fn both(a: bool, b: bool) -> bool
-    ensures { λ r. ⌜ r ≡ (a && b) ⌝ }
-{
-    a && b
 }
 
 pub(crate) fn is_nonzero(n: u64) -> bool

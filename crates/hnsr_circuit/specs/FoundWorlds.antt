@@ -145,14 +145,14 @@ queuedActions silent = 0
 queuedActions (statusIs s) = s .«queued_actions»
 queuedActions (dueIs d) = 0
 
-unfoldable pub queuedBytes : Told → ℕ
-queuedBytes silent = 0
-queuedBytes (statusIs s) = s .«queued_bytes»
-queuedBytes (dueIs d) = 0
+unfoldable pub bytesTold : Told → ℕ
+bytesTold silent = 0
+bytesTold (statusIs s) = s .«queued_bytes»
+bytesTold (dueIs d) = 0
 
 unfoldable pub bytesQueued : World → ℕ
-unfolding machine queuedBytes
-bytesQueued w = queuedBytes (step w callStatus .told)
+unfolding machine bytesTold
+bytesQueued w = bytesTold (step w callStatus .told)
 
 unfoldable pub actionsAfter : World → Call → ℕ
 unfolding machine queuedActions

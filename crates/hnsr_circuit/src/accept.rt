@@ -5,8 +5,8 @@ use crate::answer::HnsrAnswer;
 use crate::answer::HnsrRuntimeError;
 use crate::answer::check;
 use crate::config::OpaqueRelayConfig;
-use crate::logic::either;
 use crate::records::RelayPending;
+use hns_encoding::logic::either;
 use hnsr_body::accept_body::AcceptBody;
 
 // 10: accepted window over the offered one, circuits full, or the reservation's count over the ticket's most, which it may equal: the pending

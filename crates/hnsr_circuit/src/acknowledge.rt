@@ -4,7 +4,7 @@ ghost use Rattle.hnsr_circuit.specs.Acknowledge.{generationAnswer, actio
 use crate::answer::HnsrAnswer;
 use crate::answer::HnsrRuntimeError;
 use crate::answer::check;
-use crate::logic::no;
+use hns_encoding::logic::no;
 
 // acknowledge and replace_enabled, 5: generation
 pub(crate) fn generation_answer(current: u64, given: u64) -> HnsrAnswer

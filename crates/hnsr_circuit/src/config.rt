@@ -4,7 +4,7 @@ ghost use lib.Dec.{leb};
 ghost use Rattle.hnsr_circuit.specs.Config.{withinLimits, configGood, defaultConfig, validateConfig};
 use crate::answer::HnsrAnswer;
 use crate::answer::HnsrRuntimeError;
-use crate::logic::both;
+use hns_encoding::logic::both;
 
 #[repr(C)]
 pub struct OpaqueRelayConfig {

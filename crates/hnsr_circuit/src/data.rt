@@ -8,10 +8,10 @@ use crate::circuits::credit_of;
 use crate::circuits::other_side;
 use crate::circuits::queued_to;
 use crate::config::OpaqueRelayConfig;
-use crate::logic::either;
 use crate::records::RelayCircuit;
 use crate::records::RelaySide;
 use crate::records::ReservationUsage;
+use hns_encoding::logic::either;
 use hns_encoding::numbers::saturating_add_u64;
 use hns_encoding::numbers::saturating_add_usize;
 

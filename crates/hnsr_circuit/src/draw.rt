@@ -4,8 +4,8 @@ ghost use Rattle.hnsr_circuit.specs.Draw.{drawAnswer};
 use crate::answer::HnsrAnswer;
 use crate::answer::HnsrRuntimeError;
 use crate::answer::check;
-use crate::logic::no;
 use crate::records::Drawing;
+use hns_encoding::logic::no;
 
 // 8: no draw
 pub(crate) fn draw_answer(drawing: Drawing) -> HnsrAnswer

@@ -5,10 +5,10 @@ use crate::answer::HnsrAnswer;
 use crate::answer::HnsrRuntimeError;
 use crate::answer::check;
 use crate::config::OpaqueRelayConfig;
-use crate::logic::both;
-use crate::logic::either;
-use crate::logic::no;
 use crate::peer::MAXIMUM_PEER;
+use hns_encoding::logic::both;
+use hns_encoding::logic::either;
+use hns_encoding::logic::no;
 
 // 22: a table shorter than its maximum; the ledger has none.
 pub(crate) fn too_few(

@@ -4,7 +4,7 @@ ghost use Rattle.hnsr_circuit.specs.Handle.{gateAnswer};
 use crate::answer::HnsrAnswer;
 use crate::answer::HnsrRuntimeError;
 use crate::answer::check;
-use crate::logic::no;
+use hns_encoding::logic::no;
 
 // 9: disabled
 pub(crate) fn gate_answer(enabled: bool) -> HnsrAnswer

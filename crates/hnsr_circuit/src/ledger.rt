@@ -4,11 +4,11 @@ ghost use Rattle.hnsr_circuit.specs.Ledger.{ledgerAnswer, usageAnswer};
 use crate::answer::HnsrAnswer;
 use crate::answer::HnsrRuntimeError;
 use crate::answer::check;
-use crate::logic::both;
-use crate::logic::either;
-use crate::logic::no;
 use crate::records::RelayTicket;
 use crate::records::ReservationUsage;
+use hns_encoding::logic::both;
+use hns_encoding::logic::either;
+use hns_encoding::logic::no;
 
 // 23: ledger full and record missing
 pub(crate) fn ledger_answer(found: bool, used: usize, places: usize) -> HnsrAnswer

@@ -12,7 +12,6 @@ mod handle;
 mod header;
 mod inflight;
 mod ledger;
-mod logic;
 mod open;
 pub mod peer;
 pub mod records;

@@ -5,9 +5,9 @@ use crate::answer::HnsrAnswer;
 use crate::answer::HnsrRuntimeError;
 use crate::answer::check;
 use crate::config::OpaqueRelayConfig;
-use crate::logic::either;
-use crate::logic::no;
 use crate::records::RelayTicket;
+use hns_encoding::logic::either;
+use hns_encoding::logic::no;
 use hnsr_body::error::HnsrProtocolError;
 
 // 10: pending or circuits full, requester's work at its most, same requester and context pending

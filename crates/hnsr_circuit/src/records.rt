@@ -68,18 +68,6 @@ pub struct InflightAction {
     pub bytes: usize,
 }
 
-impl InflightAction {
-    pub const INCOMING: u8 = 0;
-
-    pub const OPENED: u8 = 1;
-
-    pub const DATA: u8 = 2;
-
-    pub const CONTROL: u8 = 3;
-
-    pub const CLOSE: u8 = 4;
-}
-
 // How many actions stand in the way of a further one: all, those under its circuit, those toward its peer.
 #[repr(C)]
 pub struct InflightTally {

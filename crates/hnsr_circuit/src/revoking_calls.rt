@@ -4,7 +4,7 @@ ghost use Rattle.hnsr_circuit.specs.RevokingCalls.{changeAnswer};
 use crate::answer::HnsrAnswer;
 use crate::answer::HnsrRuntimeError;
 use crate::answer::check;
-use crate::logic::both;
+use hns_encoding::logic::both;
 
 // replace_enabled, 6: generation at 2^64 − 1 and the state would change
 pub(crate) fn change_answer(generation: u64, changes: bool) -> HnsrAnswer

@@ -6,7 +6,7 @@ use Rattle.hnsr_circuit.proofs.accept.accept_answer.Tie as tie
 use Rattle.hnsr_circuit.proofs.accept.accept_answer.Reads as reads
 use Rattle.hnsr_circuit.proofs.accept.accept_answer.Lts as lts
 use Rattle.hnsr_circuit.proofs.answer.check.Reads as check-reads
-use Rattle.hnsr_circuit.proofs.logic.either.Reads as either-reads
+use Rattle.hns_encoding.proofs.logic.either.Reads as either-reads
 
 cast-active : tie.Need-cast-active
 cast-active c = search needs

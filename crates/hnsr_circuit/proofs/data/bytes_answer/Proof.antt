@@ -6,7 +6,7 @@ use Rattle.hnsr_circuit.proofs.data.bytes_answer.Tie as tie
 use Rattle.hnsr_circuit.proofs.data.bytes_answer.Reads as reads
 use Rattle.hnsr_circuit.proofs.data.bytes_answer.Lts as lts
 use Rattle.hns_encoding.proofs.numbers.saturating_add_u64.Reads as saturating-add-u64-reads
-use Rattle.hnsr_circuit.proofs.logic.either.Reads as either-reads
+use Rattle.hns_encoding.proofs.logic.either.Reads as either-reads
 use Rattle.hnsr_circuit.proofs.answer.check.Reads as check-reads
 
 saturating-add-u64-requires : tie.Need-saturating-add-u64-requires

@@ -6,7 +6,7 @@ use Rattle.hnsr_circuit.proofs.data.flow_answer.Tie as tie
 use Rattle.hnsr_circuit.proofs.data.flow_answer.Reads as reads
 use Rattle.hnsr_circuit.proofs.data.flow_answer.Lts as lts
 use Rattle.hns_encoding.proofs.numbers.saturating_add_usize.Reads as saturating-add-usize-reads
-use Rattle.hnsr_circuit.proofs.logic.either.Reads as either-reads
+use Rattle.hns_encoding.proofs.logic.either.Reads as either-reads
 use Rattle.hnsr_circuit.proofs.answer.check.Reads as check-reads
 use Rattle.hnsr_circuit.proofs.circuits.credit_of.Reads as credit-of-reads
 use Rattle.hnsr_circuit.proofs.circuits.other_side.Reads as other-side-reads

@@ -5,7 +5,7 @@ use Rattle.hnsr_circuit.proofs.draw.draw_answer.Statement.{statement}
 use Rattle.hnsr_circuit.proofs.draw.draw_answer.Tie as tie
 use Rattle.hnsr_circuit.proofs.draw.draw_answer.Reads as reads
 use Rattle.hnsr_circuit.proofs.draw.draw_answer.Lts as lts
-use Rattle.hnsr_circuit.proofs.logic.no.Reads as no-reads
+use Rattle.hns_encoding.proofs.logic.no.Reads as no-reads
 use Rattle.hnsr_circuit.proofs.answer.check.Reads as check-reads
 
 no-requires : tie.Need-no-requires

@@ -5,7 +5,7 @@ use Rattle.hnsr_circuit.proofs.entry.too_few.Statement.{statement}
 use Rattle.hnsr_circuit.proofs.entry.too_few.Tie as tie
 use Rattle.hnsr_circuit.proofs.entry.too_few.Reads as reads
 use Rattle.hnsr_circuit.proofs.entry.too_few.Lts as lts
-use Rattle.hnsr_circuit.proofs.logic.either.Reads as either-reads
+use Rattle.hns_encoding.proofs.logic.either.Reads as either-reads
 
 either-requires : tie.Need-either-requires
 either-requires c κs = search needs

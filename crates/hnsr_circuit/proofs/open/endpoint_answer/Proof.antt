@@ -5,7 +5,7 @@ use Rattle.hnsr_circuit.proofs.open.endpoint_answer.Statement.{statemen
 use Rattle.hnsr_circuit.proofs.open.endpoint_answer.Tie as tie
 use Rattle.hnsr_circuit.proofs.open.endpoint_answer.Reads as reads
 use Rattle.hnsr_circuit.proofs.open.endpoint_answer.Lts as lts
-use Rattle.hnsr_circuit.proofs.logic.either.Reads as either-reads
+use Rattle.hns_encoding.proofs.logic.either.Reads as either-reads
 use Rattle.hnsr_circuit.proofs.answer.check.Reads as check-reads
 
 cast-most : tie.Need-cast-most

@@ -5,7 +5,7 @@ use Rattle.hnsr_circuit.proofs.revoking_calls.change_answer.Statement.{
 use Rattle.hnsr_circuit.proofs.revoking_calls.change_answer.Tie as tie
 use Rattle.hnsr_circuit.proofs.revoking_calls.change_answer.Reads as reads
 use Rattle.hnsr_circuit.proofs.revoking_calls.change_answer.Lts as lts
-use Rattle.hnsr_circuit.proofs.logic.both.Reads as both-reads
+use Rattle.hns_encoding.proofs.logic.both.Reads as both-reads
 use Rattle.hnsr_circuit.proofs.answer.check.Reads as check-reads
 
 both-requires : tie.Need-both-requires

@@ -5,7 +5,7 @@ use Rattle.hnsr_circuit.proofs.config.OpaqueRelayConfig.good.Statement.
 use Rattle.hnsr_circuit.proofs.config.OpaqueRelayConfig.good.Tie as tie
 use Rattle.hnsr_circuit.proofs.config.OpaqueRelayConfig.good.Reads as reads
 use Rattle.hnsr_circuit.proofs.config.OpaqueRelayConfig.good.Lts as lts
-use Rattle.hnsr_circuit.proofs.logic.both.Reads as both-reads
+use Rattle.hns_encoding.proofs.logic.both.Reads as both-reads
 use Rattle.hnsr_circuit.proofs.config.some.Reads as some-reads
 use Rattle.hnsr_circuit.proofs.config.within.Reads as within-reads
 

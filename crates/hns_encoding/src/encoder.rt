@@ -165,4 +165,12 @@ impl Encoder {
     {
         self.put_padded_as_words(out, bytes, word_count(bytes.len()))
     }
+
+    // An id as two words: its eight bytes, the first weighing most, four to a word.
+    pub fn put_u64_be_as_words(self, out: &mut [u32], value: u64) -> Put
+        ensures { λ r. ⌜ Puts r (now (out .entry)) (now (out .exit)) (self .position) (words (beBytes 8 value)) ⌝ }
+    {
+        let bytes = be_bytes(value);
+        self.put_bytes_as_words(out, &bytes)
+    }
 }

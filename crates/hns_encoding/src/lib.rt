@@ -6,7 +6,7 @@ pub mod encoder;
 pub mod logic;
 pub mod numbers;
 pub mod room;
-mod words;
+pub mod words;
 
 pub use decoder::DecodeError;
 pub use decoder::Decoder;

@@ -25,7 +25,7 @@ pub(crate) fn set_word(out: &mut [u32], at: usize, word: u32)
 }
 
 // How many words so many bytes fill.
-pub(crate) fn word_count(bytes: usize) -> usize
+pub fn word_count(bytes: usize) -> usize
     ensures { λ r. ⌜ r ≡ wordCount bytes ⌝ }
 {
     if bytes % 4 == 0 {

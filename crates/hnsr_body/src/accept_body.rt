@@ -197,6 +197,15 @@ impl OpenedBody {
         put_bytes_at(out, Self::ENDPOINT_NONCE, &nonce);
     }
 
+    // The bytes of a body whose values stand checked.
+    pub fn to_bytes(self) -> [u8; Self::SIZE]
+        ensures { λ r. ⌜ r ≡ openedBytes self ⌝ }
+    {
+        let mut bytes = [0u8; Self::SIZE];
+        self.put(&mut bytes);
+        bytes
+    }
+
     pub fn encode(self) -> OpenedWritten
         ensures { λ r. ⌜ r ≡ encodeOpened self ⌝ }
     {

@@ -110,6 +110,15 @@ impl IncomingBody {
         put_u32_at(out, Self::INITIAL_WINDOW, self.initial_window);
     }
 
+    // The bytes of a body whose values stand checked.
+    pub fn to_bytes(self) -> [u8; Self::SIZE]
+        ensures { λ r. ⌜ r ≡ incomingBytes self ⌝ }
+    {
+        let mut bytes = [0u8; Self::SIZE];
+        self.put(&mut bytes);
+        bytes
+    }
+
     pub fn encode(self) -> IncomingWritten
         ensures { λ r. ⌜ r ≡ encodeIncoming self ⌝ }
     {

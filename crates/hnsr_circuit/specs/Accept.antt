@@ -17,7 +17,8 @@ use Rattle.hnsr_circuit.specs.Answers.{check, bodyAnswer, _then_}
 use Rattle.hnsr_circuit.specs.Peer.{samePeer}
 use Rattle.hnsr_circuit.specs.Pending.{noPending, pendingAt, overdue, clearPending}
 use Rattle.hnsr_circuit.specs.Circuits.{isCircuit, circuitAt}
-use Rattle.hnsr_circuit.specs.Inflight.{Opened, actionUnder, dropped, tallied, capacityAnswer}
+use Rattle.hnsr_circuit.specs.declared.records.InflightKind.the-variants.{Opened}
+use Rattle.hnsr_circuit.specs.Inflight.{actionUnder, dropped, tallied, capacityAnswer}
 use Rattle.hnsr_circuit.specs.Header.{countAccept}
 use Rattle.hnsr_circuit.specs.World.{World, Outcome, configOf, proceed, withPending, withCircuits, withInflight, counting}
 use Rattle.hnsr_circuit.specs.Queue.{Message, message, send, opOpened}

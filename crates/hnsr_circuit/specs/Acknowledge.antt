@@ -14,7 +14,9 @@ use Rattle.hnsr_circuit.specs.Table.{any, pick, edit}
 use Rattle.hnsr_circuit.specs.Answers.{check, _then_}
 use Rattle.hnsr_circuit.specs.Pending.{pendingAt}
 use Rattle.hnsr_circuit.specs.Circuits.{circuitAt, lowered}
-use Rattle.hnsr_circuit.specs.Inflight.{noAction, actionAt, clearAction, InflightKind, Incoming, Opened, Data, Control, Close, kindOf, towardSide}
+use Rattle.hnsr_circuit.specs.declared.records.InflightKind.{InflightKind}
+use Rattle.hnsr_circuit.specs.declared.records.InflightKind.the-variants.{Incoming, Opened, Data, Control, Close}
+use Rattle.hnsr_circuit.specs.Inflight.{noAction, actionAt, clearAction, kindOf, towardSide}
 use Rattle.hnsr_circuit.specs.Header.{countRevoked}
 use Rattle.hnsr_circuit.specs.World.{World, Outcome, done, proceed, withCircuits, withInflight, counting}
 use Rattle.hnsr_circuit.specs.Queue.{finished, send, generationOf}

@@ -87,3 +87,7 @@ infixr 20 _then_
 abbrev pub _then_ : HnsrAnswer → HnsrAnswer → HnsrAnswer
 Taken then b = b
 Refused e then b = Refused e
+
+abbrev pub taken : HnsrAnswer → Bool
+taken Taken = true
+taken (Refused e) = false

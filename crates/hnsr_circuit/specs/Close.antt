@@ -14,7 +14,7 @@ use Rattle.hnsr_circuit.specs.Table.{any, pick}
 use Rattle.hnsr_circuit.specs.Answers.{check, bodyAnswer, _then_}
 use Rattle.hnsr_circuit.specs.Peer.{samePeer}
 use Rattle.hnsr_circuit.specs.Pending.{noPending, namedBy}
-use Rattle.hnsr_circuit.specs.Inflight.{Close}
+use Rattle.hnsr_circuit.specs.declared.records.InflightKind.the-variants.{Close}
 use Rattle.hnsr_circuit.specs.World.{World, Outcome, proceed}
 use Rattle.hnsr_circuit.specs.Queue.{Message, message, send}
 use Rattle.hnsr_circuit.specs.Packet.{Packet, sender, hasCircuit, namedCircuit, circuitAnswer, forwarded}

@@ -17,7 +17,8 @@ use Rattle.hnsr_circuit.specs.Table.{edit}
 use Rattle.hnsr_circuit.specs.Answers.{check, bodyAnswer, _then_}
 use Rattle.hnsr_circuit.specs.Circuits.{circuitAt, sideOf, otherSide, creditOf, queuedTo, charged}
 use Rattle.hnsr_circuit.specs.Ledger.{usageAt, hasUsage, usageOf, spent}
-use Rattle.hnsr_circuit.specs.Inflight.{Data, toEndpoint, tallied, capacityAnswer}
+use Rattle.hnsr_circuit.specs.declared.records.InflightKind.the-variants.{Data}
+use Rattle.hnsr_circuit.specs.Inflight.{toEndpoint, tallied, capacityAnswer}
 use Rattle.hnsr_circuit.specs.Header.{countBytes}
 use Rattle.hnsr_circuit.specs.World.{World, Outcome, configOf, proceed, withCircuits, withLedger, counting}
 use Rattle.hnsr_circuit.specs.Queue.{Message, send}

@@ -10,7 +10,8 @@ use Rattle.hnsr_circuit.specs.declared.answer.HnsrRuntimeError.the-varia
 use Rattle.hnsr_circuit.specs.Pending.{noPending}
 use Rattle.hnsr_circuit.specs.Circuits.{noCircuit}
 use Rattle.hnsr_circuit.specs.Ledger.{noUsage}
-use Rattle.hnsr_circuit.specs.World.{World, dueIs, due}
+use Rattle.hnsr_circuit.specs.declared.records.NextDue.the-variants.{At}
+use Rattle.hnsr_circuit.specs.World.{World, dueIs}
 use Rattle.hnsr_circuit.specs.Queue.{opClose, opError}
 use Rattle.hnsr_circuit.specs.Call.{callStatus, callNextDue, callObserveTime, callAcknowledge, callDisconnect, callExpire, start}
 use Rattle.hnsr_circuit.specs.All.{machine}
@@ -84,7 +85,7 @@ unfolding answerOf one-of-each
 revoking-has-192 = refl
 
 -- "the earliest deadline of a pending record or expiry of a circuit"
-pub due-of-both : toldOf one-of-each callNextDue ≡ dueIs (due 110)
+pub due-of-both : toldOf one-of-each callNextDue ≡ dueIs (At 110)
 unfolding toldOf one-of-each
 due-of-both = refl
 

@@ -7,6 +7,8 @@ use Rattle.hnsr_circuit.specs.declared.peer.HnsrPeerId.{HnsrPeerId}
 use Rattle.hnsr_circuit.specs.declared.config.OpaqueRelayConfig.{OpaqueRelayConfig}
 use Rattle.hnsr_circuit.specs.declared.records.InflightAction.{InflightAction}
 use Rattle.hnsr_circuit.specs.declared.records.InflightTally.{InflightTally}
+use Rattle.hnsr_circuit.specs.declared.records.InflightKind.{InflightKind}
+use Rattle.hnsr_circuit.specs.declared.records.InflightKind.the-variants.{Incoming, Opened, Data, Control, Close}
 use Rattle.hnsr_circuit.specs.declared.records.RelaySide.{RelaySide}
 use Rattle.hnsr_circuit.specs.declared.records.RelaySide.the-variants.{Requester, Endpoint}
 use Rattle.hnsr_circuit.specs.declared.answer.HnsrAnswer.{HnsrAnswer}
@@ -21,13 +23,6 @@ abbrev pub noAction : InflightAction
 noAction = record { used = false; generation = 0; sequence = 0; «circuit_id» = 0; destination = noPeer; kind = 0; «to_endpoint» = false; bytes = 0 }
 
 -- ---- kinds: an action's kind is its message's name, but Control for WINDOW and Close for CLOSE and ERROR. A stored kind is a number
-pub data InflightKind : Type 0 where
-  Incoming : InflightKind
-  Opened : InflightKind
-  Data : InflightKind
-  Control : InflightKind
-  Close : InflightKind
-
 abbrev pub kindNumber : InflightKind → ℕ
 kindNumber Incoming = 0
 kindNumber Opened = 1

@@ -16,6 +16,11 @@ pub mod Peer
 pub mod Inflight
 pub mod Keys
 pub mod Route
+pub mod Names
+pub mod Scans
+pub mod Turns
+pub mod Progress
+pub mod Queueing
 -- ---- what holds of every call
 pub mod Refusals
 pub mod Places

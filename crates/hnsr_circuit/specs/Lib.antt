@@ -8,6 +8,8 @@ pub mod Pending
 pub mod Circuits
 pub mod Ledger
 pub mod Inflight
+pub mod Question
+pub mod Lookup
 pub mod Header
 -- ---- the world, routes, queueing, the entry
 pub mod Route
@@ -17,6 +19,8 @@ pub mod Queue
 pub mod Entry
 -- ---- the calls
 pub mod Packet
+pub mod Progress
+pub mod Queueing
 pub mod Draw
 pub mod Open
 pub mod Accept

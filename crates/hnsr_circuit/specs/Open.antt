@@ -23,7 +23,8 @@ use Rattle.hnsr_circuit.specs.Answers.{check, bodyAnswer, _then_}
 use Rattle.hnsr_circuit.specs.Peer.{peerOf, samePeer}
 use Rattle.hnsr_circuit.specs.Pending.{isPending, pendingAt, requestedBy}
 use Rattle.hnsr_circuit.specs.Ledger.{isUsage, lapsed, hasUsage, usageOf, booked, ledgerAnswer, usageAnswer}
-use Rattle.hnsr_circuit.specs.Inflight.{Incoming, tallied, capacityAnswer}
+use Rattle.hnsr_circuit.specs.declared.records.InflightKind.the-variants.{Incoming}
+use Rattle.hnsr_circuit.specs.Inflight.{tallied, capacityAnswer}
 use Rattle.hnsr_circuit.specs.Header.{countOpen}
 use Rattle.hnsr_circuit.specs.World.{World, Outcome, configOf, proceed, withPending, withLedger, counting}
 use Rattle.hnsr_circuit.specs.Queue.{Message, message, send, opIncoming}

@@ -11,7 +11,7 @@ use Rattle.hnsr_circuit.specs.Table.{any, pick}
 use Rattle.hnsr_circuit.specs.Answers.{check, _then_}
 use Rattle.hnsr_circuit.specs.Peer.{peerOf}
 use Rattle.hnsr_circuit.specs.Circuits.{noCircuit, circuitAt, isSide, sideOf, otherSide, peerAt}
-use Rattle.hnsr_circuit.specs.Inflight.{InflightKind}
+use Rattle.hnsr_circuit.specs.declared.records.InflightKind.{InflightKind}
 use Rattle.hnsr_circuit.specs.Queue.{Message, message}
 use Rattle.hnsr_circuit.specs.World.{World}
 

@@ -13,7 +13,8 @@ use Rattle.hnsr_circuit.specs.declared.records.Walked.{Walked}
 use Rattle.hnsr_circuit.specs.Table.{any, pick, edit, notYet, next}
 use Rattle.hnsr_circuit.specs.Pending.{noPending, pendingId, pendingAt, clearPending}
 use Rattle.hnsr_circuit.specs.Circuits.{circuitId, circuitAt, clearCircuit}
-use Rattle.hnsr_circuit.specs.Inflight.{Close, actionUnder, dropped}
+use Rattle.hnsr_circuit.specs.declared.records.InflightKind.the-variants.{Close}
+use Rattle.hnsr_circuit.specs.Inflight.{actionUnder, dropped}
 use Rattle.hnsr_circuit.specs.Header.{countRevoked}
 use Rattle.hnsr_circuit.specs.World.{World, Outcome, withPending, withCircuits, withInflight, counting}
 use Rattle.hnsr_circuit.specs.Queue.{Message, message, Sent, silently, andThen, when, finished, tell, opClose, opError}

@@ -11,7 +11,8 @@ use Rattle.hnsr_circuit.specs.declared.answer.HnsrRuntimeError.the-varia
 use Rattle.hnsr_circuit.specs.Table.{edit}
 use Rattle.hnsr_circuit.specs.Answers.{check, bodyAnswer, _then_}
 use Rattle.hnsr_circuit.specs.Circuits.{circuitAt, sideOf, otherSide, creditOf, raised}
-use Rattle.hnsr_circuit.specs.Inflight.{Control, tallied, capacityAnswer}
+use Rattle.hnsr_circuit.specs.declared.records.InflightKind.the-variants.{Control}
+use Rattle.hnsr_circuit.specs.Inflight.{tallied, capacityAnswer}
 use Rattle.hnsr_circuit.specs.World.{World, Outcome, configOf, proceed, withCircuits}
 use Rattle.hnsr_circuit.specs.Queue.{send}
 use Rattle.hnsr_circuit.specs.Packet.{Packet, sender, hasCircuit, namedCircuit, circuitAnswer, receiver, forwarded}

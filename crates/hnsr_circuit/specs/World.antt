@@ -6,6 +6,7 @@ use Rattle.hnsr_circuit.specs.declared.records.RelayPending.{RelayPendin
 use Rattle.hnsr_circuit.specs.declared.records.RelayCircuit.{RelayCircuit}
 use Rattle.hnsr_circuit.specs.declared.records.ReservationUsage.{ReservationUsage}
 use Rattle.hnsr_circuit.specs.declared.records.InflightAction.{InflightAction}
+use Rattle.hnsr_circuit.specs.declared.records.NextDue.{NextDue}
 use Rattle.hnsr_circuit.specs.declared.runtime.OpaqueRelayRuntime.{OpaqueRelayRuntime}
 use Rattle.hnsr_circuit.specs.declared.runtime.RuntimeCounters.{RuntimeCounters}
 use Rattle.hnsr_circuit.specs.declared.runtime.HnsrRuntimeStatus.{HnsrRuntimeStatus}
@@ -26,16 +27,11 @@ abbrev pub configOf : World → OpaqueRelayConfig
 configOf w = w .header .config
 
 -- ---- what a call gives back
--- next due: a time, or none
-pub data Due : Type 0 where
-  never : Due
-  due : ℕ → Due
-
 -- what a call tells beside its answer and its routes
 pub data Told : Type 0 where
   silent : Told
   statusIs : HnsrRuntimeStatus → Told
-  dueIs : Due → Told
+  dueIs : NextDue → Told
 
 pub record Outcome : Type 0 where
   pub world : World

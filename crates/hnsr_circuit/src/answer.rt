@@ -1,6 +1,7 @@
 // What a call answers (document 01, "Where a call is turned away"). Numbers 1 to 21 follow this order; specs/Answers.antt has them.
 ghost use mathlib.Core.Path.{_≡_};
-ghost use Rattle.hnsr_circuit.specs.Answers.{check};
+ghost use Rattle.hnsr_circuit.specs.Answers.{check, bodyAnswer, taken, _then_};
+use hnsr_body::error::Checked;
 use hnsr_body::error::HnsrProtocolError;
 
 pub enum HnsrRuntimeError {
@@ -44,4 +45,33 @@ pub(crate) fn check(refuse: bool, error: HnsrRuntimeError) -> HnsrAnswer
         return HnsrAnswer::Refused(error);
     }
     HnsrAnswer::Taken
+}
+
+// A body's check as a row.
+pub(crate) fn body_answer(checked: Checked) -> HnsrAnswer
+    ensures { λ r. ⌜ r ≡ bodyAnswer checked ⌝ }
+{
+    match checked {
+        Checked::Ok => HnsrAnswer::Taken,
+        Checked::Err(cause) => HnsrAnswer::Refused(HnsrRuntimeError::Protocol(cause)),
+    }
+}
+
+pub(crate) fn is_taken(answer: HnsrAnswer) -> bool
+    ensures { λ r. ⌜ r ≡ taken answer ⌝ }
+{
+    match answer {
+        HnsrAnswer::Taken => true,
+        HnsrAnswer::Refused(_) => false,
+    }
+}
+
+// Rows in order: the first refusal is the answer.
+pub(crate) fn first_refusal(first: HnsrAnswer, second: HnsrAnswer) -> HnsrAnswer
+    ensures { λ r. ⌜ r ≡ (first then second) ⌝ }
+{
+    match first {
+        HnsrAnswer::Taken => second,
+        HnsrAnswer::Refused(error) => HnsrAnswer::Refused(error),
+    }
 }

@@ -1,6 +1,10 @@
-// The counters of the header: each stops at its top.
+// The header with one part replaced, where a call goes on; and its counters, each of which stops at its top.
 ghost use mathlib.Core.Path.{_≡_};
-ghost use Rattle.hnsr_circuit.specs.Header.{countOpen, countAccept, countBytes, countRevoked};
+ghost use Rattle.hnsr_circuit.specs.Header.{countOpen, countAccept, countBytes, countRevoked, withClock, withSequence, withCounters, withEnabled, newHeader, noCounts};
+ghost use mathlib.Core.Bool.{cond, true};
+ghost use Prim.Native.Nat.{_+_, _<_};
+use crate::config::OpaqueRelayConfig;
+use crate::runtime::OpaqueRelayRuntime;
 use crate::runtime::RuntimeCounters;
 use hns_encoding::numbers::saturating_add_u64;
 
@@ -50,4 +54,146 @@ pub(crate) fn count_revoked(counters: RuntimeCounters) -> RuntimeCounters
         bytes_received: counters.bytes_received,
         revoked_work: saturating_add_u64(counters.revoked_work, 1),
     }
+}
+
+// ---- the header
+
+pub(crate) fn with_clock(runtime: OpaqueRelayRuntime, now: u64) -> OpaqueRelayRuntime
+    ensures { λ r. ⌜ r ≡ withClock runtime now ⌝ }
+{
+    let session = runtime.session;
+    let config = runtime.config;
+    let counters = runtime.counters;
+    OpaqueRelayRuntime {
+        session,
+        generation: runtime.generation,
+        enabled: runtime.enabled,
+        trusted_time_high_water: now,
+        config,
+        next_action_sequence: runtime.next_action_sequence,
+        counters,
+    }
+}
+
+pub(crate) fn with_sequence(runtime: OpaqueRelayRuntime, next: u64) -> OpaqueRelayRuntime
+    ensures { λ r. ⌜ r ≡ withSequence runtime next ⌝ }
+{
+    let session = runtime.session;
+    let config = runtime.config;
+    let counters = runtime.counters;
+    OpaqueRelayRuntime {
+        session,
+        generation: runtime.generation,
+        enabled: runtime.enabled,
+        trusted_time_high_water: runtime.trusted_time_high_water,
+        config,
+        next_action_sequence: next,
+        counters,
+    }
+}
+
+pub(crate) fn with_counters(runtime: OpaqueRelayRuntime, counters: RuntimeCounters) -> OpaqueRelayRuntime
+    ensures { λ r. ⌜ r ≡ withCounters runtime counters ⌝ }
+{
+    let session = runtime.session;
+    let config = runtime.config;
+    OpaqueRelayRuntime {
+        session,
+        generation: runtime.generation,
+        enabled: runtime.enabled,
+        trusted_time_high_water: runtime.trusted_time_high_water,
+        config,
+        next_action_sequence: runtime.next_action_sequence,
+        counters,
+    }
+}
+
+// A changed enabled state raises the generation and sets the sequence to 1.
+pub(crate) fn with_enabled(runtime: OpaqueRelayRuntime, on: bool) -> OpaqueRelayRuntime
+    requires { ⌜ runtime .generation < 18446744073709551615 ⌝ }
+    ensures { λ r. ⌜ r ≡ withEnabled runtime on ⌝ }
+{
+    let session = runtime.session;
+    let config = runtime.config;
+    let counters = runtime.counters;
+    OpaqueRelayRuntime {
+        session,
+        generation: runtime.generation + 1,
+        enabled: on,
+        trusted_time_high_water: runtime.trusted_time_high_water,
+        config,
+        next_action_sequence: 1,
+        counters,
+    }
+}
+
+pub(crate) fn new_header(session: [u8; 16], generation: u64, config: OpaqueRelayConfig, now: u64) -> OpaqueRelayRuntime
+    ensures { λ r. ⌜ r ≡ newHeader session generation config now ⌝ }
+{
+    let counters = RuntimeCounters {
+        admitted_opens: 0,
+        opened_circuits: 0,
+        bytes_sent: 0,
+        bytes_received: 0,
+        revoked_work: 0,
+    };
+    OpaqueRelayRuntime {
+        session,
+        generation,
+        enabled: true,
+        trusted_time_high_water: now,
+        config,
+        next_action_sequence: 1,
+        counters,
+    }
+}
+
+// ---- counted, where a call goes on
+
+pub(crate) fn opened(go: bool, runtime: OpaqueRelayRuntime) -> OpaqueRelayRuntime
+    ensures { λ r. ⌜ r ≡ cond go (withCounters runtime (countOpen (runtime .counters))) runtime ⌝ }
+{
+    let before = runtime.counters;
+    let counters = count_open(before);
+    let counted = with_counters(runtime, counters);
+    if go {
+        return counted;
+    }
+    runtime
+}
+
+pub(crate) fn accepted(go: bool, runtime: OpaqueRelayRuntime) -> OpaqueRelayRuntime
+    ensures { λ r. ⌜ r ≡ cond go (withCounters runtime (countAccept (runtime .counters))) runtime ⌝ }
+{
+    let before = runtime.counters;
+    let counters = count_accept(before);
+    let counted = with_counters(runtime, counters);
+    if go {
+        return counted;
+    }
+    runtime
+}
+
+pub(crate) fn transferred(go: bool, runtime: OpaqueRelayRuntime, n: u64) -> OpaqueRelayRuntime
+    ensures { λ r. ⌜ r ≡ cond go (withCounters runtime (countBytes n (runtime .counters))) runtime ⌝ }
+{
+    let before = runtime.counters;
+    let counters = count_bytes(n, before);
+    let counted = with_counters(runtime, counters);
+    if go {
+        return counted;
+    }
+    runtime
+}
+
+pub(crate) fn revoked(go: bool, runtime: OpaqueRelayRuntime) -> OpaqueRelayRuntime
+    ensures { λ r. ⌜ r ≡ cond go (withCounters runtime (countRevoked (runtime .counters))) runtime ⌝ }
+{
+    let before = runtime.counters;
+    let counters = count_revoked(before);
+    let counted = with_counters(runtime, counters);
+    if go {
+        return counted;
+    }
+    runtime
 }

@@ -1,4 +1,9 @@
 // A peer's name: 1 to 128 bytes, zero padded when the relay stores it.
+ghost use mathlib.Core.Path.{_≡_};
+ghost use mathlib.Core.Bool.{_||_};
+ghost use Rattle.hnsr_circuit.specs.Peer.{noPeer, peerLength, peerOf, samePeer};
+use hns_encoding::numbers::min_usize;
+
 // The one limit: the words of a peer, of a route and the outputs that the calls need follow from it.
 pub const MAXIMUM_PEER: usize = 128;
 
@@ -6,4 +11,65 @@ pub const MAXIMUM_PEER: usize = 128;
 pub struct HnsrPeerId {
     pub len: usize,
     pub bytes: [u8; MAXIMUM_PEER],
+}
+
+pub(crate) fn no_peer() -> HnsrPeerId
+    ensures { λ r. ⌜ r ≡ noPeer ⌝ }
+{
+    HnsrPeerId {
+        len: 0,
+        bytes: [0u8; MAXIMUM_PEER],
+    }
+}
+
+// A length over 128 reads as 128.
+pub(crate) fn peer_length(peer: HnsrPeerId) -> usize
+    ensures { λ r. ⌜ r ≡ peerLength peer ⌝ }
+{
+    min_usize(peer.len, MAXIMUM_PEER)
+}
+
+// The stored form of a name that the host gives.
+pub(crate) fn peer_of(name: &[u8]) -> HnsrPeerId
+    ensures { λ r. ⌜ r ≡ peerOf (now (name .entry)) ⌝ }
+{
+    let mut bytes = [0u8; MAXIMUM_PEER];
+    let most = min_usize(name.len(), MAXIMUM_PEER);
+    let mut i: usize = 0;
+    while i < most {
+        bytes[i] = name[i];
+        i += 1;
+    }
+    HnsrPeerId {
+        len: name.len(),
+        bytes,
+    }
+}
+
+// Whether two names are equal; what stands behind a name is never read.
+pub(crate) fn same_peer(a: HnsrPeerId, b: HnsrPeerId) -> bool
+    ensures { λ r. ⌜ r ≡ samePeer a b ⌝ }
+{
+    let n = peer_length(a);
+    if n != peer_length(b) {
+        return false;
+    }
+    let mut i: usize = 0;
+    while i < n {
+        if a.bytes[i] != b.bytes[i] {
+            return false;
+        }
+        i += 1;
+    }
+    true
+}
+
+// Whether one of two names is the peer's.
+pub(crate) fn either_is(a: HnsrPeerId, b: HnsrPeerId, peer: HnsrPeerId) -> bool
+    ensures { λ r. ⌜ r ≡ (samePeer a peer || samePeer b peer) ⌝ }
+{
+    if same_peer(a, peer) {
+        return true;
+    }
+    same_peer(b, peer)
 }

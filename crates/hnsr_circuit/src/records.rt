@@ -68,6 +68,15 @@ pub struct InflightAction {
     pub bytes: usize,
 }
 
+// What an action is for. Stored it is a number (`kind`).
+pub enum InflightKind {
+    Incoming,
+    Opened,
+    Data,
+    Control,
+    Close,
+}
+
 // How many actions stand in the way of a further one: all, those under its circuit, those toward its peer.
 #[repr(C)]
 pub struct InflightTally {
@@ -92,4 +101,116 @@ pub struct Drawing {
     pub ended: bool,
     pub found: bool,
     pub id: u64,
+}
+
+// What is asked of the records of a table, one by one. A number is an id, a context, a generation or a time, by what is asked; `second` is a
+// sequence. specs/Question.antt says what each question means in each table.
+pub enum Ask {
+    Unused,
+    Used,
+    At,
+    Named,
+    Of,
+    Under,
+    Over,
+}
+
+pub struct Question {
+    pub ask: Ask,
+    pub number: u64,
+    pub second: u64,
+    pub peer: HnsrPeerId,
+    pub reservation: ReservationId,
+}
+
+// What OPEN and ACCEPT ask of all records of a table: how many are used, are the work of two peers and of a reservation.
+pub struct WorkQuestion {
+    pub peer: HnsrPeerId,
+    pub other: HnsrPeerId,
+    pub reservation: ReservationId,
+    pub context: u64,
+}
+
+pub struct Work {
+    pub used: usize,
+    pub of_peer: usize,
+    pub of_other: usize,
+    pub under: usize,
+    pub repeated: bool,
+}
+
+// What a message asks of all actions: the tally, whether its number stands there already and where, and the lowest unused place.
+pub struct ActionQuestion {
+    pub replacing: bool,
+    pub circuit_id: u64,
+    pub peer: HnsrPeerId,
+    pub generation: u64,
+    pub sequence: u64,
+}
+
+pub struct ActionScan {
+    pub tally: InflightTally,
+    pub found: bool,
+    pub place: usize,
+    pub spare: bool,
+    pub spare_place: usize,
+}
+
+// What `status` asks of all circuits: how many are used, and the bytes of their queues.
+pub struct CircuitTotals {
+    pub used: usize,
+    pub queued_bytes: usize,
+}
+
+// The earliest time, if there is one.
+pub enum NextDue {
+    Never,
+    At(u64),
+}
+
+// A message but for its body: where it goes, the circuit that it is about, opcode and context, and what its action holds.
+pub struct Outgoing {
+    pub destination: HnsrPeerId,
+    pub circuit_id: u64,
+    pub opcode: u8,
+    pub context_id: u64,
+    pub kind: InflightKind,
+    pub to_endpoint: bool,
+    pub bytes: usize,
+}
+
+// What a lookup finds: whether there is such a record, its place and itself.
+pub struct PendingFound {
+    pub found: bool,
+    pub place: usize,
+    pub pending: RelayPending,
+}
+
+pub struct CircuitFound {
+    pub found: bool,
+    pub place: usize,
+    pub circuit: RelayCircuit,
+}
+
+pub struct UsageFound {
+    pub found: bool,
+    pub place: usize,
+    pub usage: ReservationUsage,
+}
+
+pub struct ActionFound {
+    pub found: bool,
+    pub place: usize,
+    pub action: InflightAction,
+}
+
+// A packet but for its body, the clock, and what the host says of an OPEN: whether the key is valid, whether it is admitted, and its grant.
+#[repr(C)]
+pub struct RelayPacket {
+    pub opcode: u8,
+    pub context_id: u64,
+    pub now: u64,
+    pub key_valid: bool,
+    pub admitted: bool,
+    pub ticket: RelayTicket,
 }

@@ -1,4 +1,5 @@
 // What a host keeps beside the tables, by value, and what `status` tells.
+use crate::answer::HnsrAnswer;
 use crate::config::OpaqueRelayConfig;
 
 #[repr(C)]
@@ -35,4 +36,17 @@ pub struct HnsrRuntimeStatus {
     pub bytes_sent: u64,
     pub bytes_received: u64,
     pub revoked_work: u64,
+}
+
+// What a call hands back: the runtime for the host to keep, the answer, and how many output words it wrote.
+pub struct Relayed {
+    pub runtime: OpaqueRelayRuntime,
+    pub answer: HnsrAnswer,
+    pub words: usize,
+}
+
+// A call under way: the runtime, and the output word that is next.
+pub struct Sending {
+    pub runtime: OpaqueRelayRuntime,
+    pub position: usize,
 }

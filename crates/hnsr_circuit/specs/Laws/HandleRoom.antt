@@ -16,7 +16,7 @@ use Rattle.hnsr_circuit.specs.Answers.{bodyAnswer}
 use Rattle.hnsr_circuit.specs.Laws.Answers.{then-taken}
 use Rattle.hnsr_circuit.specs.Peer.{samePeer}
 use Rattle.hnsr_circuit.specs.Pending.{noPending, namedBy}
-use Rattle.hnsr_circuit.specs.Inflight.{Close}
+use Rattle.hnsr_circuit.specs.declared.records.InflightKind.the-variants.{Close}
 use Rattle.hns_encoding.specs.Words.{wordCount}
 use Rattle.hnsr_circuit.specs.Route.{headWords, outWords}
 use Rattle.hnsr_circuit.specs.World.{World, Outcome, done, proceed}

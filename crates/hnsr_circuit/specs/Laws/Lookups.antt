@@ -3,10 +3,12 @@
 use Prim.Native.Nat.{ℕ, zero, suc, _≤_, _<_}
 use native.Mathlib.Nat.{not-suc-le-zero, le-of-suc-le-suc}
 use native.Mathlib.Omega.{arith}
-use mathlib.Core.Path.{_≡_, refl, ap}
+use mathlib.Core.Path.{_≡_, refl, sym, ap, _∙_}
 use mathlib.Core.Bool.{Bool, true, false, true≢false, false≢true}
 use mathlib.Core.List.{List, [], _∷_, map}
+use lib.Dec.{ltb}
 use lib.ListN.{length, getD, set}
+use borrow.Author.Tests.{lt-ltb, le-ltb}
 use Rattle.hns_encoding.specs.Laws.Tests.{split, clash}
 use Rattle.hns_encoding.specs.Sums.{only, one, total, count}
 use Rattle.hnsr_circuit.specs.Table.{also, placeOf, any, pick}
@@ -21,6 +23,11 @@ module _ {A : Type 0} where
   pub place-none : (p : A → Bool) (t : List A) → any p t ≡ false → placeOf p t ≡ length t
   place-none p [] h = refl
   place-none p (x ∷ xs) h = split (p x) (λ e. absurd (true≢false (rw e at h))) (λ e. rw e (ap suc (place-none p xs (rw e at h))))
+
+  pub place-any : (p : A → Bool) (t : List A) → ltb (placeOf p t) (length t) ≡ any p t
+  place-any p t = split (any p t)
+      (λ e. lt-ltb (placeOf p t) (length t) (place-found p t e) ∙ sym e)
+      (λ e. le-ltb (placeOf p t) (length t) (let k = place-none p t e in omega arith) ∙ sym e)
 
   pub pick-at : (p : A → Bool) (d : A) (t : List A) → getD t (placeOf p t) d ≡ pick p d t
   pick-at p d [] = refl

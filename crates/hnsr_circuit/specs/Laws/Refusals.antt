@@ -10,7 +10,8 @@ use Rattle.hnsr_circuit.specs.declared.answer.HnsrAnswer.{HnsrAnswer}
 use Rattle.hnsr_circuit.specs.declared.answer.HnsrAnswer.the-variants.{Taken, Refused}
 use Rattle.hnsr_circuit.specs.Table.{any, pick}
 use Rattle.hnsr_circuit.specs.Pending.{noPending, namedBy}
-use Rattle.hnsr_circuit.specs.Inflight.{InflightKind, Incoming, Opened, Data, Control, Close}
+use Rattle.hnsr_circuit.specs.declared.records.InflightKind.{InflightKind}
+use Rattle.hnsr_circuit.specs.declared.records.InflightKind.the-variants.{Incoming, Opened, Data, Control, Close}
 use Rattle.hnsr_circuit.specs.Route.{Route, outWords, output}
 use Rattle.hnsr_circuit.specs.World.{World, Told, Outcome, refuse, done, telling, proceed}
 use Rattle.hnsr_circuit.specs.Queue.{Message, send}

@@ -14,7 +14,9 @@ use Rattle.hnsr_circuit.specs.Laws.Edits.{length-edit}
 use Rattle.hnsr_circuit.specs.Pending.{noPending, pendingAt, namedBy, clearPending}
 use Rattle.hnsr_circuit.specs.Circuits.{circuitAt, lowered}
 use Rattle.hnsr_circuit.specs.Ledger.{usageAt, clearUsage, lapsed, booked}
-use Rattle.hnsr_circuit.specs.Inflight.{InflightKind, Incoming, Opened, Data, Control, Close, towardSide, actionAt, clearAction}
+use Rattle.hnsr_circuit.specs.declared.records.InflightKind.{InflightKind}
+use Rattle.hnsr_circuit.specs.declared.records.InflightKind.the-variants.{Incoming, Opened, Data, Control, Close}
+use Rattle.hnsr_circuit.specs.Inflight.{towardSide, actionAt, clearAction}
 use Rattle.hnsr_circuit.specs.World.{World, Outcome, done, proceed, withLedger, atTime}
 use Rattle.hnsr_circuit.specs.Queue.{Message, send}
 use Rattle.hnsr_circuit.specs.Packet.{Packet, sender, namedCircuit}

@@ -20,7 +20,9 @@ use Rattle.hnsr_circuit.specs.Laws.Answers.{check-taken, then-taken}
 use Rattle.hnsr_circuit.specs.Peer.{peerOf, samePeer}
 use Rattle.hnsr_circuit.specs.Pending.{isPending, pendingAt, pendingOf, pendingUnder, overdue, pendingOver}
 use Rattle.hnsr_circuit.specs.Circuits.{isCircuit, isSide, circuitOf, circuitUnder, circuitOver}
-use Rattle.hnsr_circuit.specs.Inflight.{noAction, actionAt, InflightKind, Incoming, Opened, Data, Control, Close}
+use Rattle.hnsr_circuit.specs.declared.records.InflightKind.{InflightKind}
+use Rattle.hnsr_circuit.specs.declared.records.InflightKind.the-variants.{Incoming, Opened, Data, Control, Close}
+use Rattle.hnsr_circuit.specs.Inflight.{noAction, actionAt}
 use Rattle.hnsr_circuit.specs.Route.{outWords}
 use Rattle.hnsr_circuit.specs.Laws.Route.{notice-fits}
 use Rattle.hnsr_circuit.specs.Header.{countRevoked}

@@ -1,0 +1,3 @@
+pub mod send
+pub mod tell
+pub mod tell_notice

@@ -1,0 +1,4 @@
+pub mod circuits
+pub mod inflight
+pub mod ledger
+pub mod pending

@@ -1,0 +1,11 @@
+pub mod charge
+pub mod charge_circuit
+pub mod circuit_at
+pub mod circuit_due
+pub mod circuit_totals
+pub mod circuit_work
+pub mod clear_circuit
+pub mod count_circuit
+pub mod find_circuit
+pub mod next_circuit
+pub mod set_circuit

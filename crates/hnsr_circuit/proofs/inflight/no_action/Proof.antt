@@ -1,0 +1,16 @@
+-- A record of zeros.
+use borrow.Author.Needs.{needs}
+use Rattle.hnsr_circuit.proofs.inflight.no_action.Statement.{statement}
+use Rattle.hnsr_circuit.proofs.inflight.no_action.Tie as tie
+use Rattle.hnsr_circuit.proofs.inflight.no_action.Reads as reads
+use Rattle.hnsr_circuit.proofs.inflight.no_action.Lts as lts
+use Rattle.hnsr_circuit.proofs.peer.no_peer.Reads as no-peer-reads
+
+no-peer-requires : tie.Need-no-peer-requires
+no-peer-requires c κs = search needs
+
+returns : tie.Need-returns
+returns c = rw (c .no-peer .ensures)
+
+pub no-action-spec : {M : Type 1} → statement M
+no-action-spec = tie.close (tie.spec no-peer-requires returns)

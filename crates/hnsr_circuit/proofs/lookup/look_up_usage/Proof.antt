@@ -1,0 +1,36 @@
+-- The place that was found, whether it is one, and the record there.
+mod Tie
+use mathlib.Core.Path.{_≡_, sym, ap, _∙_}
+use Prim.Native.Nat.{ℕ}
+use lib.Dec.{ltb}
+use lib.ListN.{length, getD}
+use Rattle.hnsr_circuit.specs.Ledger.{noUsage}
+use Rattle.hnsr_circuit.specs.Question.{usageHas}
+use Rattle.hnsr_circuit.specs.Laws.Lookups.{place-any, pick-at}
+use borrow.Author.Needs.{needs}
+use native.Mathlib.Omega.{arith}
+use Rattle.hnsr_circuit.proofs.lookup.look_up_usage.Statement.{statement}
+use Rattle.hnsr_circuit.proofs.lookup.look_up_usage.Proof.Tie as tie
+
+find-usage-requires : tie.Need-find-usage-requires
+find-usage-requires c = search needs
+
+usage-at-requires : tie.Need-usage-at-requires
+usage-at-requires c = search needs
+
+usage-found-requires : tie.Need-usage-found-requires
+usage-found-requires c = search needs
+
+returns : tie.Need-returns
+returns c = let a = c .before .before .before .args in
+    let t = a .ledger .now in
+    let p = usageHas (a .question) in
+    let place = c .before .before .find-usage .ensures in
+    let e = c .usage-found .ensures in
+    let found = e .0 ∙ ap (λ (n : ℕ). ltb n (length t)) place ∙ place-any p t in
+    let row = e .2 ∙ c .before .usage-at .ensures ∙ ap (λ (n : ℕ). getD t n noUsage) place ∙ pick-at p noUsage t in
+    let at = e .1 ∙ place in
+    λ i. record { found = found i; place = at i; usage = row i }
+
+pub look-up-usage-spec : {M : Type 1} → statement M
+look-up-usage-spec = tie.close (tie.spec find-usage-requires usage-at-requires usage-found-requires returns)

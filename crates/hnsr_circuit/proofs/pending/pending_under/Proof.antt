@@ -1,0 +1,22 @@
+-- The used mark, then the test.
+use Rattle.hnsr_circuit.specs.Pending.{pendingUnder}
+use borrow.Author.Needs.{needs}
+use Rattle.hnsr_circuit.proofs.pending.pending_under.Statement.{statement}
+use Rattle.hnsr_circuit.proofs.pending.pending_under.Tie as tie
+use Rattle.hnsr_circuit.proofs.pending.pending_under.Reads as reads
+use Rattle.hnsr_circuit.proofs.pending.pending_under.Lts as lts
+use Rattle.hnsr_circuit.proofs.ledger.same_reservation.Reads as same-reservation-reads
+
+same-reservation-requires : tie.Need-same-reservation-requires
+same-reservation-requires c κs = search needs
+
+returns : tie.Need-returns
+unfolding pendingUnder
+returns c = rw (c .before .before .if1 .taken) (c .same-reservation .ensures)
+
+returns-2 : tie.Need-returns-2
+unfolding pendingUnder
+returns-2 c = rw (c .if1 .left)
+
+pub pending-under-spec : {M : Type 1} → statement M
+pending-under-spec = tie.close (tie.spec same-reservation-requires returns returns-2)

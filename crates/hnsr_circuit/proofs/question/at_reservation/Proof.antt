@@ -1,0 +1,16 @@
+-- The question, with nobody for its peer.
+use borrow.Author.Needs.{needs}
+use Rattle.hnsr_circuit.proofs.question.at_reservation.Statement.{statement}
+use Rattle.hnsr_circuit.proofs.question.at_reservation.Tie as tie
+use Rattle.hnsr_circuit.proofs.question.at_reservation.Reads as reads
+use Rattle.hnsr_circuit.proofs.question.at_reservation.Lts as lts
+use Rattle.hnsr_circuit.proofs.peer.no_peer.Reads as no-peer-reads
+
+no-peer-requires : tie.Need-no-peer-requires
+no-peer-requires c κs = search needs
+
+returns : tie.Need-returns
+returns c = rw (c .no-peer .ensures)
+
+pub at-reservation-spec : {M : Type 1} → statement M
+at-reservation-spec = tie.close (tie.spec no-peer-requires returns)

@@ -1,0 +1,16 @@
+-- The question, with nobody for its peer.
+use borrow.Author.Needs.{needs}
+use Rattle.hnsr_circuit.proofs.question.under_circuit.Statement.{statement}
+use Rattle.hnsr_circuit.proofs.question.under_circuit.Tie as tie
+use Rattle.hnsr_circuit.proofs.question.under_circuit.Reads as reads
+use Rattle.hnsr_circuit.proofs.question.under_circuit.Lts as lts
+use Rattle.hnsr_circuit.proofs.peer.no_peer.Reads as no-peer-reads
+
+no-peer-requires : tie.Need-no-peer-requires
+no-peer-requires c κs = search needs
+
+returns : tie.Need-returns
+returns c = rw (c .no-peer .ensures)
+
+pub under-circuit-spec : {M : Type 1} → statement M
+under-circuit-spec = tie.close (tie.spec no-peer-requires returns)

@@ -1,0 +1,16 @@
+-- The action is the message's, under its number.
+use borrow.Author.Needs.{needs}
+use Rattle.hnsr_circuit.proofs.queue.action_for.Statement.{statement}
+use Rattle.hnsr_circuit.proofs.queue.action_for.Tie as tie
+use Rattle.hnsr_circuit.proofs.queue.action_for.Reads as reads
+use Rattle.hnsr_circuit.proofs.queue.action_for.Lts as lts
+use Rattle.hnsr_circuit.proofs.inflight.kind_number.Reads as kind-number-reads
+
+kind-number-requires : tie.Need-kind-number-requires
+kind-number-requires c κs = search needs
+
+returns : tie.Need-returns
+returns c = rw (c .before .kind-number .ensures)
+
+pub action-for-spec : {M : Type 1} → statement M
+action-for-spec = tie.close (tie.spec kind-number-requires returns)

@@ -1,0 +1,22 @@
+-- The route is written where it is queued.
+use borrow.Author.Needs.{needs}
+use Rattle.hnsr_circuit.proofs.queue.put_queued.Statement.{statement}
+use Rattle.hnsr_circuit.proofs.queue.put_queued.Tie as tie
+use Rattle.hnsr_circuit.proofs.queue.put_queued.Reads as reads
+use Rattle.hnsr_circuit.proofs.queue.put_queued.Lts as lts
+use Rattle.hnsr_circuit.proofs.route.put_route.Reads as put-route-reads
+
+put-route-requires : tie.Need-put-route-requires
+put-route-requires c κs = search needs
+
+same-length : tie.Need-same-length
+same-length c = search needs
+
+returns : tie.Need-returns
+returns c = rw (c .before .before .put-route .ensures, c .before .before .before .before .if1 .taken)
+
+returns-2 : tie.Need-returns-2
+returns-2 c = rw (c .if1 .left)
+
+pub put-queued-spec : {M : Type 1} → statement M
+put-queued-spec = tie.close (tie.spec put-route-requires same-length returns returns-2)

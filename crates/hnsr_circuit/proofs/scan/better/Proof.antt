@@ -1,0 +1,20 @@
+-- Two tests joined.
+use borrow.Author.Needs.{needs}
+use Rattle.hnsr_circuit.proofs.scan.better.Statement.{statement}
+use Rattle.hnsr_circuit.proofs.scan.better.Tie as tie
+use Rattle.hnsr_circuit.proofs.scan.better.Reads as reads
+use Rattle.hnsr_circuit.proofs.scan.better.Lts as lts
+use Rattle.hns_encoding.proofs.logic.either.Reads as either-reads
+use Rattle.hns_encoding.proofs.logic.no.Reads as no-reads
+
+no-requires : tie.Need-no-requires
+no-requires c κs = search needs
+
+either-requires : tie.Need-either-requires
+either-requires c κs = search needs
+
+returns : tie.Need-returns
+returns c = cc
+
+pub better-spec : {M : Type 1} → statement M
+better-spec = tie.close (tie.spec no-requires either-requires returns)

@@ -1,0 +1,20 @@
+-- The question, then the turn.
+use borrow.Author.Needs.{needs}
+use Rattle.hnsr_circuit.proofs.scan.pending_turn.Statement.{statement}
+use Rattle.hnsr_circuit.proofs.scan.pending_turn.Tie as tie
+use Rattle.hnsr_circuit.proofs.scan.pending_turn.Reads as reads
+use Rattle.hnsr_circuit.proofs.scan.pending_turn.Lts as lts
+use Rattle.hnsr_circuit.proofs.question.pending_has.Reads as pending-has-reads
+use Rattle.hnsr_circuit.proofs.scan.walked_on.Reads as walked-on-reads
+
+pending-has-requires : tie.Need-pending-has-requires
+pending-has-requires c κs = search needs
+
+walked-on-requires : tie.Need-walked-on-requires
+walked-on-requires c κs = search needs
+
+returns : tie.Need-returns
+returns c = rw (c .walked-on .ensures, c .before .pending-has .ensures)
+
+pub pending-turn-spec : {M : Type 1} → statement M
+pending-turn-spec = tie.close (tie.spec pending-has-requires walked-on-requires returns)

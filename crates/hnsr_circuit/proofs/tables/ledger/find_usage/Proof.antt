@@ -1,0 +1,59 @@
+-- `find_usage` meets its contract: the first `i` records have not what is asked.
+mod Tie
+use mathlib.Core.Path.{_≡_, sym, _∙_}
+use Prim.Native.Nat.{_+_, _-_, _≤_}
+use native.Mathlib.Nat.{zero-add}
+use lib.ListN.{length, drop}
+use Rattle.hnsr_circuit.specs.Table.{placeOf}
+use Rattle.hnsr_circuit.specs.Ledger.{noUsage}
+use Rattle.hnsr_circuit.specs.Question.{usageHas}
+use Rattle.hnsr_circuit.specs.Laws.Scans.{find-next, find-here, find-none}
+use borrow.Author.Needs.{needs}
+use native.Mathlib.Omega.{arith}
+use Rattle.hnsr_circuit.proofs.tables.ledger.find_usage.Statement.{statement}
+use Rattle.hnsr_circuit.proofs.tables.ledger.find_usage.Proof.Tie as tie
+
+abbrev Inv-loop : tie.InvT-loop
+Inv-loop ledger question i₀ i = (i ≤ length ledger) × (i + placeOf (usageHas question) (drop i ledger) ≡ placeOf (usageHas question) ledger)
+
+abbrev μ-loop : tie.MeasureT-loop
+μ-loop ledger question i₀ i = length ledger - i
+
+loop-holds : tie.Need-loop-holds Inv-loop μ-loop
+loop-holds c = let a = c .args in (search needs, zero-add (placeOf (usageHas (a .question)) (a .ledger .now)))
+
+mul-row : tie.Need-mul-row Inv-loop μ-loop
+mul-row c = search needs
+
+shared-slice-copy-out-row : tie.Need-shared-slice-copy-out-row Inv-loop μ-loop
+shared-slice-copy-out-row c = search needs
+
+usage-has-requires : tie.Need-usage-has-requires Inv-loop μ-loop
+usage-has-requires c = search needs
+
+returns : tie.Need-returns Inv-loop μ-loop
+returns c =
+    let l = c .before .before .before .before in
+    let a = l .before .args in
+    find-here (usageHas (a .question)) (a .ledger .now) noUsage (l .loop .i) (placeOf (usageHas (a .question)) (a .ledger .now)) (omega arith) (sym (c .before .usage-has .ensures) ∙ c .if1 .taken) (l .loop .inv .1)
+
+add-i : tie.Need-add-i Inv-loop μ-loop
+add-i c = search needs
+
+loop-less : tie.Need-loop-less Inv-loop μ-loop
+loop-less c = search needs
+
+loop-again : tie.Need-loop-again Inv-loop μ-loop
+loop-again c =
+    let l = c .before .before .before .before in
+    let a = l .before .args in
+    (search needs, find-next (usageHas (a .question)) (a .ledger .now) noUsage (l .loop .i) (placeOf (usageHas (a .question)) (a .ledger .now)) (omega arith) (sym (c .before .usage-has .ensures) ∙ c .if1 .left) (l .loop .inv .1))
+
+returns-2 : tie.Need-returns-2 Inv-loop μ-loop
+returns-2 c =
+    let l = c .before in
+    let a = l .before .args in
+    find-none (usageHas (a .question)) (a .ledger .now) (l .loop .i) (placeOf (usageHas (a .question)) (a .ledger .now)) (omega arith) (l .loop .inv .1)
+
+pub find-usage-spec : {M : Type 1} → statement M
+find-usage-spec = tie.close (tie.spec Inv-loop μ-loop loop-holds mul-row shared-slice-copy-out-row usage-has-requires returns add-i loop-less loop-again returns-2)

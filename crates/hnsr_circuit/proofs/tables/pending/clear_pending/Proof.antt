@@ -1,0 +1,66 @@
+-- `clear_pending` meets its contract: what is done, with what is left cleared, is the whole table cleared.
+mod Tie
+use mathlib.Core.Path.{_≡_}
+use mathlib.Core.List.{_++_}
+use Prim.Native.Nat.{_≤_, _-_}
+use lib.ListN.{length, take, drop, length-set}
+use Rattle.hns_encoding.specs.Loops.{map-step, map-done}
+use Rattle.hnsr_circuit.specs.Table.{cleared, clear}
+use Rattle.hnsr_circuit.specs.Pending.{noPending, clearPending}
+use Rattle.hnsr_circuit.specs.Question.{pendingHas}
+use borrow.Author.Needs.{needs}
+use native.Mathlib.Omega.{arith}
+use Rattle.hnsr_circuit.proofs.tables.pending.clear_pending.Statement.{statement}
+use Rattle.hnsr_circuit.proofs.tables.pending.clear_pending.Proof.Tie as tie
+
+abbrev Inv-loop : tie.InvT-loop
+Inv-loop pending question i₀ pending′ i = (i ≤ length pending′) × (length pending′ ≡ length pending) × (take i pending′ ++ clear clearPending (pendingHas question) (drop i pending′) ≡ clear clearPending (pendingHas question) pending)
+
+abbrev μ-loop : tie.MeasureT-loop
+μ-loop pending question i₀ pending′ i = length pending′ - i
+
+loop-holds : tie.Need-loop-holds Inv-loop μ-loop
+loop-holds c = search needs
+
+mul-row : tie.Need-mul-row Inv-loop μ-loop
+mul-row c = search needs
+
+slice-copy-out-row : tie.Need-slice-copy-out-row Inv-loop μ-loop
+slice-copy-out-row c = search needs
+
+pending-cleared-requires : tie.Need-pending-cleared-requires Inv-loop μ-loop
+pending-cleared-requires c = search needs
+
+mul-after : tie.Need-mul-after Inv-loop μ-loop
+mul-after c = search needs
+
+slice-set-from-after : tie.Need-slice-set-from-after Inv-loop μ-loop
+slice-set-from-after c = search needs
+
+add-i : tie.Need-add-i Inv-loop μ-loop
+add-i c = search needs
+
+loop-less : tie.Need-loop-less Inv-loop μ-loop
+loop-less c = simp length-set (omega arith)
+
+loop-again : tie.Need-loop-again Inv-loop μ-loop
+loop-again c =
+    let l = c .before .before .before in
+    let a = l .before .args in (
+      simp length-set (omega arith),
+      simp length-set (omega arith),
+      map-step (cleared clearPending (pendingHas (a .question))) (l .loop .pending) noPending (l .loop .i) (c .pending-cleared .result) (clear clearPending (pendingHas (a .question)) (a .pending .now)) (omega arith)
+          (c .pending-cleared .ensures) (l .loop .inv .2),
+    )
+
+same-length : tie.Need-same-length Inv-loop μ-loop
+same-length c = search needs
+
+returns : tie.Need-returns Inv-loop μ-loop
+returns c =
+    let l = c .before in
+    let a = l .before .args in
+    map-done (cleared clearPending (pendingHas (a .question))) (l .loop .pending) (l .loop .i) (clear clearPending (pendingHas (a .question)) (a .pending .now)) (omega arith) (l .loop .inv .2)
+
+pub clear-pending-spec : {M : Type 1} → statement M
+clear-pending-spec = tie.close (tie.spec Inv-loop μ-loop loop-holds mul-row slice-copy-out-row pending-cleared-requires mul-after slice-set-from-after add-i loop-less loop-again same-length returns)

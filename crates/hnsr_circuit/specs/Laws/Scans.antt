@@ -1,0 +1,64 @@
+-- The loops over a table, over any record type: the step and the end of a lookup and of a count, a store within and past the end, and the
+-- parts of what a scan folds. The step and the end of a fold are `Loops`'.
+use Prim.Native.Nat.{ℕ, zero, suc, _+_, _≤_, _<_}
+use native.Mathlib.Nat.{not-suc-le-zero, le-of-suc-le-suc}
+use native.Mathlib.Numerals.{add-one}
+use native.Mathlib.Omega.{arith}
+use mathlib.Core.Path.{_≡_, refl, sym, ap, _∙_}
+use mathlib.Core.Bool.{Bool, true, false, cond, _&&_}
+use mathlib.Core.List.{List, [], _∷_}
+use lib.Dec.{ltb}
+use lib.ListN.{length, drop, getD, set, drop-of-length-le}
+use lib.Seq.{drop-cons}
+use borrow.Author.Tests.{ltb-true, ltb-false}
+use Rattle.hns_encoding.specs.Laws.Tests.{split, both}
+use Rattle.hns_encoding.specs.Loops.{foldFrom}
+use Rattle.hns_encoding.specs.Sums.{one, count}
+use Rattle.hnsr_circuit.specs.Table.{any, placeOf}
+
+-- ---- lookups and counts: what is left of the table says the rest
+module _ {A : Type 0} (p : A → Bool) (t : List A) (d : A) (i r : ℕ) where
+  pub find-next : i < length t → p (getD t i d) ≡ false → i + placeOf p (drop i t) ≡ r → i + 1 + placeOf p (drop (i + 1) t) ≡ r
+  find-next l e h = let k = rw (drop-cons t i d l, e) at h in rw (add-one i) (omega arith)
+
+  pub find-here : i < length t → p (getD t i d) ≡ true → i + placeOf p (drop i t) ≡ r → i ≡ r
+  find-here l e h = let k = rw (drop-cons t i d l, e) at h in omega arith
+
+  pub count-next : (n m : ℕ) → i < length t → m ≡ n + one p (getD t i d) → n + count p (drop i t) ≡ r → m + count p (drop (i + 1) t) ≡ r
+  count-next n m l e h = let k = rw (drop-cons t i d l) at h in rw (add-one i) (omega arith)
+
+module _ {A : Type 0} (p : A → Bool) (t : List A) (i r : ℕ) where
+  pub find-none : length t ≤ i → i + placeOf p (drop i t) ≡ r → i ≡ r
+  find-none l h = let k = rw (drop-of-length-le t l) at h in omega arith
+
+  pub count-done : (n : ℕ) → length t ≤ i → n + count p (drop i t) ≡ r → n ≡ r
+  count-done n l h = let k = rw (drop-of-length-le t l) at h in omega arith
+
+-- ---- a store that is to be done, at a place that may be past the end
+pub set-past : {A : Type 0} (t : List A) (i : ℕ) (x : A) → length t ≤ i → set t i x ≡ t
+set-past [] i x l = refl
+set-past (y ∷ ys) zero x l = absurd (not-suc-le-zero l)
+set-past {A} (y ∷ ys) (suc i) x l = ap {B = List A} (λ (l : List A). y ∷ l) (set-past ys i x (le-of-suc-le-suc l))
+
+module _ {A : Type 0} (t : List A) (go does : Bool) (i : ℕ) (e : does ≡ (go && ltb i (length t))) where
+  pub stores-inside : does ≡ true → i < length t
+  stores-inside h = ltb-true i (length t) (both go (ltb i (length t)) (sym e ∙ h) .1)
+
+  pub stored : (after : List A) → does ≡ true → after ≡ cond go after t
+  stored after h = rw (both go (ltb i (length t)) (sym e ∙ h) .0)
+
+  pub unstored : (x : A) → does ≡ false → t ≡ cond go (set t i x) t
+  unstored x h = split go (λ g. rw g (sym (set-past t i x (ltb-false i (length t) (sym (rw g at e) ∙ h))))) (λ g. rw g)
+
+-- ---- a part of what a scan folds that moves by itself
+module _ {A B C : Type 0} (f : B → A → ℕ → B) where
+  pub fold-part : (g : B → C) (k : C → A → ℕ → C) → ((b : B) (x : A) (i : ℕ) → g (f b x i) ≡ k (g b) x i) → (t : List A) (i : ℕ) (b : B)
+      → g (foldFrom f t i b) ≡ foldFrom k t i (g b)
+  unfolding foldFrom
+  fold-part g k e [] i b = refl
+  fold-part g k e (x ∷ xs) i b = fold-part g k e xs (suc i) (f b x i) ∙ ap (λ (c : C). foldFrom k xs (suc i) c) (e b x i)
+
+-- a test that none passes
+pub any-never : {A : Type 0} (t : List A) → any (λ (x : A). false) t ≡ false
+any-never [] = refl
+any-never (x ∷ xs) = any-never xs

@@ -1,0 +1,133 @@
+// Lookups: the record at the lowest place that has what is asked, with its place; and stores of what becomes of it.
+ghost use mathlib.Core.Path.{_≡_};
+ghost use mathlib.Core.Bool.{cond};
+ghost use lib.Dec.{ltb};
+ghost use lib.ListN.{set, getD};
+ghost use Rattle.hnsr_circuit.specs.Table.{clear};
+ghost use Rattle.hnsr_circuit.specs.Inflight.{clearAction, actionUnder, dropped};
+ghost use Rattle.hnsr_circuit.specs.Ledger.{noUsage, spent, lapsed};
+ghost use Rattle.hnsr_circuit.specs.Lookup.{pendingFound, circuitFound, usageFound, actionFound};
+use crate::ledger::usage_spent;
+use crate::question::over;
+use crate::question::under_circuit;
+use crate::records::ActionFound;
+use crate::records::CircuitFound;
+use crate::records::InflightAction;
+use crate::records::PendingFound;
+use crate::records::Question;
+use crate::records::RelayCircuit;
+use crate::records::RelayPending;
+use crate::records::ReservationUsage;
+use crate::records::UsageFound;
+use crate::tables::circuits::circuit_at;
+use crate::tables::circuits::find_circuit;
+use crate::tables::inflight::action_at;
+use crate::tables::inflight::clear_action;
+use crate::tables::inflight::find_action;
+use crate::tables::ledger::clear_usage;
+use crate::tables::ledger::find_usage;
+use crate::tables::ledger::set_usage;
+use crate::tables::ledger::usage_at;
+use crate::tables::pending::find_pending;
+use crate::tables::pending::pending_at;
+
+fn pending_found(place: usize, places: usize, pending: RelayPending) -> PendingFound
+    ensures { λ r. ⌜ (r .found ≡ ltb place places) × (r .place ≡ place) × (r .pending ≡ pending) ⌝ }
+{
+    PendingFound {
+        found: place < places,
+        place,
+        pending,
+    }
+}
+
+pub(crate) fn look_up_pending(pending: &[RelayPending], question: Question) -> PendingFound
+    ensures { λ r. ⌜ r ≡ pendingFound question (now (pending .entry)) ⌝ }
+{
+    let place = find_pending(pending, question);
+    let row = pending_at(pending, place);
+    pending_found(place, pending.len(), row)
+}
+
+fn circuit_found(place: usize, places: usize, circuit: RelayCircuit) -> CircuitFound
+    ensures { λ r. ⌜ (r .found ≡ ltb place places) × (r .place ≡ place) × (r .circuit ≡ circuit) ⌝ }
+{
+    CircuitFound {
+        found: place < places,
+        place,
+        circuit,
+    }
+}
+
+pub(crate) fn look_up_circuit(circuits: &[RelayCircuit], question: Question) -> CircuitFound
+    ensures { λ r. ⌜ r ≡ circuitFound question (now (circuits .entry)) ⌝ }
+{
+    let place = find_circuit(circuits, question);
+    let row = circuit_at(circuits, place);
+    circuit_found(place, circuits.len(), row)
+}
+
+fn usage_found(place: usize, places: usize, usage: ReservationUsage) -> UsageFound
+    ensures { λ r. ⌜ (r .found ≡ ltb place places) × (r .place ≡ place) × (r .usage ≡ usage) ⌝ }
+{
+    UsageFound {
+        found: place < places,
+        place,
+        usage,
+    }
+}
+
+pub(crate) fn look_up_usage(ledger: &[ReservationUsage], question: Question) -> UsageFound
+    ensures { λ r. ⌜ r ≡ usageFound question (now (ledger .entry)) ⌝ }
+{
+    let place = find_usage(ledger, question);
+    let row = usage_at(ledger, place);
+    usage_found(place, ledger.len(), row)
+}
+
+fn action_found(place: usize, places: usize, action: InflightAction) -> ActionFound
+    ensures { λ r. ⌜ (r .found ≡ ltb place places) × (r .place ≡ place) × (r .action ≡ action) ⌝ }
+{
+    ActionFound {
+        found: place < places,
+        place,
+        action,
+    }
+}
+
+pub(crate) fn look_up_action(inflight: &[InflightAction], question: Question) -> ActionFound
+    ensures { λ r. ⌜ r ≡ actionFound question (now (inflight .entry)) ⌝ }
+{
+    let place = find_action(inflight, question);
+    let row = action_at(inflight, place);
+    action_found(place, inflight.len(), row)
+}
+
+// The actions of a circuit, dropped.
+pub(crate) fn drop_actions(inflight: &mut [InflightAction], go: bool, id: u64)
+    ensures { λ _. ⌜ now (inflight .exit) ≡ cond go (dropped (actionUnder id) (now (inflight .entry))) (now (inflight .entry)) ⌝ }
+{
+    let question = under_circuit(id);
+    if go {
+        clear_action(inflight, question);
+    }
+}
+
+// Ledger records with expiry not after now, dropped.
+pub(crate) fn drop_lapsed(ledger: &mut [ReservationUsage], go: bool, time: u64)
+    ensures { λ _. ⌜ now (ledger .exit) ≡ cond go (lapsed time (now (ledger .entry))) (now (ledger .entry)) ⌝ }
+{
+    let question = over(time);
+    if go {
+        clear_usage(ledger, question);
+    }
+}
+
+// DATA of n bytes, charged to a ledger record.
+pub(crate) fn spend(ledger: &mut [ReservationUsage], go: bool, place: usize, n: u64)
+    ensures { λ _. ⌜ now (ledger .exit) ≡ cond go (set (now (ledger .entry)) place (spent n (getD (now (ledger .entry)) place noUsage))) (now (ledger .entry)) ⌝ }
+{
+    let usage = usage_at(ledger, place);
+    let after = usage_spent(usage, n);
+    set_usage(ledger, go, place, after);
+}

@@ -1,0 +1,356 @@
+// One turn of each scan of a table, by value: what it makes of what was found so far and of one more record.
+ghost use mathlib.Core.Path.{_≡_};
+ghost use mathlib.Core.Bool.{cond, true, _&&_};
+ghost use Prim.Native.Nat.{_+_, _<_};
+ghost use lib.Dec.{ltb};
+ghost use Rattle.hnsr_circuit.specs.Table.{cleared, notYet, reached, above, better, nextTurn};
+ghost use Rattle.hnsr_circuit.specs.Pending.{clearPending, pendingId, isPending};
+ghost use Rattle.hnsr_circuit.specs.Circuits.{clearCircuit, circuitId, isCircuit};
+ghost use Rattle.hnsr_circuit.specs.Ledger.{clearUsage};
+ghost use Rattle.hnsr_circuit.specs.Inflight.{clearAction};
+ghost use Rattle.hnsr_circuit.specs.Question.{pendingHas, circuitHas, usageHas, actionHas};
+ghost use Rattle.hnsr_circuit.specs.NextDue.{earlier, dueTurn, deadlineOf, expiryOf};
+ghost use Rattle.hnsr_circuit.specs.Laws.Turns.{noWork, workOn, WorkAtMost, pendingWorked, circuitWorked, noTotals, totalled, TallyAtMost, noScan, firstPlace, tallyOn, scanned};
+use crate::circuits::circuit_of;
+use crate::circuits::circuit_under;
+use crate::circuits::circuit_unmarked;
+use crate::circuits::queued_in;
+use crate::inflight::action_is;
+use crate::inflight::action_unmarked;
+use crate::ledger::usage_unmarked;
+use crate::peer::same_peer;
+use crate::pending::pending_of;
+use crate::pending::pending_under;
+use crate::pending::pending_unmarked;
+use crate::pending::requested_by;
+use crate::question::action_has;
+use crate::question::circuit_has;
+use crate::question::pending_has;
+use crate::question::usage_has;
+use crate::records::ActionQuestion;
+use crate::records::ActionScan;
+use crate::records::CircuitTotals;
+use crate::records::InflightAction;
+use crate::records::InflightTally;
+use crate::records::NextDue;
+use crate::records::Question;
+use crate::records::RelayCircuit;
+use crate::records::RelayPending;
+use crate::records::ReservationUsage;
+use crate::records::Walked;
+use crate::records::Work;
+use crate::records::WorkQuestion;
+use hns_encoding::logic::both;
+use hns_encoding::logic::either;
+use hns_encoding::logic::no;
+use hns_encoding::numbers::min_u64;
+use hns_encoding::numbers::saturating_add_usize;
+
+pub(crate) fn one_more(counted: usize, has: bool) -> usize
+    requires { ⌜ counted < 18446744073709551615 ⌝ }
+    ensures { λ r. ⌜ r ≡ counted + cond has 1 0 ⌝ }
+{
+    if has {
+        return counted + 1;
+    }
+    counted
+}
+
+// Whether a store is to be done, and has a place.
+pub(crate) fn within(go: bool, place: usize, size: usize) -> bool
+    ensures { λ r. ⌜ r ≡ (go && ltb place size) ⌝ }
+{
+    both(go, place < size)
+}
+
+// ---- walks
+
+pub(crate) fn not_yet() -> Walked
+    ensures { λ r. ⌜ r ≡ notYet ⌝ }
+{
+    Walked {
+        taken: false,
+        id: 0,
+        place: 0,
+    }
+}
+
+fn above(cursor: Walked, id: u64, place: usize) -> bool
+    ensures { λ r. ⌜ r ≡ above cursor id place ⌝ }
+{
+    let later = both(cursor.id == id, cursor.place < place);
+    let first = either(no(cursor.taken), cursor.id < id);
+    either(first, later)
+}
+
+fn better(best: Walked, id: u64) -> bool
+    ensures { λ r. ⌜ r ≡ better best id ⌝ }
+{
+    either(no(best.taken), id < best.id)
+}
+
+// A record that has what is asked is taken where it is above the cursor and better than the best before it.
+fn walked_on(has: bool, cursor: Walked, best: Walked, id: u64, place: usize) -> Walked
+    ensures { λ r. ⌜ r ≡ cond (has && above cursor id place && better best id) (reached id place) best ⌝ }
+{
+    let ahead = both(has, above(cursor, id, place));
+    if both(ahead, better(best, id)) {
+        return Walked {
+            taken: true,
+            id,
+            place,
+        };
+    }
+    best
+}
+
+pub(crate) fn pending_turn(
+    question: Question,
+    cursor: Walked,
+    best: Walked,
+    row: RelayPending,
+    place: usize,
+) -> Walked
+    ensures { λ r. ⌜ r ≡ nextTurn pendingId (pendingHas question) cursor best row place ⌝ }
+{
+    let has = pending_has(row, question);
+    walked_on(has, cursor, best, row.circuit_id, place)
+}
+
+pub(crate) fn circuit_turn(
+    question: Question,
+    cursor: Walked,
+    best: Walked,
+    row: RelayCircuit,
+    place: usize,
+) -> Walked
+    ensures { λ r. ⌜ r ≡ nextTurn circuitId (circuitHas question) cursor best row place ⌝ }
+{
+    let has = circuit_has(row, question);
+    walked_on(has, cursor, best, row.circuit_id, place)
+}
+
+// ---- how much work there is
+
+pub(crate) fn no_work() -> Work
+    ensures { λ r. ⌜ r ≡ noWork ⌝ }
+{
+    Work {
+        used: 0,
+        of_peer: 0,
+        of_other: 0,
+        under: 0,
+        repeated: false,
+    }
+}
+
+fn work_on(work: Work, peer: bool, other: bool, under: bool, again: bool) -> Work
+    requires { ⌜ WorkAtMost 18446744073709551614 work ⌝ }
+    ensures { λ r. ⌜ r ≡ workOn work peer other under again ⌝ }
+{
+    Work {
+        used: work.used + 1,
+        of_peer: one_more(work.of_peer, peer),
+        of_other: one_more(work.of_other, other),
+        under: one_more(work.under, under),
+        repeated: either(work.repeated, again),
+    }
+}
+
+pub(crate) fn pending_worked(work: Work, row: RelayPending, question: WorkQuestion) -> Work
+    requires { ⌜ WorkAtMost 18446744073709551614 work ⌝ }
+    ensures { λ r. ⌜ r ≡ pendingWorked question work row 0 ⌝ }
+{
+    if row.used {
+        let peer = pending_of(row, question.peer);
+        let other = pending_of(row, question.other);
+        let under = pending_under(row, question.reservation);
+        let again = requested_by(row, question.peer, question.context);
+        return work_on(work, peer, other, under, again);
+    }
+    work
+}
+
+// A circuit repeats no OPEN.
+pub(crate) fn circuit_worked(work: Work, row: RelayCircuit, question: WorkQuestion) -> Work
+    requires { ⌜ WorkAtMost 18446744073709551614 work ⌝ }
+    ensures { λ r. ⌜ r ≡ circuitWorked question work row 0 ⌝ }
+{
+    if row.used {
+        let peer = circuit_of(row, question.peer);
+        let other = circuit_of(row, question.other);
+        let under = circuit_under(row, question.reservation);
+        return work_on(work, peer, other, under, false);
+    }
+    work
+}
+
+// ---- the earliest time
+
+fn earlier(due: NextDue, time: u64) -> NextDue
+    ensures { λ r. ⌜ r ≡ earlier due time ⌝ }
+{
+    match due {
+        NextDue::Never => NextDue::At(time),
+        NextDue::At(before) => NextDue::At(min_u64(before, time)),
+    }
+}
+
+pub(crate) fn pending_due_turn(due: NextDue, row: RelayPending) -> NextDue
+    ensures { λ r. ⌜ r ≡ dueTurn isPending deadlineOf due row 0 ⌝ }
+{
+    if row.used {
+        return earlier(due, row.deadline);
+    }
+    due
+}
+
+pub(crate) fn circuit_due_turn(due: NextDue, row: RelayCircuit) -> NextDue
+    ensures { λ r. ⌜ r ≡ dueTurn isCircuit expiryOf due row 0 ⌝ }
+{
+    if row.used {
+        return earlier(due, row.expires_at);
+    }
+    due
+}
+
+// ---- what `status` asks of the circuits
+
+pub(crate) fn no_totals() -> CircuitTotals
+    ensures { λ r. ⌜ r ≡ noTotals ⌝ }
+{
+    CircuitTotals {
+        used: 0,
+        queued_bytes: 0,
+    }
+}
+
+// The bytes are a sum that stops at its top.
+pub(crate) fn circuit_totalled(totals: CircuitTotals, row: RelayCircuit) -> CircuitTotals
+    requires { ⌜ totals .used < 18446744073709551615 ⌝ }
+    ensures { λ r. ⌜ r ≡ totalled totals row 0 ⌝ }
+{
+    let queued = queued_in(row);
+    CircuitTotals {
+        used: one_more(totals.used, row.used),
+        queued_bytes: saturating_add_usize(totals.queued_bytes, queued),
+    }
+}
+
+// ---- what a message asks of all actions
+
+// Nothing found yet stands at the number of places.
+pub(crate) fn no_scan(places: usize) -> ActionScan
+    ensures { λ r. ⌜ r ≡ noScan places ⌝ }
+{
+    ActionScan {
+        tally: InflightTally {
+            total: 0,
+            for_circuit: 0,
+            for_peer: 0,
+        },
+        found: false,
+        place: places,
+        spare: false,
+        spare_place: places,
+    }
+}
+
+// The place that stays once something is found.
+fn first_place(found: bool, here: bool, place: usize, kept: usize) -> usize
+    ensures { λ r. ⌜ r ≡ firstPlace found here place kept ⌝ }
+{
+    if found {
+        return kept;
+    }
+    if here {
+        return place;
+    }
+    kept
+}
+
+// A used action in the tally; one that is replaced is counted nowhere.
+fn tally_on(tally: InflightTally, row: InflightAction, question: ActionQuestion) -> InflightTally
+    requires { ⌜ TallyAtMost 18446744073709551614 tally ⌝ }
+    ensures { λ r. ⌜ (row .used ≡ true → r ≡ tallyOn question tally row 0) ⌝ }
+{
+    let mine = row.circuit_id == question.circuit_id;
+    if both(question.replacing, mine) {
+        return tally;
+    }
+    let toward = same_peer(row.destination, question.peer);
+    InflightTally {
+        total: tally.total + 1,
+        for_circuit: one_more(tally.for_circuit, mine),
+        for_peer: one_more(tally.for_peer, toward),
+    }
+}
+
+pub(crate) fn action_scanned(
+    scan: ActionScan,
+    row: InflightAction,
+    question: ActionQuestion,
+    place: usize,
+) -> ActionScan
+    requires { ⌜ TallyAtMost 18446744073709551614 (scan .tally) ⌝ }
+    ensures { λ r. ⌜ r ≡ scanned question scan row place ⌝ }
+{
+    if row.used {
+        let tally = tally_on(scan.tally, row, question);
+        let is = action_is(row, question.generation, question.sequence);
+        let found = either(scan.found, is);
+        return ActionScan {
+            tally,
+            found,
+            place: first_place(scan.found, is, place, scan.place),
+            spare: scan.spare,
+            spare_place: scan.spare_place,
+        };
+    }
+    let tally = scan.tally;
+    ActionScan {
+        tally,
+        found: scan.found,
+        place: scan.place,
+        spare: true,
+        spare_place: first_place(scan.spare, true, place, scan.spare_place),
+    }
+}
+
+// ---- the mark cleared of a record that has what is asked
+
+pub(crate) fn pending_cleared(row: RelayPending, question: Question) -> RelayPending
+    ensures { λ r. ⌜ r ≡ cleared clearPending (pendingHas question) row ⌝ }
+{
+    if pending_has(row, question) {
+        return pending_unmarked(row);
+    }
+    row
+}
+
+pub(crate) fn circuit_cleared(row: RelayCircuit, question: Question) -> RelayCircuit
+    ensures { λ r. ⌜ r ≡ cleared clearCircuit (circuitHas question) row ⌝ }
+{
+    if circuit_has(row, question) {
+        return circuit_unmarked(row);
+    }
+    row
+}
+
+pub(crate) fn usage_cleared(row: ReservationUsage, question: Question) -> ReservationUsage
+    ensures { λ r. ⌜ r ≡ cleared clearUsage (usageHas question) row ⌝ }
+{
+    if usage_has(row, question) {
+        return usage_unmarked(row);
+    }
+    row
+}
+
+pub(crate) fn action_cleared(row: InflightAction, question: Question) -> InflightAction
+    ensures { λ r. ⌜ r ≡ cleared clearAction (actionHas question) row ⌝ }
+{
+    if action_has(row, question) {
+        return action_unmarked(row);
+    }
+    row
+}

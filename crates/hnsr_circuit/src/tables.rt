@@ -1,0 +1,5 @@
+// The four lent tables: slices of records with used marks. Nothing else indexes them.
+pub(crate) mod circuits;
+pub(crate) mod inflight;
+pub(crate) mod ledger;
+pub(crate) mod pending;

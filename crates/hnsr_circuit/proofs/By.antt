@@ -4,4 +4,6 @@ pub mod RelayPending
 pub mod ReservationUsage
 pub mod lookup
 pub mod queue
+pub mod revocation
+pub mod revoking_calls
 pub mod tables

@@ -21,6 +21,7 @@ pub mod Scans
 pub mod Turns
 pub mod Progress
 pub mod Queueing
+pub mod Revocation
 -- ---- what holds of every call
 pub mod Refusals
 pub mod Places
@@ -30,3 +31,6 @@ pub mod Room
 pub mod RoomEnds
 pub mod HandleRoom
 pub mod StepRoom
+-- ---- what the code does, call by call
+pub mod Calls
+pub mod RevokingCalls

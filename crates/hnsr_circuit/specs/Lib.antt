@@ -31,6 +31,7 @@ pub mod Close
 pub mod Handle
 pub mod Acknowledge
 pub mod RevokingCalls
+pub mod Revoking
 pub mod New
 pub mod Status
 pub mod NextDue

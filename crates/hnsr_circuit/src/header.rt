@@ -110,15 +110,15 @@ pub(crate) fn with_counters(runtime: OpaqueRelayRuntime, counters: RuntimeCounte
 
 // A changed enabled state raises the generation and sets the sequence to 1.
 pub(crate) fn with_enabled(runtime: OpaqueRelayRuntime, on: bool) -> OpaqueRelayRuntime
-    requires { ⌜ runtime .generation < 18446744073709551615 ⌝ }
-    ensures { λ r. ⌜ r ≡ withEnabled runtime on ⌝ }
+    ensures { λ r. ⌜ (runtime .generation < 18446744073709551615 → r ≡ withEnabled runtime on) ⌝ }
 {
+    let generation = saturating_add_u64(runtime.generation, 1);
     let session = runtime.session;
     let config = runtime.config;
     let counters = runtime.counters;
     OpaqueRelayRuntime {
         session,
-        generation: runtime.generation + 1,
+        generation,
         enabled: on,
         trusted_time_high_water: runtime.trusted_time_high_water,
         config,

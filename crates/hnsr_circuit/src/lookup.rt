@@ -3,11 +3,13 @@ ghost use mathlib.Core.Path.{_≡_};
 ghost use mathlib.Core.Bool.{cond};
 ghost use lib.Dec.{ltb};
 ghost use lib.ListN.{set, getD};
-ghost use Rattle.hnsr_circuit.specs.Table.{clear};
-ghost use Rattle.hnsr_circuit.specs.Inflight.{clearAction, actionUnder, dropped};
-ghost use Rattle.hnsr_circuit.specs.Ledger.{noUsage, spent, lapsed};
+ghost use Rattle.hnsr_circuit.specs.Table.{edit};
+ghost use Rattle.hnsr_circuit.specs.Inflight.{actionUnder, dropped};
+ghost use Rattle.hnsr_circuit.specs.Ledger.{noUsage, usageAt, clearUsage, spent, lapsed};
 ghost use Rattle.hnsr_circuit.specs.Lookup.{pendingFound, circuitFound, usageFound, actionFound};
 use crate::ledger::usage_spent;
+use crate::ledger::usage_unmarked;
+use crate::question::at_reservation;
 use crate::question::over;
 use crate::question::under_circuit;
 use crate::records::ActionFound;
@@ -30,6 +32,7 @@ use crate::tables::ledger::set_usage;
 use crate::tables::ledger::usage_at;
 use crate::tables::pending::find_pending;
 use crate::tables::pending::pending_at;
+use hnsr_body::values::ReservationId;
 
 fn pending_found(place: usize, places: usize, pending: RelayPending) -> PendingFound
     ensures { λ r. ⌜ (r .found ≡ ltb place places) × (r .place ≡ place) × (r .pending ≡ pending) ⌝ }
@@ -130,4 +133,15 @@ pub(crate) fn spend(ledger: &mut [ReservationUsage], go: bool, place: usize, n: 
     let usage = usage_at(ledger, place);
     let after = usage_spent(usage, n);
     set_usage(ledger, go, place, after);
+}
+
+// The ledger record of a reservation, dropped.
+pub(crate) fn drop_usage(ledger: &mut [ReservationUsage], id: ReservationId)
+    ensures { λ _. ⌜ now (ledger .exit) ≡ edit (usageAt id) clearUsage (now (ledger .entry)) ⌝ }
+{
+    let question = at_reservation(id);
+    let place = find_usage(ledger, question);
+    let usage = usage_at(ledger, place);
+    let gone = usage_unmarked(usage);
+    set_usage(ledger, true, place, gone);
 }

@@ -1,9 +1,63 @@
-// The revoking calls: the row of replace_enabled.
+// The revoking calls: disconnect, revoke_reservation, expire, replace_enabled (document 01, "Down through the call").
 ghost use mathlib.Core.Path.{_≡_};
+ghost use mathlib.Core.Bool.{Bool·beq, false, not, _||_};
+ghost use mathlib.Core.List.{List};
+ghost use Prim.Native.Nat.{_+_, _*_, _<_};
+ghost use lib.Dec.{ltb};
+ghost use lib.ListN.{length};
+ghost use Rattle.hns_encoding.specs.Sums.{count};
+ghost use Rattle.hnsr_circuit.specs.declared.answer.HnsrRuntimeError.the-variants.{Short};
+ghost use Rattle.hnsr_circuit.specs.declared.answer.HnsrAnswer.the-variants.{Taken};
+ghost use Rattle.hnsr_circuit.specs.declared.records.RelayPending.{RelayPending};
+ghost use Rattle.hnsr_circuit.specs.declared.records.RelayCircuit.{RelayCircuit};
+ghost use Rattle.hnsr_circuit.specs.declared.records.ReservationUsage.{ReservationUsage};
+ghost use Rattle.hnsr_circuit.specs.Answers.{check};
+ghost use Rattle.hnsr_circuit.specs.Pending.{isPending};
+ghost use Rattle.hnsr_circuit.specs.Circuits.{isCircuit};
+ghost use Rattle.hnsr_circuit.specs.Entry.{closingWords, tooFew};
+ghost use Rattle.hnsr_circuit.specs.Call.{step, callDisconnect, callRevokeReservation, callExpire, callReplaceEnabled};
+ghost use Rattle.hnsr_circuit.specs.Progress.{worldOf, handedBack, outcome};
 ghost use Rattle.hnsr_circuit.specs.RevokingCalls.{changeAnswer};
+ghost use Rattle.hnsr_circuit.specs.Revoking.{disconnectingAll};
+ghost use Rattle.hnsr_circuit.specs.RevokingCalls.{switchTo};
+ghost use Rattle.hnsr_circuit.specs.Progress.{ending};
 use crate::answer::HnsrAnswer;
 use crate::answer::HnsrRuntimeError;
+use crate::acknowledge::generation_answer;
 use crate::answer::check;
+use crate::answer::first_refusal;
+use crate::answer::is_taken;
+use crate::config::OpaqueRelayConfig;
+use crate::entry::clock_answer;
+use crate::entry::peer_answer;
+use crate::entry::too_few;
+use crate::header::with_clock;
+use crate::header::with_enabled;
+use crate::lookup::drop_lapsed;
+use crate::lookup::drop_usage;
+use crate::peer::HnsrPeerId;
+use crate::peer::peer_of;
+use crate::question::of_peer;
+use crate::question::over;
+use crate::question::under;
+use crate::question::used;
+use crate::records::InflightAction;
+use crate::records::Question;
+use crate::records::RelayCircuit;
+use crate::records::RelayPending;
+use crate::records::ReservationUsage;
+use crate::revocation::Revoking;
+use crate::revocation::revoke_all;
+use crate::runtime::OpaqueRelayRuntime;
+use crate::runtime::Relayed;
+use crate::tables::circuits::count_circuit;
+use crate::tables::inflight::clear_action;
+use crate::tables::pending::count_pending;
+use hns_encoding::logic::either;
+use hns_encoding::logic::no;
+use hns_encoding::numbers::saturating_add_usize;
+use hnsr_body::messages::Notice;
+use hnsr_body::values::ReservationId;
 use hns_encoding::logic::both;
 
 // replace_enabled, 6: generation at 2^64 − 1 and the state would change
@@ -12,4 +66,237 @@ pub(crate) fn change_answer(generation: u64, changes: bool) -> HnsrAnswer
 {
     let refused = both(changes, generation == u64::MAX);
     check(refused, HnsrRuntimeError::GenerationExhausted)
+}
+
+// ---- entry
+
+// For each pending record and circuit two routes with the longest notice.
+const CLOSING_WORDS: usize = 96;
+
+// Whether the output is too short for so many records.
+fn room_short(room: usize, pending: usize, circuits: usize) -> bool
+    ensures { λ r. ⌜ r ≡ ltb room (closingWords * (pending + circuits)) ⌝ }
+{
+    let records = saturating_add_usize(pending, circuits);
+    room / CLOSING_WORDS < records
+}
+
+fn room_answer(
+    config: OpaqueRelayConfig,
+    pending: usize,
+    circuits: usize,
+    inflight: usize,
+    short: bool,
+) -> HnsrAnswer
+    ensures { λ r. ⌜ r ≡ check (short || tooFew config pending circuits inflight) Short ⌝ }
+{
+    let few = too_few(config, pending, circuits, inflight);
+    let refused = either(short, few);
+    check(refused, HnsrRuntimeError::Short)
+}
+
+// 22: output words too few, or a table shorter than its maximum.
+pub(crate) fn entry_answer(
+    pending: &[RelayPending],
+    circuits: &[RelayCircuit],
+    inflight: usize,
+    room: usize,
+    config: OpaqueRelayConfig,
+) -> HnsrAnswer
+    ensures { λ r. ⌜ r ≡ check (ltb room (closingWords * (count isPending (now (pending .entry)) + count isCircuit (now (circuits .entry)))) || tooFew config (length (now (pending .entry))) (length (now (circuits .entry))) inflight) Short ⌝ }
+{
+    let question = used();
+    let waiting = count_pending(pending, question);
+    let active = count_circuit(circuits, question);
+    let short = room_short(room, waiting, active);
+    room_answer(config, pending.len(), circuits.len(), inflight, short)
+}
+
+pub(crate) fn refused(runtime: OpaqueRelayRuntime, answer: HnsrAnswer) -> Relayed
+    ensures { λ r. ⌜ (r .runtime ≡ runtime) × (r .answer ≡ answer) × (r .words ≡ 0) ⌝ }
+{
+    Relayed {
+        runtime,
+        answer,
+        words: 0,
+    }
+}
+
+// ---- what each revokes
+
+fn disconnecting(peer: HnsrPeerId) -> Revoking
+    ensures { λ r. ⌜ r ≡ disconnectingAll peer ⌝ }
+{
+    let question = of_peer(peer);
+    Revoking {
+        question,
+        notice: Notice::PeerDisconnected,
+        circuit_notice: Notice::PeerDisconnected,
+        disconnecting: true,
+    }
+}
+
+fn revoking(question: Question, notice: Notice, circuit_notice: Notice) -> Revoking
+    ensures { λ r. ⌜ (r .question ≡ question) × (r .notice ≡ notice) × (r .«circuit_notice» ≡ «circuit_notice») × (r .disconnecting ≡ false) ⌝ }
+{
+    Revoking {
+        question,
+        notice,
+        circuit_notice,
+        disconnecting: false,
+    }
+}
+
+// ---- the calls
+
+// First drops every action toward that peer, then revokes the records it is a side of.
+pub fn disconnect(
+    pending: &mut [RelayPending],
+    circuits: &mut [RelayCircuit],
+    inflight: &mut [InflightAction],
+    out: &mut [u32],
+    runtime: OpaqueRelayRuntime,
+    peer: &[u8],
+) -> Relayed
+    ensures { λ r. ⌜ ((l : List ReservationUsage) → handedBack r (now (pending .exit)) (now (circuits .exit)) l (now (inflight .exit)) (now (out .exit)) ≡ outcome (now (out .entry)) (step (worldOf runtime (now (pending .entry)) (now (circuits .entry)) l (now (inflight .entry))) (callDisconnect (now (peer .entry)) (length (now (out .entry)))))) ⌝ }
+{
+    let config = runtime.config;
+    let room = entry_answer(pending, circuits, inflight.len(), out.len(), config);
+    let named = peer_answer(peer.len());
+    let answer = first_refusal(room, named);
+    if is_taken(answer) {
+        let name = peer_of(peer);
+        let question = of_peer(name);
+        let all = disconnecting(name);
+        clear_action(inflight, question);
+        return revoke_all(pending, circuits, inflight, out, runtime, all);
+    }
+    refused(runtime, answer)
+}
+
+// Revokes the records that store the reservation's id and removes its ledger record.
+pub fn revoke_reservation(
+    pending: &mut [RelayPending],
+    circuits: &mut [RelayCircuit],
+    ledger: &mut [ReservationUsage],
+    inflight: &mut [InflightAction],
+    out: &mut [u32],
+    runtime: OpaqueRelayRuntime,
+    id: ReservationId,
+) -> Relayed
+    ensures { λ r. ⌜ handedBack r (now (pending .exit)) (now (circuits .exit)) (now (ledger .exit)) (now (inflight .exit)) (now (out .exit)) ≡ outcome (now (out .entry)) (step (worldOf runtime (now (pending .entry)) (now (circuits .entry)) (now (ledger .entry)) (now (inflight .entry))) (callRevokeReservation id (length (now (out .entry))))) ⌝ }
+{
+    let config = runtime.config;
+    let answer = entry_answer(pending, circuits, inflight.len(), out.len(), config);
+    if is_taken(answer) {
+        let question = under(id);
+        let all = revoking(
+            question,
+            Notice::ReservationRevoked,
+            Notice::ReservationRevoked,
+        );
+        drop_usage(ledger, id);
+        return revoke_all(pending, circuits, inflight, out, runtime, all);
+    }
+    refused(runtime, answer)
+}
+
+// Drops ledger records as OPEN does, then revokes pending records whose deadline or expiry, and circuits whose expiry, is not after now.
+pub fn expire(
+    pending: &mut [RelayPending],
+    circuits: &mut [RelayCircuit],
+    ledger: &mut [ReservationUsage],
+    inflight: &mut [InflightAction],
+    out: &mut [u32],
+    runtime: OpaqueRelayRuntime,
+    time: u64,
+) -> Relayed
+    ensures { λ r. ⌜ handedBack r (now (pending .exit)) (now (circuits .exit)) (now (ledger .exit)) (now (inflight .exit)) (now (out .exit)) ≡ outcome (now (out .entry)) (step (worldOf runtime (now (pending .entry)) (now (circuits .entry)) (now (ledger .entry)) (now (inflight .entry))) (callExpire time (length (now (out .entry))))) ⌝ }
+{
+    let config = runtime.config;
+    let room = entry_answer(pending, circuits, inflight.len(), out.len(), config);
+    let clock = clock_answer(runtime.trusted_time_high_water, time);
+    let answer = first_refusal(room, clock);
+    if is_taken(answer) {
+        let question = over(time);
+        let all = revoking(
+            question,
+            Notice::AcceptanceExpired,
+            Notice::TicketExpired,
+        );
+        let moved = with_clock(runtime, time);
+        drop_lapsed(ledger, true, time);
+        return revoke_all(pending, circuits, inflight, out, moved, all);
+    }
+    refused(runtime, answer)
+}
+
+// Whether the state would change.
+fn changed(before: bool, enabled: bool) -> bool
+    ensures { λ r. ⌜ r ≡ not (Bool·beq before enabled) ⌝ }
+{
+    if before {
+        return no(enabled);
+    }
+    enabled
+}
+
+fn taken_with(runtime: OpaqueRelayRuntime) -> Relayed
+    ensures { λ r. ⌜ (r .runtime ≡ runtime) × (r .answer ≡ Taken) × (r .words ≡ 0) ⌝ }
+{
+    Relayed {
+        runtime,
+        answer: HnsrAnswer::Taken,
+        words: 0,
+    }
+}
+
+// A changed state raises the generation, drops every action, sets the sequence to 1 and, if off, revokes all.
+pub(crate) fn switch_to(
+    pending: &mut [RelayPending],
+    circuits: &mut [RelayCircuit],
+    inflight: &mut [InflightAction],
+    out: &mut [u32],
+    runtime: OpaqueRelayRuntime,
+    enabled: bool,
+) -> Relayed
+    requires { ⌜ runtime .generation < 18446744073709551615 ⌝ }
+    ensures { λ r. ⌜ ((l : List ReservationUsage) → handedBack r (now (pending .exit)) (now (circuits .exit)) l (now (inflight .exit)) (now (out .exit)) ≡ ending (now (out .entry)) (switchTo (worldOf runtime (now (pending .entry)) (now (circuits .entry)) l (now (inflight .entry))) enabled)) ⌝ }
+{
+    let every = used();
+    let switched = with_enabled(runtime, enabled);
+    clear_action(inflight, every);
+    if enabled {
+        return taken_with(switched);
+    }
+    let all = revoking(every, Notice::RelayDisabled, Notice::RelayDisabled);
+    revoke_all(pending, circuits, inflight, out, switched, all)
+}
+
+// The same state changes nothing.
+pub fn replace_enabled(
+    pending: &mut [RelayPending],
+    circuits: &mut [RelayCircuit],
+    inflight: &mut [InflightAction],
+    out: &mut [u32],
+    runtime: OpaqueRelayRuntime,
+    expected_generation: u64,
+    enabled: bool,
+) -> Relayed
+    ensures { λ r. ⌜ ((l : List ReservationUsage) → handedBack r (now (pending .exit)) (now (circuits .exit)) l (now (inflight .exit)) (now (out .exit)) ≡ outcome (now (out .entry)) (step (worldOf runtime (now (pending .entry)) (now (circuits .entry)) l (now (inflight .entry))) (callReplaceEnabled «expected_generation» enabled (length (now (out .entry)))))) ⌝ }
+{
+    let config = runtime.config;
+    let room = entry_answer(pending, circuits, inflight.len(), out.len(), config);
+    let current = generation_answer(runtime.generation, expected_generation);
+    let changes = changed(runtime.enabled, enabled);
+    let exhausted = change_answer(runtime.generation, changes);
+    let rest = first_refusal(current, exhausted);
+    let answer = first_refusal(room, rest);
+    if is_taken(answer) {
+        if changes {
+            return switch_to(pending, circuits, inflight, out, runtime, enabled);
+        }
+        return taken_with(runtime);
+    }
+    refused(runtime, answer)
 }

@@ -38,7 +38,7 @@ use Rattle.hnsr_circuit.specs.Queueing.{Queueing}
 use Rattle.hnsr_circuit.specs.Laws.Answers.{check-taken, then-taken}
 use Rattle.hnsr_circuit.specs.Laws.Route.{route-words, length-words}
 
-taken-is : (a : HnsrAnswer) → taken a ≡ true → a ≡ Taken
+pub taken-is : (a : HnsrAnswer) → taken a ≡ true → a ≡ Taken
 taken-is Taken h = refl
 taken-is (Refused e) h = absurd (false≢true h)
 

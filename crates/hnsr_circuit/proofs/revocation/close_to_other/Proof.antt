@@ -1,0 +1,31 @@
+-- The other side hears, under its own context.
+use mathlib.Core.Path.{_≡_, refl, sym, ap, _∙_}
+use Rattle.hns_encoding.specs.Laws.Tests.{on-true, on-false}
+use borrow.Author.Needs.{needs}
+use Rattle.hnsr_circuit.proofs.revocation.close_to_other.Statement.{statement}
+use Rattle.hnsr_circuit.proofs.revocation.close_to_other.Tie as tie
+use Rattle.hnsr_circuit.proofs.revocation.close_to_other.Reads as reads
+use Rattle.hnsr_circuit.proofs.revocation.close_to_other.Lts as lts
+use Rattle.hnsr_circuit.proofs.peer.same_peer.Reads as same-peer-reads
+use Rattle.hnsr_circuit.proofs.revocation.close_to_endpoint.Reads as close-to-endpoint-reads
+use Rattle.hnsr_circuit.proofs.revocation.closing.Reads as closing-reads
+
+same-peer-requires : tie.Need-same-peer-requires
+same-peer-requires c κs = search needs
+
+close-to-endpoint-requires : tie.Need-close-to-endpoint-requires
+close-to-endpoint-requires c κs = search needs
+
+closing-requires : tie.Need-closing-requires
+closing-requires c κs = search needs
+
+returns : tie.Need-returns
+returns c = c .before .before .close-to-endpoint .ensures ∙ sym (on-true _ _ _ (sym (c .before .before .before .same-peer .ensures) ∙ c .if1 .taken))
+
+returns-2 : tie.Need-returns-2
+returns-2 c = c .before .closing .ensures ∙ sym (on-false _ _ _ (sym (c .before .before .before .same-peer .ensures) ∙ c .if1 .left))
+
+pub close-to-other-spec : {M : Type 1} → statement M
+close-to-other-spec =
+    tie.close
+    (tie.spec same-peer-requires close-to-endpoint-requires closing-requires returns returns-2)

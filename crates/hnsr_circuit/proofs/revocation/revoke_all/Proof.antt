@@ -1,0 +1,61 @@
+-- One walk after the other, and then the call is over.
+mod Tie
+use Prim.Native.Nat.{ℕ}
+use mathlib.Core.Path.{_≡_, refl, sym, ap, _∙_}
+use mathlib.Core.List.{List}
+use Rattle.hnsr_circuit.specs.Pending.{pendingId}
+use Rattle.hnsr_circuit.specs.Circuits.{circuitId}
+use Rattle.hnsr_circuit.specs.Question.{pendingHas, circuitHas}
+use Rattle.hnsr_circuit.specs.Progress.{worldOf, Progress, progress, advanced, advance}
+use Rattle.hnsr_circuit.specs.Queue.{andThen}
+use Rattle.hnsr_circuit.specs.Revocation.{revokeAll, revokeCircuit, walk, pendingTable, circuitTable}
+use Rattle.hnsr_circuit.specs.Revoking.{endingPending}
+use Rattle.hnsr_circuit.specs.Laws.Progress.{advance-then}
+use Rattle.hnsr_circuit.specs.Laws.Calls.{begun, over}
+use borrow.Author.Needs.{needs}
+use native.Mathlib.Omega.{arith}
+use Rattle.hnsr_circuit.proofs.revocation.revoke_all.Statement.{statement}
+use Rattle.hnsr_circuit.proofs.revocation.revoke_all.Proof.Tie as tie
+
+started-requires : tie.Need-started-requires
+started-requires c = search needs
+
+walk-pending-requires : tie.Need-walk-pending-requires
+walk-pending-requires c = search needs
+
+walk-circuits-requires : tie.Need-walk-circuits-requires
+walk-circuits-requires c = search needs
+
+finished-requires : tie.Need-finished-requires
+finished-requires c = search needs
+
+same-length : tie.Need-same-length
+same-length c = search needs
+
+same-length-2 : tie.Need-same-length-2
+same-length-2 c = search needs
+
+same-length-3 : tie.Need-same-length-3
+same-length-3 c = search needs
+
+same-length-4 : tie.Need-same-length-4
+same-length-4 c = search needs
+
+returns : tie.Need-returns
+unfolding revokeAll
+returns c = λ l.
+    let a = c .before .before .before .before .before .before .before .before .before .before .before .before .before .before .before .before .before .before .before .args in
+    let v = a .revoking in
+    let cs = a .circuits .now in
+    let w = worldOf (a .runtime) (a .pending .now) cs l (a .inflight .now) in
+    let p1 = c .before .before .before .before .before .before .before .before .before .before .before .before .before .walk-pending .last .0 in
+    let first = walk pendingId pendingTable (pendingHas (v .question)) (endingPending v) in
+    let second = walk circuitId circuitTable (circuitHas (v .question)) (revokeCircuit (v .«circuit_notice»)) in
+    let start = begun (a .runtime) (a .pending .now) cs l (a .inflight .now) (a .out .now) (c .before .before .before .before .before .before .before .before .before .before .before .before .before .before .before .before .before .started .result) (c .before .before .before .before .before .before .before .before .before .before .before .before .before .before .before .before .before .started .ensures) in
+    over (c .finished .result) (c .before .before .before .before .before .walk-circuits .result) _ _ l _ _ (advanced (progress w 0 (a .out .now)) (andThen (first w) second)) (c .finished .ensures)
+    (c .before .before .before .before .before .walk-circuits .ensures p1 l
+    ∙ ap (λ (s : Progress). advance second s) (c .before .before .before .before .before .before .before .before .before .before .before .before .before .walk-pending .ensures cs l ∙ ap (λ (s : Progress). advance first s) start)
+    ∙ sym (advance-then (progress w 0 (a .out .now)) (first w) second))
+
+pub revoke-all-spec : {M : Type 1} → statement M
+revoke-all-spec = tie.close (tie.spec started-requires walk-pending-requires walk-circuits-requires finished-requires same-length same-length-2 same-length-3 same-length-4 returns)

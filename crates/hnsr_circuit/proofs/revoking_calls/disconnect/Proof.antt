@@ -1,0 +1,100 @@
+-- Turned away by its rows, or gone on: the actions toward the peer dropped, then its records revoked.
+mod Tie
+use Prim.Native.Nat.{ℕ, _≤_, _<_}
+use mathlib.Core.Path.{_≡_, refl, sym, ap, _∙_}
+use mathlib.Core.List.{List}
+use lib.ListN.{length}
+use Rattle.hnsr_circuit.specs.declared.answer.HnsrAnswer.{HnsrAnswer}
+use Rattle.hnsr_circuit.specs.Answers.{taken, _then_}
+use Rattle.hnsr_circuit.specs.World.{Outcome}
+use Rattle.hnsr_circuit.specs.Counts.{pendingCount, circuitCount}
+use Rattle.hnsr_circuit.specs.Entry.{roomAnswer, tablesShort, peerAnswer}
+use Rattle.hnsr_circuit.specs.Progress.{worldOf, ending}
+use Rattle.hnsr_circuit.specs.Peer.{peerOf}
+use Rattle.hnsr_circuit.specs.Call.{step, callDisconnect}
+use Rattle.hnsr_circuit.specs.RevokingCalls.{disconnect, disconnectPeer}
+use Rattle.hnsr_circuit.specs.Laws.Calls.{turned-away, whole}
+use Rattle.hnsr_circuit.specs.Laws.RevokingCalls.{disconnected}
+use borrow.Author.Needs.{needs}
+use native.Mathlib.Omega.{arith}
+use Rattle.hnsr_circuit.proofs.revoking_calls.disconnect.Statement.{statement}
+use Rattle.hnsr_circuit.proofs.revoking_calls.disconnect.Proof.Tie as tie
+
+bound : (c : tie.Start) → length (c .args .out .now) < 18446744073709551616
+bound c = search needs
+
+entry-answer-requires : tie.Need-entry-answer-requires
+entry-answer-requires c = search needs
+
+peer-answer-requires : tie.Need-peer-answer-requires
+peer-answer-requires c = search needs
+
+first-refusal-requires : tie.Need-first-refusal-requires
+first-refusal-requires c = search needs
+
+is-taken-requires : tie.Need-is-taken-requires
+is-taken-requires c = search needs
+
+peer-of-requires : tie.Need-peer-of-requires
+peer-of-requires c = search needs
+
+of-peer-requires : tie.Need-of-peer-requires
+of-peer-requires c = search needs
+
+disconnecting-requires : tie.Need-disconnecting-requires
+disconnecting-requires c = search needs
+
+clear-action-requires : tie.Need-clear-action-requires
+clear-action-requires c = search needs
+
+revoke-all-requires : tie.Need-revoke-all-requires
+revoke-all-requires c = search needs
+
+same-length : tie.Need-same-length
+same-length c = search needs
+
+same-length-2 : tie.Need-same-length-2
+same-length-2 c = search needs
+
+same-length-3 : tie.Need-same-length-3
+same-length-3 c = search needs
+
+same-length-4 : tie.Need-same-length-4
+same-length-4 c = search needs
+
+returns : tie.Need-returns
+unfolding roomAnswer tablesShort pendingCount circuitCount
+returns c = λ l.
+    let s = c .before .before .before .before .before .before .before .before .before .before .before .before .before .before .before .before .before .before .before .before .before .before .before .before .before .before in
+    let a = s .args in
+    let w = worldOf (a .runtime) (a .pending .now) (a .circuits .now) l (a .inflight .now) in
+    let call = callDisconnect (a .peer .now) (length (a .out .now)) in
+    let answer = c .before .before .before .before .before .before .before .before .before .before .before .before .before .before .before .before .before .before .first-refusal .ensures ∙ (λ x. c .before .before .before .before .before .before .before .before .before .before .before .before .before .before .before .before .before .before .before .before .entry-answer .ensures x then c .before .before .before .before .before .before .before .before .before .before .before .before .before .before .before .before .before .before .before .peer-answer .ensures x) in
+    let small = bound s in
+    c .before .before .before .before .before .revoke-all .ensures l
+    ∙ ap (λ (o : Outcome). ending (a .out .now) o) (disconnected (a .runtime) (a .pending .now) (a .circuits .now) l (a .inflight .now) (a .peer .now) (length (a .out .now)) (c .before .before .before .before .before .before .before .before .before .before .before .before .before .before .before .before .before .before .first-refusal .result) (c .before .before .before .before .before .before .before .before .before .before .before .before .before .before .before .peer-of .result) (c .before .before .before .before .before .before .before .before .before .before .before .before .before .disconnecting .result) (c .before .before .before .before .before .before .before .before .before .before .before .before .before .before .of-peer .result) (c .before .before .before .before .before .before .before .before .before .before .before .clear-action .last .0) (sym (c .before .before .before .before .before .before .before .before .before .before .before .before .before .before .before .before .before .is-taken .ensures) ∙ c .before .before .before .before .before .before .before .before .before .before .before .before .before .before .before .before .if1 .taken) answer (c .before .before .before .before .before .before .before .before .before .before .before .before .before .before .before .peer-of .ensures) (c .before .before .before .before .before .before .before .before .before .before .before .before .before .disconnecting .ensures) (c .before .before .before .before .before .before .before .before .before .before .before .before .before .before .of-peer .ensures) (c .before .before .before .before .before .before .before .before .before .before .before .clear-action .ensures))
+    ∙ whole (a .out .now) w call (omega arith) (omega arith)
+
+refused-requires : tie.Need-refused-requires
+refused-requires c = search needs
+
+same-length-5 : tie.Need-same-length-5
+same-length-5 c = search needs
+
+same-length-6 : tie.Need-same-length-6
+same-length-6 c = search needs
+
+returns-2 : tie.Need-returns-2
+unfolding roomAnswer tablesShort pendingCount circuitCount step disconnect
+returns-2 c = λ l.
+    let s = c .before .before .before .before .before .before .before .before .before .before .before in
+    let a = s .args in
+    let w = worldOf (a .runtime) (a .pending .now) (a .circuits .now) l (a .inflight .now) in
+    let call = callDisconnect (a .peer .now) (length (a .out .now)) in
+    let answer = c .before .before .before .first-refusal .ensures ∙ (λ x. c .before .before .before .before .before .entry-answer .ensures x then c .before .before .before .before .peer-answer .ensures x) in
+    let small = bound s in
+    turned-away (a .runtime) (a .pending .now) (a .circuits .now) l (a .inflight .now) (a .out .now) (c .refused .result) (c .before .before .before .first-refusal .result) _ (disconnectPeer w (peerOf (a .peer .now))) (c .refused .ensures) (sym (c .before .before .is-taken .ensures) ∙ c .before .if1 .left) answer
+    ∙ whole (a .out .now) w call (omega arith) (omega arith)
+
+pub disconnect-spec : {M : Type 1} → statement M
+disconnect-spec = tie.close (tie.spec entry-answer-requires peer-answer-requires first-refusal-requires is-taken-requires peer-of-requires of-peer-requires disconnecting-requires clear-action-requires revoke-all-requires same-length same-length-2 same-length-3 same-length-4 returns refused-requires same-length-5 same-length-6 returns-2)

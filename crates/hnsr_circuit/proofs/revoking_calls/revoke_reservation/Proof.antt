@@ -1,0 +1,96 @@
+-- Turned away by its row, or gone on: the ledger record dropped, then the records under it revoked.
+mod Tie
+use Prim.Native.Nat.{ℕ, _≤_, _<_}
+use mathlib.Core.Path.{_≡_, refl, sym, ap, _∙_}
+use mathlib.Core.Bool.{Bool, not, Bool·beq}
+use mathlib.Core.List.{List, []}
+use lib.ListN.{length}
+use Rattle.hns_encoding.specs.Laws.Tests.{on-true}
+use Rattle.hnsr_circuit.specs.declared.answer.HnsrAnswer.{HnsrAnswer}
+use Rattle.hnsr_circuit.specs.Answers.{taken, _then_}
+use Rattle.hnsr_circuit.specs.World.{Outcome, done}
+use Rattle.hnsr_circuit.specs.Counts.{pendingCount, circuitCount}
+use Rattle.hnsr_circuit.specs.Entry.{roomAnswer, tablesShort, clockAnswer}
+use Rattle.hnsr_circuit.specs.Progress.{worldOf, ending}
+use Rattle.hnsr_circuit.specs.declared.records.Question.{Question}
+use Rattle.hnsr_circuit.specs.Laws.Calls.{turned-away, whole}
+use Rattle.hnsr_body.specs.declared.messages.Notice.the-variants.{ReservationRevoked}
+use Rattle.hnsr_circuit.specs.declared.revocation.Revoking.{Revoking}
+use Rattle.hnsr_circuit.specs.Call.{step, callRevokeReservation}
+use Rattle.hnsr_circuit.specs.RevokingCalls.{revokeReservation, revokeUnder}
+use Rattle.hnsr_circuit.specs.Laws.RevokingCalls.{revokes, revoked-under}
+use borrow.Author.Needs.{needs}
+use native.Mathlib.Omega.{arith}
+use Rattle.hnsr_circuit.proofs.revoking_calls.revoke_reservation.Statement.{statement}
+use Rattle.hnsr_circuit.proofs.revoking_calls.revoke_reservation.Proof.Tie as tie
+
+bound : (c : tie.Start) → length (c .args .out .now) < 18446744073709551616
+bound c = search needs
+
+entry-answer-requires : tie.Need-entry-answer-requires
+entry-answer-requires c = search needs
+
+is-taken-requires : tie.Need-is-taken-requires
+is-taken-requires c = search needs
+
+under-requires : tie.Need-under-requires
+under-requires c = search needs
+
+revoking-requires : tie.Need-revoking-requires
+revoking-requires c = search needs
+
+drop-usage-requires : tie.Need-drop-usage-requires
+drop-usage-requires c = search needs
+
+revoke-all-requires : tie.Need-revoke-all-requires
+revoke-all-requires c = search needs
+
+same-length : tie.Need-same-length
+same-length c = search needs
+
+same-length-2 : tie.Need-same-length-2
+same-length-2 c = search needs
+
+same-length-3 : tie.Need-same-length-3
+same-length-3 c = search needs
+
+same-length-4 : tie.Need-same-length-4
+same-length-4 c = search needs
+
+same-length-5 : tie.Need-same-length-5
+same-length-5 c = search needs
+
+returns : tie.Need-returns
+unfolding roomAnswer tablesShort pendingCount circuitCount
+returns c = let s = c .before .before .before .before .before .before .before .before .before .before .before .before .before .before .before .before .before .before .before .before .before .before in
+    let a = s .args in
+    let w = worldOf (a .runtime) (a .pending .now) (a .circuits .now) (a .ledger .now) (a .inflight .now) in
+    let call = callRevokeReservation (a .id) (length (a .out .now)) in
+    let v = c .before .before .before .before .before .before .before .before .before .before .before .before .before .revoking .ensures in
+    let q = v .0 ∙ c .before .before .before .before .before .before .before .before .before .before .before .before .before .before .under .ensures in
+    let small = bound s in
+    c .before .before .before .before .before .revoke-all .ensures (c .before .before .before .before .before .before .before .before .before .before .before .drop-usage .last .0)
+    ∙ ap (λ (o : Outcome). ending (a .out .now) o) (revoked-under (a .runtime) (a .pending .now) (a .circuits .now) (a .ledger .now) (a .inflight .now) (a .id) (length (a .out .now)) (c .before .before .before .before .before .before .before .before .before .before .before .before .before .before .before .before .before .entry-answer .result) (c .before .before .before .before .before .before .before .before .before .before .before .before .before .revoking .result) (c .before .before .before .before .before .before .before .before .before .before .before .drop-usage .last .0) (sym (c .before .before .before .before .before .before .before .before .before .before .before .before .before .before .before .before .is-taken .ensures) ∙ c .before .before .before .before .before .before .before .before .before .before .before .before .before .before .before .if1 .taken) (c .before .before .before .before .before .before .before .before .before .before .before .before .before .before .before .before .before .entry-answer .ensures) (λ x. record { question = q x; notice = v .1 x; «circuit_notice» = v .2 x; disconnecting = v .3 x }) (c .before .before .before .before .before .before .before .before .before .before .before .drop-usage .ensures))
+    ∙ whole (a .out .now) w call (omega arith) (omega arith)
+
+refused-requires : tie.Need-refused-requires
+refused-requires c = search needs
+
+same-length-6 : tie.Need-same-length-6
+same-length-6 c = search needs
+
+same-length-7 : tie.Need-same-length-7
+same-length-7 c = search needs
+
+returns-2 : tie.Need-returns-2
+unfolding roomAnswer tablesShort pendingCount circuitCount step revokeReservation
+returns-2 c = let s = c .before .before .before .before .before .before .before .before in
+    let a = s .args in
+    let w = worldOf (a .runtime) (a .pending .now) (a .circuits .now) (a .ledger .now) (a .inflight .now) in
+    let call = callRevokeReservation (a .id) (length (a .out .now)) in
+    let small = bound s in
+    turned-away (a .runtime) (a .pending .now) (a .circuits .now) (a .ledger .now) (a .inflight .now) (a .out .now) (c .refused .result) (c .before .before .before .entry-answer .result) _ (revokeUnder w (a .id)) (c .refused .ensures) (sym (c .before .before .is-taken .ensures) ∙ c .before .if1 .left) (c .before .before .before .entry-answer .ensures)
+    ∙ whole (a .out .now) w call (omega arith) (omega arith)
+
+pub revoke-reservation-spec : {M : Type 1} → statement M
+revoke-reservation-spec = tie.close (tie.spec entry-answer-requires is-taken-requires under-requires revoking-requires drop-usage-requires revoke-all-requires same-length same-length-2 same-length-3 same-length-4 same-length-5 returns refused-requires same-length-6 same-length-7 returns-2)

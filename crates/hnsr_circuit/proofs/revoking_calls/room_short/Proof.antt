@@ -1,0 +1,27 @@
+-- The test by division is the test by the product.
+use Prim.Native.Nat.{ℕ, _/_, _<_}
+use native.Mathlib.Omega.{arith}
+use mathlib.Core.Path.{_≡_, ap, _∙_}
+use lib.Dec.{ltb}
+use Rattle.hnsr_circuit.specs.Laws.Calls.{room-tests}
+use borrow.Author.Needs.{needs}
+use Rattle.hnsr_circuit.proofs.revoking_calls.room_short.Statement.{statement}
+use Rattle.hnsr_circuit.proofs.revoking_calls.room_short.Tie as tie
+use Rattle.hnsr_circuit.proofs.revoking_calls.room_short.Reads as reads
+use Rattle.hnsr_circuit.proofs.revoking_calls.room_short.Lts as lts
+use Rattle.hns_encoding.proofs.numbers.saturating_add_usize.Reads as saturating-add-usize-reads
+
+small : (c : tie.Start) → c .args .room < 18446744073709551616
+small c = search needs
+
+saturating-add-usize-requires : tie.Need-saturating-add-usize-requires
+saturating-add-usize-requires c κs = search needs
+
+returns : tie.Need-returns
+returns c =
+    let a = c .before .args in
+    let k = small (c .before) in
+    ap (λ (n : ℕ). ltb (a .room / 96) n) (c .saturating-add-usize .ensures) ∙ room-tests (a .room) (a .pending) (a .circuits) (omega arith)
+
+pub room-short-spec : {M : Type 1} → statement M
+room-short-spec = tie.close (tie.spec saturating-add-usize-requires returns)

@@ -1,0 +1,63 @@
+-- What a revoking call hands its walks, and the messages by which the code ends a record.
+use Prim.Native.Nat.{ℕ}
+use mathlib.Core.Bool.{Bool, true, false, cond, not, _&&_}
+use mathlib.Core.List.{List}
+use Rattle.hnsr_body.specs.declared.messages.Notice.{Notice}
+use Rattle.hnsr_body.specs.declared.messages.Notice.the-variants.{PeerDisconnected}
+use Rattle.hnsr_circuit.specs.declared.peer.HnsrPeerId.{HnsrPeerId}
+use Rattle.hnsr_circuit.specs.declared.records.RelayPending.{RelayPending}
+use Rattle.hnsr_circuit.specs.declared.records.RelayCircuit.{RelayCircuit}
+use Rattle.hnsr_circuit.specs.declared.records.Outgoing.{Outgoing}
+use Rattle.hnsr_circuit.specs.declared.records.InflightKind.the-variants.{Close}
+use Rattle.hnsr_circuit.specs.declared.records.Question.{Question}
+use Rattle.hnsr_circuit.specs.declared.revocation.Revoking.{Revoking}
+use Rattle.hnsr_circuit.specs.declared.runtime.OpaqueRelayRuntime.{OpaqueRelayRuntime}
+use Rattle.hnsr_circuit.specs.Peer.{samePeer}
+use Rattle.hnsr_circuit.specs.Header.{countRevoked, withCounters}
+use Rattle.hnsr_circuit.specs.World.{World, Outcome}
+use Rattle.hnsr_circuit.specs.Queue.{Sent, opClose, opError}
+use Rattle.hnsr_circuit.specs.Question.{ofPeer, pendingHas, circuitHas}
+use Rattle.hnsr_circuit.specs.Revocation.{revokePending, revokeCircuit, revokeAll}
+use Rattle.hnsr_circuit.specs.RevokingCalls.{disconnectPending}
+
+-- ---- a CLOSE or ERROR of the relay's own, but for its body
+abbrev pub closingOut : HnsrPeerId → (circuit opcode context : ℕ) → Outgoing
+closingOut destination circuit opcode context = record {
+  destination = destination;
+  «circuit_id» = circuit;
+  opcode = opcode;
+  «context_id» = context;
+  kind = Close;
+  «to_endpoint» = false;
+  bytes = 0;
+}
+
+abbrev pub errorOut : RelayPending → Outgoing
+errorOut p = closingOut (p .requester) (p .«circuit_id») opError (p .«requester_context»)
+
+abbrev pub closeOut : RelayPending → Outgoing
+closeOut p = closingOut (p .endpoint) (p .«circuit_id») opClose (p .«circuit_id»)
+
+-- on disconnect only the other peer of a pending record hears, by CLOSE
+abbrev pub otherOut : HnsrPeerId → RelayPending → Outgoing
+otherOut peer p =
+    cond (samePeer (p .requester) peer) (closeOut p) (closingOut (p .requester) (p .«circuit_id») opClose (p .«requester_context»))
+
+abbrev pub firstOut : Revoking → RelayPending → Outgoing
+firstOut v p = cond (v .disconnecting) (otherOut (v .question .peer) p) (errorOut p)
+
+-- ---- counted as revoked, where that is so
+abbrev pub revokedIf : Bool → OpaqueRelayRuntime → OpaqueRelayRuntime
+revokedIf go h = cond go (withCounters h (countRevoked (h .counters))) h
+
+-- ---- the end of a pending record in a walk
+unfoldable pub endingPending : Revoking → World → (id : ℕ) → Sent
+endingPending v w id = cond (v .disconnecting) (disconnectPending (v .question .peer) w id) (revokePending (v .notice) w id)
+
+-- what the walks of a revoking call do
+abbrev pub revokingAll : Revoking → World → Outcome
+revokingAll v w = revokeAll (endingPending v) (pendingHas (v .question)) (revokeCircuit (v .«circuit_notice»)) (circuitHas (v .question)) w
+
+-- ---- what each call revokes
+abbrev pub disconnectingAll : HnsrPeerId → Revoking
+disconnectingAll peer = record { question = ofPeer peer; notice = PeerDisconnected; «circuit_notice» = PeerDisconnected; disconnecting = true }

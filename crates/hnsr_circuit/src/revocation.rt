@@ -1,0 +1,362 @@
+// The end of a record, and revocation: it ends the record, drops its actions, then tells both sides; a walk revokes what has a property, by
+// ascending id (document 01, "Down through the call").
+ghost use mathlib.Core.Path.{_≡_};
+ghost use mathlib.Core.Bool.{cond, not, _&&_};
+ghost use mathlib.Core.List.{List};
+ghost use Rattle.hnsr_circuit.specs.declared.records.RelayPending.{RelayPending};
+ghost use Rattle.hnsr_circuit.specs.declared.records.RelayCircuit.{RelayCircuit};
+ghost use Rattle.hnsr_circuit.specs.declared.records.ReservationUsage.{ReservationUsage};
+ghost use Rattle.hnsr_body.specs.declared.messages.Notice.the-variants.{PeerDisconnected};
+ghost use Rattle.hnsr_circuit.specs.Pending.{clearPending, pendingId};
+ghost use Rattle.hnsr_circuit.specs.Circuits.{clearCircuit, circuitId};
+ghost use Rattle.hnsr_circuit.specs.Question.{pendingHas, circuitHas};
+ghost use Rattle.hnsr_circuit.specs.Queue.{opClose, finished};
+ghost use Rattle.hnsr_circuit.specs.declared.answer.HnsrAnswer.the-variants.{Taken};
+ghost use Rattle.hnsr_circuit.specs.Progress.{worldOf, underway, advance, handedBack, ending};
+ghost use Rattle.hnsr_circuit.specs.Revocation.{revokeCircuit, walk, pendingTable, circuitTable};
+ghost use Rattle.hnsr_circuit.specs.Revoking.{closingOut, errorOut, closeOut, otherOut, firstOut, revokedIf, endingPending, revokingAll};
+use crate::circuits::circuit_unmarked;
+use crate::header::revoked;
+use crate::lookup::drop_actions;
+use crate::lookup::look_up_circuit;
+use crate::lookup::look_up_pending;
+use crate::peer::HnsrPeerId;
+use crate::peer::same_peer;
+use crate::pending::pending_unmarked;
+use crate::question::at;
+use crate::queue::tell_notice;
+use crate::records::CircuitFound;
+use crate::records::InflightAction;
+use crate::records::InflightKind;
+use crate::records::Outgoing;
+use crate::records::PendingFound;
+use crate::records::Question;
+use crate::records::RelayCircuit;
+use crate::records::RelayPending;
+use crate::answer::HnsrAnswer;
+use crate::runtime::OpaqueRelayRuntime;
+use crate::runtime::Relayed;
+use crate::runtime::Sending;
+use crate::scan::not_yet;
+use crate::tables::circuits::next_circuit;
+use crate::tables::circuits::set_circuit;
+use crate::tables::pending::next_pending;
+use crate::tables::pending::set_pending;
+use hns_encoding::logic::both;
+use hns_encoding::logic::no;
+use hnsr_body::messages::Notice;
+
+const CLOSE: u8 = 19;
+
+const ERROR: u8 = 20;
+
+// What a revoking call hands its walks: which records, and by what message. On disconnect only the other peer of a pending record hears.
+pub struct Revoking {
+    pub question: Question,
+    pub notice: Notice,
+    pub circuit_notice: Notice,
+    pub disconnecting: bool,
+}
+
+// How a record ends: whether there is one and where, the runtime that has counted it, and the messages.
+pub struct EndPlan {
+    pub go: bool,
+    pub place: usize,
+    pub sending: Sending,
+    pub first: Outgoing,
+    pub also: bool,
+    pub second: Outgoing,
+}
+
+// ---- messages
+
+// A CLOSE or ERROR of the relay's own: stored as Close under the circuit id.
+pub(crate) fn closing(destination: HnsrPeerId, circuit: u64, opcode: u8, context: u64) -> Outgoing
+    ensures { λ r. ⌜ r ≡ closingOut destination circuit opcode context ⌝ }
+{
+    Outgoing {
+        destination,
+        circuit_id: circuit,
+        opcode,
+        context_id: context,
+        kind: InflightKind::Close,
+        to_endpoint: false,
+        bytes: 0,
+    }
+}
+
+// To the requester of a pending record under its own context, to the endpoint under the circuit id.
+pub(crate) fn error_to_requester(pending: RelayPending) -> Outgoing
+    ensures { λ r. ⌜ r ≡ errorOut pending ⌝ }
+{
+    let requester = pending.requester;
+    closing(requester, pending.circuit_id, ERROR, pending.requester_context)
+}
+
+fn close_to_endpoint(pending: RelayPending) -> Outgoing
+    ensures { λ r. ⌜ r ≡ closeOut pending ⌝ }
+{
+    let endpoint = pending.endpoint;
+    closing(endpoint, pending.circuit_id, CLOSE, pending.circuit_id)
+}
+
+fn close_to_other(peer: HnsrPeerId, pending: RelayPending) -> Outgoing
+    ensures { λ r. ⌜ r ≡ otherOut peer pending ⌝ }
+{
+    let requester = pending.requester;
+    let same = same_peer(requester, peer);
+    let there = close_to_endpoint(pending);
+    let back = closing(requester, pending.circuit_id, CLOSE, pending.requester_context);
+    if same {
+        return there;
+    }
+    back
+}
+
+fn first_message(revoking: Revoking, pending: RelayPending) -> Outgoing
+    ensures { λ r. ⌜ r ≡ firstOut revoking pending ⌝ }
+{
+    let question = revoking.question;
+    let peer = question.peer;
+    let other = close_to_other(peer, pending);
+    let error = error_to_requester(pending);
+    if revoking.disconnecting {
+        return other;
+    }
+    error
+}
+
+// ---- one record
+
+fn counted(go: bool, sending: Sending) -> Sending
+    ensures { λ r. ⌜ (r .runtime ≡ revokedIf go (sending .runtime)) × (r .position ≡ sending .position) ⌝ }
+{
+    let runtime = sending.runtime;
+    let after = revoked(go, runtime);
+    Sending {
+        runtime: after,
+        position: sending.position,
+    }
+}
+
+fn plan_pending(found: PendingFound, sending: Sending, revoking: Revoking) -> EndPlan
+    ensures { λ r. ⌜ (r .go ≡ found .found) × (r .place ≡ found .place) × (r .sending .runtime ≡ revokedIf (found .found) (sending .runtime)) × (r .sending .position ≡ sending .position) × (r .first ≡ firstOut revoking (found .pending)) × (r .also ≡ (found .found && not (revoking .disconnecting))) × (r .second ≡ closeOut (found .pending)) ⌝ }
+{
+    let pending = found.pending;
+    let first = first_message(revoking, pending);
+    let second = close_to_endpoint(pending);
+    let both_hear = no(revoking.disconnecting);
+    let also = both(found.found, both_hear);
+    let after = counted(found.found, sending);
+    EndPlan {
+        go: found.found,
+        place: found.place,
+        sending: after,
+        first,
+        also,
+        second,
+    }
+}
+
+fn pending_notice(revoking: Revoking) -> Notice
+    ensures { λ r. ⌜ r ≡ cond (revoking .disconnecting) PeerDisconnected (revoking .notice) ⌝ }
+{
+    let notice = revoking.notice;
+    if revoking.disconnecting {
+        return Notice::PeerDisconnected;
+    }
+    notice
+}
+
+fn pending_gone(found: PendingFound) -> RelayPending
+    ensures { λ r. ⌜ r ≡ clearPending (found .pending) ⌝ }
+{
+    let pending = found.pending;
+    pending_unmarked(pending)
+}
+
+// A pending record revoked gives ERROR to the requester, CLOSE to the endpoint; on disconnect CLOSE to the other peer.
+pub(crate) fn revoke_pending(
+    pending: &mut [RelayPending],
+    inflight: &mut [InflightAction],
+    out: &mut [u32],
+    sending: Sending,
+    revoking: Revoking,
+    id: u64,
+) -> Sending
+    ensures { λ r. ⌜ ((c : List RelayCircuit) (l : List ReservationUsage) → underway r (now (pending .exit)) c l (now (inflight .exit)) (now (out .exit)) ≡ advance (λ w. endingPending revoking w id) (underway sending (now (pending .entry)) c l (now (inflight .entry)) (now (out .entry)))) ⌝ }
+{
+    let notice = pending_notice(revoking);
+    let question = at(id, 0);
+    let found = look_up_pending(pending, question);
+    let gone = pending_gone(found);
+    let plan = plan_pending(found, sending, revoking);
+    let go = plan.go;
+    let after = plan.sending;
+    let first = plan.first;
+    let second = plan.second;
+    set_pending(pending, go, plan.place, gone);
+    drop_actions(inflight, go, id);
+    let told = tell_notice(inflight, out, go, after, first, notice);
+    tell_notice(inflight, out, plan.also, told, second, notice)
+}
+
+fn plan_circuit(found: CircuitFound, sending: Sending, id: u64) -> EndPlan
+    ensures { λ r. ⌜ (r .go ≡ found .found) × (r .place ≡ found .place) × (r .sending .runtime ≡ revokedIf (found .found) (sending .runtime)) × (r .sending .position ≡ sending .position) × (r .first ≡ closingOut (found .circuit .requester) id opClose id) × (r .also ≡ found .found) × (r .second ≡ closingOut (found .circuit .endpoint) id opClose id) ⌝ }
+{
+    let circuit = found.circuit;
+    let requester = circuit.requester;
+    let endpoint = circuit.endpoint;
+    let first = closing(requester, id, CLOSE, id);
+    let second = closing(endpoint, id, CLOSE, id);
+    let after = counted(found.found, sending);
+    EndPlan {
+        go: found.found,
+        place: found.place,
+        sending: after,
+        first,
+        also: found.found,
+        second,
+    }
+}
+
+fn circuit_gone(found: CircuitFound) -> RelayCircuit
+    ensures { λ r. ⌜ r ≡ clearCircuit (found .circuit) ⌝ }
+{
+    let circuit = found.circuit;
+    circuit_unmarked(circuit)
+}
+
+// A circuit revoked sends CLOSE to requester, then endpoint.
+pub(crate) fn revoke_circuit(
+    circuits: &mut [RelayCircuit],
+    inflight: &mut [InflightAction],
+    out: &mut [u32],
+    sending: Sending,
+    notice: Notice,
+    id: u64,
+) -> Sending
+    ensures { λ r. ⌜ ((p : List RelayPending) (l : List ReservationUsage) → underway r p (now (circuits .exit)) l (now (inflight .exit)) (now (out .exit)) ≡ advance (λ w. revokeCircuit notice w id) (underway sending p (now (circuits .entry)) l (now (inflight .entry)) (now (out .entry)))) ⌝ }
+{
+    let question = at(id, 0);
+    let found = look_up_circuit(circuits, question);
+    let gone = circuit_gone(found);
+    let plan = plan_circuit(found, sending, id);
+    let go = plan.go;
+    let after = plan.sending;
+    let first = plan.first;
+    let second = plan.second;
+    set_circuit(circuits, go, plan.place, gone);
+    drop_actions(inflight, go, id);
+    let told = tell_notice(inflight, out, go, after, first, notice);
+    tell_notice(inflight, out, plan.also, told, second, notice)
+}
+
+// ---- walks: again and again the least id and place above the last that has the property; it takes at most as many turns as there are places
+
+pub(crate) fn walk_pending(
+    pending: &mut [RelayPending],
+    inflight: &mut [InflightAction],
+    out: &mut [u32],
+    sending: Sending,
+    revoking: Revoking,
+) -> Sending
+    ensures { λ r. ⌜ ((c : List RelayCircuit) (l : List ReservationUsage) → underway r (now (pending .exit)) c l (now (inflight .exit)) (now (out .exit)) ≡ advance (walk pendingId pendingTable (pendingHas (revoking .question)) (endingPending revoking)) (underway sending (now (pending .entry)) c l (now (inflight .entry)) (now (out .entry)))) ⌝ }
+{
+    let question = revoking.question;
+    let most = pending.len();
+    let mut told = sending;
+    let mut cursor = not_yet();
+    let mut turn: usize = 0;
+    while turn < most {
+        let next = next_pending(pending, question, cursor);
+        if no(next.taken) {
+            return told;
+        }
+        told = revoke_pending(pending, inflight, out, told, revoking, next.id);
+        cursor = next;
+        turn += 1;
+    }
+    told
+}
+
+pub(crate) fn walk_circuits(
+    circuits: &mut [RelayCircuit],
+    inflight: &mut [InflightAction],
+    out: &mut [u32],
+    sending: Sending,
+    revoking: Revoking,
+) -> Sending
+    ensures { λ r. ⌜ ((p : List RelayPending) (l : List ReservationUsage) → underway r p (now (circuits .exit)) l (now (inflight .exit)) (now (out .exit)) ≡ advance (walk circuitId circuitTable (circuitHas (revoking .question)) (revokeCircuit (revoking .«circuit_notice»))) (underway sending p (now (circuits .entry)) l (now (inflight .entry)) (now (out .entry)))) ⌝ }
+{
+    let question = revoking.question;
+    let notice = revoking.circuit_notice;
+    let most = circuits.len();
+    let mut told = sending;
+    let mut cursor = not_yet();
+    let mut turn: usize = 0;
+    while turn < most {
+        let next = next_circuit(circuits, question, cursor);
+        if no(next.taken) {
+            return told;
+        }
+        told = revoke_circuit(circuits, inflight, out, told, notice, next.id);
+        cursor = next;
+        turn += 1;
+    }
+    told
+}
+
+// ---- all that has the property: pending records come before circuits
+
+fn started(runtime: OpaqueRelayRuntime) -> Sending
+    ensures { λ r. ⌜ (r .runtime ≡ runtime) × (r .position ≡ 0) ⌝ }
+{
+    Sending {
+        runtime,
+        position: 0,
+    }
+}
+
+pub(crate) fn finished(sending: Sending) -> Relayed
+    ensures { λ r. ⌜ (r .runtime ≡ sending .runtime) × (r .answer ≡ Taken) × (r .words ≡ sending .position) ⌝ }
+{
+    let runtime = sending.runtime;
+    Relayed {
+        runtime,
+        answer: HnsrAnswer::Taken,
+        words: sending.position,
+    }
+}
+
+pub(crate) fn revoke_all(
+    pending: &mut [RelayPending],
+    circuits: &mut [RelayCircuit],
+    inflight: &mut [InflightAction],
+    out: &mut [u32],
+    runtime: OpaqueRelayRuntime,
+    revoking: Revoking,
+) -> Relayed
+    ensures { λ r. ⌜ ((l : List ReservationUsage) → handedBack r (now (pending .exit)) (now (circuits .exit)) l (now (inflight .exit)) (now (out .exit)) ≡ ending (now (out .entry)) (revokingAll revoking (worldOf runtime (now (pending .entry)) (now (circuits .entry)) l (now (inflight .entry))))) ⌝ }
+{
+    let start = started(runtime);
+    let first = walk_pending(pending, inflight, out, start, revoking);
+    let second = walk_circuits(circuits, inflight, out, first, revoking);
+    finished(second)
+}
+
+// A circuit alone, at the end of a call.
+pub(crate) fn revoke_one(
+    circuits: &mut [RelayCircuit],
+    inflight: &mut [InflightAction],
+    out: &mut [u32],
+    runtime: OpaqueRelayRuntime,
+    notice: Notice,
+    id: u64,
+) -> Relayed
+    ensures { λ r. ⌜ ((p : List RelayPending) (l : List ReservationUsage) → handedBack r p (now (circuits .exit)) l (now (inflight .exit)) (now (out .exit)) ≡ ending (now (out .entry)) (finished (revokeCircuit notice (worldOf runtime p (now (circuits .entry)) l (now (inflight .entry))) id))) ⌝ }
+{
+    let start = started(runtime);
+    let told = revoke_circuit(circuits, inflight, out, start, notice, id);
+    finished(told)
+}

@@ -2,6 +2,9 @@ pub mod InflightAction
 pub mod RelayCircuit
 pub mod RelayPending
 pub mod ReservationUsage
+pub mod handle_close
+pub mod handle_data
+pub mod handle_window
 pub mod lookup
 pub mod queue
 pub mod revocation

@@ -21,6 +21,7 @@ pub mod Scans
 pub mod Turns
 pub mod Progress
 pub mod Queueing
+pub mod Handlers
 pub mod Revocation
 -- ---- what holds of every call
 pub mod Refusals

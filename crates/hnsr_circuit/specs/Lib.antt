@@ -28,6 +28,8 @@ pub mod Data
 pub mod Window
 pub mod Revocation
 pub mod Close
+pub mod Message
+pub mod Plans
 pub mod Handle
 pub mod Acknowledge
 pub mod RevokingCalls

@@ -1,4 +1,6 @@
--- ?
+-- A state that is on changes where it is to be off, and the other way round.
+use mathlib.Core.Path.{_≡_, refl, _∙_}
+use mathlib.Core.Bool.{Bool, true, false, not, Bool·beq}
 use borrow.Author.Needs.{needs}
 use Rattle.hnsr_circuit.proofs.revoking_calls.changed.Statement.{statement}
 use Rattle.hnsr_circuit.proofs.revoking_calls.changed.Tie as tie
@@ -6,14 +8,22 @@ use Rattle.hnsr_circuit.proofs.revoking_calls.changed.Reads as reads
 use Rattle.hnsr_circuit.proofs.revoking_calls.changed.Lts as lts
 use Rattle.hns_encoding.proofs.logic.no.Reads as no-reads
 
+on : (b : Bool) → not b ≡ not (Bool·beq true b)
+on true = refl
+on false = refl
+
+off : (b : Bool) → b ≡ not (Bool·beq false b)
+off true = refl
+off false = refl
+
 no-requires : tie.Need-no-requires
 no-requires c κs = search needs
 
 returns : tie.Need-returns
-returns c = ?
+returns c = rw (c .before .if1 .taken) (c .no .ensures ∙ on (c .before .before .args .enabled))
 
 returns-2 : tie.Need-returns-2
-returns-2 c = ?
+returns-2 c = rw (c .if1 .left) (off (c .before .args .enabled))
 
 pub changed-spec : {M : Type 1} → statement M
 changed-spec = tie.close (tie.spec no-requires returns returns-2)

@@ -1,0 +1,4 @@
+pub mod handle_close
+pub mod plan_close
+pub mod unmark_circuit
+pub mod unmark_pending

@@ -1,0 +1,2 @@
+pub mod handle_data
+pub mod plan_data

@@ -1,0 +1,3 @@
+pub mod handle_window
+pub mod plan_window
+pub mod raise_circuit

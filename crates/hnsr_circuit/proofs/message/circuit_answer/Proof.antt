@@ -1,0 +1,45 @@
+-- Each row is its test and its refusal; the first refusal is the answer.
+use Rattle.hnsr_circuit.specs.Packet.{circuitAnswer}
+use borrow.Author.Needs.{needs}
+use Rattle.hnsr_circuit.proofs.message.circuit_answer.Statement.{statement}
+use Rattle.hnsr_circuit.proofs.message.circuit_answer.Tie as tie
+use Rattle.hnsr_circuit.proofs.message.circuit_answer.Reads as reads
+use Rattle.hnsr_circuit.proofs.message.circuit_answer.Lts as lts
+use Rattle.hns_encoding.proofs.logic.no.Reads as no-reads
+use Rattle.hnsr_circuit.proofs.answer.check.Reads as check-reads
+use Rattle.hnsr_circuit.proofs.answer.first_refusal.Reads as first-refusal-reads
+use Rattle.hnsr_circuit.proofs.circuits.is_side.Reads as is-side-reads
+
+is-side-requires : tie.Need-is-side-requires
+is-side-requires c κs = search needs
+
+no-requires : tie.Need-no-requires
+no-requires c κs = search needs
+
+no-requires-2 : tie.Need-no-requires-2
+no-requires-2 c κs = search needs
+
+check-requires : tie.Need-check-requires
+check-requires c κs = search needs
+
+check-requires-2 : tie.Need-check-requires-2
+check-requires-2 c κs = search needs
+
+first-refusal-requires : tie.Need-first-refusal-requires
+first-refusal-requires c κs = search needs
+
+returns : tie.Need-returns
+unfolding circuitAnswer
+returns c = rw (c .first-refusal .ensures, c .before .check2 .ensures, c .before .before .check .ensures, c .before .before .before .no2 .ensures, c .before .before .before .before .no .ensures, c .before .before .before .before .before .is-side .ensures)
+
+pub circuit-answer-spec : {M : Type 1} → statement M
+circuit-answer-spec =
+    tie.close
+    (tie.spec
+    is-side-requires
+    no-requires
+    no-requires-2
+    check-requires
+    check-requires-2
+    first-refusal-requires
+    returns)

@@ -1,0 +1,124 @@
+-- What the code decides before it writes: of each call one value, from what the lookups and the scan found.
+use Prim.Native.Nat.{ℕ}
+use mathlib.Core.Bool.{cond, not, _&&_}
+use mathlib.Core.List.{List}
+use Rattle.hnsr_body.specs.declared.data_body.WindowRead.{WindowRead}
+use Rattle.hnsr_body.specs.declared.detail_body.DetailRead.{DetailRead}
+use Rattle.hnsr_body.specs.Data.{dataChecked, decodeWindow}
+use Rattle.hnsr_body.specs.Detail.{decodeDetail}
+use Rattle.hns_encoding.specs.Sums.{count}
+use Rattle.hnsr_circuit.specs.declared.peer.HnsrPeerId.{HnsrPeerId}
+use Rattle.hnsr_circuit.specs.declared.config.OpaqueRelayConfig.{OpaqueRelayConfig}
+use Rattle.hnsr_circuit.specs.declared.runtime.OpaqueRelayRuntime.{OpaqueRelayRuntime}
+use Rattle.hnsr_circuit.specs.declared.records.RelayPending.{RelayPending}
+use Rattle.hnsr_circuit.specs.declared.records.RelayCircuit.{RelayCircuit}
+use Rattle.hnsr_circuit.specs.declared.records.ReservationUsage.{ReservationUsage}
+use Rattle.hnsr_circuit.specs.declared.records.InflightAction.{InflightAction}
+use Rattle.hnsr_circuit.specs.declared.records.InflightTally.{InflightTally}
+use Rattle.hnsr_circuit.specs.declared.records.ActionScan.{ActionScan}
+use Rattle.hnsr_circuit.specs.declared.records.PendingFound.{PendingFound}
+use Rattle.hnsr_circuit.specs.declared.records.CircuitFound.{CircuitFound}
+use Rattle.hnsr_circuit.specs.declared.records.UsageFound.{UsageFound}
+use Rattle.hnsr_circuit.specs.declared.records.Outgoing.{Outgoing}
+use Rattle.hnsr_circuit.specs.declared.records.RelayPacket.{RelayPacket}
+use Rattle.hnsr_circuit.specs.declared.records.InflightKind.the-variants.{Control, Close}
+use Rattle.hnsr_circuit.specs.declared.data.DataPlan.{DataPlan}
+use Rattle.hnsr_circuit.specs.declared.window.WindowPlan.{WindowPlan}
+use Rattle.hnsr_circuit.specs.declared.close.ClosePlan.{ClosePlan}
+use Rattle.hnsr_circuit.specs.declared.answer.HnsrAnswer.{HnsrAnswer}
+use Rattle.hnsr_circuit.specs.Answers.{bodyAnswer, taken, _then_}
+use Rattle.hnsr_circuit.specs.Circuits.{sideOf}
+use Rattle.hnsr_circuit.specs.Inflight.{capacityAnswer}
+use Rattle.hnsr_circuit.specs.Header.{withCounters, countBytes, countRevoked}
+use Rattle.hnsr_circuit.specs.Peer.{peerOf}
+use Rattle.hnsr_circuit.specs.Question.{at, atReservation, named, pendingHas}
+use Rattle.hnsr_circuit.specs.Lookup.{pendingFound, circuitFound, usageFound}
+use Rattle.hnsr_circuit.specs.Queue.{actionsScanned}
+use Rattle.hnsr_circuit.specs.Progress.{asking}
+use Rattle.hnsr_circuit.specs.Packet.{circuitAnswer}
+use Rattle.hnsr_circuit.specs.Message.{passedOn, dataOn, translatedOn}
+use Rattle.hnsr_circuit.specs.Data.{bytesAnswer, flowAnswer}
+use Rattle.hnsr_circuit.specs.Window.{creditAnswer}
+use Rattle.hnsr_circuit.specs.Close.{closeAnswer}
+
+-- ---- DATA
+abbrev pub dataRows : OpaqueRelayConfig → CircuitFound → UsageFound → InflightTally → HnsrPeerId → (n : ℕ) → HnsrAnswer
+dataRows k f u t peer n =
+    bodyAnswer (dataChecked n)
+    then circuitAnswer (f .found) (f .circuit) peer
+    then capacityAnswer k t
+    then bytesAnswer (u .found) (u .usage) (f .circuit) n
+    then flowAnswer k (f .circuit) (sideOf peer (f .circuit)) n
+
+abbrev pub dataPlan : OpaqueRelayRuntime → CircuitFound → UsageFound → ActionScan → HnsrPeerId → Outgoing → (n : ℕ) → DataPlan
+dataPlan h f u s peer m n = let a = dataRows (h .config) f u (s .tally) peer n in record {
+  answer = a;
+  go = taken a;
+  place = f .place;
+  side = sideOf peer (f .circuit);
+  «usage_place» = u .place;
+  runtime = cond (taken a) (withCounters h (countBytes n (h .counters))) h;
+  message = m;
+  scan = s;
+}
+
+-- from the tables: the circuit that the packet names, its reservation's ledger record, the actions
+abbrev pub dataPlanned : OpaqueRelayRuntime → List RelayCircuit → List ReservationUsage → List InflightAction → RelayPacket → (source : List ℕ) → (n : ℕ) → DataPlan
+dataPlanned h c l i q source n =
+    let f = circuitFound (at (q .«context_id») 0) c in
+    let m = dataOn q (f .circuit) (peerOf source) n in
+    dataPlan h f (usageFound (atReservation (f .circuit .«reservation_id»)) l) (actionsScanned (asking h m) i) (peerOf source) m n
+
+-- ---- WINDOW
+abbrev pub windowRows : OpaqueRelayConfig → WindowRead → CircuitFound → InflightTally → HnsrPeerId → HnsrAnswer
+windowRows k read f t peer =
+    bodyAnswer (read .result)
+    then circuitAnswer (f .found) (f .circuit) peer
+    then capacityAnswer k t
+    then creditAnswer (f .circuit) (sideOf peer (f .circuit)) (read .body .«credit_delta»)
+
+abbrev pub windowPlan : OpaqueRelayConfig → WindowRead → CircuitFound → ActionScan → HnsrPeerId → Outgoing → WindowPlan
+windowPlan k read f s peer m = let a = windowRows k read f (s .tally) peer in record {
+  answer = a;
+  go = taken a;
+  place = f .place;
+  side = sideOf peer (f .circuit);
+  delta = read .body .«credit_delta»;
+  message = m;
+  scan = s;
+}
+
+abbrev pub windowPlanned : OpaqueRelayRuntime → List RelayCircuit → List InflightAction → RelayPacket → (source body : List ℕ) → WindowPlan
+windowPlanned h c i q source body =
+    let f = circuitFound (at (q .«context_id») 0) c in
+    let m = passedOn q (f .circuit) (peerOf source) Control in
+    windowPlan (h .config) (decodeWindow body) f (actionsScanned (asking h m) i) (peerOf source) m
+
+-- ---- CLOSE and ERROR
+abbrev pub closeRows : DetailRead → (matches : ℕ) → CircuitFound → HnsrPeerId → HnsrAnswer
+closeRows read matches f peer = bodyAnswer (read .result) then closeAnswer matches (circuitAnswer (f .found) (f .circuit) peer)
+
+-- of the pending record where there is one, else of the circuit
+abbrev pub closeId : RelayPacket → PendingFound → ℕ
+closeId q w = cond (w .found) (w .pending .«circuit_id») (q .«context_id»)
+
+abbrev pub closeMessage : RelayPacket → PendingFound → CircuitFound → HnsrPeerId → Outgoing
+closeMessage q w f peer = cond (w .found) (translatedOn q (w .pending) peer) (passedOn q (f .circuit) peer Close)
+
+abbrev pub closePlan : OpaqueRelayRuntime → RelayPacket → DetailRead → (matches : ℕ) → PendingFound → CircuitFound → HnsrPeerId → ClosePlan
+closePlan h q read matches w f peer = let a = closeRows read matches f peer in record {
+  answer = a;
+  go = taken a;
+  «ends_pending» = taken a && w .found;
+  «ends_circuit» = taken a && not (w .found);
+  «pending_place» = w .place;
+  «circuit_place» = f .place;
+  id = closeId q w;
+  runtime = cond (taken a) (withCounters h (countRevoked (h .counters))) h;
+  message = closeMessage q w f peer;
+}
+
+abbrev pub closePlanned : OpaqueRelayRuntime → List RelayPending → List RelayCircuit → RelayPacket → (source body : List ℕ) → ClosePlan
+closePlanned h p c q source body =
+    let naming = named (peerOf source) (q .«context_id») in
+    closePlan h q (decodeDetail body) (count (pendingHas naming) p) (pendingFound naming p) (circuitFound (at (q .«context_id») 0) c) (peerOf source)

@@ -1,0 +1,79 @@
+// DATA, as it goes through the tables.
+ghost use mathlib.Core.Path.{_≡_};
+ghost use mathlib.Core.List.{List};
+ghost use Prim.Native.Nat.{ℕ, _<_};
+ghost use lib.ListN.{length};
+ghost use Rattle.hnsr_circuit.specs.declared.records.RelayPending.{RelayPending};
+ghost use Rattle.hnsr_circuit.specs.Data.{handleData};
+ghost use Rattle.hnsr_circuit.specs.Plans.{dataPlanned};
+ghost use Rattle.hnsr_circuit.specs.Progress.{worldOf, packetOf, handedBack, ending};
+use crate::data::DataPlan;
+use crate::data::data_plan;
+use crate::lookup::look_up_circuit;
+use crate::lookup::look_up_usage;
+use crate::lookup::spend;
+use crate::message::data_on;
+use crate::message::reservation_of;
+use crate::peer::peer_of;
+use crate::question::at;
+use crate::question::at_reservation;
+use crate::queue::asking;
+use crate::queue::send;
+use crate::records::InflightAction;
+use crate::records::RelayCircuit;
+use crate::records::RelayPacket;
+use crate::records::ReservationUsage;
+use crate::runtime::OpaqueRelayRuntime;
+use crate::runtime::Relayed;
+use crate::tables::circuits::charge_circuit;
+use crate::tables::inflight::scan_actions;
+
+// What a DATA of n bytes does: one pass over each table.
+pub(crate) fn plan_data(
+    circuits: &[RelayCircuit],
+    ledger: &[ReservationUsage],
+    inflight: &[InflightAction],
+    runtime: OpaqueRelayRuntime,
+    packet: RelayPacket,
+    source: &[u8],
+    n: usize,
+) -> DataPlan
+    ensures { λ r. ⌜ r ≡ dataPlanned runtime (now (circuits .entry)) (now (ledger .entry)) (now (inflight .entry)) packet (now (source .entry)) n ⌝ }
+{
+    let peer = peer_of(source);
+    let question = at(packet.context_id, 0);
+    let named = look_up_circuit(circuits, question);
+    let message = data_on(packet, named, peer, n);
+    let asked = asking(runtime, message);
+    let scan = scan_actions(inflight, asked);
+    let reservation = reservation_of(named);
+    let under = at_reservation(reservation);
+    let booked = look_up_usage(ledger, under);
+    data_plan(runtime, named, booked, scan, peer, message, n)
+}
+
+pub(crate) fn handle_data(
+    circuits: &mut [RelayCircuit],
+    ledger: &mut [ReservationUsage],
+    inflight: &mut [InflightAction],
+    out: &mut [u32],
+    runtime: OpaqueRelayRuntime,
+    packet: RelayPacket,
+    source: &[u8],
+    body: &[u8],
+) -> Relayed
+    requires { ⌜ length (now body) < 65536 ⌝ }
+    ensures { λ r. ⌜ ((p : List RelayPending) (e rs : List ℕ) → handedBack r p (now (circuits .exit)) (now (ledger .exit)) (now (inflight .exit)) (now (out .exit)) ≡ ending (now (out .entry)) (handleData (worldOf runtime p (now (circuits .entry)) (now (ledger .entry)) (now (inflight .entry))) (packetOf packet (now (source .entry)) (now (body .entry)) e rs))) ⌝ }
+{
+    let n = body.len();
+    let bytes = n as u64;
+    let plan = plan_data(circuits, ledger, inflight, runtime, packet, source, n);
+    let answer = plan.answer;
+    let side = plan.side;
+    let counted = plan.runtime;
+    let message = plan.message;
+    let scan = plan.scan;
+    charge_circuit(circuits, plan.go, plan.place, side, n);
+    spend(ledger, plan.go, plan.usage_place, bytes);
+    send(inflight, out, answer, counted, message, scan, body)
+}

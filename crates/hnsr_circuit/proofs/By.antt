@@ -2,8 +2,12 @@ pub mod InflightAction
 pub mod RelayCircuit
 pub mod RelayPending
 pub mod ReservationUsage
+pub mod acknowledge
+pub mod calls
+pub mod handle_accept
 pub mod handle_close
 pub mod handle_data
+pub mod handle_open
 pub mod handle_window
 pub mod lookup
 pub mod queue

@@ -22,6 +22,7 @@ pub mod Turns
 pub mod Progress
 pub mod Queueing
 pub mod Handlers
+pub mod Opening
 pub mod Revocation
 -- ---- what holds of every call
 pub mod Refusals
@@ -35,3 +36,5 @@ pub mod StepRoom
 -- ---- what the code does, call by call
 pub mod Calls
 pub mod RevokingCalls
+pub mod QuietCalls
+pub mod Acknowledging

@@ -32,12 +32,14 @@ pub mod Message
 pub mod Plans
 pub mod Handle
 pub mod Acknowledge
+pub mod Settling
 pub mod RevokingCalls
 pub mod Revoking
 pub mod New
 pub mod Status
 pub mod NextDue
 pub mod Call
+pub mod Told
 -- ---- by computation
 pub mod All
 pub mod Cases

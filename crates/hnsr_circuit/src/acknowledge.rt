@@ -1,10 +1,71 @@
-// Acknowledge: its rows.
+// Acknowledge: removes the action; for Data lowers that one circuit's queued count; undelivered, it ends what the action was for (document 01,
+// "Down through the call").
 ghost use mathlib.Core.Path.{_≡_};
-ghost use Rattle.hnsr_circuit.specs.Acknowledge.{generationAnswer, actionAnswer};
+ghost use mathlib.Core.Bool.{Bool, true, cond, not, _&&_, _||_};
+ghost use mathlib.Core.List.{List};
+ghost use Prim.Native.Nat.{ℕ};
+ghost use lib.Dec.{ltb};
+ghost use lib.ListN.{length};
+ghost use Rattle.hnsr_body.specs.Messages.{noticeBody};
+ghost use Rattle.hnsr_circuit.specs.declared.answer.HnsrRuntimeError.the-variants.{Short};
+ghost use Rattle.hnsr_circuit.specs.declared.records.RelayPending.{RelayPending};
+ghost use Rattle.hnsr_circuit.specs.declared.records.RelayCircuit.{RelayCircuit};
+ghost use Rattle.hnsr_circuit.specs.declared.records.ReservationUsage.{ReservationUsage};
+ghost use Rattle.hnsr_circuit.specs.Answers.{check, _then_};
+ghost use Rattle.hnsr_circuit.specs.Table.{edit};
+ghost use Rattle.hnsr_circuit.specs.Circuits.{circuitAt, lowered};
+ghost use Rattle.hnsr_circuit.specs.Inflight.{clearAction, kindOf, towardSide};
+ghost use Rattle.hnsr_circuit.specs.Entry.{acknowledgeWords, tooFew};
+ghost use Rattle.hnsr_circuit.specs.Acknowledge.{generationAnswer, actionAnswer, failIncoming, acknowledgeAction, settled};
+ghost use Rattle.hnsr_circuit.specs.Queue.{send};
+ghost use Rattle.hnsr_circuit.specs.Progress.{worldOf, messageOf, handedBack, ending, outcome};
+ghost use Rattle.hnsr_circuit.specs.Lookup.{actionFound};
+ghost use Rattle.hnsr_circuit.specs.Question.{at};
+ghost use Rattle.hnsr_circuit.specs.Revoking.{errorOut, revokedIf};
+ghost use Rattle.hnsr_circuit.specs.Settling.{lowersFor, failsFor, revokesFor, Settles};
+ghost use Rattle.hnsr_circuit.specs.declared.records.InflightAction.{InflightAction};
+ghost use Rattle.hnsr_circuit.specs.Call.{step, callAcknowledge};
 use crate::answer::HnsrAnswer;
 use crate::answer::HnsrRuntimeError;
 use crate::answer::check;
+use crate::answer::first_refusal;
+use crate::answer::is_taken;
+use crate::circuits::circuit_lowered;
+use crate::entry::too_few;
+use crate::header::revoked;
+use crate::inflight::action_unmarked;
+use crate::inflight::kind_of;
+use crate::inflight::toward_side;
+use crate::lookup::look_up_action;
+use crate::lookup::look_up_pending;
+use crate::question::at;
+use crate::queue::asking;
+use crate::queue::send;
+use crate::records::ActionFound;
+use crate::records::InflightAction;
+use crate::records::InflightKind;
+use crate::records::Outgoing;
+use crate::records::PendingFound;
+use crate::records::RelayCircuit;
+use crate::records::RelayPending;
+use crate::records::RelaySide;
+use crate::revocation::error_to_requester;
+use crate::revocation::pending_gone;
+use crate::revocation::revoke_one;
+use crate::revoking_calls::refused;
+use crate::revoking_calls::taken_with;
+use crate::runtime::OpaqueRelayRuntime;
+use crate::runtime::Relayed;
+use crate::tables::circuits::circuit_at;
+use crate::tables::circuits::find_circuit;
+use crate::tables::circuits::set_circuit;
+use crate::tables::inflight::scan_actions;
+use crate::tables::inflight::set_action;
+use crate::tables::pending::set_pending;
+use hns_encoding::logic::both;
+use hns_encoding::logic::either;
 use hns_encoding::logic::no;
+use hnsr_body::messages::Notice;
 
 // acknowledge and replace_enabled, 5: generation
 pub(crate) fn generation_answer(current: u64, given: u64) -> HnsrAnswer
@@ -18,4 +79,239 @@ pub(crate) fn action_answer(found: bool) -> HnsrAnswer
     ensures { λ r. ⌜ r ≡ actionAnswer found ⌝ }
 {
     check(no(found), HnsrRuntimeError::UnknownAction)
+}
+
+// Two routes with the longest notice.
+const ACKNOWLEDGE_WORDS: usize = 96;
+
+fn acknowledge_answer(runtime: OpaqueRelayRuntime, few: bool, room: usize, generation: u64, found: ActionFound) -> HnsrAnswer
+    ensures { λ r. ⌜ r ≡ (check (ltb room acknowledgeWords || few) Short then generationAnswer (runtime .generation) generation then actionAnswer (found .found)) ⌝ }
+{
+    let short = either(room < ACKNOWLEDGE_WORDS, few);
+    let first = check(short, HnsrRuntimeError::Short);
+    let second = generation_answer(runtime.generation, generation);
+    let third = action_answer(found.found);
+    let rest = first_refusal(second, third);
+    first_refusal(first, rest)
+}
+
+// ---- what becomes of an action
+
+// For Data that one circuit's queued count is lowered.
+fn lowers(kind: InflightKind) -> bool
+    ensures { λ r. ⌜ r ≡ lowersFor kind ⌝ }
+{
+    match kind {
+        InflightKind::Incoming => false,
+        InflightKind::Opened => false,
+        InflightKind::Data => true,
+        InflightKind::Control => false,
+        InflightKind::Close => false,
+    }
+}
+
+// Undelivered, Incoming ends the pending record.
+fn fails(kind: InflightKind) -> bool
+    ensures { λ r. ⌜ r ≡ failsFor kind ⌝ }
+{
+    match kind {
+        InflightKind::Incoming => true,
+        InflightKind::Opened => false,
+        InflightKind::Data => false,
+        InflightKind::Control => false,
+        InflightKind::Close => false,
+    }
+}
+
+// Opened, Data, Control revoke the circuit.
+fn revokes(kind: InflightKind) -> bool
+    ensures { λ r. ⌜ r ≡ revokesFor kind ⌝ }
+{
+    match kind {
+        InflightKind::Incoming => false,
+        InflightKind::Opened => true,
+        InflightKind::Data => true,
+        InflightKind::Control => true,
+        InflightKind::Close => false,
+    }
+}
+
+pub struct SettlePlan {
+    pub place: usize,
+    pub id: u64,
+    pub lower: bool,
+    pub side: RelaySide,
+    pub bytes: usize,
+    pub fail: bool,
+    pub revoke: bool,
+}
+
+fn settle_plan(found: ActionFound, delivered: bool) -> SettlePlan
+    ensures { λ r. ⌜ (r .place ≡ found .place) × (r .id ≡ found .action .«circuit_id») × (r .lower ≡ lowersFor (kindOf (found .action .kind))) × (r .side ≡ towardSide (found .action)) × (r .bytes ≡ found .action .bytes) × (r .fail ≡ (not delivered && failsFor (kindOf (found .action .kind)))) × (r .revoke ≡ (not delivered && revokesFor (kindOf (found .action .kind)))) ⌝ }
+{
+    let action = found.action;
+    let kind = kind_of(action.kind);
+    let lost = no(delivered);
+    let lower = lowers(kind);
+    let side = toward_side(action);
+    let failing = fails(kind);
+    let fail = both(lost, failing);
+    let revoking = revokes(kind);
+    let revoke = both(lost, revoking);
+    SettlePlan {
+        place: found.place,
+        id: action.circuit_id,
+        lower,
+        side,
+        bytes: action.bytes,
+        fail,
+        revoke,
+    }
+}
+
+fn action_gone(found: ActionFound) -> InflightAction
+    ensures { λ r. ⌜ r ≡ clearAction (found .action) ⌝ }
+{
+    let action = found.action;
+    action_unmarked(action)
+}
+
+// The queue toward a side, lowered.
+pub(crate) fn lower_circuit(circuits: &mut [RelayCircuit], go: bool, id: u64, side: RelaySide, n: usize)
+    ensures { λ _. ⌜ now (circuits .exit) ≡ cond go (edit (circuitAt id) (lowered side n) (now (circuits .entry))) (now (circuits .entry)) ⌝ }
+{
+    let question = at(id, 0);
+    let place = find_circuit(circuits, question);
+    let circuit = circuit_at(circuits, place);
+    let after = circuit_lowered(circuit, side, n);
+    set_circuit(circuits, go, place, after);
+}
+
+// ---- undelivered
+
+pub struct FailPlan {
+    pub go: bool,
+    pub place: usize,
+    pub runtime: OpaqueRelayRuntime,
+    pub message: Outgoing,
+}
+
+fn fail_plan(found: PendingFound, runtime: OpaqueRelayRuntime) -> FailPlan
+    ensures { λ r. ⌜ (r .go ≡ found .found) × (r .place ≡ found .place) × (r .runtime ≡ revokedIf true runtime) × (r .message ≡ errorOut (found .pending)) ⌝ }
+{
+    let pending = found.pending;
+    let message = error_to_requester(pending);
+    let after = revoked(true, runtime);
+    FailPlan {
+        go: found.found,
+        place: found.place,
+        runtime: after,
+        message,
+    }
+}
+
+// A message of the relay's own, as the last step of a call.
+pub(crate) fn send_notice(inflight: &mut [InflightAction], out: &mut [u32], runtime: OpaqueRelayRuntime, message: Outgoing, notice: Notice) -> Relayed
+    ensures { λ r. ⌜ ((p : List RelayPending) (c : List RelayCircuit) (l : List ReservationUsage) → handedBack r p c l (now (inflight .exit)) (now (out .exit)) ≡ ending (now (out .entry)) (send (worldOf runtime p c l (now (inflight .entry))) (messageOf message (noticeBody notice)))) ⌝ }
+{
+    let question = asking(runtime, message);
+    let scan = scan_actions(inflight, question);
+    let written = notice.encode();
+    let bytes = written.bytes;
+    let length = written.length;
+    send(
+        inflight,
+        out,
+        HnsrAnswer::Taken,
+        runtime,
+        message,
+        scan,
+        &bytes[..length],
+    )
+}
+
+// An Incoming that was not delivered ends the pending record, other actions staying, and sends ERROR.
+pub(crate) fn fail_incoming(pending: &mut [RelayPending], inflight: &mut [InflightAction], out: &mut [u32], runtime: OpaqueRelayRuntime, id: u64) -> Relayed
+    ensures { λ r. ⌜ ((c : List RelayCircuit) (l : List ReservationUsage) → handedBack r (now (pending .exit)) c l (now (inflight .exit)) (now (out .exit)) ≡ ending (now (out .entry)) (failIncoming (worldOf runtime (now (pending .entry)) c l (now (inflight .entry))) id)) ⌝ }
+{
+    let question = at(id, 0);
+    let found = look_up_pending(pending, question);
+    let gone = pending_gone(found);
+    let plan = fail_plan(found, runtime);
+    let after = plan.runtime;
+    let message = plan.message;
+    if plan.go {
+        set_pending(pending, true, plan.place, gone);
+        return send_notice(inflight, out, after, message, Notice::EndpointWriteFailed);
+    }
+    taken_with(runtime)
+}
+
+// Close, or a record no longer there, does nothing.
+pub(crate) fn settle(
+    pending: &mut [RelayPending],
+    circuits: &mut [RelayCircuit],
+    inflight: &mut [InflightAction],
+    out: &mut [u32],
+    runtime: OpaqueRelayRuntime,
+    plan: SettlePlan,
+) -> Relayed
+    ensures { λ r. ⌜ ((l : List ReservationUsage) (a : InflightAction) (delivered : Bool) → Settles plan a delivered → handedBack r (now (pending .exit)) (now (circuits .exit)) l (now (inflight .exit)) (now (out .exit)) ≡ ending (now (out .entry)) (settled (worldOf runtime (now (pending .entry)) (now (circuits .entry)) l (now (inflight .entry))) a delivered)) ⌝ }
+{
+    if plan.fail {
+        return fail_incoming(pending, inflight, out, runtime, plan.id);
+    }
+    if plan.revoke {
+        return revoke_one(
+            circuits,
+            inflight,
+            out,
+            runtime,
+            Notice::OuterWriteFailed,
+            plan.id,
+        );
+    }
+    taken_with(runtime)
+}
+
+pub(crate) fn acknowledge_action(
+    pending: &mut [RelayPending],
+    circuits: &mut [RelayCircuit],
+    inflight: &mut [InflightAction],
+    out: &mut [u32],
+    runtime: OpaqueRelayRuntime,
+    found: ActionFound,
+    delivered: bool,
+) -> Relayed
+    ensures { λ r. ⌜ ((l : List ReservationUsage) (generation sequence : ℕ) → found ≡ actionFound (at generation sequence) (now (inflight .entry)) → handedBack r (now (pending .exit)) (now (circuits .exit)) l (now (inflight .exit)) (now (out .exit)) ≡ ending (now (out .entry)) (acknowledgeAction (worldOf runtime (now (pending .entry)) (now (circuits .entry)) l (now (inflight .entry))) generation sequence delivered (found .action))) ⌝ }
+{
+    let gone = action_gone(found);
+    let plan = settle_plan(found, delivered);
+    let side = plan.side;
+    set_action(inflight, true, plan.place, gone);
+    lower_circuit(circuits, plan.lower, plan.id, side, plan.bytes);
+    settle(pending, circuits, inflight, out, runtime, plan)
+}
+
+pub fn acknowledge(
+    pending: &mut [RelayPending],
+    circuits: &mut [RelayCircuit],
+    inflight: &mut [InflightAction],
+    out: &mut [u32],
+    runtime: OpaqueRelayRuntime,
+    generation: u64,
+    sequence: u64,
+    delivered: bool,
+) -> Relayed
+    ensures { λ r. ⌜ ((l : List ReservationUsage) → handedBack r (now (pending .exit)) (now (circuits .exit)) l (now (inflight .exit)) (now (out .exit)) ≡ outcome (now (out .entry)) (step (worldOf runtime (now (pending .entry)) (now (circuits .entry)) l (now (inflight .entry))) (callAcknowledge generation sequence delivered (length (now (out .entry)))))) ⌝ }
+{
+    let config = runtime.config;
+    let question = at(generation, sequence);
+    let found = look_up_action(inflight, question);
+    let few = too_few(config, pending.len(), circuits.len(), inflight.len());
+    let answer = acknowledge_answer(runtime, few, out.len(), generation, found);
+    if is_taken(answer) {
+        return acknowledge_action(pending, circuits, inflight, out, runtime, found, delivered);
+    }
+    refused(runtime, answer)
 }

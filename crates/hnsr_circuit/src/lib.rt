@@ -1,8 +1,9 @@
 // The relay machine. Names and order of fields are the Rust's; a record of a table has its used mark and its key in front.
 // Circuit and context ids are numbers whose highest byte is the first byte on the wire.
 mod accept;
-mod acknowledge;
+pub mod acknowledge;
 pub mod answer;
+pub mod calls;
 mod circuits;
 mod close;
 pub mod config;
@@ -10,8 +11,10 @@ mod data;
 mod draw;
 mod entry;
 mod handle;
+mod handle_accept;
 mod handle_close;
 mod handle_data;
+mod handle_open;
 mod handle_window;
 mod header;
 mod inflight;
@@ -19,8 +22,8 @@ mod ledger;
 mod lookup;
 mod message;
 mod open;
-mod pending;
 pub mod peer;
+mod pending;
 mod question;
 mod queue;
 pub mod records;

@@ -168,7 +168,7 @@ fn pending_notice(revoking: Revoking) -> Notice
     notice
 }
 
-fn pending_gone(found: PendingFound) -> RelayPending
+pub(crate) fn pending_gone(found: PendingFound) -> RelayPending
     ensures { λ r. ⌜ r ≡ clearPending (found .pending) ⌝ }
 {
     let pending = found.pending;

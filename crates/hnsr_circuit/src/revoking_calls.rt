@@ -241,7 +241,7 @@ fn changed(before: bool, enabled: bool) -> bool
     enabled
 }
 
-fn taken_with(runtime: OpaqueRelayRuntime) -> Relayed
+pub(crate) fn taken_with(runtime: OpaqueRelayRuntime) -> Relayed
     ensures { λ r. ⌜ (r .runtime ≡ runtime) × (r .answer ≡ Taken) × (r .words ≡ 0) ⌝ }
 {
     Relayed {

@@ -1,6 +1,7 @@
 // What a host keeps beside the tables, by value, and what `status` tells.
 use crate::answer::HnsrAnswer;
 use crate::config::OpaqueRelayConfig;
+use crate::records::NextDue;
 
 #[repr(C)]
 pub struct RuntimeCounters {
@@ -49,4 +50,15 @@ pub struct Relayed {
 pub struct Sending {
     pub runtime: OpaqueRelayRuntime,
     pub position: usize,
+}
+
+// What `status` and `next_due` hand back: the answer, and what they tell where it is taken.
+pub struct StatusTold {
+    pub answer: HnsrAnswer,
+    pub status: HnsrRuntimeStatus,
+}
+
+pub struct DueTold {
+    pub answer: HnsrAnswer,
+    pub due: NextDue,
 }

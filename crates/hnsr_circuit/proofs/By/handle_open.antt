@@ -1,0 +1,9 @@
+pub mod ask_ledger
+pub mod book
+pub mod draw
+pub mod gather
+pub mod handle_open
+pub mod id_taken
+pub mod open_booked
+pub mod open_lapsed
+pub mod put_pending

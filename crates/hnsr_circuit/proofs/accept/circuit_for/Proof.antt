@@ -1,0 +1,16 @@
+-- The byte limit is the smaller of two.
+use borrow.Author.Needs.{needs}
+use Rattle.hnsr_circuit.proofs.accept.circuit_for.Statement.{statement}
+use Rattle.hnsr_circuit.proofs.accept.circuit_for.Tie as tie
+use Rattle.hnsr_circuit.proofs.accept.circuit_for.Reads as reads
+use Rattle.hnsr_circuit.proofs.accept.circuit_for.Lts as lts
+use Rattle.hns_encoding.proofs.numbers.min_u64.Reads as min-u64-reads
+
+min-u64-requires : tie.Need-min-u64-requires
+min-u64-requires c κs = search needs
+
+returns : tie.Need-returns
+returns c = rw (c .min-u64 .ensures)
+
+pub circuit-for-spec : {M : Type 1} → statement M
+circuit-for-spec = tie.close (tie.spec min-u64-requires returns)

@@ -1,0 +1,101 @@
+-- Turned away by its rows, or gone on with the action that is found.
+mod Tie
+use Prim.Native.Nat.{ℕ}
+use mathlib.Core.Path.{_≡_, refl, sym, ap, _∙_}
+use mathlib.Core.Bool.{Bool, cond, not, _&&_}
+use mathlib.Core.List.{List}
+use lib.ListN.{length, set, getD}
+use Rattle.hnsr_circuit.specs.declared.records.Question.{Question}
+use Prim.Native.Nat.{_<_, _≤_}
+use mathlib.Core.Bool.{_||_}
+use lib.Dec.{ltb}
+use Rattle.hnsr_circuit.specs.declared.answer.HnsrRuntimeError.the-variants.{Short}
+use Rattle.hnsr_circuit.specs.declared.records.ActionFound.{ActionFound}
+use Rattle.hnsr_circuit.specs.declared.records.InflightAction.{InflightAction}
+use Rattle.hnsr_circuit.specs.Answers.{check, _then_}
+use Rattle.hnsr_circuit.specs.World.{Outcome}
+use Rattle.hnsr_circuit.specs.Table.{any, pick}
+use Rattle.hnsr_circuit.specs.Inflight.{noAction, actionAt}
+use Rattle.hnsr_circuit.specs.Question.{at, actionAsked}
+use Rattle.hnsr_circuit.specs.Lookup.{actionFound}
+use Rattle.hnsr_circuit.specs.Entry.{acknowledgeWords, roomAnswer, tablesShort}
+use Rattle.hnsr_circuit.specs.Progress.{worldOf, ending}
+use Rattle.hnsr_circuit.specs.Acknowledge.{generationAnswer, actionAnswer, acknowledgeTaken, acknowledgeAction, acknowledge}
+use Rattle.hnsr_circuit.specs.Call.{step, callAcknowledge}
+use Rattle.hnsr_circuit.specs.Laws.Calls.{turned-away, gone-on, whole}
+use borrow.Author.Needs.{needs}
+use native.Mathlib.Omega.{arith}
+use Rattle.hnsr_circuit.proofs.acknowledge.acknowledge.Statement.{statement}
+use Rattle.hnsr_circuit.proofs.acknowledge.acknowledge.Proof.Tie as tie
+
+bound : (c : tie.Start) → length (c .args .out .now) < 18446744073709551616
+bound c = search needs
+
+at-requires : tie.Need-at-requires
+at-requires c = search needs
+
+look-up-action-requires : tie.Need-look-up-action-requires
+look-up-action-requires c = search needs
+
+too-few-requires : tie.Need-too-few-requires
+too-few-requires c = search needs
+
+acknowledge-answer-requires : tie.Need-acknowledge-answer-requires
+acknowledge-answer-requires c = search needs
+
+is-taken-requires : tie.Need-is-taken-requires
+is-taken-requires c = search needs
+
+acknowledge-action-requires : tie.Need-acknowledge-action-requires
+acknowledge-action-requires c = search needs
+
+same-length : tie.Need-same-length
+same-length c = search needs
+
+same-length-2 : tie.Need-same-length-2
+same-length-2 c = search needs
+
+same-length-3 : tie.Need-same-length-3
+same-length-3 c = search needs
+
+same-length-4 : tie.Need-same-length-4
+same-length-4 c = search needs
+
+returns : tie.Need-returns
+unfolding step acknowledge acknowledgeTaken roomAnswer tablesShort actionAsked
+returns c = λ l.
+    let s = c .before .before .before .before .before .before .before .before .before .before .before .before .before .before .before .before .before .before .before in
+    let a = s .args in
+    let w = worldOf (a .runtime) (a .pending .now) (a .circuits .now) l (a .inflight .now) in
+    let call = callAcknowledge (a .generation) (a .sequence) (a .delivered) (length (a .out .now)) in
+    let ef = c .before .before .before .before .before .before .before .before .before .before .before .before .before .before .look-up-action .ensures ∙ ap (λ (q : Question). actionFound q (a .inflight .now)) (c .before .before .before .before .before .before .before .before .before .before .before .before .before .before .before .before .at .ensures) in
+    let found = ap (λ (f : ActionFound). f .found) ef in
+    let action = ap (λ (f : ActionFound). f .action) ef in
+    let answer = c .before .before .before .before .before .before .before .before .before .before .before .before .acknowledge-answer .ensures ∙ (λ x. check (ltb (length (a .out .now)) acknowledgeWords || c .before .before .before .before .before .before .before .before .before .before .before .before .before .too-few .ensures x) Short then generationAnswer (a .runtime .generation) (a .generation) then actionAnswer (found x)) in
+    let small = bound s in
+    c .before .before .before .before .before .acknowledge-action .ensures l (a .generation) (a .sequence) ef
+    ∙ ap (λ (o : Outcome). ending (a .out .now) o) (ap (λ (x : InflightAction). acknowledgeAction w (a .generation) (a .sequence) (a .delivered) x) action ∙ sym (gone-on w (c .before .before .before .before .before .before .before .before .before .before .before .before .acknowledge-answer .result) _ (acknowledgeAction w (a .generation) (a .sequence) (a .delivered) (pick (actionAt (a .generation) (a .sequence)) noAction (a .inflight .now))) (sym (c .before .before .before .before .before .before .before .before .before .before .before .is-taken .ensures) ∙ c .before .before .before .before .before .before .before .before .before .before .if1 .taken) answer))
+    ∙ whole (a .out .now) w call (omega arith) (omega arith)
+
+refused-requires : tie.Need-refused-requires
+refused-requires c = search needs
+
+same-length-5 : tie.Need-same-length-5
+same-length-5 c = search needs
+
+returns-2 : tie.Need-returns-2
+unfolding step acknowledge acknowledgeTaken roomAnswer tablesShort actionAsked
+returns-2 c = λ l.
+    let s = c .before .before .before .before .before .before .before .before .before .before in
+    let a = s .args in
+    let w = worldOf (a .runtime) (a .pending .now) (a .circuits .now) l (a .inflight .now) in
+    let call = callAcknowledge (a .generation) (a .sequence) (a .delivered) (length (a .out .now)) in
+    let ef = c .before .before .before .before .before .look-up-action .ensures ∙ ap (λ (q : Question). actionFound q (a .inflight .now)) (c .before .before .before .before .before .before .before .at .ensures) in
+    let found = ap (λ (f : ActionFound). f .found) ef in
+    let answer = c .before .before .before .acknowledge-answer .ensures ∙ (λ x. check (ltb (length (a .out .now)) acknowledgeWords || c .before .before .before .before .too-few .ensures x) Short then generationAnswer (a .runtime .generation) (a .generation) then actionAnswer (found x)) in
+    let small = bound s in
+    turned-away (a .runtime) (a .pending .now) (a .circuits .now) l (a .inflight .now) (a .out .now) (c .refused .result) (c .before .before .before .acknowledge-answer .result) _ (acknowledgeAction w (a .generation) (a .sequence) (a .delivered) (pick (actionAt (a .generation) (a .sequence)) noAction (a .inflight .now))) (c .refused .ensures) (sym (c .before .before .is-taken .ensures) ∙ c .before .if1 .left) answer
+    ∙ whole (a .out .now) w call (omega arith) (omega arith)
+
+pub acknowledge-spec : {M : Type 1} → statement M
+acknowledge-spec = tie.close (tie.spec at-requires look-up-action-requires too-few-requires acknowledge-answer-requires is-taken-requires acknowledge-action-requires same-length same-length-2 same-length-3 same-length-4 returns refused-requires same-length-5 returns-2)

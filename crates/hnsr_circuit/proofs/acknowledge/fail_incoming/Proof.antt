@@ -1,0 +1,79 @@
+-- The pending record that is found ends and ERROR is sent; where there is none, nothing is done.
+mod Tie
+use Prim.Native.Nat.{ℕ}
+use mathlib.Core.Path.{_≡_, refl, sym, ap, _∙_}
+use mathlib.Core.Bool.{Bool, cond, not, _&&_}
+use mathlib.Core.List.{List}
+use lib.ListN.{length, set, getD}
+use Rattle.hnsr_circuit.specs.declared.records.Question.{Question}
+use Rattle.hnsr_circuit.specs.declared.records.PendingFound.{PendingFound}
+use Rattle.hnsr_circuit.specs.World.{Outcome}
+use Rattle.hnsr_circuit.specs.Pending.{clearPending}
+use Rattle.hnsr_circuit.specs.Question.{at, pendingAsked}
+use Rattle.hnsr_circuit.specs.Lookup.{pendingFound}
+use Rattle.hnsr_circuit.specs.Progress.{ending}
+use Rattle.hnsr_circuit.specs.Revoking.{errorOut}
+use Rattle.hnsr_circuit.specs.Laws.Acknowledging.{incoming-failed, none-failed}
+use borrow.Author.Needs.{needs}
+use native.Mathlib.Omega.{arith}
+use Rattle.hnsr_circuit.proofs.acknowledge.fail_incoming.Statement.{statement}
+use Rattle.hnsr_circuit.proofs.acknowledge.fail_incoming.Proof.Tie as tie
+
+at-requires : tie.Need-at-requires
+at-requires c = search needs
+
+look-up-pending-requires : tie.Need-look-up-pending-requires
+look-up-pending-requires c = search needs
+
+pending-gone-requires : tie.Need-pending-gone-requires
+pending-gone-requires c = search needs
+
+fail-plan-requires : tie.Need-fail-plan-requires
+fail-plan-requires c = search needs
+
+set-pending-requires : tie.Need-set-pending-requires
+set-pending-requires c = search needs
+
+send-notice-requires : tie.Need-send-notice-requires
+send-notice-requires c = search needs
+
+same-length : tie.Need-same-length
+same-length c = search needs
+
+same-length-2 : tie.Need-same-length-2
+same-length-2 c = search needs
+
+same-length-3 : tie.Need-same-length-3
+same-length-3 c = search needs
+
+returns : tie.Need-returns
+unfolding pendingAsked
+returns c = λ cs l.
+    let a = c .before .before .before .before .before .before .before .before .before .before .before .before .before .before .before .before .before .before .args in
+    let p = a .pending .now in
+    let ef = c .before .before .before .before .before .before .before .before .before .before .before .before .before .before .look-up-pending .ensures ∙ ap (λ (q : Question). pendingFound q (a .pending .now)) (c .before .before .before .before .before .before .before .before .before .before .before .before .before .before .before .before .at .ensures) in
+    let e = c .before .before .before .before .before .before .before .before .before .before .before .before .fail-plan .ensures in
+    let found = sym (e .0 ∙ ap (λ (f : PendingFound). f .found) ef) ∙ c .before .before .before .before .before .before .before .before .before .if1 .taken in
+    let place = e .1 ∙ ap (λ (f : PendingFound). f .place) ef in
+    let gone = c .before .before .before .before .before .before .before .before .before .before .before .before .before .pending-gone .ensures ∙ ap (λ (f : PendingFound). clearPending (f .pending)) ef in
+    let message = e .3 ∙ ap (λ (f : PendingFound). errorOut (f .pending)) ef in
+    let after = c .before .before .before .before .before .before .before .set-pending .ensures ∙ (λ x. set p (place x) (gone x)) in
+    c .before .before .before .send-notice .ensures (c .before .before .before .before .before .before .before .set-pending .last .0) cs l
+    ∙ ap (λ (o : Outcome). ending (a .out .now) o) (incoming-failed (a .runtime) p cs l (a .inflight .now) (a .id) (c .before .before .before .before .before .before .before .before .before .before .before .before .fail-plan .result .runtime) (c .before .before .before .before .before .before .before .set-pending .last .0) (c .before .before .before .before .before .before .before .before .before .before .before .before .fail-plan .result .message) found (e .2) after message)
+
+taken-with-requires : tie.Need-taken-with-requires
+taken-with-requires c = search needs
+
+same-length-4 : tie.Need-same-length-4
+same-length-4 c = search needs
+
+returns-2 : tie.Need-returns-2
+unfolding pendingAsked
+returns-2 c = λ cs l.
+    let a = c .before .before .before .before .before .before .before .before .before .before .args in
+    let ef = c .before .before .before .before .before .before .look-up-pending .ensures ∙ ap (λ (q : Question). pendingFound q (a .pending .now)) (c .before .before .before .before .before .before .before .before .at .ensures) in
+    let none = sym (c .before .before .before .before .fail-plan .ensures .0 ∙ ap (λ (f : PendingFound). f .found) ef) ∙ c .before .if1 .left in
+    none-failed (a .runtime) (a .pending .now) cs l (a .inflight .now) (a .id) (c .taken-with .result) (a .out .now) none (c .taken-with .ensures)
+
+pub fail-incoming-spec : {M : Type 1} → statement M
+fail-incoming-spec = tie.close (tie.spec at-requires look-up-pending-requires pending-gone-requires fail-plan-requires set-pending-requires send-notice-requires same-length same-length-2 same-length-3 returns taken-with-requires same-length-4 returns-2)

@@ -1,0 +1,47 @@
+-- One store, at the place found; past the end, none.
+mod Tie
+use Prim.Native.Nat.{ℕ}
+use mathlib.Core.Path.{_≡_, refl, sym, ap, _∙_}
+use mathlib.Core.Bool.{Bool, cond, not, _&&_}
+use mathlib.Core.List.{List}
+use lib.ListN.{length, set, getD}
+use Rattle.hnsr_circuit.specs.declared.records.Question.{Question}
+use Rattle.hnsr_circuit.specs.declared.records.RelayCircuit.{RelayCircuit}
+use Rattle.hnsr_circuit.specs.Table.{placeOf}
+use Rattle.hnsr_circuit.specs.Circuits.{noCircuit, circuitAt, lowered}
+use Rattle.hnsr_circuit.specs.Question.{circuitHas, circuitAsked}
+use Rattle.hnsr_circuit.specs.Laws.Edits.{edit-set}
+use borrow.Author.Needs.{needs}
+use native.Mathlib.Omega.{arith}
+use Rattle.hnsr_circuit.proofs.acknowledge.lower_circuit.Statement.{statement}
+use Rattle.hnsr_circuit.proofs.acknowledge.lower_circuit.Proof.Tie as tie
+
+at-requires : tie.Need-at-requires
+at-requires c = search needs
+
+find-circuit-requires : tie.Need-find-circuit-requires
+find-circuit-requires c = search needs
+
+circuit-at-requires : tie.Need-circuit-at-requires
+circuit-at-requires c = search needs
+
+circuit-lowered-requires : tie.Need-circuit-lowered-requires
+circuit-lowered-requires c = search needs
+
+set-circuit-requires : tie.Need-set-circuit-requires
+set-circuit-requires c = search needs
+
+same-length : tie.Need-same-length
+same-length c = search needs
+
+returns : tie.Need-returns
+unfolding circuitAsked
+returns c = let a = c .before .before .before .before .before .before .before .before .before .args in
+    let t = a .circuits .now in
+    let place = c .before .before .before .before .before .before .find-circuit .ensures ∙ ap (λ (q : Question). placeOf (circuitHas q) t) (c .before .before .before .before .before .before .before .before .at .ensures) in
+    let after = c .before .before .before .circuit-lowered .ensures ∙ ap (lowered (a .side) (a .n)) (c .before .before .before .before .circuit-at .ensures ∙ ap (λ (n : ℕ). getD t n noCircuit) place) in
+    c .before .set-circuit .ensures ∙ (λ x. cond (a .go) (set t (place x) (after x)) t)
+    ∙ ap (λ (u : List RelayCircuit). cond (a .go) u t) (sym (edit-set (circuitAt (a .id)) (lowered (a .side) (a .n)) noCircuit t))
+
+pub lower-circuit-spec : {M : Type 1} → statement M
+lower-circuit-spec = tie.close (tie.spec at-requires find-circuit-requires circuit-at-requires circuit-lowered-requires set-circuit-requires same-length returns)

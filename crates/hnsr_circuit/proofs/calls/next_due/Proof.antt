@@ -1,0 +1,51 @@
+-- The earliest of both tables, and a table that is too short tells nothing.
+mod Tie
+use Prim.Native.Nat.{ℕ}
+use mathlib.Core.Path.{_≡_, refl, sym, ap, _∙_}
+use mathlib.Core.Bool.{Bool, cond, _||_}
+use mathlib.Core.List.{List}
+use lib.Dec.{eqb}
+use lib.ListN.{length}
+use Rattle.hns_encoding.specs.Sums.{count}
+use Rattle.hnsr_circuit.specs.declared.records.Question.{Question}
+use Rattle.hnsr_circuit.specs.declared.answer.HnsrRuntimeError.the-variants.{Short}
+use Rattle.hnsr_circuit.specs.Answers.{check, _then_}
+use Rattle.hnsr_circuit.specs.Entry.{tablesAnswer, tablesShort}
+use Rattle.hnsr_circuit.specs.Progress.{worldOf}
+use Rattle.hnsr_circuit.specs.declared.records.NextDue.{NextDue}
+use Rattle.hnsr_circuit.specs.declared.records.NextDue.the-variants.{Never}
+use Rattle.hnsr_circuit.specs.declared.runtime.DueTold.{DueTold}
+use Rattle.hnsr_circuit.specs.NextDue.{circuitDue, dueOf, nextDue}
+use Rattle.hnsr_circuit.specs.Call.{step}
+use Rattle.hnsr_circuit.specs.Laws.QuietCalls.{tells-due}
+use borrow.Author.Needs.{needs}
+use native.Mathlib.Omega.{arith}
+use Rattle.hnsr_circuit.proofs.calls.next_due.Statement.{statement}
+use Rattle.hnsr_circuit.proofs.calls.next_due.Proof.Tie as tie
+
+pending-due-requires : tie.Need-pending-due-requires
+pending-due-requires c = search needs
+
+circuit-due-requires : tie.Need-circuit-due-requires
+circuit-due-requires c = search needs
+
+too-few-requires : tie.Need-too-few-requires
+too-few-requires c = search needs
+
+due-told-requires : tie.Need-due-told-requires
+due-told-requires c = search needs
+
+returns : tie.Need-returns
+unfolding step nextDue tablesAnswer tablesShort dueOf
+returns c = λ l.
+    let a = c .before .before .before .before .before .args in
+    let w = worldOf (a .runtime) (a .pending .now) (a .circuits .now) l (a .inflight .now) in
+    let few = c .before .too-few .ensures in
+    let all = c .before .before .circuit-due .ensures ∙ ap (λ (d : NextDue). circuitDue (a .circuits .now) d) (c .before .before .before .pending-due .ensures) in
+    let e = c .due-told .ensures in
+    (λ x. record { answer = e .0 x; due = e .1 x })
+    ∙ (λ x. record { answer = check (few x) Short; due = cond (few x) Never (all x) })
+    ∙ tells-due (tablesShort (a .runtime .config) w) (dueOf w) w
+
+pub next-due-spec : {M : Type 1} → statement M
+next-due-spec = tie.close (tie.spec pending-due-requires circuit-due-requires too-few-requires due-told-requires returns)

@@ -1,0 +1,30 @@
+-- One store or drop for each table.
+mod Tie
+use borrow.Author.Needs.{needs}
+use native.Mathlib.Omega.{arith}
+use Rattle.hnsr_circuit.proofs.handle_accept.accept_written.Statement.{statement}
+use Rattle.hnsr_circuit.proofs.handle_accept.accept_written.Proof.Tie as tie
+
+set-pending-requires : tie.Need-set-pending-requires
+set-pending-requires c = search needs
+
+put-circuit-requires : tie.Need-put-circuit-requires
+put-circuit-requires c = search needs
+
+drop-actions-requires : tie.Need-drop-actions-requires
+drop-actions-requires c = search needs
+
+same-length : tie.Need-same-length
+same-length c = search needs
+
+same-length-2 : tie.Need-same-length-2
+same-length-2 c = search needs
+
+same-length-3 : tie.Need-same-length-3
+same-length-3 c = search needs
+
+returns : tie.Need-returns
+returns c = (c .before .before .before .before .before .before .before .set-pending .ensures, c .before .before .before .before .put-circuit .ensures, c .before .drop-actions .ensures)
+
+pub accept-written-spec : {M : Type 1} → statement M
+accept-written-spec = tie.close (tie.spec set-pending-requires put-circuit-requires drop-actions-requires same-length same-length-2 same-length-3 returns)

@@ -1,0 +1,77 @@
+-- The record's row decides; where it is taken the pending record is put, the count goes up and INCOMING is sent.
+mod Tie
+use mathlib.Core.Path.{sym, ap, _∙_}
+use Rattle.hnsr_circuit.specs.declared.records.Question.{Question}
+use Rattle.hnsr_circuit.specs.declared.records.ActionQuestion.{ActionQuestion}
+use Rattle.hnsr_circuit.specs.World.{Outcome}
+use Rattle.hnsr_circuit.specs.Lookup.{usageFound}
+use Rattle.hnsr_circuit.specs.Queue.{actionsScanned}
+use Rattle.hnsr_circuit.specs.Progress.{asking, ending}
+use Rattle.hnsr_circuit.specs.Laws.Opening.{incomingOut, asking-counted, booked-ends}
+use borrow.Author.Needs.{needs}
+use native.Mathlib.Omega.{arith}
+use Rattle.hnsr_circuit.proofs.handle_open.open_booked.Statement.{statement}
+use Rattle.hnsr_circuit.proofs.handle_open.open_booked.Proof.Tie as tie
+
+at-reservation-requires : tie.Need-at-reservation-requires
+at-reservation-requires c = search needs
+
+look-up-usage-requires : tie.Need-look-up-usage-requires
+look-up-usage-requires c = search needs
+
+booked-answer-requires : tie.Need-booked-answer-requires
+booked-answer-requires c = search needs
+
+is-taken-requires : tie.Need-is-taken-requires
+is-taken-requires c = search needs
+
+pending-for-requires : tie.Need-pending-for-requires
+pending-for-requires c = search needs
+
+put-pending-requires : tie.Need-put-pending-requires
+put-pending-requires c = search needs
+
+opened-requires : tie.Need-opened-requires
+opened-requires c = search needs
+
+incoming-out-requires : tie.Need-incoming-out-requires
+incoming-out-requires c = search needs
+
+incoming-for-requires : tie.Need-incoming-for-requires
+incoming-for-requires c = search needs
+
+to-bytes-requires : tie.Need-to-bytes-requires
+to-bytes-requires c = search needs
+
+slice-aggregate-send : tie.Need-slice-aggregate-send
+slice-aggregate-send c = search needs
+
+send-requires : tie.Need-send-requires
+send-requires c κs =
+    let s = c .before .before .before .before .before .before .before .before .before .before .before .before .before .before .before .before .before .before in
+    let a = s .args in
+    let counted = c .before .before .before .before .before .before .opened .ensures in
+    let message = c .before .before .before .before .before .incoming-out .ensures in
+    let same = (λ x. asking (counted x) (message x)) ∙ asking-counted (c .before .before .before .before .before .before .before .before .before .before .before .is-taken .result) (a .runtime) (incomingOut (a .plan)) in
+    (s .pre ∙ ap (λ (q : ActionQuestion). actionsScanned q (a .inflight .now)) (sym same), omega arith)
+
+same-length : tie.Need-same-length
+same-length c = search needs
+
+same-length-2 : tie.Need-same-length-2
+same-length-2 c = search needs
+
+same-length-3 : tie.Need-same-length-3
+same-length-3 c = search needs
+
+returns : tie.Need-returns
+returns c = λ cs.
+    let a = c .before .before .before .before .before .before .before .before .before .before .before .before .before .before .before .before .before .before .before .before .before .before .args in
+    let found = c .before .before .before .before .before .before .before .before .before .before .before .before .before .before .before .before .before .look-up-usage .ensures ∙ ap (λ (q : Question). usageFound q (a .ledger .now)) (c .before .before .before .before .before .before .before .before .before .before .before .before .before .before .before .before .before .before .at-reservation .ensures) in
+    c .before .before .before .send .ensures _ cs (a .ledger .now)
+    ∙ ap (λ (o : Outcome). ending (a .out .now) o) (booked-ends (a .runtime) (a .pending .now) cs (a .ledger .now) (a .inflight .now) (a .before) (a .plan)
+    (c .before .before .before .before .before .before .before .before .before .before .before .before .before .before .before .before .before .look-up-usage .result) (c .before .before .before .before .before .before .before .before .before .before .before .before .before .before .before .before .booked-answer .result) (c .before .before .before .before .before .before .before .before .before .before .before .before .before .before .before .is-taken .result) (c .before .before .before .before .before .before .before .before .before .before .before .before .before .before .pending-for .result) _ (c .before .before .before .before .before .before .before .before .before .before .opened .result) (c .before .before .before .before .before .before .before .before .before .incoming-out .result) (c .before .before .before .before .before .before .before .before .incoming-for .result) (c .before .before .before .before .before .before .before .to-bytes .result)
+    found (c .before .before .before .before .before .before .before .before .before .before .before .before .before .before .before .before .booked-answer .ensures) (c .before .before .before .before .before .before .before .before .before .before .before .before .before .before .before .is-taken .ensures) (c .before .before .before .before .before .before .before .before .before .before .before .before .before .before .pending-for .ensures) (c .before .before .before .before .before .before .before .before .before .before .before .before .put-pending .ensures) (c .before .before .before .before .before .before .before .before .before .before .opened .ensures) (c .before .before .before .before .before .before .before .before .before .incoming-out .ensures) (c .before .before .before .before .before .before .before .before .incoming-for .ensures) (c .before .before .before .before .before .before .before .to-bytes .ensures))
+
+pub open-booked-spec : {M : Type 1} → statement M
+open-booked-spec = tie.close (tie.spec at-reservation-requires look-up-usage-requires booked-answer-requires is-taken-requires pending-for-requires put-pending-requires opened-requires incoming-out-requires incoming-for-requires to-bytes-requires slice-aggregate-send send-requires same-length same-length-2 same-length-3 returns)

@@ -1,0 +1,451 @@
+-- What the code of ACCEPT and OPEN decides before it writes, and that what it writes where it goes on is the definition's world, while a
+-- refusal leaves everything as it was.
+use Prim.Native.Nat.{ℕ, suc, _+_, _-_, _/_, _≤_, _<_}
+use native.Mathlib.Omega.{arith}
+use mathlib.Core.Path.{_≡_, refl, sym, ap, _∙_}
+use mathlib.Core.Bool.{Bool, true, false, cond, not, _||_, true≢false}
+use mathlib.Core.List.{List, [], _∷_}
+use lib.Dec.{eqb, ltb, leb}
+use lib.ListN.{length, take, drop, set, length-drop}
+use lib.Seq.{drop-drop}
+use borrow.Author.Tests.{eqb-true, lt-ltb, le-ltb, le-leb, lt-leb, ltb-true, ltb-false, leb-true, leb-false}
+use Rattle.hns_encoding.specs.Numbers.{top, saturatingAdd}
+use Rattle.hns_encoding.specs.Bytes.{be}
+use Rattle.hns_encoding.specs.Sums.{non, count}
+use Rattle.hns_encoding.specs.Laws.Tests.{split, both, on-true, cond-map}
+use Rattle.hnsr_body.specs.declared.accept_body.AcceptRead.{AcceptRead}
+use Rattle.hnsr_body.specs.declared.accept_body.AcceptBody.{AcceptBody}
+use Rattle.hnsr_body.specs.Accept.{decodeAccept, acceptFields, openedBytes}
+use Rattle.hnsr_body.specs.declared.open_body.OpenRead.{OpenRead}
+use Rattle.hnsr_body.specs.declared.incoming_body.IncomingBody.{IncomingBody}
+use Rattle.hnsr_body.specs.declared.values.ReservationId.{ReservationId}
+use Rattle.hnsr_body.specs.Open.{decodeOpen}
+use Rattle.hnsr_body.specs.Incoming.{incomingBytes}
+use Rattle.hnsr_circuit.specs.declared.accept.AcceptPlan.{AcceptPlan}
+use Rattle.hnsr_circuit.specs.declared.open.OpenGathered.{OpenGathered}
+use Rattle.hnsr_circuit.specs.declared.open.OpenPlan.{OpenPlan}
+use Rattle.hnsr_circuit.specs.declared.open.LedgerRoom.{LedgerRoom}
+use Rattle.hnsr_circuit.specs.declared.config.OpaqueRelayConfig.{OpaqueRelayConfig}
+use Rattle.hnsr_circuit.specs.declared.peer.HnsrPeerId.{HnsrPeerId}
+use Rattle.hnsr_circuit.specs.declared.records.RelayTicket.{RelayTicket}
+use Rattle.hnsr_circuit.specs.declared.records.RelayPending.{RelayPending}
+use Rattle.hnsr_circuit.specs.declared.records.RelayCircuit.{RelayCircuit}
+use Rattle.hnsr_circuit.specs.declared.records.ReservationUsage.{ReservationUsage}
+use Rattle.hnsr_circuit.specs.declared.records.InflightAction.{InflightAction}
+use Rattle.hnsr_circuit.specs.declared.records.InflightTally.{InflightTally}
+use Rattle.hnsr_circuit.specs.declared.records.PendingFound.{PendingFound}
+use Rattle.hnsr_circuit.specs.declared.records.UsageFound.{UsageFound}
+use Rattle.hnsr_circuit.specs.declared.records.ActionScan.{ActionScan}
+use Rattle.hnsr_circuit.specs.declared.records.Drawing.{Drawing}
+use Rattle.hnsr_circuit.specs.declared.records.Outgoing.{Outgoing}
+use Rattle.hnsr_circuit.specs.declared.records.Work.{Work}
+use Rattle.hnsr_circuit.specs.declared.records.WorkQuestion.{WorkQuestion}
+use Rattle.hnsr_circuit.specs.declared.records.ActionQuestion.{ActionQuestion}
+use Rattle.hnsr_circuit.specs.declared.records.InflightKind.the-variants.{Opened, Incoming}
+use Rattle.hnsr_circuit.specs.declared.records.RelayPacket.{RelayPacket}
+use Rattle.hnsr_circuit.specs.declared.runtime.OpaqueRelayRuntime.{OpaqueRelayRuntime}
+use Rattle.hnsr_circuit.specs.declared.answer.HnsrAnswer.{HnsrAnswer}
+use Rattle.hnsr_circuit.specs.declared.answer.HnsrAnswer.the-variants.{Taken, Refused}
+use Rattle.hnsr_circuit.specs.declared.answer.HnsrRuntimeError.the-variants.{UnknownRequest}
+use Rattle.hnsr_circuit.specs.Table.{any, pick, placeOf, put, edit}
+use Rattle.hnsr_circuit.specs.Answers.{check, bodyAnswer, taken, _then_}
+use Rattle.hnsr_circuit.specs.Peer.{peerOf, samePeer}
+use Rattle.hnsr_circuit.specs.Pending.{noPending, isPending, pendingAt, clearPending}
+use Rattle.hnsr_circuit.specs.Ledger.{noUsage, isUsage, usageAt, freshUsage, lapsed, usageOf, booked, ledgerAnswer, usageAnswer}
+use Rattle.hnsr_circuit.specs.Circuits.{isCircuit, circuitAt}
+use Rattle.hnsr_circuit.specs.Inflight.{actionUnder, dropped, tallied, capacityAnswer}
+use Rattle.hnsr_circuit.specs.Header.{withCounters, countAccept, countOpen}
+use Rattle.hnsr_circuit.specs.World.{World, Outcome, proceed}
+use Rattle.hnsr_circuit.specs.Queue.{send, actionsScanned, opOpened, opIncoming}
+use Rattle.hnsr_circuit.specs.Counts.{pendingCount, circuitCount, peerWork, reservationWork}
+use Rattle.hnsr_circuit.specs.Question.{at, atReservation, pendingAsked, usageAsked, pendingWork, circuitWork}
+use Rattle.hnsr_circuit.specs.Lookup.{pendingFound, usageFound}
+use Rattle.hnsr_circuit.specs.Entry.{peerAnswer}
+use Rattle.hnsr_circuit.specs.Draw.{undrawn, drawsFrom, draws, drawTurn, drawAll, idTaken, drawn, drawAnswer}
+use Rattle.hnsr_circuit.specs.Packet.{Packet, sender}
+use Rattle.hnsr_circuit.specs.Accept.{requestAnswer, acceptAnswer, circuitFor, withAccept, openedFor, openedMessage, acceptTaken, acceptWith, handleAccept}
+use Rattle.hnsr_circuit.specs.Open.{Opening, opening, openAnswer, admissionAnswer, endpointAnswer, deadlineAnswer, deadlineFor, pendingFor, incomingFor, incomingMessage, withOpen, openAdmitted, openPlaced, openBooked, openGranted, openLapsed, handleOpen}
+use Rattle.hnsr_circuit.specs.Progress.{worldOf, messageOf, packetOf, asking}
+use Rattle.hnsr_circuit.specs.Laws.Answers.{check-taken, then-taken}
+use Rattle.hnsr_circuit.specs.Laws.Lookups.{pick-at, pick-has, place-any}
+use Rattle.hnsr_circuit.specs.Laws.Edits.{edit-set}
+
+-- ---- a sum that stops at its top, against a number of 16 bits
+pub ltb-sum : (n a b : ℕ) → n < 65536 → ltb n (saturatingAdd 64 a b) ≡ ltb n (a + b)
+ltb-sum n a b h = split (ltb n (a + b))
+    (λ e. lt-ltb n (saturatingAdd 64 a b) (omega (arith, ltb-true n (a + b) e)) ∙ sym e)
+    (λ e. le-ltb n (saturatingAdd 64 a b) (omega (arith, ltb-false n (a + b) e)) ∙ sym e)
+
+pub leb-sum : (n a b : ℕ) → n < 65536 → leb n (saturatingAdd 64 a b) ≡ leb n (a + b)
+leb-sum n a b h = split (leb n (a + b))
+    (λ e. le-leb n (saturatingAdd 64 a b) (omega (arith, leb-true n (a + b) e)) ∙ sym e)
+    (λ e. lt-leb n (saturatingAdd 64 a b) (omega (arith, leb-false n (a + b) e)) ∙ sym e)
+
+-- ---- a place for a record: what is found, else the lowest unused
+abbrev pub putPlace : (place places spare : ℕ) → ℕ
+putPlace place places spare = cond (ltb place places) place spare
+
+pub put-place : {A : Type 0} (p u : A → Bool) (t : List A) → putPlace (placeOf p t) (length t) (placeOf u t) ≡ cond (any p t) (placeOf p t) (placeOf u t)
+put-place p u t = ap (λ (b : Bool). cond b (placeOf p t) (placeOf u t)) (place-any p t)
+
+-- ---- what was answered before stays the answer: the world moves on only where the answer is taken
+proceed-on : (a : HnsrAnswer) (w x : World) (f : World → Outcome) → proceed (cond (taken a) x w) a (f (cond (taken a) x w)) ≡ proceed w a (f x)
+unfolding proceed
+proceed-on Taken w x f = refl
+proceed-on (Refused e) w x f = refl
+
+proceed-then : (a b : HnsrAnswer) (w x : World) (f : World → Outcome)
+    → proceed (cond (taken (a then b)) x w) (a then b) (f (cond (taken (a then b)) x w)) ≡ proceed w a (proceed w b (f x))
+unfolding proceed
+proceed-then Taken Taken w x f = refl
+proceed-then Taken (Refused e) w x f = refl
+proceed-then (Refused e) b w x f = refl
+
+-- ---- ACCEPT
+abbrev pub acceptRows : OpaqueRelayConfig → PendingFound → HnsrPeerId → (now : ℕ) → AcceptRead → (waiting running : Work) → InflightTally → HnsrAnswer
+acceptRows c f peer now read waiting running t =
+    requestAnswer (f .found) (f .pending) peer now
+    then bodyAnswer (read .result)
+    then acceptAnswer c (f .pending) (read .body) (running .used) (waiting .under + running .under)
+    then capacityAnswer c t
+
+abbrev pub acceptWork : PendingFound → WorkQuestion
+acceptWork f = record {
+  peer = f .pending .requester;
+  other = f .pending .requester;
+  reservation = f .pending .ticket .«reservation_id»;
+  context = 0;
+}
+
+abbrev pub replacing : PendingFound → (id : ℕ) → ActionQuestion
+replacing f id = record { replacing = true; «circuit_id» = id; peer = f .pending .requester; generation = 0; sequence = 0 }
+
+abbrev pub acceptPlan : HnsrAnswer → OpaqueRelayRuntime → PendingFound → AcceptRead → AcceptPlan
+acceptPlan a h f read = record {
+  go = taken a;
+  place = f .place;
+  id = f .pending .«circuit_id»;
+  runtime = cond (taken a) (withCounters h (countAccept (h .counters))) h;
+  message = record {
+    destination = f .pending .requester;
+    «circuit_id» = f .pending .«circuit_id»;
+    opcode = opOpened;
+    «context_id» = f .pending .«requester_context»;
+    kind = Opened;
+    «to_endpoint» = false;
+    bytes = 0;
+  };
+  opened = openedFor (f .pending) (read .body);
+}
+
+-- the rows over the tables are the definition's
+pub accept-taken : (h : OpaqueRelayRuntime) (p : List RelayPending) (c : List RelayCircuit) (l : List ReservationUsage) (i : List InflightAction)
+    (q : RelayPacket) (source body e rs : List ℕ)
+    → (let f = pendingFound (at (q .«context_id») 0) p in
+    acceptRows (h .config) f (peerOf source) (q .now) (decodeAccept body) (pendingWork (acceptWork f) p) (circuitWork (acceptWork f) c) (tallied true (q .«context_id») (f .pending .requester) i))
+    ≡ acceptTaken (worldOf h p c l i) (packetOf q source body e rs) (pick (pendingAt (q .«context_id»)) noPending p) (acceptFields body)
+unfolding acceptTaken pendingWork circuitWork circuitCount reservationWork sender decodeAccept pendingAsked
+accept-taken h p c l i q source body e rs = refl
+
+-- a taken ACCEPT found its pending record
+accept-found : (w : World) (q : Packet) (p : RelayPending) (b : AcceptBody) → acceptTaken w q p b ≡ Taken → any (pendingAt (q .context)) (w .pending) ≡ true
+unfolding acceptTaken requestAnswer
+accept-found w q p b h =
+    let found = any (pendingAt (q .context)) (w .pending) in
+    let a = then-taken (requestAnswer found p (sender q) (q .now)) _ h .0 in
+    let k = then-taken (check (not found) UnknownRequest) _ a .0 in
+    split found (λ t. t) (λ n. absurd (true≢false (rw n at (check-taken (not found) UnknownRequest k))))
+
+-- the pending record, its mark cleared at the place where it was found
+unmarked : (id : ℕ) (t : List RelayPending) → any (pendingAt id) t ≡ true
+    → set t (placeOf (pendingAt id) t) (clearPending (pick (pendingAt id) noPending t)) ≡ edit (pendingAt (pick (pendingAt id) noPending t .«circuit_id»)) clearPending t
+unfolding pendingAt
+unmarked id t h =
+    let p = pick (pendingAt id) noPending t in
+    let k = eqb-true (p .«circuit_id») id (both (p .used) (eqb (p .«circuit_id») id) (pick-has (pendingAt id) noPending t h) .1) in
+    sym (ap (λ (n : ℕ). edit (pendingAt n) clearPending t) k ∙ edit-set (pendingAt id) clearPending noPending t
+    ∙ ap (λ (x : RelayPending). set t (placeOf (pendingAt id) t) (clearPending x)) (pick-at (pendingAt id) noPending t))
+
+module _ (h : OpaqueRelayRuntime) (p : List RelayPending) (c : List RelayCircuit) (l : List ReservationUsage) (i : List InflightAction)
+    (q : RelayPacket) (source body e rs : List ℕ) where
+  -- what ACCEPT leaves where it goes on is the definition's world
+  accept-world : (a : HnsrAnswer)
+      → (let f = pendingFound (at (q .«context_id») 0) p in let g = acceptPlan a h f (decodeAccept body) in let w = worldOf h p c l i in
+      a ≡ acceptTaken w (packetOf q source body e rs) (f .pending) (acceptFields body)
+      → worldOf (g .runtime) (cond (g .go) (set p (g .place) (clearPending (f .pending))) p)
+      (cond (g .go) (put isCircuit (circuitAt (g .id)) (circuitFor (h .config) (f .pending) (acceptFields body)) c) c) l
+      (cond (g .go) (dropped (actionUnder (g .id)) i) i)
+      ≡ cond (taken a) (withAccept w (f .pending) (acceptFields body)) w)
+  unfolding withAccept pendingAsked
+  accept-world Taken ea =
+      let f = pendingFound (at (q .«context_id») 0) p in
+      let g = acceptPlan Taken h f (decodeAccept body) in
+      let found = accept-found (worldOf h p c l i) (packetOf q source body e rs) (f .pending) (acceptFields body) (sym ea) in
+      ap (λ (t : List RelayPending). worldOf (g .runtime) t
+      (put isCircuit (circuitAt (g .id)) (circuitFor (h .config) (f .pending) (acceptFields body)) c) l (dropped (actionUnder (g .id)) i))
+      (unmarked (q .«context_id») p found)
+  accept-world (Refused er) ea = refl
+
+  pub accept-ends : (f : PendingFound) (read : AcceptRead) (a : HnsrAnswer) (g : AcceptPlan) (row : RelayPending) (circuit : RelayCircuit)
+      (p′ : List RelayPending) (c′ : List RelayCircuit) (i′ : List InflightAction)
+      → f ≡ pendingFound (at (q .«context_id») 0) p → read ≡ decodeAccept body
+      → a ≡ acceptRows (h .config) f (peerOf source) (q .now) read (pendingWork (acceptWork f) p) (circuitWork (acceptWork f) c) (tallied true (q .«context_id») (f .pending .requester) i)
+      → g ≡ acceptPlan a h f read → row ≡ clearPending (f .pending) → circuit ≡ circuitFor (h .config) (f .pending) (read .body)
+      → p′ ≡ cond (g .go) (set p (g .place) row) p
+      → c′ ≡ cond (g .go) (put isCircuit (circuitAt (g .id)) circuit c) c
+      → i′ ≡ cond (g .go) (dropped (actionUnder (g .id)) i) i
+      → (let w = worldOf (g .runtime) p′ c′ l i′ in proceed w a (send w (messageOf (g .message) (openedBytes (g .opened)))))
+      ≡ handleAccept (worldOf h p c l i) (packetOf q source body e rs)
+  unfolding handleAccept acceptWith openedMessage pendingAsked decodeAccept
+  accept-ends f read a g row circuit p′ c′ i′ ef er ea eg eo ec ep es ei =
+      let ft = pendingFound (at (q .«context_id») 0) p in
+      let rt = decodeAccept body in
+      let w = worldOf h p c l i in
+      let m = openedMessage (ft .pending) (acceptFields body) in
+      let at′ : a ≡ acceptTaken w (packetOf q source body e rs) (ft .pending) (acceptFields body) = ea ∙ rw (ef, er) (accept-taken h p c l i q source body e rs) in
+      rw (ep, es, ei, eg, eo, ec, ef, er)
+      (ap (λ (x : World). proceed x a (send x m)) (accept-world a at′)
+      ∙ proceed-on a w (withAccept w (ft .pending) (acceptFields body)) (λ x. send x m)
+      ∙ ap (λ (k : HnsrAnswer). proceed w k (send (withAccept w (ft .pending) (acceptFields body)) m)) at′)
+
+-- ---- OPEN: numbers
+pub ltb-less : (now n : ℕ) → now < 18446744073709551616 → ltb (top 64 - now) n ≡ ltb (top 64) (now + n)
+ltb-less now n h = split (ltb (top 64) (now + n))
+    (λ e. lt-ltb (top 64 - now) n (omega (arith, ltb-true (top 64) (now + n) e)) ∙ sym e)
+    (λ e. le-ltb (top 64 - now) n (omega (arith, ltb-false (top 64) (now + n) e)) ∙ sym e)
+
+-- ---- OPEN: the drawing
+abbrev pub isTaken : List RelayPending → List RelayCircuit → (id : ℕ) → Bool
+isTaken p c id = any (pendingAt id) p || any (circuitAt id) c
+
+pub draws-step : (xs : List ℕ) → 8 ≤ length xs → draws xs ≡ be (take 8 xs) ∷ draws (drop 8 xs)
+unfolding draws drawsFrom
+draws-step xs h =
+    let k = length-drop 8 xs in
+    let e : length xs / 8 ≡ suc (length (drop 8 xs) / 8) = omega arith in
+    ap (λ (n : ℕ). drawsFrom n xs) e
+
+pub draws-short : (xs : List ℕ) → length xs < 8 → draws xs ≡ []
+unfolding draws drawsFrom
+draws-short xs h =
+    let e : length xs / 8 ≡ 0 = omega arith in
+    ap (λ (n : ℕ). drawsFrom n xs) e
+
+-- a drawing that ended stays
+pub draw-ended : (taken : ℕ → Bool) (s : Drawing) (ids : List ℕ) → s .ended ≡ true → drawAll taken s ids ≡ s
+unfolding drawAll drawTurn
+draw-ended taken s [] h = refl
+draw-ended taken s (id ∷ ids) h = ap (λ (y : Drawing). drawAll taken y ids) (on-true (s .ended) s _ h) ∙ draw-ended taken s ids h
+
+-- one that goes on has both counts below their most
+abbrev pub DrawSmall : Drawing → Type 0
+DrawSmall s = s .ended ≡ false → (s .zeros < 8) × (s .candidates < 8)
+
+pub draw-small : (s : Drawing) (id : ℕ) (t : Bool) → DrawSmall s → s .ended ≡ false → DrawSmall (drawTurn s id t)
+unfolding drawTurn
+draw-small s id t h g =
+    let k = h g in
+    rw g
+    (split (eqb id 0)
+    (λ z. rw z (λ e. let l = leb-false 8 (s .zeros + 1) e in (omega arith, k .1)))
+    (λ z. rw z (split t
+    (λ y. rw y (λ e. let l = leb-false 8 (s .candidates + 1) e in (omega arith, omega arith)))
+    (λ y. rw y (λ e. absurd (true≢false e))))))
+
+-- a drawing under way: what is left to draw gives what all draws give
+pub draw-start : (s : Drawing) → s ≡ undrawn → DrawSmall s
+draw-start s e = rw e (λ g. (omega arith, omega arith))
+
+pub draw-on : (s s′ : Drawing) (id : ℕ) (t : Bool) → DrawSmall s → s .ended ≡ false → s′ ≡ drawTurn s id t → DrawSmall s′
+draw-on s s′ id t h g e = rw e (draw-small s id t h g)
+
+module _ (t : ℕ → Bool) (xs : List ℕ) (at : ℕ) (s r : Drawing) (h : drawAll t s (draws (drop at xs)) ≡ r) where
+  pub draw-next : (s′ : Drawing) (id : ℕ) (k : Bool) → at + 8 ≤ length xs → id ≡ be (take 8 (drop at xs)) → k ≡ t id → s′ ≡ drawTurn s id k
+      → drawAll t s′ (draws (drop (at + 8) xs)) ≡ r
+  unfolding drawAll
+  draw-next s′ id k l ei ek es =
+      let n = length-drop at xs in
+      let one = draws-step (drop at xs) (omega arith) ∙ ap (λ (ys : List ℕ). be (take 8 (drop at xs)) ∷ draws ys) (drop-drop 8 at xs) in
+      rw (es, ek, ei) (sym (ap (λ (ids : List ℕ). drawAll t s ids) one) ∙ h)
+
+  pub draw-stop : s .ended ≡ true → s ≡ r
+  draw-stop g = sym (draw-ended t s (draws (drop at xs)) g) ∙ h
+
+  pub draw-over : length xs - at < 8 → s ≡ r
+  unfolding drawAll
+  draw-over l =
+      let n = length-drop at xs in
+      sym (ap (λ (ids : List ℕ). drawAll t s ids) (draws-short (drop at xs) (omega arith))) ∙ h
+
+-- ---- OPEN: what the code gathers and decides
+abbrev pub openWork : RelayPacket → (requester endpoint : HnsrPeerId) → OpenRead → WorkQuestion
+openWork q requester endpoint read = record
+    { peer = requester; other = endpoint; reservation = read .body .«reservation_id»; context = q .«context_id» }
+
+abbrev pub openGathering : RelayPacket → (requester endpoint : HnsrPeerId) → (size : ℕ) → OpenRead → (waiting running : Work) → OpenGathered
+openGathering q requester endpoint size read waiting running = record
+    { packet = q; requester = requester; endpoint = endpoint; size = size; read = read; waiting = waiting; running = running }
+
+abbrev pub gathering : RelayPacket → (source body endpoint : List ℕ) → List RelayPending → List RelayCircuit → OpenGathered
+gathering q source body endpoint p c =
+    let read = decodeOpen (q .«key_valid») body in
+    let k = openWork q (peerOf source) (peerOf endpoint) read in
+    openGathering q (peerOf source) (peerOf endpoint) (length endpoint) read (pendingWork k p) (circuitWork k c)
+
+abbrev pub openRows : OpaqueRelayConfig → OpenGathered → HnsrAnswer
+openRows c g =
+    openAnswer c (g .waiting .used) (g .running .used) (g .waiting .«of_peer» + g .running .«of_peer») (g .waiting .repeated)
+    then bodyAnswer (g .read .result)
+    then admissionAnswer (g .packet .admitted) (g .packet .ticket .«expires_at») (g .packet .now)
+
+abbrev pub openPlan : OpaqueRelayConfig → OpenGathered → Drawing → OpenPlan
+openPlan c g d = record {
+  requester = g .requester;
+  context = g .packet .«context_id»;
+  body = g .read .body;
+  endpoint = g .endpoint;
+  ticket = g .packet .ticket;
+  id = d .id;
+  deadline = deadlineFor c (g .packet .ticket) (g .packet .now);
+}
+
+abbrev pub openingOf : OpenPlan → Opening
+openingOf o = record {
+  requester = o .requester;
+  context = o .context;
+  body = o .body;
+  endpoint = o .endpoint;
+  ticket = o .ticket;
+  id = o .id;
+  deadline = o .deadline;
+}
+
+abbrev pub incomingOut : OpenPlan → Outgoing
+incomingOut o = record {
+  destination = o .endpoint;
+  «circuit_id» = o .id;
+  opcode = opIncoming;
+  «context_id» = o .id;
+  kind = Incoming;
+  «to_endpoint» = false;
+  bytes = 0;
+}
+
+abbrev pub ledgerRoom : (place used places : ℕ) → LedgerRoom
+ledgerRoom place used places = record { found = ltb place places; used = used; places = places }
+
+abbrev pub ledgerAsked : ReservationId → List ReservationUsage → LedgerRoom
+ledgerAsked id l = record { found = any (usageAt id) l; used = count isUsage l; places = length l }
+
+abbrev pub placedRows : OpaqueRelayConfig → OpenGathered → OpenPlan → Drawing → ActionScan → LedgerRoom → HnsrAnswer
+placedRows c g o d s r =
+    peerAnswer (g .size)
+    then endpointAnswer c (o .ticket) (samePeer (o .endpoint) (o .requester)) (g .waiting .«of_other» + g .running .«of_other»)
+    (g .waiting .under + g .running .under)
+    then drawAnswer d
+    then capacityAnswer c (s .tally)
+    then deadlineAnswer c (g .packet .now)
+    then ledgerAnswer (r .found) (r .used) (r .places)
+
+-- ---- OPEN: the ledger record
+pick-else : {A : Type 0} (p : A → Bool) (d e : A) (t : List A) → cond (any p t) (pick p e t) d ≡ pick p d t
+pick-else p d e [] = refl
+pick-else p d e (x ∷ xs) = split (p x) (λ k. rw k) (λ k. rw k (pick-else p d e xs))
+
+pub booked-set : (t : RelayTicket) (l : List ReservationUsage) → (let f = usageFound (atReservation (t .«reservation_id»)) l in
+    set l (cond (f .found) (f .place) (placeOf (non isUsage) l)) (cond (f .found) (f .usage) (freshUsage t)) ≡ booked t l)
+unfolding booked usageAsked
+booked-set t l = let p = usageAt (t .«reservation_id») in
+    ap (λ (u : ReservationUsage). set l (cond (any p l) (placeOf p l) (placeOf (non isUsage) l)) u) (pick-else p (freshUsage t) noUsage l)
+
+-- ---- OPEN: the stages
+-- counting moves no number that an action has
+pub asking-counted : (go : Bool) (h : OpaqueRelayRuntime) (m : Outgoing) → asking (cond go (withCounters h (countOpen (h .counters))) h) m ≡ asking h m
+asking-counted true h m = refl
+asking-counted false h m = refl
+
+module _ (h : OpaqueRelayRuntime) (p : List RelayPending) (c : List RelayCircuit) (l : List ReservationUsage) (i : List InflightAction)
+    (before : HnsrAnswer) where
+  open-world : (a : HnsrAnswer) (o : OpenPlan)
+      → worldOf (cond (taken a) (withCounters h (countOpen (h .counters))) h)
+      (cond (taken a) (put isPending (pendingAt (o .id)) (pendingFor (openingOf o)) p) p) c l i
+      ≡ cond (taken a) (withOpen (worldOf h p c l i) (openingOf o)) (worldOf h p c l i)
+  unfolding withOpen
+  open-world Taken o = refl
+  open-world (Refused e) o = refl
+
+  pub booked-ends : (o : OpenPlan) (f : UsageFound) (a : HnsrAnswer) (go : Bool) (row : RelayPending) (p′ : List RelayPending)
+      (h′ : OpaqueRelayRuntime) (m : Outgoing) (n : IncomingBody) (bytes : List ℕ)
+      → f ≡ usageFound (atReservation (o .ticket .«reservation_id»)) l → a ≡ (before then usageAnswer (o .ticket) (f .usage)) → go ≡ taken a
+      → row ≡ pendingFor (openingOf o) → p′ ≡ cond go (put isPending (pendingAt (o .id)) row p) p
+      → h′ ≡ cond go (withCounters h (countOpen (h .counters))) h → m ≡ incomingOut o → n ≡ incomingFor (openingOf o) → bytes ≡ incomingBytes n
+      → (let w = worldOf h′ p′ c l i in proceed w a (send w (messageOf m bytes)))
+      ≡ (let w = worldOf h p c l i in proceed w before (openBooked w (openingOf o)))
+  unfolding openBooked incomingMessage usageAsked
+  booked-ends o f a go row p′ h′ m n bytes ef ea eg er ep eh em en eb =
+      let w = worldOf h p c l i in
+      let u = usageAnswer (o .ticket) (usageOf (o .ticket .«reservation_id») l) in
+      let x = withOpen w (openingOf o) in
+      let k = incomingMessage (openingOf o) in
+      let ea′ : a ≡ (before then u) = ea ∙ ap (λ (v : UsageFound). before then usageAnswer (o .ticket) (v .usage)) ef in
+      rw (ep, eh, eg, er, eb, en, em)
+      (ap (λ (y : World). proceed y a (send y k)) (open-world a o)
+      ∙ ap (λ (b : HnsrAnswer). proceed (cond (taken b) x w) b (send (cond (taken b) x w) k)) ea′
+      ∙ proceed-then before u w x (λ y. send y k))
+
+module _ (h : OpaqueRelayRuntime) (p : List RelayPending) (c : List RelayCircuit) (l : List ReservationUsage) (i : List InflightAction)
+    (q : RelayPacket) (source body endpoint rs : List ℕ) where
+  -- the rows are the definition's
+  open-admitted : openRows (h .config) (gathering q source body endpoint p c) ≡ openAdmitted (worldOf h p c l i) (packetOf q source body endpoint rs)
+  unfolding openAdmitted pendingCount circuitCount peerWork pendingWork circuitWork sender
+  open-admitted = refl
+
+  abbrev drawing : Drawing
+  drawing = drawAll (isTaken p c) undrawn (draws rs)
+
+  abbrev plan : OpenPlan
+  plan = openPlan (h .config) (gathering q source body endpoint p c) drawing
+
+  open-opening : openingOf plan ≡ opening (worldOf h p c l i) (packetOf q source body endpoint rs)
+  unfolding drawn idTaken decodeOpen sender
+  open-opening = refl
+
+  open-placed : placedRows (h .config) (gathering q source body endpoint p c) plan drawing (actionsScanned (asking h (incomingOut plan)) i) (ledgerAsked (q .ticket .«reservation_id») l)
+      ≡ openPlaced (worldOf h p c l i) (packetOf q source body endpoint rs) (openingOf plan)
+  unfolding openPlaced peerWork reservationWork pendingWork circuitWork drawn idTaken decodeOpen actionsScanned sender
+  open-placed = refl
+
+  pub lapsed-ends : (before : HnsrAnswer) (g : OpenGathered) (d : Drawing) (o : OpenPlan) (m : Outgoing) (k : ActionQuestion) (s : ActionScan)
+      (r : LedgerRoom) (own a : HnsrAnswer) (go : Bool) (l′ : List ReservationUsage)
+      → g ≡ gathering q source body endpoint p c → d ≡ drawAll (isTaken p c) undrawn (draws rs) → o ≡ openPlan (h .config) g d
+      → m ≡ incomingOut o → k ≡ asking h m → s ≡ actionsScanned k i → r ≡ ledgerAsked (o .ticket .«reservation_id») l
+      → own ≡ placedRows (h .config) g o d s r → a ≡ (before then own) → go ≡ taken a → l′ ≡ cond go (booked (o .ticket) l) l
+      → (let w = worldOf h p c l′ i in proceed w a (openBooked w (openingOf o)))
+      ≡ (let w = worldOf h p c l i in proceed w before (openLapsed w (packetOf q source body endpoint rs)))
+  unfolding openLapsed openGranted
+  lapsed-ends before g d o m k s r own a go l′ eg ed eo em ek es er ew ea ego el =
+      let w = worldOf h p c l i in
+      let x = worldOf h p c (booked (q .ticket) l) i in
+      let t = openPlaced w (packetOf q source body endpoint rs) (openingOf plan) in
+      let own′ : own ≡ t = ew ∙ rw (er, es, ek, em, eo, ed, eg) open-placed in
+      let a′ : a ≡ (before then t) = ea ∙ ap (λ (b : HnsrAnswer). before then b) own′ in
+      rw (el, ego, eo, eg, ed)
+      (ap (λ (y : World). proceed y a (openBooked y (openingOf plan))) (cond-map (λ (z : List ReservationUsage). worldOf h p c z i) (taken a) (booked (q .ticket) l) l)
+      ∙ ap (λ (b : HnsrAnswer). proceed (cond (taken b) x w) b (openBooked (cond (taken b) x w) (openingOf plan))) a′
+      ∙ proceed-then before t w x (λ y. openBooked y (openingOf plan))
+      ∙ ap (λ (v : Opening). proceed w before (openGranted w (packetOf q source body endpoint rs) v)) open-opening)
+
+  pub open-ends : (g : OpenGathered) (a : HnsrAnswer) (go : Bool) (l′ : List ReservationUsage)
+      → g ≡ gathering q source body endpoint p c → a ≡ openRows (h .config) g → go ≡ taken a → l′ ≡ cond go (lapsed (q .now) l) l
+      → (let w = worldOf h p c l′ i in proceed w a (openLapsed w (packetOf q source body endpoint rs)))
+      ≡ handleOpen (worldOf h p c l i) (packetOf q source body endpoint rs)
+  unfolding handleOpen
+  open-ends g a go l′ eg ea ego el =
+      let w = worldOf h p c l i in
+      let v = packetOf q source body endpoint rs in
+      let x = worldOf h p c (lapsed (q .now) l) i in
+      let a′ : a ≡ openAdmitted w v = ea ∙ ap (λ (y : OpenGathered). openRows (h .config) y) eg ∙ open-admitted in
+      rw (el, ego)
+      (ap (λ (y : World). proceed y a (openLapsed y v)) (cond-map (λ (z : List ReservationUsage). worldOf h p c z i) (taken a) (lapsed (q .now) l) l)
+      ∙ proceed-on a w x (λ y. openLapsed y v)
+      ∙ ap (λ (b : HnsrAnswer). proceed w b (openLapsed x v)) a′)

@@ -1,0 +1,105 @@
+-- The calls that send nothing: what the code hands back is what the definition tells, or makes.
+use Prim.Native.Nat.{ℕ}
+use mathlib.Core.Path.{_≡_, refl, sym, ap, _∙_, subst}
+use mathlib.Core.Bool.{Bool, true, false, true≢false, false≢true, cond}
+use mathlib.Core.List.{List, []}
+use Rattle.hnsr_circuit.specs.declared.config.OpaqueRelayConfig.{OpaqueRelayConfig}
+use Rattle.hnsr_circuit.specs.declared.records.RelayPending.{RelayPending}
+use Rattle.hnsr_circuit.specs.declared.records.RelayCircuit.{RelayCircuit}
+use Rattle.hnsr_circuit.specs.declared.records.ReservationUsage.{ReservationUsage}
+use Rattle.hnsr_circuit.specs.declared.records.InflightAction.{InflightAction}
+use Rattle.hnsr_circuit.specs.declared.records.Question.{Question}
+use Rattle.hnsr_circuit.specs.declared.records.NextDue.{NextDue}
+use Rattle.hnsr_circuit.specs.declared.records.NextDue.the-variants.{Never}
+use Rattle.hnsr_circuit.specs.declared.runtime.OpaqueRelayRuntime.{OpaqueRelayRuntime}
+use Rattle.hnsr_circuit.specs.declared.runtime.HnsrRuntimeStatus.{HnsrRuntimeStatus}
+use Rattle.hnsr_circuit.specs.declared.runtime.StatusTold.{StatusTold}
+use Rattle.hnsr_circuit.specs.declared.runtime.DueTold.{DueTold}
+use Rattle.hnsr_circuit.specs.declared.runtime.Relayed.{Relayed}
+use Rattle.hnsr_circuit.specs.declared.answer.HnsrAnswer.{HnsrAnswer}
+use Rattle.hnsr_circuit.specs.declared.answer.HnsrAnswer.the-variants.{Taken, Refused}
+use Rattle.hnsr_circuit.specs.declared.answer.HnsrRuntimeError.the-variants.{Short}
+use Rattle.hnsr_circuit.specs.Answers.{check, taken}
+use Rattle.hnsr_circuit.specs.Table.{clear}
+use Rattle.hnsr_circuit.specs.Pending.{isPending, clearPending}
+use Rattle.hnsr_circuit.specs.Circuits.{isCircuit, clearCircuit}
+use Rattle.hnsr_circuit.specs.Ledger.{isUsage, clearUsage}
+use Rattle.hnsr_circuit.specs.Inflight.{clearAction, dropped}
+use Rattle.hnsr_circuit.specs.Question.{used, pendingHas, pendingAsked, circuitHas, circuitAsked, usageHas, usageAsked, actionHas, actionAsked}
+use Rattle.hnsr_circuit.specs.Header.{withClock}
+use Rattle.hnsr_circuit.specs.Route.{outWords, output}
+use Rattle.hnsr_circuit.specs.World.{World, statusIs, dueIs, Outcome, done, proceed, telling, atTime}
+use Rattle.hnsr_circuit.specs.New.{emptied}
+use Rattle.hnsr_circuit.specs.Progress.{worldOf, result, handedBack, outcome}
+use Rattle.hnsr_circuit.specs.Told.{noStatus, statusTold, dueTold, Made}
+use Rattle.hnsr_circuit.specs.Laws.Queueing.{taken-is}
+
+-- ---- what is told
+pub tells-status : (few : Bool) (s : HnsrRuntimeStatus) (w : World)
+    → record { answer = check few Short; status = cond few noStatus s } ≡ statusTold (proceed w (check few Short) (telling w (statusIs s)))
+unfolding proceed
+tells-status true s w = refl
+tells-status false s w = refl
+
+pub tells-due : (few : Bool) (d : NextDue) (w : World)
+    → record { answer = check few Short; due = cond few Never d } ≡ dueTold (proceed w (check few Short) (telling w (dueIs d)))
+unfolding proceed
+tells-due true d w = refl
+tells-due false d w = refl
+
+-- ---- the clock observed
+module _ (p : List RelayPending) (c : List RelayCircuit) (l : List ReservationUsage) (i : List InflightAction) (out : List ℕ) (h : OpaqueRelayRuntime) (time : ℕ) where
+  moved : (a : HnsrAnswer) → taken a ≡ true
+      → result (worldOf (withClock h time) p c l i) a 0 out ≡ outcome out (proceed (worldOf h p c l i) a (done (atTime (worldOf h p c l i) time) []))
+  unfolding proceed outWords output
+  moved Taken t = refl
+  moved (Refused e) t = absurd (false≢true t)
+
+  stays : (a : HnsrAnswer) → taken a ≡ false
+      → result (worldOf h p c l i) a 0 out ≡ outcome out (proceed (worldOf h p c l i) a (done (atTime (worldOf h p c l i) time) []))
+  unfolding proceed outWords output
+  stays Taken f = absurd (true≢false f)
+  stays (Refused e) f = refl
+
+  pub observed : (r : Relayed) (a b : HnsrAnswer) → taken a ≡ true → a ≡ b → (r .runtime ≡ withClock h time) × (r .answer ≡ a) × (r .words ≡ 0)
+      → handedBack r p c l i out ≡ outcome out (proceed (worldOf h p c l i) b (done (atTime (worldOf h p c l i) time) []))
+  observed r a b t e f =
+      (λ x. result (worldOf (f .0 x) p c l i) (f .1 x) (f .2 x) out) ∙ moved a t
+      ∙ ap (λ (z : HnsrAnswer). outcome out (proceed (worldOf h p c l i) z (done (atTime (worldOf h p c l i) time) []))) e
+
+  pub unobserved : (r : Relayed) (a b : HnsrAnswer) → taken a ≡ false → a ≡ b → (r .runtime ≡ h) × (r .answer ≡ a) × (r .words ≡ 0)
+      → handedBack r p c l i out ≡ outcome out (proceed (worldOf h p c l i) b (done (atTime (worldOf h p c l i) time) []))
+  unobserved r a b t e f =
+      (λ x. result (worldOf (f .0 x) p c l i) (f .1 x) (f .2 x) out) ∙ stays a t
+      ∙ ap (λ (z : HnsrAnswer). outcome out (proceed (worldOf h p c l i) z (done (atTime (worldOf h p c l i) time) []))) e
+
+-- ---- new
+module _ (h n : OpaqueRelayRuntime) (p : List RelayPending) (c : List RelayCircuit) (l : List ReservationUsage) (i : List InflightAction) (r : Relayed) (a b : HnsrAnswer)
+  (e : a ≡ b) (f : (r .runtime ≡ n) × (r .answer ≡ a) × (r .words ≡ 0)) where
+  pub empties : (q : Question) (p′ : List RelayPending) (c′ : List RelayCircuit) (l′ : List ReservationUsage) (i′ : List InflightAction) → q ≡ used
+      → p′ ≡ clear clearPending (pendingHas q) p → c′ ≡ clear clearCircuit (circuitHas q) c → l′ ≡ clear clearUsage (usageHas q) l
+      → i′ ≡ clear clearAction (actionHas q) i → taken a ≡ true
+      → Made r p′ c′ l′ i′ (proceed (worldOf h p c l i) b (done (emptied (worldOf h p c l i) n) []))
+  unfolding proceed emptied dropped pendingAsked circuitAsked usageAsked actionAsked
+  empties q p′ c′ l′ i′ eq ep ec el ei t =
+      let is = taken-is a t in
+      subst (λ (z : HnsrAnswer). Made r p′ c′ l′ i′ (proceed (worldOf h p c l i) z (done (emptied (worldOf h p c l i) n) []))) (sym is ∙ e)
+      (record {
+        answer = f .1 ∙ is;
+        tables =
+            let ep2 = ep ∙ ap (λ (x : Question). clear clearPending (pendingHas x) p) eq in
+            let ec2 = ec ∙ ap (λ (x : Question). clear clearCircuit (circuitHas x) c) eq in
+            let el2 = el ∙ ap (λ (x : Question). clear clearUsage (usageHas x) l) eq in
+            let ei2 = ei ∙ ap (λ (x : Question). clear clearAction (actionHas x) i) eq in
+            λ x. worldOf n (ep2 x) (ec2 x) (el2 x) (ei2 x);
+        runtime = λ _. f .0;
+        words = f .2;
+      })
+
+  keeps : (z : HnsrAnswer) → r .answer ≡ z → taken z ≡ false → Made r p c l i (proceed (worldOf h p c l i) z (done (emptied (worldOf h p c l i) n) []))
+  unfolding proceed
+  keeps Taken ea t = absurd (true≢false t)
+  keeps (Refused x) ea t = record { answer = ea; tables = refl; runtime = λ k. absurd (false≢true k); words = f .2 }
+
+  pub refuses-new : taken a ≡ false → Made r p c l i (proceed (worldOf h p c l i) b (done (emptied (worldOf h p c l i) n) []))
+  refuses-new t = keeps b (f .1 ∙ e) (ap taken (sym e) ∙ t)

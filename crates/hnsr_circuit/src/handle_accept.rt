@@ -1,0 +1,176 @@
+// ACCEPT: an endpoint takes a pending circuit.
+ghost use mathlib.Core.Path.{_≡_};
+ghost use mathlib.Core.Bool.{cond, true};
+ghost use mathlib.Core.List.{List};
+ghost use Prim.Native.Nat.{ℕ};
+ghost use lib.ListN.{set};
+ghost use Rattle.hnsr_body.specs.Accept.{openedBytes};
+ghost use Rattle.hnsr_circuit.specs.Table.{put};
+ghost use Rattle.hnsr_circuit.specs.Peer.{peerOf};
+ghost use Rattle.hnsr_circuit.specs.Circuits.{isCircuit, circuitAt};
+ghost use Rattle.hnsr_circuit.specs.Inflight.{actionUnder, dropped, tallied};
+ghost use Rattle.hnsr_circuit.specs.Question.{pendingWork, circuitWork};
+ghost use Rattle.hnsr_circuit.specs.World.{proceed};
+ghost use Rattle.hnsr_circuit.specs.Queue.{send};
+ghost use Rattle.hnsr_circuit.specs.Progress.{worldOf, messageOf, packetOf, handedBack, ending};
+ghost use Rattle.hnsr_circuit.specs.Accept.{handleAccept};
+ghost use Rattle.hnsr_circuit.specs.Laws.Opening.{acceptRows, acceptWork, putPlace};
+ghost use Rattle.hnsr_circuit.specs.declared.records.RelayPending.{RelayPending};
+ghost use Rattle.hnsr_circuit.specs.declared.records.RelayCircuit.{RelayCircuit};
+ghost use Rattle.hnsr_circuit.specs.declared.records.ReservationUsage.{ReservationUsage};
+use crate::accept::AcceptPlan;
+use crate::accept::accept_plan;
+use crate::accept::accept_rows;
+use crate::accept::accept_work;
+use crate::accept::circuit_for;
+use crate::accept::found_unmarked;
+use crate::accept::replacing;
+use crate::answer::HnsrAnswer;
+use crate::config::OpaqueRelayConfig;
+use crate::lookup::drop_actions;
+use crate::lookup::look_up_pending;
+use crate::peer::peer_of;
+use crate::question::at;
+use crate::question::unused;
+use crate::queue::asking;
+use crate::queue::send;
+use crate::records::InflightAction;
+use crate::records::Outgoing;
+use crate::records::PendingFound;
+use crate::records::RelayCircuit;
+use crate::records::RelayPacket;
+use crate::records::RelayPending;
+use crate::runtime::OpaqueRelayRuntime;
+use crate::runtime::Relayed;
+use crate::tables::circuits::circuit_work;
+use crate::tables::circuits::find_circuit;
+use crate::tables::circuits::set_circuit;
+use crate::tables::inflight::scan_actions;
+use crate::tables::pending::pending_work;
+use crate::tables::pending::set_pending;
+use hnsr_body::accept_body::AcceptBody;
+use hnsr_body::accept_body::AcceptRead;
+use hnsr_body::accept_body::OpenedBody;
+
+// The place that a lookup found, else the lowest unused one.
+pub(crate) fn put_place(place: usize, places: usize, spare: usize) -> usize
+    ensures { λ r. ⌜ r ≡ putPlace place places spare ⌝ }
+{
+    if place < places {
+        return place;
+    }
+    spare
+}
+
+// A circuit replaces what its id finds, else takes the lowest unused place.
+pub(crate) fn put_circuit(circuits: &mut [RelayCircuit], go: bool, id: u64, row: RelayCircuit)
+    ensures { λ _. ⌜ now (circuits .exit) ≡ cond go (put isCircuit (circuitAt id) row (now (circuits .entry))) (now (circuits .entry)) ⌝ }
+{
+    let same = at(id, 0);
+    let old = find_circuit(circuits, same);
+    let free = unused();
+    let spare = find_circuit(circuits, free);
+    let place = put_place(old, circuits.len(), spare);
+    set_circuit(circuits, go, place, row);
+}
+
+// The rows, over the tables as found.
+pub(crate) fn accept_answered(
+    pending: &[RelayPending],
+    circuits: &[RelayCircuit],
+    inflight: &[InflightAction],
+    config: OpaqueRelayConfig,
+    packet: RelayPacket,
+    found: PendingFound,
+    read: AcceptRead,
+    source: &[u8],
+) -> HnsrAnswer
+    ensures { λ r. ⌜ r ≡ acceptRows config found (peerOf (now (source .entry))) (packet .now) read (pendingWork (acceptWork found) (now (pending .entry))) (circuitWork (acceptWork found) (now (circuits .entry))) (tallied true (packet .«context_id») (found .pending .requester) (now (inflight .entry))) ⌝ }
+{
+    let peer = peer_of(source);
+    let question = accept_work(found);
+    let waiting = pending_work(pending, question);
+    let running = circuit_work(circuits, question);
+    let asked = replacing(found, packet.context_id);
+    let scan = scan_actions(inflight, asked);
+    let tally = scan.tally;
+    accept_rows(
+        config,
+        found,
+        peer,
+        packet.now,
+        read,
+        waiting,
+        running,
+        tally,
+    )
+}
+
+// The pending record goes, its actions are dropped, the circuit starts.
+pub(crate) fn accept_written(
+    pending: &mut [RelayPending],
+    circuits: &mut [RelayCircuit],
+    inflight: &mut [InflightAction],
+    plan: AcceptPlan,
+    unmarked: RelayPending,
+    circuit: RelayCircuit,
+)
+    ensures { λ _. ⌜ (now (pending .exit) ≡ cond (plan .go) (set (now (pending .entry)) (plan .place) unmarked) (now (pending .entry))) × (now (circuits .exit) ≡ cond (plan .go) (put isCircuit (circuitAt (plan .id)) circuit (now (circuits .entry))) (now (circuits .entry))) × (now (inflight .exit) ≡ cond (plan .go) (dropped (actionUnder (plan .id)) (now (inflight .entry))) (now (inflight .entry))) ⌝ }
+{
+    set_pending(pending, plan.go, plan.place, unmarked);
+    put_circuit(circuits, plan.go, plan.id, circuit);
+    drop_actions(inflight, plan.go, plan.id);
+}
+
+// OPENED, the last step.
+pub(crate) fn send_opened(
+    inflight: &mut [InflightAction],
+    out: &mut [u32],
+    before: HnsrAnswer,
+    runtime: OpaqueRelayRuntime,
+    message: Outgoing,
+    opened: OpenedBody,
+) -> Relayed
+    ensures { λ r. ⌜ ((p : List RelayPending) (c : List RelayCircuit) (l : List ReservationUsage) → handedBack r p c l (now (inflight .exit)) (now (out .exit)) ≡ ending (now (out .entry)) (let w = worldOf runtime p c l (now (inflight .entry)) in proceed w before (send w (messageOf message (openedBytes opened))))) ⌝ }
+{
+    let question = asking(runtime, message);
+    let scan = scan_actions(inflight, question);
+    let bytes = opened.to_bytes();
+    send(inflight, out, before, runtime, message, scan, &bytes)
+}
+
+pub(crate) fn handle_accept(
+    pending: &mut [RelayPending],
+    circuits: &mut [RelayCircuit],
+    inflight: &mut [InflightAction],
+    out: &mut [u32],
+    runtime: OpaqueRelayRuntime,
+    packet: RelayPacket,
+    source: &[u8],
+    body: &[u8],
+) -> Relayed
+    ensures { λ r. ⌜ ((l : List ReservationUsage) (e rs : List ℕ) → handedBack r (now (pending .exit)) (now (circuits .exit)) l (now (inflight .exit)) (now (out .exit)) ≡ ending (now (out .entry)) (handleAccept (worldOf runtime (now (pending .entry)) (now (circuits .entry)) l (now (inflight .entry))) (packetOf packet (now (source .entry)) (now (body .entry)) e rs))) ⌝ }
+{
+    let question = at(packet.context_id, 0);
+    let found = look_up_pending(pending, question);
+    let read = AcceptBody::decode(body);
+    let config = runtime.config;
+    let answer = accept_answered(
+        pending,
+        circuits,
+        inflight,
+        config,
+        packet,
+        found,
+        read,
+        source,
+    );
+    let plan = accept_plan(answer, runtime, found, read);
+    let row = found_unmarked(found);
+    let circuit = circuit_for(config, found, read);
+    let counted = plan.runtime;
+    let message = plan.message;
+    let opened = plan.opened;
+    accept_written(pending, circuits, inflight, plan, row, circuit);
+    send_opened(inflight, out, answer, counted, message, opened)
+}

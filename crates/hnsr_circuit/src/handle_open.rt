@@ -1,0 +1,255 @@
+// OPEN: a requester asks for a circuit. Three stages, as in specs/Open.antt: admitted, and ledger records past their expiry dropped; placed, and
+// the missing ledger record made; written, and INCOMING sent.
+ghost use mathlib.Core.Path.{_≡_};
+ghost use mathlib.Core.Bool.{cond};
+ghost use mathlib.Core.List.{List};
+ghost use Prim.Native.Nat.{ℕ};
+ghost use Rattle.hnsr_circuit.specs.Table.{put};
+ghost use Rattle.hnsr_circuit.specs.Pending.{isPending, pendingAt};
+ghost use Rattle.hnsr_circuit.specs.Ledger.{booked};
+ghost use Rattle.hnsr_circuit.specs.World.{proceed};
+ghost use Rattle.hnsr_circuit.specs.Queue.{actionsScanned};
+ghost use Rattle.hnsr_circuit.specs.Draw.{undrawn, draws, drawAll};
+ghost use Rattle.hnsr_circuit.specs.Progress.{worldOf, packetOf, asking, handedBack, ending};
+ghost use Rattle.hnsr_circuit.specs.Open.{openBooked, openLapsed, handleOpen};
+ghost use Rattle.hnsr_circuit.specs.Laws.Opening.{isTaken, gathering, ledgerAsked, openingOf, incomingOut};
+ghost use Rattle.hnsr_circuit.specs.declared.records.RelayCircuit.{RelayCircuit};
+ghost use Rattle.hnsr_circuit.specs.declared.records.RelayPacket.{RelayPacket};
+use crate::answer::HnsrAnswer;
+use crate::answer::first_refusal;
+use crate::answer::is_taken;
+use crate::draw::draw_at;
+use crate::draw::draw_turn;
+use crate::draw::either_found;
+use crate::draw::undrawn;
+use crate::handle_accept::put_place;
+use crate::header::opened;
+use crate::lookup::drop_lapsed;
+use crate::lookup::look_up_usage;
+use crate::open::LedgerRoom;
+use crate::open::OpenGathered;
+use crate::open::OpenPlan;
+use crate::open::booked_answer;
+use crate::open::booked_place;
+use crate::open::booked_usage;
+use crate::open::incoming_for;
+use crate::open::incoming_out;
+use crate::open::ledger_room;
+use crate::open::open_gathering;
+use crate::open::open_plan;
+use crate::open::open_rows;
+use crate::open::open_work;
+use crate::open::pending_for;
+use crate::open::placed_rows;
+use crate::peer::peer_of;
+use crate::question::at;
+use crate::question::at_reservation;
+use crate::question::unused;
+use crate::question::used;
+use crate::queue::asking;
+use crate::queue::send;
+use crate::records::ActionScan;
+use crate::records::Drawing;
+use crate::records::InflightAction;
+use crate::records::RelayCircuit;
+use crate::records::RelayPacket;
+use crate::records::RelayPending;
+use crate::records::RelayTicket;
+use crate::records::ReservationUsage;
+use crate::runtime::OpaqueRelayRuntime;
+use crate::runtime::Relayed;
+use crate::tables::circuits::circuit_work;
+use crate::tables::circuits::find_circuit;
+use crate::tables::inflight::scan_actions;
+use crate::tables::ledger::count_usage;
+use crate::tables::ledger::find_usage;
+use crate::tables::ledger::set_usage;
+use crate::tables::pending::find_pending;
+use crate::tables::pending::pending_work;
+use crate::tables::pending::set_pending;
+use hnsr_body::open_body::OpenBody;
+
+// Whether an id is a pending record's or a circuit's.
+pub(crate) fn id_taken(pending: &[RelayPending], circuits: &[RelayCircuit], id: u64) -> bool
+    ensures { λ r. ⌜ r ≡ isTaken (now (pending .entry)) (now (circuits .entry)) id ⌝ }
+{
+    let question = at(id, 0);
+    let waiting = find_pending(pending, question);
+    let running = find_circuit(circuits, question);
+    either_found(waiting, pending.len(), running, circuits.len())
+}
+
+// The draws in order, until one ends the drawing; a tail under eight bytes is ignored.
+pub(crate) fn draw(pending: &[RelayPending], circuits: &[RelayCircuit], random: &[u8]) -> Drawing
+    ensures { λ r. ⌜ r ≡ drawAll (isTaken (now (pending .entry)) (now (circuits .entry))) undrawn (draws (now (random .entry))) ⌝ }
+{
+    let mut drawing = undrawn();
+    let mut place: usize = 0;
+    while 8 <= random.len() - place {
+        if drawing.ended {
+            return drawing;
+        }
+        let id = draw_at(random, place);
+        let taken = id_taken(pending, circuits, id);
+        drawing = draw_turn(drawing, id, taken);
+        place += 8;
+    }
+    drawing
+}
+
+// A pending record replaces what its id finds, else takes the lowest unused place.
+pub(crate) fn put_pending(pending: &mut [RelayPending], go: bool, id: u64, row: RelayPending)
+    ensures { λ _. ⌜ now (pending .exit) ≡ cond go (put isPending (pendingAt id) row (now (pending .entry))) (now (pending .entry)) ⌝ }
+{
+    let same = at(id, 0);
+    let old = find_pending(pending, same);
+    let free = unused();
+    let spare = find_pending(pending, free);
+    let place = put_place(old, pending.len(), spare);
+    set_pending(pending, go, place, row);
+}
+
+// The missing ledger record is made; the one that is found stays as it is.
+pub(crate) fn book(ledger: &mut [ReservationUsage], go: bool, ticket: RelayTicket)
+    ensures { λ _. ⌜ now (ledger .exit) ≡ cond go (booked ticket (now (ledger .entry))) (now (ledger .entry)) ⌝ }
+{
+    let id = ticket.reservation_id;
+    let question = at_reservation(id);
+    let found = look_up_usage(ledger, question);
+    let free = unused();
+    let spare = find_usage(ledger, free);
+    let row = booked_usage(found, ticket);
+    let place = booked_place(found, spare);
+    set_usage(ledger, go, place, row);
+}
+
+// What OPEN asks of the ledger.
+pub(crate) fn ask_ledger(ledger: &[ReservationUsage], ticket: RelayTicket) -> LedgerRoom
+    ensures { λ r. ⌜ r ≡ ledgerAsked (ticket .«reservation_id») (now (ledger .entry)) ⌝ }
+{
+    let id = ticket.reservation_id;
+    let question = at_reservation(id);
+    let place = find_usage(ledger, question);
+    let all = used();
+    let many = count_usage(ledger, all);
+    ledger_room(place, many, ledger.len())
+}
+
+// What an OPEN comes with.
+pub(crate) fn gather(
+    pending: &[RelayPending],
+    circuits: &[RelayCircuit],
+    packet: RelayPacket,
+    source: &[u8],
+    body: &[u8],
+    endpoint: &[u8],
+) -> OpenGathered
+    ensures { λ r. ⌜ r ≡ gathering packet (now (source .entry)) (now (body .entry)) (now (endpoint .entry)) (now (pending .entry)) (now (circuits .entry)) ⌝ }
+{
+    let requester = peer_of(source);
+    let other = peer_of(endpoint);
+    let read = OpenBody::decode(body, packet.key_valid);
+    let question = open_work(packet, requester, other, read);
+    let waiting = pending_work(pending, question);
+    let running = circuit_work(circuits, question);
+    open_gathering(
+        packet,
+        requester,
+        other,
+        endpoint.len(),
+        read,
+        waiting,
+        running,
+    )
+}
+
+// The last stage: the ledger record stands; the pending record is written and INCOMING sent.
+pub(crate) fn open_booked(
+    pending: &mut [RelayPending],
+    ledger: &[ReservationUsage],
+    inflight: &mut [InflightAction],
+    out: &mut [u32],
+    before: HnsrAnswer,
+    runtime: OpaqueRelayRuntime,
+    plan: OpenPlan,
+    scan: ActionScan,
+) -> Relayed
+    requires { ⌜ scan ≡ actionsScanned (asking runtime (incomingOut plan)) (now inflight) ⌝ }
+    ensures { λ r. ⌜ ((c : List RelayCircuit) → handedBack r (now (pending .exit)) c (now (ledger .entry)) (now (inflight .exit)) (now (out .exit)) ≡ ending (now (out .entry)) (let w = worldOf runtime (now (pending .entry)) c (now (ledger .entry)) (now (inflight .entry)) in proceed w before (openBooked w (openingOf plan)))) ⌝ }
+{
+    let ticket = plan.ticket;
+    let id = ticket.reservation_id;
+    let question = at_reservation(id);
+    let found = look_up_usage(ledger, question);
+    let answer = booked_answer(before, ticket, found);
+    let go = is_taken(answer);
+    let row = pending_for(plan);
+    put_pending(pending, go, plan.id, row);
+    let counted = opened(go, runtime);
+    let message = incoming_out(plan);
+    let incoming = incoming_for(plan);
+    let bytes = incoming.to_bytes();
+    send(inflight, out, answer, counted, message, scan, &bytes)
+}
+
+// The second stage: ledger records past their expiry are dropped.
+pub(crate) fn open_lapsed(
+    pending: &mut [RelayPending],
+    circuits: &[RelayCircuit],
+    ledger: &mut [ReservationUsage],
+    inflight: &mut [InflightAction],
+    out: &mut [u32],
+    before: HnsrAnswer,
+    runtime: OpaqueRelayRuntime,
+    gathered: OpenGathered,
+    random: &[u8],
+) -> Relayed
+    ensures { λ r. ⌜ ((q : RelayPacket) (source body endpoint : List ℕ) → gathered ≡ gathering q source body endpoint (now (pending .entry)) (now (circuits .entry)) → handedBack r (now (pending .exit)) (now (circuits .entry)) (now (ledger .exit)) (now (inflight .exit)) (now (out .exit)) ≡ ending (now (out .entry)) (let w = worldOf runtime (now (pending .entry)) (now (circuits .entry)) (now (ledger .entry)) (now (inflight .entry)) in proceed w before (openLapsed w (packetOf q source body endpoint (now (random .entry)))))) ⌝ }
+{
+    let config = runtime.config;
+    let drawing = draw(pending, circuits, random);
+    let plan = open_plan(config, gathered, drawing);
+    let ticket = plan.ticket;
+    let message = incoming_out(plan);
+    let question = asking(runtime, message);
+    let scan = scan_actions(inflight, question);
+    let room = ask_ledger(ledger, ticket);
+    let own = placed_rows(config, gathered, plan, drawing, scan, room);
+    let answer = first_refusal(before, own);
+    let go = is_taken(answer);
+    book(ledger, go, ticket);
+    open_booked(pending, ledger, inflight, out, answer, runtime, plan, scan)
+}
+
+pub(crate) fn handle_open(
+    pending: &mut [RelayPending],
+    circuits: &mut [RelayCircuit],
+    ledger: &mut [ReservationUsage],
+    inflight: &mut [InflightAction],
+    out: &mut [u32],
+    runtime: OpaqueRelayRuntime,
+    packet: RelayPacket,
+    source: &[u8],
+    body: &[u8],
+    endpoint: &[u8],
+    random: &[u8],
+) -> Relayed
+    ensures { λ r. ⌜ handedBack r (now (pending .exit)) (now (circuits .exit)) (now (ledger .exit)) (now (inflight .exit)) (now (out .exit)) ≡ ending (now (out .entry)) (handleOpen (worldOf runtime (now (pending .entry)) (now (circuits .entry)) (now (ledger .entry)) (now (inflight .entry))) (packetOf packet (now (source .entry)) (now (body .entry)) (now (endpoint .entry)) (now (random .entry)))) ⌝ }
+{
+    let gathered = gather(pending, circuits, packet, source, body, endpoint);
+    let config = runtime.config;
+    let answer = open_rows(config, gathered);
+    let go = is_taken(answer);
+    drop_lapsed(ledger, go, packet.now);
+    open_lapsed(
+        pending,
+        circuits,
+        ledger,
+        inflight,
+        out,
+        answer,
+        runtime,
+        gathered,
+        random,
+    )
+}

@@ -6,3 +6,5 @@ pub mod Claim
 pub mod Talk
 pub mod RichRun
 pub mod Refuted
+-- ---- the proof
+pub mod Run

@@ -1,0 +1,6 @@
+pub mod Actions
+pub mod Circuits
+pub mod Walks
+pub mod Full
+pub mod Revocations
+pub mod Books

@@ -4,3 +4,5 @@ pub mod Walks
 pub mod Full
 pub mod Revocations
 pub mod Books
+pub mod Rel
+pub mod Revoking

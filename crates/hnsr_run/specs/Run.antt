@@ -6,3 +6,6 @@ pub mod Revocations
 pub mod Books
 pub mod Rel
 pub mod Revoking
+pub mod InPlace
+pub mod Acknowledge
+pub mod Undelivered

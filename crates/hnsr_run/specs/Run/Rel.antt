@@ -3,7 +3,7 @@ use Prim.Native.Nat.{ℕ, _+_, _≤_, _<_}
 use native.Mathlib.Omega.{arith}
 use mathlib.Core.Path.{_≡_, refl, sym, ap, _∙_, subst}
 use mathlib.Core.Bool.{Bool, true, false, cond, not, _&&_, _||_, true≢false}
-use mathlib.Core.List.{List, [], _∷_}
+use mathlib.Core.List.{List, [], _∷_, append-nil}
 use mathlib.Core.Logic.{_⊎_, inl, inr}
 use lib.Dec.{leb, ltb, eqb}
 use lib.ListN.{length}
@@ -27,7 +27,7 @@ use Rattle.hnsr_circuit.specs.Route.{Route}
 use Rattle.hnsr_circuit.specs.World.{World, Outcome, configOf, refuse, done, proceed, withLedger, atTime}
 use Rattle.hnsr_circuit.specs.Queue.{Message, generationOf, sequenceOf, queueAnswer, canQueue, queued, routed, send}
 use Rattle.hnsr_circuit.specs.Laws.Answers.{number-zero}
-use Rattle.hnsr_run.specs.Past.{Known, Asked, Book, Action, Head, Past, lives, movedTo, withBook}
+use Rattle.hnsr_run.specs.Past.{Known, Asked, Book, Action, Head, Past, lives, movedTo, withBook, withOut, emit}
 use Rattle.hnsr_run.specs.History.{taken}
 use Rattle.hnsr_run.specs.Run.Circuits.{none}
 use Rattle.hnsr_run.specs.Run.Full.{Body, Full, Rest, Keeps}
@@ -105,6 +105,22 @@ can-queue m w e l c = rw (e, c, ne-eqb (sequenceOf w) (top 64) (λ q. omega arit
 pub send-taken : (w : World) (m : Message) → canQueue m w ≡ Taken → send w m ≡ done (queued m w) (routed m w ∷ [])
 unfolding send proceed
 send-taken w m h = rw h
+
+send-full : (w : World) (m : Message) → canQueue m w ≡ Refused Capacity → send w m ≡ refuse w Capacity
+unfolding send proceed
+send-full w m h = rw h
+
+-- sent, or refused with 10
+pub send-cases : (P : Outcome → Type 0) (w : World) (m : Message) → eqb (m .context) 0 ≡ false → sequenceOf w < top 64 → (canQueue m w ≡ Taken → P (done (queued m w) (routed m w ∷ []))) → P (refuse w Capacity) → P (send w m)
+send-cases P w m e l t f = pick-one (can-or-full m w e l)
+  where
+    pick-one : (canQueue m w ≡ Taken) ⊎ (canQueue m w ≡ Refused Capacity) → P (send w m)
+    pick-one (inl h) = subst P (sym (send-taken w m h)) (t h)
+    pick-one (inr h) = subst P (sym (send-full w m h)) f
+
+-- no route, no action
+pub emit-nothing : {w : World} {h : Past} → Rel w h → Rel w (emit h [])
+emit-nothing {w} {h} R = subst (λ o. Rel w (withOut h o)) (sym (append-nil (h .out))) R
 
 -- ---- records end, actions come and go; the rest stays
 pub heads-rest : {w v : World} {d : Head} → Rest w v → Heads w d → Heads v d

@@ -9,3 +9,6 @@ pub mod Revoking
 pub mod InPlace
 pub mod Acknowledge
 pub mod Undelivered
+pub mod Limits
+pub mod Data
+pub mod Window

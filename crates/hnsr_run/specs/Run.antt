@@ -12,3 +12,5 @@ pub mod Undelivered
 pub mod Limits
 pub mod Data
 pub mod Window
+pub mod Close
+pub mod Closing

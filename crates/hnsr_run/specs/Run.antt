@@ -14,3 +14,4 @@ pub mod Data
 pub mod Window
 pub mod Close
 pub mod Closing
+pub mod Accept

@@ -85,6 +85,9 @@ refused-differs h = absurd (true≢false (refused-not h))
 pub not-taken : (e : HnsrRuntimeError) → eqb (errorNumber e) 0 ≡ false
 not-taken e = split (eqb (errorNumber e) 0) (λ t. refused-differs (number-zero (Refused e) (eqb-true (errorNumber e) 0 t))) (λ t. t)
 
+pub if-not : {A : Type 0} (P : A → Type 0) (b : Bool) (x y : A) → b ≡ false → P y → P (cond b x y)
+if-not P b x y e p = subst (λ b. P (cond b x y)) (sym e) p
+
 -- a refused call that leaves the past alone
 pub if-taken : {A : Type 0} (P : A → Type 0) (e : HnsrRuntimeError) (x y : A) → P y → P (cond (taken (Refused e)) x y)
 if-taken P e x y p = subst (λ b. P (cond b x y)) (sym (not-taken e)) p

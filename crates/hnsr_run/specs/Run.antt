@@ -15,3 +15,5 @@ pub mod Window
 pub mod Close
 pub mod Closing
 pub mod Accept
+pub mod Booking
+pub mod Open

@@ -17,3 +17,4 @@ pub mod Closing
 pub mod Accept
 pub mod Booking
 pub mod Open
+pub mod Opening

@@ -65,7 +65,7 @@ pub record Admitted (w : World) (q : Packet) : Type 0 where
   pub new : any (requestedBy (sender q) (q .context)) (w .pending) ≡ false
   pub unexpired : q .now < q .admission .ticket .«expires_at»
 
-admitted-rows : (w : World) (q : Packet) → openAdmitted w q ≡ Taken → Admitted w q
+pub admitted-rows : (w : World) (q : Packet) → openAdmitted w q ≡ Taken → Admitted w q
 unfolding openAdmitted openAnswer admissionAnswer
 admitted-rows w q e =
     let a = leb (configOf w .«maximum_pending») (pendingCount w) in
@@ -94,7 +94,7 @@ pub record Placed (w : World) (q : Packet) (o : Opening) : Type 0 where
   pub room : capacityAnswer (configOf w) (tallied false (o .id) (o .endpoint) (w .inflight)) ≡ Taken
   pub ledger : (not (hasUsage (o .ticket .«reservation_id») (w .ledger)) && leb (length (w .ledger)) (count isUsage (w .ledger))) ≡ false
 
-placed-rows : (w : World) (q : Packet) (o : Opening) → openPlaced w q o ≡ Taken → Placed w q o
+pub placed-rows : (w : World) (q : Packet) (o : Opening) → openPlaced w q o ≡ Taken → Placed w q o
 unfolding openPlaced endpointAnswer drawAnswer ledgerAnswer
 placed-rows w q o e =
     let peer = peerAnswer (length (q .admission .endpoint)) in
@@ -127,7 +127,7 @@ admitted-never false z (Err c) = refl
 admitted-never false true Ok = refl
 admitted-never false false Ok = refl
 
-never-admitted : (w : World) (q : Packet) → eqb (number (openAdmitted w q)) 18 ≡ false
+pub never-admitted : (w : World) (q : Packet) → eqb (number (openAdmitted w q)) 18 ≡ false
 unfolding openAdmitted openAnswer admissionAnswer
 never-admitted w q = admitted-never (leb (configOf w .«maximum_pending») (pendingCount w) || leb (configOf w .«maximum_circuits») (circuitCount w) || leb (configOf w .«maximum_circuits_per_peer») (peerWork w (sender q)) || any (requestedBy (sender q) (q .context)) (w .pending))
     (not (q .admission .admitted) || leb (q .admission .ticket .«expires_at») (q .now)) (decodeOpen (q .keyValid) (q .body) .result)
@@ -141,7 +141,7 @@ placed-never false false false false true f = refl
 placed-never false false false false false true = refl
 placed-never false false false false false false = refl
 
-never-placed : (w : World) (q : Packet) (o : Opening) → eqb (number (openPlaced w q o)) 18 ≡ false
+pub never-placed : (w : World) (q : Packet) (o : Opening) → eqb (number (openPlaced w q o)) 18 ≡ false
 unfolding openPlaced peerAnswer endpointAnswer drawAnswer capacityAnswer deadlineAnswer ledgerAnswer
 never-placed w q o = placed-never (not (peerGood (length (q .admission .endpoint))))
     (samePeer (o .endpoint) (o .requester) || leb (configOf w .«maximum_circuits_per_peer») (peerWork w (o .endpoint)) || leb (o .ticket .«max_active_circuits») (reservationWork w (o .body .«reservation_id»)))
@@ -149,7 +149,7 @@ never-placed w q o = placed-never (not (peerGood (length (q .admission .endpoint
     (not (hasUsage (o .ticket .«reservation_id») (w .ledger)) && leb (length (w .ledger)) (count isUsage (w .ledger)))
 
 -- a refusal that is neither: the past stays
-stays : (w : World) (q : Packet) (h : Past) (a : HnsrAnswer) (e : HnsrRuntimeError) → a ≡ Refused e → eqb (number a) 18 ≡ false → Rel w h → Rel w (openIn q (Refused e) [] h)
+pub stays : (w : World) (q : Packet) (h : Past) (a : HnsrAnswer) (e : HnsrRuntimeError) → a ≡ Refused e → eqb (number a) 18 ≡ false → Rel w h → Rel w (openIn q (Refused e) [] h)
 stays w q h a e f n R = if-not (λ (g : Past). Rel w g) (taken (Refused e)) _ _ (not-taken e) (if-not (λ (g : Past). Rel w g) (eqb (errorNumber e) 18) _ h (ap (λ (x : HnsrAnswer). eqb (number x) 18) (sym f) ∙ n) R)
 
 -- ---- the ledger record
@@ -163,7 +163,7 @@ module _ {w : World} {h : Past} (R : Rel w h) (t : RelayTicket) (l : ltb (h .hea
   has-space : hasUsage (t .«reservation_id») (w .ledger) ≡ false → any (non isUsage) (w .ledger) ≡ true
   has-space f = room isUsage clearUsage (w .ledger) (leb-false (length (w .ledger)) (count isUsage (w .ledger)) (sym (ap (λ b. not b && leb (length (w .ledger)) (count isUsage (w .ledger))) f) ∙ space))
 
-  booked-rel : Rel (withLedger w (booked t (w .ledger))) (withBook h (remade (h .head .clock) (h .book) t))
+  pub booked-rel : Rel (withLedger w (booked t (w .ledger))) (withBook h (remade (h .head .clock) (h .book) t))
   booked-rel = choose (λ (b : Book). Rel (withLedger w (booked t (w .ledger))) (withBook h b)) (lives (h .head .clock) (h .book) (t .«reservation_id»)) (h .book) (made (h .book) t)
       (λ y. reledger R (booked t (w .ledger)) (book-found (R .base .books) t (same ∙ y)))
       (λ y. record {

@@ -18,3 +18,5 @@ pub mod Accept
 pub mod Booking
 pub mod Open
 pub mod Opening
+pub mod Steps
+pub mod Start

@@ -20,3 +20,6 @@ pub mod Open
 pub mod Opening
 pub mod Steps
 pub mod Start
+pub mod Runs
+pub mod Drained
+pub mod Passing

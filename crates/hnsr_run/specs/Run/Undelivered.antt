@@ -135,7 +135,7 @@ released-sequence : (w : World) (g s : ℕ) (a : InflightAction) → sequenceOf 
 unfolding released
 released-sequence w g s a = refl
 
-action-found : (w : World) (h : Past) → Full none w h → (g s : ℕ) → any (actionAt g s) (w .inflight) ≡ any (numbered g s) (h .out)
+pub action-found : (w : World) (h : Past) → Full none w h → (g s : ℕ) → any (actionAt g s) (w .inflight) ≡ any (numbered g s) (h .out)
 unfolding actionAt
 action-found w h F g s = held-any actions (F .acts .held) (numbered g s)
 

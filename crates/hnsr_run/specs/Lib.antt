@@ -8,3 +8,4 @@ pub mod RichRun
 pub mod Refuted
 -- ---- the proof
 pub mod Run
+pub mod Theorem

@@ -1,8 +1,8 @@
 -- Demand 3: one claim about any list of calls from a taken `new`, refused ones included, over a machine's step.
-use Prim.Native.Nat.{ℕ, _≤_, _<_}
+use Prim.Native.Nat.{ℕ, _+_, _≤_, _<_}
 use mathlib.Core.Path.{_≡_}
 use mathlib.Core.Logic.{_↔_}
-use mathlib.Core.Bool.{Bool, true, not, _&&_, _||_}
+use mathlib.Core.Bool.{Bool, true, cond, not, _&&_, _||_}
 use mathlib.Core.List.{List, [], _∷_, map}
 use lib.Dec.{ltb, eqb}
 use lib.ListN.{length, replicate}
@@ -17,12 +17,12 @@ use Rattle.hnsr_circuit.specs.World.{World, Outcome, statusIs}
 use Rattle.hnsr_circuit.specs.Peer.{peerGood, samePeer}
 use Rattle.hnsr_circuit.specs.Circuits.{otherSide, queuedTo}
 use Rattle.hnsr_circuit.specs.Route.{Route}
-use Rattle.hnsr_circuit.specs.Queue.{opOpen, opData, sequenceOf}
+use Rattle.hnsr_circuit.specs.Queue.{opOpen, opData}
 use Rattle.hnsr_circuit.specs.Entry.{handleWords, acknowledgeWords}
 use Rattle.hnsr_circuit.specs.Packet.{Packet, sender, circuitIn}
 use Rattle.hnsr_circuit.specs.Call.{Start, start, Call, callStatus, callNextDue, callObserveTime, callReplaceEnabled, callHandle, callAcknowledge, callDisconnect, callRevokeReservation, callExpire}
 use Rattle.hnsr_run.specs.Past.{Action, Past, peerOn, credit, circuitLeft, totalLeft, weight}
-use Rattle.hnsr_run.specs.History.{Event, begin, reckon}
+use Rattle.hnsr_run.specs.History.{Event, begin, after, reckon}
 
 -- every byte limit that a call brings is below 2^64 − 1
 abbrev pub limitsBelow : Call → Bool
@@ -37,6 +37,15 @@ limitsBelow (callAcknowledge generation sequence delivered room) = true
 limitsBelow (callDisconnect peer room) = true
 limitsBelow (callRevokeReservation id room) = true
 limitsBelow (callExpire now room) = true
+
+-- the action sequence, the number that the next action gets: 1 after `new` and after a switch, and one more for each route
+abbrev pub sequenceAfter : Past → ℕ → Event → ℕ
+sequenceAfter h n e = cond (eqb (after h (e .call) (e .answer) (e .routes) .head .generation) (h .head .generation)) n 1 + length (e .routes)
+
+-- every byte limit and the action sequence are below 2^64 − 1 throughout
+abbrev pub below : Past → ℕ → List Event → Bool
+below h n [] = ltb n (top 64)
+below h n (e ∷ es) = ltb n (top 64) && (limitsBelow (e .call) && below (after h (e .call) (e .answer) (e .routes)) (sequenceAfter h n e) es)
 
 -- a list in any order: whatever is summed over its members, the sum is the same
 abbrev pub Reordered : List Action → List Action → Type 0
@@ -74,11 +83,6 @@ module _ (step : World → Call → Outcome) where
   events w [] = []
   events w (c ∷ cs) = record { call = c; answer = step w c .answer; routes = step w c .routes } ∷ events (step w c .world) cs
 
-  -- every byte limit and the action sequence are below 2^64 − 1 throughout
-  abbrev pub below : World → List Call → Bool
-  below w [] = ltb (sequenceOf w) (top 64)
-  below w (c ∷ cs) = ltb (sequenceOf w) (top 64) && (limitsBelow c && below (step w c .world) cs)
-
   abbrev pub delivered : (rooms : Action → ℕ) → Action → Call
   delivered rooms a = callAcknowledge (a .generation) (a .sequence) true (rooms a)
 
@@ -98,5 +102,5 @@ module _ (step : World → Call → Outcome) where
 
   abbrev pub Claim : Type 0
   Claim = (lent : World) (s : Start) → start lent s .answer ≡ Taken → s .config .«maximum_bytes_per_circuit» < top 64
-      → (calls : List Call) → below (start lent s .world) calls ≡ true
+      → (calls : List Call) → below (begin s) 1 (events (start lent s .world) calls) ≡ true
       → Holds (leftBy (start lent s .world) calls) (reckon (begin s) (events (start lent s .world) calls))

@@ -72,10 +72,9 @@ pub new-taken : number (start tables fresh .answer) ≡ 0
 unfolding machine lent
 new-taken = refl
 
-pub bounded : below step (start tables fresh .world) richCalls ≡ true
+pub bounded : below (begin fresh) 1 (events step (start tables fresh .world) richCalls) ≡ true
 unfolding machine lent notAdmitted
 bounded = refl
-
 
 -- ---- what is reckoned: the circuits 7 and 8 are active, both under reservation 5, on which 2,150 bytes were taken, 1,000 of them before the relay was
 -- switched off; the OPEN 11 and the circuit 12 have ended; OPENED, INCOMING, DATA, WINDOW and CLOSE are outstanding

@@ -20,6 +20,7 @@ pub mod Open
 pub mod Opening
 pub mod Steps
 pub mod Start
+pub mod Numbers
 pub mod Runs
 pub mod Drained
 pub mod Passing

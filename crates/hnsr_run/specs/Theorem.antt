@@ -79,7 +79,7 @@ holds w h R H low = record {
 pub claim : Claim step
 claim lent s new limit calls bound =
     let r = start-rel lent s new limit in
-    let b = run-both calls (start lent s .world) (begin s) (r .0) (r .1) bound in
+    let b = run-both calls (start lent s .world) (begin s) 1 (r .0) (r .1) (r .2) bound in
     holds (leftBy step (start lent s .world) calls) (reckon (begin s) (events step (start lent s .world) calls)) (b .0) (b .1) (b .2)
 
 -- ---- it is not vacuous

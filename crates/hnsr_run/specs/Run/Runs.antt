@@ -1,5 +1,5 @@
 -- The invariant over a whole run: the configuration stays, so the tables stay long enough, and each step keeps the rest.
-use Prim.Native.Nat.{ℕ, _≤_, _<_}
+use Prim.Native.Nat.{ℕ, _+_, _≤_, _<_}
 use native.Mathlib.Omega.{arith}
 use mathlib.Core.Path.{_≡_, refl, sym, ap, _∙_, subst}
 use mathlib.Core.Bool.{Bool, true, false, cond, _&&_, _||_, Bool·beq}
@@ -24,9 +24,10 @@ use Rattle.hnsr_circuit.specs.Laws.Places.{AsMany}
 use Rattle.hnsr_circuit.specs.Laws.StepPlaces.{step-places}
 use Rattle.hnsr_run.specs.Past.{Action, Past, numbered, nothing, without}
 use Rattle.hnsr_run.specs.History.{taken, ends, written, entered, handledAs, byContext, byId, failedIn, endIn, reckon, after}
-use Rattle.hnsr_run.specs.Claim.{leftBy, events, below, limitsBelow}
+use Rattle.hnsr_run.specs.Claim.{leftBy, events, below, sequenceAfter, limitsBelow}
 use Rattle.hnsr_run.specs.Run.Rel.{Rel, Places}
 use Rattle.hnsr_run.specs.Run.Steps.{step-keeps}
+use Rattle.hnsr_run.specs.Run.Numbers.{step-numbered}
 
 -- ---- no event changes the configuration
 abbrev Same : OpaqueRelayConfig → Past → Type 0
@@ -67,18 +68,28 @@ pub step-both : {w : World} {h : Past} → Rel w h → Places w → sequenceOf w
 step-both {w} {h} R H low c lim =
     let R₁ = step-keeps R H low c lim in
     let m = step-places w c in
-    let e : configOf (step w c .world) ≡ configOf w = R₁ .base .heads .config ∙ same-config h c (step w c .answer) (step w c .routes) ∙ sym (R .base .heads .config) in
-    (R₁, record {
-      pending = omega (arith, H .pending, m .pending, ap (λ (k : OpaqueRelayConfig). k .«maximum_pending») e);
-      circuits = omega (arith, H .circuits, m .circuits, ap (λ (k : OpaqueRelayConfig). k .«maximum_circuits») e);
-      inflight = omega (arith, H .inflight, m .inflight, ap (λ (k : OpaqueRelayConfig). k .«maximum_inflight_actions») e);
-    })
+    let e : configOf (step w c .world) ≡ configOf w = R₁ .base .heads .config ∙ same-config h c (step w c .answer) (step w c .routes) ∙ sym (R .base .heads .config) in (
+      R₁,
+      record {
+        pending = omega (arith, H .pending, m .pending, ap (λ (k : OpaqueRelayConfig). k .«maximum_pending») e);
+        circuits = omega (arith, H .circuits, m .circuits, ap (λ (k : OpaqueRelayConfig). k .«maximum_circuits») e);
+        inflight = omega (arith, H .inflight, m .inflight, ap (λ (k : OpaqueRelayConfig). k .«maximum_inflight_actions») e);
+      },
+    )
 
-pub run-both : (cs : List Call) (w : World) (h : Past) → Rel w h → Places w → below step w cs ≡ true
+-- the sequence is what the events tell
+pub sequence-is : {w : World} {h : Past} → Rel w h → (c : Call) (n : ℕ) → Rel (step w c .world) (after h c (step w c .answer) (step w c .routes)) → sequenceOf w ≡ n
+    → sequenceOf (step w c .world) ≡ sequenceAfter h n (record { call = c; answer = step w c .answer; routes = step w c .routes })
+sequence-is {w} {h} R c n R₁ e = step-numbered w c ∙ λ i. cond (eqb (R₁ .base .heads .generation i) (R .base .heads .generation i)) (e i) 1 + length (step w c .routes)
+
+pub run-both : (cs : List Call) (w : World) (h : Past) (n : ℕ) → Rel w h → Places w → sequenceOf w ≡ n → below h n (events step w cs) ≡ true
     → Rel (leftBy step w cs) (reckon h (events step w cs)) × Places (leftBy step w cs) × (sequenceOf (leftBy step w cs) < top 64)
-run-both [] w h R H b = (R, H, ltb-true (sequenceOf w) (top 64) b)
-run-both (c ∷ cs) w h R H b =
-    let x = both (ltb (sequenceOf w) (top 64)) (limitsBelow c && below step (step w c .world) cs) b in
-    let y = both (limitsBelow c) (below step (step w c .world) cs) (x .1) in
-    let s = step-both R H (ltb-true (sequenceOf w) (top 64) (x .0)) c (y .0) in
-    run-both cs (step w c .world) (after h c (step w c .answer) (step w c .routes)) (s .0) (s .1) (y .1)
+run-both [] w h n R H e b = (R, H, subst (λ m. m < top 64) (sym e) (ltb-true n (top 64) b))
+run-both (c ∷ cs) w h n R H e b =
+    let o = step w c in
+    let g = after h c (o .answer) (o .routes) in
+    let m = sequenceAfter h n (record { call = c; answer = o .answer; routes = o .routes }) in
+    let x = both (ltb n (top 64)) (limitsBelow c && below g m (events step (o .world) cs)) b in
+    let y = both (limitsBelow c) (below g m (events step (o .world) cs)) (x .1) in
+    let s = step-both R H (subst (λ k. k < top 64) (sym e) (ltb-true n (top 64) (x .0))) c (y .0) in
+    run-both cs (o .world) g m (s .0) (s .1) (sequence-is R c n (s .0) e) (y .1)

@@ -167,9 +167,13 @@ module _ (w : World) (s : Start) (D : NewRows w (s .config)) (low : s .config .�
       gone true n = refl
       gone false n = refl
 
-pub start-rel : (w : World) (s : Start) → start w s .answer ≡ Taken → s .config .«maximum_bytes_per_circuit» < top 64 → Rel (start w s .world) (begin s) × Places (start w s .world)
+empty-sequence : (w : World) (s : Start) → sequenceOf (emptied w (newHeader (s .session) (s .generation) (s .config) (s .now))) ≡ 1
+unfolding emptied
+empty-sequence w s = refl
+
+pub start-rel : (w : World) (s : Start) → start w s .answer ≡ Taken → s .config .«maximum_bytes_per_circuit» < top 64 → Rel (start w s .world) (begin s) × Places (start w s .world) × (sequenceOf (start w s .world) ≡ 1)
 start-rel w s e low =
     let t = new-taken w s e in
     let D = new-rows w s t in
     let p = sym (new-world w s t) in
-    (subst (λ v. Rel v (begin s)) p (empty-rel w s D low), subst Places p (empty-places w s D low))
+    (subst (λ v. Rel v (begin s)) p (empty-rel w s D low), subst Places p (empty-places w s D low), ap sequenceOf (new-world w s t) ∙ empty-sequence w s)

@@ -126,7 +126,7 @@ module _ {A K : Type 0} (X : Keys A ℕ K) (by : (i j : ℕ) → eqb i j ≡ X .
             let T₁ : Tells X (table (end w m .world)) (st (fin h m rs)) (kn h) = subst (λ (k : ℕ → K). Tells X (table (end w m .world)) (st (fin h m rs)) k) (fin-kn h m rs) (tells (end w m .world) (fin h m rs) R₁) in
             let f = least-at X by Q (table w) some in
             let l₁ : count (having X by Q) (table (end w m .world)) ≤ turns =
-                subst (λ (t : List A). count (having X by Q) t ≤ turns) (sym (turn-table w h m R a)) (subst (λ j. count (having X by Q) (clear (X .unmark) (keyed X j) (table w)) ≤ turns) (sym lo) (omega (arith, fewer X by Q (table w) (least X by Q (table w)) f))) in
+            subst (λ (t : List A). count (having X by Q) t ≤ turns) (sym (turn-table w h m R a)) (subst (λ j. count (having X by Q) (clear (X .unmark) (keyed X j) (table w)) ≤ turns) (sym lo) (omega (arith, fewer X by Q (table w) (least X by Q (table w)) f))) in
             let b₁ = passed T T₁ m lo (fin-st h m rs) N refl in
             let r = ih N (end w m .world) (fin h m rs) R₁ l₁ b₁ in
             (subst (λ g. I (goes turns N (end w m .world) .world) g) (more w h m (goes turns N (end w m .world) .routes) R a s) (r .0), J-more w h m (goes turns N (end w m .world) .routes) R a (r .1))

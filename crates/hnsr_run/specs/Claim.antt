@@ -11,7 +11,6 @@ use Rattle.hns_encoding.specs.Sums.{total}
 use Rattle.hnsr_body.specs.Data.{mostData}
 use Rattle.hnsr_circuit.specs.declared.runtime.HnsrRuntimeStatus.{HnsrRuntimeStatus}
 use Rattle.hnsr_circuit.specs.declared.records.RelaySide.{RelaySide}
-use Rattle.hnsr_circuit.specs.declared.answer.HnsrAnswer.{HnsrAnswer}
 use Rattle.hnsr_circuit.specs.declared.answer.HnsrAnswer.the-variants.{Taken}
 use Rattle.hnsr_circuit.specs.World.{World, Outcome, statusIs}
 use Rattle.hnsr_circuit.specs.Peer.{peerGood, samePeer}

@@ -1,9 +1,9 @@
 -- What is known from the events of a run alone: circuits, OPENs that stand, reservations, outstanding actions, and how each small change leaves it.
 -- No table of the machine is looked at. Circuits and OPENs are functions of the id, reservations of theirs; the actions are one list.
-use Prim.Native.Nat.{ℕ, _+_, _-_, min}
-use mathlib.Core.Bool.{Bool, true, false, cond, not, _&&_, _||_}
-use mathlib.Core.List.{List, [], _++_, map}
-use lib.Dec.{leb, ltb, eqb}
+use Prim.Native.Nat.{ℕ, _+_, _-_}
+use mathlib.Core.Bool.{Bool, true, false, cond, not, _&&_}
+use mathlib.Core.List.{List, _++_, map}
+use lib.Dec.{ltb, eqb}
 use lib.ListN.{length}
 use Rattle.hns_encoding.specs.Sums.{only, non}
 use Rattle.hnsr_body.specs.declared.values.ReservationId.{ReservationId}

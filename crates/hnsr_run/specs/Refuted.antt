@@ -1,31 +1,29 @@
 -- Wrong machines, refuted: of each the claim is false, by a run that is computed.
-use Prim.Native.Nat.{ℕ, _+_, _≤_, _<_}
+use Prim.Native.Nat.{ℕ}
 use native.Mathlib.Omega.{arith}
-use mathlib.Core.Path.{_≡_, refl, ap, _∙_, sym}
-use mathlib.Core.Bool.{Bool, true, false, cond, not}
+use mathlib.Core.Path.{_≡_, refl, ap, _∙_}
+use mathlib.Core.Bool.{Bool, cond}
 use mathlib.Core.List.{List, [], _∷_}
 use lib.Dec.{eqb}
 use lib.ListN.{length, replicate}
 use Rattle.hnsr_circuit.specs.declared.runtime.HnsrRuntimeStatus.{HnsrRuntimeStatus}
 use Rattle.hnsr_circuit.specs.declared.records.RelaySide.the-variants.{Requester, Endpoint}
-use Rattle.hnsr_circuit.specs.declared.answer.HnsrAnswer.the-variants.{Taken}
 use Rattle.hnsr_circuit.specs.Answers.{number}
-use Rattle.hnsr_circuit.specs.Table.{edit, pick, any}
+use Rattle.hnsr_circuit.specs.Table.{edit, pick}
 use Rattle.hnsr_circuit.specs.Circuits.{sideOf}
 use Rattle.hnsr_circuit.specs.Ledger.{usageAt, spent}
 use Rattle.hnsr_circuit.specs.Inflight.{noAction, actionAt}
-use Rattle.hnsr_circuit.specs.World.{World, Outcome, Told, silent, statusIs, dueIs, done, telling, proceed, withLedger, withCircuits}
+use Rattle.hnsr_circuit.specs.World.{World, Outcome, Told, silent, statusIs, dueIs, done, telling, proceed, withLedger}
 use Rattle.hnsr_circuit.specs.Queue.{opData, routed}
 use Rattle.hnsr_circuit.specs.Entry.{handleWords, acknowledgeWords}
-use Rattle.hnsr_circuit.specs.Packet.{Packet, sender, circuitIn, namedCircuit}
+use Rattle.hnsr_circuit.specs.Packet.{Packet, sender, namedCircuit}
 use Rattle.hnsr_circuit.specs.Data.{dataMessage}
 use Rattle.hnsr_circuit.specs.Acknowledge.{acknowledgeTaken, withoutAction, settled}
 use Rattle.hnsr_circuit.specs.Status.{statusOf}
 use Rattle.hnsr_circuit.specs.Cases.{lent, notAdmitted}
-use Rattle.hnsr_circuit.specs.Call.{Call, start, step, callStatus, callNextDue, callObserveTime, callReplaceEnabled, callHandle, callAcknowledge, callDisconnect, callRevokeReservation, callExpire}
+use Rattle.hnsr_circuit.specs.Call.{Call, step, callStatus, callNextDue, callObserveTime, callReplaceEnabled, callHandle, callAcknowledge, callDisconnect, callRevokeReservation, callExpire}
 use Rattle.hnsr_circuit.specs.All.{machine}
-use Rattle.hnsr_run.specs.Past.{Action}
-use Rattle.hnsr_run.specs.Claim.{Claim, Holds, Sends, Passes}
+use Rattle.hnsr_run.specs.Claim.{Claim}
 use Rattle.hnsr_run.specs.Talk.{tables, fresh, grant, opens, accepts, packet, sends, acked}
 
 -- ---- the machine with one call replaced

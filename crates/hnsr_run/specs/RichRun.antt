@@ -2,17 +2,15 @@
 -- expired OPEN, a disconnect, calls refused. It shows that the claim speaks of something.
 use Prim.Native.Nat.{ℕ}
 use mathlib.Core.Path.{_≡_, refl}
-use mathlib.Core.Bool.{Bool, true, false}
+use mathlib.Core.Bool.{true, false}
 use mathlib.Core.List.{List, [], _∷_, _++_, map}
-use lib.ListN.{length}
 use Rattle.hns_encoding.specs.Sums.{total}
-use Rattle.hnsr_circuit.specs.declared.answer.HnsrAnswer.{HnsrAnswer}
 use Rattle.hnsr_circuit.specs.declared.records.RelaySide.the-variants.{Requester, Endpoint}
 use Rattle.hnsr_circuit.specs.Answers.{number}
-use Rattle.hnsr_circuit.specs.World.{World, Outcome}
-use Rattle.hnsr_circuit.specs.Entry.{acknowledgeWords, handleWords}
+use Rattle.hnsr_circuit.specs.World.{World}
+use Rattle.hnsr_circuit.specs.Entry.{acknowledgeWords}
 use Rattle.hnsr_circuit.specs.Cases.{lent, notAdmitted}
-use Rattle.hnsr_circuit.specs.Call.{Call, start, step, callStatus, callReplaceEnabled, callAcknowledge, callDisconnect, callExpire, callRevokeReservation}
+use Rattle.hnsr_circuit.specs.Call.{Call, start, step, callStatus, callReplaceEnabled, callDisconnect, callExpire}
 use Rattle.hnsr_circuit.specs.All.{machine}
 use Rattle.hnsr_run.specs.Past.{Action, Past, credit, circuitLeft, totalLeft, weight}
 use Rattle.hnsr_run.specs.History.{Event, begin, reckon}

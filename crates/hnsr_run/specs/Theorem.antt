@@ -1,42 +1,37 @@
 -- The run theorem: the claim holds of the definition's `step`. And the claim at the rich run.
-use Prim.Native.Nat.{ℕ, _≤_, _<_}
+use Prim.Native.Nat.{ℕ, _<_}
 use native.Mathlib.Omega.{arith}
 use mathlib.Core.Path.{_≡_, refl, sym, ap, _∙_, subst}
-use mathlib.Core.Bool.{Bool, true}
-use mathlib.Core.List.{List, [], _∷_, map}
-use lib.ListN.{length, replicate}
+use mathlib.Core.List.{[], map}
+use lib.ListN.{length}
 use Rattle.hns_encoding.specs.Numbers.{top}
-use Rattle.hns_encoding.specs.Sums.{total, count}
-use Rattle.hnsr_circuit.specs.declared.runtime.HnsrRuntimeStatus.{HnsrRuntimeStatus}
 use Rattle.hnsr_circuit.specs.declared.records.RelaySide.{RelaySide}
-use Rattle.hnsr_circuit.specs.declared.answer.HnsrAnswer.{HnsrAnswer}
-use Rattle.hnsr_circuit.specs.declared.answer.HnsrAnswer.the-variants.{Taken}
 use Rattle.hnsr_circuit.specs.declared.answer.HnsrRuntimeError.the-variants.{Short}
 use Rattle.hnsr_circuit.specs.Answers.{check}
 use Rattle.hnsr_circuit.specs.Inflight.{isAction}
-use Rattle.hnsr_circuit.specs.World.{World, Outcome, statusIs, telling, proceed, configOf, atTime}
+use Rattle.hnsr_circuit.specs.World.{World, Outcome, statusIs, telling, proceed, atTime}
 use Rattle.hnsr_circuit.specs.Queue.{sequenceOf}
-use Rattle.hnsr_circuit.specs.Entry.{acknowledgeWords, tablesAnswer}
+use Rattle.hnsr_circuit.specs.Entry.{tablesAnswer}
 use Rattle.hnsr_circuit.specs.Packet.{Packet}
 use Rattle.hnsr_circuit.specs.Data.{handleData}
 use Rattle.hnsr_circuit.specs.Status.{statusOf, status}
-use Rattle.hnsr_circuit.specs.Cases.{lent, notAdmitted}
-use Rattle.hnsr_circuit.specs.Call.{Start, start, Call, callStatus, callHandle, step}
-use Rattle.hnsr_circuit.specs.All.{machine}
+use Rattle.hnsr_circuit.specs.Cases.{lent}
+use Rattle.hnsr_circuit.specs.Call.{start, callStatus, step}
 use Rattle.hnsr_circuit.specs.Circuits.{otherSide}
 use Rattle.hnsr_circuit.specs.Laws.Answers.{number-zero}
 use Rattle.hnsr_circuit.specs.Laws.Totals.{ones-length}
-use Rattle.hnsr_run.specs.Past.{Action, Past, peerOn, withOut, movedTo}
+use Rattle.hnsr_run.specs.Past.{Past, peerOn, withOut, movedTo}
 use Rattle.hnsr_run.specs.History.{begin, reckon}
-use Rattle.hnsr_run.specs.Claim.{Reordered, Sends, Passes, leftBy, events, below, delivered, Holds, Claim}
+use Rattle.hnsr_run.specs.Claim.{Sends, Passes, leftBy, events, delivered, Holds, Claim}
 use Rattle.hnsr_run.specs.Talk.{tables, fresh}
 use Rattle.hnsr_run.specs.RichRun.{richCalls, worldAfter, pastAfter, new-taken, bounded}
 use Rattle.hnsr_run.specs.Run.Rel.{Rel, Places, moved-rel}
 use Rattle.hnsr_run.specs.Run.Steps.{long-enough}
 use Rattle.hnsr_run.specs.Run.Start.{start-rel}
 use Rattle.hnsr_run.specs.Run.Runs.{run-both}
-use Rattle.hnsr_run.specs.Run.Drained.{Drained, drain}
-use Rattle.hnsr_run.specs.Run.Passing.{is-data, only-if, if}
+use Rattle.hnsr_run.specs.Run.Drained.{drain}
+use Rattle.hnsr_run.specs.Run.Entering.{is-data}
+use Rattle.hnsr_run.specs.Run.Passing.{only-if, if}
 
 status-is : (w : World) → Places w → step w callStatus ≡ telling w (statusIs (statusOf w))
 unfolding step status tablesAnswer proceed

@@ -1,20 +1,16 @@
 -- ACCEPT keeps the invariant: the OPEN ends with its actions, the circuit starts, and OPENED is queued.
-use Prim.Native.Nat.{ℕ, _+_, _≤_, _<_, min}
+use Prim.Native.Nat.{ℕ, _<_, min}
 use native.Mathlib.Omega.{arith}
 use mathlib.Core.Path.{_≡_, refl, sym, ap, _∙_, subst}
-use mathlib.Core.Bool.{Bool, true, false, cond, not, _&&_, _||_, true≢false, false≢true}
-use mathlib.Core.List.{List, [], _∷_, _++_}
+use mathlib.Core.Bool.{true, false, cond, _||_, false≢true}
+use mathlib.Core.List.{[], _∷_}
 use lib.Dec.{leb, ltb, eqb}
-use lib.ListN.{length}
 use borrow.Author.Tests.{eqb-true, eq-eqb, leb-false, lt-ltb}
 use Rattle.hns_encoding.specs.Numbers.{top}
 use Rattle.hns_encoding.specs.Laws.Tests.{split, clash, neither}
-use Rattle.hns_encoding.specs.Sums.{total, count, non}
-use Rattle.hnsr_body.specs.declared.error.Checked.{Checked}
-use Rattle.hnsr_body.specs.declared.error.Checked.the-variants.{Ok, Err}
+use Rattle.hns_encoding.specs.Sums.{total, non}
 use Rattle.hnsr_body.specs.declared.accept_body.AcceptBody.{AcceptBody}
-use Rattle.hnsr_body.specs.Accept.{decodeAccept, acceptFields}
-use Rattle.hnsr_circuit.specs.declared.peer.HnsrPeerId.{HnsrPeerId}
+use Rattle.hnsr_body.specs.Accept.{acceptFields}
 use Rattle.hnsr_circuit.specs.declared.records.RelayTicket.{RelayTicket}
 use Rattle.hnsr_circuit.specs.declared.records.RelayPending.{RelayPending}
 use Rattle.hnsr_circuit.specs.declared.records.RelayCircuit.{RelayCircuit}
@@ -23,86 +19,30 @@ use Rattle.hnsr_circuit.specs.declared.records.RelaySide.the-variants.{Requeste
 use Rattle.hnsr_circuit.specs.declared.records.InflightTally.{InflightTally}
 use Rattle.hnsr_circuit.specs.declared.answer.HnsrAnswer.{HnsrAnswer}
 use Rattle.hnsr_circuit.specs.declared.answer.HnsrAnswer.the-variants.{Taken, Refused}
-use Rattle.hnsr_circuit.specs.declared.answer.HnsrRuntimeError.{HnsrRuntimeError}
-use Rattle.hnsr_circuit.specs.declared.answer.HnsrRuntimeError.the-variants.{Capacity, InvalidAdmission, UnknownRequest, WrongPeer}
-use Rattle.hnsr_circuit.specs.Answers.{errorNumber, number, check, bodyAnswer, _then_}
+use Rattle.hnsr_circuit.specs.Answers.{errorNumber, number}
 use Rattle.hnsr_circuit.specs.Table.{any, pick, put, edit, keep}
-use Rattle.hnsr_circuit.specs.Peer.{samePeer}
-use Rattle.hnsr_circuit.specs.Pending.{noPending, pendingAt, overdue, clearPending}
+use Rattle.hnsr_circuit.specs.Pending.{pendingAt, clearPending}
 use Rattle.hnsr_circuit.specs.Circuits.{noCircuit, isCircuit, circuitAt, clearCircuit, queuedTo}
-use Rattle.hnsr_circuit.specs.Inflight.{Opened, actionUnder, dropped, tallied, capacityLeft, capacityAnswer}
+use Rattle.hnsr_circuit.specs.Inflight.{actionUnder, dropped, tallied, capacityAnswer}
 use Rattle.hnsr_circuit.specs.World.{World, Outcome, configOf, done}
 use Rattle.hnsr_circuit.specs.Queue.{Message, generationOf, sequenceOf, queued, routed, send}
-use Rattle.hnsr_circuit.specs.Counts.{circuitCount, reservationWork}
-use Rattle.hnsr_circuit.specs.Packet.{Packet, sender}
+use Rattle.hnsr_circuit.specs.Counts.{circuitCount}
+use Rattle.hnsr_circuit.specs.Packet.{Packet}
 use Rattle.hnsr_circuit.specs.Revocation.{withoutActions, withoutPending, endPending, pendingIn}
-use Rattle.hnsr_circuit.specs.Accept.{requestAnswer, acceptAnswer, circuitFor, withAccept, openedMessage, acceptTaken, acceptWith, handleAccept}
-use Rattle.hnsr_circuit.specs.Laws.Answers.{then-taken, check-taken}
+use Rattle.hnsr_circuit.specs.Accept.{circuitFor, withAccept, openedMessage, acceptTaken, acceptWith, handleAccept}
 use Rattle.hnsr_circuit.specs.Laws.Inflight.{replacing-tally}
 use Rattle.hnsr_circuit.specs.Laws.Marks.{room}
 use Rattle.hnsr_circuit.specs.Laws.Keyed.{Looks, store-looks, store-tells}
-use Rattle.hnsr_run.specs.Past.{Known, Asked, Action, Past, at, onCircuit, weight, emit, openEnded, begun}
+use Rattle.hnsr_run.specs.Past.{Known, Past, at, onCircuit, emit, openEnded, begun}
 use Rattle.hnsr_run.specs.History.{written, startedBy, acceptIn}
 use Rattle.hnsr_run.specs.Run.Actions.{room-of}
-use Rattle.hnsr_run.specs.Run.Circuits.{Agrees, circuitKeys, Queue, none, suspend, store-queue, idle}
-use Rattle.hnsr_run.specs.Run.Full.{AgreesP, Body, Full, Keeps, Quiet, rest-same, queue-full, at-false, end-pending}
-use Rattle.hnsr_run.specs.Run.Revocations.{pending-id, pending-there}
-use Rattle.hnsr_run.specs.Run.InPlace.{only-one, resume-at}
-use Rattle.hnsr_run.specs.Run.Rel.{Heads, Live, Rel, Places, proceed-cases, if-not, not-taken, can-queue, send-taken}
-
--- ---- the rows
-pub record AcceptRows (w : World) (q : Packet) (p : RelayPending) : Type 0 where
-  pub found : any (pendingAt (q .context)) (w .pending) ≡ true
-  pub fresh : overdue (q .now) p ≡ false
-  pub circuits : circuitCount w < configOf w .«maximum_circuits»
-  pub room : capacityAnswer (configOf w) (tallied true (q .context) (p .requester) (w .inflight)) ≡ Taken
-
-flip : (b : Bool) → not b ≡ false → b ≡ true
-flip true x = refl
-flip false x = sym x
-
-accept-rows : (w : World) (q : Packet) (p : RelayPending) (b : AcceptBody) → acceptTaken w q p b ≡ Taken → AcceptRows w q p
-unfolding acceptTaken requestAnswer acceptAnswer
-accept-rows w q p b e =
-    let f = any (pendingAt (q .context)) (w .pending) in
-    let r = requestAnswer f p (sender q) (q .now) in
-    let body = bodyAnswer (decodeAccept (q .body) .result) in
-    let under = reservationWork w (p .ticket .«reservation_id») in
-    let ten = acceptAnswer (configOf w) p b (circuitCount w) under in
-    let cap = capacityAnswer (configOf w) (tallied true (q .context) (p .requester) (w .inflight)) in
-    let a = then-taken r (body then ten then cap) e in
-    let c = then-taken body (ten then cap) (a .1) in
-    let d = then-taken ten cap (c .1) in
-    let first = check (not f) UnknownRequest in
-    let second = check (not (samePeer (p .endpoint) (sender q))) WrongPeer in
-    let third = check (overdue (q .now) p) InvalidAdmission in
-    let g = then-taken first (second then third) (a .0) in
-    let h = then-taken second third (g .1) in
-    let over = ltb (p .«initial_window») (b .«accepted_window») in
-    let full = leb (configOf w .«maximum_circuits») (circuitCount w) in
-    let most = ltb (p .ticket .«max_active_circuits») under in
-    let i = neither over full (neither (over || full) most (check-taken (over || full || most) Capacity (d .0)) .0) in
-    record {
-      found = flip f (check-taken (not f) UnknownRequest (g .0));
-      fresh = check-taken (overdue (q .now) p) InvalidAdmission (h .1);
-      circuits = leb-false (configOf w .«maximum_circuits») (circuitCount w) (i .1);
-      room = d .1;
-    }
-
-six-rows : (x y z u v : Bool) (b : Checked) → eqb (number ((check x UnknownRequest then check y WrongPeer then check z InvalidAdmission) then bodyAnswer b then check u Capacity then check v Capacity)) 6 ≡ false
-six-rows true y z u v b = refl
-six-rows false true z u v b = refl
-six-rows false false true u v b = refl
-six-rows false false false u v (Err c) = refl
-six-rows false false false true v Ok = refl
-six-rows false false false false true Ok = refl
-six-rows false false false false false Ok = refl
-
-never-six : (w : World) (q : Packet) (p : RelayPending) (b : AcceptBody) → eqb (number (acceptTaken w q p b)) 6 ≡ false
-unfolding acceptTaken requestAnswer acceptAnswer capacityAnswer
-never-six w q p b = six-rows (not (any (pendingAt (q .context)) (w .pending))) (not (samePeer (p .endpoint) (sender q))) (overdue (q .now) p)
-    (ltb (p .«initial_window») (b .«accepted_window») || leb (configOf w .«maximum_circuits») (circuitCount w) || ltb (p .ticket .«max_active_circuits») (reservationWork w (p .ticket .«reservation_id»)))
-    (eqb (capacityLeft (configOf w) (tallied true (q .context) (p .requester) (w .inflight))) 0) (decodeAccept (q .body) .result)
+use Rattle.hnsr_run.specs.Run.Circuits.{Agrees, circuitKeys, none, suspend, store-queue, idle}
+use Rattle.hnsr_run.specs.Run.Full.{AgreesP, Body, Full, Keeps, Quiet, rest-same, queue-full}
+use Rattle.hnsr_run.specs.Run.Ended.{at-false, end-pending}
+use Rattle.hnsr_run.specs.Run.Ends.{pending-id, pending-there}
+use Rattle.hnsr_run.specs.Run.InPlace.{resume-at}
+use Rattle.hnsr_run.specs.Run.Rel.{Live, Rel, Places, proceed-cases, if-not, not-taken, can-queue, send-taken}
+use Rattle.hnsr_run.specs.Run.AcceptRows.{AcceptRows, accept-rows, never-six}
 
 -- ---- the circuit starts
 module _ {w : World} {h : Past} (R : Rel w h) (H : Places w) (low : sequenceOf w < top 64) (q : Packet) (clock : h .head .clock ≡ q .now) (D : AcceptRows w q (pendingIn w (q .context))) where

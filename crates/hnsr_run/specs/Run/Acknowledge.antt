@@ -1,56 +1,33 @@
 -- Acknowledge keeps the invariant: the action goes out of table and list, of a DATA the circuit's queued count too; undelivered, a record ends.
-use Prim.Native.Nat.{ℕ, _+_, _-_, _≤_, _<_}
+use Prim.Native.Nat.{ℕ, _-_, _≤_}
 use native.Mathlib.Nat.{sub-zero}
 use native.Mathlib.Omega.{arith}
-use mathlib.Core.Path.{_≡_, refl, sym, ap, _∙_, subst}
-use mathlib.Core.Bool.{Bool, true, false, cond, not, _&&_, _||_, true≢false, false≢true}
-use mathlib.Core.List.{List, [], _∷_, _++_, map, append-nil}
-use mathlib.Core.Logic.{_⊎_, inl, inr}
+use mathlib.Core.Path.{_≡_, refl, sym, ap, _∙_}
+use mathlib.Core.Bool.{Bool, true, false, cond, not, _&&_, false≢true}
+use mathlib.Core.List.{List}
 use lib.Dec.{leb, eqb}
-use borrow.Author.Tests.{eqb-true, eq-eqb, eqb-false, ne-eqb, leb-true, lt-leb, le-leb, not-true}
-use Rattle.hns_encoding.specs.Numbers.{top}
-use Rattle.hns_encoding.specs.Laws.Tests.{split, choose, clash, both, join}
-use Rattle.hns_encoding.specs.Sums.{only, one, non, total, count}
+use borrow.Author.Tests.{eqb-true, eq-eqb, eqb-false, ne-eqb, lt-leb, le-leb}
+use Rattle.hns_encoding.specs.Laws.Tests.{split, choose}
+use Rattle.hns_encoding.specs.Sums.{only, one, non, total}
 use Rattle.hns_encoding.specs.Laws.Sums.{total-le, total-split}
-use Rattle.hnsr_body.specs.declared.messages.Notice.the-variants.{EndpointWriteFailed, OuterWriteFailed}
-use Rattle.hnsr_circuit.specs.declared.config.OpaqueRelayConfig.{OpaqueRelayConfig}
-use Rattle.hnsr_circuit.specs.declared.records.RelayPending.{RelayPending}
 use Rattle.hnsr_circuit.specs.declared.records.RelayCircuit.{RelayCircuit}
 use Rattle.hnsr_circuit.specs.declared.records.RelaySide.{RelaySide}
 use Rattle.hnsr_circuit.specs.declared.records.RelaySide.the-variants.{Requester, Endpoint}
 use Rattle.hnsr_circuit.specs.declared.records.InflightAction.{InflightAction}
-use Rattle.hnsr_circuit.specs.declared.answer.HnsrAnswer.{HnsrAnswer}
-use Rattle.hnsr_circuit.specs.declared.answer.HnsrAnswer.the-variants.{Taken, Refused}
-use Rattle.hnsr_circuit.specs.declared.answer.HnsrRuntimeError.{HnsrRuntimeError}
-use Rattle.hnsr_circuit.specs.declared.answer.HnsrRuntimeError.the-variants.{Capacity, Short, StaleGeneration, UnknownAction}
-use Rattle.hnsr_circuit.specs.Answers.{errorNumber, number, check, _then_}
 use Rattle.hnsr_circuit.specs.Peer.{samePeer}
 use Rattle.hnsr_circuit.specs.Table.{any, pick, edit, keep}
-use Rattle.hnsr_circuit.specs.Pending.{noPending, pendingAt, clearPending}
 use Rattle.hnsr_circuit.specs.Circuits.{noCircuit, circuitAt, queuedTo, lowered}
-use Rattle.hnsr_circuit.specs.Inflight.{InflightKind, Incoming, Opened, Data, Control, Close, kindNumber, kindOf, noAction, actionAt, clearAction}
+use Rattle.hnsr_circuit.specs.Inflight.{InflightKind, Incoming, Opened, Data, Control, Close, kindOf, noAction, actionAt, clearAction}
 use Rattle.hnsr_circuit.specs.Inflight.{towardSide as towardOf}
-use Rattle.hnsr_circuit.specs.World.{World, Outcome, configOf, done, refuse, counting}
-use Rattle.hnsr_circuit.specs.Queue.{Sent, Message, finished, send, canQueue, queued, routed, generationOf, sequenceOf}
-use Rattle.hnsr_circuit.specs.Entry.{roomAnswer, acknowledgeWords}
-use Rattle.hnsr_circuit.specs.Packet.{hasCircuit}
-use Rattle.hnsr_circuit.specs.Header.{countRevoked}
-use Rattle.hnsr_circuit.specs.Revocation.{withoutPending, errorToRequester, hasPending, pendingIn, revokeCircuit, revokedCircuit}
-use Rattle.hnsr_circuit.specs.Acknowledge.{generationAnswer, actionAnswer, withoutAction, lowerFor, released, failPending, failIncoming, undelivered, settled, acknowledgeTaken, acknowledgeAction, acknowledge}
-use Rattle.hnsr_circuit.specs.Call.{callAcknowledge}
+use Rattle.hnsr_circuit.specs.World.{World, configOf}
+use Rattle.hnsr_circuit.specs.Queue.{queued, generationOf, sequenceOf}
+use Rattle.hnsr_circuit.specs.Acknowledge.{withoutAction, lowerFor, released}
 use Rattle.hnsr_circuit.specs.Laws.Totals.{total-keep}
-use Rattle.hnsr_circuit.specs.Laws.Lookups.{total-key}
-use Rattle.hnsr_circuit.specs.Laws.Answers.{then-taken, check-taken, then-never, check-never}
-use Rattle.hnsr_circuit.specs.Laws.Bag.{held-any}
-use Rattle.hnsr_run.specs.Past.{Known, Asked, Action, Past, at, peerOn, isData, onCircuit, numbered, towardSide, weight, nothing, emit, without, unstood, circuitEnded}
-use Rattle.hnsr_run.specs.History.{taken, ends, failedIn, acknowledgeIn, after}
-use Rattle.hnsr_run.specs.Run.Actions.{Acts, actions, view, both-once, remove-acts, found-is}
-use Rattle.hnsr_run.specs.Run.Circuits.{Agrees, stray, sideTo, none, drop-queue}
-use Rattle.hnsr_run.specs.Run.Walks.{when-cases}
-use Rattle.hnsr_run.specs.Run.Full.{AgreesP, Body, Full, Keeps, Rest, rest-same, rest-then, queued-rest, can-room, queue-full, reout, plain-weight, at-false, remove-pends}
-use Rattle.hnsr_run.specs.Run.Revocations.{quiet-error, pending-there, circuit-there, revoke-circuit}
-use Rattle.hnsr_run.specs.Run.InPlace.{only-one, there, agreed, place-circuit, looked, resume-at, lowered-at, lower-agrees}
-use Rattle.hnsr_run.specs.Run.Rel.{Rel, proceed-cases, not-taken, can-or-full, fewer, shrink}
+use Rattle.hnsr_run.specs.Past.{Action, Past, peerOn, isData, numbered, towardSide, weight, without}
+use Rattle.hnsr_run.specs.Run.Actions.{view, remove-acts, found-is}
+use Rattle.hnsr_run.specs.Run.Circuits.{stray, sideTo, none, drop-queue}
+use Rattle.hnsr_run.specs.Run.Full.{Body, Full, Keeps, Rest, plain-weight}
+use Rattle.hnsr_run.specs.Run.InPlace.{only-one, agreed, place-circuit, looked, resume-at, lowered-at, lower-agrees}
 
 -- ---- the kinds
 pub by-kind : (P : InflightKind → Type 0) (n : ℕ) → (eqb n 0 ≡ true → eqb n 2 ≡ false → P Incoming)

@@ -1,27 +1,26 @@
 -- The table of actions holds what is outstanding: for every f the total over the used places is the total over the list. What queueing, dropping
 -- and removing one do to that.
-use Prim.Native.Nat.{ℕ, _+_, _-_, _≤_, _<_, min}
+use Prim.Native.Nat.{ℕ, _+_, _≤_, _<_}
 use native.Mathlib.Omega.{arith}
-use mathlib.Core.Path.{_≡_, refl, sym, ap, _∙_}
-use mathlib.Core.Bool.{Bool, true, false, cond, not, _&&_, and-true}
+use mathlib.Core.Path.{_≡_, refl, sym, _∙_}
+use mathlib.Core.Bool.{Bool, true, false, cond, not, _&&_}
 use mathlib.Core.List.{List, [], _∷_, _++_}
 use lib.Dec.{eqb}
 use lib.ListN.{length}
 use borrow.Author.Tests.{eqb-false, eq-eqb}
-use Rattle.hns_encoding.specs.Laws.Tests.{split, both}
+use Rattle.hns_encoding.specs.Laws.Tests.{split}
 use Rattle.hns_encoding.specs.Sums.{only, one, non, total, count}
 use Rattle.hns_encoding.specs.Laws.Sums.{total-ext, total-le, total-append}
 use Rattle.hnsr_circuit.specs.declared.peer.HnsrPeerId.{HnsrPeerId}
 use Rattle.hnsr_circuit.specs.declared.config.OpaqueRelayConfig.{OpaqueRelayConfig}
 use Rattle.hnsr_circuit.specs.declared.records.InflightAction.{InflightAction}
-use Rattle.hnsr_circuit.specs.declared.answer.HnsrAnswer.{HnsrAnswer}
 use Rattle.hnsr_circuit.specs.declared.answer.HnsrAnswer.the-variants.{Taken}
 use Rattle.hnsr_circuit.specs.declared.answer.HnsrRuntimeError.the-variants.{Capacity}
 use Rattle.hnsr_circuit.specs.Table.{any, pick, put, edit, clear, keep}
-use Rattle.hnsr_circuit.specs.Inflight.{noAction, isAction, actionAt, clearAction, dropped, retained, tallied, capacityLeft, capacityAnswer}
+use Rattle.hnsr_circuit.specs.Inflight.{noAction, isAction, actionAt, clearAction, retained, tallied, capacityLeft, capacityAnswer}
 use Rattle.hnsr_circuit.specs.Queue.{Message, actionFor}
 use Rattle.hnsr_circuit.specs.Laws.Totals.{total-keep, keep-le, total-also}
-use Rattle.hnsr_circuit.specs.Laws.Lookups.{count-none, any-count, none-count, count-any, total-key}
+use Rattle.hnsr_circuit.specs.Laws.Lookups.{count-none, total-key}
 use Rattle.hnsr_circuit.specs.Laws.Marks.{clear-total, clear-length, length-put}
 use Rattle.hnsr_circuit.specs.Laws.Edits.{edit-clear}
 use Rattle.hnsr_circuit.specs.Laws.Answers.{check-taken}

@@ -1,28 +1,22 @@
 -- OPEN's ledger record: found, it stays; missing, it is made. And a draw that is found is neither taken nor zero.
-use Prim.Native.Nat.{ℕ, _+_, _≤_, _<_}
-use native.Mathlib.Omega.{arith}
+use Prim.Native.Nat.{ℕ}
 use mathlib.Core.Path.{_≡_, refl, sym, ap, _∙_, subst}
-use mathlib.Core.Bool.{Bool, true, false, cond, not, _&&_, _||_, true≢false, false≢true}
+use mathlib.Core.Bool.{Bool, true, false, cond, _&&_, false≢true}
 use mathlib.Core.List.{List, [], _∷_}
-use lib.Dec.{leb, ltb, eqb}
-use lib.ListN.{length}
-use borrow.Author.Tests.{leb-false}
-use Rattle.hns_encoding.specs.Laws.Tests.{split, choose, clash, both}
-use Rattle.hns_encoding.specs.Sums.{non, count}
+use lib.Dec.{ltb, eqb}
+use Rattle.hns_encoding.specs.Laws.Tests.{split, choose, clash}
+use Rattle.hns_encoding.specs.Sums.{non}
 use Rattle.hnsr_body.specs.declared.values.ReservationId.{ReservationId}
-use Rattle.hnsr_body.specs.Values.{sameReservation}
 use Rattle.hnsr_circuit.specs.declared.records.RelayTicket.{RelayTicket}
 use Rattle.hnsr_circuit.specs.declared.records.ReservationUsage.{ReservationUsage}
 use Rattle.hnsr_circuit.specs.declared.records.Drawing.{Drawing}
 use Rattle.hnsr_circuit.specs.Table.{any, pick, put}
-use Rattle.hnsr_circuit.specs.Ledger.{noUsage, isUsage, usageAt, freshUsage, booked, usageOf, hasUsage, clearUsage}
-use Rattle.hnsr_circuit.specs.Draw.{zeroDrawn, takenDrawn, freshDrawn, drawTurn, drawAll, undrawn}
+use Rattle.hnsr_circuit.specs.Ledger.{noUsage, isUsage, usageAt, freshUsage, booked, usageOf}
+use Rattle.hnsr_circuit.specs.Draw.{zeroDrawn, takenDrawn, freshDrawn, drawTurn, drawAll}
 use Rattle.hnsr_circuit.specs.Laws.Lookups.{pick-has, pick-none}
-use Rattle.hnsr_circuit.specs.Laws.Marks.{room}
-use Rattle.hnsr_circuit.specs.Laws.Keyed.{Looks}
-use Rattle.hnsr_circuit.specs.Laws.Keys.{same-reservation, reservation-refl}
+use Rattle.hnsr_circuit.specs.Laws.Keys.{reservation-refl}
 use Rattle.hnsr_run.specs.Past.{Book, under, lives, remade}
-use Rattle.hnsr_run.specs.Run.Books.{Books, Stands, usageKeys, usage-looks, store-books}
+use Rattle.hnsr_run.specs.Run.Books.{Books, usage-looks, store-books}
 
 -- what is found does not depend on the default
 pick-default : {A : Type 0} (p : A → Bool) (d e : A) (t : List A) → any p t ≡ true → pick p d t ≡ pick p e t

@@ -1,28 +1,25 @@
 -- The ledger against the reckoned reservations. A record past its expiry may be there or not: of it nothing is said, so the past need not tell
 -- which call dropped it, which the answers do not tell.
-use Prim.Native.Nat.{ℕ, _+_, _≤_, _<_}
+use Prim.Native.Nat.{ℕ, _+_, _≤_}
 use native.Mathlib.Omega.{arith}
 use mathlib.Core.Path.{_≡_, refl, sym, ap, _∙_, subst}
 use mathlib.Core.Bool.{Bool, true, false, cond, not, _&&_, false≢true}
 use mathlib.Core.List.{List}
-use lib.Dec.{leb, ltb, eqb}
-use lib.ListN.{length}
+use lib.Dec.{leb, ltb}
 use borrow.Author.Tests.{ltb-true, lt-ltb, leb-false, lt-leb, not-true}
-use Rattle.hns_encoding.specs.Numbers.{top, saturatingAdd}
+use Rattle.hns_encoding.specs.Numbers.{top}
 use Rattle.hns_encoding.specs.Laws.Tests.{split, clash, both, join}
 use Rattle.hns_encoding.specs.Sums.{non, count}
 use Rattle.hnsr_body.specs.declared.values.ReservationId.{ReservationId}
 use Rattle.hnsr_body.specs.Values.{sameReservation}
-use Rattle.hnsr_circuit.specs.declared.records.RelayTicket.{RelayTicket}
 use Rattle.hnsr_circuit.specs.declared.records.ReservationUsage.{ReservationUsage}
-use Rattle.hnsr_circuit.specs.Table.{any, pick, put, edit, clear}
-use Rattle.hnsr_circuit.specs.Ledger.{noUsage, isUsage, usageAt, usageOver, clearUsage, freshUsage, spent, lapsed, booked, usageOf}
-use Rattle.hnsr_circuit.specs.Laws.Lookups.{pick-has, pick-none, pick-at, place-found}
-use Rattle.hnsr_circuit.specs.Laws.Marks.{room}
+use Rattle.hnsr_circuit.specs.Table.{any, put, edit, clear}
+use Rattle.hnsr_circuit.specs.Ledger.{noUsage, isUsage, usageAt, usageOver, clearUsage, spent, lapsed, usageOf}
+use Rattle.hnsr_circuit.specs.Laws.Lookups.{pick-has}
 use Rattle.hnsr_circuit.specs.Laws.Edits.{edit-put, edit-clear}
 use Rattle.hnsr_circuit.specs.Laws.Keyed.{Keys, Tells, Looks, same-comm, keyed-at, store-looks, clear-look, clear-tells}
 use Rattle.hnsr_circuit.specs.Laws.Keys.{same-reservation, reservation-refl}
-use Rattle.hnsr_run.specs.Past.{Book, under, lives, remade, spentBy, unmade}
+use Rattle.hnsr_run.specs.Past.{Book, lives, spentBy, unmade}
 
 abbrev pub usageKeys : Keys ReservationUsage ReservationId ℕ
 usageKeys = record { used = λ u. u .used; unmark = clearUsage; off = λ u. refl; nobody = noUsage; key = λ u. u .«reservation_id»; same = λ a b. sameReservation a b; same-eq = same-reservation; same-refl = reservation-refl; Agree = λ u k. Unit {0} }

@@ -2,19 +2,19 @@
 -- suspense: those whose counts may be off between two moves of one call.
 use Prim.Native.Nat.{ℕ, _+_, _≤_, _<_}
 use native.Mathlib.Omega.{arith}
-use mathlib.Core.Path.{_≡_, refl, sym, ap, _∙_, subst}
+use mathlib.Core.Path.{_≡_, refl, ap, _∙_, subst}
 use mathlib.Core.Bool.{Bool, true, false, cond, not, _&&_, false≢true}
 use mathlib.Core.List.{List, [], _∷_, _++_}
 use lib.Dec.{eqb}
 use borrow.Author.Tests.{eqb-true, eq-eqb}
 use Rattle.hns_encoding.specs.Numbers.{top}
-use Rattle.hns_encoding.specs.Laws.Tests.{split, clash, cond-le, eqb-comm}
+use Rattle.hns_encoding.specs.Laws.Tests.{split, clash, eqb-comm}
 use Rattle.hns_encoding.specs.Sums.{only, one, non, total, count}
 use Rattle.hns_encoding.specs.Laws.Sums.{total-le, total-append, total-plus, total-split, total-zero}
 use Rattle.hnsr_circuit.specs.declared.records.RelayCircuit.{RelayCircuit}
 use Rattle.hnsr_circuit.specs.declared.records.RelaySide.{RelaySide}
 use Rattle.hnsr_circuit.specs.declared.records.RelaySide.the-variants.{Requester, Endpoint}
-use Rattle.hnsr_circuit.specs.Table.{also, any, pick, edit, clear, keep}
+use Rattle.hnsr_circuit.specs.Table.{also, pick, edit, clear, keep}
 use Rattle.hnsr_circuit.specs.Peer.{samePeer}
 use Rattle.hnsr_circuit.specs.Circuits.{noCircuit, circuitId, circuitAt, clearCircuit, queuedTo}
 use Rattle.hnsr_circuit.specs.Laws.Totals.{total-keep, keep-le, total-others}

@@ -1,49 +1,29 @@
 -- CLOSE and ERROR keep the invariant: the OPEN that is named, or else the circuit, ends, and then the other side is told or the call refused with 10.
-use Prim.Native.Nat.{ℕ, _+_, _≤_, _<_}
+use Prim.Native.Nat.{ℕ, _≤_, _<_}
 use native.Mathlib.Omega.{arith}
 use mathlib.Core.Path.{_≡_, refl, sym, ap, _∙_, subst}
-use mathlib.Core.Bool.{Bool, true, false, cond, not, _&&_, _||_, true≢false, false≢true, or-true}
+use mathlib.Core.Bool.{Bool, true, false, cond, _&&_, _||_, false≢true, or-true}
 use mathlib.Core.List.{List, [], _∷_}
 use lib.Dec.{leb, eqb}
-use lib.ListN.{length}
-use borrow.Author.Tests.{eqb-true, eq-eqb, le-leb, leb-false, lt-leb}
+use borrow.Author.Tests.{eqb-true, eq-eqb, leb-false}
 use Rattle.hns_encoding.specs.Numbers.{top}
-use Rattle.hns_encoding.specs.Laws.Tests.{split, choose, clash, both, join}
+use Rattle.hns_encoding.specs.Laws.Tests.{split, clash, both, join}
 use Rattle.hns_encoding.specs.Sums.{count}
-use Rattle.hnsr_body.specs.declared.error.Checked.{Checked}
-use Rattle.hnsr_body.specs.declared.error.Checked.the-variants.{Ok, Err}
-use Rattle.hnsr_body.specs.Detail.{decodeDetail}
 use Rattle.hnsr_circuit.specs.declared.peer.HnsrPeerId.{HnsrPeerId}
 use Rattle.hnsr_circuit.specs.declared.records.RelayPending.{RelayPending}
-use Rattle.hnsr_circuit.specs.declared.records.RelayCircuit.{RelayCircuit}
-use Rattle.hnsr_circuit.specs.declared.answer.HnsrAnswer.{HnsrAnswer}
-use Rattle.hnsr_circuit.specs.declared.answer.HnsrAnswer.the-variants.{Taken, Refused}
-use Rattle.hnsr_circuit.specs.declared.answer.HnsrRuntimeError.the-variants.{Capacity, InvalidAdmission, UnknownCircuit, WrongPeer}
-use Rattle.hnsr_circuit.specs.Answers.{number, check, bodyAnswer, _then_}
 use Rattle.hnsr_circuit.specs.Table.{also, any, pick, edit}
 use Rattle.hnsr_circuit.specs.Peer.{samePeer}
-use Rattle.hnsr_circuit.specs.Pending.{noPending, pendingId, pendingAt, requesterNames, endpointNames, namedBy, clearPending}
-use Rattle.hnsr_circuit.specs.Circuits.{circuitAt, isSide}
-use Rattle.hnsr_circuit.specs.Inflight.{Data, Close, kindNumber}
-use Rattle.hnsr_circuit.specs.Route.{Route}
-use Rattle.hnsr_circuit.specs.World.{World, Outcome, done, refuse}
-use Rattle.hnsr_circuit.specs.Queue.{Message, message, opData, sequenceOf, queued, routed, canQueue, send}
-use Rattle.hnsr_circuit.specs.Packet.{Packet, sender, hasCircuit, namedCircuit, circuitAnswer, forwarded}
-use Rattle.hnsr_circuit.specs.Revocation.{withoutActions, withoutPending, endPending, endCircuit, pendingIn}
-use Rattle.hnsr_circuit.specs.Close.{detailAnswer, closeAnswer, translated, closeTaken, closePending, closeCircuit, handleClose}
-use Rattle.hnsr_circuit.specs.Laws.Lookups.{pick-has, any-count, none-count, any-pick, any-imp}
-use Rattle.hnsr_circuit.specs.Laws.Answers.{then-taken, check-taken}
-use Rattle.hnsr_circuit.specs.Laws.Peer.{same-names, names-same}
+use Rattle.hnsr_circuit.specs.Pending.{noPending, pendingAt, requesterNames, endpointNames, namedBy, clearPending}
+use Rattle.hnsr_circuit.specs.World.{World, Outcome}
+use Rattle.hnsr_circuit.specs.Queue.{Message, sequenceOf, send}
+use Rattle.hnsr_circuit.specs.Revocation.{pendingIn}
+use Rattle.hnsr_circuit.specs.Laws.Lookups.{pick-has, any-count, any-pick, any-imp}
 use Rattle.hnsr_circuit.specs.Laws.Keyed.{seen, shown, seen-two}
-use Rattle.hnsr_run.specs.Past.{Known, Asked, Action, Past, at, heard, kindFor, emit, openEnded, circuitEnded}
-use Rattle.hnsr_run.specs.History.{ends, byContext, byId, endIn, closeIn}
+use Rattle.hnsr_run.specs.Past.{Action, Past, at, emit, openEnded, circuitEnded}
+use Rattle.hnsr_run.specs.History.{ends, byContext, byId, endIn}
 use Rattle.hnsr_run.specs.Run.Circuits.{none}
-use Rattle.hnsr_run.specs.Run.Full.{AgreesP, pendingKeys, Full, Keeps, Quiet, rest-same, rest-then, queued-rest, can-room, queue-full, at-false, end-circuit, end-pending}
-use Rattle.hnsr_run.specs.Run.Revocations.{circuit-there}
-use Rattle.hnsr_run.specs.Run.Data.{named-active}
-use Rattle.hnsr_run.specs.Run.Window.{quiet-forwarded}
-use Rattle.hnsr_run.specs.Run.Undelivered.{refused-ends}
-use Rattle.hnsr_run.specs.Run.Rel.{Rel, proceed-cases, send-cases, emit-nothing, fewer, shrink}
+use Rattle.hnsr_run.specs.Run.Full.{pendingKeys, Keeps, Quiet, rest-then, queued-rest, can-room, queue-full}
+use Rattle.hnsr_run.specs.Run.Rel.{Rel, send-cases, emit-nothing, fewer, shrink}
 
 -- ---- two lookups that find the same record, where at most one has the second
 same-record : {A : Type 0} (p q : A → Bool) (d : A) (g : A → A) (t : List A) → count q t ≤ 1 → any p t ≡ true → q (pick p d t) ≡ true → (pick p d t ≡ pick q d t) × (edit p g t ≡ edit q g t)

@@ -2,8 +2,8 @@
 use Prim.Native.Nat.{ℕ, _<_}
 use native.Mathlib.Omega.{arith}
 use mathlib.Core.Path.{_≡_, refl, sym, ap, _∙_, subst}
-use mathlib.Core.Bool.{Bool, true, false, cond, not, _&&_, _||_}
-use mathlib.Core.List.{List, [], _∷_}
+use mathlib.Core.Bool.{Bool, true, false, cond, not, _&&_}
+use mathlib.Core.List.{[]}
 use lib.Dec.{leb, eqb}
 use lib.ListN.{length}
 use borrow.Author.Tests.{lt-leb}
@@ -15,28 +15,27 @@ use Rattle.hnsr_body.specs.declared.error.Checked.the-variants.{Ok, Err}
 use Rattle.hnsr_body.specs.Detail.{decodeDetail}
 use Rattle.hnsr_circuit.specs.declared.peer.HnsrPeerId.{HnsrPeerId}
 use Rattle.hnsr_circuit.specs.declared.records.RelayPending.{RelayPending}
-use Rattle.hnsr_circuit.specs.declared.records.RelayCircuit.{RelayCircuit}
-use Rattle.hnsr_circuit.specs.declared.answer.HnsrAnswer.{HnsrAnswer}
-use Rattle.hnsr_circuit.specs.declared.answer.HnsrAnswer.the-variants.{Taken, Refused}
+use Rattle.hnsr_circuit.specs.declared.answer.HnsrAnswer.the-variants.{Taken}
 use Rattle.hnsr_circuit.specs.declared.answer.HnsrRuntimeError.the-variants.{InvalidAdmission, UnknownCircuit, WrongPeer}
 use Rattle.hnsr_circuit.specs.Answers.{number, check, bodyAnswer, _then_}
-use Rattle.hnsr_circuit.specs.Table.{any, pick, edit}
+use Rattle.hnsr_circuit.specs.Table.{any, pick}
 use Rattle.hnsr_circuit.specs.Peer.{samePeer}
-use Rattle.hnsr_circuit.specs.Pending.{noPending, pendingAt, namedBy, clearPending}
+use Rattle.hnsr_circuit.specs.Pending.{noPending, pendingAt, namedBy}
 use Rattle.hnsr_circuit.specs.Circuits.{isSide}
-use Rattle.hnsr_circuit.specs.Inflight.{Data, Close, kindNumber}
+use Rattle.hnsr_circuit.specs.Inflight.{Close, kindNumber}
 use Rattle.hnsr_circuit.specs.World.{World, Outcome}
-use Rattle.hnsr_circuit.specs.Queue.{Message, message, opData, sequenceOf, send}
+use Rattle.hnsr_circuit.specs.Queue.{Message, message, opData, sequenceOf}
 use Rattle.hnsr_circuit.specs.Packet.{Packet, sender, hasCircuit, namedCircuit, circuitAnswer, forwarded}
-use Rattle.hnsr_circuit.specs.Revocation.{withoutActions, withoutPending, endPending, endCircuit, pendingIn}
+use Rattle.hnsr_circuit.specs.Revocation.{withoutActions, withoutPending, endPending, endCircuit}
 use Rattle.hnsr_circuit.specs.Close.{detailAnswer, closeAnswer, translated, closeTaken, closePending, closeCircuit, handleClose}
 use Rattle.hnsr_circuit.specs.Laws.Lookups.{none-count}
 use Rattle.hnsr_circuit.specs.Laws.Answers.{then-taken, check-taken}
-use Rattle.hnsr_run.specs.Past.{Known, Action, Past, at, heard, kindFor, emit, openEnded, circuitEnded}
+use Rattle.hnsr_run.specs.Past.{Known, Past, at, kindFor, emit, openEnded}
 use Rattle.hnsr_run.specs.History.{ends, endIn, closeIn}
 use Rattle.hnsr_run.specs.Run.Circuits.{none}
-use Rattle.hnsr_run.specs.Run.Full.{AgreesP, Keeps, Quiet, rest-same, at-false, end-circuit, end-pending}
-use Rattle.hnsr_run.specs.Run.Data.{named-active}
+use Rattle.hnsr_run.specs.Run.Full.{Keeps, Quiet, rest-same}
+use Rattle.hnsr_run.specs.Run.Ended.{at-false, end-circuit, end-pending}
+use Rattle.hnsr_run.specs.Run.DataRows.{named-active}
 use Rattle.hnsr_run.specs.Run.Window.{quiet-forwarded}
 use Rattle.hnsr_run.specs.Run.Undelivered.{refused-ends}
 use Rattle.hnsr_run.specs.Run.Close.{sends-after, is-seen, found-same, ends-open, ends-circuit}

@@ -1,27 +1,25 @@
 -- Every order of the outstanding actions: acknowledging each once as delivered is taken each time, and leaves nothing outstanding.
-use Prim.Native.Nat.{ℕ, _+_, _≤_, _<_}
+use Prim.Native.Nat.{ℕ, _≤_, _<_}
 use native.Mathlib.Omega.{arith}
 use mathlib.Core.Path.{_≡_, refl, sym, ap, _∙_, subst}
-use mathlib.Core.Bool.{Bool, true, false, cond, not, _&&_, true≢false}
+use mathlib.Core.Bool.{Bool, true, false, cond, not, _&&_}
 use mathlib.Core.List.{List, [], _∷_, map}
-use lib.Dec.{ltb, eqb}
+use lib.Dec.{eqb}
 use lib.ListN.{length, replicate}
 use borrow.Author.Tests.{eqb-true, eq-eqb, le-ltb}
 use Rattle.hns_encoding.specs.Numbers.{top}
-use Rattle.hns_encoding.specs.Laws.Tests.{split}
 use Rattle.hns_encoding.specs.Sums.{only, one, non, total, count}
-use Rattle.hnsr_circuit.specs.declared.records.InflightAction.{InflightAction}
 use Rattle.hnsr_circuit.specs.declared.answer.HnsrAnswer.{HnsrAnswer}
 use Rattle.hnsr_circuit.specs.declared.answer.HnsrAnswer.the-variants.{Taken}
 use Rattle.hnsr_circuit.specs.Answers.{check, _then_}
 use Rattle.hnsr_circuit.specs.declared.answer.HnsrRuntimeError.the-variants.{Short, StaleGeneration, UnknownAction}
 use Rattle.hnsr_circuit.specs.Table.{any, pick, keep}
 use Rattle.hnsr_circuit.specs.Inflight.{noAction, actionAt}
-use Rattle.hnsr_circuit.specs.World.{World, Outcome, configOf, done, proceed}
+use Rattle.hnsr_circuit.specs.World.{World, Outcome, done, proceed}
 use Rattle.hnsr_circuit.specs.Queue.{generationOf, sequenceOf}
-use Rattle.hnsr_circuit.specs.Entry.{acknowledgeWords, roomAnswer}
-use Rattle.hnsr_circuit.specs.Acknowledge.{generationAnswer, actionAnswer, withoutAction, lowerFor, released, settled, acknowledgeTaken, acknowledgeAction, acknowledge}
-use Rattle.hnsr_circuit.specs.Call.{Call, callAcknowledge, step}
+use Rattle.hnsr_circuit.specs.Entry.{acknowledgeWords}
+use Rattle.hnsr_circuit.specs.Acknowledge.{generationAnswer, actionAnswer, withoutAction, released, settled, acknowledgeTaken, acknowledgeAction, acknowledge}
+use Rattle.hnsr_circuit.specs.Call.{callAcknowledge, step}
 use Rattle.hnsr_circuit.specs.Laws.Totals.{total-keep, total-others}
 use Rattle.hnsr_circuit.specs.Laws.Lookups.{count-any}
 use Rattle.hnsr_run.specs.Past.{Action, Past, numbered, without, withOut}

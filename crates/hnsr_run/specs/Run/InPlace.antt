@@ -1,14 +1,14 @@
 -- One circuit changed in place: charged by DATA, raised by WINDOW, lowered by an acknowledgement. Its own queued counts are in suspense until the
 -- action is in, or out.
-use Prim.Native.Nat.{ℕ, _+_, _-_, _≤_, _<_, min}
+use Prim.Native.Nat.{ℕ, _+_, _≤_}
 use native.Mathlib.Omega.{arith}
 use mathlib.Core.Path.{_≡_, refl, sym, ap, _∙_, subst}
-use mathlib.Core.Bool.{Bool, true, false, cond, not, _&&_, true≢false}
-use mathlib.Core.List.{List, [], _∷_, _++_}
+use mathlib.Core.Bool.{Bool, true, false, cond}
+use mathlib.Core.List.{List}
 use lib.Dec.{eqb}
 use borrow.Author.Tests.{eqb-true, eq-eqb}
-use Rattle.hns_encoding.specs.Numbers.{top, saturatingAdd}
-use Rattle.hns_encoding.specs.Laws.Tests.{split, clash}
+use Rattle.hns_encoding.specs.Numbers.{top}
+use Rattle.hns_encoding.specs.Laws.Tests.{clash}
 use Rattle.hns_encoding.specs.Sums.{total}
 use Rattle.hnsr_circuit.specs.declared.config.OpaqueRelayConfig.{OpaqueRelayConfig}
 use Rattle.hnsr_circuit.specs.declared.records.RelayPending.{RelayPending}
@@ -17,11 +17,11 @@ use Rattle.hnsr_circuit.specs.declared.records.RelaySide.{RelaySide}
 use Rattle.hnsr_circuit.specs.declared.records.RelaySide.the-variants.{Requester, Endpoint}
 use Rattle.hnsr_circuit.specs.declared.records.InflightAction.{InflightAction}
 use Rattle.hnsr_circuit.specs.Table.{any, pick, edit}
-use Rattle.hnsr_circuit.specs.Circuits.{noCircuit, circuitAt, otherSide, creditOf, queuedTo, charged, raised, lowered}
+use Rattle.hnsr_circuit.specs.Circuits.{noCircuit, circuitAt, creditOf, queuedTo, charged, raised, lowered}
 use Rattle.hnsr_circuit.specs.Laws.Lookups.{pick-has}
 use Rattle.hnsr_circuit.specs.Laws.Edits.{edit-put}
 use Rattle.hnsr_circuit.specs.Laws.Keyed.{Looks, store-looks, store-tells, still}
-use Rattle.hnsr_run.specs.Past.{Known, Asked, Action, at, peerOn, weight}
+use Rattle.hnsr_run.specs.Past.{Known, Asked, Action, peerOn, weight}
 use Rattle.hnsr_run.specs.History.{sent, granted}
 use Rattle.hnsr_run.specs.Run.Circuits.{Agrees, circuitKeys, none, suspend, resume, store-queue}
 use Rattle.hnsr_run.specs.Run.Full.{Body}

@@ -2,7 +2,7 @@
 use Prim.Native.Nat.{ℕ, zero, suc, _+_}
 use native.Mathlib.Omega.{arith}
 use mathlib.Core.Path.{_≡_, refl, sym, ap, _∙_}
-use mathlib.Core.Bool.{Bool, true, false, cond, not}
+use mathlib.Core.Bool.{Bool, true, false, cond}
 use mathlib.Core.List.{List, [], _∷_, _++_}
 use lib.Dec.{eqb}
 use lib.ListN.{length, length-append}
@@ -22,7 +22,7 @@ use Rattle.hnsr_circuit.specs.Circuits.{circuitId, circuitAt}
 use Rattle.hnsr_circuit.specs.Inflight.{InflightKind, Incoming, Opened, Data, Control, Close}
 use Rattle.hnsr_circuit.specs.Route.{Route}
 use Rattle.hnsr_circuit.specs.World.{World, Outcome, done, proceed}
-use Rattle.hnsr_circuit.specs.Queue.{Message, generationOf, sequenceOf, queued, routed, canQueue, send, Sent, andThen, when, tellIf, tell}
+use Rattle.hnsr_circuit.specs.Queue.{Message, generationOf, sequenceOf, queued, routed, canQueue, send, Sent, andThen, tellIf, tell}
 use Rattle.hnsr_circuit.specs.Answers.{_then_}
 use Rattle.hnsr_circuit.specs.Entry.{roomAnswer, revokingWords}
 use Rattle.hnsr_circuit.specs.Packet.{Packet, sender, namedCircuit}

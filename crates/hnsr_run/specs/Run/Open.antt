@@ -1,14 +1,13 @@
 -- OPEN keeps the invariant: refused, it may have dropped or made a ledger record; taken, an OPEN stands and INCOMING is queued.
-use Prim.Native.Nat.{ℕ, _+_, _≤_, _<_, min}
-use native.Mathlib.Omega.{arith}
-use mathlib.Core.Path.{_≡_, refl, sym, ap, _∙_, subst}
-use mathlib.Core.Bool.{Bool, true, false, cond, not, _&&_, _||_, true≢false, false≢true}
-use mathlib.Core.List.{List, [], _∷_, _++_}
+use Prim.Native.Nat.{ℕ, _+_, _<_}
+use mathlib.Core.Path.{_≡_, refl, sym, ap, _∙_}
+use mathlib.Core.Bool.{Bool, true, false, cond, not, _&&_, _||_}
+use mathlib.Core.List.{[]}
 use lib.Dec.{leb, ltb, eqb}
 use lib.ListN.{length}
-use borrow.Author.Tests.{eqb-true, eq-eqb, leb-false, lt-ltb}
+use borrow.Author.Tests.{leb-false}
 use Rattle.hns_encoding.specs.Numbers.{top}
-use Rattle.hns_encoding.specs.Laws.Tests.{split, choose, clash, both, join, neither}
+use Rattle.hns_encoding.specs.Laws.Tests.{split, choose, clash, neither}
 use Rattle.hns_encoding.specs.Sums.{count, non}
 use Rattle.hnsr_body.specs.declared.values.ReservationId.{ReservationId}
 use Rattle.hnsr_body.specs.Values.{sameReservation}
@@ -16,44 +15,30 @@ use Rattle.hnsr_body.specs.declared.error.Checked.{Checked}
 use Rattle.hnsr_body.specs.declared.error.Checked.the-variants.{Ok, Err}
 use Rattle.hnsr_body.specs.declared.error.HnsrProtocolError.the-variants.{Admission}
 use Rattle.hnsr_body.specs.Open.{decodeOpen}
-use Rattle.hnsr_circuit.specs.declared.peer.HnsrPeerId.{HnsrPeerId}
-use Rattle.hnsr_circuit.specs.declared.config.OpaqueRelayConfig.{OpaqueRelayConfig}
 use Rattle.hnsr_circuit.specs.declared.records.RelayTicket.{RelayTicket}
-use Rattle.hnsr_circuit.specs.declared.records.RelayPending.{RelayPending}
-use Rattle.hnsr_circuit.specs.declared.records.ReservationUsage.{ReservationUsage}
-use Rattle.hnsr_circuit.specs.declared.records.Drawing.{Drawing}
 use Rattle.hnsr_circuit.specs.declared.answer.HnsrAnswer.{HnsrAnswer}
 use Rattle.hnsr_circuit.specs.declared.answer.HnsrAnswer.the-variants.{Taken, Refused}
 use Rattle.hnsr_circuit.specs.declared.answer.HnsrRuntimeError.{HnsrRuntimeError}
-use Rattle.hnsr_circuit.specs.declared.answer.HnsrRuntimeError.the-variants.{Protocol, Capacity, Deadline, InvalidPeer, Randomness, LedgerFull, ByteLimit}
+use Rattle.hnsr_circuit.specs.declared.answer.HnsrRuntimeError.the-variants.{Protocol, Capacity, Deadline, InvalidPeer, Randomness, LedgerFull}
 use Rattle.hnsr_circuit.specs.Answers.{errorNumber, number, check, bodyAnswer, _then_}
-use Rattle.hnsr_circuit.specs.Table.{any, pick, put}
-use Rattle.hnsr_circuit.specs.Peer.{peerOf, peerGood, samePeer}
-use Rattle.hnsr_circuit.specs.Pending.{isPending, pendingAt, clearPending, requesterNames, requestedBy}
-use Rattle.hnsr_circuit.specs.Circuits.{circuitAt}
-use Rattle.hnsr_circuit.specs.Ledger.{isUsage, clearUsage, usageAt, lapsed, hasUsage, usageOf, booked, ledgerAnswer, usageAnswer}
-use Rattle.hnsr_circuit.specs.Inflight.{Incoming, tallied, capacityLeft, capacityAnswer}
-use Rattle.hnsr_circuit.specs.World.{World, Outcome, configOf, done, refuse, withLedger}
-use Rattle.hnsr_circuit.specs.Queue.{Message, generationOf, sequenceOf, queued, routed, send}
+use Rattle.hnsr_circuit.specs.Table.{any}
+use Rattle.hnsr_circuit.specs.Peer.{peerGood, samePeer}
+use Rattle.hnsr_circuit.specs.Pending.{requestedBy}
+use Rattle.hnsr_circuit.specs.Ledger.{isUsage, clearUsage, hasUsage, booked, ledgerAnswer}
+use Rattle.hnsr_circuit.specs.Inflight.{tallied, capacityLeft, capacityAnswer}
+use Rattle.hnsr_circuit.specs.World.{World, configOf, withLedger}
 use Rattle.hnsr_circuit.specs.Counts.{pendingCount, circuitCount, peerWork, reservationWork}
 use Rattle.hnsr_circuit.specs.Entry.{peerAnswer}
 use Rattle.hnsr_circuit.specs.Packet.{Packet, sender}
-use Rattle.hnsr_circuit.specs.Draw.{undrawn, draws, drawAll, idTaken, drawn, drawAnswer}
-use Rattle.hnsr_circuit.specs.Open.{openAnswer, admissionAnswer, endpointAnswer, deadlineAnswer, deadlineFor, Opening, pendingFor, incomingMessage, withOpen, opening, openAdmitted, openPlaced, openBooked, openGranted, openLapsed, handleOpen}
+use Rattle.hnsr_circuit.specs.Draw.{drawn, drawAnswer}
+use Rattle.hnsr_circuit.specs.Open.{openAnswer, admissionAnswer, endpointAnswer, deadlineAnswer, Opening, openAdmitted, openPlaced}
 use Rattle.hnsr_circuit.specs.Laws.Answers.{then-taken, check-taken}
 use Rattle.hnsr_circuit.specs.Laws.Marks.{room}
-use Rattle.hnsr_circuit.specs.Laws.Peer.{same-comm, same-names, names-same}
-use Rattle.hnsr_circuit.specs.Laws.Keyed.{Looks, store-looks, store-tells, shown}
 use Rattle.hnsr_circuit.specs.Laws.Keys.{same-reservation}
-use Rattle.hnsr_run.specs.Past.{Known, Asked, Book, Past, at, emit, stood, withBook, lives, remade}
-use Rattle.hnsr_run.specs.History.{taken, firstContext, askedFor, openIn}
-use Rattle.hnsr_run.specs.Run.Actions.{room-of}
-use Rattle.hnsr_run.specs.Run.Circuits.{none}
-use Rattle.hnsr_run.specs.Run.Full.{AgreesP, pendingKeys, Full, Quiet, queue-full}
-use Rattle.hnsr_run.specs.Run.Revocations.{pending-there, circuit-there}
-use Rattle.hnsr_run.specs.Run.Books.{Books, lapse-books, lapsed-lives}
-use Rattle.hnsr_run.specs.Run.Booking.{made, book-found, book-made, lives-remade, Free, draw-free}
-use Rattle.hnsr_run.specs.Run.Rel.{Heads, Live, Base, Rel, Places, proceed-cases, if-not, not-taken, can-queue, send-taken, reledger}
+use Rattle.hnsr_run.specs.Past.{Book, Past, withBook, lives, remade}
+use Rattle.hnsr_run.specs.History.{taken, openIn}
+use Rattle.hnsr_run.specs.Run.Booking.{made, book-found, book-made}
+use Rattle.hnsr_run.specs.Run.Rel.{Live, Rel, if-not, not-taken, reledger}
 
 -- ---- the rows
 flip : (b : Bool) → not b ≡ false → b ≡ true

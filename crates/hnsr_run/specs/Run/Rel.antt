@@ -1,13 +1,13 @@
 -- The whole invariant between a world and what the events tell, and the changes that most calls are made of: the clock, a refusal, records ended.
-use Prim.Native.Nat.{ℕ, _+_, _≤_, _<_}
+use Prim.Native.Nat.{ℕ, _≤_, _<_}
 use native.Mathlib.Omega.{arith}
 use mathlib.Core.Path.{_≡_, refl, sym, ap, _∙_, subst}
-use mathlib.Core.Bool.{Bool, true, false, cond, not, _&&_, _||_, true≢false}
+use mathlib.Core.Bool.{Bool, true, false, cond, true≢false}
 use mathlib.Core.List.{List, [], _∷_, append-nil}
 use mathlib.Core.Logic.{_⊎_, inl, inr}
-use lib.Dec.{leb, ltb, eqb}
+use lib.Dec.{ltb, eqb}
 use lib.ListN.{length}
-use borrow.Author.Tests.{eqb-true, ltb-true, ltb-false, lt-ltb, le-ltb, ne-eqb}
+use borrow.Author.Tests.{eqb-true, ltb-true, lt-ltb, ne-eqb}
 use Rattle.hns_encoding.specs.Numbers.{top}
 use Rattle.hns_encoding.specs.Laws.Tests.{split, clash, both, join}
 use Rattle.hnsr_body.specs.declared.values.ReservationId.{ReservationId}
@@ -19,18 +19,17 @@ use Rattle.hnsr_circuit.specs.declared.answer.HnsrAnswer.{HnsrAnswer}
 use Rattle.hnsr_circuit.specs.declared.answer.HnsrAnswer.the-variants.{Taken, Refused}
 use Rattle.hnsr_circuit.specs.declared.answer.HnsrRuntimeError.{HnsrRuntimeError}
 use Rattle.hnsr_circuit.specs.declared.answer.HnsrRuntimeError.the-variants.{Protocol, Capacity, GenerationExhausted}
-use Rattle.hnsr_circuit.specs.Answers.{errorNumber, number, check, _then_}
+use Rattle.hnsr_circuit.specs.Answers.{errorNumber, check, _then_}
 use Rattle.hnsr_circuit.specs.Config.{configGood}
 use Rattle.hnsr_circuit.specs.Peer.{samePeer}
 use Rattle.hnsr_circuit.specs.Inflight.{tallied, capacityLeft, capacityAnswer}
-use Rattle.hnsr_circuit.specs.Route.{Route}
 use Rattle.hnsr_circuit.specs.World.{World, Outcome, configOf, refuse, done, proceed, withLedger, atTime}
 use Rattle.hnsr_circuit.specs.Queue.{Message, generationOf, sequenceOf, queueAnswer, canQueue, queued, routed, send}
 use Rattle.hnsr_circuit.specs.Laws.Answers.{number-zero}
-use Rattle.hnsr_run.specs.Past.{Known, Asked, Book, Action, Head, Past, lives, movedTo, withBook, withOut, emit}
+use Rattle.hnsr_run.specs.Past.{Book, Action, Head, Past, lives, movedTo, withOut, emit}
 use Rattle.hnsr_run.specs.History.{taken}
 use Rattle.hnsr_run.specs.Run.Circuits.{none}
-use Rattle.hnsr_run.specs.Run.Full.{Body, Full, Rest, Keeps}
+use Rattle.hnsr_run.specs.Run.Full.{Full, Rest, Keeps}
 use Rattle.hnsr_run.specs.Run.Books.{Books, later-books}
 
 -- ---- the invariant

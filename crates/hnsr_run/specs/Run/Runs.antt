@@ -1,8 +1,8 @@
 -- The invariant over a whole run: the configuration stays, so the tables stay long enough, and each step keeps the rest.
-use Prim.Native.Nat.{ℕ, _+_, _≤_, _<_}
+use Prim.Native.Nat.{ℕ, _+_, _<_}
 use native.Mathlib.Omega.{arith}
 use mathlib.Core.Path.{_≡_, refl, sym, ap, _∙_, subst}
-use mathlib.Core.Bool.{Bool, true, false, cond, _&&_, _||_, Bool·beq}
+use mathlib.Core.Bool.{true, cond, _&&_, Bool·beq}
 use mathlib.Core.List.{List, [], _∷_}
 use lib.Dec.{leb, ltb, eqb}
 use lib.ListN.{length}
@@ -15,12 +15,11 @@ use Rattle.hnsr_circuit.specs.Answers.{number}
 use Rattle.hnsr_circuit.specs.Table.{pick}
 use Rattle.hnsr_circuit.specs.Inflight.{kindNumber, Incoming, Close}
 use Rattle.hnsr_circuit.specs.Route.{Route}
-use Rattle.hnsr_circuit.specs.World.{World, Outcome, configOf}
+use Rattle.hnsr_circuit.specs.World.{World, configOf}
 use Rattle.hnsr_circuit.specs.Queue.{sequenceOf}
 use Rattle.hnsr_circuit.specs.Packet.{Packet, sender}
 use Rattle.hnsr_circuit.specs.Handle.{Handling, OPEN, ACCEPT, DATA, WINDOW, CLOSE, ERROR, other, handlingOf}
 use Rattle.hnsr_circuit.specs.Call.{Call, callStatus, callNextDue, callObserveTime, callReplaceEnabled, callHandle, callAcknowledge, callDisconnect, callRevokeReservation, callExpire, step}
-use Rattle.hnsr_circuit.specs.Laws.Places.{AsMany}
 use Rattle.hnsr_circuit.specs.Laws.StepPlaces.{step-places}
 use Rattle.hnsr_run.specs.Past.{Action, Past, numbered, nothing, without}
 use Rattle.hnsr_run.specs.History.{taken, ends, written, entered, handledAs, byContext, byId, failedIn, endIn, reckon, after}

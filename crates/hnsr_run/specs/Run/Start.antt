@@ -1,50 +1,39 @@
 -- A taken `new` starts the invariant; and over a run the tables stay as long as they were.
-use Prim.Native.Nat.{ℕ, _+_, _≤_, _<_}
+use Prim.Native.Nat.{ℕ, _≤_, _<_}
 use native.Mathlib.Omega.{arith}
 use mathlib.Core.Path.{_≡_, refl, sym, ap, _∙_, subst}
-use mathlib.Core.Bool.{Bool, true, false, cond, not, _&&_, _||_, Bool·beq, true≢false, false≢true}
-use mathlib.Core.List.{List, [], _∷_}
-use lib.Dec.{leb, ltb, eqb}
+use mathlib.Core.Bool.{Bool, true, false, cond, not, _&&_, _||_, true≢false, false≢true}
+use mathlib.Core.List.{List, []}
+use lib.Dec.{ltb, eqb}
 use lib.ListN.{length}
-use borrow.Author.Tests.{ltb-false, ltb-true}
+use borrow.Author.Tests.{ltb-false}
 use Rattle.hns_encoding.specs.Numbers.{top}
-use Rattle.hns_encoding.specs.Laws.Tests.{split, choose, both, neither}
-use Rattle.hns_encoding.specs.Sums.{only, one, total, count}
+use Rattle.hns_encoding.specs.Laws.Tests.{choose, neither}
+use Rattle.hns_encoding.specs.Sums.{one, count}
 use Rattle.hns_encoding.specs.Laws.Sums.{total-map, total-zero}
 use Rattle.hnsr_circuit.specs.declared.config.OpaqueRelayConfig.{OpaqueRelayConfig}
-use Rattle.hnsr_circuit.specs.declared.records.RelayPending.{RelayPending}
-use Rattle.hnsr_circuit.specs.declared.records.RelayCircuit.{RelayCircuit}
-use Rattle.hnsr_circuit.specs.declared.records.ReservationUsage.{ReservationUsage}
-use Rattle.hnsr_circuit.specs.declared.records.InflightAction.{InflightAction}
 use Rattle.hnsr_circuit.specs.declared.answer.HnsrAnswer.{HnsrAnswer}
 use Rattle.hnsr_circuit.specs.declared.answer.HnsrAnswer.the-variants.{Taken, Refused}
-use Rattle.hnsr_circuit.specs.declared.answer.HnsrRuntimeError.the-variants.{Short, InvalidConfig, InvalidSession}
+use Rattle.hnsr_circuit.specs.declared.answer.HnsrRuntimeError.the-variants.{Short, InvalidConfig}
 use Rattle.hnsr_circuit.specs.Answers.{check, _then_}
-use Rattle.hnsr_circuit.specs.Table.{any, pick, clear, cleared}
+use Rattle.hnsr_circuit.specs.Table.{any, clear, cleared}
 use Rattle.hnsr_circuit.specs.Config.{configGood, validateConfig}
 use Rattle.hnsr_circuit.specs.Pending.{isPending, pendingAt, clearPending}
 use Rattle.hnsr_circuit.specs.Circuits.{isCircuit, circuitAt, clearCircuit}
 use Rattle.hnsr_circuit.specs.Ledger.{isUsage, usageAt, clearUsage}
 use Rattle.hnsr_circuit.specs.Inflight.{isAction, clearAction, dropped}
 use Rattle.hnsr_circuit.specs.Header.{newHeader}
-use Rattle.hnsr_circuit.specs.Route.{Route}
-use Rattle.hnsr_circuit.specs.World.{World, Outcome, configOf, done, proceed}
+use Rattle.hnsr_circuit.specs.World.{World, done, proceed}
 use Rattle.hnsr_circuit.specs.Queue.{sequenceOf}
 use Rattle.hnsr_circuit.specs.Entry.{tooFew, tablesShort}
-use Rattle.hnsr_circuit.specs.Handle.{Handling, OPEN, ACCEPT, DATA, WINDOW, CLOSE, ERROR, other, handlingOf}
-use Rattle.hnsr_circuit.specs.Packet.{Packet, sender}
 use Rattle.hnsr_circuit.specs.New.{sessionAnswer, newAnswer, emptied, newRelay}
-use Rattle.hnsr_circuit.specs.Call.{Start, start, Call, callStatus, callNextDue, callObserveTime, callReplaceEnabled, callHandle, callAcknowledge, callDisconnect, callRevokeReservation, callExpire, step}
+use Rattle.hnsr_circuit.specs.Call.{Start, start}
 use Rattle.hnsr_circuit.specs.Laws.Answers.{then-taken, check-taken}
 use Rattle.hnsr_circuit.specs.Laws.Lookups.{count-none}
 use Rattle.hnsr_circuit.specs.Laws.Marks.{clear-total, clear-length}
-use Rattle.hnsr_circuit.specs.Laws.Places.{AsMany}
-use Rattle.hnsr_circuit.specs.Laws.StepPlaces.{step-places}
-use Rattle.hnsr_run.specs.Past.{Past}
-use Rattle.hnsr_run.specs.History.{taken, ends, written, begin, after, handledAs, openIn, endIn, byContext, byId, failedIn}
-use Rattle.hnsr_run.specs.Claim.{leftBy, events, below, limitsBelow}
-use Rattle.hnsr_run.specs.Run.Actions.{view, inUse}
-use Rattle.hnsr_run.specs.Run.Circuits.{circuitKeys}
+use Rattle.hnsr_run.specs.History.{begin}
+use Rattle.hnsr_run.specs.Claim.{below}
+use Rattle.hnsr_run.specs.Run.Actions.{view}
 use Rattle.hnsr_run.specs.Run.Rel.{Rel, Places, refused-differs}
 
 -- ---- `new` marks every place unused

@@ -1,26 +1,23 @@
 -- Every call keeps the invariant, taken or refused: entry, clock and gate of `handle`, the opcode's handling, and the other calls.
-use Prim.Native.Nat.{ℕ, _+_, _≤_, _<_, min}
+use Prim.Native.Nat.{ℕ, _≤_, _<_}
 use native.Mathlib.Omega.{arith}
 use mathlib.Core.Path.{_≡_, refl, sym, ap, _∙_, subst}
-use mathlib.Core.Bool.{Bool, true, false, cond, not, _&&_, _||_, Bool·beq, true≢false, false≢true}
-use mathlib.Core.List.{List, [], _∷_}
-use lib.Dec.{leb, ltb, eqb}
+use mathlib.Core.Bool.{Bool, true, false, cond, not, _&&_, _||_}
+use mathlib.Core.List.{[]}
+use lib.Dec.{ltb, eqb}
 use lib.ListN.{length}
 use borrow.Author.Tests.{eqb-true, le-ltb, ltb-true, ltb-false}
 use Rattle.hns_encoding.specs.Numbers.{top}
-use Rattle.hns_encoding.specs.Laws.Tests.{split, choose, both, or-none}
-use Rattle.hnsr_body.specs.declared.error.Checked.{Checked}
+use Rattle.hns_encoding.specs.Laws.Tests.{choose, both, or-none}
 use Rattle.hnsr_body.specs.declared.error.Checked.the-variants.{Ok, Err}
 use Rattle.hnsr_body.specs.declared.error.HnsrInvalid.the-variants.{ContextZero}
 use Rattle.hnsr_body.specs.declared.error.HnsrProtocolError.the-variants.{Invalid, TooLarge}
 use Rattle.hnsr_body.specs.Packet.{packetChecked, packetSize, mostPacket, sampleRoutes}
-use Rattle.hnsr_circuit.specs.declared.answer.HnsrAnswer.{HnsrAnswer}
 use Rattle.hnsr_circuit.specs.declared.answer.HnsrAnswer.the-variants.{Taken, Refused}
 use Rattle.hnsr_circuit.specs.declared.answer.HnsrRuntimeError.{HnsrRuntimeError}
 use Rattle.hnsr_circuit.specs.declared.answer.HnsrRuntimeError.the-variants.{Short, ClockRollback, Disabled}
-use Rattle.hnsr_circuit.specs.Answers.{number, check, bodyAnswer, _then_}
-use Rattle.hnsr_circuit.specs.Route.{Route}
-use Rattle.hnsr_circuit.specs.World.{World, Outcome, Told, statusIs, dueIs, configOf, done, telling, atTime}
+use Rattle.hnsr_circuit.specs.Answers.{check, bodyAnswer, _then_}
+use Rattle.hnsr_circuit.specs.World.{World, Outcome, statusIs, dueIs, configOf, done, telling, atTime}
 use Rattle.hnsr_circuit.specs.Queue.{opOpen, opAccept, opData, opWindow, opClose, opError, sequenceOf}
 use Rattle.hnsr_circuit.specs.Entry.{handleWords, tooFew, tablesShort, tablesAnswer, roomAnswer, peerAnswer, packetAnswer, clockAnswer}
 use Rattle.hnsr_circuit.specs.Packet.{Packet}
@@ -33,13 +30,14 @@ use Rattle.hnsr_circuit.specs.Laws.Answers.{then-taken, check-taken}
 use Rattle.hnsr_run.specs.Past.{Past, movedTo}
 use Rattle.hnsr_run.specs.History.{taken, entered, handledAs, handleIn, after}
 use Rattle.hnsr_run.specs.Claim.{limitsBelow}
-use Rattle.hnsr_run.specs.Run.Revoking.{disconnect-keeps, revoke-keeps, expire-keeps, replace-keeps}
+use Rattle.hnsr_run.specs.Run.Revoking.{disconnect-keeps, revoke-keeps, expire-keeps}
+use Rattle.hnsr_run.specs.Run.Switching.{replace-keeps}
 use Rattle.hnsr_run.specs.Run.Undelivered.{acknowledge-keeps}
 use Rattle.hnsr_run.specs.Run.Data.{data-keeps}
 use Rattle.hnsr_run.specs.Run.Window.{window-keeps}
 use Rattle.hnsr_run.specs.Run.Closing.{close-keeps}
 use Rattle.hnsr_run.specs.Run.Accept.{accept-keeps}
-use Rattle.hnsr_run.specs.Run.Opening.{open-keeps}
+use Rattle.hnsr_run.specs.Run.OpenCall.{open-keeps}
 use Rattle.hnsr_run.specs.Run.Rel.{Rel, Places, proceed-cases, refused-differs, if-not, if-taken, not-taken, moved-rel}
 
 -- ---- the tables are long enough

@@ -1,26 +1,24 @@
 -- Acknowledge, delivered or not, keeps the invariant.
 use Prim.Native.Nat.{ℕ, _<_}
 use mathlib.Core.Path.{_≡_, refl, sym, ap, _∙_, subst}
-use mathlib.Core.Bool.{Bool, true, false, cond, not, _&&_, _||_}
-use mathlib.Core.List.{List, [], _∷_}
+use mathlib.Core.Bool.{Bool, true, false, cond, not, _||_}
+use mathlib.Core.List.{[]}
 use lib.Dec.{leb, ltb, eqb}
-use borrow.Author.Tests.{eqb-true}
 use Rattle.hns_encoding.specs.Numbers.{top}
 use Rattle.hns_encoding.specs.Laws.Tests.{split, choose, clash}
-use Rattle.hns_encoding.specs.Sums.{only, total}
 use Rattle.hnsr_body.specs.declared.messages.Notice.the-variants.{EndpointWriteFailed, OuterWriteFailed}
 use Rattle.hnsr_circuit.specs.declared.records.InflightAction.{InflightAction}
 use Rattle.hnsr_circuit.specs.declared.answer.HnsrAnswer.{HnsrAnswer}
 use Rattle.hnsr_circuit.specs.declared.answer.HnsrAnswer.the-variants.{Taken, Refused}
 use Rattle.hnsr_circuit.specs.declared.answer.HnsrRuntimeError.{HnsrRuntimeError}
-use Rattle.hnsr_circuit.specs.declared.answer.HnsrRuntimeError.the-variants.{Capacity, Short, StaleGeneration, UnknownAction}
+use Rattle.hnsr_circuit.specs.declared.answer.HnsrRuntimeError.the-variants.{Short, StaleGeneration, UnknownAction}
 use Rattle.hnsr_circuit.specs.Answers.{errorNumber, number, check, _then_}
 use Rattle.hnsr_circuit.specs.Table.{any, pick}
-use Rattle.hnsr_circuit.specs.Pending.{noPending, pendingAt}
+use Rattle.hnsr_circuit.specs.Pending.{pendingAt}
 use Rattle.hnsr_circuit.specs.Circuits.{circuitAt}
-use Rattle.hnsr_circuit.specs.Inflight.{InflightKind, Close, kindNumber, Incoming, kindOf, noAction, actionAt}
-use Rattle.hnsr_circuit.specs.World.{World, Outcome, configOf, done, refuse, counting}
-use Rattle.hnsr_circuit.specs.Queue.{Sent, Message, finished, send, canQueue, queued, routed, generationOf, sequenceOf}
+use Rattle.hnsr_circuit.specs.Inflight.{Close, kindNumber, Incoming, kindOf, noAction, actionAt}
+use Rattle.hnsr_circuit.specs.World.{World, Outcome, configOf, done, counting}
+use Rattle.hnsr_circuit.specs.Queue.{Sent, finished, generationOf, sequenceOf}
 use Rattle.hnsr_circuit.specs.Entry.{tablesShort, roomAnswer, acknowledgeWords}
 use Rattle.hnsr_circuit.specs.Header.{countRevoked}
 use Rattle.hnsr_circuit.specs.Revocation.{withoutPending, errorToRequester, hasPending, pendingIn, revokeCircuit}
@@ -30,12 +28,13 @@ use Rattle.hnsr_circuit.specs.Laws.Lookups.{total-key}
 use Rattle.hnsr_circuit.specs.Laws.Answers.{then-taken, check-taken}
 use Rattle.hnsr_circuit.specs.Laws.Bag.{held-any}
 use Rattle.hnsr_run.specs.Past.{Action, Past, at, numbered, nothing, emit, without, unstood, circuitEnded}
-use Rattle.hnsr_run.specs.History.{taken, ends, failedIn, acknowledgeIn, after}
+use Rattle.hnsr_run.specs.History.{ends, failedIn, acknowledgeIn, after}
 use Rattle.hnsr_run.specs.Run.Actions.{actions, view, both-once, found-is}
 use Rattle.hnsr_run.specs.Run.Circuits.{none}
 use Rattle.hnsr_run.specs.Run.Walks.{when-cases}
-use Rattle.hnsr_run.specs.Run.Full.{Full, Keeps, rest-same, rest-then, queued-rest, can-room, queue-full, at-false, remove-pends}
-use Rattle.hnsr_run.specs.Run.Revocations.{quiet-error, pending-there, circuit-there, revoke-circuit}
+use Rattle.hnsr_run.specs.Run.Full.{Full, Keeps, rest-same, rest-then, queued-rest, can-room, queue-full}
+use Rattle.hnsr_run.specs.Run.Ended.{at-false, remove-pends}
+use Rattle.hnsr_run.specs.Run.Ends.{quiet-error, pending-there, circuit-there, revoke-circuit}
 use Rattle.hnsr_run.specs.Run.Acknowledge.{by-kind, settled-keeps}
 use Rattle.hnsr_run.specs.Run.Rel.{Rel, proceed-cases, not-taken, send-cases, emit-nothing, shrink}
 

@@ -3,16 +3,16 @@
 use Prim.Native.Nat.{ℕ, zero, suc, _≤_, _<_}
 use native.Mathlib.Omega.{arith}
 use mathlib.Core.Path.{_≡_, refl, sym, ap, _∙_, subst}
-use mathlib.Core.Bool.{Bool, true, false, cond, not, _&&_, _||_, false≢true}
+use mathlib.Core.Bool.{Bool, true, false, cond, _&&_, _||_, false≢true}
 use mathlib.Core.List.{List, [], _∷_, _++_}
 use lib.Dec.{leb, ltb, eqb}
 use lib.ListN.{length}
-use borrow.Author.Tests.{eqb-true, eq-eqb, leb-true, lt-ltb, eqb-false}
+use borrow.Author.Tests.{leb-true, lt-ltb, eqb-false}
 use Rattle.hns_encoding.specs.Laws.Tests.{split, both, join, clash}
-use Rattle.hns_encoding.specs.Sums.{one, total, count}
+use Rattle.hns_encoding.specs.Sums.{count}
 use Rattle.hns_encoding.specs.Laws.Sums.{count-length}
 use Rattle.hnsr_circuit.specs.declared.records.Walked.{Walked}
-use Rattle.hnsr_circuit.specs.Table.{any, pick, clear, lowest, notYet, next}
+use Rattle.hnsr_circuit.specs.Table.{any, clear, lowest, notYet, next}
 use Rattle.hnsr_circuit.specs.Route.{Route}
 use Rattle.hnsr_circuit.specs.World.{World}
 use Rattle.hnsr_circuit.specs.Queue.{Sent, silently, andThen, when}
@@ -22,7 +22,7 @@ use Rattle.hnsr_circuit.specs.Laws.Lowest.{lowest-least}
 use Rattle.hnsr_circuit.specs.Laws.WalkOrder.{behind, next-lowest}
 use Rattle.hnsr_circuit.specs.Laws.Keyed.{Keys, Tells, keyed, look, seen, shown, keyOf}
 use Rattle.hnsr_circuit.specs.Laws.Sweep.{having, least, least-at, least-stands, least-has, none-has, fewer}
-use Rattle.hnsr_run.specs.Past.{Past, at}
+use Rattle.hnsr_run.specs.Past.{Past}
 
 pub when-cases : (P : Sent → Type 0) (b : Bool) (part : World → Sent) (w : World) → (b ≡ true → P (part w)) → (b ≡ false → P (silently w)) → P (when b part w)
 unfolding when

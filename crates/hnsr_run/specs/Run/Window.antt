@@ -1,37 +1,34 @@
 -- WINDOW keeps the invariant: the other side's credit is raised, and a Control queued.
-use Prim.Native.Nat.{ℕ, _+_, _<_}
+use Prim.Native.Nat.{ℕ, _<_}
 use mathlib.Core.Path.{_≡_, refl, sym, ap, _∙_, subst}
-use mathlib.Core.Bool.{Bool, true, false, cond, not, _&&_}
-use mathlib.Core.List.{List, [], _∷_}
+use mathlib.Core.Bool.{true, false, cond, _&&_}
+use mathlib.Core.List.{[], _∷_}
 use lib.Dec.{eqb}
 use lib.ListN.{length}
 use borrow.Author.Tests.{eq-eqb}
 use Rattle.hns_encoding.specs.Numbers.{top}
-use Rattle.hns_encoding.specs.Sums.{total}
 use Rattle.hnsr_body.specs.Data.{decodeWindow, windowFields}
 use Rattle.hnsr_circuit.specs.declared.records.RelayCircuit.{RelayCircuit}
 use Rattle.hnsr_circuit.specs.declared.records.RelaySide.{RelaySide}
 use Rattle.hnsr_circuit.specs.declared.records.RelaySide.the-variants.{Requester, Endpoint}
-use Rattle.hnsr_circuit.specs.declared.answer.HnsrAnswer.{HnsrAnswer}
-use Rattle.hnsr_circuit.specs.declared.answer.HnsrAnswer.the-variants.{Taken, Refused}
+use Rattle.hnsr_circuit.specs.declared.answer.HnsrAnswer.the-variants.{Taken}
 use Rattle.hnsr_circuit.specs.Answers.{bodyAnswer, _then_}
-use Rattle.hnsr_circuit.specs.Table.{any, pick, edit}
 use Rattle.hnsr_circuit.specs.Peer.{samePeer}
-use Rattle.hnsr_circuit.specs.Circuits.{noCircuit, circuitAt, sideOf, queuedTo, raised}
+use Rattle.hnsr_circuit.specs.Circuits.{sideOf, queuedTo, raised}
 use Rattle.hnsr_circuit.specs.Inflight.{InflightKind, Data, Control, kindNumber, tallied, capacityAnswer}
 use Rattle.hnsr_circuit.specs.World.{World, Outcome, configOf, done}
-use Rattle.hnsr_circuit.specs.Queue.{Message, opData, opWindow, generationOf, sequenceOf, queued, routed, send}
+use Rattle.hnsr_circuit.specs.Queue.{Message, opData, opWindow, sequenceOf, queued, routed, send}
 use Rattle.hnsr_circuit.specs.Packet.{Packet, sender, hasCircuit, namedCircuit, circuitAnswer, receiver, forwarded}
 use Rattle.hnsr_circuit.specs.Window.{creditAnswer, withWindow, windowTaken, windowWith, handleWindow}
 use Rattle.hnsr_circuit.specs.Laws.Answers.{then-taken}
-use Rattle.hnsr_run.specs.Past.{Known, Past, at, heard, kindFor, weight, emit, learnt}
+use Rattle.hnsr_run.specs.Past.{Known, Past, at, kindFor, emit, learnt}
 use Rattle.hnsr_run.specs.History.{granted, windowIn}
 use Rattle.hnsr_run.specs.Run.Actions.{room-of}
-use Rattle.hnsr_run.specs.Run.Circuits.{Agrees, none}
+use Rattle.hnsr_run.specs.Run.Circuits.{none}
 use Rattle.hnsr_run.specs.Run.Full.{Full, Quiet, queue-full}
 use Rattle.hnsr_run.specs.Run.InPlace.{only-one, agreed, place-circuit, looked, resume-at, raised-at, raise-agrees, granted-peers}
-use Rattle.hnsr_run.specs.Run.Data.{known-rel, named-active, side-same}
-use Rattle.hnsr_run.specs.Run.Rel.{Heads, Rel, proceed-cases, if-taken, can-queue, send-taken}
+use Rattle.hnsr_run.specs.Run.DataRows.{known-rel, named-active, side-same}
+use Rattle.hnsr_run.specs.Run.Rel.{Rel, proceed-cases, if-taken, can-queue, send-taken}
 
 -- a packet that is passed on, and is no DATA
 pub quiet-forwarded : (kn : ℕ → Known) (q : Packet) (c : RelayCircuit) (kind : InflightKind) (n : ℕ) → q .opcode ≡ n → eqb n opData ≡ false → kindFor n ≡ kindNumber kind → eqb (kindNumber kind) (kindNumber Data) ≡ false → Quiet kn (forwarded q c kind)

@@ -2,6 +2,7 @@
 pub mod Past
 pub mod History
 pub mod Claim
+pub mod Orders
 -- ---- by computation
 pub mod Talk
 pub mod RichRun

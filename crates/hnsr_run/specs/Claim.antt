@@ -25,13 +25,13 @@ use Rattle.hnsr_run.specs.History.{Event, begin, after, reckon}
 
 -- every byte limit that a call brings is below 2^64 − 1
 abbrev pub limitsBelow : Call → Bool
+limitsBelow (callHandle q room) =
+    not (eqb (q .opcode) opOpen)
+    || (ltb (q .admission .ticket .«max_bytes_per_circuit») (top 64) && ltb (q .admission .ticket .«max_total_bytes») (top 64))
 limitsBelow callStatus = true
 limitsBelow callNextDue = true
 limitsBelow (callObserveTime now) = true
 limitsBelow (callReplaceEnabled expected enabled room) = true
-limitsBelow (callHandle q room) =
-    not (eqb (q .opcode) opOpen)
-    || (ltb (q .admission .ticket .«max_bytes_per_circuit») (top 64) && ltb (q .admission .ticket .«max_total_bytes») (top 64))
 limitsBelow (callAcknowledge generation sequence delivered room) = true
 limitsBelow (callDisconnect peer room) = true
 limitsBelow (callRevokeReservation id room) = true

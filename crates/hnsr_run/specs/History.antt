@@ -14,10 +14,11 @@ use Rattle.hnsr_body.specs.Data.{windowFields}
 use Rattle.hnsr_circuit.specs.declared.peer.HnsrPeerId.{HnsrPeerId}
 use Rattle.hnsr_circuit.specs.declared.config.OpaqueRelayConfig.{OpaqueRelayConfig}
 use Rattle.hnsr_circuit.specs.declared.answer.HnsrAnswer.{HnsrAnswer}
-use Rattle.hnsr_circuit.specs.declared.answer.HnsrRuntimeError.the-variants.{Short}
+use Rattle.hnsr_circuit.specs.declared.answer.HnsrRuntimeError.{HnsrRuntimeError}
+use Rattle.hnsr_circuit.specs.declared.answer.HnsrRuntimeError.the-variants.{Short, Capacity, GenerationExhausted, ByteLimit}
 use Rattle.hnsr_circuit.specs.declared.records.RelaySide.{RelaySide}
 use Rattle.hnsr_circuit.specs.declared.records.RelaySide.the-variants.{Requester, Endpoint}
-use Rattle.hnsr_circuit.specs.Answers.{number, check, _then_}
+use Rattle.hnsr_circuit.specs.Answers.{errorNumber, number, check, _then_}
 use Rattle.hnsr_circuit.specs.Table.{pick, keep}
 use Rattle.hnsr_circuit.specs.Peer.{peerOf, samePeer}
 use Rattle.hnsr_circuit.specs.Inflight.{kindNumber, Incoming, Close}
@@ -27,7 +28,7 @@ use Rattle.hnsr_circuit.specs.Packet.{Packet, sender}
 use Rattle.hnsr_circuit.specs.Open.{deadlineFor}
 use Rattle.hnsr_circuit.specs.Handle.{Handling, OPEN, ACCEPT, DATA, WINDOW, CLOSE, ERROR, other, handlingOf}
 use Rattle.hnsr_circuit.specs.Call.{Start, Call, callStatus, callNextDue, callObserveTime, callReplaceEnabled, callHandle, callAcknowledge, callDisconnect, callRevokeReservation, callExpire}
-use Rattle.hnsr_run.specs.Past.{Known, Asked, Action, Past, numbered, toward, heard, nothing, noOne, noOpens, noBook, withHead, withBook, withOut, emit, without, movedTo, stood, unstood, openEnded, begun, learnt, circuitEnded, remade, spentBy, unmade}
+use Rattle.hnsr_run.specs.Past.{Known, Asked, Action, Past, counted, numbered, toward, heard, nothing, noOne, noOpens, noBook, withHead, withBook, withOut, emit, without, movedTo, stood, unstood, openEnded, begun, learnt, circuitEnded, remade, spentBy, unmade}
 
 pub record Event : Type 0 where
   pub call : Call
@@ -49,13 +50,16 @@ begin s = record {
 abbrev pub taken : HnsrAnswer → Bool
 taken a = eqb (number a) 0
 
+abbrev pub refusedBy : HnsrRuntimeError → HnsrAnswer → Bool
+refusedBy e a = eqb (number a) (errorNumber e)
+
 -- refused with 10 after a record was ended or an action removed (CLOSE, ERROR, acknowledge), or with 6 by the queueing: everything earlier stays
 abbrev pub ends : HnsrAnswer → Bool
-ends a = taken a || (eqb (number a) 10 || eqb (number a) 6)
+ends a = taken a || (refusedBy Capacity a || refusedBy GenerationExhausted a)
 
 -- ACCEPT, refused with all written: 6 alone, since the entry refuses an OPEN without a context
 abbrev pub written : HnsrAnswer → Bool
-written a = taken a || eqb (number a) 6
+written a = taken a || refusedBy GenerationExhausted a
 
 -- ---- sides
 abbrev pub askedSide : HnsrPeerId → Asked → Bool
@@ -84,7 +88,7 @@ askedFor c q = record {
 abbrev pub openIn : Packet → HnsrAnswer → List Route → Past → Past
 openIn q a rs h =
     let b = remade (q .now) (h .book) (q .admission .ticket) in
-    cond (taken a) (emit (stood (withBook h b) (firstContext rs) (askedFor (h .head .config) q)) rs) (cond (eqb (number a) 18) (withBook h b) h)
+    cond (taken a) (emit (stood (withBook h b) (firstContext rs) (askedFor (h .head .config) q)) rs) (cond (refusedBy ByteLimit a) (withBook h b) h)
 
 -- ---- ACCEPT: the pending's actions are dropped, and the circuit is active
 abbrev pub startedBy : OpaqueRelayConfig → Asked → (window : ℕ) → Known
@@ -109,12 +113,12 @@ acceptIn q a rs h =
 
 -- ---- DATA and WINDOW
 abbrev pub sent : RelaySide → ℕ → Known → Known
-sent Requester n k = record { requester = k .requester; endpoint = k .endpoint; reservation = k .reservation; expires = k .expires; limit = k .limit; total = k .total; window = k .window; dataR = k .dataR + n; dataE = k .dataE; windowR = k .windowR; windowE = k .windowE }
-sent Endpoint n k = record { requester = k .requester; endpoint = k .endpoint; reservation = k .reservation; expires = k .expires; limit = k .limit; total = k .total; window = k .window; dataR = k .dataR; dataE = k .dataE + n; windowR = k .windowR; windowE = k .windowE }
+sent Requester n k = counted k (k .dataR + n) (k .dataE) (k .windowR) (k .windowE)
+sent Endpoint n k = counted k (k .dataR) (k .dataE + n) (k .windowR) (k .windowE)
 
 abbrev pub granted : RelaySide → ℕ → Known → Known
-granted Requester n k = record { requester = k .requester; endpoint = k .endpoint; reservation = k .reservation; expires = k .expires; limit = k .limit; total = k .total; window = k .window; dataR = k .dataR; dataE = k .dataE; windowR = k .windowR + n; windowE = k .windowE }
-granted Endpoint n k = record { requester = k .requester; endpoint = k .endpoint; reservation = k .reservation; expires = k .expires; limit = k .limit; total = k .total; window = k .window; dataR = k .dataR; dataE = k .dataE; windowR = k .windowR; windowE = k .windowE + n }
+granted Requester n k = counted k (k .dataR) (k .dataE) (k .windowR + n) (k .windowE)
+granted Endpoint n k = counted k (k .dataR) (k .dataE) (k .windowR) (k .windowE + n)
 
 abbrev pub dataIn : Packet → HnsrAnswer → List Route → Past → Past
 dataIn q a rs h =

@@ -21,7 +21,8 @@ use Rattle.hnsr_circuit.specs.Queue.{opIncoming, opOpened, opData, opWindow}
 use Rattle.hnsr_circuit.specs.Route.{Route}
 
 -- ---- what is known
--- a circuit, from its ACCEPT on: its sides and limits, the accepted window, and DATA and WINDOW taken from each side
+-- a circuit, from its ACCEPT on: its sides and limits, the accepted window, and DATA and WINDOW taken from each side, R from the requester and E
+-- from the endpoint
 pub record Known : Type 0 where
   pub requester : HnsrPeerId
   pub endpoint : HnsrPeerId
@@ -143,6 +144,22 @@ heard kn r = record {
   kind = kindFor (r .opcode);
   toEndpoint = eqb (r .opcode) opData && samePeer (kn (r .circuit) .endpoint) (r .destination);
   bytes = cond (eqb (r .opcode) opData) (length (r .body)) 0;
+}
+
+-- DATA and WINDOW taken, replaced
+abbrev pub counted : Known → (dataR dataE windowR windowE : ℕ) → Known
+counted k dataR dataE windowR windowE = record {
+  requester = k .requester;
+  endpoint = k .endpoint;
+  reservation = k .reservation;
+  expires = k .expires;
+  limit = k .limit;
+  total = k .total;
+  window = k .window;
+  dataR = dataR;
+  dataE = dataE;
+  windowR = windowR;
+  windowE = windowE;
 }
 
 -- ---- nothing yet

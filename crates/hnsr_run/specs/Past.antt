@@ -164,7 +164,19 @@ counted k dataR dataE windowR windowE = record {
 
 -- ---- nothing yet
 abbrev pub noOne : Known
-noOne = record { requester = noPeer; endpoint = noPeer; reservation = noReservation; expires = 0; limit = 0; total = 0; window = 0; dataR = 0; dataE = 0; windowR = 0; windowE = 0 }
+noOne = record {
+  requester = noPeer;
+  endpoint = noPeer;
+  reservation = noReservation;
+  expires = 0;
+  limit = 0;
+  total = 0;
+  window = 0;
+  dataR = 0;
+  dataE = 0;
+  windowR = 0;
+  windowE = 0;
+}
 
 abbrev pub noAsked : Asked
 noAsked = record { requester = noPeer; endpoint = noPeer; context = 0; ticket = noTicket; deadline = 0 }

@@ -106,7 +106,12 @@ forgetful = withAcknowledge (λ w g s delivered room.
 abbrev chargedAgain : Packet → Outcome → World → Outcome
 chargedAgain q o w =
     let c = namedCircuit w q in
-    record { world = withLedger (o .world) (edit (usageAt (c .«reservation_id»)) (spent (length (q .body))) (o .world .ledger)); answer = o .answer; routes = o .routes; told = o .told }
+    record {
+      world = withLedger (o .world) (edit (usageAt (c .«reservation_id»)) (spent (length (q .body))) (o .world .ledger));
+      answer = o .answer;
+      routes = o .routes;
+      told = o .told;
+    }
 
 abbrev pub doubly : World → Call → Outcome
 doubly = withHandle (λ w q room. cond (eqb (q .opcode) opData) (chargedAgain q (step w (callHandle q room)) w) (step w (callHandle q room)))
@@ -137,19 +142,23 @@ invented-refuted C =
 pub routed-refuted : Claim routedOnly → ⊥
 unfolding machine lent notAdmitted
 routed-refuted C =
-    let k : _≡_ {A = ℕ} 40 50 = C tables fresh refl (omega arith) (opens 1 2 9 (7 ∷ []) (grant 5 100) 100 ∷ accepts 2 7 100 ∷ sends 1 7 40 100 ∷ sends 1 7 10 100 ∷ []) refl .queued 7 refl Endpoint in
+    let k : _≡_ {A = ℕ} 40 50 = C tables fresh refl (omega arith) (opens 1 2 9 (7 ∷ [])
+    (grant 5 100) 100 ∷ accepts 2 7 100 ∷ sends 1 7 40 100 ∷ sends 1 7 10 100 ∷ []) refl .queued 7 refl Endpoint in
     omega arith
 
 pub forgetful-refuted : Claim forgetful → ⊥
 unfolding machine lent notAdmitted
 forgetful-refuted C =
-    let k : _≡_ {A = ℕ} 40 0 = C tables fresh refl (omega arith) (opens 1 2 9 (7 ∷ []) (grant 5 100) 100 ∷ accepts 2 7 100 ∷ sends 1 7 40 100 ∷ acked 1 3 ∷ []) refl .queued 7 refl Endpoint in
+    let k : _≡_ {A = ℕ} 40 0 = C tables fresh refl (omega arith) (opens 1 2 9 (7 ∷ [])
+    (grant 5 100) 100 ∷ accepts 2 7 100 ∷ sends 1 7 40 100 ∷ acked 1 3 ∷ []) refl .queued 7 refl Endpoint in
     omega arith
 
 pub doubly-refuted : Claim doubly → ⊥
 unfolding machine lent notAdmitted
 doubly-refuted C =
-    let d = C tables fresh refl (omega arith) (opens 1 2 9 (7 ∷ []) (grant 5 100) 100 ∷ accepts 2 7 100 ∷ sends 1 7 40 100 ∷ acked 1 2 ∷ acked 1 3 ∷ []) refl .drained [] (λ f. refl) (λ a. acknowledgeWords) (λ a. omega arith) in
+    let d = C tables fresh refl (omega arith) (opens 1 2 9 (7 ∷ [])
+    (grant 5 100) 100 ∷ accepts 2 7 100 ∷ sends 1 7 40 100 ∷ acked 1 2 ∷ acked 1 3 ∷ []) refl .drained [] (λ f. refl) (λ a. acknowledgeWords)
+    (λ a. omega arith) in
     let p = d .1 7 refl Requester (packet 1 opData 7 (replicate 30 65) 100) handleWords (record {
       opcode = refl;
       context = refl;

@@ -89,13 +89,15 @@ unfolding machine lent notAdmitted
 outstanding = refl
 
 -- bytes of DATA taken and unacknowledged toward the requester and the endpoint of each circuit: of circuit 7 the 500 toward the endpoint are acknowledged
-pub unacknowledged : total (weight 7 Requester) (pastAfter richCalls .out) ∷ total (weight 7 Endpoint) (pastAfter richCalls .out) ∷ total (weight 8 Requester) (pastAfter richCalls .out) ∷ total (weight 8 Endpoint) (pastAfter richCalls .out) ∷ []
+pub unacknowledged : total (weight 7 Requester) (pastAfter richCalls .out) ∷ total (weight 7 Endpoint) (pastAfter richCalls .out) ∷ total (weight 8 Requester)
+    (pastAfter richCalls .out) ∷ total (weight 8 Endpoint) (pastAfter richCalls .out) ∷ []
     ≡ 300 ∷ 0 ∷ 100 ∷ 200 ∷ []
 unfolding machine lent notAdmitted
 unacknowledged = refl
 
 -- the requester of 7 has its window, 1,000 more from the endpoint, less 500; 7 has 3,200 bytes left of its own, 8 has 3,700, and the reservation 3,650
-pub left : credit Requester (pastAfter richCalls .known 7) ∷ circuitLeft (pastAfter richCalls .known 7) ∷ circuitLeft (pastAfter richCalls .known 8) ∷ totalLeft (pastAfter richCalls .book) (pastAfter richCalls .known 8) ∷ []
+pub left : credit Requester (pastAfter richCalls .known 7) ∷ circuitLeft (pastAfter richCalls .known 7) ∷ circuitLeft (pastAfter richCalls .known 8) ∷ totalLeft
+    (pastAfter richCalls .book) (pastAfter richCalls .known 8) ∷ []
     ≡ 16884 ∷ 3200 ∷ 3700 ∷ 3650 ∷ []
 unfolding machine lent notAdmitted
 left = refl
@@ -115,10 +117,12 @@ pub all-acknowledged : map numberOf (events step (worldAfter richCalls) (acksOf 
 unfolding machine lent notAdmitted
 all-acknowledged = refl
 
-pub circuit-full : number (step (drainedOf richCalls) (sends 2 7 3200 200) .answer) ∷ number (step (drainedOf richCalls) (sends 2 7 3201 200) .answer) ∷ [] ≡ 0 ∷ 18 ∷ []
+pub circuit-full : number (step (drainedOf richCalls) (sends 2 7 3200 200) .answer) ∷ number (step (drainedOf richCalls)
+    (sends 2 7 3201 200) .answer) ∷ [] ≡ 0 ∷ 18 ∷ []
 unfolding machine lent notAdmitted
 circuit-full = refl
 
-pub reservation-full : number (step (drainedOf richCalls) (sends 3 8 3650 200) .answer) ∷ number (step (drainedOf richCalls) (sends 3 8 3651 200) .answer) ∷ [] ≡ 0 ∷ 18 ∷ []
+pub reservation-full : number (step (drainedOf richCalls) (sends 3 8 3650 200) .answer) ∷ number (step (drainedOf richCalls)
+    (sends 3 8 3651 200) .answer) ∷ [] ≡ 0 ∷ 18 ∷ []
 unfolding machine lent notAdmitted
 reservation-full = refl

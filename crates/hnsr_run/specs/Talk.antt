@@ -34,7 +34,13 @@ fresh = record { session = replicate 16 1; generation = 1; config = fewPlaces; n
 
 -- at most 4 circuits, 4,000 bytes a circuit, expiry 1,000
 abbrev pub grant : (reservation total : ℕ) → RelayTicket
-grant r total = record { «reservation_id» = record { high = 0; low = r }; «expires_at» = 1000; «max_active_circuits» = 4; «max_bytes_per_circuit» = 4000; «max_total_bytes» = total }
+grant r total = record {
+  «reservation_id» = record { high = 0; low = r };
+  «expires_at» = 1000;
+  «max_active_circuits» = 4;
+  «max_bytes_per_circuit» = 4000;
+  «max_total_bytes» = total;
+}
 
 -- peers are names of one byte, draws of ids are numbers
 abbrev pub drawing : List ℕ → List ℕ
@@ -57,7 +63,16 @@ opens from to context ids ticket now =
     handleWords
 
 abbrev pub packet : (from opcode context : ℕ) → (body : List ℕ) → (now : ℕ) → Packet
-packet from opcode context body now = record { source = from ∷ []; opcode = opcode; context = context; body = body; now = now; keyValid = true; admission = notAdmitted; random = [] }
+packet from opcode context body now = record {
+  source = from ∷ [];
+  opcode = opcode;
+  context = context;
+  body = body;
+  now = now;
+  keyValid = true;
+  admission = notAdmitted;
+  random = [];
+}
 
 abbrev pub accepts : (from id now : ℕ) → Call
 accepts from id now = callHandle (packet from opAccept id (leBytes 4 16384 ++ replicate 16 4) now) handleWords

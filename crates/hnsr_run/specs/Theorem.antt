@@ -43,13 +43,51 @@ actions-are {w} {h} R = R .base .full .acts .held .same (λ a. 1) ∙ ones-lengt
 
 -- what was asked of a DATA before the acknowledgements is asked of it after
 sends-after : (h : Past) (j : ℕ) (side : RelaySide) (q : Packet) (room : ℕ) → Sends h j side q room → Sends (withOut h []) j side q room
-sends-after h j side q room s = record { opcode = s .opcode; context = s .context; named = s .named; from = s .from; some = s .some; fits = s .fits; queue = s .queue; forward = s .forward; unexpired = s .unexpired; words = s .words }
+sends-after h j side q room s = record {
+  opcode = s .opcode;
+  context = s .context;
+  named = s .named;
+  from = s .from;
+  some = s .some;
+  fits = s .fits;
+  queue = s .queue;
+  forward = s .forward;
+  unexpired = s .unexpired;
+  words = s .words;
+}
 
-sends-then : (h : Past) (j : ℕ) (side : RelaySide) (q : Packet) (room : ℕ) → Sends h j side q room → Sends (record { head = record { generation = h .head .generation; enabled = h .head .enabled; clock = q .now; config = h .head .config }; active = h .active; known = h .known; opens = h .opens; book = h .book; out = [] }) j side q room
-sends-then h j side q room s = record { opcode = s .opcode; context = s .context; named = s .named; from = s .from; some = s .some; fits = s .fits; queue = s .queue; forward = omega arith; unexpired = s .unexpired; words = s .words }
+sends-then : (h : Past) (j : ℕ) (side : RelaySide) (q : Packet) (room : ℕ) → Sends h j side q room
+    → Sends (record {
+      head = record { generation = h .head .generation; enabled = h .head .enabled; clock = q .now; config = h .head .config };
+      active = h .active;
+      known = h .known;
+      opens = h .opens;
+      book = h .book;
+      out = [];
+    }) j side q room
+sends-then h j side q room s = record {
+  opcode = s .opcode;
+  context = s .context;
+  named = s .named;
+  from = s .from;
+  some = s .some;
+  fits = s .fits;
+  queue = s .queue;
+  forward = omega arith;
+  unexpired = s .unexpired;
+  words = s .words;
+}
 
 passes-same : (o : Outcome) (h g : Past) (j : ℕ) (side : RelaySide) (q : Packet) → h .known j ≡ g .known j → Passes o h j side q → Passes o g j side q
-passes-same o h g j side q e P = record { taken = P .taken; route = P .route; one = P .one; to = P .to ∙ ap (λ k. peerOn (otherSide side) k) e; opcode = P .opcode; context = P .context; body = P .body }
+passes-same o h g j side q e P = record {
+  taken = P .taken;
+  route = P .route;
+  one = P .one;
+  to = P .to ∙ ap (λ k. peerOn (otherSide side) k) e;
+  opcode = P .opcode;
+  context = P .context;
+  body = P .body;
+}
 
 holds : (w : World) (h : Past) → Rel w h → Places w → sequenceOf w < top 64 → Holds step w h
 holds w h R H low = record {

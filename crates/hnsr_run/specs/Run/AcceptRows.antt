@@ -63,7 +63,9 @@ accept-rows w q p b e =
       room = d .1;
     }
 
-six-rows : (x y z u v : Bool) (b : Checked) → eqb (number ((check x UnknownRequest then check y WrongPeer then check z InvalidAdmission) then bodyAnswer b then check u Capacity then check v Capacity)) 6 ≡ false
+six-rows : (x y z u v : Bool) (b : Checked)
+    → eqb (number ((check x UnknownRequest then check y WrongPeer then check z InvalidAdmission) then bodyAnswer b then check u Capacity then check v Capacity)) 6 ≡
+    false
 six-rows true y z u v b = refl
 six-rows false true z u v b = refl
 six-rows false false true u v b = refl
@@ -75,5 +77,6 @@ six-rows false false false false false Ok = refl
 pub never-six : (w : World) (q : Packet) (p : RelayPending) (b : AcceptBody) → eqb (number (acceptTaken w q p b)) 6 ≡ false
 unfolding acceptTaken requestAnswer acceptAnswer capacityAnswer
 never-six w q p b = six-rows (not (any (pendingAt (q .context)) (w .pending))) (not (samePeer (p .endpoint) (sender q))) (overdue (q .now) p)
-    (ltb (p .«initial_window») (b .«accepted_window») || leb (configOf w .«maximum_circuits») (circuitCount w) || ltb (p .ticket .«max_active_circuits») (reservationWork w (p .ticket .«reservation_id»)))
+    (ltb (p .«initial_window») (b .«accepted_window») || leb (configOf w .«maximum_circuits») (circuitCount w) || ltb (p .ticket .«max_active_circuits»)
+    (reservationWork w (p .ticket .«reservation_id»)))
     (eqb (capacityLeft (configOf w) (tallied true (q .context) (p .requester) (w .inflight))) 0) (decodeAccept (q .body) .result)

@@ -42,7 +42,8 @@ by-kind P n incoming opened data′ control close =
     (λ d. close a c (le-leb 4 n (omega (arith, eqb-false n 0 a, eqb-false n 1 b, eqb-false n 2 c, eqb-false n 3 d)))))))
 
 -- ---- the action goes
-lowered-queue : (b : Bool) (side : RelaySide) (n : ℕ) (c : RelayCircuit) (a : Action) → a .toEndpoint ≡ b → queuedTo side (lowered (cond b Endpoint Requester) n c) ≡ queuedTo side c - cond (towardSide side a) n 0
+lowered-queue : (b : Bool) (side : RelaySide) (n : ℕ) (c : RelayCircuit) (a : Action) → a .toEndpoint ≡ b
+    → queuedTo side (lowered (cond b Endpoint Requester) n c) ≡ queuedTo side c - cond (towardSide side a) n 0
 lowered-queue true Requester n c a e = sym (sub-zero (queuedTo Requester c)) ∙ ap (λ b. queuedTo Requester c - cond (not b) n 0) (sym e)
 lowered-queue true Endpoint n c a e = ap (λ b. queuedTo Endpoint c - cond b n 0) (sym e)
 lowered-queue false Requester n c a e = ap (λ b. queuedTo Requester c - cond (not b) n 0) (sym e)
@@ -62,7 +63,8 @@ module _ (w : World) (h : Past) (F : Full none w h) (g s : ℕ) (found : any (nu
   is = found-is (F .acts) g s found
 
   -- no DATA: nothing is lowered
-  plain : isData (view action) ≡ false → Body none (configOf w) (generationOf w) (sequenceOf w) (w .pending) (w .circuits) table (h .active) (h .known) (h .opens .standing) (h .opens .asked) rest
+  plain : isData (view action) ≡ false
+      → Body none (configOf w) (generationOf w) (sequenceOf w) (w .pending) (w .circuits) table (h .active) (h .known) (h .opens .standing) (h .opens .asked) rest
   plain e = record {
     acts = remove-acts (F .acts) g s;
     circs = F .circs;
@@ -75,8 +77,10 @@ module _ (w : World) (h : Past) (F : Full none w h) (g s : ℕ) (found : any (nu
 
   -- DATA: its circuit is active, and the queue that it stood in is lowered
   data-active : isData (view action) ≡ true → h .active (action .«circuit_id») ≡ true
-  data-active e = real-one (isData (view action)) (h .active (action .«circuit_id»)) (samePeer (action .destination) (peerOn (sideTo (view action)) (h .known (action .«circuit_id»)))) e
-      (let z = is (one (stray (h .active) (h .known))) in let l = total-le (only (numbered g s) (one (stray (h .active) (h .known)))) (one (stray (h .active) (h .known))) (h .out) (λ a. most (numbered g s a) (one (stray (h .active) (h .known)) a)) in omega (arith, F .queue .honest))
+  data-active e = real-one (isData (view action)) (h .active (action .«circuit_id»)) (samePeer (action .destination) (peerOn (sideTo (view action)) (h .known
+      (action .«circuit_id»)))) e
+      (let z = is (one (stray (h .active) (h .known))) in let l = total-le (only (numbered g s) (one (stray (h .active) (h .known)))) (one (stray (h .active)
+      (h .known))) (h .out) (λ a. most (numbered g s a) (one (stray (h .active) (h .known)) a)) in omega (arith, F .queue .honest))
     where
       most : (b : Bool) (n : ℕ) → cond b n 0 ≤ n
       most true n = omega arith
@@ -87,8 +91,11 @@ module _ (w : World) (h : Past) (F : Full none w h) (g s : ℕ) (found : any (nu
       real-one true false y e z = absurd (omega arith)
       real-one false x y e z = absurd (false≢true e)
 
-  data-lowered : isData (view action) ≡ true → Body none (configOf w) (generationOf w) (sequenceOf w) (w .pending) (edit (circuitAt (action .«circuit_id»)) (lowered (towardOf action) (action .bytes)) (w .circuits)) table (h .active) (h .known) (h .opens .standing) (h .opens .asked) rest
-  data-lowered e = resume-at j (place-circuit out-of j (eq-eqb j j refl) act (lowered side n) (h .known j) (h .known) (λ x. lowered-at j side n x) (lower-agrees side n (agreed F j act)) (λ s. refl) same) counts
+  data-lowered : isData (view action) ≡ true
+      → Body none (configOf w) (generationOf w) (sequenceOf w) (w .pending) (edit (circuitAt (action .«circuit_id»)) (lowered (towardOf action) (action .bytes))
+      (w .circuits)) table (h .active) (h .known) (h .opens .standing) (h .opens .asked) rest
+  data-lowered e = resume-at j (place-circuit out-of j (eq-eqb j j refl) act (lowered side n) (h .known j) (h .known)
+      (λ x. lowered-at j side n x) (lower-agrees side n (agreed F j act)) (λ s. refl) same) counts
     where
       j : ℕ
       j = action .«circuit_id»
@@ -103,7 +110,8 @@ module _ (w : World) (h : Past) (F : Full none w h) (g s : ℕ) (found : any (nu
       act = data-active e
 
       same : (i : ℕ) → h .known i ≡ cond (eqb j i) (h .known j) (h .known i)
-      same i = split (eqb j i) (λ q. ap (h .known) (sym (eqb-true j i q)) ∙ sym (ap (λ b. cond b (h .known j) (h .known i)) q)) (λ q. sym (ap (λ b. cond b (h .known j) (h .known i)) q))
+      same i = split (eqb j i) (λ q. ap (h .known) (sym (eqb-true j i q)) ∙ sym (ap (λ b. cond b (h .known j) (h .known i)) q)) (λ q. sym (ap
+          (λ b. cond b (h .known j) (h .known i)) q))
 
       elsewhere : (i : ℕ) (s : RelaySide) → eqb j i ≡ false → weight i s (view action) ≡ 0
       elsewhere i s q = off (isData (view action)) (eqb j i) (towardSide s (view action)) q
@@ -112,7 +120,8 @@ module _ (w : World) (h : Past) (F : Full none w h) (g s : ℕ) (found : any (nu
           off true x y z = ap (λ b. cond (b && y) n 0) z
           off false x y z = refl
 
-      out-of : Body (λ i. eqb j i) (configOf w) (generationOf w) (sequenceOf w) (w .pending) (w .circuits) table (h .active) (h .known) (h .opens .standing) (h .opens .asked) rest
+      out-of : Body (λ i. eqb j i) (configOf w) (generationOf w) (sequenceOf w) (w .pending) (w .circuits) table (h .active) (h .known) (h .opens .standing)
+          (h .opens .asked) rest
       out-of = let O = only-one F j (λ i q. refl) in record {
         acts = remove-acts (F .acts) g s;
         circs = F .circs;
@@ -138,7 +147,8 @@ module _ (w : World) (h : Past) (F : Full none w h) (g s : ℕ) (found : any (nu
 
   pub settle : Full none (released (withoutAction w g s) action) (without h (numbered g s))
   unfolding released lowerFor
-  settle = by-kind (λ k. Body none (configOf w) (generationOf w) (sequenceOf w) (w .pending) (lowerFor k action (w .circuits)) table (h .active) (h .known) (h .opens .standing) (h .opens .asked) rest) (action .kind)
+  settle = by-kind (λ k. Body none (configOf w) (generationOf w) (sequenceOf w) (w .pending) (lowerFor k action (w .circuits)) table (h .active) (h .known)
+      (h .opens .standing) (h .opens .asked) rest) (action .kind)
       (λ a b. plain b) (λ a b c. plain b) (λ a b c. data-lowered b) (λ a b c. plain b) (λ a b c. plain b)
 
   settle-rest : Rest w (released (withoutAction w g s) action)

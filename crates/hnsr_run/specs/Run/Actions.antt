@@ -54,7 +54,17 @@ abbrev pub inUse : InflightAction → Bool
 inUse i = i .used
 
 abbrev pub actions : Bag InflightAction Action
-actions = record { used = inUse; unmark = clearAction; off = λ i. refl; blank = noAction; view = view; mark = marked; view-mark = λ a. refl; used-mark = λ a. refl; number = λ a. a .sequence }
+actions = record {
+  used = inUse;
+  unmark = clearAction;
+  off = λ i. refl;
+  blank = noAction;
+  view = view;
+  mark = marked;
+  view-mark = λ a. refl;
+  used-mark = λ a. refl;
+  number = λ a. a .sequence;
+}
 
 abbrev pub holding : (Action → Bool) → InflightAction → Bool
 holding p i = i .used && p (view i)
@@ -88,9 +98,11 @@ module _ {c : OpaqueRelayConfig} {g next : ℕ} {t : List InflightAction} {out :
     where
       none : count (numbered g next) out ≡ 0
       none = let z = R .held .below next (omega arith) in
-          let l = total-le (one (numbered g next)) (one (λ a. eqb (a .sequence) next)) out (λ a. split (eqb (a .generation) g) (λ e. rw e (omega arith)) (λ e. rw e (omega arith))) in omega arith
+          let l = total-le (one (numbered g next)) (one (λ a. eqb (a .sequence) next)) out (λ a. split (eqb (a .generation) g) (λ e. rw e (omega arith))
+          (λ e. rw e (omega arith))) in omega arith
 
-  pub queue-acts : (m : Message) → count inUse t < c .«maximum_inflight_actions» → Acts c g (next + 1) (put isAction (actionAt g next) (actionFor m g next) t) (out ++ (view (actionFor m g next) ∷ []))
+  pub queue-acts : (m : Message) → count inUse t < c .«maximum_inflight_actions»
+      → Acts c g (next + 1) (put isAction (actionAt g next) (actionFor m g next) t) (out ++ (view (actionFor m g next) ∷ []))
   queue-acts m l = rw (queue-table (actionFor m g next)) (record {
     places = omega (arith, R .places, length-put inUse clearAction (λ i. i .used && eqb (i .sequence) next) (actionFor m g next) t);
     held = queue-held actions (R .held) (view (actionFor m g next)) (omega (arith, R .places)) refl;
@@ -104,7 +116,8 @@ module _ {c : OpaqueRelayConfig} {g next : ℕ} {t : List InflightAction} {out :
   drop-acts p = record {
     places = omega (arith, R .places, clear-length inUse clearAction (λ i. refl) (holding p) t);
     held = record {
-      same = λ f. clear-total inUse clearAction (λ i. refl) (holding p) (λ i. f (view i)) t ∙ total-ext _ _ t (λ i. each (i .used) (p (view i)) (f (view i))) ∙ R .held .same (only (non p) f) ∙ sym (total-keep f (non p) out);
+      same = λ f. clear-total inUse clearAction (λ i. refl) (holding p) (λ i. f (view i)) t ∙ total-ext _ _ t (λ i. each (i .used) (p (view i)) (f (view i)))
+          ∙ R .held .same (only (non p) f) ∙ sym (total-keep f (non p) out);
       once = λ q. omega (arith, keep-le (one (λ a. eqb (a .sequence) q)) (non p) out, R .held .once q);
       below = λ q l. omega (arith, keep-le (one (λ a. eqb (a .sequence) q)) (non p) out, R .held .below q l);
     };
@@ -118,16 +131,23 @@ module _ {c : OpaqueRelayConfig} {g next : ℕ} {t : List InflightAction} {out :
   -- the one that is acknowledged
   pub remove-acts : (g′ s : ℕ) → Acts c g next (edit (actionAt g′ s) clearAction t) (keep (non (numbered g′ s)) out)
   unfolding actionAt
-  remove-acts g′ s = rw (edit-clear (holding (numbered g′ s)) clearAction t (omega (arith, held-count actions (R .held) (numbered g′ s), both-once (R .held) g′ s))) (drop-acts (numbered g′ s))
+  remove-acts g′ s = rw (edit-clear (holding (numbered g′ s)) clearAction t (omega (
+    arith,
+    held-count actions (R .held) (numbered g′ s),
+    both-once
+        (R .held) g′ s,
+  ))) (drop-acts (numbered g′ s))
 
   -- f of the record found is f of the action in the list
   pub found-is : (g′ s : ℕ) → any (numbered g′ s) out ≡ true → (f : Action → ℕ) → total (only (numbered g′ s) f) out ≡ f (view (pick (actionAt g′ s) noAction t))
   unfolding actionAt
   found-is g′ s e f = sym (R .held .same (only (numbered g′ s) f)) ∙ sym (total-also inUse (λ i. numbered g′ s (view i)) (λ i. f (view i)) t)
-      ∙ total-key (holding (numbered g′ s)) (λ i. f (view i)) noAction t (omega (arith, held-count actions (R .held) (numbered g′ s), both-once (R .held) g′ s)) (held-any actions (R .held) (numbered g′ s) ∙ e)
+      ∙ total-key (holding (numbered g′ s)) (λ i. f (view i)) noAction t (omega (arith, held-count actions (R .held) (numbered g′ s), both-once (R .held) g′ s))
+      (held-any actions (R .held) (numbered g′ s) ∙ e)
 
 -- ---- room
-pub room-of : (c : OpaqueRelayConfig) (circuit : ℕ) (peer : HnsrPeerId) (t : List InflightAction) → capacityAnswer c (tallied false circuit peer t) ≡ Taken → count inUse t < c .«maximum_inflight_actions»
+pub room-of : (c : OpaqueRelayConfig) (circuit : ℕ) (peer : HnsrPeerId) (t : List InflightAction) → capacityAnswer c (tallied false circuit peer t) ≡ Taken
+    → count inUse t < c .«maximum_inflight_actions»
 unfolding capacityAnswer capacityLeft tallied
 room-of c circuit peer t h =
     let e = check-taken (eqb (capacityLeft c (tallied false circuit peer t)) 0) Capacity h in

@@ -39,7 +39,17 @@ pub record Agrees (c : RelayCircuit) (k : Known) : Type 0 where
   pub totalled : k .total < top 64
 
 abbrev pub circuitKeys : Keys RelayCircuit ℕ Known
-circuitKeys = record { used = λ c. c .used; unmark = clearCircuit; off = λ c. refl; nobody = noCircuit; key = circuitId; same = λ i j. eqb i j; same-eq = eqb-true; same-refl = λ i. eq-eqb i i refl; Agree = Agrees }
+circuitKeys = record {
+  used = λ c. c .used;
+  unmark = clearCircuit;
+  off = λ c. refl;
+  nobody = noCircuit;
+  key = circuitId;
+  same = λ i j. eqb i j;
+  same-eq = eqb-true;
+  same-refl = λ i. eq-eqb i i refl;
+  Agree = Agrees;
+}
 
 abbrev pub Circs : List RelayCircuit → (ℕ → Bool) → (ℕ → Known) → Type 0
 Circs = Tells circuitKeys
@@ -88,7 +98,8 @@ module _ {S : ℕ → Bool} {cs : List RelayCircuit} {ac : ℕ → Bool} {kn : �
   pub suspend : (S′ : ℕ → Bool) → ((i : ℕ) → S′ i ≡ false → S i ≡ false) → Queue S′ cs ac kn out
   suspend S′ w = record { queued = λ j s. Q .queued j (w j s); honest = Q .honest }
 
-  pub resume : ((j : ℕ) → S j ≡ true → ac j ≡ true → (side : RelaySide) → total (weight j side) out ≡ queuedTo side (pick (circuitAt j) noCircuit cs)) → Queue none cs ac kn out
+  pub resume : ((j : ℕ) → S j ≡ true → ac j ≡ true → (side : RelaySide) → total (weight j side) out ≡ queuedTo side (pick (circuitAt j) noCircuit cs))
+      → Queue none cs ac kn out
   resume r = record { queued = λ j s a. split (S j) (λ t. r j t a) (λ t. Q .queued j t a); honest = Q .honest }
 
   pub queue-queue : (a : Action) → stray ac kn a ≡ false → ((j : ℕ) → S j ≡ false → (side : RelaySide) → weight j side a ≡ 0) → Queue S cs ac kn (out ++ (a ∷ []))
@@ -97,7 +108,8 @@ module _ {S : ℕ → Bool} {cs : List RelayCircuit} {ac : ℕ → Bool} {kn : �
     honest = omega (arith, ap (λ b. cond {A = ℕ} b 1 0) g, total-append (one (stray ac kn)) out (a ∷ []), Q .honest);
   }
 
-  pub drop-queue : (p : Action → Bool) → ((j : ℕ) → S j ≡ false → ac j ≡ true → (side : RelaySide) → total (only p (weight j side)) out ≡ 0) → Queue S cs ac kn (keep (non p) out)
+  pub drop-queue : (p : Action → Bool) → ((j : ℕ) → S j ≡ false → ac j ≡ true → (side : RelaySide) → total (only p (weight j side)) out ≡ 0)
+      → Queue S cs ac kn (keep (non p) out)
   drop-queue p z = record {
     queued = λ j s t b. omega (arith, total-keep (weight j b) (non p) out, total-split p (weight j b) out, z j s t b, Q .queued j s t b);
     honest = omega (arith, keep-le (one (stray ac kn)) (non p) out, Q .honest);
@@ -122,7 +134,8 @@ module _ {S : ℕ → Bool} {cs : List RelayCircuit} {ac : ℕ → Bool} {kn : �
       each a = split (eqb j (a .circuit))
           (λ e. split (ac (a .circuit))
           (λ t. let q = eqb-true j (a .circuit) e in
-          let p : peerOn (sideTo a) k ≡ peerOn (sideTo a) (kn (a .circuit)) = subst (λ x. ac x ≡ true → peerOn (sideTo a) k ≡ peerOn (sideTo a) (kn x)) q (λ u. peers u (sideTo a)) t in
+          let p : peerOn (sideTo a) k ≡ peerOn (sideTo a) (kn (a .circuit)) = subst (λ x. ac x ≡ true → peerOn (sideTo a) k ≡ peerOn (sideTo a) (kn x)) q
+          (λ u. peers u (sideTo a)) t in
           rw (ea (a .circuit), ek (a .circuit), e, t, p) (omega arith))
           (λ t. rw t (off (isData a) (ac′ (a .circuit) && samePeer (a .destination) (peerOn (sideTo a) (kn′ (a .circuit)))))))
           (λ e. rw (ea (a .circuit), ek (a .circuit), e) (omega arith))
@@ -131,8 +144,15 @@ module _ {S : ℕ → Bool} {cs : List RelayCircuit} {ac : ℕ → Bool} {kn : �
       → ((i : ℕ) → S′ i ≡ false → eqb j i ≡ false → S i ≡ false)
       → ((i : ℕ) → ac′ i ≡ cond (eqb j i) false (ac i)) → Queue S′ (edit (circuitAt j) clearCircuit cs) ac′ kn out
   remove-queue C j S′ ac′ z sw ea = record {
-    queued = λ i s t b. split (eqb j i) (λ e. absurd (false≢true (rw (ea i, e) at t))) (λ e. let t′ = rw (ea i, e) at t in rw (remove-look C j i t′ e) (Q .queued i (sw i s e) t′ b));
-    honest = omega (arith, total-le (one (stray ac′ kn)) (λ a. one (stray ac kn) a + one (also isData (onCircuit j)) a) out each, total-plus (one (stray ac kn)) (one (also isData (onCircuit j))) out, Q .honest);
+    queued = λ i s t b. split (eqb j i) (λ e. absurd (false≢true (rw (ea i, e) at t))) (λ e. let t′ = rw (ea i, e) at t in
+        rw (remove-look C j i t′ e) (Q .queued i (sw i s e) t′ b));
+    honest = omega (
+      arith,
+      total-le (one (stray ac′ kn))
+          (λ a. one (stray ac kn) a + one (also isData (onCircuit j)) a) out each,
+      total-plus (one (stray ac kn)) (one (also isData (onCircuit j))) out,
+      Q .honest,
+    );
   }
     where
       on : (d x y : Bool) → cond {A = ℕ} (d && not x) 1 0 ≤ cond (d && not y) 1 0 + cond (d && true) 1 0
@@ -142,12 +162,15 @@ module _ {S : ℕ → Bool} {cs : List RelayCircuit} {ac : ℕ → Bool} {kn : �
 
       each : (a : Action) → one (stray ac′ kn) a ≤ one (stray ac kn) a + one (also isData (onCircuit j)) a
       each a = split (eqb j (a .circuit))
-          (λ e. rw (eqb-comm (a .circuit) j, e) (on (isData a) (ac′ (a .circuit) && samePeer (a .destination) (peerOn (sideTo a) (kn (a .circuit)))) (ac (a .circuit) && samePeer (a .destination) (peerOn (sideTo a) (kn (a .circuit))))))
+          (λ e. rw (eqb-comm (a .circuit) j, e) (on (isData a) (ac′ (a .circuit) && samePeer (a .destination) (peerOn (sideTo a) (kn (a .circuit)))) (ac
+          (a .circuit) && samePeer (a .destination) (peerOn (sideTo a) (kn (a .circuit))))))
           (λ e. rw (ea (a .circuit), e) (omega arith))
 
 -- nothing is outstanding on a circuit that is not active
-pub idle : {S : ℕ → Bool} {cs : List RelayCircuit} {ac : ℕ → Bool} {kn : ℕ → Known} {out : List Action} → Queue S cs ac kn out → (j : ℕ) → ac j ≡ false → (side : RelaySide) → total (weight j side) out ≡ 0
-idle {ac = ac} {kn = kn} {out = out} Q j n side = total-others (stray ac kn) (weight j side) out (Q .honest) ∙ total-zero (only (non (stray ac kn)) (weight j side)) out each
+pub idle : {S : ℕ → Bool} {cs : List RelayCircuit} {ac : ℕ → Bool} {kn : ℕ → Known} {out : List Action} → Queue S cs ac kn out → (j : ℕ) → ac j ≡ false
+    → (side : RelaySide) → total (weight j side) out ≡ 0
+idle {ac = ac} {kn = kn} {out = out} Q j n side = total-others (stray ac kn) (weight j side) out (Q .honest)
+    ∙ total-zero (only (non (stray ac kn)) (weight j side)) out each
   where
     inactive : (d e s x : Bool) (b : ℕ) → x ≡ false → cond (not (d && not (x && s))) (cond (d && e) b 0) 0 ≡ 0
     inactive true e s x b f = rw f
@@ -160,5 +183,7 @@ idle {ac = ac} {kn = kn} {out = out} Q j n side = total-others (stray ac kn) (we
 
     each : (a : Action) → only (non (stray ac kn)) (weight j side) a ≡ 0
     each a = split (eqb (a .circuit) j)
-        (λ e. inactive (isData a) (onCircuit j a && towardSide side a) (samePeer (a .destination) (peerOn (sideTo a) (kn (a .circuit)))) (ac (a .circuit)) (a .bytes) (ap ac (eqb-true (a .circuit) j e) ∙ n))
-        (λ e. elsewhere (isData a) (eqb (a .circuit) j) (towardSide side a) (ac (a .circuit) && samePeer (a .destination) (peerOn (sideTo a) (kn (a .circuit)))) (a .bytes) e)
+        (λ e. inactive (isData a) (onCircuit j a && towardSide side a) (samePeer (a .destination) (peerOn (sideTo a) (kn (a .circuit)))) (ac (a .circuit))
+        (a .bytes) (ap ac (eqb-true (a .circuit) j e) ∙ n))
+        (λ e. elsewhere (isData a) (eqb (a .circuit) j) (towardSide side a) (ac (a .circuit) && samePeer (a .destination) (peerOn (sideTo a) (kn (a .circuit))))
+        (a .bytes) e)

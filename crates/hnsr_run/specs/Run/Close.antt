@@ -26,7 +26,8 @@ use Rattle.hnsr_run.specs.Run.Full.{pendingKeys, Keeps, Quiet, rest-then
 use Rattle.hnsr_run.specs.Run.Rel.{Rel, send-cases, emit-nothing, fewer, shrink}
 
 -- ---- two lookups that find the same record, where at most one has the second
-same-record : {A : Type 0} (p q : A → Bool) (d : A) (g : A → A) (t : List A) → count q t ≤ 1 → any p t ≡ true → q (pick p d t) ≡ true → (pick p d t ≡ pick q d t) × (edit p g t ≡ edit q g t)
+same-record : {A : Type 0} (p q : A → Bool) (d : A) (g : A → A) (t : List A) → count q t ≤ 1 → any p t ≡ true → q (pick p d t) ≡ true
+    → (pick p d t ≡ pick q d t) × (edit p g t ≡ edit q g t)
 same-record p q d g [] c h k = absurd (false≢true h)
 same-record {A} p q d g (x ∷ xs) c h k = split (p x)
     (λ e. let f = rw e at k in (rw (e, f), rw (e, f)))
@@ -36,10 +37,18 @@ same-record {A} p q d g (x ∷ xs) c h k = split (p x)
 
 -- ---- a record ended, and then the message: told, or refused with 10
 pub sends-after : {w : World} {h : Past} → Rel w h → {v : World} (ac st : ℕ → Bool) (out : List Action) → Keeps none w v (fewer h ac st out)
-    → ((i : ℕ) → ac i ≡ true → h .active i ≡ true) → ((i : ℕ) → st i ≡ true → h .opens .standing i ≡ true) → (m : Message) → Quiet (h .known) m → eqb (m .context) 0 ≡ false → sequenceOf v < top 64
+    → ((i : ℕ) → ac i ≡ true → h .active i ≡ true) → ((i : ℕ) → st i ≡ true → h .opens .standing i ≡ true) → (m : Message) → Quiet (h .known) m → eqb
+    (m .context) 0 ≡ false → sequenceOf v < top 64
     → (ends (send v m .answer) ≡ true) × Rel (send v m .world) (emit (fewer h ac st out) (send v m .routes))
-sends-after {w} {h} R {v} ac st out K la ls m Q some low = send-cases (λ (o : Outcome). (ends (o .answer) ≡ true) × Rel (o .world) (emit (fewer h ac st out) (o .routes))) v m some low
-    (λ e. (refl, shrink R ac st _ (record { full = queue-full v (fewer h ac st out) m (K .full) Q (can-room m v e); rest = rest-then (K .rest) (queued-rest m v) }) la ls))
+sends-after {w} {h} R {v} ac st out K la ls m Q some low = send-cases
+    (λ (o : Outcome). (ends (o .answer) ≡ true) × Rel (o .world) (emit (fewer h ac st out) (o .routes))) v m some low
+    (λ e. (
+      refl,
+      shrink R ac st _ (record {
+        full = queue-full v (fewer h ac st out) m (K .full) Q (can-room m v e);
+        rest = rest-then (K .rest) (queued-rest m v);
+      }) la ls,
+    ))
     (refl, emit-nothing (shrink R ac st out K la ls))
 
 -- ---- what the past says of an OPEN's names
@@ -53,11 +62,13 @@ module _ {w : World} {h : Past} (R : Rel w h) (p : HnsrPeerId) (x : ℕ) where
   match-at : (j : ℕ) → h .opens .standing j ≡ true → naming p x (pendingIn w j) ≡ says h p x j
   unfolding pendingAt
   match-at j a = let A = R .base .full .pends .agree j a in
-      let i = eqb-true (pendingIn w j .«circuit_id») j (both (pendingIn w j .used) (eqb (pendingIn w j .«circuit_id») j) (pick-has (pendingAt j) noPending (w .pending) (R .base .full .pends .found j ∙ a)) .1) in
+      let i = eqb-true (pendingIn w j .«circuit_id») j (both (pendingIn w j .used) (eqb (pendingIn w j .«circuit_id») j) (pick-has (pendingAt j) noPending
+      (w .pending) (R .base .full .pends .found j ∙ a)) .1) in
       λ k. (samePeer (A .requester k) p && eqb (A .context k) x) || (samePeer (A .endpoint k) p && eqb (i k) x)
 
   -- by its requester's context
-  context-meant : (j : ℕ) → h .opens .standing j ≡ true → (samePeer (h .opens .asked j .requester) p && eqb (h .opens .asked j .context) x) ≡ true → h .opens .named p x ≡ j
+  context-meant : (j : ℕ) → h .opens .standing j ≡ true → (samePeer (h .opens .asked j .requester) p && eqb (h .opens .asked j .context) x) ≡ true
+      → h .opens .named p x ≡ j
   context-meant j a e = let k = both (samePeer (h .opens .asked j .requester) p) (eqb (h .opens .asked j .context) x) e in
       ap (h .opens .named p) (sym (eqb-true (h .opens .asked j .context) x (k .1))) ∙ R .base .names j a p (k .0)
 
@@ -67,15 +78,19 @@ module _ {w : World} {h : Past} (R : Rel w h) (p : HnsrPeerId) (x : ℕ) where
       (k .0, ap (λ b. b || (samePeer (h .opens .asked j .endpoint) p && eqb j x)) (k .1))
 
   by-id : byId h p x ≡ true → (h .opens .standing x ≡ true) × (says h p x x ≡ true)
-  by-id e = let k = both (h .opens .standing x) (samePeer (h .opens .asked x .endpoint) p) e in
-      (k .0, ap (λ b. (samePeer (h .opens .asked x .requester) p && eqb (h .opens .asked x .context) x) || b) (join (samePeer (h .opens .asked x .endpoint) p) (eqb x x) (k .1) (eq-eqb x x refl)) ∙ or-true (samePeer (h .opens .asked x .requester) p && eqb (h .opens .asked x .context) x))
+  by-id e = let k = both (h .opens .standing x) (samePeer (h .opens .asked x .endpoint) p) e in (
+    k .0,
+    ap (λ b. (samePeer (h .opens .asked x .requester) p && eqb (h .opens .asked x .context) x) || b) (join (samePeer (h .opens .asked x .endpoint) p)
+        (eqb x x) (k .1) (eq-eqb x x refl)) ∙ or-true (samePeer (h .opens .asked x .requester) p && eqb (h .opens .asked x .context) x),
+  )
 
   -- named at all: some record of the table says so
   is-shown : (j : ℕ) → h .opens .standing j ≡ true → says h p x j ≡ true → any (namedBy p x) (w .pending) ≡ true
   unfolding namedBy pendingAt
   is-shown j a s = shown pendingKeys (R .base .full .pends) (naming p x) j a (match-at j a ∙ s)
 
-  two-shown : (i j : ℕ) → h .opens .standing i ≡ true → h .opens .standing j ≡ true → says h p x i ≡ true → says h p x j ≡ true → eqb i j ≡ false → 2 ≤ count (namedBy p x) (w .pending)
+  two-shown : (i j : ℕ) → h .opens .standing i ≡ true → h .opens .standing j ≡ true → says h p x i ≡ true → says h p x j ≡ true → eqb i j ≡ false
+      → 2 ≤ count (namedBy p x) (w .pending)
   unfolding namedBy pendingAt
   two-shown i j a b s t n = seen-two pendingKeys (R .base .full .pends) (naming p x) i j a b (match-at i a ∙ s) (match-at j b ∙ t) n
 
@@ -87,10 +102,14 @@ module _ {w : World} {h : Past} (R : Rel w h) (p : HnsrPeerId) (x : ℕ) where
   unfolding namedBy pendingAt
   is-seen e = let s = seen pendingKeys (R .base .full .pends) (naming p x) e in (s .0, sym (match-at (record-found .«circuit_id») (s .0)) ∙ s .1)
 
-  pub found-same : any (namedBy p x) (w .pending) ≡ true → (record-found ≡ pendingIn w (record-found .«circuit_id»)) × (edit (namedBy p x) clearPending (w .pending) ≡ edit (pendingAt (record-found .«circuit_id»)) clearPending (w .pending))
+  pub found-same : any (namedBy p x) (w .pending) ≡ true
+      → (record-found ≡ pendingIn w (record-found .«circuit_id»)) × (edit (namedBy p x) clearPending (w .pending) ≡ edit (pendingAt
+      (record-found .«circuit_id»)) clearPending (w .pending))
   unfolding namedBy pendingAt
-  found-same e = same-record (namedBy p x) (pendingAt (record-found .«circuit_id»)) noPending clearPending (w .pending) (R .base .full .pends .once (record-found .«circuit_id»)) e
-      (join (record-found .used) (eqb (record-found .«circuit_id») (record-found .«circuit_id»)) (both (record-found .used) (naming p x record-found) (pick-has (namedBy p x) noPending (w .pending) e) .0) (eq-eqb (record-found .«circuit_id») (record-found .«circuit_id») refl))
+  found-same e = same-record (namedBy p x) (pendingAt (record-found .«circuit_id»)) noPending clearPending (w .pending) (R .base .full .pends .once
+      (record-found .«circuit_id»)) e
+      (join (record-found .used) (eqb (record-found .«circuit_id») (record-found .«circuit_id»)) (both (record-found .used) (naming p x record-found) (pick-has
+      (namedBy p x) noPending (w .pending) e) .0) (eq-eqb (record-found .«circuit_id») (record-found .«circuit_id») refl))
 
   -- what the past ends is what the machine ends
   pub ends-open : any (namedBy p x) (w .pending) ≡ true → leb 2 (count (namedBy p x) (w .pending)) ≡ false → endIn p x h ≡ openEnded h (record-found .«circuit_id»)
@@ -98,7 +117,8 @@ module _ {w : World} {h : Past} (R : Rel w h) (p : HnsrPeerId) (x : ℕ) where
       (λ c. let i = by-context c in let n = h .opens .named p x in split (eqb n j)
       (λ q. ap (λ b. cond b (openEnded h n) rest) c ∙ ap (openEnded h) (eqb-true n j q))
       (λ q. absurd (let k = two-shown n j (i .0) (s .0) (i .1) (s .1) q in let m = leb-false 2 (count (namedBy p x) (w .pending)) l in omega arith)))
-      (λ c. ap (λ b. cond b (openEnded h (h .opens .named p x)) rest) c ∙ ap (λ b. cond b (openEnded h x) (circuitEnded h x)) (only-id c .0) ∙ ap (openEnded h) (sym (only-id c .1)))
+      (λ c. ap (λ b. cond b (openEnded h (h .opens .named p x)) rest) c ∙ ap (λ b. cond b (openEnded h x) (circuitEnded h x)) (only-id c .0)
+      ∙ ap (openEnded h) (sym (only-id c .1)))
     where
       j : ℕ
       j = record-found .«circuit_id»
@@ -111,11 +131,18 @@ module _ {w : World} {h : Past} (R : Rel w h) (p : HnsrPeerId) (x : ℕ) where
 
       only-id : byContext h p x ≡ false → (byId h p x ≡ true) × (j ≡ x)
       only-id c = split (samePeer (h .opens .asked j .requester) p && eqb (h .opens .asked j .context) x)
-          (λ u. clash (subst (λ y. (h .opens .standing y && (samePeer (h .opens .asked y .requester) p && eqb (h .opens .asked y .context) x)) ≡ true) (sym (context-meant j (s .0) u)) (join (h .opens .standing j) (samePeer (h .opens .asked j .requester) p && eqb (h .opens .asked j .context) x) (s .0) u)) c)
-          (λ u. let k = both (samePeer (h .opens .asked j .endpoint) p) (eqb j x) (sym (ap (λ b. b || (samePeer (h .opens .asked j .endpoint) p && eqb j x)) u) ∙ s .1) in let q = eqb-true j x (k .1) in
-          (subst (λ y. (h .opens .standing y && samePeer (h .opens .asked y .endpoint) p) ≡ true) q (join (h .opens .standing j) (samePeer (h .opens .asked j .endpoint) p) (s .0) (k .0)), q))
+          (λ u. clash (subst (λ y. (h .opens .standing y && (samePeer (h .opens .asked y .requester) p && eqb (h .opens .asked y .context) x)) ≡ true) (sym
+          (context-meant j (s .0) u)) (join (h .opens .standing j) (samePeer (h .opens .asked j .requester) p && eqb (h .opens .asked j .context) x)
+          (s .0) u)) c)
+          (λ u. let k = both (samePeer (h .opens .asked j .endpoint) p) (eqb j x) (sym (ap (λ b. b || (samePeer (h .opens .asked j .endpoint) p && eqb j x)) u)
+          ∙ s .1) in let q = eqb-true j x (k .1) in (
+            subst (λ y. (h .opens .standing y && samePeer (h .opens .asked y .endpoint) p) ≡ true) q (join (h .opens .standing j) (samePeer
+                (h .opens .asked j .endpoint) p) (s .0) (k .0)),
+            q,
+          ))
 
   pub ends-circuit : any (namedBy p x) (w .pending) ≡ false → endIn p x h ≡ circuitEnded h x
   ends-circuit e = split (byContext h p x)
       (λ c. let i = by-context c in clash (is-shown (h .opens .named p x) (i .0) (i .1)) e)
-      (λ c. ap (λ b. cond b (openEnded h (h .opens .named p x)) (cond (byId h p x) (openEnded h x) (circuitEnded h x))) c ∙ split (byId h p x) (λ d. let i = by-id d in clash (is-shown x (i .0) (i .1)) e) (λ d. ap (λ b. cond b (openEnded h x) (circuitEnded h x)) d))
+      (λ c. ap (λ b. cond b (openEnded h (h .opens .named p x)) (cond (byId h p x) (openEnded h x) (circuitEnded h x))) c ∙ split (byId h p x)
+      (λ d. let i = by-id d in clash (is-shown x (i .0) (i .1)) e) (λ d. ap (λ b. cond b (openEnded h x) (circuitEnded h x)) d))

@@ -39,10 +39,32 @@ at-field : {B : Type 0} (f : Known → B) (j : ℕ) (k : Known) (kn : ℕ → Kn
 at-field f j k kn e i = split (eqb j i) (λ q. ap (λ b. f (cond b k (kn i))) q ∙ e ∙ ap (λ x. f (kn x)) (eqb-true j i q)) (λ q. ap (λ b. f (cond b k (kn i))) q)
 
 pub known-rel : {w : World} {h : Past} → Rel w h → (v : World) (j : ℕ) (k : Known) (sp : ReservationId → ℕ) (out : List Action)
-    → Full none v (record { head = h .head; active = h .active; known = at j k (h .known); opens = h .opens; book = record { made = h .book .made; due = h .book .due; spent = sp }; out = out })
+    → Full none v (record {
+      head = h .head;
+      active = h .active;
+      known = at j k (h .known);
+      opens = h .opens;
+      book = record {
+        made = h .book .made;
+        due = h .book .due;
+        spent = sp;
+      };
+      out = out;
+    })
     → Books (v .ledger) (h .head .clock) (record { made = h .book .made; due = h .book .due; spent = sp })
     → k .reservation ≡ h .known j .reservation → k .expires ≡ h .known j .expires → Heads v (h .head)
-    → Rel v (record { head = h .head; active = h .active; known = at j k (h .known); opens = h .opens; book = record { made = h .book .made; due = h .book .due; spent = sp }; out = out })
+    → Rel v (record {
+      head = h .head;
+      active = h .active;
+      known = at j k (h .known);
+      opens = h .opens;
+      book = record {
+        made = h .book .made;
+        due = h .book .due;
+        spent = sp;
+      };
+      out = out;
+    })
 known-rel {w} {h} R v j k sp out F B er ee H = record {
   base = record {
     full = F;
@@ -63,9 +85,12 @@ known-rel {w} {h} R v j k sp out F B er ee H = record {
 }
 
 -- ---- the circuit that a packet names
-pub named-active : {w : World} {h : Past} → Rel w h → (q : Packet) → (c : RelayCircuit) → circuitAnswer (hasCircuit w (q .context)) c (sender q) ≡ Taken → h .active (q .context) ≡ true
+pub named-active : {w : World} {h : Past} → Rel w h → (q : Packet) → (c : RelayCircuit) → circuitAnswer (hasCircuit w (q .context)) c (sender q) ≡ Taken
+    → h .active (q .context) ≡ true
 unfolding circuitAnswer
-named-active {w} {h} R q c e = sym (circuit-there w h (R .base .full) (q .context)) ∙ flip (hasCircuit w (q .context)) (check-taken (not (hasCircuit w (q .context))) UnknownCircuit (then-taken (check (not (hasCircuit w (q .context))) UnknownCircuit) (check (not (isSide (sender q) c)) WrongPeer) e .0))
+named-active {w} {h} R q c e = sym (circuit-there w h (R .base .full) (q .context))
+    ∙ flip (hasCircuit w (q .context)) (check-taken (not (hasCircuit w (q .context))) UnknownCircuit (then-taken (check (not (hasCircuit w
+    (q .context))) UnknownCircuit) (check (not (isSide (sender q) c)) WrongPeer) e .0))
   where
     flip : (b : Bool) → not b ≡ false → b ≡ true
     flip true x = refl
@@ -128,12 +153,14 @@ pub to-endpoint : (side : RelaySide) {c : RelayCircuit} {k : Known} → Agrees c
 to-endpoint Requester {c} {k} A = ap (samePeer (k .endpoint)) (A .endpoint) ∙ same-refl (k .endpoint)
 to-endpoint Endpoint {c} {k} A = ap (samePeer (k .endpoint)) (A .requester) ∙ same-comm (k .endpoint) (k .requester) ∙ A .apart
 
-pub to-side : (side : RelaySide) {c : RelayCircuit} {k : Known} → Agrees c k → samePeer (peerAt (otherSide side) c) (peerOn (cond (toEndpoint (otherSide side)) Endpoint Requester) k) ≡ true
+pub to-side : (side : RelaySide) {c : RelayCircuit} {k : Known} → Agrees c k
+    → samePeer (peerAt (otherSide side) c) (peerOn (cond (toEndpoint (otherSide side)) Endpoint Requester) k) ≡ true
 to-side Requester {c} {k} A = ap (λ p. samePeer p (k .endpoint)) (A .endpoint) ∙ same-refl (k .endpoint)
 to-side Endpoint {c} {k} A = ap (λ p. samePeer p (k .requester)) (A .requester) ∙ same-refl (k .requester)
 
 -- the queue toward the other side
-pub charged-queue : (side s : RelaySide) (n : ℕ) (c : RelayCircuit) (a : Action) → a .toEndpoint ≡ toEndpoint (otherSide side) → queuedTo (otherSide side) c + n ≤ top 64 → queuedTo s (charged side n c) ≡ queuedTo s c + cond (towardSide s a) n 0
+pub charged-queue : (side s : RelaySide) (n : ℕ) (c : RelayCircuit) (a : Action) → a .toEndpoint ≡ toEndpoint (otherSide side)
+    → queuedTo (otherSide side) c + n ≤ top 64 → queuedTo s (charged side n c) ≡ queuedTo s c + cond (towardSide s a) n 0
 charged-queue Requester Requester n c a e l = omega (arith, ap (λ b. cond {A = ℕ} (not b) n 0) e)
 charged-queue Requester Endpoint n c a e l = omega (arith, ap (λ b. cond {A = ℕ} b n 0) e)
 charged-queue Endpoint Requester n c a e l = omega (arith, ap (λ b. cond {A = ℕ} (not b) n 0) e)

@@ -65,10 +65,12 @@ nothing-left [] h = refl
 nothing-left (x ∷ xs) h = absurd (omega arith)
 
 -- ---- one acknowledged
-ack-taken : (w : World) → Places w → (g s room : ℕ) → g ≡ generationOf w → any (actionAt g s) (w .inflight) ≡ true → acknowledgeWords ≤ room → acknowledgeTaken w g s room ≡ Taken
+ack-taken : (w : World) → Places w → (g s room : ℕ) → g ≡ generationOf w → any (actionAt g s) (w .inflight) ≡ true → acknowledgeWords ≤ room
+    → acknowledgeTaken w g s room ≡ Taken
 unfolding acknowledgeTaken generationAnswer actionAnswer
 ack-taken w H g s room e f l =
-    ap (λ (a : HnsrAnswer). a then check (not (eqb g (generationOf w))) StaleGeneration then check (not (any (actionAt g s) (w .inflight))) UnknownAction) (room-same w H room acknowledgeWords ∙ ap (λ b. check b Short) (le-ltb room acknowledgeWords l))
+    ap (λ (a : HnsrAnswer). a then check (not (eqb g (generationOf w))) StaleGeneration then check (not (any (actionAt g s) (w .inflight))) UnknownAction)
+    (room-same w H room acknowledgeWords ∙ ap (λ b. check b Short) (le-ltb room acknowledgeWords l))
     ∙ ap (λ b. check (not b) StaleGeneration then check (not (any (actionAt g s) (w .inflight))) UnknownAction) (eq-eqb g (generationOf w) e)
     ∙ ap (λ b. check (not b) UnknownAction) f
 
@@ -90,16 +92,24 @@ pub record Drained (rooms : Action → ℕ) (order : List Action) (w : World) (h
   pub places : Places (leftBy step w (map (delivered step rooms) order))
   pub low : sequenceOf (leftBy step w (map (delivered step rooms) order)) < top 64
 
-drain-one : (rooms : Action → ℕ) (a : Action) (rest : List Action) (w v : World) (h : Past) (p : Action → Bool) → step w (delivered step rooms a) ≡ done v [] → Drained rooms rest v (without h p) → Drained rooms (a ∷ rest) w h
+drain-one : (rooms : Action → ℕ) (a : Action) (rest : List Action) (w v : World) (h : Past) (p : Action → Bool) → step w (delivered step rooms a) ≡ done v []
+    → Drained rooms rest v (without h p) → Drained rooms (a ∷ rest) w h
 drain-one rooms a rest w v h p st D = record {
-  answers = subst (λ (o : Outcome). (o .answer ∷ map (λ e. e .answer) (events step (o .world) (map (delivered step rooms) rest))) ≡ replicate (length (a ∷ rest)) Taken) (sym st) (ap {B = List HnsrAnswer} (λ l. Taken ∷ l) (D .answers));
+  answers = subst (λ (o : Outcome). (o .answer ∷ map (λ e. e .answer) (events step (o .world) (map (delivered step rooms) rest))) ≡ replicate (length
+      (a ∷ rest)) Taken) (sym st) (ap {B = List HnsrAnswer} (λ l. Taken ∷ l) (D .answers));
   rel = subst (λ (o : Outcome). Rel (leftBy step (o .world) (map (delivered step rooms) rest)) (withOut h [])) (sym st) (D .rel);
   places = subst (λ (o : Outcome). Places (leftBy step (o .world) (map (delivered step rooms) rest))) (sym st) (D .places);
   low = subst (λ (o : Outcome). sequenceOf (leftBy step (o .world) (map (delivered step rooms) rest)) < top 64) (sym st) (D .low);
 }
 
-pub drain : (rooms : Action → ℕ) → ((a : Action) → acknowledgeWords ≤ rooms a) → (order : List Action) (w : World) (h : Past) → Rel w h → Places w → sequenceOf w < top 64 → Reordered order (h .out) → Drained rooms order w h
-drain rooms enough [] w h R H low s = record { answers = refl; rel = subst (λ o. Rel w (withOut h o)) (nothing-left (h .out) (sym (s (λ a. 1)))) R; places = H; low = low }
+pub drain : (rooms : Action → ℕ) → ((a : Action) → acknowledgeWords ≤ rooms a) → (order : List Action) (w : World) (h : Past) → Rel w h → Places w
+    → sequenceOf w < top 64 → Reordered order (h .out) → Drained rooms order w h
+drain rooms enough [] w h R H low s = record {
+  answers = refl;
+  rel = subst (λ o. Rel w (withOut h o)) (nothing-left (h .out) (sym (s (λ a. 1)))) R;
+  places = H;
+  low = low;
+}
 drain rooms enough (a ∷ rest) w h R H low s =
     let A = R .base .full .acts in
     let g = a .generation in
@@ -111,4 +121,5 @@ drain rooms enough (a ∷ rest) w h R H low s =
     let R₁ = shrink R (h .active) (h .opens .standing) (keep (non (numbered g q)) (h .out)) (settled-keeps w h (R .base .full) g q f) (λ i x. x) (λ i x. x) in
     let H₁ = subst (λ (o : Outcome). Places (o .world)) st (step-both R H low (callAcknowledge g q true (rooms a)) refl .1) in
     drain-one rooms a rest w (next w g q) h (numbered g q) st
-    (drain rooms enough rest (next w g q) (without h (numbered g q)) R₁ H₁ (subst (λ n. n < top 64) (sym (next-sequence w g q)) low) (rest-ordered a rest (h .out) s (both-once (A .held) g q)))
+    (drain rooms enough rest (next w g q) (without h (numbered g q)) R₁ H₁ (subst
+    (λ n. n < top 64) (sym (next-sequence w g q)) low) (rest-ordered a rest (h .out) s (both-once (A .held) g q)))

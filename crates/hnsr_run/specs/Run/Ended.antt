@@ -41,7 +41,8 @@ drop-off j i out side f = total-zero (only (onCircuit j) (weight i side)) out (�
     none-of false false y s b e = refl
 
 none-left : (j : ℕ) (out : List Action) → count (also isData (onCircuit j)) (keep (non (onCircuit j)) out) ≡ 0
-none-left j out = total-keep (one (also isData (onCircuit j))) (non (onCircuit j)) out ∙ total-zero (only (non (onCircuit j)) (one (also isData (onCircuit j)))) out (λ a. tests (isData a) (onCircuit j a))
+none-left j out = total-keep (one (also isData (onCircuit j))) (non (onCircuit j)) out
+    ∙ total-zero (only (non (onCircuit j)) (one (also isData (onCircuit j)))) out (λ a. tests (isData a) (onCircuit j a))
   where
     tests : (d x : Bool) → cond (not x) (cond {A = ℕ} (d && x) 1 0) 0 ≡ 0
     tests true true = refl
@@ -49,13 +50,15 @@ none-left j out = total-keep (one (also isData (onCircuit j))) (non (onCircuit j
     tests false true = refl
     tests false false = refl
 
-pub end-circuit : {S : ℕ → Bool} {u : World} (w : World) (h : Past) (j : ℕ) (S′ : ℕ → Bool) → ((i : ℕ) → S′ i ≡ false → eqb j i ≡ false → S i ≡ false) → Keeps S u w h → Keeps S′ u (endCircuit w j) (circuitEnded h j)
+pub end-circuit : {S : ℕ → Bool} {u : World} (w : World) (h : Past) (j : ℕ) (S′ : ℕ → Bool) → ((i : ℕ) → S′ i ≡ false → eqb j i ≡ false → S i ≡ false)
+    → Keeps S u w h → Keeps S′ u (endCircuit w j) (circuitEnded h j)
 unfolding endCircuit withoutActions dropped actionUnder
 end-circuit {S} w h j S′ sw K = record {
   full = record {
     acts = drop-acts (F .acts) (onCircuit j);
     circs = remove-circs (F .circs) j (at j false (h .active)) (λ i. refl);
-    queue = remove-queue (drop-queue (suspend (F .queue) S″ (λ i s. first (S i) (eqb j i) s)) (onCircuit j) (λ i s a side. drop-off j i (h .out) side (second (S i) (eqb j i) s))) (F .circs) j S′ (at j false (h .active)) (none-left j (h .out)) back (λ i. refl);
+    queue = remove-queue (drop-queue (suspend (F .queue) S″ (λ i s. first (S i) (eqb j i) s)) (onCircuit j)
+        (λ i s a side. drop-off j i (h .out) side (second (S i) (eqb j i) s))) (F .circs) j S′ (at j false (h .active)) (none-left j (h .out)) back (λ i. refl);
     pends = F .pends;
     disjoint = λ i s. split (eqb j i) (λ q. ap (λ b. cond b false (h .active i)) q) (λ q. ap (λ b. cond b false (h .active i)) q ∙ F .disjoint i s);
     real = λ i a. F .real i (at-false j (h .active) i a);
@@ -87,18 +90,23 @@ flip true false = refl
 flip false true = refl
 flip false false = refl
 
-pub remove-pends : {ps : List RelayPending} {st : ℕ → Bool} {kn : ℕ → Asked} → Tells pendingKeys ps st kn → (j : ℕ) → Tells pendingKeys (edit (pendingAt j) clearPending ps) (at j false st) kn
+pub remove-pends : {ps : List RelayPending} {st : ℕ → Bool} {kn : ℕ → Asked} → Tells pendingKeys ps st kn → (j : ℕ)
+    → Tells pendingKeys (edit (pendingAt j) clearPending ps) (at j false st) kn
 unfolding pendingAt
 remove-pends {ps} {st} {kn} T j = rw (edit-clear (pendingAt j) clearPending ps (T .once j))
-    (clear-tells pendingKeys T (pendingAt j) (λ i. eqb j i) (λ i a. keyed-at pendingKeys j i (pick (pendingAt i) noPending ps) (pick-has (pendingAt i) noPending ps (T .found i ∙ a)) ∙ eqb-comm i j) (at j false st) (λ i. flip (eqb j i) (st i)))
+    (clear-tells pendingKeys T (pendingAt j) (λ i. eqb j i)
+    (λ i a. keyed-at pendingKeys j i (pick (pendingAt i) noPending ps) (pick-has (pendingAt i) noPending ps (T .found i ∙ a)) ∙ eqb-comm i j) (at j false st)
+    (λ i. flip (eqb j i) (st i)))
 
-pub end-pending : {S : ℕ → Bool} {u : World} (w : World) (h : Past) (j : ℕ) → h .opens .standing j ≡ true → Keeps S u w h → Keeps S u (endPending w (pendingAt j) j) (openEnded h j)
+pub end-pending : {S : ℕ → Bool} {u : World} (w : World) (h : Past) (j : ℕ) → h .opens .standing j ≡ true → Keeps S u w h
+    → Keeps S u (endPending w (pendingAt j) j) (openEnded h j)
 unfolding endPending withoutPending withoutActions dropped actionUnder
 end-pending {S} w h j a K = record {
   full = record {
     acts = drop-acts (F .acts) (onCircuit j);
     circs = F .circs;
-    queue = drop-queue (F .queue) (onCircuit j) (λ i s t side. drop-off j i (h .out) side (split (eqb j i) (λ e. clash (ap (h .active) (eqb-true j i e) ∙ t) (F .disjoint j a)) (λ e. e)));
+    queue = drop-queue (F .queue) (onCircuit j) (λ i s t side. drop-off j i (h .out) side (split (eqb j i) (λ e. clash (ap (h .active) (eqb-true j i e)
+        ∙ t) (F .disjoint j a)) (λ e. e)));
     pends = remove-pends (F .pends) j;
     disjoint = λ i s. F .disjoint i (at-false j (h .opens .standing) i s);
     real = F .real;

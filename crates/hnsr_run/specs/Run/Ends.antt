@@ -60,44 +60,55 @@ pub circuit-there : {S : ℕ → Bool} (w : World) (h : Past) → Full S w h →
 unfolding circuitAt
 circuit-there w h F j = F .circs .found j
 
-pub pending-table : {S : ℕ → Bool} (w : World) (h : Past) → Full S w h → (j : ℕ) → edit (pendingAt j) clearPending (w .pending) ≡ clear clearPending (pendingAt j) (w .pending)
+pub pending-table : {S : ℕ → Bool} (w : World) (h : Past) → Full S w h → (j : ℕ)
+    → edit (pendingAt j) clearPending (w .pending) ≡ clear clearPending (pendingAt j) (w .pending)
 unfolding pendingAt
 pending-table w h F j = edit-clear (pendingAt j) clearPending (w .pending) (F .pends .once j)
 
-pub circuit-table : {S : ℕ → Bool} (w : World) (h : Past) → Full S w h → (j : ℕ) → edit (circuitAt j) clearCircuit (w .circuits) ≡ clear clearCircuit (circuitAt j) (w .circuits)
+pub circuit-table : {S : ℕ → Bool} (w : World) (h : Past) → Full S w h → (j : ℕ)
+    → edit (circuitAt j) clearCircuit (w .circuits) ≡ clear clearCircuit (circuitAt j) (w .circuits)
 unfolding circuitAt
 circuit-table w h F j = edit-clear (circuitAt j) clearCircuit (w .circuits) (F .circs .once j)
 
 -- what an end of a pending record has to do
 pub record EndsOne (end : World → ℕ → Sent) : Type 1 where
-  pub keeps : (S : ℕ → Bool) (u : World) (w : World) (h : Past) (j : ℕ) → Keeps S u w h → h .opens .standing j ≡ true → Keeps S u (end w j .world) (emit (openEnded h j) (end w j .routes))
-  pub about : {S : ℕ → Bool} (w : World) (h : Past) (j : ℕ) → Full S w h → h .opens .standing j ≡ true → count (non (onCircuit j)) (map (heard (h .known)) (end w j .routes)) ≡ 0
-  pub table : {S : ℕ → Bool} (w : World) (h : Past) (j : ℕ) → Full S w h → h .opens .standing j ≡ true → end w j .world .pending ≡ edit (pendingAt j) clearPending (w .pending)
+  pub keeps : (S : ℕ → Bool) (u : World) (w : World) (h : Past) (j : ℕ) → Keeps S u w h → h .opens .standing j ≡ true
+      → Keeps S u (end w j .world) (emit (openEnded h j) (end w j .routes))
+  pub about : {S : ℕ → Bool} (w : World) (h : Past) (j : ℕ) → Full S w h → h .opens .standing j ≡ true
+      → count (non (onCircuit j)) (map (heard (h .known)) (end w j .routes)) ≡ 0
+  pub table : {S : ℕ → Bool} (w : World) (h : Past) (j : ℕ) → Full S w h → h .opens .standing j ≡ true
+      → end w j .world .pending ≡ edit (pendingAt j) clearPending (w .pending)
 
 ended-pendings : (w : World) (j : ℕ) → endPending w (pendingAt j) j .pending ≡ edit (pendingAt j) clearPending (w .pending)
 unfolding endPending withoutPending withoutActions
 ended-pendings w j = refl
 
-error-id : (n : Notice) {S : ℕ → Bool} (w : World) (h : Past) → Full S w h → (j : ℕ) → h .opens .standing j ≡ true → eqb (errorToRequester n (pendingIn w j) .circuit) j ≡ true
+error-id : (n : Notice) {S : ℕ → Bool} (w : World) (h : Past) → Full S w h → (j : ℕ) → h .opens .standing j ≡ true
+    → eqb (errorToRequester n (pendingIn w j) .circuit) j ≡ true
 unfolding errorToRequester
 error-id n w h F j a = pending-id w h F j a
 
-close-id : (n : Notice) {S : ℕ → Bool} (w : World) (h : Past) → Full S w h → (j : ℕ) → h .opens .standing j ≡ true → eqb (closeToEndpoint n (pendingIn w j) .circuit) j ≡ true
+close-id : (n : Notice) {S : ℕ → Bool} (w : World) (h : Past) → Full S w h → (j : ℕ) → h .opens .standing j ≡ true
+    → eqb (closeToEndpoint n (pendingIn w j) .circuit) j ≡ true
 unfolding closeToEndpoint
 close-id n w h F j a = pending-id w h F j a
 
-other-id : (peer : HnsrPeerId) {S : ℕ → Bool} (w : World) (h : Past) → Full S w h → (j : ℕ) → h .opens .standing j ≡ true → eqb (closeToOther peer (pendingIn w j) .circuit) j ≡ true
+other-id : (peer : HnsrPeerId) {S : ℕ → Bool} (w : World) (h : Past) → Full S w h → (j : ℕ) → h .opens .standing j ≡ true
+    → eqb (closeToOther peer (pendingIn w j) .circuit) j ≡ true
 unfolding closeToOther closeToEndpoint closeToRequester
-other-id peer w h F j a = choose (λ (m : Message). eqb (m .circuit) j ≡ true) (samePeer (pendingIn w j .requester) peer) _ _ (λ e. pending-id w h F j a) (λ e. pending-id w h F j a)
+other-id peer w h F j a = choose (λ (m : Message). eqb (m .circuit) j ≡ true) (samePeer (pendingIn w j .requester) peer) _ _ (λ e. pending-id w h F j a)
+    (λ e. pending-id w h F j a)
 
 pub revoking : (n : Notice) → EndsOne (revokePending n)
 unfolding revokePending revokedPending
 revoking n = record {
   keeps = λ S u w h j K a. when-cases (λ (s : Sent). Keeps S u (s .world) (emit (openEnded h j) (s .routes))) (hasPending w j) _ w
-      (λ e. two-tells (errorToRequester n (pendingIn w j)) (closeToEndpoint n (pendingIn w j)) (endPending w (pendingAt j) j) (openEnded h j) (end-pending w h j a K) (quiet-error _ n _) (quiet-close _ n _))
+      (λ e. two-tells (errorToRequester n (pendingIn w j)) (closeToEndpoint n (pendingIn w j)) (endPending w (pendingAt j) j) (openEnded h j)
+      (end-pending w h j a K) (quiet-error _ n _) (quiet-close _ n _))
       (λ e. clash (pending-there w h (K .full) j ∙ a) e);
   about = λ w h j F a. when-cases (λ (s : Sent). count (non (onCircuit j)) (map (heard (h .known)) (s .routes)) ≡ 0) (hasPending w j) _ w
-      (λ e. two-on (h .known) (errorToRequester n (pendingIn w j)) (closeToEndpoint n (pendingIn w j)) (endPending w (pendingAt j) j) j (error-id n w h F j a) (close-id n w h F j a))
+      (λ e. two-on (h .known) (errorToRequester n (pendingIn w j)) (closeToEndpoint n (pendingIn w j)) (endPending w (pendingAt j) j) j (error-id n w h F j a)
+      (close-id n w h F j a))
       (λ e. refl);
   table = λ w h j F a. when-cases (λ (s : Sent). s .world .pending ≡ edit (pendingAt j) clearPending (w .pending)) (hasPending w j) _ w
       (λ e. two-tables (errorToRequester n (pendingIn w j)) (closeToEndpoint n (pendingIn w j)) (endPending w (pendingAt j) j) .pending ∙ ended-pendings w j)
@@ -118,11 +129,14 @@ disconnecting peer = record {
       (λ e. clash (pending-there w h F j ∙ a) e);
 }
 
-pub revoke-circuit : {S : ℕ → Bool} {u : World} (n : Notice) (w : World) (h : Past) (j : ℕ) (S′ : ℕ → Bool) → ((i : ℕ) → S′ i ≡ false → eqb j i ≡ false → S i ≡ false) → Keeps S u w h → h .active j ≡ true
+pub revoke-circuit : {S : ℕ → Bool} {u : World} (n : Notice) (w : World) (h : Past) (j : ℕ) (S′ : ℕ → Bool) → ((i : ℕ) → S′ i ≡ false → eqb j i ≡ false
+    → S i ≡ false) → Keeps S u w h → h .active j ≡ true
     → Keeps S′ u (revokeCircuit n w j .world) (emit (circuitEnded h j) (revokeCircuit n w j .routes))
 unfolding revokeCircuit revokedCircuit
-revoke-circuit {S} {u} n w h j S′ sw K a = when-cases (λ (s : Sent). Keeps S′ u (s .world) (emit (circuitEnded h j) (s .routes))) (any (circuitAt j) (w .circuits)) _ w
-    (λ e. two-tells (closeTo n (circuitIn w j .requester) j) (closeTo n (circuitIn w j .endpoint) j) (endCircuit w j) (circuitEnded h j) (end-circuit w h j S′ sw K) (quiet-to _ n _ j) (quiet-to _ n _ j))
+revoke-circuit {S} {u} n w h j S′ sw K a = when-cases
+    (λ (s : Sent). Keeps S′ u (s .world) (emit (circuitEnded h j) (s .routes))) (any (circuitAt j) (w .circuits)) _ w
+    (λ e. two-tells (closeTo n (circuitIn w j .requester) j) (closeTo n (circuitIn w j .endpoint) j) (endCircuit w j) (circuitEnded h j)
+    (end-circuit w h j S′ sw K) (quiet-to _ n _ j) (quiet-to _ n _ j))
     (λ e. clash (circuit-there w h (K .full) j ∙ a) e)
 
 pub circuit-about : (kn : ℕ → Known) (n : Notice) (w : World) (j : ℕ) → count (non (onCircuit j)) (map (heard kn) (revokeCircuit n w j .routes)) ≡ 0
@@ -135,7 +149,8 @@ ended-circuits : (w : World) (j : ℕ) → endCircuit w j .circuits ≡ edit (ci
 unfolding endCircuit withoutActions
 ended-circuits w j = refl
 
-pub circuit-ended : {S : ℕ → Bool} (n : Notice) (w : World) (h : Past) (j : ℕ) → Full S w h → h .active j ≡ true → revokeCircuit n w j .world .circuits ≡ edit (circuitAt j) clearCircuit (w .circuits)
+pub circuit-ended : {S : ℕ → Bool} (n : Notice) (w : World) (h : Past) (j : ℕ) → Full S w h → h .active j ≡ true
+    → revokeCircuit n w j .world .circuits ≡ edit (circuitAt j) clearCircuit (w .circuits)
 unfolding revokeCircuit revokedCircuit
 circuit-ended n w h j F a = when-cases (λ (s : Sent). s .world .circuits ≡ edit (circuitAt j) clearCircuit (w .circuits)) (any (circuitAt j) (w .circuits)) _ w
     (λ e. two-tables (closeTo n (circuitIn w j .requester) j) (closeTo n (circuitIn w j .endpoint) j) (endCircuit w j) .circuits ∙ ended-circuits w j)

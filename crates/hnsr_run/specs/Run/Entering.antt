@@ -44,13 +44,16 @@ use Rattle.hnsr_run.specs.Run.Rel.{Rel, Places}
 use Rattle.hnsr_run.specs.Run.Steps.{room-same, handling-data}
 
 -- ---- the side that sends
-pub side-is : (side : RelaySide) (q : Packet) {c : RelayCircuit} {k : Known} → Agrees c k → samePeer (peerOn side k) (sender q) ≡ true → (sideOf (sender q) c ≡ side) × (isSide (sender q) c ≡ true)
+pub side-is : (side : RelaySide) (q : Packet) {c : RelayCircuit} {k : Known} → Agrees c k → samePeer (peerOn side k) (sender q) ≡ true
+    → (sideOf (sender q) c ≡ side) × (isSide (sender q) c ≡ true)
 unfolding sideOf
-side-is Requester q {c} {k} A e = let f = ap (λ (p : HnsrPeerId). samePeer p (sender q)) (A .requester) ∙ e in (ap (λ b. cond {A = RelaySide} b Requester Endpoint) f, ap (λ b. b || samePeer (c .endpoint) (sender q)) f)
+side-is Requester q {c} {k} A e = let f = ap (λ (p : HnsrPeerId). samePeer p (sender q)) (A .requester) ∙ e in
+    (ap (λ b. cond {A = RelaySide} b Requester Endpoint) f, ap (λ b. b || samePeer (c .endpoint) (sender q)) f)
 side-is Endpoint q {c} {k} A e =
     let f = ap (λ (p : HnsrPeerId). samePeer p (sender q)) (A .endpoint) ∙ e in
     let n : samePeer (c .requester) (sender q) ≡ false = split (samePeer (c .requester) (sender q))
-    (λ t. clash (names-same (k .requester) (k .endpoint) (same-names (k .requester) (sender q) (sym (ap (λ (p : HnsrPeerId). samePeer p (sender q)) (A .requester)) ∙ t) ∙ sym (same-names (k .endpoint) (sender q) e))) (A .apart)) (λ t. t) in
+    (λ t. clash (names-same (k .requester) (k .endpoint) (same-names (k .requester) (sender q) (sym (ap
+    (λ (p : HnsrPeerId). samePeer p (sender q)) (A .requester)) ∙ t) ∙ sym (same-names (k .endpoint) (sender q) e))) (A .apart)) (λ t. t) in
     (ap (λ b. cond {A = RelaySide} b Requester Endpoint) n, ap (λ b. samePeer (c .requester) (sender q) || b) f ∙ or-true (samePeer (c .requester) (sender q)))
 
 pub credit-is : (side : RelaySide) {c : RelayCircuit} {k : Known} → Agrees c k → creditOf side c ≡ credit side k
@@ -74,7 +77,16 @@ has-room {w} {h} R e j p =
     let L = limits (h .head .config) (R .base .good) in
     let x = R .base .heads .config in
     taken-check (eqb (capacityLeft (configOf w) (tallied false j p t)) 0) Capacity (ne-eqb (capacityLeft (configOf w) (tallied false j p t)) 0
-    (λ z. omega (arith, L .actions, L .perCircuit, L .perPeer, ap (λ (k : OpaqueRelayConfig). k .«maximum_inflight_actions») x, ap (λ (k : OpaqueRelayConfig). k .«maximum_inflight_actions_per_circuit») x, ap (λ (k : OpaqueRelayConfig). k .«maximum_inflight_actions_per_peer») x)))
+    (λ z. omega (
+      arith,
+      L .actions,
+      L .perCircuit,
+      L .perPeer,
+      ap (λ (k : OpaqueRelayConfig). k .«maximum_inflight_actions») x,
+      ap
+          (λ (k : OpaqueRelayConfig). k .«maximum_inflight_actions_per_circuit») x,
+      ap (λ (k : OpaqueRelayConfig). k .«maximum_inflight_actions_per_peer») x,
+    )))
   where
     most : (u b : Bool) → cond {A = ℕ} (u && b) 1 0 ≤ cond u 1 0
     most true true = omega arith
@@ -88,21 +100,26 @@ has-room {w} {h} R e j p =
     twice false b d = omega arith
 
 -- ---- entry, clock and gate are passed
-module _ {w : World} {h : Past} (R : Rel w h) (H : Places w) (q : Packet) (room j : ℕ) (side : RelaySide) (active : h .active j ≡ true) (s : Sends h j side q room) where
+module _ {w : World} {h : Past} (R : Rel w h) (H : Places w) (q : Packet) (room j : ℕ) (side : RelaySide) (active : h .active j ≡ true)
+    (s : Sends h j side q room) where
   some-context : eqb (q .context) 0 ≡ false
   some-context = ap (λ x. eqb x 0) (s .context) ∙ R .base .full .real j active
 
   packet-taken : packetAnswer (q .opcode) (q .context) (length (q .body)) ≡ Taken
   unfolding packetAnswer packetChecked
-  packet-taken = ap (λ b. bodyAnswer (cond b (Err (TooLarge (packetSize (length (q .body))) mostPacket)) (cond (eqb (q .context) 0 && not (eqb (q .opcode) sampleRoutes)) (Err (Invalid ContextZero)) Ok))) (le-ltb mostPacket (packetSize (length (q .body))) (omega (arith, s .fits)))
+  packet-taken = ap (λ b. bodyAnswer (cond b (Err (TooLarge (packetSize (length (q .body))) mostPacket)) (cond (eqb (q .context) 0 && not (eqb
+      (q .opcode) sampleRoutes)) (Err (Invalid ContextZero)) Ok))) (le-ltb mostPacket (packetSize (length (q .body))) (omega (arith, s .fits)))
       ∙ ap (λ b. bodyAnswer (cond (b && not (eqb (q .opcode) sampleRoutes)) (Err (Invalid ContextZero)) Ok)) some-context
 
   entry-taken : (entryAnswer w q room then clockAnswer (w .header .«trusted_time_high_water») (q .now)) ≡ Taken
   unfolding entryAnswer peerAnswer clockAnswer
   entry-taken = taken-then (entryAnswer w q room) (clockAnswer (w .header .«trusted_time_high_water») (q .now))
-      (taken-then (roomAnswer w room handleWords) (peerAnswer (length (q .source)) then packetAnswer (q .opcode) (q .context) (length (q .body))) (room-same w H room handleWords ∙ ap (λ b. check b Short) (le-ltb room handleWords (s .words)))
-      (taken-then (peerAnswer (length (q .source))) (packetAnswer (q .opcode) (q .context) (length (q .body))) (ap (λ b. check (not b) InvalidPeer) (s .named)) packet-taken))
-      (taken-check (ltb (q .now) (w .header .«trusted_time_high_water»)) ClockRollback (le-ltb (q .now) (w .header .«trusted_time_high_water») (omega (arith, s .forward, R .base .heads .clock))))
+      (taken-then (roomAnswer w room handleWords) (peerAnswer (length (q .source)) then packetAnswer (q .opcode) (q .context) (length (q .body)))
+      (room-same w H room handleWords ∙ ap (λ b. check b Short) (le-ltb room handleWords (s .words)))
+      (taken-then (peerAnswer (length (q .source))) (packetAnswer (q .opcode) (q .context) (length (q .body))) (ap
+      (λ b. check (not b) InvalidPeer) (s .named)) packet-taken))
+      (taken-check (ltb (q .now) (w .header .«trusted_time_high_water»)) ClockRollback (le-ltb (q .now) (w .header .«trusted_time_high_water») (omega
+      (arith, s .forward, R .base .heads .clock))))
 
   on : w .header .enabled ≡ true
   on = R .base .heads .enabled ∙ split (h .head .enabled) (λ e. e) (λ e. clash active (R .quiet e j))

@@ -27,9 +27,11 @@ use Rattle.hnsr_run.specs.Run.Circuits.{Agrees, circuitKeys, none, suspe
 use Rattle.hnsr_run.specs.Run.Full.{Body}
 
 -- ---- the record changed keeps its key
-pub edit-looks : (j : ℕ) (f : RelayCircuit → RelayCircuit) (cs : List RelayCircuit) → any (circuitAt j) cs ≡ true → circuitAt j (f (pick (circuitAt j) noCircuit cs)) ≡ true → Looks circuitKeys j (f (pick (circuitAt j) noCircuit cs)) cs (edit (circuitAt j) f cs)
+pub edit-looks : (j : ℕ) (f : RelayCircuit → RelayCircuit) (cs : List RelayCircuit) → any (circuitAt j) cs ≡ true
+    → circuitAt j (f (pick (circuitAt j) noCircuit cs)) ≡ true → Looks circuitKeys j (f (pick (circuitAt j) noCircuit cs)) cs (edit (circuitAt j) f cs)
 unfolding circuitAt
-edit-looks j f cs h u = subst (λ t. Looks circuitKeys j (f (pick (circuitAt j) noCircuit cs)) cs t) (sym (edit-put (circuitAt j) f (λ c. c .used) noCircuit cs h)) (store-looks circuitKeys j (f (pick (circuitAt j) noCircuit cs)) cs u (λ x. clash h x))
+edit-looks j f cs h u = subst (λ t. Looks circuitKeys j (f (pick (circuitAt j) noCircuit cs)) cs t) (sym (edit-put (circuitAt j) f
+    (λ c. c .used) noCircuit cs h)) (store-looks circuitKeys j (f (pick (circuitAt j) noCircuit cs)) cs u (λ x. clash h x))
 
 pub charged-at : (j : ℕ) (side : RelaySide) (n : ℕ) (c : RelayCircuit) → circuitAt j (charged side n c) ≡ circuitAt j c
 unfolding circuitAt
@@ -47,17 +49,96 @@ lowered-at j Requester n c = refl
 lowered-at j Endpoint n c = refl
 
 -- ---- and agrees with what is then known
-pub charge-agrees : (side : RelaySide) (n : ℕ) {c : RelayCircuit} {k : Known} → Agrees c k → n ≤ creditOf side c → c .«forwarded_bytes» + n ≤ top 64 → Agrees (charged side n c) (sent side n k)
-charge-agrees Requester n A l m = record { requester = A .requester; endpoint = A .endpoint; apart = A .apart; reservation = A .reservation; expires = A .expires; maximum = A .maximum; total = A .total; creditR = omega (arith, A .creditR); creditE = A .creditE; forwarded = omega (arith, A .forwarded); limited = A .limited; totalled = A .totalled }
-charge-agrees Endpoint n A l m = record { requester = A .requester; endpoint = A .endpoint; apart = A .apart; reservation = A .reservation; expires = A .expires; maximum = A .maximum; total = A .total; creditR = A .creditR; creditE = omega (arith, A .creditE); forwarded = omega (arith, A .forwarded); limited = A .limited; totalled = A .totalled }
+pub charge-agrees : (side : RelaySide) (n : ℕ) {c : RelayCircuit} {k : Known} → Agrees c k → n ≤ creditOf side c → c .«forwarded_bytes» + n ≤ top 64
+    → Agrees (charged side n c) (sent side n k)
+charge-agrees Requester n A l m = record {
+  requester = A .requester;
+  endpoint = A .endpoint;
+  apart = A .apart;
+  reservation = A .reservation;
+  expires = A .expires;
+  maximum = A .maximum;
+  total = A .total;
+  creditR = omega (arith, A .creditR);
+  creditE = A .creditE;
+  forwarded = omega (arith, A .forwarded);
+  limited = A .limited;
+  totalled = A .totalled;
+}
+charge-agrees Endpoint n A l m = record {
+  requester = A .requester;
+  endpoint = A .endpoint;
+  apart = A .apart;
+  reservation = A .reservation;
+  expires = A .expires;
+  maximum = A .maximum;
+  total = A .total;
+  creditR = A .creditR;
+  creditE = omega (arith, A .creditE);
+  forwarded = omega (arith, A .forwarded);
+  limited = A .limited;
+  totalled = A .totalled;
+}
 
 pub raise-agrees : (side : RelaySide) (n : ℕ) {c : RelayCircuit} {k : Known} → Agrees c k → Agrees (raised side n c) (granted side n k)
-raise-agrees Requester n A = record { requester = A .requester; endpoint = A .endpoint; apart = A .apart; reservation = A .reservation; expires = A .expires; maximum = A .maximum; total = A .total; creditR = A .creditR; creditE = omega (arith, A .creditE); forwarded = A .forwarded; limited = A .limited; totalled = A .totalled }
-raise-agrees Endpoint n A = record { requester = A .requester; endpoint = A .endpoint; apart = A .apart; reservation = A .reservation; expires = A .expires; maximum = A .maximum; total = A .total; creditR = omega (arith, A .creditR); creditE = A .creditE; forwarded = A .forwarded; limited = A .limited; totalled = A .totalled }
+raise-agrees Requester n A = record {
+  requester = A .requester;
+  endpoint = A .endpoint;
+  apart = A .apart;
+  reservation = A .reservation;
+  expires = A .expires;
+  maximum = A .maximum;
+  total = A .total;
+  creditR = A .creditR;
+  creditE = omega (arith, A .creditE);
+  forwarded = A .forwarded;
+  limited = A .limited;
+  totalled = A .totalled;
+}
+raise-agrees Endpoint n A = record {
+  requester = A .requester;
+  endpoint = A .endpoint;
+  apart = A .apart;
+  reservation = A .reservation;
+  expires = A .expires;
+  maximum = A .maximum;
+  total = A .total;
+  creditR = omega (arith, A .creditR);
+  creditE = A .creditE;
+  forwarded = A .forwarded;
+  limited = A .limited;
+  totalled = A .totalled;
+}
 
 pub lower-agrees : (side : RelaySide) (n : ℕ) {c : RelayCircuit} {k : Known} → Agrees c k → Agrees (lowered side n c) k
-lower-agrees Requester n A = record { requester = A .requester; endpoint = A .endpoint; apart = A .apart; reservation = A .reservation; expires = A .expires; maximum = A .maximum; total = A .total; creditR = A .creditR; creditE = A .creditE; forwarded = A .forwarded; limited = A .limited; totalled = A .totalled }
-lower-agrees Endpoint n A = record { requester = A .requester; endpoint = A .endpoint; apart = A .apart; reservation = A .reservation; expires = A .expires; maximum = A .maximum; total = A .total; creditR = A .creditR; creditE = A .creditE; forwarded = A .forwarded; limited = A .limited; totalled = A .totalled }
+lower-agrees Requester n A = record {
+  requester = A .requester;
+  endpoint = A .endpoint;
+  apart = A .apart;
+  reservation = A .reservation;
+  expires = A .expires;
+  maximum = A .maximum;
+  total = A .total;
+  creditR = A .creditR;
+  creditE = A .creditE;
+  forwarded = A .forwarded;
+  limited = A .limited;
+  totalled = A .totalled;
+}
+lower-agrees Endpoint n A = record {
+  requester = A .requester;
+  endpoint = A .endpoint;
+  apart = A .apart;
+  reservation = A .reservation;
+  expires = A .expires;
+  maximum = A .maximum;
+  total = A .total;
+  creditR = A .creditR;
+  creditE = A .creditE;
+  forwarded = A .forwarded;
+  limited = A .limited;
+  totalled = A .totalled;
+}
 
 pub sent-peers : (side : RelaySide) (n : ℕ) (k : Known) (s : RelaySide) → peerOn s (sent side n k) ≡ peerOn s k
 sent-peers Requester n k Requester = refl
@@ -72,11 +153,20 @@ granted-peers Endpoint n k Requester = refl
 granted-peers Endpoint n k Endpoint = refl
 
 -- ---- the change, at all four
-module _ {S : ℕ → Bool} {c : OpaqueRelayConfig} {g next : ℕ} {ps : List RelayPending} {cs : List RelayCircuit} {t : List InflightAction} {ac : ℕ → Bool} {kn : ℕ → Known} {st : ℕ → Bool} {ask : ℕ → Asked} {out : List Action}
+module _ {S : ℕ → Bool} {c : OpaqueRelayConfig} {g next : ℕ} {ps : List RelayPending} {cs : List RelayCircuit} {t : List InflightAction} {ac : ℕ → Bool} {kn : ℕ →
+    Known} {st : ℕ → Bool} {ask : ℕ → Asked} {out : List Action}
     (F : Body S c g next ps cs t ac kn st ask out) (j : ℕ) where
   -- j, and nothing else, in suspense
   pub only-one : ((i : ℕ) → eqb j i ≡ false → S i ≡ false) → Body (λ i. eqb j i) c g next ps cs t ac kn st ask out
-  only-one sw = record { acts = F .acts; circs = F .circs; queue = suspend (F .queue) (λ i. eqb j i) sw; pends = F .pends; disjoint = F .disjoint; real = F .real; realP = F .realP }
+  only-one sw = record {
+    acts = F .acts;
+    circs = F .circs;
+    queue = suspend (F .queue) (λ i. eqb j i) sw;
+    pends = F .pends;
+    disjoint = F .disjoint;
+    real = F .real;
+    realP = F .realP;
+  }
 
   pub there : ac j ≡ true → any (circuitAt j) cs ≡ true
   unfolding circuitAt
@@ -86,27 +176,35 @@ module _ {S : ℕ → Bool} {c : OpaqueRelayConfig} {g next : ℕ} {ps : List Re
   unfolding circuitAt
   agreed a = F .circs .agree j a
 
-  pub place-circuit : S j ≡ true → ac j ≡ true → (f : RelayCircuit → RelayCircuit) (k : Known) (kn′ : ℕ → Known) → ((x : RelayCircuit) → circuitAt j (f x) ≡ circuitAt j x) → Agrees (f (pick (circuitAt j) noCircuit cs)) k
-      → ((side : RelaySide) → peerOn side k ≡ peerOn side (kn j)) → ((i : ℕ) → kn′ i ≡ cond (eqb j i) k (kn i)) → Body S c g next ps (edit (circuitAt j) f cs) t ac kn′ st ask out
+  pub place-circuit : S j ≡ true → ac j ≡ true → (f : RelayCircuit → RelayCircuit) (k : Known) (kn′ : ℕ → Known) → ((x : RelayCircuit)
+      → circuitAt j (f x) ≡ circuitAt j x) → Agrees (f (pick (circuitAt j) noCircuit cs)) k
+      → ((side : RelaySide) → peerOn side k ≡ peerOn side (kn j)) → ((i : ℕ) → kn′ i ≡ cond (eqb j i) k (kn i)) → Body S c g next ps (edit
+      (circuitAt j) f cs) t ac kn′ st ask out
   place-circuit sj a f k kn′ same A peers ek =
       let L = edit-looks j f cs (there a) (same (pick (circuitAt j) noCircuit cs) ∙ pick-has (circuitAt j) noCircuit cs (there a)) in
       record {
         acts = F .acts;
-        circs = store-tells circuitKeys (F .circs) j (f (pick (circuitAt j) noCircuit cs)) k (edit (circuitAt j) f cs) ac kn′ L A (still circuitKeys (F .circs) j a) ek;
-        queue = store-queue (F .queue) j (f (pick (circuitAt j) noCircuit cs)) k (edit (circuitAt j) f cs) ac kn′ L sj (λ u. peers) (still circuitKeys (F .circs) j a) ek;
+        circs = store-tells circuitKeys (F .circs) j (f (pick (circuitAt j) noCircuit cs)) k (edit (circuitAt j) f cs) ac kn′ L A (still circuitKeys
+            (F .circs) j a) ek;
+        queue = store-queue (F .queue) j (f (pick (circuitAt j) noCircuit cs)) k (edit (circuitAt j) f cs) ac kn′ L sj
+            (λ u. peers) (still circuitKeys (F .circs) j a) ek;
         pends = F .pends;
         disjoint = F .disjoint;
         real = F .real;
         realP = F .realP;
       }
 
-  pub looked : ac j ≡ true → (f : RelayCircuit → RelayCircuit) → ((x : RelayCircuit) → circuitAt j (f x) ≡ circuitAt j x) → pick (circuitAt j) noCircuit (edit (circuitAt j) f cs) ≡ f (pick (circuitAt j) noCircuit cs)
+  pub looked : ac j ≡ true → (f : RelayCircuit → RelayCircuit) → ((x : RelayCircuit) → circuitAt j (f x) ≡ circuitAt j x)
+      → pick (circuitAt j) noCircuit (edit (circuitAt j) f cs) ≡ f (pick (circuitAt j) noCircuit cs)
   unfolding circuitAt
-  looked a f same = edit-looks j f cs (there a) (same (pick (circuitAt j) noCircuit cs) ∙ pick-has (circuitAt j) noCircuit cs (there a)) .pickAt j ∙ ap (λ b. cond b (f (pick (circuitAt j) noCircuit cs)) (pick (circuitAt j) noCircuit cs)) (eq-eqb j j refl)
+  looked a f same = edit-looks j f cs (there a) (same (pick (circuitAt j) noCircuit cs) ∙ pick-has (circuitAt j) noCircuit cs (there a)) .pickAt j ∙ ap
+      (λ b. cond b (f (pick (circuitAt j) noCircuit cs)) (pick (circuitAt j) noCircuit cs)) (eq-eqb j j refl)
 
 -- out of suspense, once its counts are right
-pub resume-at : {c : OpaqueRelayConfig} {g next : ℕ} {ps : List RelayPending} {cs : List RelayCircuit} {t : List InflightAction} {ac : ℕ → Bool} {kn : ℕ → Known} {st : ℕ → Bool} {ask : ℕ → Asked} {out : List Action} (j : ℕ)
-    → Body (λ i. eqb j i) c g next ps cs t ac kn st ask out → ((side : RelaySide) → total (weight j side) out ≡ queuedTo side (pick (circuitAt j) noCircuit cs)) → Body none c g next ps cs t ac kn st ask out
+pub resume-at : {c : OpaqueRelayConfig} {g next : ℕ} {ps : List RelayPending} {cs : List RelayCircuit} {t : List InflightAction} {ac : ℕ → Bool} {kn : ℕ
+    → Known} {st : ℕ → Bool} {ask : ℕ → Asked} {out : List Action} (j : ℕ)
+    → Body (λ i. eqb j i) c g next ps cs t ac kn st ask out → ((side : RelaySide) → total (weight j side) out ≡ queuedTo side (pick
+    (circuitAt j) noCircuit cs)) → Body none c g next ps cs t ac kn st ask out
 resume-at {cs = cs} {out = out} j F q = record {
   acts = F .acts;
   circs = F .circs;

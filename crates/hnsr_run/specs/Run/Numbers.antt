@@ -102,21 +102,25 @@ end-circuit-counts w id c = from w refl refl c
 
 revoke-pending-counts : (n : Notice) (w : World) (id : ℕ) → CountedPart w (revokePending n w id)
 unfolding revokePending revokedPending
-revoke-pending-counts n w id = when-cases (CountedPart w) (hasPending w id) _ w (λ e. end-pending-counts w (pendingAt id) id (two-counts _ _ (endPending w (pendingAt id) id))) (λ e. stay w)
+revoke-pending-counts n w id = when-cases (CountedPart w) (hasPending w id) _ w
+    (λ e. end-pending-counts w (pendingAt id) id (two-counts _ _ (endPending w (pendingAt id) id))) (λ e. stay w)
 
 disconnect-pending-counts : (peer : HnsrPeerId) (w : World) (id : ℕ) → CountedPart w (disconnectPending peer w id)
 unfolding disconnectPending disconnectedPending
-disconnect-pending-counts peer w id = when-cases (CountedPart w) (hasPending w id) _ w (λ e. end-pending-counts w (pendingAt id) id (tell-counts _ (endPending w (pendingAt id) id))) (λ e. stay w)
+disconnect-pending-counts peer w id = when-cases (CountedPart w) (hasPending w id) _ w
+    (λ e. end-pending-counts w (pendingAt id) id (tell-counts _ (endPending w (pendingAt id) id))) (λ e. stay w)
 
 revoke-circuit-counts : (n : Notice) (w : World) (id : ℕ) → CountedPart w (revokeCircuit n w id)
 unfolding revokeCircuit revokedCircuit
-revoke-circuit-counts n w id = when-cases (CountedPart w) (any (circuitAt id) (w .circuits)) _ w (λ e. end-circuit-counts w id (two-counts _ _ (endCircuit w id))) (λ e. stay w)
+revoke-circuit-counts n w id = when-cases (CountedPart w) (any (circuitAt id) (w .circuits)) _ w
+    (λ e. end-circuit-counts w id (two-counts _ _ (endCircuit w id))) (λ e. stay w)
 
 module _ {A : Type 0} (idOf : A → ℕ) (table : World → List A) (p : A → Bool) (end : World → ℕ → Sent) (each : (w : World) (id : ℕ) → CountedPart w (end w id)) where
   walk-from-counts : (turns : ℕ) (c : Walked) (w : World) → CountedPart w (walkFrom idOf table p end turns c w)
   unfolding walkFrom
   walk-from-counts zero c w = stay w
-  walk-from-counts (suc turns) c w = let n = next idOf p c (table w) in when-cases (CountedPart w) (n .taken) _ w (λ e. onward (each w (n .id)) (walk-from-counts turns n (end w (n .id) .world))) (λ e. stay w)
+  walk-from-counts (suc turns) c w = let n = next idOf p c (table w) in
+      when-cases (CountedPart w) (n .taken) _ w (λ e. onward (each w (n .id)) (walk-from-counts turns n (end w (n .id) .world))) (λ e. stay w)
 
   walk-counts : (w : World) → CountedPart w (walk idOf table p end w)
   unfolding walk
@@ -130,7 +134,8 @@ revoke-all-counts endP p endC c w a b = onward (walk-counts pendingId pendingTab
 -- ---- handle
 open-counts : (w : World) (q : Packet) → Counted w (handleOpen w q)
 unfolding handleOpen openLapsed openGranted openBooked withOpen
-open-counts w q = proceed-counts w _ _ _ (stay w) (proceed-counts w _ _ _ (still w _ refl refl) (proceed-counts w _ _ _ (still w _ refl refl) (from w refl refl (send-counts _ _))))
+open-counts w q = proceed-counts w _ _ _ (stay w) (proceed-counts w _ _ _ (still w _ refl refl) (proceed-counts w _ _ _ (still w _ refl refl) (from w refl refl
+    (send-counts _ _))))
 
 accept-counts : (w : World) (q : Packet) → Counted w (handleAccept w q)
 unfolding handleAccept acceptWith withAccept
@@ -146,7 +151,8 @@ window-counts w q = proceed-counts w _ _ _ (stay w) (from w refl refl (send-coun
 
 close-counts : (w : World) (q : Packet) → Counted w (handleClose w q)
 unfolding handleClose closePending closeCircuit
-close-counts w q = proceed-counts w _ _ _ (stay w) (choose (Counted w) (any (namedBy (sender q) (q .context)) (w .pending)) (closePending w q (pick (namedBy (sender q) (q .context)) noPending (w .pending))) (closeCircuit w q (namedCircuit w q))
+close-counts w q = proceed-counts w _ _ _ (stay w) (choose (Counted w) (any (namedBy (sender q) (q .context)) (w .pending)) (closePending w q (pick (namedBy
+    (sender q) (q .context)) noPending (w .pending))) (closeCircuit w q (namedCircuit w q))
     (λ e. end-pending-counts w _ _ (send-counts _ _)) (λ e. end-circuit-counts w _ (send-counts _ _)))
 
 dispatch-counts : (k : Handling) (w : World) (q : Packet) → Counted w (dispatch k w q)
@@ -162,7 +168,8 @@ dispatch-counts other w q = stay w
 -- ---- acknowledge
 undelivered-counts : (k : InflightKind) (w : World) (id : ℕ) → Counted w (undelivered k w id)
 unfolding undelivered failIncoming failPending withoutPending
-undelivered-counts Incoming w id = choose (Counted w) (hasPending w id) (failPending w id (pendingIn w id)) (done w []) (λ e. from w refl refl (send-counts _ _)) (λ e. stay w)
+undelivered-counts Incoming w id = choose (Counted w) (hasPending w id) (failPending w id (pendingIn w id)) (done w []) (λ e. from w refl refl (send-counts _ _))
+    (λ e. stay w)
 undelivered-counts Opened w id = revoke-circuit-counts _ w id
 undelivered-counts Data w id = revoke-circuit-counts _ w id
 undelivered-counts Control w id = revoke-circuit-counts _ w id
@@ -178,7 +185,8 @@ abbrev Numbered : World → Outcome → Type 0
 Numbered w o = sequenceOf (o .world) ≡ cond (eqb (generationOf (o .world)) (generationOf w)) (sequenceOf w) 1 + length (o .routes)
 
 same-generation : (w : World) (o : Outcome) → Counted w o → Numbered w o
-same-generation w o c = c .sequence ∙ ap (λ b. cond b (sequenceOf w) 1 + length (o .routes)) (sym (eq-eqb (generationOf (o .world)) (generationOf w) (c .generation)))
+same-generation w o c = c .sequence ∙ ap (λ b. cond b (sequenceOf w) 1 + length (o .routes)) (sym (eq-eqb (generationOf (o .world)) (generationOf w)
+    (c .generation)))
 
 switch-counts : (w : World) (on : Bool) → Counted (switched w on) (switchTo w on)
 unfolding switchTo
@@ -186,14 +194,17 @@ switch-counts w true = stay (switched w true)
 switch-counts w false = revoke-all-counts _ _ _ _ (switched w false) (revoke-pending-counts _) (revoke-circuit-counts _)
 
 new-generation : (w : World) (on : Bool) (o : Outcome) → Counted (switched w on) o → Numbered w o
-new-generation w on o c = c .sequence ∙ ap (λ b. cond b (sequenceOf w) 1 + length (o .routes)) (sym (ne-eqb (generationOf (o .world)) (generationOf w) (λ e. omega (arith, c .generation))))
+new-generation w on o c = c .sequence ∙ ap (λ b. cond b (sequenceOf w) 1 + length (o .routes)) (sym (ne-eqb (generationOf (o .world)) (generationOf w)
+    (λ e. omega (arith, c .generation))))
 
 replace-numbered : (w : World) (expected : ℕ) (on : Bool) (room : ℕ) → Numbered w (replaceEnabled w expected on room)
 unfolding replaceEnabled proceed
-replace-numbered w expected on room = pass (roomAnswer w room (revokingWords w) then generationAnswer (generationOf w) expected then changeAnswer (generationOf w) (changes w on))
+replace-numbered w expected on room = pass (roomAnswer w room (revokingWords w) then generationAnswer (generationOf w) expected then changeAnswer (generationOf w)
+    (changes w on))
   where
     rest : Numbered w (cond (changes w on) (switchTo w on) (done w []))
-    rest = choose (Numbered w) (changes w on) (switchTo w on) (done w []) (λ e. new-generation w on (switchTo w on) (switch-counts w on)) (λ e. same-generation w (done w []) (stay w))
+    rest = choose (Numbered w) (changes w on) (switchTo w on) (done w []) (λ e. new-generation w on (switchTo w on) (switch-counts w on))
+        (λ e. same-generation w (done w []) (stay w))
 
     pass : (a : HnsrAnswer) → Numbered w (proceed w a (cond (changes w on) (switchTo w on) (done w [])))
     pass Taken = rest
@@ -205,8 +216,13 @@ step-numbered w callStatus = same-generation w (step w callStatus) (proceed-coun
 step-numbered w callNextDue = same-generation w (step w callNextDue) (proceed-counts w _ _ _ (stay w) (stay w))
 step-numbered w (callObserveTime now) = same-generation w (step w (callObserveTime now)) (proceed-counts w _ _ _ (stay w) (still w _ refl refl))
 step-numbered w (callReplaceEnabled expected on room) = replace-numbered w expected on room
-step-numbered w (callHandle q room) = same-generation w (step w (callHandle q room)) (proceed-counts w _ _ _ (stay w) (proceed-counts w _ _ _ (still w _ refl refl) (from w refl refl (dispatch-counts _ _ q))))
-step-numbered w (callAcknowledge g s delivered room) = same-generation w (step w (callAcknowledge g s delivered room)) (proceed-counts w _ _ _ (stay w) (from w refl refl (settled-counts _ _ delivered)))
-step-numbered w (callDisconnect peer room) = same-generation w (step w (callDisconnect peer room)) (proceed-counts w _ _ _ (stay w) (from w refl refl (revoke-all-counts _ _ _ _ _ (disconnect-pending-counts _) (revoke-circuit-counts _))))
-step-numbered w (callRevokeReservation id room) = same-generation w (step w (callRevokeReservation id room)) (proceed-counts w _ _ _ (stay w) (from w refl refl (revoke-all-counts _ _ _ _ _ (revoke-pending-counts _) (revoke-circuit-counts _))))
-step-numbered w (callExpire now room) = same-generation w (step w (callExpire now room)) (proceed-counts w _ _ _ (stay w) (from w refl refl (revoke-all-counts _ _ _ _ _ (revoke-pending-counts _) (revoke-circuit-counts _))))
+step-numbered w (callHandle q room) = same-generation w (step w (callHandle q room)) (proceed-counts w _ _ _ (stay w) (proceed-counts w _ _ _ (still w _ refl refl)
+    (from w refl refl (dispatch-counts _ _ q))))
+step-numbered w (callAcknowledge g s delivered room) = same-generation w (step w (callAcknowledge g s delivered room)) (proceed-counts w _ _ _ (stay w)
+    (from w refl refl (settled-counts _ _ delivered)))
+step-numbered w (callDisconnect peer room) = same-generation w (step w (callDisconnect peer room)) (proceed-counts w _ _ _ (stay w) (from w refl refl
+    (revoke-all-counts _ _ _ _ _ (disconnect-pending-counts _) (revoke-circuit-counts _))))
+step-numbered w (callRevokeReservation id room) = same-generation w (step w (callRevokeReservation id room)) (proceed-counts w _ _ _ (stay w) (from w refl refl
+    (revoke-all-counts _ _ _ _ _ (revoke-pending-counts _) (revoke-circuit-counts _))))
+step-numbered w (callExpire now room) = same-generation w (step w (callExpire now room)) (proceed-counts w _ _ _ (stay w) (from w refl refl
+    (revoke-all-counts _ _ _ _ _ (revoke-pending-counts _) (revoke-circuit-counts _))))

@@ -114,10 +114,12 @@ admitted-never false false Ok = refl
 
 pub never-admitted : (w : World) (q : Packet) → eqb (number (openAdmitted w q)) 18 ≡ false
 unfolding openAdmitted openAnswer admissionAnswer
-never-admitted w q = admitted-never (leb (configOf w .«maximum_pending») (pendingCount w) || leb (configOf w .«maximum_circuits») (circuitCount w) || leb (configOf w .«maximum_circuits_per_peer») (peerWork w (sender q)) || any (requestedBy (sender q) (q .context)) (w .pending))
+never-admitted w q = admitted-never (leb (configOf w .«maximum_pending») (pendingCount w) || leb (configOf w .«maximum_circuits») (circuitCount w) || leb
+    (configOf w .«maximum_circuits_per_peer») (peerWork w (sender q)) || any (requestedBy (sender q) (q .context)) (w .pending))
     (not (q .admission .admitted) || leb (q .admission .ticket .«expires_at») (q .now)) (decodeOpen (q .keyValid) (q .body) .result)
 
-placed-never : (a b c d e f : Bool) → eqb (number (check a InvalidPeer then check b Capacity then check c Randomness then check d Capacity then check e Deadline then check f LedgerFull)) 18 ≡ false
+placed-never : (a b c d e f : Bool)
+    → eqb (number (check a InvalidPeer then check b Capacity then check c Randomness then check d Capacity then check e Deadline then check f LedgerFull)) 18 ≡ false
 placed-never true b c d e f = refl
 placed-never false true c d e f = refl
 placed-never false false true d e f = refl
@@ -129,27 +131,39 @@ placed-never false false false false false false = refl
 pub never-placed : (w : World) (q : Packet) (o : Opening) → eqb (number (openPlaced w q o)) 18 ≡ false
 unfolding openPlaced peerAnswer endpointAnswer drawAnswer capacityAnswer deadlineAnswer ledgerAnswer
 never-placed w q o = placed-never (not (peerGood (length (q .admission .endpoint))))
-    (samePeer (o .endpoint) (o .requester) || leb (configOf w .«maximum_circuits_per_peer») (peerWork w (o .endpoint)) || leb (o .ticket .«max_active_circuits») (reservationWork w (o .body .«reservation_id»)))
-    (not (drawn w (q .random) .found)) (eqb (capacityLeft (configOf w) (tallied false (o .id) (o .endpoint) (w .inflight))) 0) (ltb (top 64) (q .now + configOf w .«accept_timeout_seconds»))
+    (samePeer (o .endpoint) (o .requester) || leb (configOf w .«maximum_circuits_per_peer») (peerWork w (o .endpoint)) || leb (o .ticket .«max_active_circuits»)
+    (reservationWork w (o .body .«reservation_id»)))
+    (not (drawn w (q .random) .found)) (eqb (capacityLeft (configOf w) (tallied false (o .id) (o .endpoint) (w .inflight))) 0) (ltb (top 64)
+    (q .now + configOf w .«accept_timeout_seconds»))
     (not (hasUsage (o .ticket .«reservation_id») (w .ledger)) && leb (length (w .ledger)) (count isUsage (w .ledger)))
 
 -- a refusal that is neither: the past stays
-pub stays : (w : World) (q : Packet) (h : Past) (a : HnsrAnswer) (e : HnsrRuntimeError) → a ≡ Refused e → eqb (number a) 18 ≡ false → Rel w h → Rel w (openIn q (Refused e) [] h)
-stays w q h a e f n R = if-not (λ (g : Past). Rel w g) (taken (Refused e)) _ _ (not-taken e) (if-not (λ (g : Past). Rel w g) (eqb (errorNumber e) 18) _ h (ap (λ (x : HnsrAnswer). eqb (number x) 18) (sym f) ∙ n) R)
+pub stays : (w : World) (q : Packet) (h : Past) (a : HnsrAnswer) (e : HnsrRuntimeError) → a ≡ Refused e → eqb (number a) 18 ≡ false → Rel w h
+    → Rel w (openIn q (Refused e) [] h)
+stays w q h a e f n R = if-not (λ (g : Past). Rel w g) (taken (Refused e)) _ _ (not-taken e) (if-not (λ (g : Past). Rel w g) (eqb (errorNumber e) 18) _ h (ap
+    (λ (x : HnsrAnswer). eqb (number x) 18) (sym f) ∙ n) R)
 
 -- ---- the ledger record
-module _ {w : World} {h : Past} (R : Rel w h) (t : RelayTicket) (l : ltb (h .head .clock) (t .«expires_at») ≡ true) (same : hasUsage (t .«reservation_id») (w .ledger) ≡ lives (h .head .clock) (h .book) (t .«reservation_id»))
+module _ {w : World} {h : Past} (R : Rel w h) (t : RelayTicket) (l : ltb (h .head .clock) (t .«expires_at») ≡ true) (same : hasUsage (t .«reservation_id»)
+    (w .ledger) ≡ lives (h .head .clock) (h .book) (t .«reservation_id»))
     (space : (not (hasUsage (t .«reservation_id») (w .ledger)) && leb (length (w .ledger)) (count isUsage (w .ledger))) ≡ false) where
-  made-live : (r : ReservationId) (e : ℕ) → lives (h .head .clock) (h .book) (t .«reservation_id») ≡ false → Live (h .head .clock) (h .book) r e → Live (h .head .clock) (made (h .book) t) r e
+  made-live : (r : ReservationId) (e : ℕ) → lives (h .head .clock) (h .book) (t .«reservation_id») ≡ false → Live (h .head .clock) (h .book) r e
+      → Live (h .head .clock) (made (h .book) t) r e
   made-live r e n L = split (sameReservation (t .«reservation_id») r)
       (λ q. clash (L .lives) (ap (lives (h .head .clock) (h .book)) (sym (same-reservation (t .«reservation_id») r q)) ∙ n))
-      (λ q. record { lives = ap (λ x. cond x true (h .book .made r) && ltb (h .head .clock) (cond x (t .«expires_at») (h .book .due r))) q ∙ L .lives; due = ap (λ x. cond x (t .«expires_at») (h .book .due r)) q ∙ L .due })
+      (λ q. record {
+        lives = ap (λ x. cond x true (h .book .made r) && ltb (h .head .clock) (cond x (t .«expires_at») (h .book .due r))) q ∙ L .lives;
+        due = ap
+            (λ x. cond x (t .«expires_at») (h .book .due r)) q ∙ L .due;
+      })
 
   has-space : hasUsage (t .«reservation_id») (w .ledger) ≡ false → any (non isUsage) (w .ledger) ≡ true
-  has-space f = room isUsage clearUsage (w .ledger) (leb-false (length (w .ledger)) (count isUsage (w .ledger)) (sym (ap (λ b. not b && leb (length (w .ledger)) (count isUsage (w .ledger))) f) ∙ space))
+  has-space f = room isUsage clearUsage (w .ledger) (leb-false (length (w .ledger)) (count isUsage (w .ledger)) (sym (ap
+      (λ b. not b && leb (length (w .ledger)) (count isUsage (w .ledger))) f) ∙ space))
 
   pub booked-rel : Rel (withLedger w (booked t (w .ledger))) (withBook h (remade (h .head .clock) (h .book) t))
-  booked-rel = choose (λ (b : Book). Rel (withLedger w (booked t (w .ledger))) (withBook h b)) (lives (h .head .clock) (h .book) (t .«reservation_id»)) (h .book) (made (h .book) t)
+  booked-rel = choose (λ (b : Book). Rel (withLedger w (booked t (w .ledger))) (withBook h b)) (lives (h .head .clock) (h .book) (t .«reservation_id»)) (h .book)
+      (made (h .book) t)
       (λ y. reledger R (booked t (w .ledger)) (book-found (R .base .books) t (same ∙ y)))
       (λ y. record {
         base = record {
@@ -157,7 +171,12 @@ module _ {w : World} {h : Past} (R : Rel w h) (t : RelayTicket) (l : ltb (h .hea
           books = book-made (R .base .books) t (same ∙ y) (has-space (same ∙ y)) l;
           kept = λ j a x. made-live (h .known j .reservation) (h .known j .expires) y (R .base .kept j a x);
           keptP = λ j a x. made-live (h .opens .asked j .ticket .«reservation_id») (h .opens .asked j .ticket .«expires_at») y (R .base .keptP j a x);
-          heads = record { generation = R .base .heads .generation; enabled = R .base .heads .enabled; clock = R .base .heads .clock; config = R .base .heads .config };
+          heads = record {
+            generation = R .base .heads .generation;
+            enabled = R .base .heads .enabled;
+            clock = R .base .heads .clock;
+            config = R .base .heads .config;
+          };
           names = R .base .names;
           good = R .base .good;
           below = R .base .below;

@@ -54,7 +54,9 @@ usage-number t u e f = check-number (not (eqb (u .«expires_at») (t .«expires_
 
 usage-expiry : (t : RelayTicket) (u : ReservationUsage) → usageAnswer t u ≡ Taken → u .«expires_at» ≡ t .«expires_at»
 unfolding usageAnswer
-usage-expiry t u e = eqb-true (u .«expires_at») (t .«expires_at») (flip (eqb (u .«expires_at») (t .«expires_at»)) (neither (not (eqb (u .«expires_at») (t .«expires_at»))) (leb (t .«max_total_bytes») (u .bytes)) (check-taken (not (eqb (u .«expires_at») (t .«expires_at»)) || leb (t .«max_total_bytes») (u .bytes)) ByteLimit e) .0))
+usage-expiry t u e = eqb-true (u .«expires_at») (t .«expires_at») (flip (eqb (u .«expires_at») (t .«expires_at»)) (neither (not (eqb (u .«expires_at»)
+    (t .«expires_at»))) (leb (t .«max_total_bytes») (u .bytes)) (check-taken (not (eqb (u .«expires_at») (t .«expires_at»)) || leb (t .«max_total_bytes»)
+    (u .bytes)) ByteLimit e) .0))
   where
     flip : (b : Bool) → not b ≡ false → b ≡ true
     flip true x = refl
@@ -76,7 +78,8 @@ few-pending : (w : World) (q : Packet) → Admitted w q → count isPending (w .
 unfolding pendingCount
 few-pending w q D = D .pending
 
-module _ {w : World} {h : Past} (R : Rel w h) (H : Places w) (low : sequenceOf w < top 64) (q : Packet) (clock : h .head .clock ≡ q .now) (on : h .head .enabled ≡ true) (ctx : eqb (q .context) 0 ≡ false) (tot : q .admission .ticket .«max_total_bytes» < top 64) where
+module _ {w : World} {h : Past} (R : Rel w h) (H : Places w) (low : sequenceOf w < top 64) (q : Packet) (clock : h .head .clock ≡ q .now)
+    (on : h .head .enabled ≡ true) (ctx : eqb (q .context) 0 ≡ false) (tot : q .admission .ticket .«max_total_bytes» < top 64) where
   abbrev ticket : RelayTicket
   ticket = q .admission .ticket
 
@@ -97,7 +100,8 @@ module _ {w : World} {h : Past} (R : Rel w h) (H : Places w) (low : sequenceOf w
     unexpired = lt-ltb (h .head .clock) (ticket .«expires_at») (omega (arith, clock, D .unexpired))
 
     alive : hasUsage (ticket .«reservation_id») (w₁ .ledger) ≡ lives (h .head .clock) (h .book) (ticket .«reservation_id»)
-    alive = subst (λ n. hasUsage (ticket .«reservation_id») (lapsed n (w .ledger)) ≡ lives (h .head .clock) (h .book) (ticket .«reservation_id»)) clock (lapsed-lives (R .base .books) (ticket .«reservation_id»))
+    alive = subst (λ n. hasUsage (ticket .«reservation_id») (lapsed n (w .ledger)) ≡ lives (h .head .clock) (h .book) (ticket .«reservation_id»)) clock
+        (lapsed-lives (R .base .books) (ticket .«reservation_id»))
 
     abbrev book₂ : Book
     book₂ = remade (h .head .clock) (h .book) ticket
@@ -123,9 +127,12 @@ module _ {w : World} {h : Past} (R : Rel w h) (H : Places w) (low : sequenceOf w
       totalled = tot;
     }
 
-    finish : usageAnswer ticket (usageOf (ticket .«reservation_id») (w₂ .ledger)) ≡ Taken → let o = send (withOpen w₂ o₁) (incomingMessage o₁) in Rel (o .world) (openIn q (o .answer) (o .routes) h)
+    finish : usageAnswer ticket (usageOf (ticket .«reservation_id») (w₂ .ledger)) ≡ Taken
+        → let o = send (withOpen w₂ o₁) (incomingMessage o₁) in Rel (o .world) (openIn q (o .answer) (o .routes) h)
     unfolding message
-    finish y = subst (λ (o : Outcome). Rel (o .world) (openIn q (o .answer) (o .routes) h)) (sym (can R₂ H₂ low o₁ k agrees on (u .0) inactive (free .some) (few-pending w q D) (D .new) (E .room) live)) (into-past (rel R₂ H₂ low o₁ k agrees on (u .0) inactive (free .some) (few-pending w q D) (D .new) (E .room) live))
+    finish y = subst (λ (o : Outcome). Rel (o .world) (openIn q (o .answer) (o .routes) h)) (sym (can R₂ H₂ low o₁ k agrees on (u .0) inactive (free .some)
+        (few-pending w q D) (D .new) (E .room) live)) (into-past (rel R₂ H₂ low o₁ k agrees on (u .0) inactive (free .some) (few-pending w q D) (D .new)
+        (E .room) live))
       where
         k : Asked
         k = askedFor (h .head .config) q
@@ -143,22 +150,32 @@ module _ {w : World} {h : Past} (R : Rel w h) (H : Places w) (low : sequenceOf w
         up = lives-remade (h .head .clock) (h .book) ticket unexpired
 
         live : Live (h .head .clock) book₂ (ticket .«reservation_id») (ticket .«expires_at»)
-        live = record { lives = up; due = sym (R₂ .base .books .stands (ticket .«reservation_id») up .expires) ∙ usage-expiry ticket (usageOf (ticket .«reservation_id») (w₂ .ledger)) y }
+        live = record {
+          lives = up;
+          due = sym (R₂ .base .books .stands (ticket .«reservation_id») up .expires)
+              ∙ usage-expiry ticket (usageOf (ticket .«reservation_id») (w₂ .ledger)) y;
+        }
 
-        into-past : Rel (queued (incomingMessage o₁) (withOpen w₂ o₁)) (emit (stood (withBook h book₂) (o₁ .id) k) (routed (incomingMessage o₁) (withOpen w₂ o₁) ∷ []))
-            → Rel (queued (incomingMessage o₁) (withOpen w₂ o₁)) (emit (stood (withBook h (remade (q .now) (h .book) ticket)) (firstContext (routed (incomingMessage o₁) (withOpen w₂ o₁) ∷ [])) k) (routed (incomingMessage o₁) (withOpen w₂ o₁) ∷ []))
-        into-past r = subst (λ j. Rel (queued (incomingMessage o₁) (withOpen w₂ o₁)) (emit (stood (withBook h (remade (q .now) (h .book) ticket)) j k) (routed (incomingMessage o₁) (withOpen w₂ o₁) ∷ []))) (incoming-context o₁)
-            (subst (λ b. Rel (queued (incomingMessage o₁) (withOpen w₂ o₁)) (emit (stood (withBook h b) (o₁ .id) k) (routed (incomingMessage o₁) (withOpen w₂ o₁) ∷ []))) later r)
+        into-past : Rel (queued (incomingMessage o₁) (withOpen w₂ o₁)) (emit (stood (withBook h book₂) (o₁ .id) k) (routed (incomingMessage o₁)
+            (withOpen w₂ o₁) ∷ []))
+            → Rel (queued (incomingMessage o₁) (withOpen w₂ o₁)) (emit (stood (withBook h (remade (q .now) (h .book) ticket)) (firstContext (routed
+            (incomingMessage o₁) (withOpen w₂ o₁) ∷ [])) k) (routed (incomingMessage o₁) (withOpen w₂ o₁) ∷ []))
+        into-past r = subst (λ j. Rel (queued (incomingMessage o₁) (withOpen w₂ o₁)) (emit (stood (withBook h (remade (q .now) (h .book) ticket)) j k) (routed
+            (incomingMessage o₁) (withOpen w₂ o₁) ∷ []))) (incoming-context o₁)
+            (subst (λ b. Rel (queued (incomingMessage o₁) (withOpen w₂ o₁)) (emit (stood (withBook h b) (o₁ .id) k) (routed (incomingMessage o₁)
+            (withOpen w₂ o₁) ∷ []))) later r)
 
     booked-refused : (e : HnsrRuntimeError) → usageAnswer ticket (usageOf (ticket .«reservation_id») (w₂ .ledger)) ≡ Refused e → Rel w₂ (openIn q (Refused e) [] h)
     booked-refused e f = if-not (λ (g : Past). Rel w₂ g) (taken (Refused e)) _ _ (not-taken e)
-        (subst (λ b. Rel w₂ (cond b (withBook h (remade (q .now) (h .book) ticket)) h)) (sym (usage-number ticket (usageOf (ticket .«reservation_id») (w₂ .ledger)) e f)) (subst (λ b. Rel w₂ (withBook h b)) later R₂))
+        (subst (λ b. Rel w₂ (cond b (withBook h (remade (q .now) (h .book) ticket)) h)) (sym (usage-number ticket (usageOf (ticket .«reservation_id»)
+        (w₂ .ledger)) e f)) (subst (λ b. Rel w₂ (withBook h b)) later R₂))
 
   pub open-keeps : let o = handleOpen w q in Rel (o .world) (openIn q (o .answer) (o .routes) h)
   unfolding handleOpen openLapsed openGranted openBooked
   open-keeps = proceed-cases P w (openAdmitted w q) (openLapsed w₁ q)
       (λ a. let D = admitted-rows w q a in proceed-cases P w₁ (openPlaced w₁ q o₁) (openBooked w₂ o₁)
-      (λ b. let E = placed-rows w₁ q o₁ b in proceed-cases P w₂ (usageAnswer ticket (usageOf (ticket .«reservation_id») (w₂ .ledger))) (send (withOpen w₂ o₁) (incomingMessage o₁)) (finish D E) (booked-refused D E))
+      (λ b. let E = placed-rows w₁ q o₁ b in proceed-cases P w₂ (usageAnswer ticket (usageOf (ticket .«reservation_id») (w₂ .ledger))) (send (withOpen w₂ o₁)
+      (incomingMessage o₁)) (finish D E) (booked-refused D E))
       (λ e f. stays w₁ q h (openPlaced w₁ q o₁) e f (never-placed w₁ q o₁) R₁))
       (λ e f. stays w q h (openAdmitted w q) e f (never-admitted w q) R)
     where

@@ -28,9 +28,12 @@ use Rattle.hnsr_run.specs.Run.Full.{AgreesP, pendingKeys, Full, Quiet, q
 use Rattle.hnsr_run.specs.Run.Rel.{Live, Rel, Places, can-queue, send-taken}
 
 -- ---- all is written, and INCOMING queued
-module _ {w : World} {h : Past} (R : Rel w h) (H : Places w) (low : sequenceOf w < top 64) (o : Opening) (k : Asked) (A : AgreesP (pendingFor o) k) (on : h .head .enabled ≡ true)
-    (unpending : any (pendingAt (o .id)) (w .pending) ≡ false) (inactive : h .active (o .id) ≡ false) (some : eqb (o .id) 0 ≡ false) (few : count isPending (w .pending) < configOf w .«maximum_pending»)
-    (new : any (requestedBy (o .requester) (o .context)) (w .pending) ≡ false) (has-room : capacityAnswer (configOf w) (tallied false (o .id) (o .endpoint) (w .inflight)) ≡ Taken)
+module _ {w : World} {h : Past} (R : Rel w h) (H : Places w) (low : sequenceOf w < top 64) (o : Opening) (k : Asked) (A : AgreesP (pendingFor o) k)
+    (on : h .head .enabled ≡ true)
+    (unpending : any (pendingAt (o .id)) (w .pending) ≡ false) (inactive : h .active (o .id) ≡ false) (some : eqb (o .id) 0 ≡ false) (few : count isPending
+    (w .pending) < configOf w .«maximum_pending»)
+    (new : any (requestedBy (o .requester) (o .context)) (w .pending) ≡ false) (has-room : capacityAnswer (configOf w) (tallied false (o .id) (o .endpoint)
+    (w .inflight)) ≡ Taken)
     (live : Live (h .head .clock) (h .book) (k .ticket .«reservation_id») (k .ticket .«expires_at»)) where
   abbrev pub j : ℕ
   j = o .id
@@ -48,23 +51,28 @@ module _ {w : World} {h : Past} (R : Rel w h) (H : Places w) (low : sequenceOf w
     acts = F .acts;
     circs = F .circs;
     queue = F .queue;
-    pends = store-tells pendingKeys (F .pends) j (pendingFor o) k (put isPending (pendingAt (o .id)) (pendingFor o) (w .pending)) (at j true (h .opens .standing)) (at j k (h .opens .asked)) looks A (λ i. refl) (λ i. refl);
-    disjoint = λ i s. split (eqb j i) (λ e. ap (h .active) (sym (eqb-true j i e)) ∙ inactive) (λ e. F .disjoint i (sym (ap (λ b. cond b true (h .opens .standing i)) e) ∙ s));
+    pends = store-tells pendingKeys (F .pends) j (pendingFor o) k (put isPending (pendingAt (o .id)) (pendingFor o) (w .pending)) (at j true (h .opens .standing))
+        (at j k (h .opens .asked)) looks A (λ i. refl) (λ i. refl);
+    disjoint = λ i s. split (eqb j i) (λ e. ap (h .active) (sym (eqb-true j i e)) ∙ inactive) (λ e. F .disjoint i (sym (ap
+        (λ b. cond b true (h .opens .standing i)) e) ∙ s));
     real = F .real;
-    realP = λ i s. split (eqb j i) (λ e. ap (λ x. eqb x 0) (sym (eqb-true j i e)) ∙ some) (λ e. F .realP i (sym (ap (λ b. cond b true (h .opens .standing i)) e) ∙ s));
+    realP = λ i s. split (eqb j i) (λ e. ap (λ x. eqb x 0) (sym (eqb-true j i e)) ∙ some) (λ e. F .realP i (sym (ap (λ b. cond b true (h .opens .standing i)) e)
+        ∙ s));
   }
 
   -- the names of the other OPENs lead where they led
   other-name : (i : ℕ) → h .opens .standing i ≡ true → (p : HnsrPeerId) → samePeer (h .opens .asked i .requester) p ≡ true
       → cond (samePeer (k .requester) p && eqb (k .context) (h .opens .asked i .context)) j (h .opens .named p (h .opens .asked i .context)) ≡ i
   unfolding requestedBy pendingAt
-  other-name i a p s = choose (λ (x : ℕ). x ≡ i) (samePeer (k .requester) p && eqb (k .context) (h .opens .asked i .context)) j (h .opens .named p (h .opens .asked i .context))
+  other-name i a p s = choose (λ (x : ℕ). x ≡ i) (samePeer (k .requester) p && eqb (k .context) (h .opens .asked i .context)) j (h .opens .named p
+      (h .opens .asked i .context))
       (λ e. let c = both (samePeer (k .requester) p) (eqb (k .context) (h .opens .asked i .context)) e in
       let B = R .base .full .pends .agree i a in
       let x = pick (pendingAt i) noPending (w .pending) in
       clash (shown pendingKeys (R .base .full .pends) (requesterNames (o .requester) (o .context)) i a
       (join (samePeer (x .requester) (o .requester)) (eqb (x .«requester_context») (o .context))
-      (names-same (x .requester) (o .requester) (ap peerBytes (B .requester) ∙ same-names (h .opens .asked i .requester) p s ∙ sym (same-names (k .requester) p (c .0)) ∙ sym (ap peerBytes (A .requester))))
+      (names-same (x .requester) (o .requester) (ap peerBytes (B .requester) ∙ same-names (h .opens .asked i .requester) p s
+      ∙ sym (same-names (k .requester) p (c .0)) ∙ sym (ap peerBytes (A .requester))))
       (eq-eqb (x .«requester_context») (o .context) (B .context ∙ sym (eqb-true (k .context) (h .opens .asked i .context) (c .1)) ∙ sym (A .context))))) new)
       (λ e. R .base .names i a p s)
 
@@ -94,18 +102,25 @@ module _ {w : World} {h : Past} (R : Rel w h) (H : Places w) (low : sequenceOf w
   unfolding queued withOpen
   rel = record {
     base = record {
-      full = queue-full (withOpen w o) (stood h (o .id) k) message full quiet-incoming (room-of (configOf w) (message .circuit) (message .destination) (withOpen w o .inflight) can-room);
+      full = queue-full (withOpen w o) (stood h (o .id) k) message full quiet-incoming (room-of (configOf w) (message .circuit) (message .destination)
+          (withOpen w o .inflight) can-room);
       books = R .base .books;
       kept = R .base .kept;
       keptP = λ i a e. split (eqb j i)
-          (λ x. subst (λ (y : Asked). Live (h .head .clock) (h .book) (y .ticket .«reservation_id») (y .ticket .«expires_at»)) (sym (ap (λ b. cond b k (h .opens .asked i)) x)) live)
-          (λ x. subst (λ (y : Asked). Live (h .head .clock) (h .book) (y .ticket .«reservation_id») (y .ticket .«expires_at»)) (sym (ap (λ b. cond b k (h .opens .asked i)) x)) (R .base .keptP i (sym (ap (λ b. cond b true (h .opens .standing i)) x) ∙ a) (ap (λ (y : Asked). ltb (h .head .clock) (y .ticket .«expires_at»)) (sym (ap (λ b. cond b k (h .opens .asked i)) x)) ∙ e)));
+          (λ x. subst (λ (y : Asked). Live (h .head .clock) (h .book) (y .ticket .«reservation_id») (y .ticket .«expires_at»)) (sym (ap
+          (λ b. cond b k (h .opens .asked i)) x)) live)
+          (λ x. subst (λ (y : Asked). Live (h .head .clock) (h .book) (y .ticket .«reservation_id») (y .ticket .«expires_at»)) (sym (ap
+          (λ b. cond b k (h .opens .asked i)) x)) (R .base .keptP i (sym (ap (λ b. cond b true (h .opens .standing i)) x) ∙ a) (ap
+          (λ (y : Asked). ltb (h .head .clock) (y .ticket .«expires_at»)) (sym (ap (λ b. cond b k (h .opens .asked i)) x)) ∙ e)));
       heads = record { generation = R .base .heads .generation; enabled = R .base .heads .enabled; clock = R .base .heads .clock; config = R .base .heads .config };
       names = λ i a p s. split (eqb j i)
           (λ x. let y = ap (λ b. cond b k (h .opens .asked i)) x in
-          subst (λ (z : Asked). samePeer (z .requester) p ≡ true → cond (samePeer (k .requester) p && eqb (k .context) (z .context)) j (h .opens .named p (z .context)) ≡ i) (sym y) (λ t. ap (λ b. cond b j (h .opens .named p (k .context))) (join (samePeer (k .requester) p) (eqb (k .context) (k .context)) t (eq-eqb (k .context) (k .context) refl)) ∙ eqb-true j i x) s)
+          subst (λ (z : Asked). samePeer (z .requester) p ≡ true → cond (samePeer (k .requester) p && eqb (k .context) (z .context)) j (h .opens .named p
+          (z .context)) ≡ i) (sym y) (λ t. ap (λ b. cond b j (h .opens .named p (k .context))) (join (samePeer (k .requester) p) (eqb (k .context)
+          (k .context)) t (eq-eqb (k .context) (k .context) refl)) ∙ eqb-true j i x) s)
           (λ x. let y = ap (λ b. cond b k (h .opens .asked i)) x in
-          subst (λ (z : Asked). samePeer (z .requester) p ≡ true → cond (samePeer (k .requester) p && eqb (k .context) (z .context)) j (h .opens .named p (z .context)) ≡ i) (sym y) (λ t. other-name i (sym (ap (λ b. cond b true (h .opens .standing i)) x) ∙ a) p t) s);
+          subst (λ (z : Asked). samePeer (z .requester) p ≡ true → cond (samePeer (k .requester) p && eqb (k .context) (z .context)) j (h .opens .named p
+          (z .context)) ≡ i) (sym y) (λ t. other-name i (sym (ap (λ b. cond b true (h .opens .standing i)) x) ∙ a) p t) s);
       good = R .base .good;
       below = R .base .below;
     };

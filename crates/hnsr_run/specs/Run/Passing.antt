@@ -41,7 +41,8 @@ use Rattle.hnsr_run.specs.Run.Rel.{Live, Rel, refused-differs, can-queue
 use Rattle.hnsr_run.specs.Run.Entering.{side-is, credit-is, peer-is, has-room}
 
 -- ---- DATA at its time
-module _ {w : World} {h : Past} (R : Rel w h) (empty : h .out ≡ []) (low : sequenceOf w < top 64) (q : Packet) (room j : ℕ) (side : RelaySide) (active : h .active j ≡ true) (s : Sends h j side q room) (clock : h .head .clock ≡ q .now) where
+module _ {w : World} {h : Past} (R : Rel w h) (empty : h .out ≡ []) (low : sequenceOf w < top 64) (q : Packet) (room j : ℕ) (side : RelaySide)
+    (active : h .active j ≡ true) (s : Sends h j side q room) (clock : h .head .clock ≡ q .now) where
   abbrev n : ℕ
   n = length (q .body)
 
@@ -74,13 +75,15 @@ module _ {w : World} {h : Past} (R : Rel w h) (empty : h .out ≡ []) (low : seq
   unfolding Within
   rows-within D =
       let x = within-top (c .«maximum_bytes») (c .«forwarded_bytes») n (subst (λ m. m < top 64) (sym (A .maximum)) (A .limited)) (D .circuitBytes) in
-      let y = within-top (c .«maximum_total_bytes») (usageOf (c .«reservation_id») (w .ledger) .bytes) n (subst (λ m. m < top 64) (sym (A .total)) (A .totalled)) (D .totalBytes) in
+      let y = within-top (c .«maximum_total_bytes») (usageOf (c .«reservation_id») (w .ledger) .bytes) n (subst
+      (λ m. m < top 64) (sym (A .total)) (A .totalled)) (D .totalBytes) in
       let z = subst (λ d. ltb (creditOf d c) n ≡ false) (sides .0) (D .credit) in
       (subst (λ m. n ≤ m) (credit-is side A) (ltb-false (creditOf side c) n z), omega (arith, A .forwarded, A .maximum), omega (arith, spent-is, A .total, s .some))
 
   answer-taken : handleData w q .answer ≡ Taken → dataTaken w q c (sideOf (sender q) c) n ≡ Taken
   unfolding handleData dataWith c proceed
-  answer-taken e = from (dataTaken w q (namedCircuit w q) (sideOf (sender q) (namedCircuit w q)) n) (send (withData w (q .context) (namedCircuit w q .«reservation_id») (sideOf (sender q) (namedCircuit w q)) n) (dataMessage q (namedCircuit w q) (sideOf (sender q) (namedCircuit w q)) n)) e
+  answer-taken e = from (dataTaken w q (namedCircuit w q) (sideOf (sender q) (namedCircuit w q)) n) (send (withData w (q .context)
+      (namedCircuit w q .«reservation_id») (sideOf (sender q) (namedCircuit w q)) n) (dataMessage q (namedCircuit w q) (sideOf (sender q) (namedCircuit w q)) n)) e
     where
       from : (a : HnsrAnswer) (o : Outcome) → proceed w a o .answer ≡ Taken → a ≡ Taken
       from Taken o h = refl
@@ -101,7 +104,8 @@ module _ {w : World} {h : Past} (R : Rel w h) (empty : h .out ≡ []) (low : seq
 
   circuit-taken : circuitAnswer (hasCircuit w (q .context)) c (sender q) ≡ Taken
   unfolding circuitAnswer
-  circuit-taken = ap (λ b. check (not b) UnknownCircuit then check (not (isSide (sender q) c)) WrongPeer) (circuit-there w h (R .base .full) (q .context) ∙ here) ∙ ap (λ b. check (not b) WrongPeer) (sides .1)
+  circuit-taken = ap (λ b. check (not b) UnknownCircuit then check (not (isSide (sender q) c)) WrongPeer) (circuit-there w h (R .base .full) (q .context) ∙ here)
+      ∙ ap (λ b. check (not b) WrongPeer) (sides .1)
 
   two-tests : (a b : Bool) (e : HnsrRuntimeError) → a ≡ false → b ≡ false → check (a || b) e ≡ Taken
   two-tests a b e x y = rw (x, y)
@@ -109,16 +113,27 @@ module _ {w : World} {h : Past} (R : Rel w h) (empty : h .out ≡ []) (low : seq
   module _ (W : (n ≤ credit side (h .known j)) × (n ≤ circuitLeft (h .known j)) × (n ≤ totalLeft (h .book) (h .known j))) where
     bytes-taken : bytesAnswer (hasUsage (c .«reservation_id») (w .ledger)) (usageOf (c .«reservation_id») (w .ledger)) c n ≡ Taken
     unfolding bytesAnswer
-    bytes-taken = ap (λ b. check (not b) InvalidAdmission then check (ltb (c .«maximum_bytes») (saturatingAdd 64 (c .«forwarded_bytes») n) || ltb (c .«maximum_total_bytes») (saturatingAdd 64 (usageOf (c .«reservation_id») (w .ledger) .bytes) n)) ByteLimit) there
-        ∙ two-tests (ltb (c .«maximum_bytes») (saturatingAdd 64 (c .«forwarded_bytes») n)) (ltb (c .«maximum_total_bytes») (saturatingAdd 64 (usageOf (c .«reservation_id») (w .ledger) .bytes) n)) ByteLimit
-        (le-ltb (c .«maximum_bytes») (saturatingAdd 64 (c .«forwarded_bytes») n) (top-within (c .«maximum_bytes») (c .«forwarded_bytes») n (omega (arith, W .1, A .forwarded, A .maximum, s .some))))
-        (le-ltb (c .«maximum_total_bytes») (saturatingAdd 64 (usageOf (c .«reservation_id») (w .ledger) .bytes) n) (top-within (c .«maximum_total_bytes») (usageOf (c .«reservation_id») (w .ledger) .bytes) n (omega (arith, W .2, spent-is, A .total, s .some))))
+    bytes-taken = ap (λ b. check (not b) InvalidAdmission then check (ltb (c .«maximum_bytes») (saturatingAdd 64 (c .«forwarded_bytes») n) || ltb
+        (c .«maximum_total_bytes») (saturatingAdd 64 (usageOf (c .«reservation_id») (w .ledger) .bytes) n)) ByteLimit) there
+        ∙ two-tests (ltb (c .«maximum_bytes») (saturatingAdd 64 (c .«forwarded_bytes») n)) (ltb (c .«maximum_total_bytes») (saturatingAdd 64 (usageOf
+        (c .«reservation_id») (w .ledger) .bytes) n)) ByteLimit
+        (le-ltb (c .«maximum_bytes») (saturatingAdd 64 (c .«forwarded_bytes») n) (top-within (c .«maximum_bytes») (c .«forwarded_bytes») n (omega
+        (arith, W .1, A .forwarded, A .maximum, s .some))))
+        (le-ltb (c .«maximum_total_bytes») (saturatingAdd 64 (usageOf (c .«reservation_id») (w .ledger) .bytes) n) (top-within (c .«maximum_total_bytes») (usageOf
+        (c .«reservation_id») (w .ledger) .bytes) n (omega (arith, W .2, spent-is, A .total, s .some))))
 
     flow-taken : (d : RelaySide) → d ≡ side → flowAnswer (configOf w) c d n ≡ Taken
     unfolding flowAnswer
     flow-taken d e = two-tests (ltb (creditOf d c) n) (ltb (configOf w .«maximum_queue_bytes») (saturatingAdd 64 (queuedTo (otherSide d) c) n)) FlowControl
         (subst (λ x. ltb (creditOf x c) n ≡ false) (sym e) (le-ltb (creditOf side c) n (subst (λ m. n ≤ m) (sym (credit-is side A)) (W .0))))
-        (le-ltb (configOf w .«maximum_queue_bytes») (saturatingAdd 64 (queuedTo (otherSide d) c) n) (top-within (configOf w .«maximum_queue_bytes») (queuedTo (otherSide d) c) n (omega (arith, queue-empty (otherSide d), s .queue, ap (λ (k : OpaqueRelayConfig). k .«maximum_queue_bytes») (R .base .heads .config)))))
+        (le-ltb (configOf w .«maximum_queue_bytes») (saturatingAdd 64 (queuedTo (otherSide d) c) n) (top-within (configOf w .«maximum_queue_bytes») (queuedTo
+        (otherSide d) c) n (omega (
+          arith,
+          queue-empty (otherSide d),
+          s .queue,
+          ap
+              (λ (k : OpaqueRelayConfig). k .«maximum_queue_bytes») (R .base .heads .config),
+        ))))
 
     data-taken : dataTaken w q c (sideOf (sender q) c) n ≡ Taken
     unfolding dataTaken
@@ -141,7 +156,8 @@ module _ {w : World} {h : Past} (R : Rel w h) (empty : h .out ≡ []) (low : seq
 
     sent-taken : send v m ≡ done (queued m v) (routed m v ∷ [])
     unfolding withData dataMessage c
-    sent-taken = send-taken v m (can-queue m v (ap (λ x. eqb x 0) (s .context) ∙ R .base .full .real j active) low (has-room R empty (q .context) (receiver (namedCircuit w q) (sender q))))
+    sent-taken = send-taken v m (can-queue m v (ap (λ x. eqb x 0) (s .context)
+        ∙ R .base .full .real j active) low (has-room R empty (q .context) (receiver (namedCircuit w q) (sender q))))
 
     outcome : handleData w q ≡ done (queued m v) (routed m v ∷ [])
     unfolding handleData dataWith c proceed

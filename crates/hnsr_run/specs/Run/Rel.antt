@@ -48,12 +48,14 @@ pub record Base (S : ℕ → Bool) (w : World) (h : Past) : Type 0 where
   pub full : Full S w h
   pub books : Books (w .ledger) (h .head .clock) (h .book)
   -- what is not past its expiry has its reservation living, due at its own expiry
-  pub kept : (j : ℕ) → h .active j ≡ true → ltb (h .head .clock) (h .known j .expires) ≡ true → Live (h .head .clock) (h .book) (h .known j .reservation) (h .known j .expires)
+  pub kept : (j : ℕ) → h .active j ≡ true → ltb (h .head .clock) (h .known j .expires) ≡ true
+      → Live (h .head .clock) (h .book) (h .known j .reservation) (h .known j .expires)
   pub keptP : (j : ℕ) → h .opens .standing j ≡ true → ltb (h .head .clock) (h .opens .asked j .ticket .«expires_at») ≡ true
       → Live (h .head .clock) (h .book) (h .opens .asked j .ticket .«reservation_id») (h .opens .asked j .ticket .«expires_at»)
   pub heads : Heads w (h .head)
   -- the requester's context leads to the id
-  pub names : (j : ℕ) → h .opens .standing j ≡ true → (p : HnsrPeerId) → samePeer (h .opens .asked j .requester) p ≡ true → h .opens .named p (h .opens .asked j .context) ≡ j
+  pub names : (j : ℕ) → h .opens .standing j ≡ true → (p : HnsrPeerId) → samePeer (h .opens .asked j .requester) p ≡ true
+      → h .opens .named p (h .opens .asked j .context) ≡ j
   pub good : configGood (h .head .config) ≡ true
   pub below : h .head .config .«maximum_bytes_per_circuit» < top 64
 
@@ -70,7 +72,8 @@ pub record Places (w : World) : Type 0 where
   pub inflight : configOf w .«maximum_inflight_actions» ≤ length (w .inflight)
 
 -- ---- answers
-pub proceed-cases : (P : Outcome → Type 0) (w : World) (a : HnsrAnswer) (o : Outcome) → (a ≡ Taken → P o) → ((e : HnsrRuntimeError) → a ≡ Refused e → P (refuse w e)) → P (proceed w a o)
+pub proceed-cases : (P : Outcome → Type 0) (w : World) (a : HnsrAnswer) (o : Outcome) → (a ≡ Taken → P o) → ((e : HnsrRuntimeError) → a ≡ Refused e
+    → P (refuse w e)) → P (proceed w a o)
 unfolding proceed
 proceed-cases P w Taken o t f = t refl
 proceed-cases P w (Refused e) o t f = f e refl
@@ -92,15 +95,19 @@ pub if-taken : {A : Type 0} (P : A → Type 0) (e : HnsrRuntimeError) (x y : A) 
 if-taken P e x y p = subst (λ b. P (cond b x y)) (sym (not-taken e)) p
 
 -- ---- queueing: 10 alone refuses, where the context is not zero and the sequence is below its top
-queue-cases : (b : Bool) (n : ℕ) (x : Bool) → b ≡ false → eqb n (top 64) ≡ false → ((check b (Protocol (Invalid ContextZero)) then check x Capacity then check (eqb n (top 64)) GenerationExhausted) ≡ Taken) ⊎ ((check b (Protocol (Invalid ContextZero)) then check x Capacity then check (eqb n (top 64)) GenerationExhausted) ≡ Refused Capacity)
+queue-cases : (b : Bool) (n : ℕ) (x : Bool) → b ≡ false → eqb n (top 64) ≡ false
+    → ((check b (Protocol (Invalid ContextZero)) then check x Capacity then check (eqb n (top 64)) GenerationExhausted) ≡ Taken) ⊎ ((check b (Protocol
+    (Invalid ContextZero)) then check x Capacity then check (eqb n (top 64)) GenerationExhausted) ≡ Refused Capacity)
 queue-cases b n true e f = rw e (inr refl)
 queue-cases b n false e f = rw (e, f) (inl refl)
 
 pub can-or-full : (m : Message) (w : World) → eqb (m .context) 0 ≡ false → sequenceOf w < top 64 → (canQueue m w ≡ Taken) ⊎ (canQueue m w ≡ Refused Capacity)
 unfolding canQueue queueAnswer capacityAnswer
-can-or-full m w e l = queue-cases (eqb (m .context) 0) (sequenceOf w) (eqb (capacityLeft (configOf w) (tallied false (m .circuit) (m .destination) (w .inflight))) 0) e (ne-eqb (sequenceOf w) (top 64) (λ q. omega arith))
+can-or-full m w e l = queue-cases (eqb (m .context) 0) (sequenceOf w) (eqb (capacityLeft (configOf w) (tallied false (m .circuit) (m .destination)
+    (w .inflight))) 0) e (ne-eqb (sequenceOf w) (top 64) (λ q. omega arith))
 
-pub can-queue : (m : Message) (w : World) → eqb (m .context) 0 ≡ false → sequenceOf w < top 64 → capacityAnswer (configOf w) (tallied false (m .circuit) (m .destination) (w .inflight)) ≡ Taken → canQueue m w ≡ Taken
+pub can-queue : (m : Message) (w : World) → eqb (m .context) 0 ≡ false → sequenceOf w < top 64
+    → capacityAnswer (configOf w) (tallied false (m .circuit) (m .destination) (w .inflight)) ≡ Taken → canQueue m w ≡ Taken
 unfolding canQueue queueAnswer
 can-queue m w e l c = rw (e, c, ne-eqb (sequenceOf w) (top 64) (λ q. omega arith))
 
@@ -113,7 +120,8 @@ unfolding send proceed
 send-full w m h = rw h
 
 -- sent, or refused with 10
-pub send-cases : (P : Outcome → Type 0) (w : World) (m : Message) → eqb (m .context) 0 ≡ false → sequenceOf w < top 64 → (canQueue m w ≡ Taken → P (done (queued m w) (routed m w ∷ []))) → P (refuse w Capacity) → P (send w m)
+pub send-cases : (P : Outcome → Type 0) (w : World) (m : Message) → eqb (m .context) 0 ≡ false → sequenceOf w < top 64 → (canQueue m w ≡ Taken
+    → P (done (queued m w) (routed m w ∷ []))) → P (refuse w Capacity) → P (send w m)
 send-cases P w m e l t f = pick-one (can-or-full m w e l)
   where
     pick-one : (canQueue m w ≡ Taken) ⊎ (canQueue m w ≡ Refused Capacity) → P (send w m)
@@ -126,10 +134,23 @@ emit-nothing {w} {h} R = subst (λ o. Rel w (withOut h o)) (sym (append-nil (h .
 
 -- ---- records end, actions come and go; the rest stays
 pub heads-rest : {w v : World} {d : Head} → Rest w v → Heads w d → Heads v d
-heads-rest r s = record { generation = r .generation ∙ s .generation; enabled = r .enabled ∙ s .enabled; clock = r .clock ∙ s .clock; config = r .config ∙ s .config }
+heads-rest r s = record {
+  generation = r .generation ∙ s .generation;
+  enabled = r .enabled ∙ s .enabled;
+  clock = r .clock ∙ s .clock;
+  config = r .config
+      ∙ s .config;
+}
 
 abbrev pub fewer : Past → (ac st : ℕ → Bool) → List Action → Past
-fewer h ac st out = record { head = h .head; active = ac; known = h .known; opens = record { standing = st; asked = h .opens .asked; named = h .opens .named }; book = h .book; out = out }
+fewer h ac st out = record {
+  head = h .head;
+  active = ac;
+  known = h .known;
+  opens = record { standing = st; asked = h .opens .asked; named = h .opens .named };
+  book = h .book;
+  out = out;
+}
 
 pub shrink-base : {S : ℕ → Bool} {w : World} {h : Past} → Base S w h → {v : World} (ac st : ℕ → Bool) (out : List Action) → Keeps none w v (fewer h ac st out)
     → ((i : ℕ) → ac i ≡ true → h .active i ≡ true) → ((i : ℕ) → st i ≡ true → h .opens .standing i ≡ true) → Base none v (fewer h ac st out)
@@ -154,7 +175,11 @@ shrink {w} {h} R {v} ac st out K l m = record {
 
 -- ---- the clock
 live-later : {now t : ℕ} {b : Book} {r : ReservationId} {e : ℕ} → Live now b r e → ltb t e ≡ true → Live t b r e
-live-later {now} {t} {b} {r} {e} k l = record { lives = join (b .made r) (ltb t (b .due r)) (both (b .made r) (ltb now (b .due r)) (k .lives) .0) (ap (ltb t) (k .due) ∙ l); due = k .due }
+live-later {now} {t} {b} {r} {e} k l = record {
+  lives = join (b .made r) (ltb t (b .due r)) (both (b .made r) (ltb now (b .due r)) (k .lives) .0) (ap (ltb t)
+      (k .due) ∙ l);
+  due = k .due;
+}
 
 earlier : (n t e : ℕ) → n ≤ t → ltb t e ≡ true → ltb n e ≡ true
 earlier n t e l h = lt-ltb n e (omega (arith, ltb-true t e h))

@@ -45,7 +45,8 @@ activeOn h a = h .active (a .circuit)
 abbrev placed : Action → ℕ
 placed a = a .circuit
 
-module _ (end : World → ℕ → Sent) (E : EndsOne end) (Q : RelayPending → Bool) (q : Asked → Bool) (same-q : (x : RelayPending) (k : Asked) → AgreesP x k → Q x ≡ q k) (S : ℕ → Bool) (u : World) where
+module _ (end : World → ℕ → Sent) (E : EndsOne end) (Q : RelayPending → Bool) (q : Asked → Bool) (same-q : (x : RelayPending)
+    (k : Asked) → AgreesP x k → Q x ≡ q k) (S : ℕ → Bool) (u : World) where
   abbrev J : Past → List Route → Type 0
   J h rs = count (activeOn h) (map (heard (h .known)) rs) ≡ 0
 
@@ -74,9 +75,11 @@ module _ (end : World → ℕ → Sent) (E : EndsOne end) (Q : RelayPending → 
       f = heard (h .known)
 
       outs : partedOpens (emit (openEnded h m) (end w m .routes)) q rs .out ≡ partedOpens h q (end w m .routes ++ rs) .out
-      outs = one-goes placed q (h .opens .standing) (h .opens .asked) m a s (h .out) (map f (end w m .routes)) (map f rs) (E .about w h m (K .full) a) ∙ ap (λ l. keep (non (goneOpen h q)) (h .out) ++ l) (sym (map-append f (end w m .routes) rs))
+      outs = one-goes placed q (h .opens .standing) (h .opens .asked) m a s (h .out) (map f (end w m .routes)) (map f rs) (E .about w h m (K .full) a) ∙ ap
+          (λ l. keep (non (goneOpen h q)) (h .out) ++ l) (sym (map-append f (end w m .routes) rs))
 
-  J-open : (w : World) (h : Past) (m : ℕ) (rs : List Route) → Keeps S u w h → h .opens .standing m ≡ true → J (emit (openEnded h m) (end w m .routes)) rs → J h (end w m .routes ++ rs)
+  J-open : (w : World) (h : Past) (m : ℕ) (rs : List Route) → Keeps S u w h → h .opens .standing m ≡ true → J (emit (openEnded h m) (end w m .routes)) rs
+      → J h (end w m .routes ++ rs)
   J-open w h m rs K a j =
       let f = heard (h .known) in
       let r = map f (end w m .routes) in
@@ -86,7 +89,8 @@ module _ (end : World → ℕ → Sent) (E : EndsOne end) (Q : RelayPending → 
       ap (count (activeOn h)) (map-append f (end w m .routes) rs) ∙ omega (arith, total-append (one (activeOn h)) r (map f rs), E .about w h m (K .full) a)
 
   pub walk-pending : (p : RelayPending → Bool) → ((x : RelayPending) → p x ≡ (x .used && Q x)) → (w : World) (h : Past) → Keeps S u w h
-      → Keeps S u (walk pendingId pendingTable p end w .world) (partedOpens h q (walk pendingId pendingTable p end w .routes)) × J h (walk pendingId pendingTable p end w .routes)
+      → Keeps S u (walk pendingId pendingTable p end w .world) (partedOpens h q (walk pendingId pendingTable p end w .routes)) × J h
+      (walk pendingId pendingTable p end w .routes)
   unfolding pendingAt
   walk-pending p same w h K = walked pendingKeys (λ i j. refl) Q q same-q pendingTable end (Keeps S u) (λ h. h .opens .standing) (λ h. h .opens .asked)
       (λ h m rs. emit (openEnded h m) rs) (λ h rs. partedOpens h q rs) J
@@ -135,10 +139,12 @@ module _ (n : Notice) (Q : RelayCircuit → Bool) (q : Known → Bool) (same-q :
       f = heard (h .known)
 
       outs : partedCircuits (emit (circuitEnded h m) (revokeCircuit n w m .routes)) q rs .out ≡ partedCircuits h q (revokeCircuit n w m .routes ++ rs) .out
-      outs = one-goes placed q (h .active) (h .known) m a s (h .out) (map f (revokeCircuit n w m .routes)) (map f rs) (circuit-about (h .known) n w m) ∙ ap (λ l. keep (non (goneCircuit h q)) (h .out) ++ l) (sym (map-append f (revokeCircuit n w m .routes) rs))
+      outs = one-goes placed q (h .active) (h .known) m a s (h .out) (map f (revokeCircuit n w m .routes)) (map f rs) (circuit-about (h .known) n w m) ∙ ap
+          (λ l. keep (non (goneCircuit h q)) (h .out) ++ l) (sym (map-append f (revokeCircuit n w m .routes) rs))
 
   pub walk-circuits : (p : RelayCircuit → Bool) → ((x : RelayCircuit) → p x ≡ (x .used && Q x)) → (w : World) (h : Past) → Going w h
-      → Keeps (λ i. q (h .known i)) u (walk circuitId circuitTable p (revokeCircuit n) w .world) (partedCircuits h q (walk circuitId circuitTable p (revokeCircuit n) w .routes))
+      → Keeps (λ i. q (h .known i)) u (walk circuitId circuitTable p (revokeCircuit n) w .world) (partedCircuits h q (walk circuitId circuitTable p
+      (revokeCircuit n) w .routes))
   unfolding circuitAt
   walk-circuits p same w h K = walked circuitKeys (λ i j. refl) Q q same-q circuitTable (revokeCircuit n) Going (λ h. h .active) (λ h. h .known)
       (λ h m rs. emit (circuitEnded h m) rs) (λ h rs. partedCircuits h q rs) (λ h rs. Unit {0})
@@ -180,12 +186,15 @@ both-path h qo qc r rs z = λ i. record {
         off false y e = refl
 
     outs : partedCircuits (partedOpens h qo r) qc rs .out ≡ revoked h qo qc (r ++ rs) .out
-    outs = ap (λ l. l ++ map f rs) (keep-append (non (goneCircuit h qc)) stays (map f r) ∙ ap (λ l. keep (non (goneCircuit h qc)) stays ++ l) (keep-whole (non (goneCircuit h qc)) (non (activeOn h)) (map f r) idle unmoved))
+    outs = ap (λ l. l ++ map f rs) (keep-append (non (goneCircuit h qc)) stays (map f r) ∙ ap
+        (λ l. keep (non (goneCircuit h qc)) stays ++ l) (keep-whole (non (goneCircuit h qc)) (non (activeOn h)) (map f r) idle unmoved))
         ∙ append-assoc (keep (non (goneCircuit h qc)) stays) (map f r) (map f rs) ∙ ap (λ l. keep (non (goneCircuit h qc)) stays ++ l) (sym (map-append f r rs))
 
 pub revoke-all : {S : ℕ → Bool} {u : World} (w : World) (h : Past) (end : World → ℕ → Sent) → EndsOne end → (n : Notice)
-    → (p : RelayPending → Bool) (Q : RelayPending → Bool) (qo : Asked → Bool) → ((x : RelayPending) → p x ≡ (x .used && Q x)) → ((x : RelayPending) (k : Asked) → AgreesP x k → Q x ≡ qo k)
-    → (c : RelayCircuit → Bool) (C : RelayCircuit → Bool) (qc : Known → Bool) → ((x : RelayCircuit) → c x ≡ (x .used && C x)) → ((x : RelayCircuit) (k : Known) → Agrees x k → C x ≡ qc k)
+    → (p : RelayPending → Bool) (Q : RelayPending → Bool) (qo : Asked → Bool) → ((x : RelayPending) → p x ≡ (x .used && Q x)) → ((x : RelayPending)
+    (k : Asked) → AgreesP x k → Q x ≡ qo k)
+    → (c : RelayCircuit → Bool) (C : RelayCircuit → Bool) (qc : Known → Bool) → ((x : RelayCircuit) → c x ≡ (x .used && C x)) → ((x : RelayCircuit)
+    (k : Known) → Agrees x k → C x ≡ qc k)
     → ((i : ℕ) → S i ≡ true → h .active i ≡ true → qc (h .known i) ≡ true) → Keeps S u w h
     → Keeps none u (revokeAll end p (revokeCircuit n) c w .world) (revoked h qo qc (revokeAll end p (revokeCircuit n) c w .routes))
 unfolding revokeAll
@@ -193,6 +202,13 @@ revoke-all {S} {u} w h end E n p Q qo ep sp c C qc ec sc sus K =
     let a = walk-pending end E Q qo sp S u p ep w h K in
     let first = walk pendingId pendingTable p end w in
     let g = partedOpens h qo (first .routes) in
-    let b = walk-circuits n C qc sc u c ec (first .world) g (record { full = suspending (λ j s t. split (S j) (λ x. clash (sus j x t) s) (λ x. x)) (a .0 .full); rest = a .0 .rest }) in
+    let b = walk-circuits n C qc sc u c ec (first .world) g (record {
+      full = suspending (λ j s t. split (S j) (λ x. clash (sus j x t) s) (λ x. x)) (a .0 .full);
+      rest = a .0 .rest;
+    }) in
     let second = walk circuitId circuitTable c (revokeCircuit n) (first .world) in
-    subst (λ k. Keeps none u (second .world) k) (both-path h qo qc (first .routes) (second .routes) (a .1)) (record { full = suspending (λ j s t. not-true (qc (h .known j)) (both (h .active j) (not (qc (h .known j))) t .1)) (b .full); rest = b .rest })
+    subst (λ k. Keeps none u (second .world) k) (both-path h qo qc (first .routes) (second .routes) (a .1)) (record {
+      full = suspending
+          (λ j s t. not-true (qc (h .known j)) (both (h .active j) (not (qc (h .known j))) t .1)) (b .full);
+      rest = b .rest;
+    })

@@ -53,21 +53,26 @@ same-config h callStatus a rs = refl
 same-config h callNextDue a rs = refl
 same-config h (callObserveTime now) a rs = choose (Same (h .head .config)) (taken a) _ h (λ x. refl) (λ x. refl)
 same-config h (callReplaceEnabled expected on room) a rs = choose (Same (h .head .config)) (taken a) _ h
-    (λ x. choose (Same (h .head .config)) (Bool·beq (h .head .enabled) on) h _ (λ y. refl) (λ y. choose (Same (h .head .config)) on _ _ (λ z. refl) (λ z. refl))) (λ x. refl)
+    (λ x. choose (Same (h .head .config)) (Bool·beq (h .head .enabled) on) h _ (λ y. refl) (λ y. choose (Same (h .head .config)) on _ _ (λ z. refl) (λ z. refl)))
+    (λ x. refl)
 same-config h (callHandle q room) a rs = choose (Same (h .head .config)) (taken (entered h q room)) _ h
-    (λ x. choose (Same (h .head .config)) (h .head .enabled) _ _ (λ y. same-handled (h .head .config) (handlingOf (q .opcode)) q a rs _ refl) (λ y. refl)) (λ x. refl)
+    (λ x. choose (Same (h .head .config)) (h .head .enabled) _ _ (λ y. same-handled (h .head .config) (handlingOf (q .opcode)) q a rs _ refl) (λ y. refl))
+    (λ x. refl)
 same-config h (callAcknowledge g s delivered room) a rs = choose (Same (h .head .config)) (ends a) _ h
-    (λ x. choose (Same (h .head .config)) delivered _ _ (λ y. refl) (λ y. same-failed (h .head .config) (without h (numbered g s)) (pick (numbered g s) nothing (h .out)) refl)) (λ x. refl)
+    (λ x. choose (Same (h .head .config)) delivered _ _ (λ y. refl)
+    (λ y. same-failed (h .head .config) (without h (numbered g s)) (pick (numbered g s) nothing (h .out)) refl)) (λ x. refl)
 same-config h (callDisconnect peer room) a rs = choose (Same (h .head .config)) (taken a) _ h (λ x. refl) (λ x. refl)
 same-config h (callRevokeReservation id room) a rs = choose (Same (h .head .config)) (taken a) _ h (λ x. refl) (λ x. refl)
 same-config h (callExpire now room) a rs = choose (Same (h .head .config)) (taken a) _ h (λ x. refl) (λ x. refl)
 
 -- ---- one step, and a run
-pub step-both : {w : World} {h : Past} → Rel w h → Places w → sequenceOf w < top 64 → (c : Call) → limitsBelow c ≡ true → Rel (step w c .world) (after h c (step w c .answer) (step w c .routes)) × Places (step w c .world)
+pub step-both : {w : World} {h : Past} → Rel w h → Places w → sequenceOf w < top 64 → (c : Call) → limitsBelow c ≡ true
+    → Rel (step w c .world) (after h c (step w c .answer) (step w c .routes)) × Places (step w c .world)
 step-both {w} {h} R H low c lim =
     let R₁ = step-keeps R H low c lim in
     let m = step-places w c in
-    let e : configOf (step w c .world) ≡ configOf w = R₁ .base .heads .config ∙ same-config h c (step w c .answer) (step w c .routes) ∙ sym (R .base .heads .config) in (
+    let e : configOf (step w c .world) ≡ configOf w = R₁ .base .heads .config ∙ same-config h c (step w c .answer) (step w c .routes)
+    ∙ sym (R .base .heads .config) in (
       R₁,
       record {
         pending = omega (arith, H .pending, m .pending, ap (λ (k : OpaqueRelayConfig). k .«maximum_pending») e);
@@ -79,7 +84,8 @@ step-both {w} {h} R H low c lim =
 -- the sequence is what the events tell
 pub sequence-is : {w : World} {h : Past} → Rel w h → (c : Call) (n : ℕ) → Rel (step w c .world) (after h c (step w c .answer) (step w c .routes)) → sequenceOf w ≡ n
     → sequenceOf (step w c .world) ≡ sequenceAfter h n (record { call = c; answer = step w c .answer; routes = step w c .routes })
-sequence-is {w} {h} R c n R₁ e = step-numbered w c ∙ λ i. cond (eqb (R₁ .base .heads .generation i) (R .base .heads .generation i)) (e i) 1 + length (step w c .routes)
+sequence-is {w} {h} R c n R₁ e = step-numbered w c ∙ λ i. cond (eqb (R₁ .base .heads .generation i) (R .base .heads .generation i)) (e i) 1 + length
+    (step w c .routes)
 
 pub run-both : (cs : List Call) (w : World) (h : Past) (n : ℕ) → Rel w h → Places w → sequenceOf w ≡ n → below h n (events step w cs) ≡ true
     → Rel (leftBy step w cs) (reckon h (events step w cs)) × Places (leftBy step w cs) × (sequenceOf (leftBy step w cs) < top 64)

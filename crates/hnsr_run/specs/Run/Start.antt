@@ -37,7 +37,8 @@ use Rattle.hnsr_run.specs.Run.Actions.{view}
 use Rattle.hnsr_run.specs.Run.Rel.{Rel, Places, refused-differs}
 
 -- ---- `new` marks every place unused
-module _ {A : Type 0} (used : A → Bool) (unmark : A → A) (off : (a : A) → used (unmark a) ≡ false) (p : A → Bool) (under : (a : A) → used a ≡ false → p a ≡ false) where
+module _ {A : Type 0} (used : A → Bool) (unmark : A → A) (off : (a : A) → used (unmark a) ≡ false) (p : A → Bool) (under :
+    (a : A) → used a ≡ false → p a ≡ false) where
   blank : (a : A) → p (cleared unmark used a) ≡ false
   blank a = choose (λ (x : A). p x ≡ false) (used a) (unmark a) a (λ e. under (unmark a) (off a)) (λ e. under a e)
 
@@ -58,7 +59,8 @@ new-taken w s e = from (newAnswer w (s .session) (s .generation) (s .config)) e
     from Taken h = refl
     from (Refused x) h = refused-differs h
 
-new-world : (w : World) (s : Start) → newAnswer w (s .session) (s .generation) (s .config) ≡ Taken → start w s .world ≡ emptied w (newHeader (s .session) (s .generation) (s .config) (s .now))
+new-world : (w : World) (s : Start) → newAnswer w (s .session) (s .generation) (s .config) ≡ Taken
+    → start w s .world ≡ emptied w (newHeader (s .session) (s .generation) (s .config) (s .now))
 unfolding start newRelay proceed
 new-world w s e = rw e
 
@@ -74,7 +76,10 @@ new-rows w s e =
     let none = eqb (length (w .ledger)) 0 in
     let last = check (tablesShort (s .config) w || none) Short in
     let a = then-taken valid last (then-taken session (valid then last) e .1) in
-    record { good = flip (configGood (s .config)) (check-taken (not (configGood (s .config))) InvalidConfig (a .0)); short = neither (tablesShort (s .config) w) none (check-taken (tablesShort (s .config) w || none) Short (a .1)) .0 }
+    record {
+      good = flip (configGood (s .config)) (check-taken (not (configGood (s .config))) InvalidConfig (a .0));
+      short = neither (tablesShort (s .config) w) none (check-taken (tablesShort (s .config) w || none) Short (a .1)) .0;
+    }
   where
     flip : (b : Bool) → not b ≡ false → b ≡ true
     flip true x = refl
@@ -93,7 +98,11 @@ long w c e =
     let z = ltb (length (w .inflight)) (c .«maximum_inflight_actions») in
     let a = neither (x || y) z e in
     let b = neither x y (a .0) in
-    record { pending = ltb-false (length (w .pending)) (c .«maximum_pending») (b .0); circuits = ltb-false (length (w .circuits)) (c .«maximum_circuits») (b .1); inflight = ltb-false (length (w .inflight)) (c .«maximum_inflight_actions») (a .1) }
+    record {
+      pending = ltb-false (length (w .pending)) (c .«maximum_pending») (b .0);
+      circuits = ltb-false (length (w .circuits)) (c .«maximum_circuits») (b .1);
+      inflight = ltb-false (length (w .inflight)) (c .«maximum_inflight_actions») (a .1);
+    }
 
 module _ (w : World) (s : Start) (D : NewRows w (s .config)) (low : s .config .«maximum_bytes_per_circuit» < top 64) where
   abbrev fresh : World
@@ -117,17 +126,30 @@ module _ (w : World) (s : Start) (D : NewRows w (s .config)) (low : s .config .�
       full = record {
         acts = record {
           places = empty-places .inflight;
-          held = record { same = λ f. clear-total isAction clearAction (λ i. refl) isAction (λ i. f (view i)) (w .inflight) ∙ total-zero _ (w .inflight) (λ i. gone (i .used) (f (view i))); once = λ q. omega arith; below = λ q l. refl };
+          held = record {
+            same = λ f. clear-total isAction clearAction (λ i. refl) isAction (λ i. f (view i)) (w .inflight) ∙ total-zero _ (w .inflight)
+                (λ i. gone (i .used) (f (view i)));
+            once = λ q. omega arith;
+            below = λ q l. refl;
+          };
           ours = refl;
         };
         circs = record {
-          once = λ j. omega (arith, none-counted isCircuit clearCircuit (λ c. refl) (circuitAt j) (λ c e. unused (c .used) (eqb (c .«circuit_id») j) e) (w .circuits));
+          once = λ j. omega (
+            arith,
+            none-counted isCircuit clearCircuit (λ c. refl) (circuitAt j)
+                (λ c e. unused (c .used) (eqb (c .«circuit_id») j) e) (w .circuits),
+          );
           found = λ j. none-found isCircuit clearCircuit (λ c. refl) (circuitAt j) (λ c e. unused (c .used) (eqb (c .«circuit_id») j) e) (w .circuits);
           agree = λ j a. absurd (false≢true a);
         };
         queue = record { queued = λ j s a. absurd (false≢true a); honest = refl };
         pends = record {
-          once = λ j. omega (arith, none-counted isPending clearPending (λ c. refl) (pendingAt j) (λ c e. unused (c .used) (eqb (c .«circuit_id») j) e) (w .pending));
+          once = λ j. omega (
+            arith,
+            none-counted isPending clearPending (λ c. refl) (pendingAt j)
+                (λ c e. unused (c .used) (eqb (c .«circuit_id») j) e) (w .pending),
+          );
           found = λ j. none-found isPending clearPending (λ c. refl) (pendingAt j) (λ c e. unused (c .used) (eqb (c .«circuit_id») j) e) (w .pending);
           agree = λ j a. absurd (false≢true a);
         };
@@ -160,7 +182,8 @@ empty-sequence : (w : World) (s : Start) → sequenceOf (emptied w (newHeader (s
 unfolding emptied
 empty-sequence w s = refl
 
-pub start-rel : (w : World) (s : Start) → start w s .answer ≡ Taken → s .config .«maximum_bytes_per_circuit» < top 64 → Rel (start w s .world) (begin s) × Places (start w s .world) × (sequenceOf (start w s .world) ≡ 1)
+pub start-rel : (w : World) (s : Start) → start w s .answer ≡ Taken → s .config .«maximum_bytes_per_circuit» < top 64
+    → Rel (start w s .world) (begin s) × Places (start w s .world) × (sequenceOf (start w s .world) ≡ 1)
 start-rel w s e low =
     let t = new-taken w s e in
     let D = new-rows w s t in

@@ -43,8 +43,10 @@ use Rattle.hnsr_run.specs.Run.Rel.{Rel, Places, proceed-cases, refused-d
 -- ---- the tables are long enough
 pub long-enough : (w : World) → Places w → tablesShort (configOf w) w ≡ false
 unfolding tablesShort tooFew
-long-enough w H = three (ltb (length (w .pending)) (configOf w .«maximum_pending»)) (ltb (length (w .circuits)) (configOf w .«maximum_circuits»)) (ltb (length (w .inflight)) (configOf w .«maximum_inflight_actions»))
-    (le-ltb (length (w .pending)) (configOf w .«maximum_pending») (H .pending)) (le-ltb (length (w .circuits)) (configOf w .«maximum_circuits») (H .circuits)) (le-ltb (length (w .inflight)) (configOf w .«maximum_inflight_actions») (H .inflight))
+long-enough w H = three (ltb (length (w .pending)) (configOf w .«maximum_pending»)) (ltb (length (w .circuits)) (configOf w .«maximum_circuits»)) (ltb (length
+    (w .inflight)) (configOf w .«maximum_inflight_actions»))
+    (le-ltb (length (w .pending)) (configOf w .«maximum_pending») (H .pending)) (le-ltb (length (w .circuits)) (configOf w .«maximum_circuits») (H .circuits))
+    (le-ltb (length (w .inflight)) (configOf w .«maximum_inflight_actions») (H .inflight))
   where
     three : (a b c : Bool) → a ≡ false → b ≡ false → c ≡ false → (a || b || c) ≡ false
     three a b c e f g = rw (e, f, g)
@@ -54,9 +56,11 @@ unfolding roomAnswer
 room-same w H room needed = ap (λ b. check (ltb room needed || b) Short) (long-enough w H) ∙ ap (λ b. check b Short) (sym (or-none (ltb room needed)))
 
 -- ---- entry and clock, in the world and in the past
-pub entry-same : {w : World} {h : Past} → Rel w h → Places w → (q : Packet) (room : ℕ) → (entryAnswer w q room then clockAnswer (w .header .«trusted_time_high_water») (q .now)) ≡ entered h q room
+pub entry-same : {w : World} {h : Past} → Rel w h → Places w → (q : Packet) (room : ℕ)
+    → (entryAnswer w q room then clockAnswer (w .header .«trusted_time_high_water») (q .now)) ≡ entered h q room
 unfolding entryAnswer
-entry-same {w} {h} R H q room = λ i. (room-same w H room handleWords i then peerAnswer (length (q .source)) then packetAnswer (q .opcode) (q .context) (length (q .body))) then clockAnswer (R .base .heads .clock i) (q .now)
+entry-same {w} {h} R H q room = λ i. (room-same w H room handleWords i then peerAnswer (length (q .source)) then packetAnswer (q .opcode) (q .context) (length
+    (q .body))) then clockAnswer (R .base .heads .clock i) (q .now)
 
 pub clock-on : (high now : ℕ) → clockAnswer high now ≡ Taken → high ≤ now
 unfolding clockAnswer
@@ -65,7 +69,9 @@ clock-on high now e = ltb-false now high (check-taken (ltb now high) ClockRollba
 -- an OPEN that passes the entry has a context
 packet-context : (opcode context n : ℕ) → opcode ≡ opOpen → packetAnswer opcode context n ≡ Taken → eqb context 0 ≡ false
 unfolding packetAnswer packetChecked
-packet-context opcode context n e h = from (ltb mostPacket (packetSize n)) (eqb context 0) (subst (λ x. bodyAnswer (cond (ltb mostPacket (packetSize n)) (Err (TooLarge (packetSize n) mostPacket)) (cond (eqb context 0 && not (eqb x sampleRoutes)) (Err (Invalid ContextZero)) Ok)) ≡ Taken) e h)
+packet-context opcode context n e h = from (ltb mostPacket (packetSize n)) (eqb context 0) (subst
+    (λ x. bodyAnswer (cond (ltb mostPacket (packetSize n)) (Err (TooLarge (packetSize n) mostPacket)) (cond (eqb context 0 && not (eqb x sampleRoutes)) (Err
+    (Invalid ContextZero)) Ok)) ≡ Taken) e h)
   where
     from : (a b : Bool) → bodyAnswer (cond a (Err (TooLarge (packetSize n) mostPacket)) (cond (b && true) (Err (Invalid ContextZero)) Ok)) ≡ Taken → b ≡ false
     from true b k = refused-differs k
@@ -73,7 +79,8 @@ packet-context opcode context n e h = from (ltb mostPacket (packetSize n)) (eqb 
     from false false k = refl
 
 -- ---- the opcode picks the handling
-by-opcode : (P : Handling → Type 0) (n : ℕ) → (n ≡ opOpen → P OPEN) → (n ≡ opAccept → P ACCEPT) → (n ≡ opData → P DATA) → (n ≡ opWindow → P WINDOW) → (n ≡ opClose → P CLOSE) → (n ≡ opError → P ERROR) → P other → P (handlingOf n)
+by-opcode : (P : Handling → Type 0) (n : ℕ) → (n ≡ opOpen → P OPEN) → (n ≡ opAccept → P ACCEPT) → (n ≡ opData → P DATA) → (n ≡ opWindow → P WINDOW) → (n ≡ opClose
+    → P CLOSE) → (n ≡ opError → P ERROR) → P other → P (handlingOf n)
 unfolding handlingOf
 by-opcode P n a b c d e f g =
     choose P (eqb n opOpen) OPEN _ (λ x. a (eqb-true n opOpen x))
@@ -85,7 +92,8 @@ by-opcode P n a b c d e f g =
 
 pub handling-data : (n : ℕ) → n ≡ opData → handlingOf n ≡ DATA
 unfolding handlingOf
-handling-data n e = ap (λ (m : ℕ). cond (eqb m opOpen) OPEN (cond (eqb m opAccept) ACCEPT (cond (eqb m opData) DATA (cond (eqb m opWindow) WINDOW (cond (eqb m opClose) CLOSE (cond (eqb m opError) ERROR other)))))) e
+handling-data n e = ap (λ (m : ℕ). cond (eqb m opOpen) OPEN (cond (eqb m opAccept) ACCEPT (cond (eqb m opData) DATA (cond (eqb m opWindow) WINDOW (cond
+    (eqb m opClose) CLOSE (cond (eqb m opError) ERROR other)))))) e
 
 check-refused : (b : Bool) (x e : HnsrRuntimeError) → check b x ≡ Refused e → b ≡ true
 check-refused true x e h = refl
@@ -94,8 +102,10 @@ check-refused false x e h = sym (unlike h)
     unlike : Taken ≡ Refused e → true ≡ false
     unlike k = cc
 
-module _ {w : World} {h : Past} (R : Rel w h) (H : Places w) (low : sequenceOf w < top 64) (q : Packet) (clock : h .head .clock ≡ q .now) (context : q .opcode ≡ opOpen → eqb (q .context) 0 ≡ false) (limit : q .opcode ≡ opOpen → q .admission .ticket .«max_total_bytes» < top 64) where
-  dispatched : h .head .enabled ≡ true → let o = dispatch (handlingOf (q .opcode)) w q in Rel (o .world) (handledAs (handlingOf (q .opcode)) q (o .answer) (o .routes) h)
+module _ {w : World} {h : Past} (R : Rel w h) (H : Places w) (low : sequenceOf w < top 64) (q : Packet) (clock : h .head .clock ≡ q .now)
+    (context : q .opcode ≡ opOpen → eqb (q .context) 0 ≡ false) (limit : q .opcode ≡ opOpen → q .admission .ticket .«max_total_bytes» < top 64) where
+  dispatched : h .head .enabled ≡ true
+      → let o = dispatch (handlingOf (q .opcode)) w q in Rel (o .world) (handledAs (handlingOf (q .opcode)) q (o .answer) (o .routes) h)
   unfolding dispatch
   dispatched on = by-opcode (λ (k : Handling). Rel (dispatch k w q .world) (handledAs k q (dispatch k w q .answer) (dispatch k w q .routes) h)) (q .opcode)
       (λ e. open-keeps R H low q clock on (context e) (limit e))
@@ -108,10 +118,13 @@ module _ {w : World} {h : Past} (R : Rel w h) (H : Places w) (low : sequenceOf w
 
   gated : let o = handleGate w q in Rel (o .world) (cond (h .head .enabled) (handledAs (handlingOf (q .opcode)) q (o .answer) (o .routes) h) h)
   unfolding handleGate gateAnswer
-  gated = proceed-cases (λ (o : Outcome). Rel (o .world) (cond (h .head .enabled) (handledAs (handlingOf (q .opcode)) q (o .answer) (o .routes) h) h)) w (gateAnswer (w .header .enabled)) (dispatch (handlingOf (q .opcode)) w q)
+  gated = proceed-cases (λ (o : Outcome). Rel (o .world) (cond (h .head .enabled) (handledAs (handlingOf (q .opcode)) q (o .answer) (o .routes) h) h)) w
+      (gateAnswer (w .header .enabled)) (dispatch (handlingOf (q .opcode)) w q)
       (λ e. let on = sym (R .base .heads .enabled) ∙ flip (w .header .enabled) (check-taken (not (w .header .enabled)) Disabled e) in
-      subst (λ b. Rel (dispatch (handlingOf (q .opcode)) w q .world) (cond b (handledAs (handlingOf (q .opcode)) q (dispatch (handlingOf (q .opcode)) w q .answer) (dispatch (handlingOf (q .opcode)) w q .routes) h) h)) (sym on) (dispatched on))
-      (λ e f. if-not (λ (g : Past). Rel w g) (h .head .enabled) _ h (sym (R .base .heads .enabled) ∙ unflip (w .header .enabled) (check-refused (not (w .header .enabled)) Disabled e f)) R)
+      subst (λ b. Rel (dispatch (handlingOf (q .opcode)) w q .world) (cond b (handledAs (handlingOf (q .opcode)) q (dispatch (handlingOf (q .opcode)) w q .answer)
+      (dispatch (handlingOf (q .opcode)) w q .routes) h) h)) (sym on) (dispatched on))
+      (λ e f. if-not (λ (g : Past). Rel w g) (h .head .enabled) _ h (sym (R .base .heads .enabled)
+      ∙ unflip (w .header .enabled) (check-refused (not (w .header .enabled)) Disabled e f)) R)
     where
       flip : (b : Bool) → not b ≡ false → b ≡ true
       flip true x = refl
@@ -128,9 +141,12 @@ open-limit q room l e =
     let k : (not (eqb opOpen opOpen) || (a && b)) ≡ true = subst (λ n. (not (eqb n opOpen) || (a && b)) ≡ true) e l in
     ltb-true (q .admission .ticket .«max_total_bytes») (top 64) (both a b k .1)
 
-handle-keeps : {w : World} {h : Past} → Rel w h → Places w → sequenceOf w < top 64 → (q : Packet) (room : ℕ) → limitsBelow (callHandle q room) ≡ true → let o = handle w q room in Rel (o .world) (handleIn q room (o .answer) (o .routes) h)
+handle-keeps : {w : World} {h : Past} → Rel w h → Places w → sequenceOf w < top 64 → (q : Packet) (room : ℕ) → limitsBelow (callHandle q room) ≡ true
+    → let o = handle w q room in Rel (o .world) (handleIn q room (o .answer) (o .routes) h)
 unfolding handle entryAnswer
-handle-keeps {w} {h} R H low q room lim = proceed-cases (λ (o : Outcome). Rel (o .world) (handleIn q room (o .answer) (o .routes) h)) w (entryAnswer w q room then clockAnswer high (q .now)) (handleGate (atTime w (q .now)) q)
+handle-keeps {w} {h} R H low q room lim = proceed-cases
+    (λ (o : Outcome). Rel (o .world) (handleIn q room (o .answer) (o .routes) h)) w (entryAnswer w q room then clockAnswer high (q .now)) (handleGate (atTime w
+    (q .now)) q)
     (λ e. let entry = roomAnswer w room handleWords in
     let peer = peerAnswer (length (q .source)) in
     let pack = packetAnswer (q .opcode) (q .context) (length (q .body)) in
@@ -138,8 +154,10 @@ handle-keeps {w} {h} R H low q room lim = proceed-cases (λ (o : Outcome). Rel (
     let b = then-taken peer pack (then-taken entry (peer then pack) (a .0) .1) .1 in
     let R₁ = moved-rel R (q .now) (let l = clock-on high (q .now) (a .1) in omega (arith, R .base .heads .clock)) in
     let o = handleGate (atTime w (q .now)) q in
-    subst (λ c. Rel (o .world) (cond c (cond (h .head .enabled) (handledAs (handlingOf (q .opcode)) q (o .answer) (o .routes) (movedTo h (q .now))) (movedTo h (q .now))) h)) (sym (ap taken (sym (entry-same R H q room) ∙ e)))
-    (gated R₁ (record { pending = H .pending; circuits = H .circuits; inflight = H .inflight }) low q refl (λ x. packet-context (q .opcode) (q .context) (length (q .body)) x b) (open-limit q room lim)))
+    subst (λ c. Rel (o .world) (cond c (cond (h .head .enabled) (handledAs (handlingOf (q .opcode)) q (o .answer) (o .routes) (movedTo h (q .now))) (movedTo h
+    (q .now))) h)) (sym (ap taken (sym (entry-same R H q room) ∙ e)))
+    (gated R₁ (record { pending = H .pending; circuits = H .circuits; inflight = H .inflight }) low q refl
+    (λ x. packet-context (q .opcode) (q .context) (length (q .body)) x b) (open-limit q room lim)))
     (λ e f. if-not (λ (g : Past). Rel w g) (taken (entered h q room)) _ h (ap taken (sym (entry-same R H q room) ∙ f) ∙ not-taken e) R)
   where
     high : ℕ
@@ -148,13 +166,16 @@ handle-keeps {w} {h} R H low q room lim = proceed-cases (λ (o : Outcome). Rel (
 -- ---- every call
 observe-keeps : {w : World} {h : Past} → Rel w h → (now : ℕ) → let o = observeTime w now in Rel (o .world) (after h (callObserveTime now) (o .answer) (o .routes))
 unfolding observeTime
-observe-keeps {w} {h} R now = proceed-cases (λ (o : Outcome). Rel (o .world) (after h (callObserveTime now) (o .answer) (o .routes))) w (clockAnswer (w .header .«trusted_time_high_water») now) (done (atTime w now) [])
+observe-keeps {w} {h} R now = proceed-cases (λ (o : Outcome). Rel (o .world) (after h (callObserveTime now) (o .answer) (o .routes))) w (clockAnswer
+    (w .header .«trusted_time_high_water») now) (done (atTime w now) [])
     (λ e. moved-rel R now (let l = clock-on (w .header .«trusted_time_high_water») now e in omega (arith, R .base .heads .clock)))
     (λ e f. if-taken (λ (g : Past). Rel w g) e _ h R)
 
-pub step-keeps : {w : World} {h : Past} → Rel w h → Places w → sequenceOf w < top 64 → (c : Call) → limitsBelow c ≡ true → Rel (step w c .world) (after h c (step w c .answer) (step w c .routes))
+pub step-keeps : {w : World} {h : Past} → Rel w h → Places w → sequenceOf w < top 64 → (c : Call) → limitsBelow c ≡ true
+    → Rel (step w c .world) (after h c (step w c .answer) (step w c .routes))
 unfolding step status nextDue
-step-keeps {w} {h} R H low callStatus lim = proceed-cases (λ (o : Outcome). Rel (o .world) h) w (tablesAnswer w) (telling w (statusIs (statusOf w))) (λ e. R) (λ e f. R)
+step-keeps {w} {h} R H low callStatus lim = proceed-cases (λ (o : Outcome). Rel (o .world) h) w (tablesAnswer w) (telling w (statusIs (statusOf w))) (λ e. R)
+    (λ e f. R)
 step-keeps {w} {h} R H low callNextDue lim = proceed-cases (λ (o : Outcome). Rel (o .world) h) w (tablesAnswer w) (telling w (dueIs (dueOf w))) (λ e. R) (λ e f. R)
 step-keeps R H low (callObserveTime now) lim = observe-keeps R now
 step-keeps R H low (callReplaceEnabled expected on room) lim = replace-keeps R expected on room

@@ -33,7 +33,8 @@ use Rattle.hnsr_run.specs.Run.Rel.{Base, Rel, proceed-cases, if-taken, s
 use Rattle.hnsr_run.specs.Run.Revoking.{less}
 
 -- ---- replace_enabled
-all-dropped : {c : OpaqueRelayConfig} {g next : ℕ} {t : List InflightAction} {out : List Action} → Acts c g next t out → (g′ : ℕ) → Acts c g′ 1 (dropped isAction t) []
+all-dropped : {c : OpaqueRelayConfig} {g next : ℕ} {t : List InflightAction} {out : List Action} → Acts c g next t out → (g′ : ℕ)
+    → Acts c g′ 1 (dropped isAction t) []
 unfolding dropped isAction
 all-dropped {t = t} A g′ = record {
   places = omega (arith, A .places, clear-length inUse clearAction (λ i. refl) inUse t);
@@ -110,17 +111,26 @@ beq-false : (x : Bool) → Bool·beq x true ≡ false → x ≡ false
 beq-false true e = absurd (true≢false e)
 beq-false false e = refl
 
-switch-keeps : {w : World} {h : Past} → Rel w h → (on : Bool) → Bool·beq (h .head .enabled) on ≡ false → let o = switchTo w on in Rel (o .world) (enableIn on (o .routes) h) × (o .answer ≡ Taken)
+switch-keeps : {w : World} {h : Past} → Rel w h → (on : Bool) → Bool·beq (h .head .enabled) on ≡ false
+    → let o = switchTo w on in Rel (o .world) (enableIn on (o .routes) h) × (o .answer ≡ Taken)
 unfolding switchTo revokeAll
 switch-keeps {w} {h} R true e = (subst (λ b. Rel (switched w true) (cond b h (switchedTo h true))) (sym e) (on-keeps R (beq-false (h .head .enabled) e)), refl)
-switch-keeps {w} {h} R false e = (subst (λ b. Rel (switchTo w false .world) (cond b h (revoked (switchedTo h false) everyOpen everyCircuit (switchTo w false .routes)))) (sym e) (off-keeps R), refl)
+switch-keeps {w} {h} R false e = (
+  subst (λ b. Rel (switchTo w false .world) (cond b h (revoked (switchedTo h false) everyOpen everyCircuit
+      (switchTo w false .routes)))) (sym e) (off-keeps R),
+  refl,
+)
 
-pub replace-keeps : {w : World} {h : Past} → Rel w h → (expected : ℕ) (on : Bool) (room : ℕ) → let o = replaceEnabled w expected on room in Rel (o .world) (after h (callReplaceEnabled expected on room) (o .answer) (o .routes))
+pub replace-keeps : {w : World} {h : Past} → Rel w h → (expected : ℕ) (on : Bool) (room : ℕ)
+    → let o = replaceEnabled w expected on room in Rel (o .world) (after h (callReplaceEnabled expected on room) (o .answer) (o .routes))
 unfolding replaceEnabled
-replace-keeps {w} {h} R expected on room = proceed-cases P w (roomAnswer w room (revokingWords w) then generationAnswer (generationOf w) expected then changeAnswer (generationOf w) (changes w on)) (cond (changes w on) (switchTo w on) (done w []))
+replace-keeps {w} {h} R expected on room = proceed-cases P w (roomAnswer w room (revokingWords w) then generationAnswer (generationOf w) expected then changeAnswer
+    (generationOf w) (changes w on)) (cond (changes w on) (switchTo w on) (done w []))
     (λ e. choose P (changes w on) (switchTo w on) (done w [])
-    (λ c. let s = switch-keeps R on (ap (λ b. Bool·beq b on) (sym (R .base .heads .enabled)) ∙ not-true (Bool·beq (w .header .enabled) on) c) in subst (λ a. Rel (switchTo w on .world) (cond (taken a) (enableIn on (switchTo w on .routes) h) h)) (sym (s .1)) (s .0))
-    (λ c. subst (λ b. Rel w (cond b h (cond on (emit (switchedTo h on) []) (revoked (switchedTo h on) everyOpen everyCircuit [])))) (sym (ap (λ b. Bool·beq b on) (sym (R .base .heads .enabled)) ∙ beq-off (w .header .enabled) on c)) R))
+    (λ c. let s = switch-keeps R on (ap (λ b. Bool·beq b on) (sym (R .base .heads .enabled)) ∙ not-true (Bool·beq (w .header .enabled) on) c) in
+    subst (λ a. Rel (switchTo w on .world) (cond (taken a) (enableIn on (switchTo w on .routes) h) h)) (sym (s .1)) (s .0))
+    (λ c. subst (λ b. Rel w (cond b h (cond on (emit (switchedTo h on) []) (revoked (switchedTo h on) everyOpen everyCircuit [])))) (sym (ap
+    (λ b. Bool·beq b on) (sym (R .base .heads .enabled)) ∙ beq-off (w .header .enabled) on c)) R))
     (λ e f. if-taken (λ (g : Past). Rel w g) e _ h R)
   where
     P : Outcome → Type 0

@@ -29,7 +29,8 @@ unfolding when
 when-cases P true part w t f = t refl
 when-cases P false part w t f = f refl
 
-module _ {A K : Type 0} (X : Keys A ℕ K) (by : (i j : ℕ) → eqb i j ≡ X .same i j) (Q : A → Bool) (q : K → Bool) (same-q : (a : A) (k : K) → X .Agree a k → Q a ≡ q k) where
+module _ {A K : Type 0} (X : Keys A ℕ K) (by : (i j : ℕ) → eqb i j ≡ X .same i j) (Q : A → Bool) (q : K → Bool) (same-q : (a : A)
+    (k : K) → X .Agree a k → Q a ≡ q k) where
   -- the least one ended: all that still has Q is above it
   passed : {t t′ : List A} {st st′ : ℕ → Bool} {kn : ℕ → K} → Tells X t st kn → Tells X t′ st′ kn → (m : ℕ) → m ≡ least X by Q t
       → ((i : ℕ) → st′ i ≡ cond (eqb m i) false (st i)) → (c : Walked) → c .id ≡ m → any (behind (X .key) (having X by Q) c) t′ ≡ false
@@ -42,7 +43,8 @@ module _ {A K : Type 0} (X : Keys A ℕ K) (by : (i j : ℕ) → eqb i j ≡ X .
       low a = Q a && ltb (X .key a) m
 
       no : any (behind (X .key) (having X by Q) c) t′ ≡ true → ⊥
-      no h = clash (any-imp (λ a. X .used a && low a) (λ a. having X by Q a && ltb (X .key a) (least X by Q t)) t under there) (count-none (λ a. having X by Q a && ltb (X .key a) (least X by Q t)) t (lowest-least (having X by Q) (X .key) t))
+      no h = clash (any-imp (λ a. X .used a && low a) (λ a. having X by Q a && ltb (X .key a) (least X by Q t)) t under there) (count-none
+          (λ a. having X by Q a && ltb (X .key a) (least X by Q t)) t (lowest-least (having X by Q) (X .key) t))
         where
           into : (a : A) → behind (X .key) (having X by Q) c a ≡ true → (X .used a && g a) ≡ true
           into a k = let x = both (having X by Q a) (c .taken && leb (X .key a) (c .id)) k in let y = both (X .used a) (Q a) (x .0) in
@@ -58,7 +60,8 @@ module _ {A K : Type 0} (X : Keys A ℕ K) (by : (i j : ℕ) → eqb i j ≡ X .
           own t f = X .same-eq (X .key (look X t i)) i (both (X .used (look X t i)) (X .same (X .key (look X t i)) i) (pick-has (keyed X i) (X .nobody) t f) .1)
 
           stood : st i ≡ true
-          stood = split (eqb m i) (λ x. absurd (false≢true (sym (ap (λ b. cond b false (st i)) x) ∙ sym (es i) ∙ s .0))) (λ x. sym (ap (λ b. cond b false (st i)) x) ∙ sym (es i) ∙ s .0)
+          stood = split (eqb m i) (λ x. absurd (false≢true (sym (ap (λ b. cond b false (st i)) x) ∙ sym (es i) ∙ s .0))) (λ x. sym (ap
+              (λ b. cond b false (st i)) x) ∙ sym (es i) ∙ s .0)
 
           other : eqb m i ≡ false
           other = split (eqb m i) (λ x. absurd (false≢true (sym (ap (λ b. cond b false (st i)) x) ∙ sym (es i) ∙ s .0))) (λ x. x)
@@ -89,8 +92,10 @@ module _ {A K : Type 0} (X : Keys A ℕ K) (by : (i j : ℕ) → eqb i j ≡ X .
       (fin-st : (h : Past) (m : ℕ) (rs : List Route) (i : ℕ) → st (fin h m rs) i ≡ cond (eqb m i) false (st h i))
       (fin-kn : (h : Past) (m : ℕ) (rs : List Route) → kn (fin h m rs) ≡ kn h)
       (none : (h : Past) → ((i : ℕ) → st h i ≡ true → q (kn h i) ≡ false) → swept h [] ≡ h)
-      (more : (w : World) (h : Past) (m : ℕ) (rs : List Route) → I w h → st h m ≡ true → q (kn h m) ≡ true → swept (fin h m (end w m .routes)) rs ≡ swept h (end w m .routes ++ rs))
-      (J-none : (h : Past) → J h []) (J-more : (w : World) (h : Past) (m : ℕ) (rs : List Route) → I w h → st h m ≡ true → J (fin h m (end w m .routes)) rs → J h (end w m .routes ++ rs)) where
+      (more : (w : World) (h : Past) (m : ℕ) (rs : List Route) → I w h → st h m ≡ true → q (kn h m) ≡ true
+      → swept (fin h m (end w m .routes)) rs ≡ swept h (end w m .routes ++ rs))
+      (J-none : (h : Past) → J h []) (J-more : (w : World) (h : Past) (m : ℕ) (rs : List Route) → I w h → st h m ≡ true → J (fin h m (end w m .routes)) rs
+      → J h (end w m .routes ++ rs)) where
     abbrev goes : ℕ → Walked → World → Sent
     goes turns c w = walkFrom (X .key) table (having X by Q) end turns c w
 
@@ -101,11 +106,13 @@ module _ {A K : Type 0} (X : Keys A ℕ K) (by : (i j : ℕ) → eqb i j ≡ X .
     Goes turns = (c : Walked) (w : World) (h : Past) → I w h → count (having X by Q) (table w) ≤ turns → any (behind (X .key) (having X by Q) c) (table w) ≡ false
         → I (goes turns c w .world) (swept h (goes turns c w .routes)) × J h (goes turns c w .routes)
 
-    walk-from : (turns : ℕ) (c : Walked) (w : World) (h : Past) → I w h → count (having X by Q) (table w) ≤ turns → any (behind (X .key) (having X by Q) c) (table w) ≡ false
+    walk-from : (turns : ℕ) (c : Walked) (w : World) (h : Past) → I w h → count (having X by Q) (table w) ≤ turns
+        → any (behind (X .key) (having X by Q) c) (table w) ≡ false
         → I (goes turns c w .world) (swept h (goes turns c w .routes)) × J h (goes turns c w .routes)
     unfolding walkFrom
     walk-from zero c w h R l b = stop w h R (count-none (having X by Q) (table w) (omega arith))
-    walk-from (suc turns) c w h R l b = when-cases (λ (s : Sent). I (s .world) (swept h (s .routes)) × J h (s .routes)) (N .taken) (λ v. andThen (end v (N .id)) (goes turns N)) w (λ e. one-turn e (walk-from turns)) (λ e. stop w h R (sym (nl .0) ∙ e))
+    walk-from (suc turns) c w h R l b = when-cases (λ (s : Sent). I (s .world) (swept h (s .routes)) × J h (s .routes)) (N .taken)
+        (λ v. andThen (end v (N .id)) (goes turns N)) w (λ e. one-turn e (walk-from turns)) (λ e. stop w h R (sym (nl .0) ∙ e))
       where
         N : Walked
         N = next (X .key) (having X by Q) c (table w)
@@ -113,7 +120,9 @@ module _ {A K : Type 0} (X : Keys A ℕ K) (by : (i j : ℕ) → eqb i j ≡ X .
         nl : (N .taken ≡ any (having X by Q) (table w)) × (any (having X by Q) (table w) ≡ true → N .id ≡ lowest (having X by Q) (X .key) (table w))
         nl = next-lowest (X .key) (having X by Q) c (table w) b
 
-        one-turn : N .taken ≡ true → Goes turns → I (goes turns N (end w (N .id) .world) .world) (swept h (end w (N .id) .routes ++ goes turns N (end w (N .id) .world) .routes)) × J h (end w (N .id) .routes ++ goes turns N (end w (N .id) .world) .routes)
+        one-turn : N .taken ≡ true → Goes turns
+            → I (goes turns N (end w (N .id) .world) .world) (swept h (end w (N .id) .routes ++ goes turns N (end w (N .id) .world) .routes)) × J h (end w
+            (N .id) .routes ++ goes turns N (end w (N .id) .world) .routes)
         one-turn e ih =
             let some = sym (nl .0) ∙ e in
             let m = N .id in
@@ -123,18 +132,28 @@ module _ {A K : Type 0} (X : Keys A ℕ K) (by : (i j : ℕ) → eqb i j ≡ X .
             let s : q (kn h m) ≡ true = ap (λ i. q (kn h i)) lo ∙ least-has X by Q q same-q T some in
             let R₁ = turn w h m R a s in
             let rs = end w m .routes in
-            let T₁ : Tells X (table (end w m .world)) (st (fin h m rs)) (kn h) = subst (λ (k : ℕ → K). Tells X (table (end w m .world)) (st (fin h m rs)) k) (fin-kn h m rs) (tells (end w m .world) (fin h m rs) R₁) in
+            let T₁ : Tells X (table (end w m .world)) (st (fin h m rs)) (kn h) = subst
+            (λ (k : ℕ → K). Tells X (table (end w m .world)) (st (fin h m rs)) k) (fin-kn h m rs) (tells (end w m .world) (fin h m rs) R₁) in
             let f = least-at X by Q (table w) some in
             let l₁ : count (having X by Q) (table (end w m .world)) ≤ turns =
-            subst (λ (t : List A). count (having X by Q) t ≤ turns) (sym (turn-table w h m R a)) (subst (λ j. count (having X by Q) (clear (X .unmark) (keyed X j) (table w)) ≤ turns) (sym lo) (omega (arith, fewer X by Q (table w) (least X by Q (table w)) f))) in
+            subst (λ (t : List A). count (having X by Q) t ≤ turns) (sym (turn-table w h m R a)) (subst
+            (λ j. count (having X by Q) (clear (X .unmark) (keyed X j) (table w)) ≤ turns) (sym lo) (omega (
+              arith,
+              fewer X by Q (table w) (least X by Q
+                  (table w)) f,
+            ))) in
             let b₁ = passed T T₁ m lo (fin-st h m rs) N refl in
-            let r = ih N (end w m .world) (fin h m rs) R₁ l₁ b₁ in
-            (subst (λ g. I (goes turns N (end w m .world) .world) g) (more w h m (goes turns N (end w m .world) .routes) R a s) (r .0), J-more w h m (goes turns N (end w m .world) .routes) R a (r .1))
+            let r = ih N (end w m .world) (fin h m rs) R₁ l₁ b₁ in (
+              subst (λ g. I (goes turns N (end w m .world) .world) g) (more w h m (goes turns N (end w m .world) .routes) R a s) (r .0),
+              J-more w h m (goes turns N
+                  (end w m .world) .routes) R a (r .1),
+            )
 
     pub walked : (p : A → Bool) → ((a : A) → p a ≡ having X by Q a) → (w : World) (h : Past) → I w h
         → I (walk (X .key) table p end w .world) (swept h (walk (X .key) table p end w .routes)) × J h (walk (X .key) table p end w .routes)
     unfolding walk
-    walked p same w h R = subst (λ (p : A → Bool). I (walkFrom (X .key) table p end (length (table w)) notYet w .world) (swept h (walkFrom (X .key) table p end (length (table w)) notYet w .routes)) × J h (walkFrom (X .key) table p end (length (table w)) notYet w .routes)) (sym (λ i a. same a i))
+    walked p same w h R = subst (λ (p : A → Bool). I (walkFrom (X .key) table p end (length (table w)) notYet w .world) (swept h (walkFrom (X .key) table p end
+        (length (table w)) notYet w .routes)) × J h (walkFrom (X .key) table p end (length (table w)) notYet w .routes)) (sym (λ i a. same a i))
         (walk-from (length (table w)) notYet w h R (count-length (having X by Q) (table w)) (nothing-behind (table w)))
       where
         nothing-behind : (t : List A) → any (behind (X .key) (having X by Q) notYet) t ≡ false

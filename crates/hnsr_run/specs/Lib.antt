@@ -9,4 +9,5 @@ pub mod RichRun
 pub mod Refuted
 -- ---- the proof
 pub mod Run
+pub mod SameRun
 pub mod Theorem

@@ -1,10 +1,8 @@
 -- Every rearrangement of the outstanding actions is an order that the claim speaks of: a list in its own order, two neighbours swapped, the rest
 -- rearranged, one rearrangement after another.
-use Prim.Native.Nat.{ℕ}
 use native.Mathlib.Omega.{arith}
-use mathlib.Core.Path.{_≡_, refl, _∙_}
-use mathlib.Core.List.{List, [], _∷_}
-use Rattle.hns_encoding.specs.Sums.{total}
+use mathlib.Core.Path.{refl, _∙_}
+use mathlib.Core.List.{List, _∷_}
 use Rattle.hnsr_run.specs.Past.{Action}
 use Rattle.hnsr_run.specs.Claim.{Reordered}
 

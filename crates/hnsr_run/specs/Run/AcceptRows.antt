@@ -1,9 +1,9 @@
 -- ACCEPT's rows one by one; none answers 6.
 use Prim.Native.Nat.{_<_}
-use mathlib.Core.Path.{_≡_, refl, sym}
+use mathlib.Core.Path.{_≡_, refl}
 use mathlib.Core.Bool.{Bool, true, false, not, _||_}
 use lib.Dec.{leb, ltb, eqb}
-use borrow.Author.Tests.{leb-false}
+use borrow.Author.Tests.{leb-false, not-false}
 use Rattle.hns_encoding.specs.Laws.Tests.{neither}
 use Rattle.hnsr_body.specs.declared.error.Checked.{Checked}
 use Rattle.hnsr_body.specs.declared.error.Checked.the-variants.{Ok, Err}
@@ -31,10 +31,6 @@ pub record AcceptRows (w : World) (q : Packet) (p : RelayPending) : Type 0 where
   pub circuits : circuitCount w < configOf w .«maximum_circuits»
   pub room : capacityAnswer (configOf w) (tallied true (q .context) (p .requester) (w .inflight)) ≡ Taken
 
-flip : (b : Bool) → not b ≡ false → b ≡ true
-flip true x = refl
-flip false x = sym x
-
 pub accept-rows : (w : World) (q : Packet) (p : RelayPending) (b : AcceptBody) → acceptTaken w q p b ≡ Taken → AcceptRows w q p
 unfolding acceptTaken requestAnswer acceptAnswer
 accept-rows w q p b e =
@@ -57,7 +53,7 @@ accept-rows w q p b e =
     let most = ltb (p .ticket .«max_active_circuits») under in
     let i = neither over full (neither (over || full) most (check-taken (over || full || most) Capacity (d .0)) .0) in
     record {
-      found = flip f (check-taken (not f) UnknownRequest (g .0));
+      found = not-false f (check-taken (not f) UnknownRequest (g .0));
       fresh = check-taken (overdue (q .now) p) InvalidAdmission (h .1);
       circuits = leb-false (configOf w .«maximum_circuits») (circuitCount w) (i .1);
       room = d .1;

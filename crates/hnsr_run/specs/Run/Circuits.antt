@@ -38,6 +38,13 @@ pub record Agrees (c : RelayCircuit) (k : Known) : Type 0 where
   pub limited : k .limit < top 64
   pub totalled : k .total < top 64
 
+-- ended at one id: active elsewhere
+pub end-test : (x y : Bool) → cond x false y ≡ (y && not x)
+end-test true true = refl
+end-test true false = refl
+end-test false true = refl
+end-test false false = refl
+
 abbrev pub circuitKeys : Keys RelayCircuit ℕ Known
 circuitKeys = record {
   used = λ c. c .used;
@@ -69,13 +76,7 @@ module _ {cs : List RelayCircuit} {ac : ℕ → Bool} {kn : ℕ → Known} (C : 
 
   pub remove-circs : (ac′ : ℕ → Bool) → ((i : ℕ) → ac′ i ≡ cond (eqb j i) false (ac i)) → Circs (edit (circuitAt j) clearCircuit cs) ac′ kn
   unfolding circuitAt
-  remove-circs ac′ ea = rw ended-table (clear-tells circuitKeys C (circuitAt j) (λ i. eqb j i) mine ac′ (λ i. ea i ∙ flip (eqb j i) (ac i)))
-    where
-      flip : (x y : Bool) → cond x false y ≡ (y && not x)
-      flip true true = refl
-      flip true false = refl
-      flip false true = refl
-      flip false false = refl
+  remove-circs ac′ ea = rw ended-table (clear-tells circuitKeys C (circuitAt j) (λ i. eqb j i) mine ac′ (λ i. ea i ∙ end-test (eqb j i) (ac i)))
 
 -- ---- the queues
 -- the side that an action of DATA goes to

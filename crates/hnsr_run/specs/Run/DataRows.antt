@@ -1,12 +1,12 @@
 -- DATA's rows one by one, the action that it queues by the side that sends, and a circuit of which more is known.
 use Prim.Native.Nat.{ℕ, _+_, _≤_}
 use native.Mathlib.Omega.{arith}
-use mathlib.Core.Path.{_≡_, refl, sym, ap, _∙_}
-use mathlib.Core.Bool.{Bool, true, false, cond, not, _||_}
+use mathlib.Core.Path.{_≡_, sym, ap, _∙_}
+use mathlib.Core.Bool.{true, false, cond, not, _||_}
 use mathlib.Core.List.{List}
 use lib.Dec.{ltb, eqb}
 use lib.ListN.{length}
-use borrow.Author.Tests.{eqb-true}
+use borrow.Author.Tests.{eqb-true, not-false}
 use Rattle.hns_encoding.specs.Numbers.{top, saturatingAdd}
 use Rattle.hns_encoding.specs.Laws.Tests.{split, neither}
 use Rattle.hnsr_body.specs.declared.values.ReservationId.{ReservationId}
@@ -89,12 +89,8 @@ pub named-active : {w : World} {h : Past} → Rel w h → (q : Packet) → (c : 
     → h .active (q .context) ≡ true
 unfolding circuitAnswer
 named-active {w} {h} R q c e = sym (circuit-there w h (R .base .full) (q .context))
-    ∙ flip (hasCircuit w (q .context)) (check-taken (not (hasCircuit w (q .context))) UnknownCircuit (then-taken (check (not (hasCircuit w
+    ∙ not-false (hasCircuit w (q .context)) (check-taken (not (hasCircuit w (q .context))) UnknownCircuit (then-taken (check (not (hasCircuit w
     (q .context))) UnknownCircuit) (check (not (isSide (sender q) c)) WrongPeer) e .0))
-  where
-    flip : (b : Bool) → not b ≡ false → b ≡ true
-    flip true x = refl
-    flip false x = sym x
 
 pub side-same : (q : Packet) {c : RelayCircuit} {k : Known} → Agrees c k → sideOf (sender q) c ≡ sideIn (sender q) k
 unfolding sideOf
@@ -137,16 +133,12 @@ data-rows w q c side n e =
       size = a .0;
       circuit = b .0;
       room = d .0;
-      ledger = flip (hasUsage (c .«reservation_id») (w .ledger)) (check-taken (not (hasUsage (c .«reservation_id») (w .ledger))) InvalidAdmission (g .0));
+      ledger = not-false (hasUsage (c .«reservation_id») (w .ledger)) (check-taken (not (hasUsage (c .«reservation_id») (w .ledger))) InvalidAdmission (g .0));
       circuitBytes = h .0;
       totalBytes = h .1;
       credit = i .0;
       queue = i .1;
     }
-  where
-    flip : (b : Bool) → not b ≡ false → b ≡ true
-    flip true x = refl
-    flip false x = sym x
 
 -- ---- DATA: the action, by the side that sends
 pub to-endpoint : (side : RelaySide) {c : RelayCircuit} {k : Known} → Agrees c k → samePeer (k .endpoint) (peerAt (otherSide side) c) ≡ toEndpoint (otherSide side)

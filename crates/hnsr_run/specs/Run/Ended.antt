@@ -21,7 +21,7 @@ use Rattle.hnsr_circuit.specs.Laws.Edits.{edit-clear}
 use Rattle.hnsr_circuit.specs.Laws.Keyed.{Tells, keyed-at, clear-tells}
 use Rattle.hnsr_run.specs.Past.{Asked, Action, Past, at, isData, onCircuit, towardSide, weight, openEnded, circuitEnded}
 use Rattle.hnsr_run.specs.Run.Actions.{drop-acts}
-use Rattle.hnsr_run.specs.Run.Circuits.{suspend, drop-queue, remove-queue, remove-circs}
+use Rattle.hnsr_run.specs.Run.Circuits.{suspend, drop-queue, remove-queue, remove-circs, end-test}
 use Rattle.hnsr_run.specs.Run.Full.{pendingKeys, Full, Keeps}
 
 -- ---- a record ended
@@ -84,19 +84,13 @@ end-circuit {S} w h j S′ sw K = record {
     back : (i : ℕ) → S′ i ≡ false → eqb j i ≡ false → S″ i ≡ false
     back i s e = ap (λ b. b || eqb j i) (sw i s e) ∙ e
 
-flip : (x y : Bool) → cond x false y ≡ (y && not x)
-flip true true = refl
-flip true false = refl
-flip false true = refl
-flip false false = refl
-
 pub remove-pends : {ps : List RelayPending} {st : ℕ → Bool} {kn : ℕ → Asked} → Tells pendingKeys ps st kn → (j : ℕ)
     → Tells pendingKeys (edit (pendingAt j) clearPending ps) (at j false st) kn
 unfolding pendingAt
 remove-pends {ps} {st} {kn} T j = rw (edit-clear (pendingAt j) clearPending ps (T .once j))
     (clear-tells pendingKeys T (pendingAt j) (λ i. eqb j i)
     (λ i a. keyed-at pendingKeys j i (pick (pendingAt i) noPending ps) (pick-has (pendingAt i) noPending ps (T .found i ∙ a)) ∙ eqb-comm i j) (at j false st)
-    (λ i. flip (eqb j i) (st i)))
+    (λ i. end-test (eqb j i) (st i)))
 
 pub end-pending : {S : ℕ → Bool} {u : World} (w : World) (h : Past) (j : ℕ) → h .opens .standing j ≡ true → Keeps S u w h
     → Keeps S u (endPending w (pendingAt j) j) (openEnded h j)

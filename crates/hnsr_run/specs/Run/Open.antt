@@ -5,7 +5,7 @@ use mathlib.Core.Bool.{Bool, true, false, cond, not, _&&_, _||_}
 use mathlib.Core.List.{[]}
 use lib.Dec.{leb, ltb, eqb}
 use lib.ListN.{length}
-use borrow.Author.Tests.{leb-false}
+use borrow.Author.Tests.{leb-false, not-false}
 use Rattle.hns_encoding.specs.Numbers.{top}
 use Rattle.hns_encoding.specs.Laws.Tests.{split, choose, clash, neither}
 use Rattle.hns_encoding.specs.Sums.{count, non}
@@ -41,9 +41,6 @@ use Rattle.hnsr_run.specs.Run.Booking.{made, book-found, book-made}
 use Rattle.hnsr_run.specs.Run.Rel.{Live, Rel, if-not, not-taken, reledger}
 
 -- ---- the rows
-flip : (b : Bool) → not b ≡ false → b ≡ true
-flip true x = refl
-flip false x = sym x
 
 pub record Admitted (w : World) (q : Packet) : Type 0 where
   pub pending : pendingCount w < configOf w .«maximum_pending»
@@ -100,7 +97,7 @@ placed-rows w q o e =
     let g = then-taken late full (d .1) in
     record {
       apart = neither s t (neither (s || t) u (check-taken (s || t || u) Capacity (b .0)) .0) .0;
-      drawn = flip f (check-taken (not f) Randomness (c .0));
+      drawn = not-false f (check-taken (not f) Randomness (c .0));
       room = d .0;
       ledger = check-taken l LedgerFull (g .1);
     }

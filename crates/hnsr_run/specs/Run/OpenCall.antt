@@ -5,7 +5,7 @@ use mathlib.Core.Path.{_≡_, refl, sym, ap, _∙_, subst}
 use mathlib.Core.Bool.{Bool, true, false, cond, not, _||_, true≢false, false≢true}
 use mathlib.Core.List.{List, [], _∷_}
 use lib.Dec.{leb, ltb, eqb}
-use borrow.Author.Tests.{eqb-true, eq-eqb, lt-ltb}
+use borrow.Author.Tests.{eqb-true, eq-eqb, lt-ltb, not-false}
 use Rattle.hns_encoding.specs.Numbers.{top}
 use Rattle.hns_encoding.specs.Laws.Tests.{neither}
 use Rattle.hns_encoding.specs.Sums.{count}
@@ -54,13 +54,9 @@ usage-number t u e f = check-number (not (eqb (u .«expires_at») (t .«expires_
 
 usage-expiry : (t : RelayTicket) (u : ReservationUsage) → usageAnswer t u ≡ Taken → u .«expires_at» ≡ t .«expires_at»
 unfolding usageAnswer
-usage-expiry t u e = eqb-true (u .«expires_at») (t .«expires_at») (flip (eqb (u .«expires_at») (t .«expires_at»)) (neither (not (eqb (u .«expires_at»)
+usage-expiry t u e = eqb-true (u .«expires_at») (t .«expires_at») (not-false (eqb (u .«expires_at») (t .«expires_at»)) (neither (not (eqb (u .«expires_at»)
     (t .«expires_at»))) (leb (t .«max_total_bytes») (u .bytes)) (check-taken (not (eqb (u .«expires_at») (t .«expires_at»)) || leb (t .«max_total_bytes»)
     (u .bytes)) ByteLimit e) .0))
-  where
-    flip : (b : Bool) → not b ≡ false → b ≡ true
-    flip true x = refl
-    flip false x = sym x
 
 incoming-context : (o : Opening) → o .id ≡ incomingMessage o .context
 unfolding incomingMessage

@@ -155,7 +155,7 @@ revoke-keeps {w} {h} R id room = proceed-cases (λ (o : Outcome). Rel (o .world)
     (λ e f. if-taken (λ (g : Past). Rel w g) e _ h R)
 
 -- ---- expire
-clock-taken : (high now : ℕ) → clockAnswer high now ≡ Taken → high ≤ now
+pub clock-taken : (high now : ℕ) → clockAnswer high now ≡ Taken → high ≤ now
 unfolding clockAnswer
 clock-taken high now e = ltb-false now high (check-taken (ltb now high) ClockRollback e)
 

@@ -6,7 +6,7 @@ use mathlib.Core.Bool.{Bool, true, false, cond, not, _&&_, _||_, true≢false, f
 use mathlib.Core.List.{List, []}
 use lib.Dec.{ltb, eqb}
 use lib.ListN.{length}
-use borrow.Author.Tests.{ltb-false}
+use borrow.Author.Tests.{ltb-false, not-false}
 use Rattle.hns_encoding.specs.Numbers.{top}
 use Rattle.hns_encoding.specs.Laws.Tests.{choose, neither}
 use Rattle.hns_encoding.specs.Sums.{one, count}
@@ -77,13 +77,9 @@ new-rows w s e =
     let last = check (tablesShort (s .config) w || none) Short in
     let a = then-taken valid last (then-taken session (valid then last) e .1) in
     record {
-      good = flip (configGood (s .config)) (check-taken (not (configGood (s .config))) InvalidConfig (a .0));
+      good = not-false (configGood (s .config)) (check-taken (not (configGood (s .config))) InvalidConfig (a .0));
       short = neither (tablesShort (s .config) w) none (check-taken (tablesShort (s .config) w || none) Short (a .1)) .0;
     }
-  where
-    flip : (b : Bool) → not b ≡ false → b ≡ true
-    flip true x = refl
-    flip false x = sym x
 
 record Long (w : World) (c : OpaqueRelayConfig) : Type 0 where
   pending : c .«maximum_pending» ≤ length (w .pending)

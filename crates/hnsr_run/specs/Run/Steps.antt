@@ -1,12 +1,12 @@
 -- Every call keeps the invariant, taken or refused: entry, clock and gate of `handle`, the opcode's handling, and the other calls.
-use Prim.Native.Nat.{ℕ, _≤_, _<_}
+use Prim.Native.Nat.{ℕ, _<_}
 use native.Mathlib.Omega.{arith}
 use mathlib.Core.Path.{_≡_, refl, sym, ap, _∙_, subst}
 use mathlib.Core.Bool.{Bool, true, false, cond, not, _&&_, _||_}
 use mathlib.Core.List.{[]}
 use lib.Dec.{ltb, eqb}
 use lib.ListN.{length}
-use borrow.Author.Tests.{eqb-true, le-ltb, ltb-true, ltb-false}
+use borrow.Author.Tests.{eqb-true, le-ltb, ltb-true, not-false, not-true}
 use Rattle.hns_encoding.specs.Numbers.{top}
 use Rattle.hns_encoding.specs.Laws.Tests.{choose, both, or-none}
 use Rattle.hnsr_body.specs.declared.error.Checked.the-variants.{Ok, Err}
@@ -15,7 +15,7 @@ use Rattle.hnsr_body.specs.declared.error.HnsrProtocolError.the-variants.{Inval
 use Rattle.hnsr_body.specs.Packet.{packetChecked, packetSize, mostPacket, sampleRoutes}
 use Rattle.hnsr_circuit.specs.declared.answer.HnsrAnswer.the-variants.{Taken, Refused}
 use Rattle.hnsr_circuit.specs.declared.answer.HnsrRuntimeError.{HnsrRuntimeError}
-use Rattle.hnsr_circuit.specs.declared.answer.HnsrRuntimeError.the-variants.{Short, ClockRollback, Disabled}
+use Rattle.hnsr_circuit.specs.declared.answer.HnsrRuntimeError.the-variants.{Short, Disabled}
 use Rattle.hnsr_circuit.specs.Answers.{check, bodyAnswer, _then_}
 use Rattle.hnsr_circuit.specs.World.{World, Outcome, statusIs, dueIs, configOf, done, telling, atTime}
 use Rattle.hnsr_circuit.specs.Queue.{opOpen, opAccept, opData, opWindow, opClose, opError, sequenceOf}
@@ -30,7 +30,7 @@ use Rattle.hnsr_circuit.specs.Laws.Answers.{then-taken, check-taken}
 use Rattle.hnsr_run.specs.Past.{Past, movedTo}
 use Rattle.hnsr_run.specs.History.{taken, entered, handledAs, handleIn, after}
 use Rattle.hnsr_run.specs.Claim.{limitsBelow}
-use Rattle.hnsr_run.specs.Run.Revoking.{disconnect-keeps, revoke-keeps, expire-keeps}
+use Rattle.hnsr_run.specs.Run.Revoking.{clock-taken, disconnect-keeps, revoke-keeps, expire-keeps}
 use Rattle.hnsr_run.specs.Run.Switching.{replace-keeps}
 use Rattle.hnsr_run.specs.Run.Undelivered.{acknowledge-keeps}
 use Rattle.hnsr_run.specs.Run.Data.{data-keeps}
@@ -61,10 +61,6 @@ pub entry-same : {w : World} {h : Past} → Rel w h → Places w → (q : Packet
 unfolding entryAnswer
 entry-same {w} {h} R H q room = λ i. (room-same w H room handleWords i then peerAnswer (length (q .source)) then packetAnswer (q .opcode) (q .context) (length
     (q .body))) then clockAnswer (R .base .heads .clock i) (q .now)
-
-pub clock-on : (high now : ℕ) → clockAnswer high now ≡ Taken → high ≤ now
-unfolding clockAnswer
-clock-on high now e = ltb-false now high (check-taken (ltb now high) ClockRollback e)
 
 -- an OPEN that passes the entry has a context
 packet-context : (opcode context n : ℕ) → opcode ≡ opOpen → packetAnswer opcode context n ≡ Taken → eqb context 0 ≡ false
@@ -120,19 +116,11 @@ module _ {w : World} {h : Past} (R : Rel w h) (H : Places w) (low : sequenceOf w
   unfolding handleGate gateAnswer
   gated = proceed-cases (λ (o : Outcome). Rel (o .world) (cond (h .head .enabled) (handledAs (handlingOf (q .opcode)) q (o .answer) (o .routes) h) h)) w
       (gateAnswer (w .header .enabled)) (dispatch (handlingOf (q .opcode)) w q)
-      (λ e. let on = sym (R .base .heads .enabled) ∙ flip (w .header .enabled) (check-taken (not (w .header .enabled)) Disabled e) in
+      (λ e. let on = sym (R .base .heads .enabled) ∙ not-false (w .header .enabled) (check-taken (not (w .header .enabled)) Disabled e) in
       subst (λ b. Rel (dispatch (handlingOf (q .opcode)) w q .world) (cond b (handledAs (handlingOf (q .opcode)) q (dispatch (handlingOf (q .opcode)) w q .answer)
       (dispatch (handlingOf (q .opcode)) w q .routes) h) h)) (sym on) (dispatched on))
       (λ e f. if-not (λ (g : Past). Rel w g) (h .head .enabled) _ h (sym (R .base .heads .enabled)
-      ∙ unflip (w .header .enabled) (check-refused (not (w .header .enabled)) Disabled e f)) R)
-    where
-      flip : (b : Bool) → not b ≡ false → b ≡ true
-      flip true x = refl
-      flip false x = sym x
-
-      unflip : (b : Bool) → not b ≡ true → b ≡ false
-      unflip true x = sym x
-      unflip false x = refl
+      ∙ not-true (w .header .enabled) (check-refused (not (w .header .enabled)) Disabled e f)) R)
 
 open-limit : (q : Packet) (room : ℕ) → limitsBelow (callHandle q room) ≡ true → q .opcode ≡ opOpen → q .admission .ticket .«max_total_bytes» < top 64
 open-limit q room l e =
@@ -152,7 +140,7 @@ handle-keeps {w} {h} R H low q room lim = proceed-cases
     let pack = packetAnswer (q .opcode) (q .context) (length (q .body)) in
     let a = then-taken (entryAnswer w q room) (clockAnswer high (q .now)) e in
     let b = then-taken peer pack (then-taken entry (peer then pack) (a .0) .1) .1 in
-    let R₁ = moved-rel R (q .now) (let l = clock-on high (q .now) (a .1) in omega (arith, R .base .heads .clock)) in
+    let R₁ = moved-rel R (q .now) (let l = clock-taken high (q .now) (a .1) in omega (arith, R .base .heads .clock)) in
     let o = handleGate (atTime w (q .now)) q in
     subst (λ c. Rel (o .world) (cond c (cond (h .head .enabled) (handledAs (handlingOf (q .opcode)) q (o .answer) (o .routes) (movedTo h (q .now))) (movedTo h
     (q .now))) h)) (sym (ap taken (sym (entry-same R H q room) ∙ e)))
@@ -168,7 +156,7 @@ observe-keeps : {w : World} {h : Past} → Rel w h → (now : ℕ) → let o = o
 unfolding observeTime
 observe-keeps {w} {h} R now = proceed-cases (λ (o : Outcome). Rel (o .world) (after h (callObserveTime now) (o .answer) (o .routes))) w (clockAnswer
     (w .header .«trusted_time_high_water») now) (done (atTime w now) [])
-    (λ e. moved-rel R now (let l = clock-on (w .header .«trusted_time_high_water») now e in omega (arith, R .base .heads .clock)))
+    (λ e. moved-rel R now (let l = clock-taken (w .header .«trusted_time_high_water») now e in omega (arith, R .base .heads .clock)))
     (λ e f. if-taken (λ (g : Past). Rel w g) e _ h R)
 
 pub step-keeps : {w : World} {h : Past} → Rel w h → Places w → sequenceOf w < top 64 → (c : Call) → limitsBelow c ≡ true

@@ -4,7 +4,7 @@ use native.Mathlib.Omega.{arith}
 use mathlib.Core.Path.{_≡_, refl, sym, ap, _∙_, subst}
 use mathlib.Core.Bool.{Bool, true, false, cond, not, Bool·beq, true≢false, and-false, and-true}
 use mathlib.Core.List.{List, []}
-use borrow.Author.Tests.{not-true}
+use borrow.Author.Tests.{not-true, not-false}
 use Rattle.hns_encoding.specs.Laws.Tests.{choose, clash}
 use Rattle.hns_encoding.specs.Laws.Sums.{total-zero}
 use Rattle.hnsr_body.specs.declared.messages.Notice.the-variants.{RelayDisabled}
@@ -101,11 +101,7 @@ off-keeps {w} {h} R = let B = switched-base R false in
     }
 
 beq-off : (x y : Bool) → not (Bool·beq x y) ≡ false → Bool·beq x y ≡ true
-beq-off x y e = flip (Bool·beq x y) e
-  where
-    flip : (b : Bool) → not b ≡ false → b ≡ true
-    flip true e = refl
-    flip false e = absurd (true≢false e)
+beq-off x y e = not-false (Bool·beq x y) e
 
 beq-false : (x : Bool) → Bool·beq x true ≡ false → x ≡ false
 beq-false true e = absurd (true≢false e)

@@ -4,6 +4,7 @@ use mathlib.Core.Path.{_≡_, refl, sym, ap, _∙_, subst}
 use mathlib.Core.Bool.{Bool, true, false, cond, not, _||_}
 use mathlib.Core.List.{[]}
 use lib.Dec.{leb, ltb, eqb}
+use borrow.Author.Tests.{not-false}
 use Rattle.hns_encoding.specs.Numbers.{top}
 use Rattle.hns_encoding.specs.Laws.Tests.{split, choose, clash}
 use Rattle.hnsr_body.specs.declared.messages.Notice.the-variants.{EndpointWriteFailed, OuterWriteFailed}
@@ -175,11 +176,7 @@ taken-found w g s room e =
     let third = actionAnswer (any (actionAt g s) (w .inflight)) in
     let second = generationAnswer (generationOf w) g in
     let k = then-taken second third (then-taken (roomAnswer w room acknowledgeWords) (second then third) e .1) .1 in
-    flip (any (actionAt g s) (w .inflight)) (check-taken (not (any (actionAt g s) (w .inflight))) UnknownAction k)
-  where
-    flip : (b : Bool) → not b ≡ false → b ≡ true
-    flip true x = refl
-    flip false x = sym x
+    not-false (any (actionAt g s) (w .inflight)) (check-taken (not (any (actionAt g s) (w .inflight))) UnknownAction k)
 
 pub acknowledge-keeps : {w : World} {h : Past} → Rel w h → sequenceOf w < top 64 → (g s : ℕ) (delivered : Bool) (room : ℕ)
     → let o = acknowledge w g s delivered room in Rel (o .world) (after h (callAcknowledge g s delivered room) (o .answer) (o .routes))

@@ -3,7 +3,7 @@ use Prim.Native.Nat.{ℕ}
 use native.Mathlib.Omega.{arith}
 use mathlib.Core.Path.{_≡_, refl, ap, _∙_}
 use mathlib.Core.Bool.{Bool, cond}
-use mathlib.Core.List.{List, [], _∷_}
+use mathlib.Core.List.{List, [], _∷_, _++_}
 use lib.Dec.{eqb}
 use lib.ListN.{length, replicate}
 use Rattle.hnsr_circuit.specs.declared.runtime.HnsrRuntimeStatus.{HnsrRuntimeStatus}
@@ -116,7 +116,7 @@ chargedAgain q o w =
 abbrev pub doubly : World → Call → Outcome
 doubly = withHandle (λ w q room. cond (eqb (q .opcode) opData) (chargedAgain q (step w (callHandle q room)) w) (step w (callHandle q room)))
 
--- ---- the runs
+-- ---- the runs: a circuit, and DATA of 40 bytes toward the endpoint, whose route has the number 3; then a call more
 abbrev talk : List Call
 talk = opens 1 2 9 (7 ∷ []) (grant 5 100) 100 ∷ accepts 2 7 100 ∷ sends 1 7 40 100 ∷ []
 
@@ -128,8 +128,7 @@ actionsIn (dueIs d) = 0
 pub idle-refuted : Claim idle → ⊥
 unfolding machine lent notAdmitted
 idle-refuted C =
-    let h = C tables fresh refl (omega arith) (opens 1 2 9 (7 ∷ []) (grant 5 100) 100 ∷ acked 1 1 ∷ []) refl .status in
-    let k : _≡_ {A = ℕ} 1 0 = ap actionsIn (h .2) ∙ h .3 in
+    let k : _≡_ {A = ℕ} 40 0 = C tables fresh refl (omega arith) (talk ++ (acked 1 3 ∷ [])) refl .queued 7 refl Endpoint in
     omega arith
 
 pub invented-refuted : Claim invented → ⊥
@@ -142,23 +141,19 @@ invented-refuted C =
 pub routed-refuted : Claim routedOnly → ⊥
 unfolding machine lent notAdmitted
 routed-refuted C =
-    let k : _≡_ {A = ℕ} 40 50 = C tables fresh refl (omega arith) (opens 1 2 9 (7 ∷ [])
-    (grant 5 100) 100 ∷ accepts 2 7 100 ∷ sends 1 7 40 100 ∷ sends 1 7 10 100 ∷ []) refl .queued 7 refl Endpoint in
+    let k : _≡_ {A = ℕ} 40 50 = C tables fresh refl (omega arith) (talk ++ (sends 1 7 10 100 ∷ [])) refl .queued 7 refl Endpoint in
     omega arith
 
 pub forgetful-refuted : Claim forgetful → ⊥
 unfolding machine lent notAdmitted
 forgetful-refuted C =
-    let k : _≡_ {A = ℕ} 40 0 = C tables fresh refl (omega arith) (opens 1 2 9 (7 ∷ [])
-    (grant 5 100) 100 ∷ accepts 2 7 100 ∷ sends 1 7 40 100 ∷ acked 1 3 ∷ []) refl .queued 7 refl Endpoint in
+    let k : _≡_ {A = ℕ} 40 0 = C tables fresh refl (omega arith) (talk ++ (acked 1 3 ∷ [])) refl .queued 7 refl Endpoint in
     omega arith
 
 pub doubly-refuted : Claim doubly → ⊥
 unfolding machine lent notAdmitted
 doubly-refuted C =
-    let d = C tables fresh refl (omega arith) (opens 1 2 9 (7 ∷ [])
-    (grant 5 100) 100 ∷ accepts 2 7 100 ∷ sends 1 7 40 100 ∷ acked 1 2 ∷ acked 1 3 ∷ []) refl .drained [] (λ f. refl) (λ a. acknowledgeWords)
-    (λ a. omega arith) in
+    let d = C tables fresh refl (omega arith) (talk ++ (acked 1 2 ∷ acked 1 3 ∷ [])) refl .drained [] (λ f. refl) (λ a. acknowledgeWords) (λ a. omega arith) in
     let p = d .1 7 refl Requester (packet 1 opData 7 (replicate 30 65) 100) handleWords (record {
       opcode = refl;
       context = refl;

@@ -4,6 +4,7 @@ pub mod RelayPending
 pub mod ReservationUsage
 pub mod acknowledge
 pub mod calls
+pub mod handle
 pub mod handle_accept
 pub mod handle_close
 pub mod handle_data

@@ -38,3 +38,4 @@ pub mod Calls
 pub mod RevokingCalls
 pub mod QuietCalls
 pub mod Acknowledging
+pub mod HandleCall

@@ -10,7 +10,7 @@ pub mod config;
 mod data;
 mod draw;
 mod entry;
-mod handle;
+pub mod handle;
 mod handle_accept;
 mod handle_close;
 mod handle_data;

@@ -1,0 +1,3 @@
+pub mod dispatch
+pub mod handle
+pub mod handle_gate

@@ -1,0 +1,48 @@
+-- The rows in order.
+use mathlib.Core.Path.{_∙_}
+use Rattle.hnsr_circuit.specs.Answers.{_then_}
+use borrow.Author.Needs.{needs}
+use Rattle.hnsr_circuit.proofs.handle.entry_answer.Statement.{statement}
+use Rattle.hnsr_circuit.proofs.handle.entry_answer.Tie as tie
+use Rattle.hnsr_circuit.proofs.handle.entry_answer.Reads as reads
+use Rattle.hnsr_circuit.proofs.handle.entry_answer.Lts as lts
+use Rattle.hnsr_circuit.proofs.answer.first_refusal.Reads as first-refusal-reads
+use Rattle.hnsr_circuit.proofs.entry.clock_answer.Reads as clock-answer-reads
+use Rattle.hnsr_circuit.proofs.entry.peer_answer.Reads as peer-answer-reads
+use Rattle.hnsr_circuit.proofs.handle.packet_answer.Reads as packet-answer-reads
+
+peer-answer-requires : tie.Need-peer-answer-requires
+peer-answer-requires c κs = search needs
+
+packet-answer-requires : tie.Need-packet-answer-requires
+packet-answer-requires c κs = search needs
+
+first-refusal-requires : tie.Need-first-refusal-requires
+first-refusal-requires c κs = search needs
+
+first-refusal-requires-2 : tie.Need-first-refusal-requires-2
+first-refusal-requires-2 c κs = search needs
+
+clock-answer-requires : tie.Need-clock-answer-requires
+clock-answer-requires c κs = search needs
+
+first-refusal-requires-3 : tie.Need-first-refusal-requires-3
+first-refusal-requires-3 c κs = search needs
+
+returns : tie.Need-returns
+returns c = let a = c .before .before .before .before .before .before .args in
+    let rest = c .before .before .before .first-refusal .ensures ∙ (λ x. c .before .before .before .before .before .peer-answer .ensures x then c .before .before .before .before .packet-answer .ensures x) in
+    let entered = c .before .before .first-refusal2 .ensures ∙ (λ x. a .room then rest x) in
+    c .first-refusal3 .ensures ∙ (λ x. entered x then c .before .clock-answer .ensures x)
+
+pub entry-answer-spec : {M : Type 1} → statement M
+entry-answer-spec =
+    tie.close
+    (tie.spec
+    peer-answer-requires
+    packet-answer-requires
+    first-refusal-requires
+    first-refusal-requires-2
+    clock-answer-requires
+    first-refusal-requires-3
+    returns)

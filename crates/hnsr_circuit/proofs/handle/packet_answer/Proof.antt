@@ -1,0 +1,24 @@
+-- The packet's check, as a row.
+use mathlib.Core.Path.{ap, _∙_}
+use Rattle.hnsr_circuit.specs.Answers.{bodyAnswer}
+use Rattle.hnsr_circuit.specs.Entry.{packetAnswer}
+use borrow.Author.Needs.{needs}
+use Rattle.hnsr_circuit.proofs.handle.packet_answer.Statement.{statement}
+use Rattle.hnsr_circuit.proofs.handle.packet_answer.Tie as tie
+use Rattle.hnsr_circuit.proofs.handle.packet_answer.Reads as reads
+use Rattle.hnsr_circuit.proofs.handle.packet_answer.Lts as lts
+use Rattle.hnsr_body.proofs.envelope.HnsrPacket.validate.Reads as validate-reads
+use Rattle.hnsr_circuit.proofs.answer.body_answer.Reads as body-answer-reads
+
+validate-requires : tie.Need-validate-requires
+validate-requires c κs = search needs
+
+body-answer-requires : tie.Need-body-answer-requires
+body-answer-requires c κs = search needs
+
+returns : tie.Need-returns
+unfolding packetAnswer
+returns c = c .body-answer .ensures ∙ ap bodyAnswer (c .before .validate .ensures)
+
+pub packet-answer-spec : {M : Type 1} → statement M
+packet-answer-spec = tie.close (tie.spec validate-requires body-answer-requires returns)

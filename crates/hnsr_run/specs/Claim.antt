@@ -1,0 +1,105 @@
+-- Demand 3: one claim about any list of calls from a taken `new`, refused ones included, over a machine's step.
+use Prim.Native.Nat.{ℕ, _+_, _≤_, _<_}
+use mathlib.Core.Path.{_≡_}
+use mathlib.Core.Logic.{_↔_}
+use mathlib.Core.Bool.{Bool, true, cond, not, _&&_, _||_}
+use mathlib.Core.List.{List, [], _∷_, map}
+use lib.Dec.{ltb, eqb}
+use lib.ListN.{length, replicate}
+use Rattle.hns_encoding.specs.Numbers.{top}
+use Rattle.hns_encoding.specs.Sums.{total}
+use Rattle.hnsr_body.specs.Data.{mostData}
+use Rattle.hnsr_circuit.specs.declared.runtime.HnsrRuntimeStatus.{HnsrRuntimeStatus}
+use Rattle.hnsr_circuit.specs.declared.records.RelaySide.{RelaySide}
+use Rattle.hnsr_circuit.specs.declared.answer.HnsrAnswer.the-variants.{Taken}
+use Rattle.hnsr_circuit.specs.World.{World, Outcome, statusIs}
+use Rattle.hnsr_circuit.specs.Peer.{peerGood, samePeer}
+use Rattle.hnsr_circuit.specs.Circuits.{otherSide, queuedTo}
+use Rattle.hnsr_circuit.specs.Route.{Route}
+use Rattle.hnsr_circuit.specs.Queue.{opOpen, opData}
+use Rattle.hnsr_circuit.specs.Entry.{handleWords, acknowledgeWords}
+use Rattle.hnsr_circuit.specs.Packet.{Packet, sender, circuitIn}
+use Rattle.hnsr_circuit.specs.Call.{Start, start, Call, callStatus, callNextDue, callObserveTime, callReplaceEnabled, callHandle, callAcknowledge, callDisconnect, callRevokeReservation, callExpire}
+use Rattle.hnsr_run.specs.Past.{Action, Past, peerOn, credit, circuitLeft, totalLeft, weight}
+use Rattle.hnsr_run.specs.History.{Event, begin, after, reckon}
+
+-- every byte limit that a call brings is below 2^64 − 1
+abbrev pub limitsBelow : Call → Bool
+limitsBelow (callHandle q room) =
+    not (eqb (q .opcode) opOpen)
+    || (ltb (q .admission .ticket .«max_bytes_per_circuit») (top 64) && ltb (q .admission .ticket .«max_total_bytes») (top 64))
+limitsBelow callStatus = true
+limitsBelow callNextDue = true
+limitsBelow (callObserveTime now) = true
+limitsBelow (callReplaceEnabled expected enabled room) = true
+limitsBelow (callAcknowledge generation sequence delivered room) = true
+limitsBelow (callDisconnect peer room) = true
+limitsBelow (callRevokeReservation id room) = true
+limitsBelow (callExpire now room) = true
+
+-- the action sequence, the number that the next action gets: 1 after `new` and after a switch, and one more for each route
+abbrev pub sequenceAfter : Past → ℕ → Event → ℕ
+sequenceAfter h n e = cond (eqb (after h (e .call) (e .answer) (e .routes) .head .generation) (h .head .generation)) n 1 + length (e .routes)
+
+-- every byte limit and the action sequence are below 2^64 − 1 throughout
+abbrev pub below : Past → ℕ → List Event → Bool
+below h n [] = ltb n (top 64)
+below h n (e ∷ es) = ltb n (top 64) && (limitsBelow (e .call) && below (after h (e .call) (e .answer) (e .routes)) (sequenceAfter h n e) es)
+
+-- a list in any order: whatever is summed over its members, the sum is the same
+abbrev pub Reordered : List Action → List Action → Type 0
+Reordered order out = (f : Action → ℕ) → total f order ≡ total f out
+
+-- DATA from a side of a circuit: 1 to 16,384 bytes, within the queue limit, clock not back, circuit unexpired, output long enough
+pub record Sends (h : Past) (j : ℕ) (side : RelaySide) (q : Packet) (room : ℕ) : Type 0 where
+  pub opcode : q .opcode ≡ opData
+  pub context : q .context ≡ j
+  pub named : peerGood (length (q .source)) ≡ true
+  pub from : samePeer (peerOn side (h .known j)) (sender q) ≡ true
+  pub some : 0 < length (q .body)
+  pub fits : length (q .body) ≤ mostData
+  pub queue : length (q .body) ≤ h .head .config .«maximum_queue_bytes»
+  pub forward : h .head .clock ≤ q .now
+  pub unexpired : q .now < h .known j .expires
+  pub words : handleWords ≤ room
+
+-- it passes unchanged: taken, one route, to the other side, same opcode, context and body
+pub record Passes (o : Outcome) (h : Past) (j : ℕ) (side : RelaySide) (q : Packet) : Type 0 where
+  pub taken : o .answer ≡ Taken
+  pub route : Route
+  pub one : o .routes ≡ route ∷ []
+  pub to : route .destination ≡ peerOn (otherSide side) (h .known j)
+  pub opcode : route .opcode ≡ q .opcode
+  pub context : route .context ≡ q .context
+  pub body : route .body ≡ q .body
+
+module _ (step : World → Call → Outcome) where
+  abbrev pub leftBy : World → List Call → World
+  leftBy w [] = w
+  leftBy w (c ∷ cs) = leftBy (step w c .world) cs
+
+  abbrev pub events : World → List Call → List Event
+  events w [] = []
+  events w (c ∷ cs) = record { call = c; answer = step w c .answer; routes = step w c .routes } ∷ events (step w c .world) cs
+
+  abbrev pub delivered : (rooms : Action → ℕ) → Action → Call
+  delivered rooms a = callAcknowledge (a .generation) (a .sequence) true (rooms a)
+
+  -- a world and what the events tell
+  pub record Holds (w : World) (h : Past) : Type 0 where
+    -- (a) `status` answers as many actions as are outstanding
+    pub status : (s : HnsrRuntimeStatus) × (step w callStatus .answer ≡ Taken) × (step w callStatus .told ≡ statusIs s) × (s .«queued_actions» ≡ length (h .out))
+    -- (b) in every active circuit each direction's queued count equals the bytes of DATA taken and unacknowledged there
+    pub queued : (j : ℕ) → h .active j ≡ true → (side : RelaySide) → queuedTo side (circuitIn w j) ≡ total (weight j side) (h .out)
+    -- (c) for every order of the outstanding actions, acknowledging each once as delivered is taken each time; and then DATA from either
+    -- side of any active circuit passes unchanged if and only if it is within credit and what circuit and reservation have left
+    pub drained : (order : List Action) → Reordered order (h .out) → (rooms : Action → ℕ) → ((a : Action) → acknowledgeWords ≤ rooms a)
+        → (map (λ e. e .answer) (events w (map (delivered rooms) order)) ≡ replicate (length order) Taken)
+        × ((j : ℕ) → h .active j ≡ true → (side : RelaySide) (q : Packet) (room : ℕ) → Sends h j side q room
+        → Passes (step (leftBy w (map (delivered rooms) order)) (callHandle q room)) h j side q
+        ↔ ((length (q .body) ≤ credit side (h .known j)) × (length (q .body) ≤ circuitLeft (h .known j)) × (length (q .body) ≤ totalLeft (h .book) (h .known j))))
+
+  abbrev pub Claim : Type 0
+  Claim = (lent : World) (s : Start) → start lent s .answer ≡ Taken → s .config .«maximum_bytes_per_circuit» < top 64
+      → (calls : List Call) → below (begin s) 1 (events (start lent s .world) calls) ≡ true
+      → Holds (leftBy (start lent s .world) calls) (reckon (begin s) (events (start lent s .world) calls))

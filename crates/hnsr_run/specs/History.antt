@@ -1,0 +1,244 @@
+-- What each event changes (document 01, "Reckoned from history" and the two paragraphs after it; the rules of "Down through the call"), and what
+-- the whole list of events tells. What a call ends or drops is document 01's rule applied to what is known; what a refused call left
+-- behind shows in its number.
+use Prim.Native.Nat.{ℕ, _+_, min}
+use mathlib.Core.Bool.{Bool, true, false, cond, not, _&&_, _||_, Bool·beq}
+use mathlib.Core.List.{List, [], _∷_, _++_, map}
+use lib.Dec.{leb, ltb, eqb}
+use lib.ListN.{length}
+use Rattle.hns_encoding.specs.Sums.{non}
+use Rattle.hnsr_body.specs.declared.values.ReservationId.{ReservationId}
+use Rattle.hnsr_body.specs.Values.{sameReservation}
+use Rattle.hnsr_body.specs.Accept.{acceptFields}
+use Rattle.hnsr_body.specs.Data.{windowFields}
+use Rattle.hnsr_circuit.specs.declared.peer.HnsrPeerId.{HnsrPeerId}
+use Rattle.hnsr_circuit.specs.declared.config.OpaqueRelayConfig.{OpaqueRelayConfig}
+use Rattle.hnsr_circuit.specs.declared.answer.HnsrAnswer.{HnsrAnswer}
+use Rattle.hnsr_circuit.specs.declared.answer.HnsrRuntimeError.{HnsrRuntimeError}
+use Rattle.hnsr_circuit.specs.declared.answer.HnsrRuntimeError.the-variants.{Short, Capacity, GenerationExhausted, ByteLimit}
+use Rattle.hnsr_circuit.specs.declared.records.RelaySide.{RelaySide}
+use Rattle.hnsr_circuit.specs.declared.records.RelaySide.the-variants.{Requester, Endpoint}
+use Rattle.hnsr_circuit.specs.Answers.{errorNumber, number, check, _then_}
+use Rattle.hnsr_circuit.specs.Table.{pick, keep}
+use Rattle.hnsr_circuit.specs.Peer.{peerOf, samePeer}
+use Rattle.hnsr_circuit.specs.declared.records.InflightKind.the-variants.{Incoming, Close}
+use Rattle.hnsr_circuit.specs.Inflight.{kindNumber}
+use Rattle.hnsr_circuit.specs.Route.{Route}
+use Rattle.hnsr_circuit.specs.Entry.{handleWords, peerAnswer, packetAnswer, clockAnswer}
+use Rattle.hnsr_circuit.specs.Packet.{Packet, sender}
+use Rattle.hnsr_circuit.specs.Open.{deadlineFor}
+use Rattle.hnsr_circuit.specs.Handle.{Handling, OPEN, ACCEPT, DATA, WINDOW, CLOSE, ERROR, other, handlingOf}
+use Rattle.hnsr_circuit.specs.Call.{Start, Call, callStatus, callNextDue, callObserveTime, callReplaceEnabled, callHandle, callAcknowledge, callDisconnect, callRevokeReservation, callExpire}
+use Rattle.hnsr_run.specs.Past.{Known, Asked, Action, Past, counted, numbered, toward, heard, nothing, noOne, noOpens, noBook, withHead, withBook, withOut, emit, without, movedTo, stood, unstood, openEnded, begun, learnt, circuitEnded, remade, spentBy, unmade}
+
+pub record Event : Type 0 where
+  pub call : Call
+  pub answer : HnsrAnswer
+  pub routes : List Route
+
+-- after a taken `new`
+abbrev pub begin : Start → Past
+begin s = record {
+  head = record { generation = s .generation; enabled = true; clock = s .now; config = s .config };
+  active = λ j. false;
+  known = λ j. noOne;
+  opens = noOpens;
+  book = noBook;
+  out = [];
+}
+
+-- ---- what an answer tells
+abbrev pub taken : HnsrAnswer → Bool
+taken a = eqb (number a) 0
+
+abbrev pub refusedBy : HnsrRuntimeError → HnsrAnswer → Bool
+refusedBy e a = eqb (number a) (errorNumber e)
+
+-- refused with 10 after a record was ended or an action removed (CLOSE, ERROR, acknowledge), or with 6 by the queueing: everything earlier stays
+abbrev pub ends : HnsrAnswer → Bool
+ends a = taken a || (refusedBy Capacity a || refusedBy GenerationExhausted a)
+
+-- ACCEPT, refused with all written: 6 alone, since the entry refuses an OPEN without a context
+abbrev pub written : HnsrAnswer → Bool
+written a = taken a || refusedBy GenerationExhausted a
+
+-- ---- sides
+abbrev pub askedSide : HnsrPeerId → Asked → Bool
+askedSide p k = samePeer (k .requester) p || samePeer (k .endpoint) p
+
+abbrev pub knownSide : HnsrPeerId → Known → Bool
+knownSide p k = samePeer (k .requester) p || samePeer (k .endpoint) p
+
+abbrev pub sideIn : HnsrPeerId → Known → RelaySide
+sideIn p k = cond (samePeer (k .requester) p) Requester Endpoint
+
+-- ---- OPEN: the id is in the INCOMING route; refused with 18 it has made the missing ledger record
+abbrev pub firstContext : List Route → ℕ
+firstContext [] = 0
+firstContext (r ∷ rs) = r .context
+
+abbrev pub askedFor : OpaqueRelayConfig → Packet → Asked
+askedFor c q = record {
+  requester = sender q;
+  endpoint = peerOf (q .admission .endpoint);
+  context = q .context;
+  ticket = q .admission .ticket;
+  deadline = deadlineFor c (q .admission .ticket) (q .now);
+}
+
+abbrev pub openIn : Packet → HnsrAnswer → List Route → Past → Past
+openIn q a rs h =
+    let b = remade (q .now) (h .book) (q .admission .ticket) in
+    cond (taken a) (emit (stood (withBook h b) (firstContext rs) (askedFor (h .head .config) q)) rs) (cond (refusedBy ByteLimit a) (withBook h b) h)
+
+-- ---- ACCEPT: the pending's actions are dropped, and the circuit is active
+abbrev pub startedBy : OpaqueRelayConfig → Asked → (window : ℕ) → Known
+startedBy c k window = record {
+  requester = k .requester;
+  endpoint = k .endpoint;
+  reservation = k .ticket .«reservation_id»;
+  expires = k .ticket .«expires_at»;
+  limit = min (k .ticket .«max_bytes_per_circuit») (c .«maximum_bytes_per_circuit»);
+  total = k .ticket .«max_total_bytes»;
+  window = window;
+  dataR = 0;
+  dataE = 0;
+  windowR = 0;
+  windowE = 0;
+}
+
+abbrev pub acceptIn : Packet → HnsrAnswer → List Route → Past → Past
+acceptIn q a rs h =
+    let j = q .context in
+    cond (written a) (emit (begun (openEnded h j) j (startedBy (h .head .config) (h .opens .asked j) (acceptFields (q .body) .«accepted_window»))) rs) h
+
+-- ---- DATA and WINDOW
+abbrev pub sent : RelaySide → ℕ → Known → Known
+sent Requester n k = counted k (k .dataR + n) (k .dataE) (k .windowR) (k .windowE)
+sent Endpoint n k = counted k (k .dataR) (k .dataE + n) (k .windowR) (k .windowE)
+
+abbrev pub granted : RelaySide → ℕ → Known → Known
+granted Requester n k = counted k (k .dataR) (k .dataE) (k .windowR + n) (k .windowE)
+granted Endpoint n k = counted k (k .dataR) (k .dataE) (k .windowR) (k .windowE + n)
+
+abbrev pub dataIn : Packet → HnsrAnswer → List Route → Past → Past
+dataIn q a rs h =
+    let j = q .context in
+    let k = h .known j in
+    let n = length (q .body) in
+    cond (taken a) (emit (withBook (learnt h j (sent (sideIn (sender q) k) n k)) (spentBy (h .book) (k .reservation) n)) rs) h
+
+abbrev pub windowIn : Packet → HnsrAnswer → List Route → Past → Past
+windowIn q a rs h =
+    let j = q .context in
+    let k = h .known j in
+    cond (taken a) (emit (learnt h j (granted (sideIn (sender q) k) (windowFields (q .body) .«credit_delta») k)) rs) h
+
+-- ---- CLOSE, ERROR: the OPEN that the requester names by its own context, or the endpoint by id; else the circuit
+abbrev pub byContext : Past → HnsrPeerId → ℕ → Bool
+byContext h p x =
+    let k = h .opens .asked (h .opens .named p x) in
+    h .opens .standing (h .opens .named p x) && (samePeer (k .requester) p && eqb (k .context) x)
+
+abbrev pub byId : Past → HnsrPeerId → ℕ → Bool
+byId h p x = h .opens .standing x && samePeer (h .opens .asked x .endpoint) p
+
+abbrev pub endIn : HnsrPeerId → ℕ → Past → Past
+endIn p x h =
+    cond (byContext h p x) (openEnded h (h .opens .named p x))
+    (cond (byId h p x) (openEnded h x) (circuitEnded h x))
+
+abbrev pub closeIn : Packet → HnsrAnswer → List Route → Past → Past
+closeIn q a rs h = cond (ends a) (emit (endIn (sender q) (q .context) h) rs) h
+
+-- ---- acknowledge: removes the action. Undelivered: Incoming ends the OPEN, other actions staying; Opened, Data, Control the circuit; Close, or
+-- a record no longer there, nothing
+abbrev pub failedIn : Action → Past → Past
+failedIn x h =
+    cond (eqb (x .kind) (kindNumber Incoming)) (cond (h .opens .standing (x .circuit)) (unstood h (x .circuit)) h)
+    (cond (leb (kindNumber Close) (x .kind)) h (cond (h .active (x .circuit)) (circuitEnded h (x .circuit)) h))
+
+abbrev pub acknowledgeIn : (generation sequence : ℕ) → (delivered : Bool) → HnsrAnswer → List Route → Past → Past
+acknowledgeIn g s delivered a rs h =
+    let x = pick (numbered g s) nothing (h .out) in
+    let rest = without h (numbered g s) in
+    cond (ends a) (emit (cond delivered rest (failedIn x rest)) rs) h
+
+-- ---- the revoking calls: OPENs and circuits of which a test holds end, and their actions are dropped
+abbrev pub goneOpen : Past → (Asked → Bool) → Action → Bool
+goneOpen h q a = h .opens .standing (a .circuit) && q (h .opens .asked (a .circuit))
+
+abbrev pub goneCircuit : Past → (Known → Bool) → Action → Bool
+goneCircuit h q a = h .active (a .circuit) && q (h .known (a .circuit))
+
+abbrev pub revoked : Past → (Asked → Bool) → (Known → Bool) → List Route → Past
+revoked h qo qc rs = record {
+  head = h .head;
+  active = λ j. h .active j && not (qc (h .known j));
+  known = h .known;
+  opens = record { standing = λ j. h .opens .standing j && not (qo (h .opens .asked j)); asked = h .opens .asked; named = h .opens .named };
+  book = h .book;
+  out = keep (non (goneCircuit h qc)) (keep (non (goneOpen h qo)) (h .out)) ++ map (heard (h .known)) rs;
+}
+
+abbrev pub askedUnder : ReservationId → Asked → Bool
+askedUnder r k = sameReservation (k .ticket .«reservation_id») r
+
+abbrev pub knownUnder : ReservationId → Known → Bool
+knownUnder r k = sameReservation (k .reservation) r
+
+abbrev pub askedOver : (now : ℕ) → Asked → Bool
+askedOver now k = leb (k .deadline) now || leb (k .ticket .«expires_at») now
+
+abbrev pub knownOver : (now : ℕ) → Known → Bool
+knownOver now k = leb (k .expires) now
+
+abbrev pub everyOpen : Asked → Bool
+everyOpen k = true
+
+abbrev pub everyCircuit : Known → Bool
+everyCircuit k = true
+
+-- a changed enabled state raises the generation, drops every action and, if off, revokes all; the same state changes nothing
+abbrev pub switchedTo : Past → Bool → Past
+switchedTo h on = withOut (withHead h (record { generation = h .head .generation + 1; enabled = on; clock = h .head .clock; config = h .head .config })) []
+
+abbrev pub enableIn : Bool → List Route → Past → Past
+enableIn on rs h = cond (Bool·beq (h .head .enabled) on) h (cond on (emit (switchedTo h on) rs) (revoked (switchedTo h on) everyOpen everyCircuit rs))
+
+-- ---- handle: entry and clock; from here the clock has moved; then the gate, and the opcode picks the handling
+abbrev pub entered : Past → Packet → (room : ℕ) → HnsrAnswer
+entered h q room =
+    (check (ltb room handleWords) Short then peerAnswer (length (q .source)) then packetAnswer (q .opcode) (q .context) (length (q .body)))
+    then clockAnswer (h .head .clock) (q .now)
+
+abbrev pub handledAs : Handling → Packet → HnsrAnswer → List Route → Past → Past
+handledAs OPEN q a rs h = openIn q a rs h
+handledAs ACCEPT q a rs h = acceptIn q a rs h
+handledAs DATA q a rs h = dataIn q a rs h
+handledAs WINDOW q a rs h = windowIn q a rs h
+handledAs CLOSE q a rs h = closeIn q a rs h
+handledAs ERROR q a rs h = closeIn q a rs h
+handledAs other q a rs h = h
+
+abbrev pub handleIn : Packet → (room : ℕ) → HnsrAnswer → List Route → Past → Past
+handleIn q room a rs h =
+    let g = movedTo h (q .now) in
+    cond (taken (entered h q room)) (cond (h .head .enabled) (handledAs (handlingOf (q .opcode)) q a rs g) g) h
+
+-- ---- one event, and all of them
+abbrev pub after : Past → Call → HnsrAnswer → List Route → Past
+after h callStatus a rs = h
+after h callNextDue a rs = h
+after h (callObserveTime now) a rs = cond (taken a) (movedTo h now) h
+after h (callReplaceEnabled expected on room) a rs = cond (taken a) (enableIn on rs h) h
+after h (callHandle q room) a rs = handleIn q room a rs h
+after h (callAcknowledge g s delivered room) a rs = acknowledgeIn g s delivered a rs h
+after h (callDisconnect peer room) a rs =
+    cond (taken a) (revoked (without h (toward (peerOf peer))) (askedSide (peerOf peer)) (knownSide (peerOf peer)) rs) h
+after h (callRevokeReservation id room) a rs = cond (taken a) (revoked (withBook h (unmade (h .book) id)) (askedUnder id) (knownUnder id) rs) h
+after h (callExpire now room) a rs = cond (taken a) (revoked (movedTo h now) (askedOver now) (knownOver now) rs) h
+
+abbrev pub reckon : Past → List Event → Past
+reckon h [] = h
+reckon h (e ∷ es) = reckon (after h (e .call) (e .answer) (e .routes)) es

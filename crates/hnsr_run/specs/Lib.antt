@@ -1,0 +1,13 @@
+-- ---- the claim
+pub mod Past
+pub mod History
+pub mod Claim
+pub mod Orders
+-- ---- by computation
+pub mod Talk
+pub mod RichRun
+pub mod Refuted
+-- ---- the proof
+pub mod Run
+pub mod SameRun
+pub mod Theorem

@@ -1,0 +1,262 @@
+-- What is known from the events of a run alone: circuits, OPENs that stand, reservations, outstanding actions, and how each small change leaves it.
+-- No table of the machine is looked at. Circuits and OPENs are functions of the id, reservations of theirs; the actions are one list.
+use Prim.Native.Nat.{ℕ, _+_, _-_}
+use mathlib.Core.Bool.{Bool, true, false, cond, not, _&&_}
+use mathlib.Core.List.{List, _++_, map}
+use lib.Dec.{ltb, eqb}
+use lib.ListN.{length}
+use Rattle.hns_encoding.specs.Sums.{only, non}
+use Rattle.hnsr_body.specs.declared.values.ReservationId.{ReservationId}
+use Rattle.hnsr_body.specs.Values.{sameReservation}
+use Rattle.hnsr_circuit.specs.declared.peer.HnsrPeerId.{HnsrPeerId}
+use Rattle.hnsr_circuit.specs.declared.config.OpaqueRelayConfig.{OpaqueRelayConfig}
+use Rattle.hnsr_circuit.specs.declared.records.RelayTicket.{RelayTicket}
+use Rattle.hnsr_circuit.specs.declared.records.RelaySide.{RelaySide}
+use Rattle.hnsr_circuit.specs.declared.records.RelaySide.the-variants.{Requester, Endpoint}
+use Rattle.hnsr_circuit.specs.Table.{keep}
+use Rattle.hnsr_circuit.specs.Peer.{noPeer, samePeer}
+use Rattle.hnsr_circuit.specs.Pending.{noReservation, noTicket}
+use Rattle.hnsr_circuit.specs.declared.records.InflightKind.the-variants.{Incoming, Opened, Data, Control, Close}
+use Rattle.hnsr_circuit.specs.Inflight.{kindNumber}
+use Rattle.hnsr_circuit.specs.Queue.{opIncoming, opOpened, opData, opWindow}
+use Rattle.hnsr_circuit.specs.Route.{Route}
+
+-- ---- what is known
+-- a circuit, from its ACCEPT on: its sides and limits, the accepted window, and DATA and WINDOW taken from each side, R from the requester and E
+-- from the endpoint
+pub record Known : Type 0 where
+  pub requester : HnsrPeerId
+  pub endpoint : HnsrPeerId
+  pub reservation : ReservationId
+  pub expires : ℕ
+  pub limit : ℕ
+  pub total : ℕ
+  pub window : ℕ
+  pub dataR : ℕ
+  pub dataE : ℕ
+  pub windowR : ℕ
+  pub windowE : ℕ
+
+-- an OPEN that stands: who asked whom under which context, the grant's ticket, and until when it may be accepted
+pub record Asked : Type 0 where
+  pub requester : HnsrPeerId
+  pub endpoint : HnsrPeerId
+  pub context : ℕ
+  pub ticket : RelayTicket
+  pub deadline : ℕ
+
+-- by id; and the id of the last OPEN that a requester sent under a context
+pub record Opens : Type 0 where
+  pub standing : ℕ → Bool
+  pub asked : ℕ → Asked
+  pub named : HnsrPeerId → ℕ → ℕ
+
+-- reservations: whether an OPEN made the ledger record, its expiry, and the DATA taken under its id since then
+pub record Book : Type 0 where
+  pub made : ReservationId → Bool
+  pub due : ReservationId → ℕ
+  pub spent : ReservationId → ℕ
+
+-- an outstanding action: the numbers of its route, the circuit that it is about, to whom, its kind, and of DATA the direction and the bytes
+pub record Action : Type 0 where
+  pub generation : ℕ
+  pub sequence : ℕ
+  pub circuit : ℕ
+  pub destination : HnsrPeerId
+  pub kind : ℕ
+  pub toEndpoint : Bool
+  pub bytes : ℕ
+
+pub record Head : Type 0 where
+  pub generation : ℕ
+  pub enabled : Bool
+  pub clock : ℕ
+  pub config : OpaqueRelayConfig
+
+pub record Past : Type 0 where
+  pub head : Head
+  pub active : ℕ → Bool
+  pub known : ℕ → Known
+  pub opens : Opens
+  pub book : Book
+  pub out : List Action
+
+-- ---- a function changed at one place
+abbrev pub at : {B : Type 0} → ℕ → B → (ℕ → B) → ℕ → B
+at j v g i = cond (eqb j i) v (g i)
+
+abbrev pub under : {B : Type 0} → ReservationId → B → (ReservationId → B) → ReservationId → B
+under r v g i = cond (sameReservation r i) v (g i)
+
+-- ---- what is reckoned (document 01, "Reckoned from history")
+-- a side's credit is the accepted window plus WINDOW taken from the other side less DATA taken from it
+abbrev pub credit : RelaySide → Known → ℕ
+credit Requester k = k .window + k .windowE - k .dataR
+credit Endpoint k = k .window + k .windowR - k .dataE
+
+-- a circuit's bytes are its DATA taken; left is the circuit's own limit less these
+abbrev pub circuitLeft : Known → ℕ
+circuitLeft k = k .limit - (k .dataR + k .dataE)
+
+-- the circuit's own total less all DATA taken under the reservation's id since the OPEN that last made its ledger record
+abbrev pub totalLeft : Book → Known → ℕ
+totalLeft b k = k .total - b .spent (k .reservation)
+
+abbrev pub peerOn : RelaySide → Known → HnsrPeerId
+peerOn Requester k = k .requester
+peerOn Endpoint k = k .endpoint
+
+-- ---- actions
+abbrev pub isData : Action → Bool
+isData a = eqb (a .kind) (kindNumber Data)
+
+abbrev pub onCircuit : ℕ → Action → Bool
+onCircuit j a = eqb (a .circuit) j
+
+abbrev pub toward : HnsrPeerId → Action → Bool
+toward p a = samePeer (a .destination) p
+
+abbrev pub numbered : (generation sequence : ℕ) → Action → Bool
+numbered g s a = eqb (a .generation) g && eqb (a .sequence) s
+
+-- DATA of a circuit toward a side
+abbrev pub towardSide : RelaySide → Action → Bool
+towardSide Requester a = not (a .toEndpoint)
+towardSide Endpoint a = a .toEndpoint
+
+abbrev pub weight : ℕ → RelaySide → Action → ℕ
+weight j side a = only (λ x. isData x && (onCircuit j x && towardSide side x)) (λ x. x .bytes) a
+
+-- an action's kind is its message's name, but Control for WINDOW and Close for CLOSE and ERROR
+abbrev pub kindFor : (opcode : ℕ) → ℕ
+kindFor n =
+    cond (eqb n opIncoming) (kindNumber Incoming)
+    (cond (eqb n opOpened) (kindNumber Opened)
+    (cond (eqb n opData) (kindNumber Data)
+    (cond (eqb n opWindow) (kindNumber Control) (kindNumber Close))))
+
+-- the action of a route
+abbrev pub heard : (ℕ → Known) → Route → Action
+heard kn r = record {
+  generation = r .generation;
+  sequence = r .sequence;
+  circuit = r .circuit;
+  destination = r .destination;
+  kind = kindFor (r .opcode);
+  toEndpoint = eqb (r .opcode) opData && samePeer (kn (r .circuit) .endpoint) (r .destination);
+  bytes = cond (eqb (r .opcode) opData) (length (r .body)) 0;
+}
+
+-- DATA and WINDOW taken, replaced
+abbrev pub counted : Known → (dataR dataE windowR windowE : ℕ) → Known
+counted k dataR dataE windowR windowE = record {
+  requester = k .requester;
+  endpoint = k .endpoint;
+  reservation = k .reservation;
+  expires = k .expires;
+  limit = k .limit;
+  total = k .total;
+  window = k .window;
+  dataR = dataR;
+  dataE = dataE;
+  windowR = windowR;
+  windowE = windowE;
+}
+
+-- ---- nothing yet
+abbrev pub noOne : Known
+noOne = record {
+  requester = noPeer;
+  endpoint = noPeer;
+  reservation = noReservation;
+  expires = 0;
+  limit = 0;
+  total = 0;
+  window = 0;
+  dataR = 0;
+  dataE = 0;
+  windowR = 0;
+  windowE = 0;
+}
+
+abbrev pub noAsked : Asked
+noAsked = record { requester = noPeer; endpoint = noPeer; context = 0; ticket = noTicket; deadline = 0 }
+
+abbrev pub noOpens : Opens
+noOpens = record { standing = λ j. false; asked = λ j. noAsked; named = λ p x. 0 }
+
+abbrev pub noBook : Book
+noBook = record { made = λ r. false; due = λ r. 0; spent = λ r. 0 }
+
+abbrev pub nothing : Action
+nothing = record { generation = 0; sequence = 0; circuit = 0; destination = noPeer; kind = 0; toEndpoint = false; bytes = 0 }
+
+-- ---- one part replaced
+abbrev pub withHead : Past → Head → Past
+withHead h d = record { head = d; active = h .active; known = h .known; opens = h .opens; book = h .book; out = h .out }
+
+abbrev pub withOpens : Past → Opens → Past
+withOpens h o = record { head = h .head; active = h .active; known = h .known; opens = o; book = h .book; out = h .out }
+
+abbrev pub withBook : Past → Book → Past
+withBook h b = record { head = h .head; active = h .active; known = h .known; opens = h .opens; book = b; out = h .out }
+
+abbrev pub withOut : Past → List Action → Past
+withOut h out = record { head = h .head; active = h .active; known = h .known; opens = h .opens; book = h .book; out = out }
+
+abbrev pub withCircuit : Past → (ℕ → Bool) → (ℕ → Known) → Past
+withCircuit h ac kn = record { head = h .head; active = ac; known = kn; opens = h .opens; book = h .book; out = h .out }
+
+-- ---- small changes
+-- routes written are outstanding actions
+abbrev pub emit : Past → List Route → Past
+emit h rs = withOut h (h .out ++ map (heard (h .known)) rs)
+
+abbrev pub without : Past → (Action → Bool) → Past
+without h p = withOut h (keep (non p) (h .out))
+
+abbrev pub movedTo : Past → (now : ℕ) → Past
+movedTo h now = withHead h (record { generation = h .head .generation; enabled = h .head .enabled; clock = now; config = h .head .config })
+
+-- an OPEN stands; it no longer stands; it ends, and its actions are dropped
+abbrev pub stood : Past → ℕ → Asked → Past
+stood h j k = withOpens h (record {
+  standing = at j true (h .opens .standing);
+  asked = at j k (h .opens .asked);
+  named = λ p x. cond (samePeer (k .requester) p && eqb (k .context) x) j (h .opens .named p x);
+})
+
+abbrev pub unstood : Past → ℕ → Past
+unstood h j = withOpens h (record { standing = at j false (h .opens .standing); asked = h .opens .asked; named = h .opens .named })
+
+abbrev pub openEnded : Past → ℕ → Past
+openEnded h j = unstood (without h (onCircuit j)) j
+
+-- a circuit is active; more is known of it; it ends, and its actions are dropped
+abbrev pub begun : Past → ℕ → Known → Past
+begun h j k = withCircuit h (at j true (h .active)) (at j k (h .known))
+
+abbrev pub learnt : Past → ℕ → Known → Past
+learnt h j k = withCircuit h (h .active) (at j k (h .known))
+
+abbrev pub circuitEnded : Past → ℕ → Past
+circuitEnded h j = withCircuit (without h (onCircuit j)) (at j false (h .active)) (h .known)
+
+-- ---- reservations
+-- of a ledger record past its expiry nothing is said: which call drops it does not show in the answers
+abbrev pub lives : (now : ℕ) → Book → ReservationId → Bool
+lives now b r = b .made r && ltb now (b .due r)
+
+-- made anew, unless it lives
+abbrev pub remade : (now : ℕ) → Book → RelayTicket → Book
+remade now b t = cond (lives now b (t .«reservation_id»)) b (record {
+  made = under (t .«reservation_id») true (b .made);
+  due = under (t .«reservation_id») (t .«expires_at») (b .due);
+  spent = under (t .«reservation_id») 0 (b .spent);
+})
+
+abbrev pub spentBy : Book → ReservationId → ℕ → Book
+spentBy b r n = record { made = b .made; due = b .due; spent = under r (b .spent r + n) (b .spent) }
+
+abbrev pub unmade : Book → ReservationId → Book
+unmade b r = record { made = under r false (b .made); due = b .due; spent = b .spent }

@@ -1,0 +1,128 @@
+-- A run, computed: several circuits on a shared reservation, both directions queued, a relay switched off and on, an id drawn a second time, an
+-- expired OPEN, a disconnect, calls refused. It shows that the claim speaks of something.
+use Prim.Native.Nat.{ℕ}
+use mathlib.Core.Path.{_≡_, refl}
+use mathlib.Core.Bool.{true, false}
+use mathlib.Core.List.{List, [], _∷_, _++_, map}
+use Rattle.hns_encoding.specs.Sums.{total}
+use Rattle.hnsr_circuit.specs.declared.records.RelaySide.the-variants.{Requester, Endpoint}
+use Rattle.hnsr_circuit.specs.Answers.{number}
+use Rattle.hnsr_circuit.specs.World.{World}
+use Rattle.hnsr_circuit.specs.Entry.{acknowledgeWords}
+use Rattle.hnsr_circuit.specs.Cases.{lent, notAdmitted}
+use Rattle.hnsr_circuit.specs.Call.{Call, start, step, callStatus, callReplaceEnabled, callDisconnect, callExpire}
+use Rattle.hnsr_circuit.specs.All.{machine}
+use Rattle.hnsr_run.specs.Past.{Action, Past, credit, circuitLeft, totalLeft, weight}
+use Rattle.hnsr_run.specs.History.{Event, begin, reckon}
+use Rattle.hnsr_run.specs.Claim.{leftBy, events, below, delivered}
+use Rattle.hnsr_run.specs.Talk.{tables, fresh, grant, opens, accepts, sends, widens, closes, acked}
+
+abbrev pub richCalls : List Call
+richCalls =
+    opens 1 2 9 (7 ∷ []) (grant 5 5800) 100
+    ∷ accepts 2 7 100
+    ∷ sends 1 7 1000 100
+    ∷ callReplaceEnabled 1 false 1000
+    ∷ opens 1 2 9 (7 ∷ []) (grant 5 5800) 100
+    ∷ callReplaceEnabled 2 true 1000
+    ∷ opens 1 2 9 (0 ∷ 7 ∷ []) (grant 5 5800) 101
+    ∷ accepts 2 7 101
+    ∷ opens 3 2 9 (7 ∷ 8 ∷ []) (grant 5 5800) 101
+    ∷ accepts 2 8 101
+    ∷ opens 4 2 1 (11 ∷ []) (grant 5 5800) 101
+    ∷ opens 4 3 2 (12 ∷ []) (grant 6 0) 101
+    ∷ sends 1 7 500 102
+    ∷ sends 2 7 300 102
+    ∷ sends 3 8 200 102
+    ∷ sends 2 8 100 102
+    ∷ sends 4 8 100 102
+    ∷ sends 1 7 0 102
+    ∷ widens 2 7 1000 103
+    ∷ acked 3 6
+    ∷ acked 3 6
+    ∷ acked 2 7
+    ∷ callExpire 111 1000
+    ∷ opens 1 4 2 (7 ∷ 8 ∷ 12 ∷ []) (grant 5 5800) 112
+    ∷ accepts 4 12 112
+    ∷ sends 4 12 50 112
+    ∷ callDisconnect (4 ∷ []) 1000
+    ∷ closes 3 7 113
+    ∷ sends 2 7 10 99
+    ∷ callStatus
+    ∷ []
+
+abbrev pub worldAfter : List Call → World
+worldAfter calls = leftBy step (start tables fresh .world) calls
+
+abbrev pub pastAfter : List Call → Past
+pastAfter calls = reckon (begin fresh) (events step (start tables fresh .world) calls)
+
+abbrev numberOf : Event → ℕ
+numberOf e = number (e .answer)
+
+pub answers : map numberOf (events step (start tables fresh .world) richCalls)
+    ≡ 0 ∷ 0 ∷ 0 ∷ 0 ∷ 9 ∷ 0 ∷ 0 ∷ 0 ∷ 0 ∷ 0 ∷ 0 ∷ 18 ∷ 0 ∷ 0 ∷ 0 ∷ 0 ∷ 15 ∷ 1 ∷ 0 ∷ 0 ∷ 20 ∷ 5 ∷ 0 ∷ 0 ∷ 0 ∷ 0 ∷ 0 ∷ 15 ∷ 7 ∷ 0 ∷ []
+unfolding machine lent notAdmitted
+answers = refl
+
+-- ---- the claim's premises hold of it
+pub new-taken : number (start tables fresh .answer) ≡ 0
+unfolding machine lent
+new-taken = refl
+
+pub bounded : below (begin fresh) 1 (events step (start tables fresh .world) richCalls) ≡ true
+unfolding machine lent notAdmitted
+bounded = refl
+
+-- ---- what is reckoned: the circuits 7 and 8 are active, both under reservation 5, on which 2,150 bytes were taken, 1,000 of them before the relay was
+-- switched off; the OPEN 11 and the circuit 12 have ended; OPENED, INCOMING, DATA, WINDOW and CLOSE are outstanding
+pub circuits : map (pastAfter richCalls .active) (7 ∷ 8 ∷ 11 ∷ 12 ∷ []) ≡ true ∷ true ∷ false ∷ false ∷ []
+unfolding machine lent notAdmitted
+circuits = refl
+
+pub spent : pastAfter richCalls .book .spent (record { high = 0; low = 5 }) ≡ 2150
+unfolding machine lent notAdmitted
+spent = refl
+
+pub outstanding : map (λ a. a .sequence) (pastAfter richCalls .out) ≡ 2 ∷ 4 ∷ 7 ∷ 8 ∷ 9 ∷ 10 ∷ 12 ∷ 16 ∷ 17 ∷ []
+unfolding machine lent notAdmitted
+outstanding = refl
+
+-- bytes of DATA taken and unacknowledged toward the requester and the endpoint of each circuit: of circuit 7 the 500 toward the endpoint are acknowledged
+pub unacknowledged : total (weight 7 Requester) (pastAfter richCalls .out) ∷ total (weight 7 Endpoint) (pastAfter richCalls .out) ∷ total (weight 8 Requester)
+    (pastAfter richCalls .out) ∷ total (weight 8 Endpoint) (pastAfter richCalls .out) ∷ []
+    ≡ 300 ∷ 0 ∷ 100 ∷ 200 ∷ []
+unfolding machine lent notAdmitted
+unacknowledged = refl
+
+-- the requester of 7 has its window, 1,000 more from the endpoint, less 500; 7 has 3,200 bytes left of its own, 8 has 3,700, and the reservation 3,650
+pub left : credit Requester (pastAfter richCalls .known 7) ∷ circuitLeft (pastAfter richCalls .known 7) ∷ circuitLeft (pastAfter richCalls .known 8) ∷ totalLeft
+    (pastAfter richCalls .book) (pastAfter richCalls .known 8) ∷ []
+    ≡ 16884 ∷ 3200 ∷ 3700 ∷ 3650 ∷ []
+unfolding machine lent notAdmitted
+left = refl
+
+-- ---- the outstanding actions acknowledged, last first: all taken; then DATA passes up to what is left, and fails by one byte
+abbrev backward : List Action → List Action
+backward [] = []
+backward (a ∷ more) = backward more ++ (a ∷ [])
+
+abbrev acksOf : List Call → List Call
+acksOf calls = map (delivered step (λ a. acknowledgeWords)) (backward (pastAfter calls .out))
+
+abbrev drainedOf : List Call → World
+drainedOf calls = leftBy step (worldAfter calls) (acksOf calls)
+
+pub all-acknowledged : map numberOf (events step (worldAfter richCalls) (acksOf richCalls)) ≡ 0 ∷ 0 ∷ 0 ∷ 0 ∷ 0 ∷ 0 ∷ 0 ∷ 0 ∷ 0 ∷ []
+unfolding machine lent notAdmitted
+all-acknowledged = refl
+
+pub circuit-full : number (step (drainedOf richCalls) (sends 2 7 3200 200) .answer) ∷ number (step (drainedOf richCalls)
+    (sends 2 7 3201 200) .answer) ∷ [] ≡ 0 ∷ 18 ∷ []
+unfolding machine lent notAdmitted
+circuit-full = refl
+
+pub reservation-full : number (step (drainedOf richCalls) (sends 3 8 3650 200) .answer) ∷ number (step (drainedOf richCalls)
+    (sends 3 8 3651 200) .answer) ∷ [] ≡ 0 ∷ 18 ∷ []
+unfolding machine lent notAdmitted
+reservation-full = refl

@@ -84,7 +84,13 @@ pub(crate) fn action_answer(found: bool) -> HnsrAnswer
 // Two routes with the longest notice.
 const ACKNOWLEDGE_WORDS: usize = 96;
 
-fn acknowledge_answer(runtime: OpaqueRelayRuntime, few: bool, room: usize, generation: u64, found: ActionFound) -> HnsrAnswer
+fn acknowledge_answer(
+    runtime: OpaqueRelayRuntime,
+    few: bool,
+    room: usize,
+    generation: u64,
+    found: ActionFound,
+) -> HnsrAnswer
     ensures { λ r. ⌜ r ≡ (check (ltb room acknowledgeWords || few) Short then generationAnswer (runtime .generation) generation then actionAnswer (found .found)) ⌝ }
 {
     let short = either(room < ACKNOWLEDGE_WORDS, few);
@@ -177,7 +183,13 @@ fn action_gone(found: ActionFound) -> InflightAction
 }
 
 // The queue toward a side, lowered.
-pub(crate) fn lower_circuit(circuits: &mut [RelayCircuit], go: bool, id: u64, side: RelaySide, n: usize)
+pub(crate) fn lower_circuit(
+    circuits: &mut [RelayCircuit],
+    go: bool,
+    id: u64,
+    side: RelaySide,
+    n: usize,
+)
     ensures { λ _. ⌜ now (circuits .exit) ≡ cond go (edit (circuitAt id) (lowered side n) (now (circuits .entry))) (now (circuits .entry)) ⌝ }
 {
     let question = at(id, 0);
@@ -211,7 +223,13 @@ fn fail_plan(found: PendingFound, runtime: OpaqueRelayRuntime) -> FailPlan
 }
 
 // A message of the relay's own, as the last step of a call.
-pub(crate) fn send_notice(inflight: &mut [InflightAction], out: &mut [u32], runtime: OpaqueRelayRuntime, message: Outgoing, notice: Notice) -> Relayed
+pub(crate) fn send_notice(
+    inflight: &mut [InflightAction],
+    out: &mut [u32],
+    runtime: OpaqueRelayRuntime,
+    message: Outgoing,
+    notice: Notice,
+) -> Relayed
     ensures { λ r. ⌜ ((p : List RelayPending) (c : List RelayCircuit) (l : List ReservationUsage) → handedBack r p c l (now (inflight .exit)) (now (out .exit)) ≡ ending (now (out .entry)) (send (worldOf runtime p c l (now (inflight .entry))) (messageOf message (noticeBody notice)))) ⌝ }
 {
     let question = asking(runtime, message);
@@ -231,7 +249,13 @@ pub(crate) fn send_notice(inflight: &mut [InflightAction], out: &mut [u32], runt
 }
 
 // An Incoming that was not delivered ends the pending record, other actions staying, and sends ERROR.
-pub(crate) fn fail_incoming(pending: &mut [RelayPending], inflight: &mut [InflightAction], out: &mut [u32], runtime: OpaqueRelayRuntime, id: u64) -> Relayed
+pub(crate) fn fail_incoming(
+    pending: &mut [RelayPending],
+    inflight: &mut [InflightAction],
+    out: &mut [u32],
+    runtime: OpaqueRelayRuntime,
+    id: u64,
+) -> Relayed
     ensures { λ r. ⌜ ((c : List RelayCircuit) (l : List ReservationUsage) → handedBack r (now (pending .exit)) c l (now (inflight .exit)) (now (out .exit)) ≡ ending (now (out .entry)) (failIncoming (worldOf runtime (now (pending .entry)) c l (now (inflight .entry))) id)) ⌝ }
 {
     let question = at(id, 0);

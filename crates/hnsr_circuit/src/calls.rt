@@ -66,7 +66,13 @@ fn session_answer(session: [u8; 16], generation: u64) -> HnsrAnswer
 }
 
 // 3; 2: what `validate` refuses; 22: a table has fewer places than its maximum, or the ledger none
-fn new_answer(session: [u8; 16], generation: u64, config: OpaqueRelayConfig, few: bool, ledger: usize) -> HnsrAnswer
+fn new_answer(
+    session: [u8; 16],
+    generation: u64,
+    config: OpaqueRelayConfig,
+    few: bool,
+    ledger: usize,
+) -> HnsrAnswer
     ensures { λ r. ⌜ r ≡ (sessionAnswer session generation then validateConfig config then check (few || eqb ledger 0) Short) ⌝ }
 {
     let named = session_answer(session, generation);
@@ -135,7 +141,12 @@ fn no_status() -> HnsrRuntimeStatus
     }
 }
 
-fn status_of(runtime: OpaqueRelayRuntime, waiting: usize, totals: CircuitTotals, actions: usize) -> HnsrRuntimeStatus
+fn status_of(
+    runtime: OpaqueRelayRuntime,
+    waiting: usize,
+    totals: CircuitTotals,
+    actions: usize,
+) -> HnsrRuntimeStatus
     ensures { λ r. ⌜ r ≡ statusFrom runtime waiting totals actions ⌝ }
 {
     let counters = runtime.counters;
@@ -169,7 +180,12 @@ fn status_told(few: bool, status: HnsrRuntimeStatus) -> StatusTold
     StatusTold { answer, status }
 }
 
-pub fn status(pending: &[RelayPending], circuits: &[RelayCircuit], inflight: &[InflightAction], runtime: OpaqueRelayRuntime) -> StatusTold
+pub fn status(
+    pending: &[RelayPending],
+    circuits: &[RelayCircuit],
+    inflight: &[InflightAction],
+    runtime: OpaqueRelayRuntime,
+) -> StatusTold
     ensures { λ r. ⌜ ((l : List ReservationUsage) → r ≡ statusTold (step (worldOf runtime (now (pending .entry)) (now (circuits .entry)) l (now (inflight .entry))) callStatus)) ⌝ }
 {
     let config = runtime.config;
@@ -198,7 +214,12 @@ fn due_told(few: bool, due: NextDue) -> DueTold
 }
 
 // The earliest deadline of a pending record or expiry of a circuit.
-pub fn next_due(pending: &[RelayPending], circuits: &[RelayCircuit], inflight: &[InflightAction], runtime: OpaqueRelayRuntime) -> DueTold
+pub fn next_due(
+    pending: &[RelayPending],
+    circuits: &[RelayCircuit],
+    inflight: &[InflightAction],
+    runtime: OpaqueRelayRuntime,
+) -> DueTold
     ensures { λ r. ⌜ ((l : List ReservationUsage) → r ≡ dueTold (step (worldOf runtime (now (pending .entry)) (now (circuits .entry)) l (now (inflight .entry))) callNextDue)) ⌝ }
 {
     let config = runtime.config;

@@ -92,7 +92,10 @@ pub(crate) fn with_sequence(runtime: OpaqueRelayRuntime, next: u64) -> OpaqueRel
     }
 }
 
-pub(crate) fn with_counters(runtime: OpaqueRelayRuntime, counters: RuntimeCounters) -> OpaqueRelayRuntime
+pub(crate) fn with_counters(
+    runtime: OpaqueRelayRuntime,
+    counters: RuntimeCounters,
+) -> OpaqueRelayRuntime
     ensures { λ r. ⌜ r ≡ withCounters runtime counters ⌝ }
 {
     let session = runtime.session;
@@ -127,7 +130,12 @@ pub(crate) fn with_enabled(runtime: OpaqueRelayRuntime, on: bool) -> OpaqueRelay
     }
 }
 
-pub(crate) fn new_header(session: [u8; 16], generation: u64, config: OpaqueRelayConfig, now: u64) -> OpaqueRelayRuntime
+pub(crate) fn new_header(
+    session: [u8; 16],
+    generation: u64,
+    config: OpaqueRelayConfig,
+    now: u64,
+) -> OpaqueRelayRuntime
     ensures { λ r. ⌜ r ≡ newHeader session generation config now ⌝ }
 {
     let counters = RuntimeCounters {

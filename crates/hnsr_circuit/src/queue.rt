@@ -24,6 +24,7 @@ use crate::answer::check;
 use crate::answer::first_refusal;
 use crate::answer::is_taken;
 use crate::config::OpaqueRelayConfig;
+use crate::header::with_sequence;
 use crate::inflight::capacity_answer;
 use crate::inflight::kind_number;
 use crate::records::ActionQuestion;
@@ -38,7 +39,6 @@ use crate::runtime::Relayed;
 use crate::runtime::Sending;
 use crate::tables::inflight::scan_actions;
 use crate::tables::inflight::set_action;
-use crate::header::with_sequence;
 use hns_encoding::numbers::saturating_add_u64;
 use hns_encoding::numbers::saturating_add_usize;
 use hnsr_body::error::HnsrInvalid;
@@ -46,7 +46,12 @@ use hnsr_body::error::HnsrProtocolError;
 use hnsr_body::messages::Notice;
 
 // 1: `HnsrPacket::new` refuses the made message; 10: actions; 6: sequence at 2^64 − 1.
-pub(crate) fn queue_answer(config: OpaqueRelayConfig, tally: InflightTally, sequence: u64, context: u64) -> HnsrAnswer
+pub(crate) fn queue_answer(
+    config: OpaqueRelayConfig,
+    tally: InflightTally,
+    sequence: u64,
+    context: u64,
+) -> HnsrAnswer
     ensures { λ r. ⌜ r ≡ queueAnswer config tally sequence context ⌝ }
 {
     let zero = HnsrRuntimeError::Protocol(HnsrProtocolError::Invalid(HnsrInvalid::ContextZero));
@@ -110,7 +115,12 @@ pub struct Queued {
 }
 
 // What was answered before stays the answer; else the message is queued, or refused.
-pub(crate) fn queue(before: HnsrAnswer, runtime: OpaqueRelayRuntime, message: Outgoing, scan: ActionScan) -> Queued
+pub(crate) fn queue(
+    before: HnsrAnswer,
+    runtime: OpaqueRelayRuntime,
+    message: Outgoing,
+    scan: ActionScan,
+) -> Queued
     ensures { λ r. ⌜ Queueing before runtime message scan r ⌝ }
 {
     let sequence = runtime.next_action_sequence;
@@ -188,12 +198,26 @@ fn queued_action(queued: Queued) -> InflightAction
 }
 
 // The words of the route, where the message is queued.
-fn put_queued(out: &mut [u32], go: bool, at: usize, message: Outgoing, runtime: OpaqueRelayRuntime, body: &[u8])
+fn put_queued(
+    out: &mut [u32],
+    go: bool,
+    at: usize,
+    message: Outgoing,
+    runtime: OpaqueRelayRuntime,
+    body: &[u8],
+)
     requires { ⌜ length (now body) < 65536 ⌝ }
     ensures { λ _. ⌜ now (out .exit) ≡ cond go (written (now (out .entry)) at (routeWords (routeFor (messageOf message (now (body .entry))) (runtime .generation) (runtime .«next_action_sequence»)))) (now (out .entry)) ⌝ }
 {
     if go {
-        put_route(out, at, message, runtime.generation, runtime.next_action_sequence, body);
+        put_route(
+            out,
+            at,
+            message,
+            runtime.generation,
+            runtime.next_action_sequence,
+            body,
+        );
     }
 }
 
@@ -234,7 +258,14 @@ pub(crate) fn send(
 }
 
 // A part of a call that cannot be refused: a message that cannot be formed, or finds no capacity or no sequence number, is skipped silently.
-pub(crate) fn tell(inflight: &mut [InflightAction], out: &mut [u32], go: bool, sending: Sending, message: Outgoing, body: &[u8]) -> Sending
+pub(crate) fn tell(
+    inflight: &mut [InflightAction],
+    out: &mut [u32],
+    go: bool,
+    sending: Sending,
+    message: Outgoing,
+    body: &[u8],
+) -> Sending
     requires { ⌜ length (now body) < 65536 ⌝ }
     ensures { λ r. ⌜ ((p : List RelayPending) (c : List RelayCircuit) (l : List ReservationUsage) → underway r p c l (now (inflight .exit)) (now (out .exit)) ≡ advance (when go (tell (messageOf message (now (body .entry))))) (underway sending p c l (now (inflight .entry)) (now (out .entry)))) ⌝ }
 {
@@ -254,7 +285,14 @@ pub(crate) fn tell(inflight: &mut [InflightAction], out: &mut [u32], go: bool, s
 }
 
 // A message of the relay's own.
-pub(crate) fn tell_notice(inflight: &mut [InflightAction], out: &mut [u32], go: bool, sending: Sending, message: Outgoing, notice: Notice) -> Sending
+pub(crate) fn tell_notice(
+    inflight: &mut [InflightAction],
+    out: &mut [u32],
+    go: bool,
+    sending: Sending,
+    message: Outgoing,
+    notice: Notice,
+) -> Sending
     ensures { λ r. ⌜ ((p : List RelayPending) (c : List RelayCircuit) (l : List ReservationUsage) → underway r p c l (now (inflight .exit)) (now (out .exit)) ≡ advance (when go (tell (messageOf message (noticeBody notice)))) (underway sending p c l (now (inflight .entry)) (now (out .entry)))) ⌝ }
 {
     let written = notice.encode();

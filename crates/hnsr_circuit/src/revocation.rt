@@ -15,6 +15,7 @@ ghost use Rattle.hnsr_circuit.specs.declared.answer.HnsrAnswer.the-varia
 ghost use Rattle.hnsr_circuit.specs.Progress.{worldOf, underway, advance, handedBack, ending};
 ghost use Rattle.hnsr_circuit.specs.Revocation.{revokeCircuit, walk, pendingTable, circuitTable};
 ghost use Rattle.hnsr_circuit.specs.Revoking.{closingOut, errorOut, closeOut, otherOut, firstOut, revokedIf, endingPending, revokingAll};
+use crate::answer::HnsrAnswer;
 use crate::circuits::circuit_unmarked;
 use crate::header::revoked;
 use crate::lookup::drop_actions;
@@ -33,7 +34,6 @@ use crate::records::PendingFound;
 use crate::records::Question;
 use crate::records::RelayCircuit;
 use crate::records::RelayPending;
-use crate::answer::HnsrAnswer;
 use crate::runtime::OpaqueRelayRuntime;
 use crate::runtime::Relayed;
 use crate::runtime::Sending;
@@ -90,7 +90,12 @@ pub(crate) fn error_to_requester(pending: RelayPending) -> Outgoing
     ensures { λ r. ⌜ r ≡ errorOut pending ⌝ }
 {
     let requester = pending.requester;
-    closing(requester, pending.circuit_id, ERROR, pending.requester_context)
+    closing(
+        requester,
+        pending.circuit_id,
+        ERROR,
+        pending.requester_context,
+    )
 }
 
 fn close_to_endpoint(pending: RelayPending) -> Outgoing
@@ -106,7 +111,12 @@ fn close_to_other(peer: HnsrPeerId, pending: RelayPending) -> Outgoing
     let requester = pending.requester;
     let same = same_peer(requester, peer);
     let there = close_to_endpoint(pending);
-    let back = closing(requester, pending.circuit_id, CLOSE, pending.requester_context);
+    let back = closing(
+        requester,
+        pending.circuit_id,
+        CLOSE,
+        pending.requester_context,
+    );
     if same {
         return there;
     }

@@ -21,9 +21,9 @@ ghost use Rattle.hnsr_circuit.specs.RevokingCalls.{changeAnswer};
 ghost use Rattle.hnsr_circuit.specs.Revoking.{disconnectingAll};
 ghost use Rattle.hnsr_circuit.specs.RevokingCalls.{switchTo};
 ghost use Rattle.hnsr_circuit.specs.Progress.{ending};
+use crate::acknowledge::generation_answer;
 use crate::answer::HnsrAnswer;
 use crate::answer::HnsrRuntimeError;
-use crate::acknowledge::generation_answer;
 use crate::answer::check;
 use crate::answer::first_refusal;
 use crate::answer::is_taken;
@@ -53,12 +53,12 @@ use crate::runtime::Relayed;
 use crate::tables::circuits::count_circuit;
 use crate::tables::inflight::clear_action;
 use crate::tables::pending::count_pending;
+use hns_encoding::logic::both;
 use hns_encoding::logic::either;
 use hns_encoding::logic::no;
 use hns_encoding::numbers::saturating_add_usize;
 use hnsr_body::messages::Notice;
 use hnsr_body::values::ReservationId;
-use hns_encoding::logic::both;
 
 // replace_enabled, 6: generation at 2^64 − 1 and the state would change
 pub(crate) fn change_answer(generation: u64, changes: bool) -> HnsrAnswer
@@ -219,11 +219,7 @@ pub fn expire(
     let answer = first_refusal(room, clock);
     if is_taken(answer) {
         let question = over(time);
-        let all = revoking(
-            question,
-            Notice::AcceptanceExpired,
-            Notice::TicketExpired,
-        );
+        let all = revoking(question, Notice::AcceptanceExpired, Notice::TicketExpired);
         let moved = with_clock(runtime, time);
         drop_lapsed(ledger, true, time);
         return revoke_all(pending, circuits, inflight, out, moved, all);

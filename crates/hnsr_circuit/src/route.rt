@@ -111,7 +111,14 @@ pub(crate) fn route_size(length: usize) -> usize
 }
 
 // The route's words at a place in the output: all of them, or, where they do not fit, none.
-pub(crate) fn put_route(out: &mut [u32], at: usize, message: Outgoing, generation: u64, sequence: u64, body: &[u8])
+pub(crate) fn put_route(
+    out: &mut [u32],
+    at: usize,
+    message: Outgoing,
+    generation: u64,
+    sequence: u64,
+    body: &[u8],
+)
     requires { ⌜ length (now body) < 65536 ⌝ }
     ensures { λ _. ⌜ now (out .exit) ≡ written (now (out .entry)) at (routeWords (routeFor (messageOf message (now (body .entry))) generation sequence)) ⌝ }
 {

@@ -88,8 +88,8 @@ module _ (h : OpaqueRelayRuntime) (p : List RelayPending) (c : List RelayCircuit
 
   -- ---- entry and clock
   module _ (q : Packet) (room : ℕ) (few : Bool) (first a : HnsrAnswer) (ef : few ≡ tooFew (h .config) (length p) (length c) (length i))
-    (er : first ≡ check (ltb room handleWords || few) Short)
-    (ea : a ≡ ((first then peerAnswer (length (q .source)) then packetAnswer (q .opcode) (q .context) (length (q .body))) then clockAnswer (h .«trusted_time_high_water») (q .now))) where
+      (er : first ≡ check (ltb room handleWords || few) Short)
+      (ea : a ≡ ((first then peerAnswer (length (q .source)) then packetAnswer (q .opcode) (q .context) (length (q .body))) then clockAnswer (h .«trusted_time_high_water») (q .now))) where
     pub rows : a ≡ (entryAnswer (worldOf h p c l i) q room then clockAnswer (h .«trusted_time_high_water») (q .now))
     unfolding entryAnswer roomAnswer tablesShort
     rows =

@@ -43,9 +43,10 @@ placed-fits out at (r ∷ rs) h k =
     let fits : within (length out) at (length ws) ≡ true = le-leb (at + length ws) (length out) (omega arith) in
     let one : written out at ws ≡ writtenAt out at ws = on-true _ (writtenAt out at ws) out fits in
     let same = written-length out at ws (omega arith) in
-    let rest = placed-fits (writtenAt out at ws) (at + length ws) rs (omega arith) (omega arith) in
-    (ap (λ (n : ℕ). filledTo n rs) next ∙ rest .0 ∙ omega arith,
-    ap₂ (λ (o : List ℕ) (n : ℕ). placed o n rs) one next ∙ rest .1 ∙ written-behind out at ws (outWords rs) (at + length ws) (omega arith) refl)
+    let rest = placed-fits (writtenAt out at ws) (at + length ws) rs (omega arith) (omega arith) in (
+      ap (λ (n : ℕ). filledTo n rs) next ∙ rest .0 ∙ omega arith,
+      ap₂ (λ (o : List ℕ) (n : ℕ). placed o n rs) one next ∙ rest .1 ∙ written-behind out at ws (outWords rs) (at + length ws) (omega arith) refl,
+    )
 
 pub fits : (out : List ℕ) (o : Outcome) → length (outWords (o .routes)) ≤ length out → length out ≤ top 64 → ending out o ≡ outcome out o
 unfolding output

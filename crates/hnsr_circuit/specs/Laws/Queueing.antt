@@ -55,9 +55,8 @@ queue-sequence before c t sequence context h =
     check-taken (eqb sequence (top 64)) GenerationExhausted (then-taken (capacityAnswer c t) last b .1)
 
 module _ (h : OpaqueRelayRuntime) (p : List RelayPending) (c : List RelayCircuit) (l : List ReservationUsage) (i : List InflightAction)
-  (out : List ℕ) (before : HnsrAnswer) (m : Outgoing) (body : List ℕ) (scan : ActionScan) (q : Queued)
-  (es : scan ≡ actionsScanned (asking h m) i) (eq : Queueing before h m scan q) where
-
+    (out : List ℕ) (before : HnsrAnswer) (m : Outgoing) (body : List ℕ) (scan : ActionScan) (q : Queued)
+    (es : scan ≡ actionsScanned (asking h m) i) (eq : Queueing before h m scan q) where
   -- what the code decided is what the definition answers
   decided : q .answer ≡ (before then canQueue (messageOf m body) (worldOf h p c l i))
   unfolding canQueue actionsScanned
@@ -72,29 +71,32 @@ module _ (h : OpaqueRelayRuntime) (p : List RelayPending) (c : List RelayCircuit
   goes a e = eq .go ∙ ap taken e
 
   module _ (at : ℕ) (i′ : List InflightAction) (out′ : List ℕ) (position : ℕ)
-    (ei : i′ ≡ cond (q .go) (set i (q .place) (q .action)) i)
-    (eo : out′ ≡ cond (q .go) (written out at (routeWords (routeFor (messageOf m body) (h .generation) (h .«next_action_sequence»)))) out)
-    (ep : position ≡ cond (q .go) (saturatingAdd 64 at (headWords + wordCount (length body))) at) where
-
+      (ei : i′ ≡ cond (q .go) (set i (q .place) (q .action)) i)
+      (eo : out′ ≡ cond (q .go) (written out at (routeWords (routeFor (messageOf m body) (h .generation) (h .«next_action_sequence»)))) out)
+      (ep : position ≡ cond (q .go) (saturatingAdd 64 at (headWords + wordCount (length body))) at) where
     -- how long the route is
     long : headWords + wordCount (length body) ≡ length (routeWords (routed (messageOf m body) (worldOf h p c l i)))
     long = ap (λ (n : ℕ). headWords + n) (sym (length-words body)) ∙ sym (route-words (routed (messageOf m body) (worldOf h p c l i)))
 
     -- a message that is not queued leaves everything as it was
     quiet : q .go ≡ false → (q .runtime ≡ h) × (i′ ≡ i) × (position ≡ at) × (out′ ≡ out)
-    quiet g =
-        (eq .stays g, ei ∙ on-false _ (set i (q .place) (q .action)) i g,
-        ep ∙ on-false _ (saturatingAdd 64 at (headWords + wordCount (length body))) at g,
-        eo ∙ on-false _ (written out at (routeWords (routed (messageOf m body) (worldOf h p c l i)))) out g)
+    quiet g = (
+      eq .stays g,
+      ei ∙ on-false _ (set i (q .place) (q .action)) i g,
+      ep ∙ on-false _ (saturatingAdd 64 at (headWords + wordCount (length body))) at g,
+      eo ∙ on-false _ (written out at (routeWords (routed (messageOf m body) (worldOf h p c l i)))) out g,
+    )
 
     moves : q .go ≡ true
         → (q .runtime ≡ withSequence h (h .«next_action_sequence» + 1)) × (i′ ≡ queued (messageOf m body) (worldOf h p c l i) .inflight)
         × (position ≡ saturatingAdd 64 at (length (routeWords (routed (messageOf m body) (worldOf h p c l i)))))
         × (out′ ≡ written out at (routeWords (routed (messageOf m body) (worldOf h p c l i))))
-    moves g =
-        (eq .moves g, ei ∙ on-true _ (set i (q .place) (q .action)) i g ∙ stands,
-        ep ∙ on-true _ (saturatingAdd 64 at (headWords + wordCount (length body))) at g ∙ ap (λ (n : ℕ). saturatingAdd 64 at n) long,
-        eo ∙ on-true _ (written out at (routeWords (routed (messageOf m body) (worldOf h p c l i)))) out g)
+    moves g = (
+      eq .moves g,
+      ei ∙ on-true _ (set i (q .place) (q .action)) i g ∙ stands,
+      ep ∙ on-true _ (saturatingAdd 64 at (headWords + wordCount (length body))) at g ∙ ap (λ (n : ℕ). saturatingAdd 64 at n) long,
+      eo ∙ on-true _ (written out at (routeWords (routed (messageOf m body) (worldOf h p c l i)))) out g,
+    )
 
     answers : (b k : HnsrAnswer) → before ≡ b → canQueue (messageOf m body) (worldOf h p c l i) ≡ k → q .answer ≡ (b then k)
     answers b k eb ek = decided ∙ ap₂ (λ (x y : HnsrAnswer). x then y) eb ek

@@ -75,7 +75,7 @@ module _ (p : List RelayPending) (c : List RelayCircuit) (l : List ReservationUs
 
 -- ---- new
 module _ (h n : OpaqueRelayRuntime) (p : List RelayPending) (c : List RelayCircuit) (l : List ReservationUsage) (i : List InflightAction) (r : Relayed) (a b : HnsrAnswer)
-  (e : a ≡ b) (f : (r .runtime ≡ n) × (r .answer ≡ a) × (r .words ≡ 0)) where
+    (e : a ≡ b) (f : (r .runtime ≡ n) × (r .answer ≡ a) × (r .words ≡ 0)) where
   pub empties : (q : Question) (p′ : List RelayPending) (c′ : List RelayCircuit) (l′ : List ReservationUsage) (i′ : List InflightAction) → q ≡ used
       → p′ ≡ clear clearPending (pendingHas q) p → c′ ≡ clear clearCircuit (circuitHas q) c → l′ ≡ clear clearUsage (usageHas q) l
       → i′ ≡ clear clearAction (actionHas q) i → taken a ≡ true

@@ -136,7 +136,7 @@ not-false false e = absurd (true≢false e)
 
 -- ---- a turn of a walk, and its end
 module _ {A : Type 0} (idOf : A → ℕ) (table : World → List A) (q : A → Bool) (end : World → ℕ → Sent) (s : Progress) (k : ℕ) (cursor n : Walked)
-  (e : n ≡ next idOf q cursor (table (s .world))) where
+    (e : n ≡ next idOf q cursor (table (s .world))) where
   pub walk-turn : n .taken ≡ true
       → advance (walkFrom idOf table q end (suc k) cursor) s ≡ advance (walkFrom idOf table q end k n) (advance (λ w. end w (n .id)) s)
   unfolding walkFrom when

@@ -78,7 +78,7 @@ module _ (h : OpaqueRelayRuntime) (p : List RelayPending) (c : List RelayCircuit
 
   -- ---- a changed state
   module _ (h′ : OpaqueRelayRuntime) (i′ : List InflightAction) (q : Question) (on : Bool) (eh : h′ ≡ withEnabled h on) (eq : q ≡ used)
-    (ei : i′ ≡ clear clearAction (actionHas q) i) where
+      (ei : i′ ≡ clear clearAction (actionHas q) i) where
     drops : i′ ≡ dropped isAction i
     unfolding actionAsked dropped
     drops = ei ∙ ap (λ (x : Question). clear clearAction (actionHas x) i) eq
@@ -99,7 +99,7 @@ module _ (h : OpaqueRelayRuntime) (p : List RelayPending) (c : List RelayCircuit
         (λ x. revokingAll (all x) (worldOf (runtime x) p c l (drops x))) ∙ ap (λ (b : Bool). switchTo (worldOf h p c l i) b) (sym f)
 
   module _ (expected room : ℕ) (on : Bool) (a : HnsrAnswer)
-    (ea : a ≡ (roomAnswer (worldOf h p c l i) room (revokingWords (worldOf h p c l i)) then generationAnswer (h .generation) expected then changeAnswer (h .generation) (not (Bool·beq (h .enabled) on)))) where
+      (ea : a ≡ (roomAnswer (worldOf h p c l i) room (revokingWords (worldOf h p c l i)) then generationAnswer (h .generation) expected then changeAnswer (h .generation) (not (Bool·beq (h .enabled) on)))) where
     pub changed-state : taken a ≡ true → not (Bool·beq (h .enabled) on) ≡ true
         → switchTo (worldOf h p c l i) on ≡ step (worldOf h p c l i) (callReplaceEnabled expected on room)
     unfolding step replaceEnabled

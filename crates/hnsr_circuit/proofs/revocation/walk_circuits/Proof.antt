@@ -37,10 +37,16 @@ not-yet-requires c = search needs
 
 loop-holds : tie.Need-loop-holds Inv-loop μ-loop
 unfolding walk
-loop-holds c = let a = c .before .before .before .args in
-    (search needs, search needs, search needs, search needs, search needs, λ p l.
-    ap (λ (x : Walked). advance (walkFrom circuitId circuitTable (circuitHas (a .revoking .question)) (revokeCircuit (a .revoking .«circuit_notice»)) (length (a .circuits .now) - 0) x) (underway (a .sending) p (a .circuits .now) l (a .inflight .now) (a .out .now))) (c .not-yet .ensures)
-    ∙ ap (λ (m : ℕ). advance (walkFrom circuitId circuitTable (circuitHas (a .revoking .question)) (revokeCircuit (a .revoking .«circuit_notice»)) m notYet) (underway (a .sending) p (a .circuits .now) l (a .inflight .now) (a .out .now))) (sub-zero (length (a .circuits .now))))
+loop-holds c = let a = c .before .before .before .args in (
+  search needs,
+  search needs,
+  search needs,
+  search needs,
+  search needs,
+  λ p l.
+      ap (λ (x : Walked). advance (walkFrom circuitId circuitTable (circuitHas (a .revoking .question)) (revokeCircuit (a .revoking .«circuit_notice»)) (length (a .circuits .now) - 0) x) (underway (a .sending) p (a .circuits .now) l (a .inflight .now) (a .out .now))) (c .not-yet .ensures)
+      ∙ ap (λ (m : ℕ). advance (walkFrom circuitId circuitTable (circuitHas (a .revoking .question)) (revokeCircuit (a .revoking .«circuit_notice»)) m notYet) (underway (a .sending) p (a .circuits .now) l (a .inflight .now) (a .out .now))) (sub-zero (length (a .circuits .now))),
+)
 
 next-circuit-requires : tie.Need-next-circuit-requires Inv-loop μ-loop
 next-circuit-requires c = search needs
@@ -86,12 +92,18 @@ loop-again c = let L = c .before .before .before .before .before .before .before
     let k = length (a .circuits .now) - (L .loop .turn + 1) in
     let less = c .before .before .before .before .before .before .before .before .before .before .before .before .loop-test .taken in
     let left : suc k ≡ length (a .circuits .now) - L .loop .turn = omega arith in
-    let goes = not-false (n .taken) (sym (c .before .before .before .before .before .before .before .before .before .no .ensures) ∙ c .before .before .before .before .before .before .before .before .if1 .left) in
-    (search needs, search needs, search needs, search needs, search needs, λ p l.
-    ap (λ (s : Progress). advance (walkFrom circuitId circuitTable (circuitHas (a .revoking .question)) (revokeCircuit (a .revoking .«circuit_notice»)) k n) s) (c .before .before .before .before .revoke-circuit .ensures p l)
-    ∙ sym (walk-turn circuitId circuitTable (circuitHas (a .revoking .question)) (revokeCircuit (a .revoking .«circuit_notice»)) (underway (L .loop .told) p (L .loop .circuits) l (L .loop .inflight) (L .loop .out)) k (L .loop .cursor) n (c .before .before .before .before .before .before .before .before .before .before .next-circuit .ensures) goes)
-    ∙ ap (λ (m : ℕ). advance (walkFrom circuitId circuitTable (circuitHas (a .revoking .question)) (revokeCircuit (a .revoking .«circuit_notice»)) m (L .loop .cursor)) (underway (L .loop .told) p (L .loop .circuits) l (L .loop .inflight) (L .loop .out))) left
-    ∙ L .loop .inv .5 p l)
+    let goes = not-false (n .taken) (sym (c .before .before .before .before .before .before .before .before .before .no .ensures) ∙ c .before .before .before .before .before .before .before .before .if1 .left) in (
+      search needs,
+      search needs,
+      search needs,
+      search needs,
+      search needs,
+      λ p l.
+          ap (λ (s : Progress). advance (walkFrom circuitId circuitTable (circuitHas (a .revoking .question)) (revokeCircuit (a .revoking .«circuit_notice»)) k n) s) (c .before .before .before .before .revoke-circuit .ensures p l)
+          ∙ sym (walk-turn circuitId circuitTable (circuitHas (a .revoking .question)) (revokeCircuit (a .revoking .«circuit_notice»)) (underway (L .loop .told) p (L .loop .circuits) l (L .loop .inflight) (L .loop .out)) k (L .loop .cursor) n (c .before .before .before .before .before .before .before .before .before .before .next-circuit .ensures) goes)
+          ∙ ap (λ (m : ℕ). advance (walkFrom circuitId circuitTable (circuitHas (a .revoking .question)) (revokeCircuit (a .revoking .«circuit_notice»)) m (L .loop .cursor)) (underway (L .loop .told) p (L .loop .circuits) l (L .loop .inflight) (L .loop .out))) left
+          ∙ L .loop .inv .5 p l,
+    )
 
 same-length-4 : tie.Need-same-length-4 Inv-loop μ-loop
 same-length-4 c = search needs

@@ -38,10 +38,16 @@ not-yet-requires c = search needs
 
 loop-holds : tie.Need-loop-holds Inv-loop μ-loop
 unfolding walk
-loop-holds c = let a = c .before .before .before .args in
-    (search needs, search needs, search needs, search needs, search needs, λ cs l.
-    ap (λ (x : Walked). advance (walkFrom pendingId pendingTable (pendingHas (a .revoking .question)) (endingPending (a .revoking)) (length (a .pending .now) - 0) x) (underway (a .sending) (a .pending .now) cs l (a .inflight .now) (a .out .now))) (c .not-yet .ensures)
-    ∙ ap (λ (m : ℕ). advance (walkFrom pendingId pendingTable (pendingHas (a .revoking .question)) (endingPending (a .revoking)) m notYet) (underway (a .sending) (a .pending .now) cs l (a .inflight .now) (a .out .now))) (sub-zero (length (a .pending .now))))
+loop-holds c = let a = c .before .before .before .args in (
+  search needs,
+  search needs,
+  search needs,
+  search needs,
+  search needs,
+  λ cs l.
+      ap (λ (x : Walked). advance (walkFrom pendingId pendingTable (pendingHas (a .revoking .question)) (endingPending (a .revoking)) (length (a .pending .now) - 0) x) (underway (a .sending) (a .pending .now) cs l (a .inflight .now) (a .out .now))) (c .not-yet .ensures)
+      ∙ ap (λ (m : ℕ). advance (walkFrom pendingId pendingTable (pendingHas (a .revoking .question)) (endingPending (a .revoking)) m notYet) (underway (a .sending) (a .pending .now) cs l (a .inflight .now) (a .out .now))) (sub-zero (length (a .pending .now))),
+)
 
 next-pending-requires : tie.Need-next-pending-requires Inv-loop μ-loop
 next-pending-requires c = search needs
@@ -87,12 +93,18 @@ loop-again c = let L = c .before .before .before .before .before .before .before
     let k = length (a .pending .now) - (L .loop .turn + 1) in
     let less = c .before .before .before .before .before .before .before .before .before .before .before .before .loop-test .taken in
     let left : suc k ≡ length (a .pending .now) - L .loop .turn = omega arith in
-    let goes = not-false (n .taken) (sym (c .before .before .before .before .before .before .before .before .before .no .ensures) ∙ c .before .before .before .before .before .before .before .before .if1 .left) in
-    (search needs, search needs, search needs, search needs, search needs, λ cs l.
-    ap (λ (s : Progress). advance (walkFrom pendingId pendingTable (pendingHas (a .revoking .question)) (endingPending (a .revoking)) k n) s) (c .before .before .before .before .revoke-pending .ensures cs l)
-    ∙ sym (walk-turn pendingId pendingTable (pendingHas (a .revoking .question)) (endingPending (a .revoking)) (underway (L .loop .told) (L .loop .pending) cs l (L .loop .inflight) (L .loop .out)) k (L .loop .cursor) n (c .before .before .before .before .before .before .before .before .before .before .next-pending .ensures) goes)
-    ∙ ap (λ (m : ℕ). advance (walkFrom pendingId pendingTable (pendingHas (a .revoking .question)) (endingPending (a .revoking)) m (L .loop .cursor)) (underway (L .loop .told) (L .loop .pending) cs l (L .loop .inflight) (L .loop .out))) left
-    ∙ L .loop .inv .5 cs l)
+    let goes = not-false (n .taken) (sym (c .before .before .before .before .before .before .before .before .before .no .ensures) ∙ c .before .before .before .before .before .before .before .before .if1 .left) in (
+      search needs,
+      search needs,
+      search needs,
+      search needs,
+      search needs,
+      λ cs l.
+          ap (λ (s : Progress). advance (walkFrom pendingId pendingTable (pendingHas (a .revoking .question)) (endingPending (a .revoking)) k n) s) (c .before .before .before .before .revoke-pending .ensures cs l)
+          ∙ sym (walk-turn pendingId pendingTable (pendingHas (a .revoking .question)) (endingPending (a .revoking)) (underway (L .loop .told) (L .loop .pending) cs l (L .loop .inflight) (L .loop .out)) k (L .loop .cursor) n (c .before .before .before .before .before .before .before .before .before .before .next-pending .ensures) goes)
+          ∙ ap (λ (m : ℕ). advance (walkFrom pendingId pendingTable (pendingHas (a .revoking .question)) (endingPending (a .revoking)) m (L .loop .cursor)) (underway (L .loop .told) (L .loop .pending) cs l (L .loop .inflight) (L .loop .out))) left
+          ∙ L .loop .inv .5 cs l,
+    )
 
 same-length-4 : tie.Need-same-length-4 Inv-loop μ-loop
 same-length-4 c = search needs

@@ -1,0 +1,11 @@
+pub mod accept_circuit
+pub mod again
+pub mod begin
+pub mod deliver
+pub mod one_case
+pub mod open_and_accept
+pub mod open_circuit
+pub mod prepare
+pub mod run_all
+pub mod run_case
+pub mod send_packets

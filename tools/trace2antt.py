@@ -110,6 +110,8 @@ use Rattle.hnsr_circuit.specs.declared.records.RelayCircuit.{RelayCircuit}
 use Rattle.hnsr_circuit.specs.declared.records.ReservationUsage.{ReservationUsage}
 use Rattle.hnsr_circuit.specs.declared.records.InflightAction.{InflightAction}
 use Rattle.hnsr_circuit.specs.declared.records.Walked.{Walked}
+use Rattle.hnsr_circuit.specs.declared.records.NextDue.{NextDue}
+use Rattle.hnsr_circuit.specs.declared.records.NextDue.the-variants.{Never, At}
 use Rattle.hnsr_circuit.specs.declared.config.OpaqueRelayConfig.{OpaqueRelayConfig}
 use Rattle.hnsr_circuit.specs.declared.runtime.HnsrRuntimeStatus.{HnsrRuntimeStatus}
 use Rattle.hnsr_circuit.specs.declared.answer.HnsrAnswer.the-variants.{Taken}
@@ -123,7 +125,7 @@ use Rattle.hnsr_circuit.specs.Ledger.{noUsage, isUsage}
 use Rattle.hnsr_circuit.specs.Inflight.{noAction, isAction}
 use Rattle.hnsr_circuit.specs.Route.{outWords}
 use Rattle.hnsr_circuit.specs.Header.{withSequence}
-use Rattle.hnsr_circuit.specs.World.{World, Outcome, Told, silent, statusIs, dueIs, Due, never, due, withHeader}
+use Rattle.hnsr_circuit.specs.World.{World, Outcome, Told, silent, statusIs, dueIs, withHeader}
 use Rattle.hnsr_circuit.specs.Packet.{Admission, Packet}
 use Rattle.hnsr_circuit.specs.Call.{Start, Call, callHandle, callStatus, callNextDue, start, step}
 use Rattle.hnsr_circuit.specs.All.{machine}
@@ -211,9 +213,9 @@ statusRow s =
     s .generation ∷ bit (s .enabled) ∷ s .«pending_circuits» ∷ s .«active_circuits» ∷ s .«queued_bytes» ∷ s .«queued_actions»
     ∷ s .«trusted_time_high_water» ∷ s .«admitted_opens» ∷ s .«opened_circuits» ∷ s .«bytes_sent» ∷ s .«bytes_received» ∷ s .«revoked_work» ∷ []
 
-unfoldable pub dueRow : Due → List ℕ
-dueRow never = 0 ∷ 0 ∷ []
-dueRow (due n) = 1 ∷ n ∷ []
+unfoldable pub dueRow : NextDue → List ℕ
+dueRow Never = 0 ∷ 0 ∷ []
+dueRow (At n) = 1 ∷ n ∷ []
 
 unfoldable pub toldRow : Told → List ℕ
 unfolding statusRow dueRow

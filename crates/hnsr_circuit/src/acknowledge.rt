@@ -54,6 +54,7 @@ use crate::revocation::pending_gone;
 use crate::revocation::revoke_one;
 use crate::revoking_calls::refused;
 use crate::revoking_calls::taken_with;
+use crate::route::CLOSING_WORDS;
 use crate::runtime::OpaqueRelayRuntime;
 use crate::runtime::Relayed;
 use crate::tables::circuits::circuit_at;
@@ -81,9 +82,6 @@ pub(crate) fn action_answer(found: bool) -> HnsrAnswer
     check(no(found), HnsrRuntimeError::UnknownAction)
 }
 
-// Two routes with the longest notice.
-const ACKNOWLEDGE_WORDS: usize = 96;
-
 fn acknowledge_answer(
     runtime: OpaqueRelayRuntime,
     few: bool,
@@ -93,7 +91,7 @@ fn acknowledge_answer(
 ) -> HnsrAnswer
     ensures { λ r. ⌜ r ≡ (check (ltb room acknowledgeWords || few) Short then generationAnswer (runtime .generation) generation then actionAnswer (found .found)) ⌝ }
 {
-    let short = either(room < ACKNOWLEDGE_WORDS, few);
+    let short = either(room < CLOSING_WORDS, few);
     let first = check(short, HnsrRuntimeError::Short);
     let second = generation_answer(runtime.generation, generation);
     let third = action_answer(found.found);

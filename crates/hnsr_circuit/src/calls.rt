@@ -37,6 +37,8 @@ use crate::records::NextDue;
 use crate::records::RelayCircuit;
 use crate::records::RelayPending;
 use crate::records::ReservationUsage;
+use crate::revoking_calls::refused;
+use crate::revoking_calls::taken_with;
 use crate::runtime::DueTold;
 use crate::runtime::HnsrRuntimeStatus;
 use crate::runtime::OpaqueRelayRuntime;
@@ -83,16 +85,6 @@ fn new_answer(
     first_refusal(named, rest)
 }
 
-fn made(runtime: OpaqueRelayRuntime, answer: HnsrAnswer) -> Relayed
-    ensures { λ r. ⌜ (r .runtime ≡ runtime) × (r .answer ≡ answer) × (r .words ≡ 0) ⌝ }
-{
-    Relayed {
-        runtime,
-        answer,
-        words: 0,
-    }
-}
-
 // Marks every place unused. Where it is refused the tables stay, and the runtime means nothing.
 pub fn new(
     pending: &mut [RelayPending],
@@ -115,9 +107,9 @@ pub fn new(
         clear_circuit(circuits, every);
         clear_usage(ledger, every);
         clear_action(inflight, every);
-        return made(runtime, answer);
+        return taken_with(runtime);
     }
-    made(runtime, answer)
+    refused(runtime, answer)
 }
 
 // ---- status
@@ -237,7 +229,7 @@ pub fn observe_time(runtime: OpaqueRelayRuntime, time: u64) -> Relayed
     let answer = clock_answer(runtime.trusted_time_high_water, time);
     let moved = with_clock(runtime, time);
     if is_taken(answer) {
-        return made(moved, answer);
+        return taken_with(moved);
     }
-    made(runtime, answer)
+    refused(runtime, answer)
 }

@@ -32,6 +32,7 @@ use crate::records::RelayPacket;
 use crate::records::RelayPending;
 use crate::records::ReservationUsage;
 use crate::revoking_calls::refused;
+use crate::route::HANDLE_WORDS;
 use crate::runtime::OpaqueRelayRuntime;
 use crate::runtime::Relayed;
 use hns_encoding::logic::either;
@@ -39,9 +40,6 @@ use hns_encoding::logic::no;
 use hnsr_body::envelope::HnsrPacket;
 
 // ---- entry
-
-// One route with the longest DATA.
-const HANDLE_WORDS: usize = 4136;
 
 // 22: output words too few, or a table shorter than its maximum.
 fn room_answer(room: usize, few: bool) -> HnsrAnswer

@@ -48,6 +48,7 @@ use crate::records::RelayPending;
 use crate::records::ReservationUsage;
 use crate::revocation::Revoking;
 use crate::revocation::revoke_all;
+use crate::route::CLOSING_WORDS;
 use crate::runtime::OpaqueRelayRuntime;
 use crate::runtime::Relayed;
 use crate::tables::circuits::count_circuit;
@@ -69,9 +70,6 @@ pub(crate) fn change_answer(generation: u64, changes: bool) -> HnsrAnswer
 }
 
 // ---- entry
-
-// For each pending record and circuit two routes with the longest notice.
-const CLOSING_WORDS: usize = 96;
 
 // Whether the output is too short for so many records.
 fn room_short(room: usize, pending: usize, circuits: usize) -> bool

@@ -18,6 +18,8 @@ use crate::records::Outgoing;
 use hns_encoding::encoder::Encoder;
 use hns_encoding::room::fits;
 use hns_encoding::words::word_count;
+use hnsr_body::data_body::DataBody;
+use hnsr_body::messages::Message;
 
 // Words of a peer, and of a route in front of its body: a kind word; generation and sequence; the peer; a kind word; the context.
 const PEER_WORDS: usize = MAXIMUM_PEER / 4;
@@ -25,6 +27,11 @@ const PEER_WORDS: usize = MAXIMUM_PEER / 4;
 const PACKET: usize = 1 + 2 + 2 + PEER_WORDS;
 
 pub(crate) const HEAD_WORDS: usize = PACKET + 1 + 2;
+
+// What a call may write: a route with the longest DATA; two with the longest notice.
+pub(crate) const HANDLE_WORDS: usize = HEAD_WORDS + DataBody::MAX_SIZE / 4;
+
+pub(crate) const CLOSING_WORDS: usize = 2 * (HEAD_WORDS + (Message::MAX_SIZE + 3) / 4);
 
 // A kind word's top four bits are its kind: 1 for the peer, with its length in the low 8 bits.
 fn peer_word(length: usize) -> u32

@@ -3,6 +3,7 @@ use mathlib.Core.Path.{_≡_, refl, sym, ap, _∙_}
 use Rattle.hnsr_circuit.specs.New.{observeTime}
 use Rattle.hnsr_circuit.specs.Call.{step}
 use Rattle.hnsr_circuit.specs.Entry.{clockAnswer}
+use Rattle.hnsr_circuit.specs.Laws.Queueing.{taken-is}
 use Rattle.hnsr_circuit.specs.Laws.QuietCalls.{observed, unobserved}
 use borrow.Author.Needs.{needs}
 use Rattle.hnsr_circuit.proofs.calls.observe_time.Statement.{statement}
@@ -10,7 +11,7 @@ use Rattle.hnsr_circuit.proofs.calls.observe_time.Tie as tie
 use Rattle.hnsr_circuit.proofs.calls.observe_time.Reads as reads
 use Rattle.hnsr_circuit.proofs.calls.observe_time.Lts as lts
 use Rattle.hnsr_circuit.proofs.answer.is_taken.Reads as is-taken-reads
-use Rattle.hnsr_circuit.proofs.calls.made.Reads as made-reads
+use Rattle.hnsr_circuit.proofs.revoking_calls.taken_with.Reads as taken-with-reads
 use Rattle.hnsr_circuit.proofs.entry.clock_answer.Reads as clock-answer-reads
 use Rattle.hnsr_circuit.proofs.header.with_clock.Reads as with-clock-reads
 
@@ -23,24 +24,25 @@ with-clock-requires c κs = search needs
 is-taken-requires : tie.Need-is-taken-requires
 is-taken-requires c κs = search needs
 
-made-requires : tie.Need-made-requires
-made-requires c κs = search needs
+taken-with-requires : tie.Need-taken-with-requires
+taken-with-requires c κs = search needs
 
 returns : tie.Need-returns
 unfolding step observeTime
 returns c = λ p cs l i out.
     let a = c .before .before .before .before .before .args in
-    let e = c .made .ensures in
-    observed p cs l i out (a .runtime) (a .time) (c .made .result) (c .before .before .before .before .clock-answer .result) (clockAnswer (a .runtime .«trusted_time_high_water») (a .time)) (sym (c .before .before .is-taken .ensures) ∙ c .before .if1 .taken) (c .before .before .before .before .clock-answer .ensures) (e .0 ∙ c .before .before .before .with-clock .ensures, e .1, e .2)
+    let e = c .taken-with .ensures in
+    let t = sym (c .before .before .is-taken .ensures) ∙ c .before .if1 .taken in
+    observed p cs l i out (a .runtime) (a .time) (c .taken-with .result) (c .before .before .before .before .clock-answer .result) (clockAnswer (a .runtime .«trusted_time_high_water») (a .time)) t (c .before .before .before .before .clock-answer .ensures) (e .0 ∙ c .before .before .before .with-clock .ensures, e .1 ∙ sym (taken-is (c .before .before .before .before .clock-answer .result) t), e .2)
 
-made-requires-2 : tie.Need-made-requires-2
-made-requires-2 c κs = search needs
+refused-requires : tie.Need-refused-requires
+refused-requires c κs = search needs
 
 returns-2 : tie.Need-returns-2
 unfolding step observeTime
 returns-2 c = λ p cs l i out.
     let a = c .before .before .before .before .before .args in
-    unobserved p cs l i out (a .runtime) (a .time) (c .made2 .result) (c .before .before .before .before .clock-answer .result) (clockAnswer (a .runtime .«trusted_time_high_water») (a .time)) (sym (c .before .before .is-taken .ensures) ∙ c .before .if1 .left) (c .before .before .before .before .clock-answer .ensures) (c .made2 .ensures)
+    unobserved p cs l i out (a .runtime) (a .time) (c .refused .result) (c .before .before .before .before .clock-answer .result) (clockAnswer (a .runtime .«trusted_time_high_water») (a .time)) (sym (c .before .before .is-taken .ensures) ∙ c .before .if1 .left) (c .before .before .before .before .clock-answer .ensures) (c .refused .ensures)
 
 pub observe-time-spec : {M : Type 1} → statement M
 observe-time-spec =
@@ -49,7 +51,7 @@ observe-time-spec =
     clock-answer-requires
     with-clock-requires
     is-taken-requires
-    made-requires
+    taken-with-requires
     returns
-    made-requires-2
+    refused-requires
     returns-2)

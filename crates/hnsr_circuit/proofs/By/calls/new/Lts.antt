@@ -200,14 +200,27 @@ ps·9 = (Value.pVal record { ty = Declared'.row OpaqueRelayRuntime.the-type; one
     Laws'''.the-copy Exit.yes; row = Rows'.whole (Declared'.row OpaqueRelayRuntime.the-type); rd = λ x. x; mk = λ x. x; } λ M 𝓤 H A W. record { copies
     = Laws''''''.copy OpaqueRelayRuntime.the-type Laws'''.the-copy 𝓤 H A W; lawful = Laws''''''.lawful OpaqueRelayRuntime.the-type Laws'''.the-laws 𝓤
     H A W; makes = Laws''''''.makes OpaqueRelayRuntime.the-type Laws'''.the-plain 𝓤 H A; in-mem = Local.mem-whole 𝓤 H A W (Declared'.row
+    OpaqueRelayRuntime.the-type); of-mem = Local.whole-mem 𝓤 H A W (Declared'.row OpaqueRelayRuntime.the-type); }) ∷ List.[]
+abbrev pub r·9 : Kinds.RK 0
+r·9 = Value.rVal record { ty = Declared'.row Relayed.the-type; one = Path.refl; val = Laws''''''.val Relayed.the-type Laws''''.the-laws; tells =
+    Laws''''''.tells Relayed.the-type Laws''''.the-laws; still = Laws''''''.still Relayed.the-type Laws''''.the-copy Exit.yes; row = Rows'.whole
+    (Declared'.row Relayed.the-type); rd = λ x. x; mk = λ x. x; } λ M 𝓤 H A W. record { copies = Laws''''''.copy Relayed.the-type Laws''''.the-copy 𝓤
+    H A W; lawful = Laws''''''.lawful Relayed.the-type Laws''''.the-laws 𝓤 H A W; makes = Laws''''''.makes Relayed.the-type Laws''''.the-plain 𝓤 H A;
+    in-mem = Local.mem-whole 𝓤 H A W (Declared'.row Relayed.the-type); of-mem = Local.whole-mem 𝓤 H A W (Declared'.row Relayed.the-type); }
+abbrev pub ps·10 : List.List (Kinds.PK 0)
+ps·10 = (Value.pVal record { ty = Declared'.row OpaqueRelayRuntime.the-type; one = Path.refl; val = Laws''''''.val OpaqueRelayRuntime.the-type
+    Laws'''.the-laws; tells = Laws''''''.tells OpaqueRelayRuntime.the-type Laws'''.the-laws; still = Laws''''''.still OpaqueRelayRuntime.the-type
+    Laws'''.the-copy Exit.yes; row = Rows'.whole (Declared'.row OpaqueRelayRuntime.the-type); rd = λ x. x; mk = λ x. x; } λ M 𝓤 H A W. record { copies
+    = Laws''''''.copy OpaqueRelayRuntime.the-type Laws'''.the-copy 𝓤 H A W; lawful = Laws''''''.lawful OpaqueRelayRuntime.the-type Laws'''.the-laws 𝓤
+    H A W; makes = Laws''''''.makes OpaqueRelayRuntime.the-type Laws'''.the-plain 𝓤 H A; in-mem = Local.mem-whole 𝓤 H A W (Declared'.row
     OpaqueRelayRuntime.the-type); of-mem = Local.whole-mem 𝓤 H A W (Declared'.row OpaqueRelayRuntime.the-type); }) ∷ (Value.pVal record { ty =
     Declared.row HnsrAnswer.the-type; one = Path.refl; val = Laws'''''.val HnsrAnswer.the-type Laws.the-laws; tells = Laws'''''.tells
     HnsrAnswer.the-type Laws.the-laws; still = Laws'''''.still HnsrAnswer.the-type Laws.the-copy Exit.yes; row = Rows'.whole (Declared.row
     HnsrAnswer.the-type); rd = λ x. x; mk = λ x. x; } λ M 𝓤 H A W. record { copies = Laws'''''.copy HnsrAnswer.the-type Laws.the-copy 𝓤 H A W; lawful
     = Laws'''''.lawful HnsrAnswer.the-type Laws.the-laws 𝓤 H A W tt; makes = Laws'''''.makes HnsrAnswer.the-type Laws.the-plain 𝓤 H A; in-mem =
     Local.mem-whole 𝓤 H A W (Declared.row HnsrAnswer.the-type); of-mem = Local.whole-mem 𝓤 H A W (Declared.row HnsrAnswer.the-type); }) ∷ List.[]
-abbrev pub r·9 : Kinds.RK 0
-r·9 = Value.rVal record { ty = Declared'.row Relayed.the-type; one = Path.refl; val = Laws''''''.val Relayed.the-type Laws''''.the-laws; tells =
+abbrev pub r·10 : Kinds.RK 0
+r·10 = Value.rVal record { ty = Declared'.row Relayed.the-type; one = Path.refl; val = Laws''''''.val Relayed.the-type Laws''''.the-laws; tells =
     Laws''''''.tells Relayed.the-type Laws''''.the-laws; still = Laws''''''.still Relayed.the-type Laws''''.the-copy Exit.yes; row = Rows'.whole
     (Declared'.row Relayed.the-type); rd = λ x. x; mk = λ x. x; } λ M 𝓤 H A W. record { copies = Laws''''''.copy Relayed.the-type Laws''''.the-copy 𝓤
     H A W; lawful = Laws''''''.lawful Relayed.the-type Laws''''.the-laws 𝓤 H A W; makes = Laws''''''.makes Relayed.the-type Laws''''.the-plain 𝓤 H A;
@@ -271,8 +284,7 @@ abbrev b20 : Syntax.Body
 b20 = Syntax.call "hnsr_circuit::tables::inflight::clear_action" ((Syntax.copy (Syntax.place 25 List.[])) ∷ (Syntax.copy (Syntax.place 12 List.[])) ∷
     List.[]) (Syntax.place 17 List.[])
 abbrev b21 : Syntax.Body
-b21 = Syntax.call "hnsr_circuit::calls::made" ((Syntax.copy (Syntax.place 11 List.[])) ∷ (Syntax.copy (Syntax.place 10 List.[])) ∷ List.[])
-    (Syntax.place 0 List.[])
+b21 = Syntax.call "hnsr_circuit::revoking_calls::taken_with" ((Syntax.copy (Syntax.place 11 List.[])) ∷ List.[]) (Syntax.place 0 List.[])
 abbrev b22 : Syntax.Body
 b22 = Syntax.return
 abbrev b23 : Syntax.Body
@@ -306,8 +318,8 @@ b36 = Syntax.skip
 abbrev b37 : Syntax.Body
 b37 = Syntax.cond (Syntax.copy (Syntax.place 16 List.[])) b35 b36
 abbrev b38 : Syntax.Body
-b38 = Syntax.call "hnsr_circuit::calls::made" ((Syntax.copy (Syntax.place 11 List.[])) ∷ (Syntax.copy (Syntax.place 10 List.[])) ∷ List.[])
-    (Syntax.place 0 List.[])
+b38 = Syntax.call "hnsr_circuit::revoking_calls::refused" ((Syntax.copy (Syntax.place 11 List.[])) ∷ (Syntax.copy (Syntax.place 10 List.[])) ∷
+    List.[]) (Syntax.place 0 List.[])
 abbrev b39 : Syntax.Body
 b39 = Syntax.return
 abbrev b40 : Syntax.Body
@@ -337,7 +349,8 @@ body = b50
 abbrev pub Claims : Type 1
 Claims = Kinds.In 0 ps·0 × Kinds.Out 0 ps·0 r·0 × Kinds.In 0 ps·1 × Kinds.Out 0 ps·1 r·1 × Kinds.In 0 ps·2 × Kinds.Out 0 ps·2 r·2 × Kinds.In 0 ps·3 ×
     Kinds.Out 0 ps·3 r·3 × Kinds.In 0 ps·4 × Kinds.Out 0 ps·4 r·4 × Kinds.In 1 ps·5 × Kinds.Out 1 ps·5 r·5 × Kinds.In 1 ps·6 × Kinds.Out 1 ps·6 r·6 ×
-    Kinds.In 1 ps·7 × Kinds.Out 1 ps·7 r·7 × Kinds.In 1 ps·8 × Kinds.Out 1 ps·8 r·8 × Kinds.In 0 ps·9 × Kinds.Out 0 ps·9 r·9
+    Kinds.In 1 ps·7 × Kinds.Out 1 ps·7 r·7 × Kinds.In 1 ps·8 × Kinds.Out 1 ps·8 r·8 × Kinds.In 0 ps·9 × Kinds.Out 0 ps·9 r·9 × Kinds.In 0 ps·10 ×
+    Kinds.Out 0 ps·10 r·10
 abbrev e0 : Row.Entry
 e0 = (0, Rows'.any-gone Laws''''.mir)
 abbrev e1 : Row.Entry
@@ -487,65 +500,69 @@ t16 = e0 ∷ e1 ∷ e2 ∷ e3 ∷ e4 ∷ e5·1 ∷ e6 ∷ e7·1 ∷ e8 ∷ e9·1
 abbrev pub t17 : List.List Row.Entry
 t17 = e16·1 ∷ e17 ∷ e18 ∷ e19 ∷ e20 ∷ e21 ∷ e22 ∷ e23 ∷ e24 ∷ e25 ∷ List.[]
 abbrev pub t18 : List.List Row.Entry
-t18 = e0 ∷ e1·1 ∷ e2 ∷ e3 ∷ e4 ∷ e5·1 ∷ e6 ∷ e7·1 ∷ e8 ∷ e9·1 ∷ e10·1 ∷ e11·1 ∷ e12·1 ∷ e13 ∷ e14 ∷ e15 ∷ List.[]
+t18 = e0 ∷ e1 ∷ e2 ∷ e3 ∷ e4 ∷ e5·1 ∷ e6 ∷ e7·1 ∷ e8 ∷ e9·1 ∷ e10 ∷ e11·1 ∷ e12·1 ∷ e13 ∷ e14 ∷ e15 ∷ List.[]
 abbrev pub t19 : List.List Row.Entry
-t19 = e16 ∷ e17 ∷ e18·1 ∷ e19 ∷ e20 ∷ e21 ∷ e22 ∷ e23 ∷ e24 ∷ e25 ∷ List.[]
+t19 = e0 ∷ e1·1 ∷ e2 ∷ e3 ∷ e4 ∷ e5·1 ∷ e6 ∷ e7·1 ∷ e8 ∷ e9·1 ∷ e10 ∷ e11·1 ∷ e12·1 ∷ e13 ∷ e14 ∷ e15 ∷ List.[]
 abbrev pub t20 : List.List Row.Entry
-t20 = e16 ∷ e17 ∷ e18 ∷ e19·1 ∷ e20 ∷ e21 ∷ e22 ∷ e23 ∷ e24 ∷ e25 ∷ List.[]
+t20 = e16 ∷ e17 ∷ e18·1 ∷ e19 ∷ e20 ∷ e21 ∷ e22 ∷ e23 ∷ e24 ∷ e25 ∷ List.[]
 abbrev pub t21 : List.List Row.Entry
-t21 = e16 ∷ e17·1 ∷ e18 ∷ e19·2 ∷ e20 ∷ e21 ∷ e22 ∷ e23 ∷ e24 ∷ e25 ∷ List.[]
+t21 = e16 ∷ e17 ∷ e18 ∷ e19·1 ∷ e20 ∷ e21 ∷ e22 ∷ e23 ∷ e24 ∷ e25 ∷ List.[]
 abbrev pub t22 : List.List Row.Entry
-t22 = e16 ∷ e17 ∷ e18 ∷ e19·2 ∷ e20 ∷ e21 ∷ e22 ∷ e23 ∷ e24 ∷ e25 ∷ List.[]
+t22 = e16 ∷ e17·1 ∷ e18 ∷ e19·2 ∷ e20 ∷ e21 ∷ e22 ∷ e23 ∷ e24 ∷ e25 ∷ List.[]
 abbrev pub t23 : List.List Row.Entry
-t23 = e0 ∷ e1 ∷ e2·1 ∷ e3 ∷ e4 ∷ e5·1 ∷ e6 ∷ e7·1 ∷ e8 ∷ e9·1 ∷ e10·1 ∷ e11·1 ∷ e12·1 ∷ e13 ∷ e14 ∷ e15 ∷ List.[]
+t23 = e16 ∷ e17 ∷ e18 ∷ e19·2 ∷ e20 ∷ e21 ∷ e22 ∷ e23 ∷ e24 ∷ e25 ∷ List.[]
 abbrev pub t24 : List.List Row.Entry
-t24 = e16 ∷ e17 ∷ e18 ∷ e19 ∷ e20·1 ∷ e21 ∷ e22 ∷ e23 ∷ e24 ∷ e25 ∷ List.[]
+t24 = e0 ∷ e1 ∷ e2·1 ∷ e3 ∷ e4 ∷ e5·1 ∷ e6 ∷ e7·1 ∷ e8 ∷ e9·1 ∷ e10 ∷ e11·1 ∷ e12·1 ∷ e13 ∷ e14 ∷ e15 ∷ List.[]
 abbrev pub t25 : List.List Row.Entry
-t25 = e16 ∷ e17 ∷ e18 ∷ e19 ∷ e20 ∷ e21·1 ∷ e22 ∷ e23 ∷ e24 ∷ e25 ∷ List.[]
+t25 = e16 ∷ e17 ∷ e18 ∷ e19 ∷ e20·1 ∷ e21 ∷ e22 ∷ e23 ∷ e24 ∷ e25 ∷ List.[]
 abbrev pub t26 : List.List Row.Entry
-t26 = e16 ∷ e17·1 ∷ e18 ∷ e19 ∷ e20 ∷ e21·2 ∷ e22 ∷ e23 ∷ e24 ∷ e25 ∷ List.[]
+t26 = e16 ∷ e17 ∷ e18 ∷ e19 ∷ e20 ∷ e21·1 ∷ e22 ∷ e23 ∷ e24 ∷ e25 ∷ List.[]
 abbrev pub t27 : List.List Row.Entry
-t27 = e16 ∷ e17 ∷ e18 ∷ e19 ∷ e20 ∷ e21·2 ∷ e22 ∷ e23 ∷ e24 ∷ e25 ∷ List.[]
+t27 = e16 ∷ e17·1 ∷ e18 ∷ e19 ∷ e20 ∷ e21·2 ∷ e22 ∷ e23 ∷ e24 ∷ e25 ∷ List.[]
 abbrev pub t28 : List.List Row.Entry
-t28 = e0 ∷ e1 ∷ e2 ∷ e3·1 ∷ e4 ∷ e5·1 ∷ e6 ∷ e7·1 ∷ e8 ∷ e9·1 ∷ e10·1 ∷ e11·1 ∷ e12·1 ∷ e13 ∷ e14 ∷ e15 ∷ List.[]
+t28 = e16 ∷ e17 ∷ e18 ∷ e19 ∷ e20 ∷ e21·2 ∷ e22 ∷ e23 ∷ e24 ∷ e25 ∷ List.[]
 abbrev pub t29 : List.List Row.Entry
-t29 = e16 ∷ e17 ∷ e18 ∷ e19 ∷ e20 ∷ e21 ∷ e22·1 ∷ e23 ∷ e24 ∷ e25 ∷ List.[]
+t29 = e0 ∷ e1 ∷ e2 ∷ e3·1 ∷ e4 ∷ e5·1 ∷ e6 ∷ e7·1 ∷ e8 ∷ e9·1 ∷ e10 ∷ e11·1 ∷ e12·1 ∷ e13 ∷ e14 ∷ e15 ∷ List.[]
 abbrev pub t30 : List.List Row.Entry
-t30 = e16 ∷ e17 ∷ e18 ∷ e19 ∷ e20 ∷ e21 ∷ e22 ∷ e23·1 ∷ e24 ∷ e25 ∷ List.[]
+t30 = e16 ∷ e17 ∷ e18 ∷ e19 ∷ e20 ∷ e21 ∷ e22·1 ∷ e23 ∷ e24 ∷ e25 ∷ List.[]
 abbrev pub t31 : List.List Row.Entry
-t31 = e16 ∷ e17·1 ∷ e18 ∷ e19 ∷ e20 ∷ e21 ∷ e22 ∷ e23·2 ∷ e24 ∷ e25 ∷ List.[]
+t31 = e16 ∷ e17 ∷ e18 ∷ e19 ∷ e20 ∷ e21 ∷ e22 ∷ e23·1 ∷ e24 ∷ e25 ∷ List.[]
 abbrev pub t32 : List.List Row.Entry
-t32 = e16 ∷ e17 ∷ e18 ∷ e19 ∷ e20 ∷ e21 ∷ e22 ∷ e23·2 ∷ e24 ∷ e25 ∷ List.[]
+t32 = e16 ∷ e17·1 ∷ e18 ∷ e19 ∷ e20 ∷ e21 ∷ e22 ∷ e23·2 ∷ e24 ∷ e25 ∷ List.[]
 abbrev pub t33 : List.List Row.Entry
-t33 = e0 ∷ e1 ∷ e2 ∷ e3 ∷ e4·1 ∷ e5·1 ∷ e6 ∷ e7·1 ∷ e8 ∷ e9·1 ∷ e10·1 ∷ e11·1 ∷ e12·1 ∷ e13 ∷ e14 ∷ e15 ∷ List.[]
+t33 = e16 ∷ e17 ∷ e18 ∷ e19 ∷ e20 ∷ e21 ∷ e22 ∷ e23·2 ∷ e24 ∷ e25 ∷ List.[]
 abbrev pub t34 : List.List Row.Entry
-t34 = e16 ∷ e17 ∷ e18 ∷ e19 ∷ e20 ∷ e21 ∷ e22 ∷ e23 ∷ e24·1 ∷ e25 ∷ List.[]
+t34 = e0 ∷ e1 ∷ e2 ∷ e3 ∷ e4·1 ∷ e5·1 ∷ e6 ∷ e7·1 ∷ e8 ∷ e9·1 ∷ e10 ∷ e11·1 ∷ e12·1 ∷ e13 ∷ e14 ∷ e15 ∷ List.[]
 abbrev pub t35 : List.List Row.Entry
-t35 = e16 ∷ e17 ∷ e18 ∷ e19 ∷ e20 ∷ e21 ∷ e22 ∷ e23 ∷ e24 ∷ e25·1 ∷ List.[]
+t35 = e16 ∷ e17 ∷ e18 ∷ e19 ∷ e20 ∷ e21 ∷ e22 ∷ e23 ∷ e24·1 ∷ e25 ∷ List.[]
 abbrev pub t36 : List.List Row.Entry
-t36 = e16 ∷ e17·1 ∷ e18 ∷ e19 ∷ e20 ∷ e21 ∷ e22 ∷ e23 ∷ e24 ∷ e25·2 ∷ List.[]
+t36 = e16 ∷ e17 ∷ e18 ∷ e19 ∷ e20 ∷ e21 ∷ e22 ∷ e23 ∷ e24 ∷ e25·1 ∷ List.[]
 abbrev pub t37 : List.List Row.Entry
-t37 = e0 ∷ e1 ∷ e2 ∷ e3 ∷ e4·1 ∷ e5·1 ∷ e6 ∷ e7·1 ∷ e8 ∷ e9·1 ∷ e10·1 ∷ e11·1 ∷ e12 ∷ e13 ∷ e14 ∷ e15 ∷ List.[]
+t37 = e16 ∷ e17·1 ∷ e18 ∷ e19 ∷ e20 ∷ e21 ∷ e22 ∷ e23 ∷ e24 ∷ e25·2 ∷ List.[]
 abbrev pub t38 : List.List Row.Entry
-t38 = e16 ∷ e17 ∷ e18 ∷ e19 ∷ e20 ∷ e21 ∷ e22 ∷ e23 ∷ e24 ∷ e25·2 ∷ List.[]
+t38 = e0 ∷ e1 ∷ e2 ∷ e3 ∷ e4·1 ∷ e5·1 ∷ e6 ∷ e7·1 ∷ e8 ∷ e9·1 ∷ e10 ∷ e11·1 ∷ e12 ∷ e13 ∷ e14 ∷ e15 ∷ List.[]
 abbrev pub t39 : List.List Row.Entry
-t39 = e0·1 ∷ e1 ∷ e2 ∷ e3 ∷ e4 ∷ e5·1 ∷ e6 ∷ e7·1 ∷ e8 ∷ e9·1 ∷ e10·1 ∷ e11·1 ∷ e12 ∷ e13 ∷ e14 ∷ e15 ∷ List.[]
+t39 = e16 ∷ e17 ∷ e18 ∷ e19 ∷ e20 ∷ e21 ∷ e22 ∷ e23 ∷ e24 ∷ e25·2 ∷ List.[]
 abbrev pub t40 : List.List Row.Entry
-t40 = e0·1 ∷ e1 ∷ e2 ∷ e3 ∷ e4 ∷ e5·1 ∷ e6 ∷ e7·1 ∷ e8 ∷ e9·1 ∷ e10 ∷ e11·1 ∷ e12 ∷ e13 ∷ e14 ∷ e15 ∷ List.[]
+t40 = e0 ∷ e1 ∷ e2 ∷ e3 ∷ e4 ∷ e5·1 ∷ e6 ∷ e7·1 ∷ e8 ∷ e9·1 ∷ e10 ∷ e11·1 ∷ e12 ∷ e13 ∷ e14 ∷ e15 ∷ List.[]
 abbrev pub t41 : List.List Row.Entry
-t41 = e0·1 ∷ e1 ∷ e2 ∷ e3 ∷ e4 ∷ e5·1 ∷ e6 ∷ e7·1 ∷ e8 ∷ e9·1 ∷ e10 ∷ e11 ∷ e12 ∷ e13 ∷ e14 ∷ e15 ∷ List.[]
+t41 = e0·1 ∷ e1 ∷ e2 ∷ e3 ∷ e4 ∷ e5·1 ∷ e6 ∷ e7·1 ∷ e8 ∷ e9·1 ∷ e10 ∷ e11·1 ∷ e12 ∷ e13 ∷ e14 ∷ e15 ∷ List.[]
 abbrev pub t42 : List.List Row.Entry
-t42 = e0·1 ∷ e1 ∷ e2 ∷ e3 ∷ e4 ∷ e5·1 ∷ e6·1 ∷ e7·1 ∷ e8 ∷ e9·1 ∷ e10 ∷ e11 ∷ e12 ∷ e13 ∷ e14 ∷ e15 ∷ List.[]
+t42 = e0·1 ∷ e1 ∷ e2 ∷ e3 ∷ e4 ∷ e5·1 ∷ e6 ∷ e7·1 ∷ e8 ∷ e9·1 ∷ e10 ∷ e11 ∷ e12 ∷ e13 ∷ e14 ∷ e15 ∷ List.[]
 abbrev pub t43 : List.List Row.Entry
-t43 = e0·1 ∷ e1 ∷ e2 ∷ e3 ∷ e4 ∷ e5·1 ∷ e6·1 ∷ e7·1 ∷ e8·1 ∷ e9·1 ∷ e10 ∷ e11 ∷ e12 ∷ e13 ∷ e14 ∷ e15 ∷ List.[]
+t43 = e0·1 ∷ e1 ∷ e2 ∷ e3 ∷ e4 ∷ e5·1 ∷ e6·1 ∷ e7·1 ∷ e8 ∷ e9·1 ∷ e10 ∷ e11 ∷ e12 ∷ e13 ∷ e14 ∷ e15 ∷ List.[]
 abbrev pub t44 : List.List Row.Entry
-t44 = e0·1 ∷ e1 ∷ e2 ∷ e3 ∷ e4 ∷ e5·1 ∷ e6 ∷ e7·1 ∷ e8 ∷ e9 ∷ e10·1 ∷ e11·1 ∷ e12 ∷ e13 ∷ e14 ∷ e15 ∷ List.[]
+t44 = e0·1 ∷ e1 ∷ e2 ∷ e3 ∷ e4 ∷ e5·1 ∷ e6·1 ∷ e7·1 ∷ e8·1 ∷ e9·1 ∷ e10 ∷ e11 ∷ e12 ∷ e13 ∷ e14 ∷ e15 ∷ List.[]
 abbrev pub t45 : List.List Row.Entry
-t45 = e0·1 ∷ e1 ∷ e2 ∷ e3 ∷ e4 ∷ e5·1 ∷ e6 ∷ e7·1 ∷ e8 ∷ e9 ∷ e10 ∷ e11·1 ∷ e12 ∷ e13 ∷ e14 ∷ e15 ∷ List.[]
+t45 = e0·1 ∷ e1 ∷ e2 ∷ e3 ∷ e4 ∷ e5·1 ∷ e6 ∷ e7·1 ∷ e8 ∷ e9·1 ∷ e10·1 ∷ e11·1 ∷ e12 ∷ e13 ∷ e14 ∷ e15 ∷ List.[]
 abbrev pub t46 : List.List Row.Entry
-t46 = e0·1 ∷ e1 ∷ e2 ∷ e3 ∷ e4 ∷ e5·1 ∷ e6 ∷ e7·1 ∷ e8 ∷ e9 ∷ e10 ∷ e11 ∷ e12 ∷ e13 ∷ e14 ∷ e15 ∷ List.[]
+t46 = e0·1 ∷ e1 ∷ e2 ∷ e3 ∷ e4 ∷ e5·1 ∷ e6 ∷ e7·1 ∷ e8 ∷ e9 ∷ e10·1 ∷ e11·1 ∷ e12 ∷ e13 ∷ e14 ∷ e15 ∷ List.[]
 abbrev pub t47 : List.List Row.Entry
-t47 = e0·1 ∷ e1 ∷ e2 ∷ e3 ∷ e4 ∷ e5·1 ∷ e6·1 ∷ e7·1 ∷ e8 ∷ e9 ∷ e10 ∷ e11 ∷ e12 ∷ e13 ∷ e14 ∷ e15 ∷ List.[]
+t47 = e0·1 ∷ e1 ∷ e2 ∷ e3 ∷ e4 ∷ e5·1 ∷ e6 ∷ e7·1 ∷ e8 ∷ e9 ∷ e10 ∷ e11·1 ∷ e12 ∷ e13 ∷ e14 ∷ e15 ∷ List.[]
+abbrev pub t48 : List.List Row.Entry
+t48 = e0·1 ∷ e1 ∷ e2 ∷ e3 ∷ e4 ∷ e5·1 ∷ e6 ∷ e7·1 ∷ e8 ∷ e9 ∷ e10 ∷ e11 ∷ e12 ∷ e13 ∷ e14 ∷ e15 ∷ List.[]
+abbrev pub t49 : List.List Row.Entry
+t49 = e0·1 ∷ e1 ∷ e2 ∷ e3 ∷ e4 ∷ e5·1 ∷ e6·1 ∷ e7·1 ∷ e8 ∷ e9 ∷ e10 ∷ e11 ∷ e12 ∷ e13 ∷ e14 ∷ e15 ∷ List.[]
 abbrev pub T0 : Row.Cx
 T0 = record { locals = List._++_ t0 t1; slots = List.[] }
 abbrev pub T1 : Row.Cx
@@ -583,59 +600,59 @@ T16 = record { locals = List._++_ t16 t17; slots = List.[] }
 abbrev pub T17 : Row.Cx
 T17 = record { locals = List._++_ t15 t1; slots = List.[] }
 abbrev pub T18 : Row.Cx
-T18 = record { locals = List._++_ t16 t1; slots = List.[] }
-abbrev pub T20 : Row.Cx
-T20 = record { locals = List._++_ t18 t19; slots = List.[] }
+T18 = record { locals = List._++_ t18 t17; slots = List.[] }
+abbrev pub T19 : Row.Cx
+T19 = record { locals = List._++_ t18 t1; slots = List.[] }
 abbrev pub T21 : Row.Cx
-T21 = record { locals = List._++_ t18 t20; slots = List.[] }
+T21 = record { locals = List._++_ t19 t20; slots = List.[] }
 abbrev pub T22 : Row.Cx
-T22 = record { locals = List._++_ t18 t21; slots = List.[] }
+T22 = record { locals = List._++_ t19 t21; slots = List.[] }
 abbrev pub T23 : Row.Cx
-T23 = record { locals = List._++_ t18 t22; slots = List.[] }
-abbrev pub T25 : Row.Cx
-T25 = record { locals = List._++_ t16 t1; slots = List.[] }
-abbrev pub T28 : Row.Cx
-T28 = record { locals = List._++_ t23 t24; slots = List.[] }
+T23 = record { locals = List._++_ t19 t22; slots = List.[] }
+abbrev pub T24 : Row.Cx
+T24 = record { locals = List._++_ t19 t23; slots = List.[] }
+abbrev pub T26 : Row.Cx
+T26 = record { locals = List._++_ t18 t1; slots = List.[] }
 abbrev pub T29 : Row.Cx
-T29 = record { locals = List._++_ t23 t25; slots = List.[] }
+T29 = record { locals = List._++_ t24 t25; slots = List.[] }
 abbrev pub T30 : Row.Cx
-T30 = record { locals = List._++_ t23 t26; slots = List.[] }
+T30 = record { locals = List._++_ t24 t26; slots = List.[] }
 abbrev pub T31 : Row.Cx
-T31 = record { locals = List._++_ t23 t27; slots = List.[] }
-abbrev pub T33 : Row.Cx
-T33 = record { locals = List._++_ t16 t1; slots = List.[] }
-abbrev pub T36 : Row.Cx
-T36 = record { locals = List._++_ t28 t29; slots = List.[] }
+T31 = record { locals = List._++_ t24 t27; slots = List.[] }
+abbrev pub T32 : Row.Cx
+T32 = record { locals = List._++_ t24 t28; slots = List.[] }
+abbrev pub T34 : Row.Cx
+T34 = record { locals = List._++_ t18 t1; slots = List.[] }
 abbrev pub T37 : Row.Cx
-T37 = record { locals = List._++_ t28 t30; slots = List.[] }
+T37 = record { locals = List._++_ t29 t30; slots = List.[] }
 abbrev pub T38 : Row.Cx
-T38 = record { locals = List._++_ t28 t31; slots = List.[] }
+T38 = record { locals = List._++_ t29 t31; slots = List.[] }
 abbrev pub T39 : Row.Cx
-T39 = record { locals = List._++_ t28 t32; slots = List.[] }
-abbrev pub T41 : Row.Cx
-T41 = record { locals = List._++_ t16 t1; slots = List.[] }
-abbrev pub T44 : Row.Cx
-T44 = record { locals = List._++_ t33 t34; slots = List.[] }
+T39 = record { locals = List._++_ t29 t32; slots = List.[] }
+abbrev pub T40 : Row.Cx
+T40 = record { locals = List._++_ t29 t33; slots = List.[] }
+abbrev pub T42 : Row.Cx
+T42 = record { locals = List._++_ t18 t1; slots = List.[] }
 abbrev pub T45 : Row.Cx
-T45 = record { locals = List._++_ t33 t35; slots = List.[] }
+T45 = record { locals = List._++_ t34 t35; slots = List.[] }
 abbrev pub T46 : Row.Cx
-T46 = record { locals = List._++_ t33 t36; slots = List.[] }
+T46 = record { locals = List._++_ t34 t36; slots = List.[] }
 abbrev pub T47 : Row.Cx
-T47 = record { locals = List._++_ t37 t36; slots = List.[] }
+T47 = record { locals = List._++_ t34 t37; slots = List.[] }
 abbrev pub T48 : Row.Cx
-T48 = record { locals = List._++_ t37 t38; slots = List.[] }
-abbrev pub T50 : Row.Cx
-T50 = record { locals = List._++_ t15 t1; slots = List.[] }
-abbrev pub T52 : Row.Cx
-T52 = record { locals = List._++_ t39 t1; slots = List.[] }
+T48 = record { locals = List._++_ t38 t37; slots = List.[] }
+abbrev pub T49 : Row.Cx
+T49 = record { locals = List._++_ t38 t39; slots = List.[] }
+abbrev pub T51 : Row.Cx
+T51 = record { locals = List._++_ t40 t1; slots = List.[] }
 abbrev pub T53 : Row.Cx
-T53 = record { locals = List._++_ t40 t1; slots = List.[] }
+T53 = record { locals = List._++_ t41 t1; slots = List.[] }
 abbrev pub T54 : Row.Cx
-T54 = record { locals = List._++_ t41 t1; slots = List.[] }
+T54 = record { locals = List._++_ t42 t1; slots = List.[] }
 abbrev pub T55 : Row.Cx
-T55 = record { locals = List._++_ t42 t1; slots = List.[] }
+T55 = record { locals = List._++_ t43 t1; slots = List.[] }
 abbrev pub T56 : Row.Cx
-T56 = record { locals = List._++_ t43 t1; slots = List.[] }
+T56 = record { locals = List._++_ t44 t1; slots = List.[] }
 abbrev pub T57 : Row.Cx
 T57 = record { locals = List._++_ t2 t1; slots = List.[] }
 abbrev pub T58 : Row.Cx
@@ -643,15 +660,15 @@ T58 = record { locals = List._++_ t15 t17; slots = List.[] }
 abbrev pub T59 : Row.Cx
 T59 = record { locals = List._++_ t15 t1; slots = List.[] }
 abbrev pub T60 : Row.Cx
-T60 = record { locals = List._++_ t39 t1; slots = List.[] }
+T60 = record { locals = List._++_ t45 t1; slots = List.[] }
 abbrev pub T61 : Row.Cx
-T61 = record { locals = List._++_ t44 t1; slots = List.[] }
+T61 = record { locals = List._++_ t46 t1; slots = List.[] }
 abbrev pub T62 : Row.Cx
-T62 = record { locals = List._++_ t45 t1; slots = List.[] }
+T62 = record { locals = List._++_ t47 t1; slots = List.[] }
 abbrev pub T63 : Row.Cx
-T63 = record { locals = List._++_ t46 t1; slots = List.[] }
+T63 = record { locals = List._++_ t48 t1; slots = List.[] }
 abbrev pub T64 : Row.Cx
-T64 = record { locals = List._++_ t47 t1; slots = List.[] }
+T64 = record { locals = List._++_ t49 t1; slots = List.[] }
 abbrev pub T65 : Row.Cx
 T65 = record { locals = List._++_ t2 t1; slots = List.[] }
 abbrev pub O0 : Typed.Outs
@@ -697,62 +714,61 @@ module _ (claims· : Claims) where
   abbrev s14 : Typed.Both T15 T16
   s14 = Call.callB ps·4 r·4 (claims· .8) (claims· .9) T15 (record { pos = 10; st = List.[]; d = 0; at = λ x. x }, tt,) 16 List.[] Syntax.tyBool
   abbrev s15 : Typed.Mo T16 → Typed.Mo T18
-  s15 = Scalar.n-room T16 16 Syntax.tyBool
-  abbrev s17 : Typed.Gives T18 T20
-  s17 = Relend.k-sl-relend RelayPending.row T18 1 18 0 4 ref4 ref0 Row.off λ x. x
-  abbrev s18 : Typed.Asks T20 T21
-  s18 = Relend.k-sl-aggregate RelayPending.row (Relend.asMut RelayPending.row) T20 18 19 4 ref0 ref0 (λ x. x) (Scalar.oFld 1 ((Syntax.field 1) ∷
+  s15 = Scalar.n-room T16 10 Laws.mir
+  abbrev s16 : Typed.Mo T18 → Typed.Mo T19
+  s16 = Scalar.n-room T18 16 Syntax.tyBool
+  abbrev s18 : Typed.Gives T19 T21
+  s18 = Relend.k-sl-relend RelayPending.row T19 1 18 0 4 ref4 ref0 Row.off λ x. x
+  abbrev s19 : Typed.Asks T21 T22
+  s19 = Relend.k-sl-aggregate RelayPending.row (Relend.asMut RelayPending.row) T21 18 19 4 ref0 ref0 (λ x. x) (Scalar.oFld 1 ((Syntax.field 1) ∷
       List.[]) (Syntax.tyInt Syntax.w64) 8 λ v. Shared.lenV (v .0))
-  abbrev s19 : Typed.Both T21 T22
-  s19 = Call.callB ps·5 r·5 (claims· .10) (claims· .11) T21 (record { pos = 19; ty = Syntax.tyRef Syntax.erased Syntax.mut RelayPending.to; ref = λ x.
+  abbrev s20 : Typed.Both T22 T23
+  s20 = Call.callB ps·5 r·5 (claims· .10) (claims· .11) T22 (record { pos = 19; ty = Syntax.tyRef Syntax.erased Syntax.mut RelayPending.to; ref = λ x.
       x; }, (record { pos = 12; st = List.[]; d = 0; at = λ x. x }, tt),) 17 (4 ∷ List.[]) Syntax.tyUnit
-  abbrev s20 : Typed.Mo T22 → Typed.Mo T23
-  s20 = Scalar.n-room T22 17 Syntax.tyUnit
-  abbrev s22 : Typed.Both T23 T25
-  s22 = Relend.k-back-sl RelayPending.row T23 19 1 0 4 ref4 ref0 Row.off (λ x. x) λ x. x
-  abbrev s25 : Typed.Gives T25 T28
-  s25 = Relend.k-sl-relend RelayCircuit.row T25 2 20 1 5 ref5 ref1 Row.off λ x. x
-  abbrev s26 : Typed.Asks T28 T29
-  s26 = Relend.k-sl-aggregate RelayCircuit.row (Relend.asMut RelayCircuit.row) T28 20 21 5 ref1 ref1 (λ x. x) (Scalar.oFld 2 ((Syntax.field 1) ∷
+  abbrev s21 : Typed.Mo T23 → Typed.Mo T24
+  s21 = Scalar.n-room T23 17 Syntax.tyUnit
+  abbrev s23 : Typed.Both T24 T26
+  s23 = Relend.k-back-sl RelayPending.row T24 19 1 0 4 ref4 ref0 Row.off (λ x. x) λ x. x
+  abbrev s26 : Typed.Gives T26 T29
+  s26 = Relend.k-sl-relend RelayCircuit.row T26 2 20 1 5 ref5 ref1 Row.off λ x. x
+  abbrev s27 : Typed.Asks T29 T30
+  s27 = Relend.k-sl-aggregate RelayCircuit.row (Relend.asMut RelayCircuit.row) T29 20 21 5 ref1 ref1 (λ x. x) (Scalar.oFld 2 ((Syntax.field 1) ∷
       List.[]) (Syntax.tyInt Syntax.w64) 8 λ v. Shared.lenV (v .0))
-  abbrev s27 : Typed.Both T29 T30
-  s27 = Call.callB ps·6 r·6 (claims· .12) (claims· .13) T29 (record { pos = 21; ty = Syntax.tyRef Syntax.erased Syntax.mut RelayCircuit.to; ref = λ x.
+  abbrev s28 : Typed.Both T30 T31
+  s28 = Call.callB ps·6 r·6 (claims· .12) (claims· .13) T30 (record { pos = 21; ty = Syntax.tyRef Syntax.erased Syntax.mut RelayCircuit.to; ref = λ x.
       x; }, (record { pos = 12; st = List.[]; d = 0; at = λ x. x }, tt),) 17 (5 ∷ List.[]) Syntax.tyUnit
-  abbrev s28 : Typed.Mo T30 → Typed.Mo T31
-  s28 = Scalar.n-room T30 17 Syntax.tyUnit
-  abbrev s30 : Typed.Both T31 T33
-  s30 = Relend.k-back-sl RelayCircuit.row T31 21 2 1 5 ref5 ref1 Row.off (λ x. x) λ x. x
-  abbrev s33 : Typed.Gives T33 T36
-  s33 = Relend.k-sl-relend ReservationUsage.row T33 3 22 2 6 ref6 ref2 Row.off λ x. x
-  abbrev s34 : Typed.Asks T36 T37
-  s34 = Relend.k-sl-aggregate ReservationUsage.row (Relend.asMut ReservationUsage.row) T36 22 23 6 ref2 ref2 (λ x. x) (Scalar.oFld 3 ((Syntax.field 1)
+  abbrev s29 : Typed.Mo T31 → Typed.Mo T32
+  s29 = Scalar.n-room T31 17 Syntax.tyUnit
+  abbrev s31 : Typed.Both T32 T34
+  s31 = Relend.k-back-sl RelayCircuit.row T32 21 2 1 5 ref5 ref1 Row.off (λ x. x) λ x. x
+  abbrev s34 : Typed.Gives T34 T37
+  s34 = Relend.k-sl-relend ReservationUsage.row T34 3 22 2 6 ref6 ref2 Row.off λ x. x
+  abbrev s35 : Typed.Asks T37 T38
+  s35 = Relend.k-sl-aggregate ReservationUsage.row (Relend.asMut ReservationUsage.row) T37 22 23 6 ref2 ref2 (λ x. x) (Scalar.oFld 3 ((Syntax.field 1)
       ∷ List.[]) (Syntax.tyInt Syntax.w64) 8 λ v. Shared.lenV (v .0))
-  abbrev s35 : Typed.Both T37 T38
-  s35 = Call.callB ps·7 r·7 (claims· .14) (claims· .15) T37 (record { pos = 23; ty = Syntax.tyRef Syntax.erased Syntax.mut ReservationUsage.to; ref =
+  abbrev s36 : Typed.Both T38 T39
+  s36 = Call.callB ps·7 r·7 (claims· .14) (claims· .15) T38 (record { pos = 23; ty = Syntax.tyRef Syntax.erased Syntax.mut ReservationUsage.to; ref =
       λ x. x; }, (record { pos = 12; st = List.[]; d = 0; at = λ x. x }, tt),) 17 (6 ∷ List.[]) Syntax.tyUnit
-  abbrev s36 : Typed.Mo T38 → Typed.Mo T39
-  s36 = Scalar.n-room T38 17 Syntax.tyUnit
-  abbrev s38 : Typed.Both T39 T41
-  s38 = Relend.k-back-sl ReservationUsage.row T39 23 3 2 6 ref6 ref2 Row.off (λ x. x) λ x. x
-  abbrev s41 : Typed.Gives T41 T44
-  s41 = Relend.k-sl-relend InflightAction.row T41 4 24 3 7 ref7 ref3 Row.off λ x. x
-  abbrev s42 : Typed.Asks T44 T45
-  s42 = Relend.k-sl-aggregate InflightAction.row (Relend.asMut InflightAction.row) T44 24 25 7 ref3 ref3 (λ x. x) (Scalar.oFld 4 ((Syntax.field 1) ∷
+  abbrev s37 : Typed.Mo T39 → Typed.Mo T40
+  s37 = Scalar.n-room T39 17 Syntax.tyUnit
+  abbrev s39 : Typed.Both T40 T42
+  s39 = Relend.k-back-sl ReservationUsage.row T40 23 3 2 6 ref6 ref2 Row.off (λ x. x) λ x. x
+  abbrev s42 : Typed.Gives T42 T45
+  s42 = Relend.k-sl-relend InflightAction.row T42 4 24 3 7 ref7 ref3 Row.off λ x. x
+  abbrev s43 : Typed.Asks T45 T46
+  s43 = Relend.k-sl-aggregate InflightAction.row (Relend.asMut InflightAction.row) T45 24 25 7 ref3 ref3 (λ x. x) (Scalar.oFld 4 ((Syntax.field 1) ∷
       List.[]) (Syntax.tyInt Syntax.w64) 8 λ v. Shared.lenV (v .0))
-  abbrev s43 : Typed.Both T45 T46
-  s43 = Call.callB ps·8 r·8 (claims· .16) (claims· .17) T45 (record { pos = 25; ty = Syntax.tyRef Syntax.erased Syntax.mut InflightAction.to; ref = λ
+  abbrev s44 : Typed.Both T46 T47
+  s44 = Call.callB ps·8 r·8 (claims· .16) (claims· .17) T46 (record { pos = 25; ty = Syntax.tyRef Syntax.erased Syntax.mut InflightAction.to; ref = λ
       x. x; }, (record { pos = 12; st = List.[]; d = 0; at = λ x. x }, tt),) 17 (7 ∷ List.[]) Syntax.tyUnit
-  abbrev s44 : Typed.Mo T46 → Typed.Mo T47
-  s44 = Scalar.n-room T46 12 Laws''.mir
   abbrev s45 : Typed.Mo T47 → Typed.Mo T48
-  s45 = Scalar.n-room T47 17 Syntax.tyUnit
-  abbrev s47 : Typed.Both T48 T50
-  s47 = Relend.k-back-sl InflightAction.row T48 25 4 3 7 ref7 ref3 Row.off (λ x. x) λ x. x
-  abbrev s49 : Typed.Both T50 T52
-  s49 = Call.callB ps·9 r·9 (claims· .18) (claims· .19) T50 (record { pos = 11; st = List.[]; d = 0; at = λ x. x }, (record { pos = 10; st = List.[];
-      d = 0; at = λ x. x }, tt),) 0 List.[] Laws''''.mir
-  abbrev s50 : Typed.Mo T52 → Typed.Mo T53
-  s50 = Scalar.n-room T52 10 Laws.mir
+  s45 = Scalar.n-room T47 12 Laws''.mir
+  abbrev s46 : Typed.Mo T48 → Typed.Mo T49
+  s46 = Scalar.n-room T48 17 Syntax.tyUnit
+  abbrev s48 : Typed.Both T49 T51
+  s48 = Relend.k-back-sl InflightAction.row T49 25 4 3 7 ref7 ref3 Row.off (λ x. x) λ x. x
+  abbrev s50 : Typed.Both T51 T53
+  s50 = Call.callB ps·9 r·9 (claims· .18) (claims· .19) T51 (record { pos = 11; st = List.[]; d = 0; at = λ x. x }, tt,) 0 List.[] Laws''''.mir
   abbrev s51 : Typed.Mo T53 → Typed.Mo T54
   s51 = Scalar.n-room T53 11 Laws'''.mir
   abbrev s52 : Typed.Mo T54 → Typed.Mo T55
@@ -766,8 +782,8 @@ module _ (claims· : Claims) where
   abbrev s56 : Typed.Mo T58 → Typed.Mo T59
   s56 = Scalar.n-room T58 16 Syntax.tyBool
   abbrev s57 : Typed.Both T17 T60
-  s57 = Call.callB ps·9 r·9 (claims· .18) (claims· .19) T17 (record { pos = 11; st = List.[]; d = 0; at = λ x. x }, (record { pos = 10; st = List.[];
-      d = 0; at = λ x. x }, tt),) 0 List.[] Laws''''.mir
+  s57 = Call.callB ps·10 r·10 (claims· .20) (claims· .21) T17 (record { pos = 11; st = List.[]; d = 0; at = λ x. x }, (record { pos = 10; st =
+      List.[]; d = 0; at = λ x. x }, tt),) 0 List.[] Laws''''.mir
   abbrev s58 : Typed.Mo T60 → Typed.Mo T61
   s58 = Scalar.n-room T60 9 Syntax.tyBool
   abbrev s59 : Typed.Mo T61 → Typed.Mo T62
@@ -791,8 +807,9 @@ module _ (claims· : Claims) where
           "hnsr_circuit::tables::circuits::clear_circuit") (known7 : Plain.Known 𝓤 H A W 𝓣 1 ps·7 r·7 (claims· .14) (claims· .15)
           "hnsr_circuit::tables::ledger::clear_usage") (known8 : Plain.Known 𝓤 H A W 𝓣 1 ps·8 r·8 (claims· .16) (claims· .17)
           "hnsr_circuit::tables::inflight::clear_action") (known9 : Plain.Known 𝓤 H A W 𝓣 0 ps·9 r·9 (claims· .18) (claims· .19)
-          "hnsr_circuit::calls::made") → Statement.Triple 𝓤 (Wp.WpFn 𝓤 H (𝓣 .C) (𝓣 .Λ) (Function.fnOf 4 ps r xs m hs body)) (Function.plainOf 𝓤 H A 4
-          ps r Pre· Post·)
+          "hnsr_circuit::revoking_calls::taken_with") (known10 : Plain.Known 𝓤 H A W 𝓣 0 ps·10 r·10 (claims· .20) (claims· .21)
+          "hnsr_circuit::revoking_calls::refused") → Statement.Triple 𝓤 (Wp.WpFn 𝓤 H (𝓣 .C) (𝓣 .Λ) (Function.fnOf 4 ps r xs m hs body))
+          (Function.plainOf 𝓤 H A 4 ps r Pre· Post·)
     module _ where
       abbrev at0 : Typed.TF T57 O1
       at0 = Typed.atRet O1
@@ -804,76 +821,76 @@ module _ (claims· : Claims) where
       at3 = λ Ψ. Typed.pass T54 T55 s52 (at2 Ψ)
       abbrev at4 : Typed.TF T53 O1
       at4 = λ Ψ. Typed.pass T53 T54 s51 (at3 Ψ)
-      abbrev at5 : Typed.TF T52 O1
-      at5 = λ Ψ. Typed.pass T52 T53 s50 (at4 Ψ)
-      abbrev at6 : Typed.TF T50 O1
-      at6 = λ Ψ. Typed.both s49 (at5 Ψ)
-      abbrev at7 : Typed.TF T50 O1
-      at7 = λ Ψ. at6 Ψ
-      abbrev at8 : Typed.TF T48 O1
-      at8 = λ Ψ. Typed.both s47 (at7 Ψ)
+      abbrev at5 : Typed.TF T51 O1
+      at5 = λ Ψ. Typed.both s50 (at4 Ψ)
+      abbrev at6 : Typed.TF T51 O1
+      at6 = λ Ψ. at5 Ψ
+      abbrev at7 : Typed.TF T49 O1
+      at7 = λ Ψ. Typed.both s48 (at6 Ψ)
+      abbrev at8 : Typed.TF T49 O1
+      at8 = λ Ψ. at7 Ψ
       abbrev at9 : Typed.TF T48 O1
-      at9 = λ Ψ. at8 Ψ
+      at9 = λ Ψ. Typed.pass T48 T49 s46 (at8 Ψ)
       abbrev at10 : Typed.TF T47 O1
       at10 = λ Ψ. Typed.pass T47 T48 s45 (at9 Ψ)
       abbrev at11 : Typed.TF T46 O1
-      at11 = λ Ψ. Typed.pass T46 T47 s44 (at10 Ψ)
+      at11 = λ Ψ. Typed.both s44 (at10 Ψ)
       abbrev at12 : Typed.TF T45 O1
-      at12 = λ Ψ. Typed.both s43 (at11 Ψ)
-      abbrev at13 : Typed.TF T44 O1
-      at13 = λ Ψ. Typed.ask s42 (at12 Ψ)
-      abbrev at14 : Typed.TF T41 O1
-      at14 = λ Ψ. Typed.give s41 (at13 Ψ)
-      abbrev at15 : Typed.TF T41 O1
+      at12 = λ Ψ. Typed.ask s43 (at11 Ψ)
+      abbrev at13 : Typed.TF T42 O1
+      at13 = λ Ψ. Typed.give s42 (at12 Ψ)
+      abbrev at14 : Typed.TF T42 O1
+      at14 = λ Ψ. at13 Ψ
+      abbrev at15 : Typed.TF T42 O1
       at15 = λ Ψ. at14 Ψ
-      abbrev at16 : Typed.TF T41 O1
-      at16 = λ Ψ. at15 Ψ
-      abbrev at17 : Typed.TF T39 O1
-      at17 = λ Ψ. Typed.both s38 (at16 Ψ)
+      abbrev at16 : Typed.TF T40 O1
+      at16 = λ Ψ. Typed.both s39 (at15 Ψ)
+      abbrev at17 : Typed.TF T40 O1
+      at17 = λ Ψ. at16 Ψ
       abbrev at18 : Typed.TF T39 O1
-      at18 = λ Ψ. at17 Ψ
+      at18 = λ Ψ. Typed.pass T39 T40 s37 (at17 Ψ)
       abbrev at19 : Typed.TF T38 O1
-      at19 = λ Ψ. Typed.pass T38 T39 s36 (at18 Ψ)
+      at19 = λ Ψ. Typed.both s36 (at18 Ψ)
       abbrev at20 : Typed.TF T37 O1
-      at20 = λ Ψ. Typed.both s35 (at19 Ψ)
-      abbrev at21 : Typed.TF T36 O1
-      at21 = λ Ψ. Typed.ask s34 (at20 Ψ)
-      abbrev at22 : Typed.TF T33 O1
-      at22 = λ Ψ. Typed.give s33 (at21 Ψ)
-      abbrev at23 : Typed.TF T33 O1
+      at20 = λ Ψ. Typed.ask s35 (at19 Ψ)
+      abbrev at21 : Typed.TF T34 O1
+      at21 = λ Ψ. Typed.give s34 (at20 Ψ)
+      abbrev at22 : Typed.TF T34 O1
+      at22 = λ Ψ. at21 Ψ
+      abbrev at23 : Typed.TF T34 O1
       at23 = λ Ψ. at22 Ψ
-      abbrev at24 : Typed.TF T33 O1
-      at24 = λ Ψ. at23 Ψ
-      abbrev at25 : Typed.TF T31 O1
-      at25 = λ Ψ. Typed.both s30 (at24 Ψ)
+      abbrev at24 : Typed.TF T32 O1
+      at24 = λ Ψ. Typed.both s31 (at23 Ψ)
+      abbrev at25 : Typed.TF T32 O1
+      at25 = λ Ψ. at24 Ψ
       abbrev at26 : Typed.TF T31 O1
-      at26 = λ Ψ. at25 Ψ
+      at26 = λ Ψ. Typed.pass T31 T32 s29 (at25 Ψ)
       abbrev at27 : Typed.TF T30 O1
-      at27 = λ Ψ. Typed.pass T30 T31 s28 (at26 Ψ)
+      at27 = λ Ψ. Typed.both s28 (at26 Ψ)
       abbrev at28 : Typed.TF T29 O1
-      at28 = λ Ψ. Typed.both s27 (at27 Ψ)
-      abbrev at29 : Typed.TF T28 O1
-      at29 = λ Ψ. Typed.ask s26 (at28 Ψ)
-      abbrev at30 : Typed.TF T25 O1
-      at30 = λ Ψ. Typed.give s25 (at29 Ψ)
-      abbrev at31 : Typed.TF T25 O1
+      at28 = λ Ψ. Typed.ask s27 (at27 Ψ)
+      abbrev at29 : Typed.TF T26 O1
+      at29 = λ Ψ. Typed.give s26 (at28 Ψ)
+      abbrev at30 : Typed.TF T26 O1
+      at30 = λ Ψ. at29 Ψ
+      abbrev at31 : Typed.TF T26 O1
       at31 = λ Ψ. at30 Ψ
-      abbrev at32 : Typed.TF T25 O1
-      at32 = λ Ψ. at31 Ψ
-      abbrev at33 : Typed.TF T23 O1
-      at33 = λ Ψ. Typed.both s22 (at32 Ψ)
+      abbrev at32 : Typed.TF T24 O1
+      at32 = λ Ψ. Typed.both s23 (at31 Ψ)
+      abbrev at33 : Typed.TF T24 O1
+      at33 = λ Ψ. at32 Ψ
       abbrev at34 : Typed.TF T23 O1
-      at34 = λ Ψ. at33 Ψ
+      at34 = λ Ψ. Typed.pass T23 T24 s21 (at33 Ψ)
       abbrev at35 : Typed.TF T22 O1
-      at35 = λ Ψ. Typed.pass T22 T23 s20 (at34 Ψ)
+      at35 = λ Ψ. Typed.both s20 (at34 Ψ)
       abbrev at36 : Typed.TF T21 O1
-      at36 = λ Ψ. Typed.both s19 (at35 Ψ)
-      abbrev at37 : Typed.TF T20 O1
-      at37 = λ Ψ. Typed.ask s18 (at36 Ψ)
-      abbrev at38 : Typed.TF T18 O1
-      at38 = λ Ψ. Typed.give s17 (at37 Ψ)
+      at36 = λ Ψ. Typed.ask s19 (at35 Ψ)
+      abbrev at37 : Typed.TF T19 O1
+      at37 = λ Ψ. Typed.give s18 (at36 Ψ)
+      abbrev at38 : Typed.TF T19 O1
+      at38 = λ Ψ. at37 Ψ
       abbrev at39 : Typed.TF T18 O1
-      at39 = λ Ψ. at38 Ψ
+      at39 = λ Ψ. Typed.pass T18 T19 s16 (at38 Ψ)
       abbrev at40 : Typed.TF T16 O1
       at40 = λ Ψ. Typed.pass T16 T18 s15 (at39 Ψ)
       abbrev at41 : Typed.TF T59 O1
@@ -941,7 +958,9 @@ module _ (claims· : Claims) where
             .10) (claims· .11) "hnsr_circuit::tables::pending::clear_pending" × Plain.Known 𝓤 H A W 𝓣 1 ps·6 r·6 (claims· .12) (claims· .13)
             "hnsr_circuit::tables::circuits::clear_circuit" × Plain.Known 𝓤 H A W 𝓣 1 ps·7 r·7 (claims· .14) (claims· .15)
             "hnsr_circuit::tables::ledger::clear_usage" × Plain.Known 𝓤 H A W 𝓣 1 ps·8 r·8 (claims· .16) (claims· .17)
-            "hnsr_circuit::tables::inflight::clear_action" × Plain.Known 𝓤 H A W 𝓣 0 ps·9 r·9 (claims· .18) (claims· .19) "hnsr_circuit::calls::made"
+            "hnsr_circuit::tables::inflight::clear_action" × Plain.Known 𝓤 H A W 𝓣 0 ps·9 r·9 (claims· .18) (claims· .19)
+            "hnsr_circuit::revoking_calls::taken_with" × Plain.Known 𝓤 H A W 𝓣 0 ps·10 r·10 (claims· .20) (claims· .21)
+            "hnsr_circuit::revoking_calls::refused"
       module _ (κs : Lifetimes.Lfts 4) (qs : Lifetimes.Shares 4) where
         abbrev life0 : Row.Life
         life0 = Row.lease (κs .0) (qs .0)
@@ -951,40 +970,40 @@ module _ (claims· : Claims) where
         life2 = Row.lease (κs .1 .1 .0) (qs .1 .1 .0)
         abbrev life3 : Row.Life
         life3 = Row.lease (κs .1 .1 .1 .0) (qs .1 .1 .1 .0)
-        abbrev g18 : List.List Row.Entry
-        g18 = (0, Rows'.any-gone Laws''''.mir,) ∷ (1, Relend.mslice-owed RelayPending.row ref4 0 4 life0,) ∷ (2, Mut.mslice RelayCircuit.row ref5 1,)
+        abbrev g19 : List.List Row.Entry
+        g19 = (0, Rows'.any-gone Laws''''.mir,) ∷ (1, Relend.mslice-owed RelayPending.row ref4 0 4 life0,) ∷ (2, Mut.mslice RelayCircuit.row ref5 1,)
             ∷ (3, Mut.mslice ReservationUsage.row ref6 2,) ∷ (4, Mut.mslice InflightAction.row ref7 3,) ∷ (5, Rows'.any-gone (Syntax.tyArray
             (Syntax.tyInt Syntax.w8) 16)) ∷ (6, Rows'.sc-here (Row.sInt Syntax.w64),) ∷ (7, Rows'.any-gone Laws'.mir,) ∷ (8, Rows'.sc-here (Row.sInt
-            Syntax.w64)) ∷ (9, Rows'.sc-here Row.sBool,) ∷ (10, Rows'.whole (Declared.row HnsrAnswer.the-type)) ∷ (11, Rows'.whole (Declared'.row
-            OpaqueRelayRuntime.the-type),) ∷ (12, Rows'.whole (Declared'.row Question.the-type)) ∷ (13, Rows'.any-gone (Syntax.tyInt Syntax.w64),) ∷
-            (14, Rows'.any-gone (Syntax.tyInt Syntax.w64)) ∷ (15, Rows'.any-gone (Syntax.tyInt Syntax.w64),) ∷ List.[]
-        abbrev g23 : List.List Row.Entry
-        g23 = (0, Rows'.any-gone Laws''''.mir,) ∷ (1, Mut.mslice RelayPending.row ref4 0,) ∷ (2, Relend.mslice-owed RelayCircuit.row ref5 1 5 life1,)
+            Syntax.w64)) ∷ (9, Rows'.sc-here Row.sBool,) ∷ (10, Rows'.any-gone Laws.mir,) ∷ (11, Rows'.whole (Declared'.row
+            OpaqueRelayRuntime.the-type)) ∷ (12, Rows'.whole (Declared'.row Question.the-type),) ∷ (13, Rows'.any-gone (Syntax.tyInt Syntax.w64)) ∷
+            (14, Rows'.any-gone (Syntax.tyInt Syntax.w64),) ∷ (15, Rows'.any-gone (Syntax.tyInt Syntax.w64)) ∷ List.[]
+        abbrev g24 : List.List Row.Entry
+        g24 = (0, Rows'.any-gone Laws''''.mir,) ∷ (1, Mut.mslice RelayPending.row ref4 0,) ∷ (2, Relend.mslice-owed RelayCircuit.row ref5 1 5 life1,)
             ∷ (3, Mut.mslice ReservationUsage.row ref6 2,) ∷ (4, Mut.mslice InflightAction.row ref7 3,) ∷ (5, Rows'.any-gone (Syntax.tyArray
             (Syntax.tyInt Syntax.w8) 16)) ∷ (6, Rows'.sc-here (Row.sInt Syntax.w64),) ∷ (7, Rows'.any-gone Laws'.mir,) ∷ (8, Rows'.sc-here (Row.sInt
-            Syntax.w64)) ∷ (9, Rows'.sc-here Row.sBool,) ∷ (10, Rows'.whole (Declared.row HnsrAnswer.the-type)) ∷ (11, Rows'.whole (Declared'.row
-            OpaqueRelayRuntime.the-type),) ∷ (12, Rows'.whole (Declared'.row Question.the-type)) ∷ (13, Rows'.any-gone (Syntax.tyInt Syntax.w64),) ∷
-            (14, Rows'.any-gone (Syntax.tyInt Syntax.w64)) ∷ (15, Rows'.any-gone (Syntax.tyInt Syntax.w64),) ∷ List.[]
-        abbrev g28 : List.List Row.Entry
-        g28 = (0, Rows'.any-gone Laws''''.mir,) ∷ (1, Mut.mslice RelayPending.row ref4 0,) ∷ (2, Mut.mslice RelayCircuit.row ref5 1,) ∷ (3,
+            Syntax.w64)) ∷ (9, Rows'.sc-here Row.sBool,) ∷ (10, Rows'.any-gone Laws.mir,) ∷ (11, Rows'.whole (Declared'.row
+            OpaqueRelayRuntime.the-type)) ∷ (12, Rows'.whole (Declared'.row Question.the-type),) ∷ (13, Rows'.any-gone (Syntax.tyInt Syntax.w64)) ∷
+            (14, Rows'.any-gone (Syntax.tyInt Syntax.w64),) ∷ (15, Rows'.any-gone (Syntax.tyInt Syntax.w64)) ∷ List.[]
+        abbrev g29 : List.List Row.Entry
+        g29 = (0, Rows'.any-gone Laws''''.mir,) ∷ (1, Mut.mslice RelayPending.row ref4 0,) ∷ (2, Mut.mslice RelayCircuit.row ref5 1,) ∷ (3,
             Relend.mslice-owed ReservationUsage.row ref6 2 6 life2,) ∷ (4, Mut.mslice InflightAction.row ref7 3,) ∷ (5, Rows'.any-gone (Syntax.tyArray
             (Syntax.tyInt Syntax.w8) 16)) ∷ (6, Rows'.sc-here (Row.sInt Syntax.w64),) ∷ (7, Rows'.any-gone Laws'.mir,) ∷ (8, Rows'.sc-here (Row.sInt
-            Syntax.w64)) ∷ (9, Rows'.sc-here Row.sBool,) ∷ (10, Rows'.whole (Declared.row HnsrAnswer.the-type)) ∷ (11, Rows'.whole (Declared'.row
-            OpaqueRelayRuntime.the-type),) ∷ (12, Rows'.whole (Declared'.row Question.the-type)) ∷ (13, Rows'.any-gone (Syntax.tyInt Syntax.w64),) ∷
-            (14, Rows'.any-gone (Syntax.tyInt Syntax.w64)) ∷ (15, Rows'.any-gone (Syntax.tyInt Syntax.w64),) ∷ List.[]
-        abbrev g33 : List.List Row.Entry
-        g33 = (0, Rows'.any-gone Laws''''.mir,) ∷ (1, Mut.mslice RelayPending.row ref4 0,) ∷ (2, Mut.mslice RelayCircuit.row ref5 1,) ∷ (3, Mut.mslice
+            Syntax.w64)) ∷ (9, Rows'.sc-here Row.sBool,) ∷ (10, Rows'.any-gone Laws.mir,) ∷ (11, Rows'.whole (Declared'.row
+            OpaqueRelayRuntime.the-type)) ∷ (12, Rows'.whole (Declared'.row Question.the-type),) ∷ (13, Rows'.any-gone (Syntax.tyInt Syntax.w64)) ∷
+            (14, Rows'.any-gone (Syntax.tyInt Syntax.w64),) ∷ (15, Rows'.any-gone (Syntax.tyInt Syntax.w64)) ∷ List.[]
+        abbrev g34 : List.List Row.Entry
+        g34 = (0, Rows'.any-gone Laws''''.mir,) ∷ (1, Mut.mslice RelayPending.row ref4 0,) ∷ (2, Mut.mslice RelayCircuit.row ref5 1,) ∷ (3, Mut.mslice
             ReservationUsage.row ref6 2,) ∷ (4, Relend.mslice-owed InflightAction.row ref7 3 7 life3,) ∷ (5, Rows'.any-gone (Syntax.tyArray
             (Syntax.tyInt Syntax.w8) 16)) ∷ (6, Rows'.sc-here (Row.sInt Syntax.w64),) ∷ (7, Rows'.any-gone Laws'.mir,) ∷ (8, Rows'.sc-here (Row.sInt
-            Syntax.w64)) ∷ (9, Rows'.sc-here Row.sBool,) ∷ (10, Rows'.whole (Declared.row HnsrAnswer.the-type)) ∷ (11, Rows'.whole (Declared'.row
-            OpaqueRelayRuntime.the-type),) ∷ (12, Rows'.whole (Declared'.row Question.the-type)) ∷ (13, Rows'.any-gone (Syntax.tyInt Syntax.w64),) ∷
-            (14, Rows'.any-gone (Syntax.tyInt Syntax.w64)) ∷ (15, Rows'.any-gone (Syntax.tyInt Syntax.w64),) ∷ List.[]
-        abbrev g37 : List.List Row.Entry
-        g37 = (0, Rows'.any-gone Laws''''.mir,) ∷ (1, Mut.mslice RelayPending.row ref4 0,) ∷ (2, Mut.mslice RelayCircuit.row ref5 1,) ∷ (3, Mut.mslice
+            Syntax.w64)) ∷ (9, Rows'.sc-here Row.sBool,) ∷ (10, Rows'.any-gone Laws.mir,) ∷ (11, Rows'.whole (Declared'.row
+            OpaqueRelayRuntime.the-type)) ∷ (12, Rows'.whole (Declared'.row Question.the-type),) ∷ (13, Rows'.any-gone (Syntax.tyInt Syntax.w64)) ∷
+            (14, Rows'.any-gone (Syntax.tyInt Syntax.w64),) ∷ (15, Rows'.any-gone (Syntax.tyInt Syntax.w64)) ∷ List.[]
+        abbrev g38 : List.List Row.Entry
+        g38 = (0, Rows'.any-gone Laws''''.mir,) ∷ (1, Mut.mslice RelayPending.row ref4 0,) ∷ (2, Mut.mslice RelayCircuit.row ref5 1,) ∷ (3, Mut.mslice
             ReservationUsage.row ref6 2,) ∷ (4, Relend.mslice-owed InflightAction.row ref7 3 7 life3,) ∷ (5, Rows'.any-gone (Syntax.tyArray
             (Syntax.tyInt Syntax.w8) 16)) ∷ (6, Rows'.sc-here (Row.sInt Syntax.w64),) ∷ (7, Rows'.any-gone Laws'.mir,) ∷ (8, Rows'.sc-here (Row.sInt
-            Syntax.w64)) ∷ (9, Rows'.sc-here Row.sBool,) ∷ (10, Rows'.whole (Declared.row HnsrAnswer.the-type)) ∷ (11, Rows'.whole (Declared'.row
-            OpaqueRelayRuntime.the-type),) ∷ (12, Rows'.any-gone Laws''.mir,) ∷ (13, Rows'.any-gone (Syntax.tyInt Syntax.w64)) ∷ (14, Rows'.any-gone
+            Syntax.w64)) ∷ (9, Rows'.sc-here Row.sBool,) ∷ (10, Rows'.any-gone Laws.mir,) ∷ (11, Rows'.whole (Declared'.row
+            OpaqueRelayRuntime.the-type)) ∷ (12, Rows'.any-gone Laws''.mir,) ∷ (13, Rows'.any-gone (Syntax.tyInt Syntax.w64)) ∷ (14, Rows'.any-gone
             (Syntax.tyInt Syntax.w64),) ∷ (15, Rows'.any-gone (Syntax.tyInt Syntax.w64)) ∷ List.[]
         abbrev G0 : Row.Cx
         G0 = record { locals = List._++_ t0 t1; slots = life0 ∷ life1 ∷ life2 ∷ life3 ∷ Row.off ∷ Row.off ∷ Row.off ∷ Row.off ∷ List.[]; }
@@ -1023,83 +1042,83 @@ module _ (claims· : Claims) where
         abbrev G17 : Row.Cx
         G17 = record { locals = List._++_ t15 t1; slots = life0 ∷ life1 ∷ life2 ∷ life3 ∷ Row.off ∷ Row.off ∷ Row.off ∷ Row.off ∷ List.[]; }
         abbrev G18 : Row.Cx
-        G18 = record { locals = List._++_ t16 t1; slots = life0 ∷ life1 ∷ life2 ∷ life3 ∷ Row.off ∷ Row.off ∷ Row.off ∷ Row.off ∷ List.[]; }
+        G18 = record { locals = List._++_ t18 t17; slots = life0 ∷ life1 ∷ life2 ∷ life3 ∷ Row.off ∷ Row.off ∷ Row.off ∷ Row.off ∷ List.[]; }
         abbrev G19 : Row.Cx
-        G19 = record { locals = List._++_ t16 t1; slots = life0 ∷ life1 ∷ life2 ∷ life3 ∷ Row.alive ∷ Row.off ∷ Row.off ∷ Row.off ∷ List.[]; }
+        G19 = record { locals = List._++_ t18 t1; slots = life0 ∷ life1 ∷ life2 ∷ life3 ∷ Row.off ∷ Row.off ∷ Row.off ∷ Row.off ∷ List.[]; }
         abbrev G20 : Row.Cx
-        G20 = record { locals = List._++_ g18 t19; slots = Row.off ∷ life1 ∷ life2 ∷ life3 ∷ Row.alive ∷ Row.off ∷ Row.off ∷ Row.off ∷ List.[]; }
+        G20 = record { locals = List._++_ t18 t1; slots = life0 ∷ life1 ∷ life2 ∷ life3 ∷ Row.alive ∷ Row.off ∷ Row.off ∷ Row.off ∷ List.[]; }
         abbrev G21 : Row.Cx
-        G21 = record { locals = List._++_ g18 t20; slots = Row.off ∷ life1 ∷ life2 ∷ life3 ∷ Row.alive ∷ Row.off ∷ Row.off ∷ Row.off ∷ List.[]; }
+        G21 = record { locals = List._++_ g19 t20; slots = Row.off ∷ life1 ∷ life2 ∷ life3 ∷ Row.alive ∷ Row.off ∷ Row.off ∷ Row.off ∷ List.[]; }
         abbrev G22 : Row.Cx
-        G22 = record { locals = List._++_ g18 t21; slots = Row.off ∷ life1 ∷ life2 ∷ life3 ∷ Row.alive ∷ Row.off ∷ Row.off ∷ Row.off ∷ List.[]; }
+        G22 = record { locals = List._++_ g19 t21; slots = Row.off ∷ life1 ∷ life2 ∷ life3 ∷ Row.alive ∷ Row.off ∷ Row.off ∷ Row.off ∷ List.[]; }
         abbrev G23 : Row.Cx
-        G23 = record { locals = List._++_ g18 t22; slots = Row.off ∷ life1 ∷ life2 ∷ life3 ∷ Row.alive ∷ Row.off ∷ Row.off ∷ Row.off ∷ List.[]; }
+        G23 = record { locals = List._++_ g19 t22; slots = Row.off ∷ life1 ∷ life2 ∷ life3 ∷ Row.alive ∷ Row.off ∷ Row.off ∷ Row.off ∷ List.[]; }
         abbrev G24 : Row.Cx
-        G24 = record { locals = List._++_ g18 t22; slots = Row.off ∷ life1 ∷ life2 ∷ life3 ∷ Row.dead ∷ Row.off ∷ Row.off ∷ Row.off ∷ List.[]; }
+        G24 = record { locals = List._++_ g19 t23; slots = Row.off ∷ life1 ∷ life2 ∷ life3 ∷ Row.alive ∷ Row.off ∷ Row.off ∷ Row.off ∷ List.[]; }
         abbrev G25 : Row.Cx
-        G25 = record { locals = List._++_ t16 t1; slots = life0 ∷ life1 ∷ life2 ∷ life3 ∷ Row.dead ∷ Row.off ∷ Row.off ∷ Row.off ∷ List.[]; }
+        G25 = record { locals = List._++_ g19 t23; slots = Row.off ∷ life1 ∷ life2 ∷ life3 ∷ Row.dead ∷ Row.off ∷ Row.off ∷ Row.off ∷ List.[]; }
         abbrev G26 : Row.Cx
-        G26 = record { locals = List._++_ t16 t1; slots = life0 ∷ life1 ∷ life2 ∷ life3 ∷ Row.off ∷ Row.off ∷ Row.off ∷ Row.off ∷ List.[]; }
+        G26 = record { locals = List._++_ t18 t1; slots = life0 ∷ life1 ∷ life2 ∷ life3 ∷ Row.dead ∷ Row.off ∷ Row.off ∷ Row.off ∷ List.[]; }
         abbrev G27 : Row.Cx
-        G27 = record { locals = List._++_ t16 t1; slots = life0 ∷ life1 ∷ life2 ∷ life3 ∷ Row.off ∷ Row.alive ∷ Row.off ∷ Row.off ∷ List.[]; }
+        G27 = record { locals = List._++_ t18 t1; slots = life0 ∷ life1 ∷ life2 ∷ life3 ∷ Row.off ∷ Row.off ∷ Row.off ∷ Row.off ∷ List.[]; }
         abbrev G28 : Row.Cx
-        G28 = record { locals = List._++_ g23 t24; slots = life0 ∷ Row.off ∷ life2 ∷ life3 ∷ Row.off ∷ Row.alive ∷ Row.off ∷ Row.off ∷ List.[]; }
+        G28 = record { locals = List._++_ t18 t1; slots = life0 ∷ life1 ∷ life2 ∷ life3 ∷ Row.off ∷ Row.alive ∷ Row.off ∷ Row.off ∷ List.[]; }
         abbrev G29 : Row.Cx
-        G29 = record { locals = List._++_ g23 t25; slots = life0 ∷ Row.off ∷ life2 ∷ life3 ∷ Row.off ∷ Row.alive ∷ Row.off ∷ Row.off ∷ List.[]; }
+        G29 = record { locals = List._++_ g24 t25; slots = life0 ∷ Row.off ∷ life2 ∷ life3 ∷ Row.off ∷ Row.alive ∷ Row.off ∷ Row.off ∷ List.[]; }
         abbrev G30 : Row.Cx
-        G30 = record { locals = List._++_ g23 t26; slots = life0 ∷ Row.off ∷ life2 ∷ life3 ∷ Row.off ∷ Row.alive ∷ Row.off ∷ Row.off ∷ List.[]; }
+        G30 = record { locals = List._++_ g24 t26; slots = life0 ∷ Row.off ∷ life2 ∷ life3 ∷ Row.off ∷ Row.alive ∷ Row.off ∷ Row.off ∷ List.[]; }
         abbrev G31 : Row.Cx
-        G31 = record { locals = List._++_ g23 t27; slots = life0 ∷ Row.off ∷ life2 ∷ life3 ∷ Row.off ∷ Row.alive ∷ Row.off ∷ Row.off ∷ List.[]; }
+        G31 = record { locals = List._++_ g24 t27; slots = life0 ∷ Row.off ∷ life2 ∷ life3 ∷ Row.off ∷ Row.alive ∷ Row.off ∷ Row.off ∷ List.[]; }
         abbrev G32 : Row.Cx
-        G32 = record { locals = List._++_ g23 t27; slots = life0 ∷ Row.off ∷ life2 ∷ life3 ∷ Row.off ∷ Row.dead ∷ Row.off ∷ Row.off ∷ List.[]; }
+        G32 = record { locals = List._++_ g24 t28; slots = life0 ∷ Row.off ∷ life2 ∷ life3 ∷ Row.off ∷ Row.alive ∷ Row.off ∷ Row.off ∷ List.[]; }
         abbrev G33 : Row.Cx
-        G33 = record { locals = List._++_ t16 t1; slots = life0 ∷ life1 ∷ life2 ∷ life3 ∷ Row.off ∷ Row.dead ∷ Row.off ∷ Row.off ∷ List.[]; }
+        G33 = record { locals = List._++_ g24 t28; slots = life0 ∷ Row.off ∷ life2 ∷ life3 ∷ Row.off ∷ Row.dead ∷ Row.off ∷ Row.off ∷ List.[]; }
         abbrev G34 : Row.Cx
-        G34 = record { locals = List._++_ t16 t1; slots = life0 ∷ life1 ∷ life2 ∷ life3 ∷ Row.off ∷ Row.off ∷ Row.off ∷ Row.off ∷ List.[]; }
+        G34 = record { locals = List._++_ t18 t1; slots = life0 ∷ life1 ∷ life2 ∷ life3 ∷ Row.off ∷ Row.dead ∷ Row.off ∷ Row.off ∷ List.[]; }
         abbrev G35 : Row.Cx
-        G35 = record { locals = List._++_ t16 t1; slots = life0 ∷ life1 ∷ life2 ∷ life3 ∷ Row.off ∷ Row.off ∷ Row.alive ∷ Row.off ∷ List.[]; }
+        G35 = record { locals = List._++_ t18 t1; slots = life0 ∷ life1 ∷ life2 ∷ life3 ∷ Row.off ∷ Row.off ∷ Row.off ∷ Row.off ∷ List.[]; }
         abbrev G36 : Row.Cx
-        G36 = record { locals = List._++_ g28 t29; slots = life0 ∷ life1 ∷ Row.off ∷ life3 ∷ Row.off ∷ Row.off ∷ Row.alive ∷ Row.off ∷ List.[]; }
+        G36 = record { locals = List._++_ t18 t1; slots = life0 ∷ life1 ∷ life2 ∷ life3 ∷ Row.off ∷ Row.off ∷ Row.alive ∷ Row.off ∷ List.[]; }
         abbrev G37 : Row.Cx
-        G37 = record { locals = List._++_ g28 t30; slots = life0 ∷ life1 ∷ Row.off ∷ life3 ∷ Row.off ∷ Row.off ∷ Row.alive ∷ Row.off ∷ List.[]; }
+        G37 = record { locals = List._++_ g29 t30; slots = life0 ∷ life1 ∷ Row.off ∷ life3 ∷ Row.off ∷ Row.off ∷ Row.alive ∷ Row.off ∷ List.[]; }
         abbrev G38 : Row.Cx
-        G38 = record { locals = List._++_ g28 t31; slots = life0 ∷ life1 ∷ Row.off ∷ life3 ∷ Row.off ∷ Row.off ∷ Row.alive ∷ Row.off ∷ List.[]; }
+        G38 = record { locals = List._++_ g29 t31; slots = life0 ∷ life1 ∷ Row.off ∷ life3 ∷ Row.off ∷ Row.off ∷ Row.alive ∷ Row.off ∷ List.[]; }
         abbrev G39 : Row.Cx
-        G39 = record { locals = List._++_ g28 t32; slots = life0 ∷ life1 ∷ Row.off ∷ life3 ∷ Row.off ∷ Row.off ∷ Row.alive ∷ Row.off ∷ List.[]; }
+        G39 = record { locals = List._++_ g29 t32; slots = life0 ∷ life1 ∷ Row.off ∷ life3 ∷ Row.off ∷ Row.off ∷ Row.alive ∷ Row.off ∷ List.[]; }
         abbrev G40 : Row.Cx
-        G40 = record { locals = List._++_ g28 t32; slots = life0 ∷ life1 ∷ Row.off ∷ life3 ∷ Row.off ∷ Row.off ∷ Row.dead ∷ Row.off ∷ List.[]; }
+        G40 = record { locals = List._++_ g29 t33; slots = life0 ∷ life1 ∷ Row.off ∷ life3 ∷ Row.off ∷ Row.off ∷ Row.alive ∷ Row.off ∷ List.[]; }
         abbrev G41 : Row.Cx
-        G41 = record { locals = List._++_ t16 t1; slots = life0 ∷ life1 ∷ life2 ∷ life3 ∷ Row.off ∷ Row.off ∷ Row.dead ∷ Row.off ∷ List.[]; }
+        G41 = record { locals = List._++_ g29 t33; slots = life0 ∷ life1 ∷ Row.off ∷ life3 ∷ Row.off ∷ Row.off ∷ Row.dead ∷ Row.off ∷ List.[]; }
         abbrev G42 : Row.Cx
-        G42 = record { locals = List._++_ t16 t1; slots = life0 ∷ life1 ∷ life2 ∷ life3 ∷ Row.off ∷ Row.off ∷ Row.off ∷ Row.off ∷ List.[]; }
+        G42 = record { locals = List._++_ t18 t1; slots = life0 ∷ life1 ∷ life2 ∷ life3 ∷ Row.off ∷ Row.off ∷ Row.dead ∷ Row.off ∷ List.[]; }
         abbrev G43 : Row.Cx
-        G43 = record { locals = List._++_ t16 t1; slots = life0 ∷ life1 ∷ life2 ∷ life3 ∷ Row.off ∷ Row.off ∷ Row.off ∷ Row.alive ∷ List.[]; }
+        G43 = record { locals = List._++_ t18 t1; slots = life0 ∷ life1 ∷ life2 ∷ life3 ∷ Row.off ∷ Row.off ∷ Row.off ∷ Row.off ∷ List.[]; }
         abbrev G44 : Row.Cx
-        G44 = record { locals = List._++_ g33 t34; slots = life0 ∷ life1 ∷ life2 ∷ Row.off ∷ Row.off ∷ Row.off ∷ Row.off ∷ Row.alive ∷ List.[]; }
+        G44 = record { locals = List._++_ t18 t1; slots = life0 ∷ life1 ∷ life2 ∷ life3 ∷ Row.off ∷ Row.off ∷ Row.off ∷ Row.alive ∷ List.[]; }
         abbrev G45 : Row.Cx
-        G45 = record { locals = List._++_ g33 t35; slots = life0 ∷ life1 ∷ life2 ∷ Row.off ∷ Row.off ∷ Row.off ∷ Row.off ∷ Row.alive ∷ List.[]; }
+        G45 = record { locals = List._++_ g34 t35; slots = life0 ∷ life1 ∷ life2 ∷ Row.off ∷ Row.off ∷ Row.off ∷ Row.off ∷ Row.alive ∷ List.[]; }
         abbrev G46 : Row.Cx
-        G46 = record { locals = List._++_ g33 t36; slots = life0 ∷ life1 ∷ life2 ∷ Row.off ∷ Row.off ∷ Row.off ∷ Row.off ∷ Row.alive ∷ List.[]; }
+        G46 = record { locals = List._++_ g34 t36; slots = life0 ∷ life1 ∷ life2 ∷ Row.off ∷ Row.off ∷ Row.off ∷ Row.off ∷ Row.alive ∷ List.[]; }
         abbrev G47 : Row.Cx
-        G47 = record { locals = List._++_ g37 t36; slots = life0 ∷ life1 ∷ life2 ∷ Row.off ∷ Row.off ∷ Row.off ∷ Row.off ∷ Row.alive ∷ List.[]; }
+        G47 = record { locals = List._++_ g34 t37; slots = life0 ∷ life1 ∷ life2 ∷ Row.off ∷ Row.off ∷ Row.off ∷ Row.off ∷ Row.alive ∷ List.[]; }
         abbrev G48 : Row.Cx
-        G48 = record { locals = List._++_ g37 t38; slots = life0 ∷ life1 ∷ life2 ∷ Row.off ∷ Row.off ∷ Row.off ∷ Row.off ∷ Row.alive ∷ List.[]; }
+        G48 = record { locals = List._++_ g38 t37; slots = life0 ∷ life1 ∷ life2 ∷ Row.off ∷ Row.off ∷ Row.off ∷ Row.off ∷ Row.alive ∷ List.[]; }
         abbrev G49 : Row.Cx
-        G49 = record { locals = List._++_ g37 t38; slots = life0 ∷ life1 ∷ life2 ∷ Row.off ∷ Row.off ∷ Row.off ∷ Row.off ∷ Row.dead ∷ List.[]; }
+        G49 = record { locals = List._++_ g38 t39; slots = life0 ∷ life1 ∷ life2 ∷ Row.off ∷ Row.off ∷ Row.off ∷ Row.off ∷ Row.alive ∷ List.[]; }
         abbrev G50 : Row.Cx
-        G50 = record { locals = List._++_ t15 t1; slots = life0 ∷ life1 ∷ life2 ∷ life3 ∷ Row.off ∷ Row.off ∷ Row.off ∷ Row.dead ∷ List.[]; }
+        G50 = record { locals = List._++_ g38 t39; slots = life0 ∷ life1 ∷ life2 ∷ Row.off ∷ Row.off ∷ Row.off ∷ Row.off ∷ Row.dead ∷ List.[]; }
         abbrev G51 : Row.Cx
-        G51 = record { locals = List._++_ t15 t1; slots = life0 ∷ life1 ∷ life2 ∷ life3 ∷ Row.off ∷ Row.off ∷ Row.off ∷ Row.off ∷ List.[]; }
+        G51 = record { locals = List._++_ t40 t1; slots = life0 ∷ life1 ∷ life2 ∷ life3 ∷ Row.off ∷ Row.off ∷ Row.off ∷ Row.dead ∷ List.[]; }
         abbrev G52 : Row.Cx
-        G52 = record { locals = List._++_ t39 t1; slots = life0 ∷ life1 ∷ life2 ∷ life3 ∷ Row.off ∷ Row.off ∷ Row.off ∷ Row.off ∷ List.[]; }
+        G52 = record { locals = List._++_ t40 t1; slots = life0 ∷ life1 ∷ life2 ∷ life3 ∷ Row.off ∷ Row.off ∷ Row.off ∷ Row.off ∷ List.[]; }
         abbrev G53 : Row.Cx
-        G53 = record { locals = List._++_ t40 t1; slots = life0 ∷ life1 ∷ life2 ∷ life3 ∷ Row.off ∷ Row.off ∷ Row.off ∷ Row.off ∷ List.[]; }
+        G53 = record { locals = List._++_ t41 t1; slots = life0 ∷ life1 ∷ life2 ∷ life3 ∷ Row.off ∷ Row.off ∷ Row.off ∷ Row.off ∷ List.[]; }
         abbrev G54 : Row.Cx
-        G54 = record { locals = List._++_ t41 t1; slots = life0 ∷ life1 ∷ life2 ∷ life3 ∷ Row.off ∷ Row.off ∷ Row.off ∷ Row.off ∷ List.[]; }
+        G54 = record { locals = List._++_ t42 t1; slots = life0 ∷ life1 ∷ life2 ∷ life3 ∷ Row.off ∷ Row.off ∷ Row.off ∷ Row.off ∷ List.[]; }
         abbrev G55 : Row.Cx
-        G55 = record { locals = List._++_ t42 t1; slots = life0 ∷ life1 ∷ life2 ∷ life3 ∷ Row.off ∷ Row.off ∷ Row.off ∷ Row.off ∷ List.[]; }
+        G55 = record { locals = List._++_ t43 t1; slots = life0 ∷ life1 ∷ life2 ∷ life3 ∷ Row.off ∷ Row.off ∷ Row.off ∷ Row.off ∷ List.[]; }
         abbrev G56 : Row.Cx
-        G56 = record { locals = List._++_ t43 t1; slots = life0 ∷ life1 ∷ life2 ∷ life3 ∷ Row.off ∷ Row.off ∷ Row.off ∷ Row.off ∷ List.[]; }
+        G56 = record { locals = List._++_ t44 t1; slots = life0 ∷ life1 ∷ life2 ∷ life3 ∷ Row.off ∷ Row.off ∷ Row.off ∷ Row.off ∷ List.[]; }
         abbrev G57 : Row.Cx
         G57 = record { locals = List._++_ t2 t1; slots = life0 ∷ life1 ∷ life2 ∷ life3 ∷ Row.off ∷ Row.off ∷ Row.off ∷ Row.off ∷ List.[]; }
         abbrev G58 : Row.Cx
@@ -1107,15 +1126,15 @@ module _ (claims· : Claims) where
         abbrev G59 : Row.Cx
         G59 = record { locals = List._++_ t15 t1; slots = life0 ∷ life1 ∷ life2 ∷ life3 ∷ Row.off ∷ Row.off ∷ Row.off ∷ Row.off ∷ List.[]; }
         abbrev G60 : Row.Cx
-        G60 = record { locals = List._++_ t39 t1; slots = life0 ∷ life1 ∷ life2 ∷ life3 ∷ Row.off ∷ Row.off ∷ Row.off ∷ Row.off ∷ List.[]; }
+        G60 = record { locals = List._++_ t45 t1; slots = life0 ∷ life1 ∷ life2 ∷ life3 ∷ Row.off ∷ Row.off ∷ Row.off ∷ Row.off ∷ List.[]; }
         abbrev G61 : Row.Cx
-        G61 = record { locals = List._++_ t44 t1; slots = life0 ∷ life1 ∷ life2 ∷ life3 ∷ Row.off ∷ Row.off ∷ Row.off ∷ Row.off ∷ List.[]; }
+        G61 = record { locals = List._++_ t46 t1; slots = life0 ∷ life1 ∷ life2 ∷ life3 ∷ Row.off ∷ Row.off ∷ Row.off ∷ Row.off ∷ List.[]; }
         abbrev G62 : Row.Cx
-        G62 = record { locals = List._++_ t45 t1; slots = life0 ∷ life1 ∷ life2 ∷ life3 ∷ Row.off ∷ Row.off ∷ Row.off ∷ Row.off ∷ List.[]; }
+        G62 = record { locals = List._++_ t47 t1; slots = life0 ∷ life1 ∷ life2 ∷ life3 ∷ Row.off ∷ Row.off ∷ Row.off ∷ Row.off ∷ List.[]; }
         abbrev G63 : Row.Cx
-        G63 = record { locals = List._++_ t46 t1; slots = life0 ∷ life1 ∷ life2 ∷ life3 ∷ Row.off ∷ Row.off ∷ Row.off ∷ Row.off ∷ List.[]; }
+        G63 = record { locals = List._++_ t48 t1; slots = life0 ∷ life1 ∷ life2 ∷ life3 ∷ Row.off ∷ Row.off ∷ Row.off ∷ Row.off ∷ List.[]; }
         abbrev G64 : Row.Cx
-        G64 = record { locals = List._++_ t47 t1; slots = life0 ∷ life1 ∷ life2 ∷ life3 ∷ Row.off ∷ Row.off ∷ Row.off ∷ Row.off ∷ List.[]; }
+        G64 = record { locals = List._++_ t49 t1; slots = life0 ∷ life1 ∷ life2 ∷ life3 ∷ Row.off ∷ Row.off ∷ Row.off ∷ Row.off ∷ List.[]; }
         abbrev G65 : Row.Cx
         G65 = record { locals = List._++_ t2 t1; slots = life0 ∷ life1 ∷ life2 ∷ life3 ∷ Row.off ∷ Row.off ∷ Row.off ∷ Row.off ∷ List.[]; }
         abbrev Δ0 : Typed.Outs
@@ -1140,162 +1159,159 @@ module _ (claims· : Claims) where
           d4 : Typed.Typed 𝓤 H A 𝓣 E G53 b22 Δ1 at4
           d4 = Typed.g-pre 𝓤 H A W 𝓣 E G53 G54 b22 Δ1 (Typed.pass T53 T54 s51) at3 (Scalar.g-room 𝓤 H A W E G53 11 Laws'''.mir (Local.room-whole 𝓤 H A
               W (Declared'.row OpaqueRelayRuntime.the-type) Laws'''.mir Path.refl)) d3
-          d5 : Typed.Typed 𝓤 H A 𝓣 E G52 b22 Δ1 at5
-          d5 = Typed.g-pre 𝓤 H A W 𝓣 E G52 G53 b22 Δ1 (Typed.pass T52 T53 s50) at4 (Scalar.g-room 𝓤 H A W E G52 10 Laws.mir (Local.room-whole 𝓤 H A W
-              (Declared.row HnsrAnswer.the-type) Laws.mir Path.refl)) d4
+          d5 : Typed.Typed 𝓤 H A 𝓣 E G52 b23 Δ1 at5
+          d5 = Typed.s-seq 𝓤 H A W 𝓣 E G52 G53 b21 b22 Δ1 (Typed.both s50) at4 (Plain.t-call-plain 𝓤 H A W 𝓣 0 ps·9 r·9 (claims· .18) (claims· .19)
+              "hnsr_circuit::revoking_calls::taken_with" (known .9) E (λ pos β. β) G52 (record { pos = 11; st = List.[]; d = 0; at = λ x. x }, tt) 0
+              List.[] (Call.sub-id 𝓤 H A W (G52 .slots)) ((Yields.yields-copy 𝓤 H A W (λ ρ. Unit) (Declared'.row OpaqueRelayRuntime.the-type)
+              Path.refl (Copies.cStruct OpaqueRelayRuntime.the-type Laws'''.the-laws Laws'''.the-copy .copy 𝓤 H A W) (Rows'.whole (Declared'.row
+              OpaqueRelayRuntime.the-type)) (λ x. x) (λ x. x) (λ ρ told. Local.mem-whole 𝓤 H A W (Declared'.row OpaqueRelayRuntime.the-type) ρ) λ ρ
+              told. Local.whole-mem 𝓤 H A W (Declared'.row OpaqueRelayRuntime.the-type) ρ, Path.refl,), tt,) (Reads.room-gone 𝓤 H A Laws''''.mir) tt
+              Path.refl) d4
           d6 : Typed.Typed 𝓤 H A 𝓣 E G51 b23 Δ1 at6
-          d6 = Typed.s-seq 𝓤 H A W 𝓣 E G51 G52 b21 b22 Δ1 (Typed.both s49) at5 (Plain.t-call-plain 𝓤 H A W 𝓣 0 ps·9 r·9 (claims· .18) (claims· .19)
-              "hnsr_circuit::calls::made" (known .9) E (λ pos β. β) G51 (record { pos = 11; st = List.[]; d = 0; at = λ x. x }, (record { pos = 10; st
-              = List.[]; d = 0; at = λ x. x }, tt),) 0 List.[] (Call.sub-id 𝓤 H A W (G51 .slots)) ((Yields.yields-copy 𝓤 H A W (λ ρ. Unit)
-              (Declared'.row OpaqueRelayRuntime.the-type) Path.refl (Copies.cStruct OpaqueRelayRuntime.the-type Laws'''.the-laws Laws'''.the-copy
-              .copy 𝓤 H A W) (Rows'.whole (Declared'.row OpaqueRelayRuntime.the-type)) (λ x. x) (λ x. x) (λ ρ told. Local.mem-whole 𝓤 H A W
-              (Declared'.row OpaqueRelayRuntime.the-type) ρ) λ ρ told. Local.whole-mem 𝓤 H A W (Declared'.row OpaqueRelayRuntime.the-type) ρ,
-              Path.refl,), ((Yields.yields-copy 𝓤 H A W (λ ρ. Unit) (Declared.row HnsrAnswer.the-type) Path.refl (Copies.cEnum HnsrAnswer.the-type
-              Laws.the-laws Laws.the-copy .copy 𝓤 H A W) (Rows'.whole (Declared.row HnsrAnswer.the-type)) (λ x. x) (λ x. x) (λ ρ told. Local.mem-whole
-              𝓤 H A W (Declared.row HnsrAnswer.the-type) ρ) λ ρ told. Local.whole-mem 𝓤 H A W (Declared.row HnsrAnswer.the-type) ρ, Path.refl,),
-              tt,),) (Reads.room-gone 𝓤 H A Laws''''.mir) tt Path.refl) d5
+          d6 = Typed.g-pre 𝓤 H A W 𝓣 E G51 G52 b23 Δ1 (λ Ψ. Ψ) at5 (Lifetime.g-forget 𝓤 H A W E G51 7 Row.dead Path.refl) d5
           d7 : Typed.Typed 𝓤 H A 𝓣 E G50 b23 Δ1 at7
-          d7 = Typed.g-pre 𝓤 H A W 𝓣 E G50 G51 b23 Δ1 (λ Ψ. Ψ) at6 (Lifetime.g-forget 𝓤 H A W E G50 7 Row.dead Path.refl) d6
-          d8 : Typed.Typed 𝓤 H A 𝓣 E G49 b23 Δ1 at8
-          d8 = Typed.g-pre 𝓤 H A W 𝓣 E G49 G50 b23 Δ1 (Typed.both s47) at7 (Relend.g-back-sl 𝓤 H A W E InflightAction.row G49 25 4 3 7 ref7 ref3 life3
+          d7 = Typed.g-pre 𝓤 H A W 𝓣 E G50 G51 b23 Δ1 (Typed.both s48) at6 (Relend.g-back-sl 𝓤 H A W E InflightAction.row G50 25 4 3 7 ref7 ref3 life3
               (λ x. x) (λ x. x) (Reads.as-is 𝓤 H A (Mut.msleft InflightAction.row ref3)) (Reads.as-is 𝓤 H A (Relend.mslice-owed InflightAction.row
-              ref7 3 7 life3)) Path.refl Path.refl) d7
+              ref7 3 7 life3)) Path.refl Path.refl) d6
+          d8 : Typed.Typed 𝓤 H A 𝓣 E G49 b23 Δ1 at8
+          d8 = Typed.g-pre 𝓤 H A W 𝓣 E G49 G50 b23 Δ1 (λ Ψ. Ψ) at7 (Lifetime.g-end 𝓤 H A W E G49 7 Path.refl) d7
           d9 : Typed.Typed 𝓤 H A 𝓣 E G48 b23 Δ1 at9
-          d9 = Typed.g-pre 𝓤 H A W 𝓣 E G48 G49 b23 Δ1 (λ Ψ. Ψ) at8 (Lifetime.g-end 𝓤 H A W E G48 7 Path.refl) d8
+          d9 = Typed.g-pre 𝓤 H A W 𝓣 E G48 G49 b23 Δ1 (Typed.pass T48 T49 s46) at8 (Scalar.g-room 𝓤 H A W E G48 17 Syntax.tyUnit (Scalar.room-sc 𝓤 H A
+              W Row.sUnit)) d8
           d10 : Typed.Typed 𝓤 H A 𝓣 E G47 b23 Δ1 at10
-          d10 = Typed.g-pre 𝓤 H A W 𝓣 E G47 G48 b23 Δ1 (Typed.pass T47 T48 s45) at9 (Scalar.g-room 𝓤 H A W E G47 17 Syntax.tyUnit (Scalar.room-sc 𝓤 H
-              A W Row.sUnit)) d9
-          d11 : Typed.Typed 𝓤 H A 𝓣 E G46 b23 Δ1 at11
-          d11 = Typed.g-pre 𝓤 H A W 𝓣 E G46 G47 b23 Δ1 (Typed.pass T46 T47 s44) at10 (Scalar.g-room 𝓤 H A W E G46 12 Laws''.mir (Local.room-whole 𝓤 H
-              A W (Declared'.row Question.the-type) Laws''.mir Path.refl)) d10
-          d12 : Typed.Typed 𝓤 H A 𝓣 E G45 b24 Δ1 at12
-          d12 = Typed.s-seq 𝓤 H A W 𝓣 E G45 G46 b20 b23 Δ1 (Typed.both s43) at11 (Plain.t-call-plain 𝓤 H A W 𝓣 1 ps·8 r·8 (claims· .16) (claims· .17)
-              "hnsr_circuit::tables::inflight::clear_action" (known .8) E (λ pos β. β) G45 (record { pos = 25; ty = Syntax.tyRef Syntax.erased
+          d10 = Typed.g-pre 𝓤 H A W 𝓣 E G47 G48 b23 Δ1 (Typed.pass T47 T48 s45) at9 (Scalar.g-room 𝓤 H A W E G47 12 Laws''.mir (Local.room-whole 𝓤 H A
+              W (Declared'.row Question.the-type) Laws''.mir Path.refl)) d9
+          d11 : Typed.Typed 𝓤 H A 𝓣 E G46 b24 Δ1 at11
+          d11 = Typed.s-seq 𝓤 H A W 𝓣 E G46 G47 b20 b23 Δ1 (Typed.both s44) at10 (Plain.t-call-plain 𝓤 H A W 𝓣 1 ps·8 r·8 (claims· .16) (claims· .17)
+              "hnsr_circuit::tables::inflight::clear_action" (known .8) E (λ pos β. β) G46 (record { pos = 25; ty = Syntax.tyRef Syntax.erased
               Syntax.mut InflightAction.to; ref = λ x. x; }, (record { pos = 12; st = List.[]; d = 0; at = λ x. x }, tt),) 17 (7 ∷ List.[])
-              (Call.sub-id 𝓤 H A W (G45 .slots)) (Reads.as-is 𝓤 H A (Mut.mslice InflightAction.row ref3 7), Mut.reads-mslice 𝓤 H A W
+              (Call.sub-id 𝓤 H A W (G46 .slots)) (Reads.as-is 𝓤 H A (Mut.mslice InflightAction.row ref3 7), Mut.reads-mslice 𝓤 H A W
               InflightAction.row ref3 7, Path.refl, ((Yields.yields-copy 𝓤 H A W (λ ρ. Unit) (Declared'.row Question.the-type) Path.refl
               (Copies.cStruct Question.the-type Laws''.the-laws Laws''.the-copy .copy 𝓤 H A W) (Rows'.whole (Declared'.row Question.the-type)) (λ x.
               x) (λ x. x) (λ ρ told. Local.mem-whole 𝓤 H A W (Declared'.row Question.the-type) ρ) λ ρ told. Local.whole-mem 𝓤 H A W (Declared'.row
-              Question.the-type) ρ, Path.refl,), tt,),) (Reads.room-gone 𝓤 H A Syntax.tyUnit) (tt, tt) Path.refl) d11
-          d13 : Typed.Typed 𝓤 H A 𝓣 E G44 b25 Δ1 at13
-          d13 = Typed.s-seq 𝓤 H A W 𝓣 E G44 G45 b19 b24 Δ1 (Typed.ask s42) at12 (Relend.t-sl-aggregate 𝓤 H A W E InflightAction.row 𝓣 (Relend.asMut
-              InflightAction.row) G44 24 25 7 ref3 ref3 (λ x. x) (Scalar.oFld 4 ((Syntax.field 1) ∷ List.[]) (Syntax.tyInt Syntax.w64) 8 λ v.
+              Question.the-type) ρ, Path.refl,), tt,),) (Reads.room-gone 𝓤 H A Syntax.tyUnit) (tt, tt) Path.refl) d10
+          d12 : Typed.Typed 𝓤 H A 𝓣 E G45 b25 Δ1 at12
+          d12 = Typed.s-seq 𝓤 H A W 𝓣 E G45 G46 b19 b24 Δ1 (Typed.ask s43) at11 (Relend.t-sl-aggregate 𝓤 H A W E InflightAction.row 𝓣 (Relend.asMut
+              InflightAction.row) G45 24 25 7 ref3 ref3 (λ x. x) (Scalar.oFld 4 ((Syntax.field 1) ∷ List.[]) (Syntax.tyInt Syntax.w64) 8 λ v.
               Shared.lenV (v .0)) (Reads.as-is 𝓤 H A (Relend.msptr InflightAction.row ref3 7)) (Reads.room-gone 𝓤 H A (Syntax.tyStruct (38 ∷ 91 ∷ 93 ∷
               List.[]) (Syntax.tcons ref3 (Syntax.tcons (Syntax.tyInt Syntax.w64) Syntax.tnil)))) (Relend.reads-owed-len 𝓤 H A W InflightAction.row
-              ref7 3 7 life3 8 Path.refl, Path.refl,) Path.refl Path.refl λ b o k. tt) d12
-          d14 : Typed.Typed 𝓤 H A 𝓣 E G43 b26 Δ1 at14
-          d14 = Typed.s-seq 𝓤 H A W 𝓣 E G43 G44 b18 b25 Δ1 (Typed.give s41) at13 (Relend.t-sl-relend 𝓤 H A W E InflightAction.row 𝓣 G43 4 24 3 7 ref7
+              ref7 3 7 life3 8 Path.refl, Path.refl,) Path.refl Path.refl λ b o k. tt) d11
+          d13 : Typed.Typed 𝓤 H A 𝓣 E G44 b26 Δ1 at13
+          d13 = Typed.s-seq 𝓤 H A W 𝓣 E G44 G45 b18 b25 Δ1 (Typed.give s42) at12 (Relend.t-sl-relend 𝓤 H A W E InflightAction.row 𝓣 G44 4 24 3 7 ref7
               ref3 life3 0 (λ x. x) (Reads.as-is 𝓤 H A (Mut.mslice InflightAction.row ref7 3)) (Reads.room-gone 𝓤 H A ref3) Path.refl tt Path.refl
-              Path.refl Path.refl λ b o. tt) d13
-          d15 : Typed.Typed 𝓤 H A 𝓣 E G42 b26 Δ1 at15
-          d15 = Typed.g-pre 𝓤 H A W 𝓣 E G42 G43 b26 Δ1 (λ Ψ. Ψ) at14 (Lifetime.g-begin 𝓤 H A W E G42 7 (tt, (tt, (tt, (tt, (tt, (tt, (tt, (tt, (tt,
+              Path.refl Path.refl λ b o. tt) d12
+          d14 : Typed.Typed 𝓤 H A 𝓣 E G43 b26 Δ1 at14
+          d14 = Typed.g-pre 𝓤 H A W 𝓣 E G43 G44 b26 Δ1 (λ Ψ. Ψ) at13 (Lifetime.g-begin 𝓤 H A W E G43 7 (tt, (tt, (tt, (tt, (tt, (tt, (tt, (tt, (tt,
               (tt, (tt, (tt, (tt, (tt, (tt, (tt, (tt, (tt, (tt, (tt, (tt, (tt, (tt, (tt, (tt, (tt, tt)))))),),),),),),),),),),),),),),),),),),),),))
-              d14
+              d13
+          d15 : Typed.Typed 𝓤 H A 𝓣 E G42 b26 Δ1 at15
+          d15 = Typed.g-pre 𝓤 H A W 𝓣 E G42 G43 b26 Δ1 (λ Ψ. Ψ) at14 (Lifetime.g-forget 𝓤 H A W E G42 6 Row.dead Path.refl) d14
           d16 : Typed.Typed 𝓤 H A 𝓣 E G41 b26 Δ1 at16
-          d16 = Typed.g-pre 𝓤 H A W 𝓣 E G41 G42 b26 Δ1 (λ Ψ. Ψ) at15 (Lifetime.g-forget 𝓤 H A W E G41 6 Row.dead Path.refl) d15
-          d17 : Typed.Typed 𝓤 H A 𝓣 E G40 b26 Δ1 at17
-          d17 = Typed.g-pre 𝓤 H A W 𝓣 E G40 G41 b26 Δ1 (Typed.both s38) at16 (Relend.g-back-sl 𝓤 H A W E ReservationUsage.row G40 23 3 2 6 ref6 ref2
+          d16 = Typed.g-pre 𝓤 H A W 𝓣 E G41 G42 b26 Δ1 (Typed.both s39) at15 (Relend.g-back-sl 𝓤 H A W E ReservationUsage.row G41 23 3 2 6 ref6 ref2
               life2 (λ x. x) (λ x. x) (Reads.as-is 𝓤 H A (Mut.msleft ReservationUsage.row ref2)) (Reads.as-is 𝓤 H A (Relend.mslice-owed
-              ReservationUsage.row ref6 2 6 life2)) Path.refl Path.refl) d16
+              ReservationUsage.row ref6 2 6 life2)) Path.refl Path.refl) d15
+          d17 : Typed.Typed 𝓤 H A 𝓣 E G40 b26 Δ1 at17
+          d17 = Typed.g-pre 𝓤 H A W 𝓣 E G40 G41 b26 Δ1 (λ Ψ. Ψ) at16 (Lifetime.g-end 𝓤 H A W E G40 6 Path.refl) d16
           d18 : Typed.Typed 𝓤 H A 𝓣 E G39 b26 Δ1 at18
-          d18 = Typed.g-pre 𝓤 H A W 𝓣 E G39 G40 b26 Δ1 (λ Ψ. Ψ) at17 (Lifetime.g-end 𝓤 H A W E G39 6 Path.refl) d17
-          d19 : Typed.Typed 𝓤 H A 𝓣 E G38 b26 Δ1 at19
-          d19 = Typed.g-pre 𝓤 H A W 𝓣 E G38 G39 b26 Δ1 (Typed.pass T38 T39 s36) at18 (Scalar.g-room 𝓤 H A W E G38 17 Syntax.tyUnit (Scalar.room-sc 𝓤 H
-              A W Row.sUnit)) d18
-          d20 : Typed.Typed 𝓤 H A 𝓣 E G37 b27 Δ1 at20
-          d20 = Typed.s-seq 𝓤 H A W 𝓣 E G37 G38 b17 b26 Δ1 (Typed.both s35) at19 (Plain.t-call-plain 𝓤 H A W 𝓣 1 ps·7 r·7 (claims· .14) (claims· .15)
-              "hnsr_circuit::tables::ledger::clear_usage" (known .7) E (λ pos β. β) G37 (record { pos = 23; ty = Syntax.tyRef Syntax.erased Syntax.mut
+          d18 = Typed.g-pre 𝓤 H A W 𝓣 E G39 G40 b26 Δ1 (Typed.pass T39 T40 s37) at17 (Scalar.g-room 𝓤 H A W E G39 17 Syntax.tyUnit (Scalar.room-sc 𝓤 H
+              A W Row.sUnit)) d17
+          d19 : Typed.Typed 𝓤 H A 𝓣 E G38 b27 Δ1 at19
+          d19 = Typed.s-seq 𝓤 H A W 𝓣 E G38 G39 b17 b26 Δ1 (Typed.both s36) at18 (Plain.t-call-plain 𝓤 H A W 𝓣 1 ps·7 r·7 (claims· .14) (claims· .15)
+              "hnsr_circuit::tables::ledger::clear_usage" (known .7) E (λ pos β. β) G38 (record { pos = 23; ty = Syntax.tyRef Syntax.erased Syntax.mut
               ReservationUsage.to; ref = λ x. x; }, (record { pos = 12; st = List.[]; d = 0; at = λ x. x }, tt),) 17 (6 ∷ List.[]) (Call.sub-id 𝓤 H A
-              W (G37 .slots)) (Reads.as-is 𝓤 H A (Mut.mslice ReservationUsage.row ref2 6), Mut.reads-mslice 𝓤 H A W ReservationUsage.row ref2 6,
+              W (G38 .slots)) (Reads.as-is 𝓤 H A (Mut.mslice ReservationUsage.row ref2 6), Mut.reads-mslice 𝓤 H A W ReservationUsage.row ref2 6,
               Path.refl, ((Yields.yields-copy 𝓤 H A W (λ ρ. Unit) (Declared'.row Question.the-type) Path.refl (Copies.cStruct Question.the-type
               Laws''.the-laws Laws''.the-copy .copy 𝓤 H A W) (Rows'.whole (Declared'.row Question.the-type)) (λ x. x) (λ x. x) (λ ρ told.
               Local.mem-whole 𝓤 H A W (Declared'.row Question.the-type) ρ) λ ρ told. Local.whole-mem 𝓤 H A W (Declared'.row Question.the-type) ρ,
-              Path.refl,), tt,),) (Reads.room-gone 𝓤 H A Syntax.tyUnit) (tt, tt) Path.refl) d19
-          d21 : Typed.Typed 𝓤 H A 𝓣 E G36 b28 Δ1 at21
-          d21 = Typed.s-seq 𝓤 H A W 𝓣 E G36 G37 b16 b27 Δ1 (Typed.ask s34) at20 (Relend.t-sl-aggregate 𝓤 H A W E ReservationUsage.row 𝓣 (Relend.asMut
-              ReservationUsage.row) G36 22 23 6 ref2 ref2 (λ x. x) (Scalar.oFld 3 ((Syntax.field 1) ∷ List.[]) (Syntax.tyInt Syntax.w64) 8 λ v.
+              Path.refl,), tt,),) (Reads.room-gone 𝓤 H A Syntax.tyUnit) (tt, tt) Path.refl) d18
+          d20 : Typed.Typed 𝓤 H A 𝓣 E G37 b28 Δ1 at20
+          d20 = Typed.s-seq 𝓤 H A W 𝓣 E G37 G38 b16 b27 Δ1 (Typed.ask s35) at19 (Relend.t-sl-aggregate 𝓤 H A W E ReservationUsage.row 𝓣 (Relend.asMut
+              ReservationUsage.row) G37 22 23 6 ref2 ref2 (λ x. x) (Scalar.oFld 3 ((Syntax.field 1) ∷ List.[]) (Syntax.tyInt Syntax.w64) 8 λ v.
               Shared.lenV (v .0)) (Reads.as-is 𝓤 H A (Relend.msptr ReservationUsage.row ref2 6)) (Reads.room-gone 𝓤 H A (Syntax.tyStruct (38 ∷ 91 ∷ 93
               ∷ List.[]) (Syntax.tcons ref2 (Syntax.tcons (Syntax.tyInt Syntax.w64) Syntax.tnil)))) (Relend.reads-owed-len 𝓤 H A W
-              ReservationUsage.row ref6 2 6 life2 8 Path.refl, Path.refl,) Path.refl Path.refl λ b o k. tt) d20
-          d22 : Typed.Typed 𝓤 H A 𝓣 E G35 b29 Δ1 at22
-          d22 = Typed.s-seq 𝓤 H A W 𝓣 E G35 G36 b15 b28 Δ1 (Typed.give s33) at21 (Relend.t-sl-relend 𝓤 H A W E ReservationUsage.row 𝓣 G35 3 22 2 6
+              ReservationUsage.row ref6 2 6 life2 8 Path.refl, Path.refl,) Path.refl Path.refl λ b o k. tt) d19
+          d21 : Typed.Typed 𝓤 H A 𝓣 E G36 b29 Δ1 at21
+          d21 = Typed.s-seq 𝓤 H A W 𝓣 E G36 G37 b15 b28 Δ1 (Typed.give s34) at20 (Relend.t-sl-relend 𝓤 H A W E ReservationUsage.row 𝓣 G36 3 22 2 6
               ref6 ref2 life2 0 (λ x. x) (Reads.as-is 𝓤 H A (Mut.mslice ReservationUsage.row ref6 2)) (Reads.room-gone 𝓤 H A ref2) Path.refl tt
-              Path.refl Path.refl Path.refl λ b o. tt) d21
-          d23 : Typed.Typed 𝓤 H A 𝓣 E G34 b29 Δ1 at23
-          d23 = Typed.g-pre 𝓤 H A W 𝓣 E G34 G35 b29 Δ1 (λ Ψ. Ψ) at22 (Lifetime.g-begin 𝓤 H A W E G34 6 (tt, (tt, (tt, (tt, (tt, (tt, (tt, (tt, (tt,
+              Path.refl Path.refl Path.refl λ b o. tt) d20
+          d22 : Typed.Typed 𝓤 H A 𝓣 E G35 b29 Δ1 at22
+          d22 = Typed.g-pre 𝓤 H A W 𝓣 E G35 G36 b29 Δ1 (λ Ψ. Ψ) at21 (Lifetime.g-begin 𝓤 H A W E G35 6 (tt, (tt, (tt, (tt, (tt, (tt, (tt, (tt, (tt,
               (tt, (tt, (tt, (tt, (tt, (tt, (tt, (tt, (tt, (tt, (tt, (tt, (tt, (tt, (tt, (tt, (tt, tt)))))),),),),),),),),),),),),),),),),),),),),))
-              d22
+              d21
+          d23 : Typed.Typed 𝓤 H A 𝓣 E G34 b29 Δ1 at23
+          d23 = Typed.g-pre 𝓤 H A W 𝓣 E G34 G35 b29 Δ1 (λ Ψ. Ψ) at22 (Lifetime.g-forget 𝓤 H A W E G34 5 Row.dead Path.refl) d22
           d24 : Typed.Typed 𝓤 H A 𝓣 E G33 b29 Δ1 at24
-          d24 = Typed.g-pre 𝓤 H A W 𝓣 E G33 G34 b29 Δ1 (λ Ψ. Ψ) at23 (Lifetime.g-forget 𝓤 H A W E G33 5 Row.dead Path.refl) d23
-          d25 : Typed.Typed 𝓤 H A 𝓣 E G32 b29 Δ1 at25
-          d25 = Typed.g-pre 𝓤 H A W 𝓣 E G32 G33 b29 Δ1 (Typed.both s30) at24 (Relend.g-back-sl 𝓤 H A W E RelayCircuit.row G32 21 2 1 5 ref5 ref1 life1
+          d24 = Typed.g-pre 𝓤 H A W 𝓣 E G33 G34 b29 Δ1 (Typed.both s31) at23 (Relend.g-back-sl 𝓤 H A W E RelayCircuit.row G33 21 2 1 5 ref5 ref1 life1
               (λ x. x) (λ x. x) (Reads.as-is 𝓤 H A (Mut.msleft RelayCircuit.row ref1)) (Reads.as-is 𝓤 H A (Relend.mslice-owed RelayCircuit.row ref5 1
-              5 life1)) Path.refl Path.refl) d24
+              5 life1)) Path.refl Path.refl) d23
+          d25 : Typed.Typed 𝓤 H A 𝓣 E G32 b29 Δ1 at25
+          d25 = Typed.g-pre 𝓤 H A W 𝓣 E G32 G33 b29 Δ1 (λ Ψ. Ψ) at24 (Lifetime.g-end 𝓤 H A W E G32 5 Path.refl) d24
           d26 : Typed.Typed 𝓤 H A 𝓣 E G31 b29 Δ1 at26
-          d26 = Typed.g-pre 𝓤 H A W 𝓣 E G31 G32 b29 Δ1 (λ Ψ. Ψ) at25 (Lifetime.g-end 𝓤 H A W E G31 5 Path.refl) d25
-          d27 : Typed.Typed 𝓤 H A 𝓣 E G30 b29 Δ1 at27
-          d27 = Typed.g-pre 𝓤 H A W 𝓣 E G30 G31 b29 Δ1 (Typed.pass T30 T31 s28) at26 (Scalar.g-room 𝓤 H A W E G30 17 Syntax.tyUnit (Scalar.room-sc 𝓤 H
-              A W Row.sUnit)) d26
-          d28 : Typed.Typed 𝓤 H A 𝓣 E G29 b30 Δ1 at28
-          d28 = Typed.s-seq 𝓤 H A W 𝓣 E G29 G30 b14 b29 Δ1 (Typed.both s27) at27 (Plain.t-call-plain 𝓤 H A W 𝓣 1 ps·6 r·6 (claims· .12) (claims· .13)
-              "hnsr_circuit::tables::circuits::clear_circuit" (known .6) E (λ pos β. β) G29 (record { pos = 21; ty = Syntax.tyRef Syntax.erased
+          d26 = Typed.g-pre 𝓤 H A W 𝓣 E G31 G32 b29 Δ1 (Typed.pass T31 T32 s29) at25 (Scalar.g-room 𝓤 H A W E G31 17 Syntax.tyUnit (Scalar.room-sc 𝓤 H
+              A W Row.sUnit)) d25
+          d27 : Typed.Typed 𝓤 H A 𝓣 E G30 b30 Δ1 at27
+          d27 = Typed.s-seq 𝓤 H A W 𝓣 E G30 G31 b14 b29 Δ1 (Typed.both s28) at26 (Plain.t-call-plain 𝓤 H A W 𝓣 1 ps·6 r·6 (claims· .12) (claims· .13)
+              "hnsr_circuit::tables::circuits::clear_circuit" (known .6) E (λ pos β. β) G30 (record { pos = 21; ty = Syntax.tyRef Syntax.erased
               Syntax.mut RelayCircuit.to; ref = λ x. x; }, (record { pos = 12; st = List.[]; d = 0; at = λ x. x }, tt),) 17 (5 ∷ List.[]) (Call.sub-id
-              𝓤 H A W (G29 .slots)) (Reads.as-is 𝓤 H A (Mut.mslice RelayCircuit.row ref1 5), Mut.reads-mslice 𝓤 H A W RelayCircuit.row ref1 5,
+              𝓤 H A W (G30 .slots)) (Reads.as-is 𝓤 H A (Mut.mslice RelayCircuit.row ref1 5), Mut.reads-mslice 𝓤 H A W RelayCircuit.row ref1 5,
               Path.refl, ((Yields.yields-copy 𝓤 H A W (λ ρ. Unit) (Declared'.row Question.the-type) Path.refl (Copies.cStruct Question.the-type
               Laws''.the-laws Laws''.the-copy .copy 𝓤 H A W) (Rows'.whole (Declared'.row Question.the-type)) (λ x. x) (λ x. x) (λ ρ told.
               Local.mem-whole 𝓤 H A W (Declared'.row Question.the-type) ρ) λ ρ told. Local.whole-mem 𝓤 H A W (Declared'.row Question.the-type) ρ,
-              Path.refl,), tt,),) (Reads.room-gone 𝓤 H A Syntax.tyUnit) (tt, tt) Path.refl) d27
-          d29 : Typed.Typed 𝓤 H A 𝓣 E G28 b31 Δ1 at29
-          d29 = Typed.s-seq 𝓤 H A W 𝓣 E G28 G29 b13 b30 Δ1 (Typed.ask s26) at28 (Relend.t-sl-aggregate 𝓤 H A W E RelayCircuit.row 𝓣 (Relend.asMut
-              RelayCircuit.row) G28 20 21 5 ref1 ref1 (λ x. x) (Scalar.oFld 2 ((Syntax.field 1) ∷ List.[]) (Syntax.tyInt Syntax.w64) 8 λ v.
+              Path.refl,), tt,),) (Reads.room-gone 𝓤 H A Syntax.tyUnit) (tt, tt) Path.refl) d26
+          d28 : Typed.Typed 𝓤 H A 𝓣 E G29 b31 Δ1 at28
+          d28 = Typed.s-seq 𝓤 H A W 𝓣 E G29 G30 b13 b30 Δ1 (Typed.ask s27) at27 (Relend.t-sl-aggregate 𝓤 H A W E RelayCircuit.row 𝓣 (Relend.asMut
+              RelayCircuit.row) G29 20 21 5 ref1 ref1 (λ x. x) (Scalar.oFld 2 ((Syntax.field 1) ∷ List.[]) (Syntax.tyInt Syntax.w64) 8 λ v.
               Shared.lenV (v .0)) (Reads.as-is 𝓤 H A (Relend.msptr RelayCircuit.row ref1 5)) (Reads.room-gone 𝓤 H A (Syntax.tyStruct (38 ∷ 91 ∷ 93 ∷
               List.[]) (Syntax.tcons ref1 (Syntax.tcons (Syntax.tyInt Syntax.w64) Syntax.tnil)))) (Relend.reads-owed-len 𝓤 H A W RelayCircuit.row ref5
-              1 5 life1 8 Path.refl, Path.refl,) Path.refl Path.refl λ b o k. tt) d28
-          d30 : Typed.Typed 𝓤 H A 𝓣 E G27 b32 Δ1 at30
-          d30 = Typed.s-seq 𝓤 H A W 𝓣 E G27 G28 b12 b31 Δ1 (Typed.give s25) at29 (Relend.t-sl-relend 𝓤 H A W E RelayCircuit.row 𝓣 G27 2 20 1 5 ref5
+              1 5 life1 8 Path.refl, Path.refl,) Path.refl Path.refl λ b o k. tt) d27
+          d29 : Typed.Typed 𝓤 H A 𝓣 E G28 b32 Δ1 at29
+          d29 = Typed.s-seq 𝓤 H A W 𝓣 E G28 G29 b12 b31 Δ1 (Typed.give s26) at28 (Relend.t-sl-relend 𝓤 H A W E RelayCircuit.row 𝓣 G28 2 20 1 5 ref5
               ref1 life1 0 (λ x. x) (Reads.as-is 𝓤 H A (Mut.mslice RelayCircuit.row ref5 1)) (Reads.room-gone 𝓤 H A ref1) Path.refl tt Path.refl
-              Path.refl Path.refl λ b o. tt) d29
-          d31 : Typed.Typed 𝓤 H A 𝓣 E G26 b32 Δ1 at31
-          d31 = Typed.g-pre 𝓤 H A W 𝓣 E G26 G27 b32 Δ1 (λ Ψ. Ψ) at30 (Lifetime.g-begin 𝓤 H A W E G26 5 (tt, (tt, (tt, (tt, (tt, (tt, (tt, (tt, (tt,
+              Path.refl Path.refl λ b o. tt) d28
+          d30 : Typed.Typed 𝓤 H A 𝓣 E G27 b32 Δ1 at30
+          d30 = Typed.g-pre 𝓤 H A W 𝓣 E G27 G28 b32 Δ1 (λ Ψ. Ψ) at29 (Lifetime.g-begin 𝓤 H A W E G27 5 (tt, (tt, (tt, (tt, (tt, (tt, (tt, (tt, (tt,
               (tt, (tt, (tt, (tt, (tt, (tt, (tt, (tt, (tt, (tt, (tt, (tt, (tt, (tt, (tt, (tt, (tt, tt)))))),),),),),),),),),),),),),),),),),),),),))
-              d30
+              d29
+          d31 : Typed.Typed 𝓤 H A 𝓣 E G26 b32 Δ1 at31
+          d31 = Typed.g-pre 𝓤 H A W 𝓣 E G26 G27 b32 Δ1 (λ Ψ. Ψ) at30 (Lifetime.g-forget 𝓤 H A W E G26 4 Row.dead Path.refl) d30
           d32 : Typed.Typed 𝓤 H A 𝓣 E G25 b32 Δ1 at32
-          d32 = Typed.g-pre 𝓤 H A W 𝓣 E G25 G26 b32 Δ1 (λ Ψ. Ψ) at31 (Lifetime.g-forget 𝓤 H A W E G25 4 Row.dead Path.refl) d31
-          d33 : Typed.Typed 𝓤 H A 𝓣 E G24 b32 Δ1 at33
-          d33 = Typed.g-pre 𝓤 H A W 𝓣 E G24 G25 b32 Δ1 (Typed.both s22) at32 (Relend.g-back-sl 𝓤 H A W E RelayPending.row G24 19 1 0 4 ref4 ref0 life0
+          d32 = Typed.g-pre 𝓤 H A W 𝓣 E G25 G26 b32 Δ1 (Typed.both s23) at31 (Relend.g-back-sl 𝓤 H A W E RelayPending.row G25 19 1 0 4 ref4 ref0 life0
               (λ x. x) (λ x. x) (Reads.as-is 𝓤 H A (Mut.msleft RelayPending.row ref0)) (Reads.as-is 𝓤 H A (Relend.mslice-owed RelayPending.row ref4 0
-              4 life0)) Path.refl Path.refl) d32
+              4 life0)) Path.refl Path.refl) d31
+          d33 : Typed.Typed 𝓤 H A 𝓣 E G24 b32 Δ1 at33
+          d33 = Typed.g-pre 𝓤 H A W 𝓣 E G24 G25 b32 Δ1 (λ Ψ. Ψ) at32 (Lifetime.g-end 𝓤 H A W E G24 4 Path.refl) d32
           d34 : Typed.Typed 𝓤 H A 𝓣 E G23 b32 Δ1 at34
-          d34 = Typed.g-pre 𝓤 H A W 𝓣 E G23 G24 b32 Δ1 (λ Ψ. Ψ) at33 (Lifetime.g-end 𝓤 H A W E G23 4 Path.refl) d33
-          d35 : Typed.Typed 𝓤 H A 𝓣 E G22 b32 Δ1 at35
-          d35 = Typed.g-pre 𝓤 H A W 𝓣 E G22 G23 b32 Δ1 (Typed.pass T22 T23 s20) at34 (Scalar.g-room 𝓤 H A W E G22 17 Syntax.tyUnit (Scalar.room-sc 𝓤 H
-              A W Row.sUnit)) d34
-          d36 : Typed.Typed 𝓤 H A 𝓣 E G21 b33 Δ1 at36
-          d36 = Typed.s-seq 𝓤 H A W 𝓣 E G21 G22 b11 b32 Δ1 (Typed.both s19) at35 (Plain.t-call-plain 𝓤 H A W 𝓣 1 ps·5 r·5 (claims· .10) (claims· .11)
-              "hnsr_circuit::tables::pending::clear_pending" (known .5) E (λ pos β. β) G21 (record { pos = 19; ty = Syntax.tyRef Syntax.erased
+          d34 = Typed.g-pre 𝓤 H A W 𝓣 E G23 G24 b32 Δ1 (Typed.pass T23 T24 s21) at33 (Scalar.g-room 𝓤 H A W E G23 17 Syntax.tyUnit (Scalar.room-sc 𝓤 H
+              A W Row.sUnit)) d33
+          d35 : Typed.Typed 𝓤 H A 𝓣 E G22 b33 Δ1 at35
+          d35 = Typed.s-seq 𝓤 H A W 𝓣 E G22 G23 b11 b32 Δ1 (Typed.both s20) at34 (Plain.t-call-plain 𝓤 H A W 𝓣 1 ps·5 r·5 (claims· .10) (claims· .11)
+              "hnsr_circuit::tables::pending::clear_pending" (known .5) E (λ pos β. β) G22 (record { pos = 19; ty = Syntax.tyRef Syntax.erased
               Syntax.mut RelayPending.to; ref = λ x. x; }, (record { pos = 12; st = List.[]; d = 0; at = λ x. x }, tt),) 17 (4 ∷ List.[]) (Call.sub-id
-              𝓤 H A W (G21 .slots)) (Reads.as-is 𝓤 H A (Mut.mslice RelayPending.row ref0 4), Mut.reads-mslice 𝓤 H A W RelayPending.row ref0 4,
+              𝓤 H A W (G22 .slots)) (Reads.as-is 𝓤 H A (Mut.mslice RelayPending.row ref0 4), Mut.reads-mslice 𝓤 H A W RelayPending.row ref0 4,
               Path.refl, ((Yields.yields-copy 𝓤 H A W (λ ρ. Unit) (Declared'.row Question.the-type) Path.refl (Copies.cStruct Question.the-type
               Laws''.the-laws Laws''.the-copy .copy 𝓤 H A W) (Rows'.whole (Declared'.row Question.the-type)) (λ x. x) (λ x. x) (λ ρ told.
               Local.mem-whole 𝓤 H A W (Declared'.row Question.the-type) ρ) λ ρ told. Local.whole-mem 𝓤 H A W (Declared'.row Question.the-type) ρ,
-              Path.refl,), tt,),) (Reads.room-gone 𝓤 H A Syntax.tyUnit) (tt, tt) Path.refl) d35
-          d37 : Typed.Typed 𝓤 H A 𝓣 E G20 b34 Δ1 at37
-          d37 = Typed.s-seq 𝓤 H A W 𝓣 E G20 G21 b10 b33 Δ1 (Typed.ask s18) at36 (Relend.t-sl-aggregate 𝓤 H A W E RelayPending.row 𝓣 (Relend.asMut
-              RelayPending.row) G20 18 19 4 ref0 ref0 (λ x. x) (Scalar.oFld 1 ((Syntax.field 1) ∷ List.[]) (Syntax.tyInt Syntax.w64) 8 λ v.
+              Path.refl,), tt,),) (Reads.room-gone 𝓤 H A Syntax.tyUnit) (tt, tt) Path.refl) d34
+          d36 : Typed.Typed 𝓤 H A 𝓣 E G21 b34 Δ1 at36
+          d36 = Typed.s-seq 𝓤 H A W 𝓣 E G21 G22 b10 b33 Δ1 (Typed.ask s19) at35 (Relend.t-sl-aggregate 𝓤 H A W E RelayPending.row 𝓣 (Relend.asMut
+              RelayPending.row) G21 18 19 4 ref0 ref0 (λ x. x) (Scalar.oFld 1 ((Syntax.field 1) ∷ List.[]) (Syntax.tyInt Syntax.w64) 8 λ v.
               Shared.lenV (v .0)) (Reads.as-is 𝓤 H A (Relend.msptr RelayPending.row ref0 4)) (Reads.room-gone 𝓤 H A (Syntax.tyStruct (38 ∷ 91 ∷ 93 ∷
               List.[]) (Syntax.tcons ref0 (Syntax.tcons (Syntax.tyInt Syntax.w64) Syntax.tnil)))) (Relend.reads-owed-len 𝓤 H A W RelayPending.row ref4
-              0 4 life0 8 Path.refl, Path.refl,) Path.refl Path.refl λ b o k. tt) d36
-          d38 : Typed.Typed 𝓤 H A 𝓣 E G19 b35 Δ1 at38
-          d38 = Typed.s-seq 𝓤 H A W 𝓣 E G19 G20 b9 b34 Δ1 (Typed.give s17) at37 (Relend.t-sl-relend 𝓤 H A W E RelayPending.row 𝓣 G19 1 18 0 4 ref4
+              0 4 life0 8 Path.refl, Path.refl,) Path.refl Path.refl λ b o k. tt) d35
+          d37 : Typed.Typed 𝓤 H A 𝓣 E G20 b35 Δ1 at37
+          d37 = Typed.s-seq 𝓤 H A W 𝓣 E G20 G21 b9 b34 Δ1 (Typed.give s18) at36 (Relend.t-sl-relend 𝓤 H A W E RelayPending.row 𝓣 G20 1 18 0 4 ref4
               ref0 life0 0 (λ x. x) (Reads.as-is 𝓤 H A (Mut.mslice RelayPending.row ref4 0)) (Reads.room-gone 𝓤 H A ref0) Path.refl tt Path.refl
-              Path.refl Path.refl λ b o. tt) d37
-          d39 : Typed.Typed 𝓤 H A 𝓣 E G18 b35 Δ1 at39
-          d39 = Typed.g-pre 𝓤 H A W 𝓣 E G18 G19 b35 Δ1 (λ Ψ. Ψ) at38 (Lifetime.g-begin 𝓤 H A W E G18 4 (tt, (tt, (tt, (tt, (tt, (tt, (tt, (tt, (tt,
+              Path.refl Path.refl λ b o. tt) d36
+          d38 : Typed.Typed 𝓤 H A 𝓣 E G19 b35 Δ1 at38
+          d38 = Typed.g-pre 𝓤 H A W 𝓣 E G19 G20 b35 Δ1 (λ Ψ. Ψ) at37 (Lifetime.g-begin 𝓤 H A W E G19 4 (tt, (tt, (tt, (tt, (tt, (tt, (tt, (tt, (tt,
               (tt, (tt, (tt, (tt, (tt, (tt, (tt, (tt, (tt, (tt, (tt, (tt, (tt, (tt, (tt, (tt, (tt, tt)))))),),),),),),),),),),),),),),),),),),),),))
-              d38
+              d37
+          d39 : Typed.Typed 𝓤 H A 𝓣 E G18 b35 Δ1 at39
+          d39 = Typed.g-pre 𝓤 H A W 𝓣 E G18 G19 b35 Δ1 (Typed.pass T18 T19 s16) at38 (Scalar.g-room 𝓤 H A W E G18 16 Syntax.tyBool (Scalar.room-sc 𝓤 H
+              A W Row.sBool)) d38
           d40 : Typed.Typed 𝓤 H A 𝓣 E G16 b35 Δ1 at40
-          d40 = Typed.g-pre 𝓤 H A W 𝓣 E G16 G18 b35 Δ1 (Typed.pass T16 T18 s15) at39 (Scalar.g-room 𝓤 H A W E G16 16 Syntax.tyBool (Scalar.room-sc 𝓤 H
-              A W Row.sBool)) d39
+          d40 = Typed.g-pre 𝓤 H A W 𝓣 E G16 G18 b35 Δ1 (Typed.pass T16 T18 s15) at39 (Scalar.g-room 𝓤 H A W E G16 10 Laws.mir (Local.room-whole 𝓤 H A
+              W (Declared.row HnsrAnswer.the-type) Laws.mir Path.refl)) d39
           d41 : Typed.Typed 𝓤 H A 𝓣 E G59 b36 Δ1 at41
           d41 = Typed.t-skip 𝓤 H A W 𝓣 E Δ1 tt
           d42 : Typed.Typed 𝓤 H A 𝓣 E G58 b36 Δ1 at42
@@ -1324,12 +1340,12 @@ module _ (claims· : Claims) where
           d50 = Typed.g-pre 𝓤 H A W 𝓣 E G60 G61 b39 Δ0 (Typed.pass T60 T61 s58) at49 (Scalar.g-room 𝓤 H A W E G60 9 Syntax.tyBool (Scalar.room-sc 𝓤 H
               A W Row.sBool)) d49
           d51 : Typed.Typed 𝓤 H A 𝓣 E G17 b40 Δ0 at51
-          d51 = Typed.s-seq 𝓤 H A W 𝓣 E G17 G60 b38 b39 Δ0 (Typed.both s57) at50 (Plain.t-call-plain 𝓤 H A W 𝓣 0 ps·9 r·9 (claims· .18) (claims· .19)
-              "hnsr_circuit::calls::made" (known .9) E (λ pos β. β) G17 (record { pos = 11; st = List.[]; d = 0; at = λ x. x }, (record { pos = 10; st
-              = List.[]; d = 0; at = λ x. x }, tt),) 0 List.[] (Call.sub-id 𝓤 H A W (G17 .slots)) ((Yields.yields-copy 𝓤 H A W (λ ρ. Unit)
-              (Declared'.row OpaqueRelayRuntime.the-type) Path.refl (Copies.cStruct OpaqueRelayRuntime.the-type Laws'''.the-laws Laws'''.the-copy
-              .copy 𝓤 H A W) (Rows'.whole (Declared'.row OpaqueRelayRuntime.the-type)) (λ x. x) (λ x. x) (λ ρ told. Local.mem-whole 𝓤 H A W
-              (Declared'.row OpaqueRelayRuntime.the-type) ρ) λ ρ told. Local.whole-mem 𝓤 H A W (Declared'.row OpaqueRelayRuntime.the-type) ρ,
+          d51 = Typed.s-seq 𝓤 H A W 𝓣 E G17 G60 b38 b39 Δ0 (Typed.both s57) at50 (Plain.t-call-plain 𝓤 H A W 𝓣 0 ps·10 r·10 (claims· .20) (claims·
+              .21) "hnsr_circuit::revoking_calls::refused" (known .10) E (λ pos β. β) G17 (record { pos = 11; st = List.[]; d = 0; at = λ x. x },
+              (record { pos = 10; st = List.[]; d = 0; at = λ x. x }, tt),) 0 List.[] (Call.sub-id 𝓤 H A W (G17 .slots)) ((Yields.yields-copy 𝓤 H A W
+              (λ ρ. Unit) (Declared'.row OpaqueRelayRuntime.the-type) Path.refl (Copies.cStruct OpaqueRelayRuntime.the-type Laws'''.the-laws
+              Laws'''.the-copy .copy 𝓤 H A W) (Rows'.whole (Declared'.row OpaqueRelayRuntime.the-type)) (λ x. x) (λ x. x) (λ ρ told. Local.mem-whole 𝓤
+              H A W (Declared'.row OpaqueRelayRuntime.the-type) ρ) λ ρ told. Local.whole-mem 𝓤 H A W (Declared'.row OpaqueRelayRuntime.the-type) ρ,
               Path.refl,), ((Yields.yields-copy 𝓤 H A W (λ ρ. Unit) (Declared.row HnsrAnswer.the-type) Path.refl (Copies.cEnum HnsrAnswer.the-type
               Laws.the-laws Laws.the-copy .copy 𝓤 H A W) (Rows'.whole (Declared.row HnsrAnswer.the-type)) (λ x. x) (λ x. x) (λ ρ told. Local.mem-whole
               𝓤 H A W (Declared.row HnsrAnswer.the-type) ρ) λ ρ told. Local.whole-mem 𝓤 H A W (Declared.row HnsrAnswer.the-type) ρ, Path.refl,),
@@ -1546,224 +1562,224 @@ module _ (claims· : Claims) where
           .args))) (W0 (before .before .before .before .before .κs) (before .before .before .before .before .args))
       abbrev pub m16 : (before : After-is-taken) → Typed.Mo T18
       m16 = λ before. s15 (m15 (before .before) (After-is-taken·gave before))
+      abbrev pub m17 : (before : After-is-taken) → Typed.Mo T19
+      m17 = λ before. s16 (m16 before)
       module _ (before· : After-is-taken) where
         pub record Then1·own : Type 0 where
           pub taken : Path._≡_ (Row.get 16 (T16 .locals) (m15 (before· .before) (After-is-taken·gave before·))) Bool'.true
       pub record Then1 : Type 0 where
         pub before : After-is-taken
         pub if1 : Then1·own before
-      abbrev pub m17 : (before : Then1) → (given : s17 .gives (m16 (before .before))) → Typed.Mo T20
-      m17 = λ before given. s17 .next (m16 (before .before)) given
-      abbrev pub m18 : (before : Then1) → (given : s17 .gives (m16 (before .before))) → Typed.Mo T21
-      m18 = λ before given. s18 .next (m17 before given)
+      abbrev pub m18 : (before : Then1) → (given : s18 .gives (m17 (before .before))) → Typed.Mo T21
+      m18 = λ before given. s18 .next (m17 (before .before)) given
+      abbrev pub m19 : (before : Then1) → (given : s18 .gives (m17 (before .before))) → Typed.Mo T22
+      m19 = λ before given. s19 .next (m18 before given)
       module _ (before· : Then1) where
         pub record After-clear-pending-arg·own : Type 0 where
-          pub given : s17 .gives (m16 (before· .before))
+          pub given : s18 .gives (m17 (before· .before))
       pub record After-clear-pending-arg : Type 0 where
         pub before : Then1
         pub clear-pending-arg : After-clear-pending-arg·own before
       abbrev pub Need-clear-pending-requires : Type 0
-      Need-clear-pending-requires = (c : After-clear-pending-arg) → s19 .asks (m18 (c .before) (c .clear-pending-arg .given))
-      abbrev pub m19 : (before : After-clear-pending-arg) → (given : s19 .gives (m18 (before .before) (before .clear-pending-arg .given))) → Typed.Mo
-          T22
-      m19 = λ before given. s19 .next (m18 (before .before) (before .clear-pending-arg .given)) given
+      Need-clear-pending-requires = (c : After-clear-pending-arg) → s20 .asks (m19 (c .before) (c .clear-pending-arg .given))
+      abbrev pub m20 : (before : After-clear-pending-arg) → (given : s20 .gives (m19 (before .before) (before .clear-pending-arg .given))) → Typed.Mo
+          T23
+      m20 = λ before given. s20 .next (m19 (before .before) (before .clear-pending-arg .given)) given
       module _ (before· : After-clear-pending-arg) where
         abbrev pub After-clear-pending·own : Type 0
-        After-clear-pending·own = Called.Called ps·5 r·5 (claims· .11) T21 (record { pos = 19; ty = Syntax.tyRef Syntax.erased Syntax.mut
-            RelayPending.to; ref = λ x. x; }, (record { pos = 12; st = List.[]; d = 0; at = λ x. x }, tt),) (m18 (before· .before) (before·
+        After-clear-pending·own = Called.Called ps·5 r·5 (claims· .11) T22 (record { pos = 19; ty = Syntax.tyRef Syntax.erased Syntax.mut
+            RelayPending.to; ref = λ x. x; }, (record { pos = 12; st = List.[]; d = 0; at = λ x. x }, tt),) (m19 (before· .before) (before·
             .clear-pending-arg .given))
       pub record After-clear-pending : Type 0 where
         pub before : After-clear-pending-arg
         pub clear-pending : After-clear-pending·own before
-      abbrev pub After-clear-pending·gave : (c : After-clear-pending) → s19 .gives (m18 (c .before .before) (c .before .clear-pending-arg .given))
-      After-clear-pending·gave = λ c. Called.given ps·5 r·5 (claims· .11) T21 (record { pos = 19; ty = Syntax.tyRef Syntax.erased Syntax.mut
-          RelayPending.to; ref = λ x. x; }, (record { pos = 12; st = List.[]; d = 0; at = λ x. x }, tt),) (m18 (c .before .before) (c .before
+      abbrev pub After-clear-pending·gave : (c : After-clear-pending) → s20 .gives (m19 (c .before .before) (c .before .clear-pending-arg .given))
+      After-clear-pending·gave = λ c. Called.given ps·5 r·5 (claims· .11) T22 (record { pos = 19; ty = Syntax.tyRef Syntax.erased Syntax.mut
+          RelayPending.to; ref = λ x. x; }, (record { pos = 12; st = List.[]; d = 0; at = λ x. x }, tt),) (m19 (c .before .before) (c .before
           .clear-pending-arg .given)) (c .clear-pending)
-      abbrev pub m20 : (before : After-clear-pending-arg) → (given : s19 .gives (m18 (before .before) (before .clear-pending-arg .given))) → Typed.Mo
-          T23
-      m20 = λ before given. s20 (m19 before given)
-      abbrev pub m21 : (before : After-clear-pending) → (given : s22 .gives (m20 (before .before) (After-clear-pending·gave before))) → Typed.Mo T25
-      m21 = λ before given. s22 .next (m20 (before .before) (After-clear-pending·gave before)) given
+      abbrev pub m21 : (before : After-clear-pending-arg) → (given : s20 .gives (m19 (before .before) (before .clear-pending-arg .given))) → Typed.Mo
+          T24
+      m21 = λ before given. s21 (m20 before given)
+      abbrev pub m22 : (before : After-clear-pending) → (given : s23 .gives (m21 (before .before) (After-clear-pending·gave before))) → Typed.Mo T26
+      m22 = λ before given. s23 .next (m21 (before .before) (After-clear-pending·gave before)) given
       module _ (before· : After-clear-pending) where
         pub record After-pending·own : Type 0 where
-          pub given : s22 .gives (m20 (before· .before) (After-clear-pending·gave before·))
+          pub given : s23 .gives (m21 (before· .before) (After-clear-pending·gave before·))
       pub record After-pending : Type 0 where
         pub before : After-clear-pending
         pub pending : After-pending·own before
-      abbrev pub m22 : (before : After-pending) → (given : s25 .gives (m21 (before .before) (before .pending .given))) → Typed.Mo T28
-      m22 = λ before given. s25 .next (m21 (before .before) (before .pending .given)) given
-      abbrev pub m23 : (before : After-pending) → (given : s25 .gives (m21 (before .before) (before .pending .given))) → Typed.Mo T29
-      m23 = λ before given. s26 .next (m22 before given)
+      abbrev pub m23 : (before : After-pending) → (given : s26 .gives (m22 (before .before) (before .pending .given))) → Typed.Mo T29
+      m23 = λ before given. s26 .next (m22 (before .before) (before .pending .given)) given
+      abbrev pub m24 : (before : After-pending) → (given : s26 .gives (m22 (before .before) (before .pending .given))) → Typed.Mo T30
+      m24 = λ before given. s27 .next (m23 before given)
       module _ (before· : After-pending) where
         pub record After-clear-circuit-arg·own : Type 0 where
-          pub given : s25 .gives (m21 (before· .before) (before· .pending .given))
+          pub given : s26 .gives (m22 (before· .before) (before· .pending .given))
       pub record After-clear-circuit-arg : Type 0 where
         pub before : After-pending
         pub clear-circuit-arg : After-clear-circuit-arg·own before
       abbrev pub Need-clear-circuit-requires : Type 0
-      Need-clear-circuit-requires = (c : After-clear-circuit-arg) → s27 .asks (m23 (c .before) (c .clear-circuit-arg .given))
-      abbrev pub m24 : (before : After-clear-circuit-arg) → (given : s27 .gives (m23 (before .before) (before .clear-circuit-arg .given))) → Typed.Mo
-          T30
-      m24 = λ before given. s27 .next (m23 (before .before) (before .clear-circuit-arg .given)) given
+      Need-clear-circuit-requires = (c : After-clear-circuit-arg) → s28 .asks (m24 (c .before) (c .clear-circuit-arg .given))
+      abbrev pub m25 : (before : After-clear-circuit-arg) → (given : s28 .gives (m24 (before .before) (before .clear-circuit-arg .given))) → Typed.Mo
+          T31
+      m25 = λ before given. s28 .next (m24 (before .before) (before .clear-circuit-arg .given)) given
       module _ (before· : After-clear-circuit-arg) where
         abbrev pub After-clear-circuit·own : Type 0
-        After-clear-circuit·own = Called.Called ps·6 r·6 (claims· .13) T29 (record { pos = 21; ty = Syntax.tyRef Syntax.erased Syntax.mut
-            RelayCircuit.to; ref = λ x. x; }, (record { pos = 12; st = List.[]; d = 0; at = λ x. x }, tt),) (m23 (before· .before) (before·
+        After-clear-circuit·own = Called.Called ps·6 r·6 (claims· .13) T30 (record { pos = 21; ty = Syntax.tyRef Syntax.erased Syntax.mut
+            RelayCircuit.to; ref = λ x. x; }, (record { pos = 12; st = List.[]; d = 0; at = λ x. x }, tt),) (m24 (before· .before) (before·
             .clear-circuit-arg .given))
       pub record After-clear-circuit : Type 0 where
         pub before : After-clear-circuit-arg
         pub clear-circuit : After-clear-circuit·own before
-      abbrev pub After-clear-circuit·gave : (c : After-clear-circuit) → s27 .gives (m23 (c .before .before) (c .before .clear-circuit-arg .given))
-      After-clear-circuit·gave = λ c. Called.given ps·6 r·6 (claims· .13) T29 (record { pos = 21; ty = Syntax.tyRef Syntax.erased Syntax.mut
-          RelayCircuit.to; ref = λ x. x; }, (record { pos = 12; st = List.[]; d = 0; at = λ x. x }, tt),) (m23 (c .before .before) (c .before
+      abbrev pub After-clear-circuit·gave : (c : After-clear-circuit) → s28 .gives (m24 (c .before .before) (c .before .clear-circuit-arg .given))
+      After-clear-circuit·gave = λ c. Called.given ps·6 r·6 (claims· .13) T30 (record { pos = 21; ty = Syntax.tyRef Syntax.erased Syntax.mut
+          RelayCircuit.to; ref = λ x. x; }, (record { pos = 12; st = List.[]; d = 0; at = λ x. x }, tt),) (m24 (c .before .before) (c .before
           .clear-circuit-arg .given)) (c .clear-circuit)
-      abbrev pub m25 : (before : After-clear-circuit-arg) → (given : s27 .gives (m23 (before .before) (before .clear-circuit-arg .given))) → Typed.Mo
-          T31
-      m25 = λ before given. s28 (m24 before given)
-      abbrev pub m26 : (before : After-clear-circuit) → (given : s30 .gives (m25 (before .before) (After-clear-circuit·gave before))) → Typed.Mo T33
-      m26 = λ before given. s30 .next (m25 (before .before) (After-clear-circuit·gave before)) given
+      abbrev pub m26 : (before : After-clear-circuit-arg) → (given : s28 .gives (m24 (before .before) (before .clear-circuit-arg .given))) → Typed.Mo
+          T32
+      m26 = λ before given. s29 (m25 before given)
+      abbrev pub m27 : (before : After-clear-circuit) → (given : s31 .gives (m26 (before .before) (After-clear-circuit·gave before))) → Typed.Mo T34
+      m27 = λ before given. s31 .next (m26 (before .before) (After-clear-circuit·gave before)) given
       module _ (before· : After-clear-circuit) where
         pub record After-circuits·own : Type 0 where
-          pub given : s30 .gives (m25 (before· .before) (After-clear-circuit·gave before·))
+          pub given : s31 .gives (m26 (before· .before) (After-clear-circuit·gave before·))
       pub record After-circuits : Type 0 where
         pub before : After-clear-circuit
         pub circuits : After-circuits·own before
-      abbrev pub m27 : (before : After-circuits) → (given : s33 .gives (m26 (before .before) (before .circuits .given))) → Typed.Mo T36
-      m27 = λ before given. s33 .next (m26 (before .before) (before .circuits .given)) given
-      abbrev pub m28 : (before : After-circuits) → (given : s33 .gives (m26 (before .before) (before .circuits .given))) → Typed.Mo T37
-      m28 = λ before given. s34 .next (m27 before given)
+      abbrev pub m28 : (before : After-circuits) → (given : s34 .gives (m27 (before .before) (before .circuits .given))) → Typed.Mo T37
+      m28 = λ before given. s34 .next (m27 (before .before) (before .circuits .given)) given
+      abbrev pub m29 : (before : After-circuits) → (given : s34 .gives (m27 (before .before) (before .circuits .given))) → Typed.Mo T38
+      m29 = λ before given. s35 .next (m28 before given)
       module _ (before· : After-circuits) where
         pub record After-clear-usage-arg·own : Type 0 where
-          pub given : s33 .gives (m26 (before· .before) (before· .circuits .given))
+          pub given : s34 .gives (m27 (before· .before) (before· .circuits .given))
       pub record After-clear-usage-arg : Type 0 where
         pub before : After-circuits
         pub clear-usage-arg : After-clear-usage-arg·own before
       abbrev pub Need-clear-usage-requires : Type 0
-      Need-clear-usage-requires = (c : After-clear-usage-arg) → s35 .asks (m28 (c .before) (c .clear-usage-arg .given))
-      abbrev pub m29 : (before : After-clear-usage-arg) → (given : s35 .gives (m28 (before .before) (before .clear-usage-arg .given))) → Typed.Mo T38
-      m29 = λ before given. s35 .next (m28 (before .before) (before .clear-usage-arg .given)) given
+      Need-clear-usage-requires = (c : After-clear-usage-arg) → s36 .asks (m29 (c .before) (c .clear-usage-arg .given))
+      abbrev pub m30 : (before : After-clear-usage-arg) → (given : s36 .gives (m29 (before .before) (before .clear-usage-arg .given))) → Typed.Mo T39
+      m30 = λ before given. s36 .next (m29 (before .before) (before .clear-usage-arg .given)) given
       module _ (before· : After-clear-usage-arg) where
         abbrev pub After-clear-usage·own : Type 0
-        After-clear-usage·own = Called.Called ps·7 r·7 (claims· .15) T37 (record { pos = 23; ty = Syntax.tyRef Syntax.erased Syntax.mut
-            ReservationUsage.to; ref = λ x. x; }, (record { pos = 12; st = List.[]; d = 0; at = λ x. x }, tt),) (m28 (before· .before) (before·
+        After-clear-usage·own = Called.Called ps·7 r·7 (claims· .15) T38 (record { pos = 23; ty = Syntax.tyRef Syntax.erased Syntax.mut
+            ReservationUsage.to; ref = λ x. x; }, (record { pos = 12; st = List.[]; d = 0; at = λ x. x }, tt),) (m29 (before· .before) (before·
             .clear-usage-arg .given))
       pub record After-clear-usage : Type 0 where
         pub before : After-clear-usage-arg
         pub clear-usage : After-clear-usage·own before
-      abbrev pub After-clear-usage·gave : (c : After-clear-usage) → s35 .gives (m28 (c .before .before) (c .before .clear-usage-arg .given))
-      After-clear-usage·gave = λ c. Called.given ps·7 r·7 (claims· .15) T37 (record { pos = 23; ty = Syntax.tyRef Syntax.erased Syntax.mut
-          ReservationUsage.to; ref = λ x. x; }, (record { pos = 12; st = List.[]; d = 0; at = λ x. x }, tt),) (m28 (c .before .before) (c .before
+      abbrev pub After-clear-usage·gave : (c : After-clear-usage) → s36 .gives (m29 (c .before .before) (c .before .clear-usage-arg .given))
+      After-clear-usage·gave = λ c. Called.given ps·7 r·7 (claims· .15) T38 (record { pos = 23; ty = Syntax.tyRef Syntax.erased Syntax.mut
+          ReservationUsage.to; ref = λ x. x; }, (record { pos = 12; st = List.[]; d = 0; at = λ x. x }, tt),) (m29 (c .before .before) (c .before
           .clear-usage-arg .given)) (c .clear-usage)
-      abbrev pub m30 : (before : After-clear-usage-arg) → (given : s35 .gives (m28 (before .before) (before .clear-usage-arg .given))) → Typed.Mo T39
-      m30 = λ before given. s36 (m29 before given)
-      abbrev pub m31 : (before : After-clear-usage) → (given : s38 .gives (m30 (before .before) (After-clear-usage·gave before))) → Typed.Mo T41
-      m31 = λ before given. s38 .next (m30 (before .before) (After-clear-usage·gave before)) given
+      abbrev pub m31 : (before : After-clear-usage-arg) → (given : s36 .gives (m29 (before .before) (before .clear-usage-arg .given))) → Typed.Mo T40
+      m31 = λ before given. s37 (m30 before given)
+      abbrev pub m32 : (before : After-clear-usage) → (given : s39 .gives (m31 (before .before) (After-clear-usage·gave before))) → Typed.Mo T42
+      m32 = λ before given. s39 .next (m31 (before .before) (After-clear-usage·gave before)) given
       module _ (before· : After-clear-usage) where
         pub record After-ledger·own : Type 0 where
-          pub given : s38 .gives (m30 (before· .before) (After-clear-usage·gave before·))
+          pub given : s39 .gives (m31 (before· .before) (After-clear-usage·gave before·))
       pub record After-ledger : Type 0 where
         pub before : After-clear-usage
         pub ledger : After-ledger·own before
-      abbrev pub m32 : (before : After-ledger) → (given : s41 .gives (m31 (before .before) (before .ledger .given))) → Typed.Mo T44
-      m32 = λ before given. s41 .next (m31 (before .before) (before .ledger .given)) given
-      abbrev pub m33 : (before : After-ledger) → (given : s41 .gives (m31 (before .before) (before .ledger .given))) → Typed.Mo T45
-      m33 = λ before given. s42 .next (m32 before given)
+      abbrev pub m33 : (before : After-ledger) → (given : s42 .gives (m32 (before .before) (before .ledger .given))) → Typed.Mo T45
+      m33 = λ before given. s42 .next (m32 (before .before) (before .ledger .given)) given
+      abbrev pub m34 : (before : After-ledger) → (given : s42 .gives (m32 (before .before) (before .ledger .given))) → Typed.Mo T46
+      m34 = λ before given. s43 .next (m33 before given)
       module _ (before· : After-ledger) where
         pub record After-clear-action-arg·own : Type 0 where
-          pub given : s41 .gives (m31 (before· .before) (before· .ledger .given))
+          pub given : s42 .gives (m32 (before· .before) (before· .ledger .given))
       pub record After-clear-action-arg : Type 0 where
         pub before : After-ledger
         pub clear-action-arg : After-clear-action-arg·own before
       abbrev pub Need-clear-action-requires : Type 0
-      Need-clear-action-requires = (c : After-clear-action-arg) → s43 .asks (m33 (c .before) (c .clear-action-arg .given))
-      abbrev pub m34 : (before : After-clear-action-arg) → (given : s43 .gives (m33 (before .before) (before .clear-action-arg .given))) → Typed.Mo
-          T46
-      m34 = λ before given. s43 .next (m33 (before .before) (before .clear-action-arg .given)) given
+      Need-clear-action-requires = (c : After-clear-action-arg) → s44 .asks (m34 (c .before) (c .clear-action-arg .given))
+      abbrev pub m35 : (before : After-clear-action-arg) → (given : s44 .gives (m34 (before .before) (before .clear-action-arg .given))) → Typed.Mo
+          T47
+      m35 = λ before given. s44 .next (m34 (before .before) (before .clear-action-arg .given)) given
       module _ (before· : After-clear-action-arg) where
         abbrev pub After-clear-action·own : Type 0
-        After-clear-action·own = Called.Called ps·8 r·8 (claims· .17) T45 (record { pos = 25; ty = Syntax.tyRef Syntax.erased Syntax.mut
-            InflightAction.to; ref = λ x. x; }, (record { pos = 12; st = List.[]; d = 0; at = λ x. x }, tt),) (m33 (before· .before) (before·
+        After-clear-action·own = Called.Called ps·8 r·8 (claims· .17) T46 (record { pos = 25; ty = Syntax.tyRef Syntax.erased Syntax.mut
+            InflightAction.to; ref = λ x. x; }, (record { pos = 12; st = List.[]; d = 0; at = λ x. x }, tt),) (m34 (before· .before) (before·
             .clear-action-arg .given))
       pub record After-clear-action : Type 0 where
         pub before : After-clear-action-arg
         pub clear-action : After-clear-action·own before
-      abbrev pub After-clear-action·gave : (c : After-clear-action) → s43 .gives (m33 (c .before .before) (c .before .clear-action-arg .given))
-      After-clear-action·gave = λ c. Called.given ps·8 r·8 (claims· .17) T45 (record { pos = 25; ty = Syntax.tyRef Syntax.erased Syntax.mut
-          InflightAction.to; ref = λ x. x; }, (record { pos = 12; st = List.[]; d = 0; at = λ x. x }, tt),) (m33 (c .before .before) (c .before
+      abbrev pub After-clear-action·gave : (c : After-clear-action) → s44 .gives (m34 (c .before .before) (c .before .clear-action-arg .given))
+      After-clear-action·gave = λ c. Called.given ps·8 r·8 (claims· .17) T46 (record { pos = 25; ty = Syntax.tyRef Syntax.erased Syntax.mut
+          InflightAction.to; ref = λ x. x; }, (record { pos = 12; st = List.[]; d = 0; at = λ x. x }, tt),) (m34 (c .before .before) (c .before
           .clear-action-arg .given)) (c .clear-action)
-      abbrev pub m35 : (before : After-clear-action-arg) → (given : s43 .gives (m33 (before .before) (before .clear-action-arg .given))) → Typed.Mo
-          T47
-      m35 = λ before given. s44 (m34 before given)
-      abbrev pub m36 : (before : After-clear-action-arg) → (given : s43 .gives (m33 (before .before) (before .clear-action-arg .given))) → Typed.Mo
+      abbrev pub m36 : (before : After-clear-action-arg) → (given : s44 .gives (m34 (before .before) (before .clear-action-arg .given))) → Typed.Mo
           T48
       m36 = λ before given. s45 (m35 before given)
-      abbrev pub m37 : (before : After-clear-action) → (given : s47 .gives (m36 (before .before) (After-clear-action·gave before))) → Typed.Mo T50
-      m37 = λ before given. s47 .next (m36 (before .before) (After-clear-action·gave before)) given
+      abbrev pub m37 : (before : After-clear-action-arg) → (given : s44 .gives (m34 (before .before) (before .clear-action-arg .given))) → Typed.Mo
+          T49
+      m37 = λ before given. s46 (m36 before given)
+      abbrev pub m38 : (before : After-clear-action) → (given : s48 .gives (m37 (before .before) (After-clear-action·gave before))) → Typed.Mo T51
+      m38 = λ before given. s48 .next (m37 (before .before) (After-clear-action·gave before)) given
       module _ (before· : After-clear-action) where
         pub record After-inflight·own : Type 0 where
-          pub given : s47 .gives (m36 (before· .before) (After-clear-action·gave before·))
+          pub given : s48 .gives (m37 (before· .before) (After-clear-action·gave before·))
       pub record After-inflight : Type 0 where
         pub before : After-clear-action
         pub inflight : After-inflight·own before
-      abbrev pub Need-made-requires : Type 0
-      Need-made-requires = (c : After-inflight) → s49 .asks (m37 (c .before) (c .inflight .given))
-      abbrev pub m38 : (before : After-inflight) → (given : s49 .gives (m37 (before .before) (before .inflight .given))) → Typed.Mo T52
-      m38 = λ before given. s49 .next (m37 (before .before) (before .inflight .given)) given
+      abbrev pub Need-taken-with-requires : Type 0
+      Need-taken-with-requires = (c : After-inflight) → s50 .asks (m38 (c .before) (c .inflight .given))
+      abbrev pub m39 : (before : After-inflight) → (given : s50 .gives (m38 (before .before) (before .inflight .given))) → Typed.Mo T53
+      m39 = λ before given. s50 .next (m38 (before .before) (before .inflight .given)) given
       module _ (before· : After-inflight) where
-        abbrev pub After-made·own : Type 0
-        After-made·own = Called.Called ps·9 r·9 (claims· .19) T50 (record { pos = 11; st = List.[]; d = 0; at = λ x. x }, (record { pos = 10; st =
-            List.[]; d = 0; at = λ x. x }, tt),) (m37 (before· .before) (before· .inflight .given))
-      pub record After-made : Type 0 where
+        abbrev pub After-taken-with·own : Type 0
+        After-taken-with·own = Called.Called ps·9 r·9 (claims· .19) T51 (record { pos = 11; st = List.[]; d = 0; at = λ x. x }, tt,) (m38 (before·
+            .before) (before· .inflight .given))
+      pub record After-taken-with : Type 0 where
         pub before : After-inflight
-        pub made : After-made·own before
-      abbrev pub After-made·gave : (c : After-made) → s49 .gives (m37 (c .before .before) (c .before .inflight .given))
-      After-made·gave = λ c. Called.given ps·9 r·9 (claims· .19) T50 (record { pos = 11; st = List.[]; d = 0; at = λ x. x }, (record { pos = 10; st =
-          List.[]; d = 0; at = λ x. x }, tt),) (m37 (c .before .before) (c .before .inflight .given)) (c .made)
-      abbrev pub m39 : (before : After-inflight) → (given : s49 .gives (m37 (before .before) (before .inflight .given))) → Typed.Mo T53
-      m39 = λ before given. s50 (m38 before given)
-      abbrev pub m40 : (before : After-inflight) → (given : s49 .gives (m37 (before .before) (before .inflight .given))) → Typed.Mo T54
+        pub taken-with : After-taken-with·own before
+      abbrev pub After-taken-with·gave : (c : After-taken-with) → s50 .gives (m38 (c .before .before) (c .before .inflight .given))
+      After-taken-with·gave = λ c. Called.given ps·9 r·9 (claims· .19) T51 (record { pos = 11; st = List.[]; d = 0; at = λ x. x }, tt,) (m38 (c
+          .before .before) (c .before .inflight .given)) (c .taken-with)
+      abbrev pub m40 : (before : After-inflight) → (given : s50 .gives (m38 (before .before) (before .inflight .given))) → Typed.Mo T54
       m40 = λ before given. s51 (m39 before given)
-      abbrev pub m41 : (before : After-inflight) → (given : s49 .gives (m37 (before .before) (before .inflight .given))) → Typed.Mo T55
+      abbrev pub m41 : (before : After-inflight) → (given : s50 .gives (m38 (before .before) (before .inflight .given))) → Typed.Mo T55
       m41 = λ before given. s52 (m40 before given)
-      abbrev pub m42 : (before : After-inflight) → (given : s49 .gives (m37 (before .before) (before .inflight .given))) → Typed.Mo T56
+      abbrev pub m42 : (before : After-inflight) → (given : s50 .gives (m38 (before .before) (before .inflight .given))) → Typed.Mo T56
       m42 = λ before given. s53 (m41 before given)
-      abbrev pub m43 : (before : After-inflight) → (given : s49 .gives (m37 (before .before) (before .inflight .given))) → Typed.Mo T57
+      abbrev pub m43 : (before : After-inflight) → (given : s50 .gives (m38 (before .before) (before .inflight .given))) → Typed.Mo T57
       m43 = λ before given. s54 (m42 before given)
       abbrev pub Need-same-length : Type 0
-      Need-same-length = (c : After-made) → MutSlice.SameLen (Row.get 1 (T57 .locals) (m43 (c .before) (After-made·gave c))) (dens (c .before .before
-          .before .before .before .before .before .before .before .before .before .before .before .before .before .before .before .before .before .κs)
-          (c .before .before .before .before .before .before .before .before .before .before .before .before .before .before .before .before .before
-          .before .before .args) .0)
+      Need-same-length = (c : After-taken-with) → MutSlice.SameLen (Row.get 1 (T57 .locals) (m43 (c .before) (After-taken-with·gave c))) (dens (c
+          .before .before .before .before .before .before .before .before .before .before .before .before .before .before .before .before .before
+          .before .before .κs) (c .before .before .before .before .before .before .before .before .before .before .before .before .before .before
+          .before .before .before .before .before .args) .0)
       abbrev pub Need-same-length-2 : Type 0
-      Need-same-length-2 = (c : After-made) → MutSlice.SameLen (Row.get 2 (T57 .locals) (m43 (c .before) (After-made·gave c))) (dens (c .before
+      Need-same-length-2 = (c : After-taken-with) → MutSlice.SameLen (Row.get 2 (T57 .locals) (m43 (c .before) (After-taken-with·gave c))) (dens (c
           .before .before .before .before .before .before .before .before .before .before .before .before .before .before .before .before .before
-          .before .κs) (c .before .before .before .before .before .before .before .before .before .before .before .before .before .before .before
-          .before .before .before .before .args) .1 .0)
+          .before .before .κs) (c .before .before .before .before .before .before .before .before .before .before .before .before .before .before
+          .before .before .before .before .before .args) .1 .0)
       abbrev pub Need-same-length-3 : Type 0
-      Need-same-length-3 = (c : After-made) → MutSlice.SameLen (Row.get 3 (T57 .locals) (m43 (c .before) (After-made·gave c))) (dens (c .before
+      Need-same-length-3 = (c : After-taken-with) → MutSlice.SameLen (Row.get 3 (T57 .locals) (m43 (c .before) (After-taken-with·gave c))) (dens (c
           .before .before .before .before .before .before .before .before .before .before .before .before .before .before .before .before .before
-          .before .κs) (c .before .before .before .before .before .before .before .before .before .before .before .before .before .before .before
-          .before .before .before .before .args) .1 .1 .0)
+          .before .before .κs) (c .before .before .before .before .before .before .before .before .before .before .before .before .before .before
+          .before .before .before .before .before .args) .1 .1 .0)
       abbrev pub Need-same-length-4 : Type 0
-      Need-same-length-4 = (c : After-made) → MutSlice.SameLen (Row.get 4 (T57 .locals) (m43 (c .before) (After-made·gave c))) (dens (c .before
+      Need-same-length-4 = (c : After-taken-with) → MutSlice.SameLen (Row.get 4 (T57 .locals) (m43 (c .before) (After-taken-with·gave c))) (dens (c
           .before .before .before .before .before .before .before .before .before .before .before .before .before .before .before .before .before
-          .before .κs) (c .before .before .before .before .before .before .before .before .before .before .before .before .before .before .before
-          .before .before .before .before .args) .1 .1 .1 .0)
+          .before .before .κs) (c .before .before .before .before .before .before .before .before .before .before .before .before .before .before
+          .before .before .before .before .before .args) .1 .1 .1 .0)
       abbrev pub Need-returns : Type 0
-      Need-returns = (c : After-made) → Post· (c .before .before .before .before .before .before .before .before .before .before .before .before
+      Need-returns = (c : After-taken-with) → Post· (c .before .before .before .before .before .before .before .before .before .before .before .before
           .before .before .before .before .before .before .before .κs) (dens (c .before .before .before .before .before .before .before .before
           .before .before .before .before .before .before .before .before .before .before .before .κs) (c .before .before .before .before .before
           .before .before .before .before .before .before .before .before .before .before .before .before .before .before .args)) (Function.resV r (c
           .before .before .before .before .before .before .before .before .before .before .before .before .before .before .before .before .before
-          .before .before .κs) (m43 (c .before) (After-made·gave c) .0)) (Clauses.atExit (Kinds.endedOf 4 ps r) (c .before .before .before .before
-          .before .before .before .before .before .before .before .before .before .before .before .before .before .before .before .κs) (dens (c
-          .before .before .before .before .before .before .before .before .before .before .before .before .before .before .before .before .before
+          .before .before .κs) (m43 (c .before) (After-taken-with·gave c) .0)) (Clauses.atExit (Kinds.endedOf 4 ps r) (c .before .before .before
+          .before .before .before .before .before .before .before .before .before .before .before .before .before .before .before .before .κs) (dens
+          (c .before .before .before .before .before .before .before .before .before .before .before .before .before .before .before .before .before
           .before .before .κs) (c .before .before .before .before .before .before .before .before .before .before .before .before .before .before
           .before .before .before .before .before .args)) (Enter.lastsP (c .before .before .before .before .before .before .before .before .before
           .before .before .before .before .before .before .before .before .before .before .κs) 1 ps xs (dens (c .before .before .before .before
           .before .before .before .before .before .before .before .before .before .before .before .before .before .before .before .κs) (c .before
           .before .before .before .before .before .before .before .before .before .before .before .before .before .before .before .before .before
-          .before .args)) (m43 (c .before) (After-made·gave c) .1)))
+          .before .args)) (m43 (c .before) (After-taken-with·gave c) .1)))
       abbrev pub m44 : (before : After-is-taken) → Typed.Mo T58
       m44 = λ before. s55 (m15 (before .before) (After-is-taken·gave before))
       abbrev pub m45 : (before : After-is-taken) → Typed.Mo T59
@@ -1774,20 +1790,20 @@ module _ (claims· : Claims) where
       pub record Else1 : Type 0 where
         pub before : After-is-taken
         pub if1 : Else1·own before
-      abbrev pub Need-made-requires-2 : Type 0
-      Need-made-requires-2 = (c : Else1) → s57 .asks (m45 (c .before))
+      abbrev pub Need-refused-requires : Type 0
+      Need-refused-requires = (c : Else1) → s57 .asks (m45 (c .before))
       abbrev pub m46 : (before : Else1) → (given : s57 .gives (m45 (before .before))) → Typed.Mo T60
       m46 = λ before given. s57 .next (m45 (before .before)) given
       module _ (before· : Else1) where
-        abbrev pub After-made2·own : Type 0
-        After-made2·own = Called.Called ps·9 r·9 (claims· .19) T17 (record { pos = 11; st = List.[]; d = 0; at = λ x. x }, (record { pos = 10; st =
-            List.[]; d = 0; at = λ x. x }, tt),) (m45 (before· .before))
-      pub record After-made2 : Type 0 where
+        abbrev pub After-refused·own : Type 0
+        After-refused·own = Called.Called ps·10 r·10 (claims· .21) T17 (record { pos = 11; st = List.[]; d = 0; at = λ x. x }, (record { pos = 10; st
+            = List.[]; d = 0; at = λ x. x }, tt),) (m45 (before· .before))
+      pub record After-refused : Type 0 where
         pub before : Else1
-        pub made2 : After-made2·own before
-      abbrev pub After-made2·gave : (c : After-made2) → s57 .gives (m45 (c .before .before))
-      After-made2·gave = λ c. Called.given ps·9 r·9 (claims· .19) T17 (record { pos = 11; st = List.[]; d = 0; at = λ x. x }, (record { pos = 10; st =
-          List.[]; d = 0; at = λ x. x }, tt),) (m45 (c .before .before)) (c .made2)
+        pub refused : After-refused·own before
+      abbrev pub After-refused·gave : (c : After-refused) → s57 .gives (m45 (c .before .before))
+      After-refused·gave = λ c. Called.given ps·10 r·10 (claims· .21) T17 (record { pos = 11; st = List.[]; d = 0; at = λ x. x }, (record { pos = 10;
+          st = List.[]; d = 0; at = λ x. x }, tt),) (m45 (c .before .before)) (c .refused)
       abbrev pub m47 : (before : Else1) → (given : s57 .gives (m45 (before .before))) → Typed.Mo T61
       m47 = λ before given. s58 (m46 before given)
       abbrev pub m48 : (before : Else1) → (given : s57 .gives (m45 (before .before))) → Typed.Mo T62
@@ -1799,91 +1815,92 @@ module _ (claims· : Claims) where
       abbrev pub m51 : (before : Else1) → (given : s57 .gives (m45 (before .before))) → Typed.Mo T65
       m51 = λ before given. s62 (m50 before given)
       abbrev pub Need-returns-2 : Type 0
-      Need-returns-2 = (c : After-made2) → Post· (c .before .before .before .before .before .before .before .κs) (dens (c .before .before .before
+      Need-returns-2 = (c : After-refused) → Post· (c .before .before .before .before .before .before .before .κs) (dens (c .before .before .before
           .before .before .before .before .κs) (c .before .before .before .before .before .before .before .args)) (Function.resV r (c .before .before
-          .before .before .before .before .before .κs) (m51 (c .before) (After-made2·gave c) .0)) (Clauses.atExit (Kinds.endedOf 4 ps r) (c .before
+          .before .before .before .before .before .κs) (m51 (c .before) (After-refused·gave c) .0)) (Clauses.atExit (Kinds.endedOf 4 ps r) (c .before
           .before .before .before .before .before .before .κs) (dens (c .before .before .before .before .before .before .before .κs) (c .before
           .before .before .before .before .before .before .args)) (Enter.lastsP (c .before .before .before .before .before .before .before .κs) 1 ps
           xs (dens (c .before .before .before .before .before .before .before .κs) (c .before .before .before .before .before .before .before .args))
-          (m51 (c .before) (After-made2·gave c) .1)))
+          (m51 (c .before) (After-refused·gave c) .1)))
       module _ (too-few-requires : Need-too-few-requires) (new-answer-requires : Need-new-answer-requires) (new-header-requires :
           Need-new-header-requires) (used-requires : Need-used-requires) (is-taken-requires : Need-is-taken-requires) (clear-pending-requires :
           Need-clear-pending-requires) (clear-circuit-requires : Need-clear-circuit-requires) (clear-usage-requires : Need-clear-usage-requires)
-          (clear-action-requires : Need-clear-action-requires) (made-requires : Need-made-requires) (same-length : Need-same-length) (same-length-2 :
-          Need-same-length-2) (same-length-3 : Need-same-length-3) (same-length-4 : Need-same-length-4) (returns : Need-returns) (made-requires-2 :
-          Need-made-requires-2) (returns-2 : Need-returns-2) where
-        lay12 : (c : After-made2) → at50 (W0 (c .before .before .before .before .before .before .before .κs) (c .before .before .before .before
-            .before .before .before .args)) (m46 (c .before) (After-made2·gave c))
-        lay12 = λ c. ((Path.refl, (Path.refl, (Path.refl, (Path.refl, (tt, (tt, (tt, (tt, tt))))))),), returns-2 record { before = c .before; made2 =
-            c .made2 },)
+          (clear-action-requires : Need-clear-action-requires) (taken-with-requires : Need-taken-with-requires) (same-length : Need-same-length)
+          (same-length-2 : Need-same-length-2) (same-length-3 : Need-same-length-3) (same-length-4 : Need-same-length-4) (returns : Need-returns)
+          (refused-requires : Need-refused-requires) (returns-2 : Need-returns-2) where
+        lay12 : (c : After-refused) → at50 (W0 (c .before .before .before .before .before .before .before .κs) (c .before .before .before .before
+            .before .before .before .args)) (m46 (c .before) (After-refused·gave c))
+        lay12 = λ c. ((Path.refl, (Path.refl, (Path.refl, (Path.refl, (tt, (tt, (tt, (tt, tt))))))),), returns-2 record { before = c .before; refused
+            = c .refused },)
         lay11 : (c : Else1) → at51 (W0 (c .before .before .before .before .before .before .κs) (c .before .before .before .before .before .before
             .args)) (m45 (c .before))
-        lay11 = λ c. (made-requires-2 record { before = c .before; if1 = c .if1 }, λ g. lay12 record { before = record { before = c .before; if1 = c
-            .if1 }; made2 = Called.called ps·9 r·9 (claims· .19) T17 (record { pos = 11; st = List.[]; d = 0; at = λ x. x }, (record { pos = 10; st =
-            List.[]; d = 0; at = λ x. x }, tt),) (m45 (c .before)) g; },)
-        lay10 : (c : After-made) → at5 (W1 (c .before .before .before .before .before .before .before .before .before .before .before .before .before
-            .before .before) (After-is-taken·gave (c .before .before .before .before .before .before .before .before .before .before .before .before
-            .before .before))) (m38 (c .before) (After-made·gave c))
-        lay10 = λ c. ((MutSlice.fix-len (Row.get 1 (T57 .locals) (m43 (c .before) (After-made·gave c)) .ptr) (Row.get 1 (T57 .locals) (m43 (c .before)
-            (After-made·gave c)) .name) (Row.get 1 (T57 .locals) (m43 (c .before) (After-made·gave c)) .now) (dens (c .before .before .before .before
-            .before .before .before .before .before .before .before .before .before .before .before .before .before .before .before .κs) (c .before
+        lay11 = λ c. (refused-requires record { before = c .before; if1 = c .if1 }, λ g. lay12 record { before = record { before = c .before; if1 = c
+            .if1 }; refused = Called.called ps·10 r·10 (claims· .21) T17 (record { pos = 11; st = List.[]; d = 0; at = λ x. x }, (record { pos = 10;
+            st = List.[]; d = 0; at = λ x. x }, tt),) (m45 (c .before)) g; },)
+        lay10 : (c : After-taken-with) → at4 (W1 (c .before .before .before .before .before .before .before .before .before .before .before .before
+            .before .before .before) (After-is-taken·gave (c .before .before .before .before .before .before .before .before .before .before .before
+            .before .before .before))) (m39 (c .before) (After-taken-with·gave c))
+        lay10 = λ c. ((MutSlice.fix-len (Row.get 1 (T57 .locals) (m43 (c .before) (After-taken-with·gave c)) .ptr) (Row.get 1 (T57 .locals) (m43 (c
+            .before) (After-taken-with·gave c)) .name) (Row.get 1 (T57 .locals) (m43 (c .before) (After-taken-with·gave c)) .now) (dens (c .before
             .before .before .before .before .before .before .before .before .before .before .before .before .before .before .before .before .before
-            .before .args) .0 .now) (same-length record { before = c .before; made = c .made }), (MutSlice.fix-len (Row.get 2 (T57 .locals) (m43 (c
-            .before) (After-made·gave c)) .ptr) (Row.get 2 (T57 .locals) (m43 (c .before) (After-made·gave c)) .name) (Row.get 2 (T57 .locals) (m43 (c
-            .before) (After-made·gave c)) .now) (dens (c .before .before .before .before .before .before .before .before .before .before .before
-            .before .before .before .before .before .before .before .before .κs) (c .before .before .before .before .before .before .before .before
-            .before .before .before .before .before .before .before .before .before .before .before .args) .1 .0 .now) (same-length-2 record { before
-            = c .before; made = c .made }), (MutSlice.fix-len (Row.get 3 (T57 .locals) (m43 (c .before) (After-made·gave c)) .ptr) (Row.get 3 (T57
-            .locals) (m43 (c .before) (After-made·gave c)) .name) (Row.get 3 (T57 .locals) (m43 (c .before) (After-made·gave c)) .now) (dens (c
+            .before .κs) (c .before .before .before .before .before .before .before .before .before .before .before .before .before .before .before
+            .before .before .before .before .args) .0 .now) (same-length record { before = c .before; taken-with = c .taken-with }), (MutSlice.fix-len
+            (Row.get 2 (T57 .locals) (m43 (c .before) (After-taken-with·gave c)) .ptr) (Row.get 2 (T57 .locals) (m43 (c .before)
+            (After-taken-with·gave c)) .name) (Row.get 2 (T57 .locals) (m43 (c .before) (After-taken-with·gave c)) .now) (dens (c .before .before
             .before .before .before .before .before .before .before .before .before .before .before .before .before .before .before .before .before
-            .before .before .κs) (c .before .before .before .before .before .before .before .before .before .before .before .before .before .before
-            .before .before .before .before .before .args) .1 .1 .0 .now) (same-length-3 record { before = c .before; made = c .made }),
-            (MutSlice.fix-len (Row.get 4 (T57 .locals) (m43 (c .before) (After-made·gave c)) .ptr) (Row.get 4 (T57 .locals) (m43 (c .before)
-            (After-made·gave c)) .name) (Row.get 4 (T57 .locals) (m43 (c .before) (After-made·gave c)) .now) (dens (c .before .before .before .before
-            .before .before .before .before .before .before .before .before .before .before .before .before .before .before .before .κs) (c .before
+            .κs) (c .before .before .before .before .before .before .before .before .before .before .before .before .before .before .before .before
+            .before .before .before .args) .1 .0 .now) (same-length-2 record { before = c .before; taken-with = c .taken-with }), (MutSlice.fix-len
+            (Row.get 3 (T57 .locals) (m43 (c .before) (After-taken-with·gave c)) .ptr) (Row.get 3 (T57 .locals) (m43 (c .before)
+            (After-taken-with·gave c)) .name) (Row.get 3 (T57 .locals) (m43 (c .before) (After-taken-with·gave c)) .now) (dens (c .before .before
             .before .before .before .before .before .before .before .before .before .before .before .before .before .before .before .before .before
-            .before .args) .1 .1 .1 .0 .now) (same-length-4 record { before = c .before; made = c .made }), (tt, (tt, (tt, (tt, tt)))),),),),),
-            returns record { before = c .before; made = c .made },)
-        lay9 : (c : After-clear-action) → at11 (W1 (c .before .before .before .before .before .before .before .before .before .before .before .before
-            .before) (After-is-taken·gave (c .before .before .before .before .before .before .before .before .before .before .before .before))) (m34
+            .κs) (c .before .before .before .before .before .before .before .before .before .before .before .before .before .before .before .before
+            .before .before .before .args) .1 .1 .0 .now) (same-length-3 record { before = c .before; taken-with = c .taken-with }), (MutSlice.fix-len
+            (Row.get 4 (T57 .locals) (m43 (c .before) (After-taken-with·gave c)) .ptr) (Row.get 4 (T57 .locals) (m43 (c .before)
+            (After-taken-with·gave c)) .name) (Row.get 4 (T57 .locals) (m43 (c .before) (After-taken-with·gave c)) .now) (dens (c .before .before
+            .before .before .before .before .before .before .before .before .before .before .before .before .before .before .before .before .before
+            .κs) (c .before .before .before .before .before .before .before .before .before .before .before .before .before .before .before .before
+            .before .before .before .args) .1 .1 .1 .0 .now) (same-length-4 record { before = c .before; taken-with = c .taken-with }), (tt, (tt, (tt,
+            (tt, tt)))),),),),), returns record { before = c .before; taken-with = c .taken-with },)
+        lay9 : (c : After-clear-action) → at10 (W1 (c .before .before .before .before .before .before .before .before .before .before .before .before
+            .before) (After-is-taken·gave (c .before .before .before .before .before .before .before .before .before .before .before .before))) (m35
             (c .before) (After-clear-action·gave c))
-        lay9 = λ c. (Path.refl, λ g. (made-requires record { before = record { before = c .before; clear-action = c .clear-action }; inflight = record
-            { given = g }; }, λ g'. lay10 record { before = record { before = record { before = c .before; clear-action = c .clear-action }; inflight
-            = record { given = g }; }; made = Called.called ps·9 r·9 (claims· .19) T50 (record { pos = 11; st = List.[]; d = 0; at = λ x. x }, (record
-            { pos = 10; st = List.[]; d = 0; at = λ x. x }, tt),) (m37 record { before = c .before; clear-action = c .clear-action } g) g'; },),)
-        lay8 : (c : After-clear-usage) → at19 (W1 (c .before .before .before .before .before .before .before .before .before .before)
-            (After-is-taken·gave (c .before .before .before .before .before .before .before .before .before))) (m29 (c .before)
+        lay9 = λ c. (Path.refl, λ g. (taken-with-requires record { before = record { before = c .before; clear-action = c .clear-action }; inflight =
+            record { given = g }; }, λ g'. lay10 record { before = record { before = record { before = c .before; clear-action = c .clear-action };
+            inflight = record { given = g }; }; taken-with = Called.called ps·9 r·9 (claims· .19) T51 (record { pos = 11; st = List.[]; d = 0; at = λ
+            x. x }, tt,) (m38 record { before = c .before; clear-action = c .clear-action } g) g'; },),)
+        lay8 : (c : After-clear-usage) → at18 (W1 (c .before .before .before .before .before .before .before .before .before .before)
+            (After-is-taken·gave (c .before .before .before .before .before .before .before .before .before))) (m30 (c .before)
             (After-clear-usage·gave c))
         lay8 = λ c. (Path.refl, λ g. λ g'. (Path.refl, (clear-action-requires record { before = record { before = record { before = c .before;
             clear-usage = c .clear-usage }; ledger = record { given = g }; }; clear-action-arg = record { given = g' }; }, λ g''. lay9 record { before
             = record { before = record { before = record { before = c .before; clear-usage = c .clear-usage }; ledger = record { given = g }; };
-            clear-action-arg = record { given = g' }; }; clear-action = Called.called ps·8 r·8 (claims· .17) T45 (record { pos = 25; ty = Syntax.tyRef
-            Syntax.erased Syntax.mut InflightAction.to; ref = λ x. x; }, (record { pos = 12; st = List.[]; d = 0; at = λ x. x }, tt),) (m33 record {
+            clear-action-arg = record { given = g' }; }; clear-action = Called.called ps·8 r·8 (claims· .17) T46 (record { pos = 25; ty = Syntax.tyRef
+            Syntax.erased Syntax.mut InflightAction.to; ref = λ x. x; }, (record { pos = 12; st = List.[]; d = 0; at = λ x. x }, tt),) (m34 record {
             before = record { before = c .before; clear-usage = c .clear-usage }; ledger = record { given = g }; } g') g''; },),),)
-        lay7 : (c : After-clear-circuit) → at27 (W1 (c .before .before .before .before .before .before .before) (After-is-taken·gave (c .before
-            .before .before .before .before .before))) (m24 (c .before) (After-clear-circuit·gave c))
+        lay7 : (c : After-clear-circuit) → at26 (W1 (c .before .before .before .before .before .before .before) (After-is-taken·gave (c .before
+            .before .before .before .before .before))) (m25 (c .before) (After-clear-circuit·gave c))
         lay7 = λ c. (Path.refl, λ g. λ g'. (Path.refl, (clear-usage-requires record { before = record { before = record { before = c .before;
             clear-circuit = c .clear-circuit }; circuits = record { given = g }; }; clear-usage-arg = record { given = g' }; }, λ g''. lay8 record {
             before = record { before = record { before = record { before = c .before; clear-circuit = c .clear-circuit }; circuits = record { given =
-            g }; }; clear-usage-arg = record { given = g' }; }; clear-usage = Called.called ps·7 r·7 (claims· .15) T37 (record { pos = 23; ty =
+            g }; }; clear-usage-arg = record { given = g' }; }; clear-usage = Called.called ps·7 r·7 (claims· .15) T38 (record { pos = 23; ty =
             Syntax.tyRef Syntax.erased Syntax.mut ReservationUsage.to; ref = λ x. x; }, (record { pos = 12; st = List.[]; d = 0; at = λ x. x }, tt),)
-            (m28 record { before = record { before = c .before; clear-circuit = c .clear-circuit }; circuits = record { given = g }; } g') g'';
+            (m29 record { before = record { before = c .before; clear-circuit = c .clear-circuit }; circuits = record { given = g }; } g') g'';
             },),),)
-        lay6 : (c : After-clear-pending) → at35 (W1 (c .before .before .before .before) (After-is-taken·gave (c .before .before .before))) (m19 (c
+        lay6 : (c : After-clear-pending) → at34 (W1 (c .before .before .before .before) (After-is-taken·gave (c .before .before .before))) (m20 (c
             .before) (After-clear-pending·gave c))
         lay6 = λ c. (Path.refl, λ g. λ g'. (Path.refl, (clear-circuit-requires record { before = record { before = record { before = c .before;
             clear-pending = c .clear-pending }; pending = record { given = g }; }; clear-circuit-arg = record { given = g' }; }, λ g''. lay7 record {
             before = record { before = record { before = record { before = c .before; clear-pending = c .clear-pending }; pending = record { given = g
-            }; }; clear-circuit-arg = record { given = g' }; }; clear-circuit = Called.called ps·6 r·6 (claims· .13) T29 (record { pos = 21; ty =
-            Syntax.tyRef Syntax.erased Syntax.mut RelayCircuit.to; ref = λ x. x; }, (record { pos = 12; st = List.[]; d = 0; at = λ x. x }, tt),) (m23
+            }; }; clear-circuit-arg = record { given = g' }; }; clear-circuit = Called.called ps·6 r·6 (claims· .13) T30 (record { pos = 21; ty =
+            Syntax.tyRef Syntax.erased Syntax.mut RelayCircuit.to; ref = λ x. x; }, (record { pos = 12; st = List.[]; d = 0; at = λ x. x }, tt),) (m24
             record { before = record { before = c .before; clear-pending = c .clear-pending }; pending = record { given = g }; } g') g''; },),),)
         lay5 : (c : After-is-taken) → at52 (W0 (c .before .before .before .before .before .κs) (c .before .before .before .before .before .args)) (m15
             (c .before) (After-is-taken·gave c))
         lay5 = λ c. (λ taken. λ g. (Path.refl, (clear-pending-requires record { before = record { before = record { before = c .before; is-taken = c
             .is-taken }; if1 = record { taken = taken }; }; clear-pending-arg = record { given = g }; }, λ g'. lay6 record { before = record { before
             = record { before = record { before = c .before; is-taken = c .is-taken }; if1 = record { taken = taken }; }; clear-pending-arg = record {
-            given = g }; }; clear-pending = Called.called ps·5 r·5 (claims· .11) T21 (record { pos = 19; ty = Syntax.tyRef Syntax.erased Syntax.mut
-            RelayPending.to; ref = λ x. x; }, (record { pos = 12; st = List.[]; d = 0; at = λ x. x }, tt),) (m18 record { before = record { before = c
+            given = g }; }; clear-pending = Called.called ps·5 r·5 (claims· .11) T22 (record { pos = 19; ty = Syntax.tyRef Syntax.erased Syntax.mut
+            RelayPending.to; ref = λ x. x; }, (record { pos = 12; st = List.[]; d = 0; at = λ x. x }, tt),) (m19 record { before = record { before = c
             .before; is-taken = c .is-taken }; if1 = record { taken = taken }; } g) g'; },),), λ left. lay11 record { before = record { before = c
             .before; is-taken = c .is-taken }; if1 = record { left = left }; },)
         lay4 : (c : After-used) → at53 (W0 (c .before .before .before .before .κs) (c .before .before .before .before .args)) (m14 (c .before)
@@ -1924,7 +1941,8 @@ module _ (claims· : Claims) where
             .12) (claims· .13) "hnsr_circuit::tables::circuits::clear_circuit") (known7 : Plain.Known 𝓤 H A W 𝓣 1 ps·7 r·7 (claims· .14) (claims· .15)
             "hnsr_circuit::tables::ledger::clear_usage") (known8 : Plain.Known 𝓤 H A W 𝓣 1 ps·8 r·8 (claims· .16) (claims· .17)
             "hnsr_circuit::tables::inflight::clear_action") (known9 : Plain.Known 𝓤 H A W 𝓣 0 ps·9 r·9 (claims· .18) (claims· .19)
-            "hnsr_circuit::calls::made") where
+            "hnsr_circuit::revoking_calls::taken_with") (known10 : Plain.Known 𝓤 H A W 𝓣 0 ps·10 r·10 (claims· .20) (claims· .21)
+            "hnsr_circuit::revoking_calls::refused") where
           pub spec : Statement.Triple 𝓤 (Wp.WpFn 𝓤 H (𝓣 .C) (𝓣 .Λ) (Function.fnOf 4 ps r xs m hs body)) (Function.plainOf 𝓤 H A 4 ps r Pre· Post·)
           spec = Plain.t-fn-plain 𝓤 H A W 𝓣 4 ps r xs m hs body (λ κs qs bs. Φ) (λ κs qs bs bd. typed κs qs 𝓤 H A W 𝓣 (known0, known1, known2, known3,
-              known4, known5, known6, known7, known8, known9,) bs bd) Pre· Post· asked
+              known4, known5, known6, known7, known8, known9, known10,) bs bd) Pre· Post· asked

@@ -14,17 +14,23 @@ use contract.Running
 
 abbrev pub Start : Type 0
 Start = Lts.Start (Reads'.Asked, Reads'.Learnt) Reads.Pre Reads.Post
+
 abbrev pub After-before2 : Type 0
 After-before2 = Lts.After-before2 (Reads'.Asked, Reads'.Learnt) Reads.Pre Reads.Post
+
 abbrev pub After-circuit-charged : Type 0
 After-circuit-charged = Lts.After-circuit-charged (Reads'.Asked, Reads'.Learnt) Reads.Pre Reads.Post
+
 abbrev pub Need-circuit-charged-requires : Type 0
 Need-circuit-charged-requires = Lts.Need-circuit-charged-requires (Reads'.Asked, Reads'.Learnt) Reads.Pre Reads.Post
+
 abbrev pub Need-returns : Type 0
 Need-returns = Lts.Need-returns (Reads'.Asked, Reads'.Learnt) Reads.Pre Reads.Post
-module _ { M : Type 1 } where
-  pub spec : (answer : Need-circuit-charged-requires) → (answer : Need-returns) → Lts.Closed (Reads'.Asked, Reads'.Learnt,) Reads.Pre Reads.Post M
+
+module _ {M : Type 1} where
+  pub spec : (answer : Need-circuit-charged-requires) → (answer : Need-returns) → Lts.Closed (Reads'.Asked, Reads'.Learnt) Reads.Pre Reads.Post M
   spec = λ answer answer'. Lts.spec (Reads'.Asked, Reads'.Learnt) Reads.Pre Reads.Post answer answer'
+
   pub close : Lts.Closed (Reads'.Asked, Reads'.Learnt) Reads.Pre Reads.Post M → Statement.statement M
   unfolding Code.routine Running.tablesOf
   close = λ closed 𝓤 H 𝓜 𝓖 𝓡. Written.close 1 Kinds.ps Kinds.r Reads.Ghost Reads.requires Reads.ensures Reads.pre-read Reads.Pinned Reads.Owned

@@ -14,49 +14,71 @@ use contract.Running
 
 abbrev pub InvT-loop : Type 1
 InvT-loop = Lts.InvT-loop
+
 abbrev pub MeasureT-loop : Type 0
 MeasureT-loop = Lts.MeasureT-loop
+
 abbrev pub Start : (Inv : InvT-loop) → (μ : MeasureT-loop) → Type 0
 Start = λ Inv μ. Lts.Start (Reads'.Asked, Reads'.Learnt) Reads.Pre Reads.Post Inv μ
+
 abbrev pub At-loop : (Inv : InvT-loop) → (μ : MeasureT-loop) → Type 0
 At-loop = λ Inv μ. Lts.At-loop (Reads'.Asked, Reads'.Learnt) Reads.Pre Reads.Post Inv μ
+
 abbrev pub In-loop : (Inv : InvT-loop) → (μ : MeasureT-loop) → Type 0
 In-loop = λ Inv μ. Lts.In-loop (Reads'.Asked, Reads'.Learnt) Reads.Pre Reads.Post Inv μ
+
 abbrev pub After-loop : (Inv : InvT-loop) → (μ : MeasureT-loop) → Type 0
 After-loop = λ Inv μ. Lts.After-loop (Reads'.Asked, Reads'.Learnt) Reads.Pre Reads.Post Inv μ
+
 abbrev pub After-row : (Inv : InvT-loop) → (μ : MeasureT-loop) → Type 0
 After-row = λ Inv μ. Lts.After-row (Reads'.Asked, Reads'.Learnt) Reads.Pre Reads.Post Inv μ
+
 abbrev pub After-circuit-cleared : (Inv : InvT-loop) → (μ : MeasureT-loop) → Type 0
 After-circuit-cleared = λ Inv μ. Lts.After-circuit-cleared (Reads'.Asked, Reads'.Learnt) Reads.Pre Reads.Post Inv μ
+
 abbrev pub Need-loop-holds : (Inv : InvT-loop) → (μ : MeasureT-loop) → Type 0
 Need-loop-holds = λ Inv μ. Lts.Need-loop-holds (Reads'.Asked, Reads'.Learnt) Reads.Pre Reads.Post Inv μ
+
 abbrev pub Need-mul-row : (Inv : InvT-loop) → (μ : MeasureT-loop) → Type 0
 Need-mul-row = λ Inv μ. Lts.Need-mul-row (Reads'.Asked, Reads'.Learnt) Reads.Pre Reads.Post Inv μ
+
 abbrev pub Need-slice-copy-out-row : (Inv : InvT-loop) → (μ : MeasureT-loop) → Type 0
 Need-slice-copy-out-row = λ Inv μ. Lts.Need-slice-copy-out-row (Reads'.Asked, Reads'.Learnt) Reads.Pre Reads.Post Inv μ
+
 abbrev pub Need-circuit-cleared-requires : (Inv : InvT-loop) → (μ : MeasureT-loop) → Type 0
-Need-circuit-cleared-requires = λ Inv μ. Lts.Need-circuit-cleared-requires (Reads'.Asked, Reads'.Learnt,) Reads.Pre Reads.Post Inv μ
+Need-circuit-cleared-requires = λ Inv μ. Lts.Need-circuit-cleared-requires (Reads'.Asked, Reads'.Learnt) Reads.Pre Reads.Post Inv μ
+
 abbrev pub Need-mul-after : (Inv : InvT-loop) → (μ : MeasureT-loop) → Type 0
 Need-mul-after = λ Inv μ. Lts.Need-mul-after (Reads'.Asked, Reads'.Learnt) Reads.Pre Reads.Post Inv μ
+
 abbrev pub Need-slice-set-from-after : (Inv : InvT-loop) → (μ : MeasureT-loop) → Type 0
 Need-slice-set-from-after = λ Inv μ. Lts.Need-slice-set-from-after (Reads'.Asked, Reads'.Learnt) Reads.Pre Reads.Post Inv μ
+
 abbrev pub Need-add-i : (Inv : InvT-loop) → (μ : MeasureT-loop) → Type 0
 Need-add-i = λ Inv μ. Lts.Need-add-i (Reads'.Asked, Reads'.Learnt) Reads.Pre Reads.Post Inv μ
+
 abbrev pub Need-loop-less : (Inv : InvT-loop) → (μ : MeasureT-loop) → Type 0
 Need-loop-less = λ Inv μ. Lts.Need-loop-less (Reads'.Asked, Reads'.Learnt) Reads.Pre Reads.Post Inv μ
+
 abbrev pub Need-loop-again : (Inv : InvT-loop) → (μ : MeasureT-loop) → Type 0
 Need-loop-again = λ Inv μ. Lts.Need-loop-again (Reads'.Asked, Reads'.Learnt) Reads.Pre Reads.Post Inv μ
+
 abbrev pub Need-same-length : (Inv : InvT-loop) → (μ : MeasureT-loop) → Type 0
 Need-same-length = λ Inv μ. Lts.Need-same-length (Reads'.Asked, Reads'.Learnt) Reads.Pre Reads.Post Inv μ
+
 abbrev pub Need-returns : (Inv : InvT-loop) → (μ : MeasureT-loop) → Type 0
 Need-returns = λ Inv μ. Lts.Need-returns (Reads'.Asked, Reads'.Learnt) Reads.Pre Reads.Post Inv μ
-module _ { M : Type 1 } where
+
+module _ {M : Type 1} where
   pub spec : (Inv : InvT-loop) → (μ : MeasureT-loop) → (answer : Need-loop-holds Inv μ) → (answer : Need-mul-row Inv μ) → (answer :
       Need-slice-copy-out-row Inv μ) → (answer : Need-circuit-cleared-requires Inv μ) → (answer : Need-mul-after Inv μ) → (answer :
       Need-slice-set-from-after Inv μ) → (answer : Need-add-i Inv μ) → (answer : Need-loop-less Inv μ) → (answer : Need-loop-again Inv μ) → (answer :
       Need-same-length Inv μ) → (answer : Need-returns Inv μ) → Lts.Closed (Reads'.Asked, Reads'.Learnt) Reads.Pre Reads.Post M
-  spec = λ Inv μ answer answer' answer'' answer'3 answer'4 answer'5 answer'6 answer'7 answer'8 answer'9 answer'10. Lts.spec (Reads'.Asked,
-      Reads'.Learnt) Reads.Pre Reads.Post Inv μ answer answer' answer'' answer'3 answer'4 answer'5 answer'6 answer'7 answer'8 answer'9 answer'10
+  spec = λ Inv μ answer answer' answer'' answer'3 answer'4 answer'5 answer'6 answer'7 answer'8 answer'9 answer'10. Lts.spec (
+    Reads'.Asked,
+    Reads'.Learnt,
+  ) Reads.Pre Reads.Post Inv μ answer answer' answer'' answer'3 answer'4 answer'5 answer'6 answer'7 answer'8 answer'9 answer'10
+
   pub close : Lts.Closed (Reads'.Asked, Reads'.Learnt) Reads.Pre Reads.Post M → Statement.statement M
   unfolding Code.routine Running.tablesOf
   close = λ closed 𝓤 H 𝓜 𝓖 𝓡. Written.close 1 Kinds.ps Kinds.r Reads.Ghost Reads.requires Reads.ensures Reads.pre-read Reads.Pinned Reads.Owned

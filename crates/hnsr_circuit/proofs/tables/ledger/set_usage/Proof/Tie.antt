@@ -14,29 +14,40 @@ use contract.Running
 
 abbrev pub Start : Type 0
 Start = Lts.Start (Reads'.Asked, Reads'.Learnt) Reads.Pre Reads.Post
+
 abbrev pub After-within : Type 0
 After-within = Lts.After-within (Reads'.Asked, Reads'.Learnt) Reads.Pre Reads.Post
+
 abbrev pub Then1 : Type 0
 Then1 = Lts.Then1 (Reads'.Asked, Reads'.Learnt) Reads.Pre Reads.Post
+
 abbrev pub Else1 : Type 0
 Else1 = Lts.Else1 (Reads'.Asked, Reads'.Learnt) Reads.Pre Reads.Post
+
 abbrev pub Need-within-requires : Type 0
 Need-within-requires = Lts.Need-within-requires (Reads'.Asked, Reads'.Learnt) Reads.Pre Reads.Post
+
 abbrev pub Need-mul-row : Type 0
 Need-mul-row = Lts.Need-mul-row (Reads'.Asked, Reads'.Learnt) Reads.Pre Reads.Post
+
 abbrev pub Need-slice-set-from-row : Type 0
 Need-slice-set-from-row = Lts.Need-slice-set-from-row (Reads'.Asked, Reads'.Learnt) Reads.Pre Reads.Post
+
 abbrev pub Need-same-length : Type 0
 Need-same-length = Lts.Need-same-length (Reads'.Asked, Reads'.Learnt) Reads.Pre Reads.Post
+
 abbrev pub Need-returns : Type 0
 Need-returns = Lts.Need-returns (Reads'.Asked, Reads'.Learnt) Reads.Pre Reads.Post
+
 abbrev pub Need-returns-2 : Type 0
 Need-returns-2 = Lts.Need-returns-2 (Reads'.Asked, Reads'.Learnt) Reads.Pre Reads.Post
-module _ { M : Type 1 } where
+
+module _ {M : Type 1} where
   pub spec : (answer : Need-within-requires) → (answer : Need-mul-row) → (answer : Need-slice-set-from-row) → (answer : Need-same-length) → (answer :
       Need-returns) → (answer : Need-returns-2) → Lts.Closed (Reads'.Asked, Reads'.Learnt) Reads.Pre Reads.Post M
-  spec = λ answer answer' answer'' answer'3 answer'4 answer'5. Lts.spec (Reads'.Asked, Reads'.Learnt,) Reads.Pre Reads.Post answer answer' answer''
+  spec = λ answer answer' answer'' answer'3 answer'4 answer'5. Lts.spec (Reads'.Asked, Reads'.Learnt) Reads.Pre Reads.Post answer answer' answer''
       answer'3 answer'4 answer'5
+
   pub close : Lts.Closed (Reads'.Asked, Reads'.Learnt) Reads.Pre Reads.Post M → Statement.statement M
   unfolding Code.routine Running.tablesOf
   close = λ closed 𝓤 H 𝓜 𝓖 𝓡. Written.close 1 Kinds.ps Kinds.r Reads.Ghost Reads.requires Reads.ensures Reads.pre-read Reads.Pinned Reads.Owned

@@ -14,29 +14,40 @@ use contract.Running
 
 abbrev pub Start : Type 0
 Start = Lts.Start (Reads'.Asked, Reads'.Learnt) Reads.Pre Reads.Post
+
 abbrev pub Then1 : Type 0
 Then1 = Lts.Then1 (Reads'.Asked, Reads'.Learnt) Reads.Pre Reads.Post
+
 abbrev pub After-result : Type 0
 After-result = Lts.After-result (Reads'.Asked, Reads'.Learnt) Reads.Pre Reads.Post
+
 abbrev pub Else1 : Type 0
 Else1 = Lts.Else1 (Reads'.Asked, Reads'.Learnt) Reads.Pre Reads.Post
+
 abbrev pub After-no-pending : Type 0
 After-no-pending = Lts.After-no-pending (Reads'.Asked, Reads'.Learnt) Reads.Pre Reads.Post
+
 abbrev pub Need-mul-result : Type 0
 Need-mul-result = Lts.Need-mul-result (Reads'.Asked, Reads'.Learnt) Reads.Pre Reads.Post
+
 abbrev pub Need-shared-slice-copy-out-result : Type 0
-Need-shared-slice-copy-out-result = Lts.Need-shared-slice-copy-out-result (Reads'.Asked, Reads'.Learnt,) Reads.Pre Reads.Post
+Need-shared-slice-copy-out-result = Lts.Need-shared-slice-copy-out-result (Reads'.Asked, Reads'.Learnt) Reads.Pre Reads.Post
+
 abbrev pub Need-returns : Type 0
 Need-returns = Lts.Need-returns (Reads'.Asked, Reads'.Learnt) Reads.Pre Reads.Post
+
 abbrev pub Need-no-pending-requires : Type 0
 Need-no-pending-requires = Lts.Need-no-pending-requires (Reads'.Asked, Reads'.Learnt) Reads.Pre Reads.Post
+
 abbrev pub Need-returns-2 : Type 0
 Need-returns-2 = Lts.Need-returns-2 (Reads'.Asked, Reads'.Learnt) Reads.Pre Reads.Post
-module _ { M : Type 1 } where
+
+module _ {M : Type 1} where
   pub spec : (answer : Need-mul-result) → (answer : Need-shared-slice-copy-out-result) → (answer : Need-returns) → (answer : Need-no-pending-requires)
       → (answer : Need-returns-2) → Lts.Closed (Reads'.Asked, Reads'.Learnt) Reads.Pre Reads.Post M
   spec = λ answer answer' answer'' answer'3 answer'4. Lts.spec (Reads'.Asked, Reads'.Learnt) Reads.Pre Reads.Post answer answer' answer'' answer'3
       answer'4
+
   pub close : Lts.Closed (Reads'.Asked, Reads'.Learnt) Reads.Pre Reads.Post M → Statement.statement M
   unfolding Code.routine Running.tablesOf
   close = λ closed 𝓤 H 𝓜 𝓖 𝓡. Written.close 1 Kinds.ps Kinds.r Reads.Ghost Reads.requires Reads.ensures Reads.pre-read Reads.Pinned Reads.Owned

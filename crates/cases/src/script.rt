@@ -3,7 +3,6 @@ use hnsr_body::accept_body::AcceptBody;
 use hnsr_body::open_body::OpenBody;
 use hnsr_body::values::ReservationId;
 use hnsr_circuit::answer::HnsrAnswer;
-use hnsr_circuit::answer::HnsrRuntimeError;
 use hnsr_circuit::config::OpaqueRelayConfig;
 use hnsr_circuit::peer::HnsrPeerId;
 use hnsr_circuit::records::InflightAction;
@@ -265,39 +264,8 @@ pub(crate) fn head_of(case: u8) -> [u8; 5] {
 
 // ---- document 01's number of an answer
 
-fn error_number(error: HnsrRuntimeError) -> u64 {
-    match error {
-        HnsrRuntimeError::Protocol(_) => 1,
-        HnsrRuntimeError::InvalidConfig => 2,
-        HnsrRuntimeError::InvalidSession => 3,
-        HnsrRuntimeError::InvalidPeer => 4,
-        HnsrRuntimeError::StaleGeneration => 5,
-        HnsrRuntimeError::GenerationExhausted => 6,
-        HnsrRuntimeError::ClockRollback => 7,
-        HnsrRuntimeError::Randomness => 8,
-        HnsrRuntimeError::Disabled => 9,
-        HnsrRuntimeError::Capacity => 10,
-        HnsrRuntimeError::InvalidAdmission => 11,
-        HnsrRuntimeError::Deadline => 12,
-        HnsrRuntimeError::UnknownRequest => 13,
-        HnsrRuntimeError::UnknownCircuit => 14,
-        HnsrRuntimeError::WrongPeer => 15,
-        HnsrRuntimeError::UnexpectedOpcode => 16,
-        HnsrRuntimeError::FlowControl => 17,
-        HnsrRuntimeError::ByteLimit => 18,
-        HnsrRuntimeError::NoQueuedData => 19,
-        HnsrRuntimeError::UnknownAction => 20,
-        HnsrRuntimeError::CorruptSnapshot => 21,
-        HnsrRuntimeError::Short => 22,
-        HnsrRuntimeError::LedgerFull => 23,
-    }
-}
-
 pub(crate) fn answer_number(answer: HnsrAnswer) -> u64 {
-    match answer {
-        HnsrAnswer::Taken => 0,
-        HnsrAnswer::Refused(error) => error_number(error),
-    }
+    answer.number() as u64
 }
 
 // ---- bodies

@@ -5,7 +5,6 @@ pub mod data_body;
 pub mod detail_body;
 pub mod envelope;
 pub mod error;
-pub mod exports;
 mod fields;
 pub mod incoming_body;
 mod layout;

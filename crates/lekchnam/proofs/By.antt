@@ -1,0 +1,5 @@
+pub mod InflightAction
+pub mod RelayCircuit
+pub mod RelayPending
+pub mod ReservationUsage
+pub mod relay

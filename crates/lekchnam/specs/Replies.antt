@@ -1,0 +1,75 @@
+-- What the C functions hand back: the outcome of a call with its answer in numbers.
+use Prim.Native.Nat.{ℕ}
+use mathlib.Core.Path.{_≡_}
+use mathlib.Core.Bool.{Bool, true, false}
+use mathlib.Core.List.{List}
+use Rattle.hnsr_body.specs.declared.error.Cause.{Cause}
+use Rattle.hnsr_circuit.specs.declared.records.RelayPending.{RelayPending}
+use Rattle.hnsr_circuit.specs.declared.records.RelayCircuit.{RelayCircuit}
+use Rattle.hnsr_circuit.specs.declared.records.ReservationUsage.{ReservationUsage}
+use Rattle.hnsr_circuit.specs.declared.records.InflightAction.{InflightAction}
+use Rattle.hnsr_circuit.specs.declared.records.NextDue.{NextDue}
+use Rattle.hnsr_circuit.specs.declared.records.NextDue.the-variants.{Never, At}
+use Rattle.hnsr_circuit.specs.declared.runtime.Relayed.{Relayed}
+use Rattle.hnsr_circuit.specs.declared.runtime.StatusTold.{StatusTold}
+use Rattle.hnsr_circuit.specs.declared.runtime.DueTold.{DueTold}
+use Rattle.hnsr_circuit.specs.Answers.{number, causeOf, taken}
+use Rattle.hnsr_circuit.specs.World.{World, Outcome}
+use Rattle.hnsr_circuit.specs.Progress.{worldOf, Result}
+use Rattle.lekchnam.specs.declared.relay.RelayReply.{RelayReply}
+use Rattle.lekchnam.specs.declared.relay.StatusReply.{StatusReply}
+use Rattle.lekchnam.specs.declared.relay.DueReply.{DueReply}
+
+-- header and tables, the answer's number and cause, how many words, and the output
+pub record Replied : Type 0 where
+  pub world : World
+  pub answer : ℕ
+  pub cause : Cause
+  pub words : ℕ
+  pub output : List ℕ
+
+-- what a call hands back, with its answer in numbers
+abbrev pub replyOf : Relayed → RelayReply
+replyOf r = record { answer = number (r .answer); cause = causeOf (r .answer); words = r .words; runtime = r .runtime }
+
+-- what a C function hands back, with the tables and the output that it leaves
+abbrev pub replied : RelayReply → List RelayPending → List RelayCircuit → List ReservationUsage → List InflightAction → (out : List ℕ) → Replied
+replied r p c l i out = record {
+  world = worldOf (r .runtime) p c l i;
+  answer = r .answer;
+  cause = r .cause;
+  words = r .words;
+  output = out;
+}
+
+-- a call's result with its answer in numbers
+abbrev pub numbered : Result → Replied
+numbered r = record {
+  world = r .world;
+  answer = number (r .answer);
+  cause = causeOf (r .answer);
+  words = r .words;
+  output = r .output;
+}
+
+-- what `new` hands back: its answer, the tables that it leaves and, where it is taken, the runtime that it makes
+pub record MadeReply (r : RelayReply) (p : List RelayPending) (c : List RelayCircuit) (l : List ReservationUsage) (i : List InflightAction) (o : Outcome) : Type 0 where
+  pub answer : r .answer ≡ number (o .answer)
+  pub cause : r .cause ≡ causeOf (o .answer)
+  pub tables : worldOf (o .world .header) p c l i ≡ o .world
+  pub runtime : taken (o .answer) ≡ true → r .runtime ≡ o .world .header
+  pub words : r .words ≡ 0
+
+abbrev pub statusNumbered : StatusTold → StatusReply
+statusNumbered t = record { answer = number (t .answer); status = t .status }
+
+abbrev pub dueSome : NextDue → Bool
+dueSome Never = false
+dueSome (At time) = true
+
+abbrev pub dueTime : NextDue → ℕ
+dueTime Never = 0
+dueTime (At time) = time
+
+abbrev pub dueNumbered : DueTold → DueReply
+dueNumbered t = record { answer = number (t .answer); some = dueSome (t .due); due = dueTime (t .due) }

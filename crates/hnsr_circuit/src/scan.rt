@@ -3,30 +3,22 @@ ghost use mathlib.Core.Path.{_≡_};
 ghost use mathlib.Core.Bool.{cond, true, _&&_};
 ghost use Prim.Native.Nat.{_+_, _<_};
 ghost use lib.Dec.{ltb};
-ghost use Rattle.hnsr_circuit.specs.Table.{cleared, notYet, reached, above, better, nextTurn};
-ghost use Rattle.hnsr_circuit.specs.Pending.{clearPending, pendingId, isPending};
-ghost use Rattle.hnsr_circuit.specs.Circuits.{clearCircuit, circuitId, isCircuit};
-ghost use Rattle.hnsr_circuit.specs.Ledger.{clearUsage};
-ghost use Rattle.hnsr_circuit.specs.Inflight.{clearAction};
+ghost use Rattle.hnsr_circuit.specs.Table.{notYet, reached, above, better, nextTurn};
+ghost use Rattle.hnsr_circuit.specs.Pending.{pendingId, isPending};
+ghost use Rattle.hnsr_circuit.specs.Circuits.{circuitId, isCircuit};
 ghost use Rattle.hnsr_circuit.specs.Question.{pendingHas, circuitHas, usageHas, actionHas};
 ghost use Rattle.hnsr_circuit.specs.NextDue.{earlier, dueTurn, deadlineOf, expiryOf};
 ghost use Rattle.hnsr_circuit.specs.Laws.Turns.{noWork, workOn, WorkAtMost, pendingWorked, circuitWorked, noTotals, totalled, TallyAtMost, noScan, firstPlace, tallyOn, scanned};
 use crate::circuits::circuit_of;
 use crate::circuits::circuit_under;
-use crate::circuits::circuit_unmarked;
 use crate::circuits::queued_in;
 use crate::inflight::action_is;
-use crate::inflight::action_unmarked;
-use crate::ledger::usage_unmarked;
 use crate::peer::same_peer;
 use crate::pending::pending_of;
 use crate::pending::pending_under;
-use crate::pending::pending_unmarked;
 use crate::pending::requested_by;
-use crate::question::action_has;
 use crate::question::circuit_has;
 use crate::question::pending_has;
-use crate::question::usage_has;
 use crate::records::ActionQuestion;
 use crate::records::ActionScan;
 use crate::records::CircuitTotals;
@@ -36,7 +28,6 @@ use crate::records::NextDue;
 use crate::records::Question;
 use crate::records::RelayCircuit;
 use crate::records::RelayPending;
-use crate::records::ReservationUsage;
 use crate::records::Walked;
 use crate::records::Work;
 use crate::records::WorkQuestion;
@@ -315,42 +306,4 @@ pub(crate) fn action_scanned(
         spare: true,
         spare_place: first_place(scan.spare, true, place, scan.spare_place),
     }
-}
-
-// ---- the mark cleared of a record that has what is asked
-
-pub(crate) fn pending_cleared(row: RelayPending, question: Question) -> RelayPending
-    ensures { λ r. ⌜ r ≡ cleared clearPending (pendingHas question) row ⌝ }
-{
-    if pending_has(row, question) {
-        return pending_unmarked(row);
-    }
-    row
-}
-
-pub(crate) fn circuit_cleared(row: RelayCircuit, question: Question) -> RelayCircuit
-    ensures { λ r. ⌜ r ≡ cleared clearCircuit (circuitHas question) row ⌝ }
-{
-    if circuit_has(row, question) {
-        return circuit_unmarked(row);
-    }
-    row
-}
-
-pub(crate) fn usage_cleared(row: ReservationUsage, question: Question) -> ReservationUsage
-    ensures { λ r. ⌜ r ≡ cleared clearUsage (usageHas question) row ⌝ }
-{
-    if usage_has(row, question) {
-        return usage_unmarked(row);
-    }
-    row
-}
-
-pub(crate) fn action_cleared(row: InflightAction, question: Question) -> InflightAction
-    ensures { λ r. ⌜ r ≡ cleared clearAction (actionHas question) row ⌝ }
-{
-    if action_has(row, question) {
-        return action_unmarked(row);
-    }
-    row
 }

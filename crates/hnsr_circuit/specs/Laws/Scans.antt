@@ -6,15 +6,15 @@ use native.Mathlib.Numerals.{add-one}
 use native.Mathlib.Omega.{arith}
 use mathlib.Core.Path.{_≡_, refl, sym, ap, _∙_}
 use mathlib.Core.Bool.{Bool, true, false, cond, _&&_}
-use mathlib.Core.List.{List, [], _∷_}
+use mathlib.Core.List.{List, [], _∷_, _++_}
 use lib.Dec.{ltb}
-use lib.ListN.{length, drop, getD, set, drop-of-length-le}
-use lib.Seq.{drop-cons}
+use lib.ListN.{length, take, drop, getD, set, drop-of-length-le}
+use lib.Seq.{drop-cons, set-getD}
 use borrow.Author.Tests.{ltb-true, ltb-false}
 use Rattle.hns_encoding.specs.Laws.Tests.{split, both}
-use Rattle.hns_encoding.specs.Loops.{foldFrom}
+use Rattle.hns_encoding.specs.Loops.{foldFrom, map-step}
 use Rattle.hns_encoding.specs.Sums.{one, count}
-use Rattle.hnsr_circuit.specs.Table.{any, placeOf}
+use Rattle.hnsr_circuit.specs.Table.{any, placeOf, cleared, clear}
 
 -- ---- lookups and counts: what is left of the table says the rest
 module _ {A : Type 0} (p : A → Bool) (t : List A) (d : A) (i r : ℕ) where
@@ -49,6 +49,16 @@ module _ {A : Type 0} (t : List A) (go does : Bool) (i : ℕ) (e : does ≡ (go 
 
   pub unstored : (x : A) → does ≡ false → t ≡ cond go (set t i x) t
   unstored x h = split go (λ g. rw g (sym (set-past t i x (ltb-false i (length t) (sym (rw g at e) ∙ h))))) (λ g. rw g)
+
+-- ---- a turn that clears the mark of a record, if it has what is asked, and else stores nothing
+module _ {A : Type 0} (unmark : A → A) (p : A → Bool) (t : List A) (d : A) (i : ℕ) where
+  one-cleared : (has : Bool) (x : A) → has ≡ p (getD t i d) → x ≡ unmark (getD t i d) → cond has (set t i x) t ≡ set t i (cleared unmark p (getD t i d))
+  one-cleared true x e f = rw (← e, f)
+  one-cleared false x e f = rw (← e) (sym (set-getD t i d))
+
+  pub clear-step : (has : Bool) (x : A) (t′ r : List A) → i < length t → has ≡ p (getD t i d) → x ≡ unmark (getD t i d) → t′ ≡ cond has (set t i x) t
+      → take i t ++ clear unmark p (drop i t) ≡ r → take (i + 1) t′ ++ clear unmark p (drop (i + 1) t′) ≡ r
+  clear-step has x t′ r l e f k h = rw (k, one-cleared has x e f) (map-step (cleared unmark p) t d i (cleared unmark p (getD t i d)) r l refl h)
 
 -- ---- a part of what a scan folds that moves by itself
 module _ {A B C : Type 0} (f : B → A → ℕ → B) where

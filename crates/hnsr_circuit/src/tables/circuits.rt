@@ -10,6 +10,7 @@ ghost use Rattle.hnsr_circuit.specs.NextDue.{circuitDue};
 ghost use Rattle.hnsr_circuit.specs.Status.{circuitTotals};
 ghost use Rattle.hnsr_circuit.specs.Circuits.{charged};
 use crate::circuits::circuit_charged;
+use crate::circuits::circuit_unmarked;
 use crate::circuits::no_circuit;
 use crate::question::circuit_has;
 use crate::records::CircuitTotals;
@@ -20,7 +21,6 @@ use crate::records::RelaySide;
 use crate::records::Walked;
 use crate::records::Work;
 use crate::records::WorkQuestion;
-use crate::scan::circuit_cleared;
 use crate::scan::circuit_due_turn;
 use crate::scan::circuit_totalled;
 use crate::scan::circuit_turn;
@@ -77,15 +77,16 @@ pub(crate) fn set_circuit(circuits: &mut [RelayCircuit], go: bool, place: usize,
     }
 }
 
-// The mark cleared of every record that has what is asked.
+// The mark cleared of every record that has what is asked; no other record is stored.
 pub(crate) fn clear_circuit(circuits: &mut [RelayCircuit], question: Question)
     ensures { λ _. ⌜ now (circuits .exit) ≡ clear clearCircuit (circuitHas question) (now (circuits .entry)) ⌝ }
 {
     let mut i: usize = 0;
     while i < circuits.len() {
         let row = circuits[i];
-        let after = circuit_cleared(row, question);
-        circuits[i] = after;
+        let has = circuit_has(row, question);
+        let after = circuit_unmarked(row);
+        set_circuit(circuits, has, i, after);
         i += 1;
     }
 }

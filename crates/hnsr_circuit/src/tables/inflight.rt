@@ -7,13 +7,13 @@ ghost use Rattle.hnsr_circuit.specs.Table.{clear, placeOf};
 ghost use Rattle.hnsr_circuit.specs.Inflight.{noAction, clearAction};
 ghost use Rattle.hnsr_circuit.specs.Question.{actionHas};
 ghost use Rattle.hnsr_circuit.specs.Queue.{actionsScanned};
+use crate::inflight::action_unmarked;
 use crate::inflight::no_action;
 use crate::question::action_has;
 use crate::records::ActionQuestion;
 use crate::records::ActionScan;
 use crate::records::InflightAction;
 use crate::records::Question;
-use crate::scan::action_cleared;
 use crate::scan::action_scanned;
 use crate::scan::no_scan;
 use crate::scan::one_more;
@@ -70,15 +70,16 @@ pub(crate) fn set_action(
     }
 }
 
-// The mark cleared of every record that has what is asked.
+// The mark cleared of every record that has what is asked; no other record is stored.
 pub(crate) fn clear_action(inflight: &mut [InflightAction], question: Question)
     ensures { λ _. ⌜ now (inflight .exit) ≡ clear clearAction (actionHas question) (now (inflight .entry)) ⌝ }
 {
     let mut i: usize = 0;
     while i < inflight.len() {
         let row = inflight[i];
-        let after = action_cleared(row, question);
-        inflight[i] = after;
+        let has = action_has(row, question);
+        let after = action_unmarked(row);
+        set_action(inflight, has, i, after);
         i += 1;
     }
 }

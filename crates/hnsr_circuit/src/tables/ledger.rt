@@ -7,11 +7,11 @@ ghost use Rattle.hnsr_circuit.specs.Table.{clear, placeOf};
 ghost use Rattle.hnsr_circuit.specs.Ledger.{noUsage, clearUsage};
 ghost use Rattle.hnsr_circuit.specs.Question.{usageHas};
 use crate::ledger::no_usage;
+use crate::ledger::usage_unmarked;
 use crate::question::usage_has;
 use crate::records::Question;
 use crate::records::ReservationUsage;
 use crate::scan::one_more;
-use crate::scan::usage_cleared;
 use crate::scan::within;
 
 // The lowest place whose record has what is asked, else the number of places.
@@ -65,15 +65,16 @@ pub(crate) fn set_usage(
     }
 }
 
-// The mark cleared of every record that has what is asked.
+// The mark cleared of every record that has what is asked; no other record is stored.
 pub(crate) fn clear_usage(ledger: &mut [ReservationUsage], question: Question)
     ensures { λ _. ⌜ now (ledger .exit) ≡ clear clearUsage (usageHas question) (now (ledger .entry)) ⌝ }
 {
     let mut i: usize = 0;
     while i < ledger.len() {
         let row = ledger[i];
-        let after = usage_cleared(row, question);
-        ledger[i] = after;
+        let has = usage_has(row, question);
+        let after = usage_unmarked(row);
+        set_usage(ledger, has, i, after);
         i += 1;
     }
 }

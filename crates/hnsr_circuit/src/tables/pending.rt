@@ -8,6 +8,7 @@ ghost use Rattle.hnsr_circuit.specs.Pending.{noPending, clearPending, pe
 ghost use Rattle.hnsr_circuit.specs.Question.{pendingHas, pendingWork};
 ghost use Rattle.hnsr_circuit.specs.NextDue.{pendingDue};
 use crate::pending::no_pending;
+use crate::pending::pending_unmarked;
 use crate::question::pending_has;
 use crate::records::NextDue;
 use crate::records::Question;
@@ -18,7 +19,6 @@ use crate::records::WorkQuestion;
 use crate::scan::no_work;
 use crate::scan::not_yet;
 use crate::scan::one_more;
-use crate::scan::pending_cleared;
 use crate::scan::pending_due_turn;
 use crate::scan::pending_turn;
 use crate::scan::pending_worked;
@@ -70,15 +70,16 @@ pub(crate) fn set_pending(pending: &mut [RelayPending], go: bool, place: usize, 
     }
 }
 
-// The mark cleared of every record that has what is asked.
+// The mark cleared of every record that has what is asked; no other record is stored.
 pub(crate) fn clear_pending(pending: &mut [RelayPending], question: Question)
     ensures { λ _. ⌜ now (pending .exit) ≡ clear clearPending (pendingHas question) (now (pending .entry)) ⌝ }
 {
     let mut i: usize = 0;
     while i < pending.len() {
         let row = pending[i];
-        let after = pending_cleared(row, question);
-        pending[i] = after;
+        let has = pending_has(row, question);
+        let after = pending_unmarked(row);
+        set_pending(pending, has, i, after);
         i += 1;
     }
 }

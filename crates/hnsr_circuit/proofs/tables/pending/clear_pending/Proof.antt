@@ -1,13 +1,14 @@
 -- `clear_pending` meets its contract: what is done, with what is left cleared, is the whole table cleared.
 mod Tie
-use mathlib.Core.Path.{_≡_}
+use mathlib.Core.Path.{_≡_, _∙_}
 use mathlib.Core.List.{_++_}
 use Prim.Native.Nat.{_≤_, _-_}
-use lib.ListN.{length, take, drop, length-set}
-use Rattle.hns_encoding.specs.Loops.{map-step, map-done}
+use lib.ListN.{length, take, drop}
+use Rattle.hns_encoding.specs.Loops.{map-done}
 use Rattle.hnsr_circuit.specs.Table.{cleared, clear}
 use Rattle.hnsr_circuit.specs.Pending.{noPending, clearPending}
 use Rattle.hnsr_circuit.specs.Question.{pendingHas}
+use Rattle.hnsr_circuit.specs.Laws.Scans.{clear-step}
 use borrow.Author.Needs.{needs}
 use native.Mathlib.Omega.{arith}
 use Rattle.hnsr_circuit.proofs.tables.pending.clear_pending.Statement.{statement}
@@ -28,29 +29,33 @@ mul-row c = search needs
 slice-copy-out-row : tie.Need-slice-copy-out-row Inv-loop μ-loop
 slice-copy-out-row c = search needs
 
-pending-cleared-requires : tie.Need-pending-cleared-requires Inv-loop μ-loop
-pending-cleared-requires c = search needs
+pending-has-requires : tie.Need-pending-has-requires Inv-loop μ-loop
+pending-has-requires c = search needs
 
-mul-after : tie.Need-mul-after Inv-loop μ-loop
-mul-after c = search needs
+pending-unmarked-requires : tie.Need-pending-unmarked-requires Inv-loop μ-loop
+pending-unmarked-requires c = search needs
 
-slice-set-from-after : tie.Need-slice-set-from-after Inv-loop μ-loop
-slice-set-from-after c = search needs
+set-pending-requires : tie.Need-set-pending-requires Inv-loop μ-loop
+set-pending-requires c = search needs
 
 add-i : tie.Need-add-i Inv-loop μ-loop
 add-i c = search needs
 
 loop-less : tie.Need-loop-less Inv-loop μ-loop
-loop-less c = simp length-set (omega arith)
+loop-less c = let k = c .before .set-pending .kept .0 in omega arith
 
 loop-again : tie.Need-loop-again Inv-loop μ-loop
 loop-again c =
-    let l = c .before .before .before in
-    let a = l .before .args in (
-      simp length-set (omega arith),
-      simp length-set (omega arith),
-      map-step (cleared clearPending (pendingHas (a .question))) (l .loop .pending) noPending (l .loop .i) (c .pending-cleared .result) (clear clearPending (pendingHas (a .question)) (a .pending .now)) (omega arith)
-          (c .pending-cleared .ensures) (l .loop .inv .2),
+    let s = c .before .set-pending in
+    let u = c .before .before .before .pending-unmarked in
+    let h = c .before .before .before .before .pending-has in
+    let l = c .before .before .before .before .before .before .before in
+    let a = l .before .args in
+    let k = s .kept .0 in (
+      omega arith,
+      k ∙ l .loop .inv .1,
+      clear-step clearPending (pendingHas (a .question)) (l .loop .pending) noPending (l .loop .i) (h .result) (u .result) (s .last .0) (clear clearPending (pendingHas (a .question)) (a .pending .now)) (omega arith)
+          (h .ensures) (u .ensures) (s .ensures) (l .loop .inv .2),
     )
 
 same-length : tie.Need-same-length Inv-loop μ-loop
@@ -63,4 +68,4 @@ returns c =
     map-done (cleared clearPending (pendingHas (a .question))) (l .loop .pending) (l .loop .i) (clear clearPending (pendingHas (a .question)) (a .pending .now)) (omega arith) (l .loop .inv .2)
 
 pub clear-pending-spec : {M : Type 1} → statement M
-clear-pending-spec = tie.close (tie.spec Inv-loop μ-loop loop-holds mul-row slice-copy-out-row pending-cleared-requires mul-after slice-set-from-after add-i loop-less loop-again same-length returns)
+clear-pending-spec = tie.close (tie.spec Inv-loop μ-loop loop-holds mul-row slice-copy-out-row pending-has-requires pending-unmarked-requires set-pending-requires add-i loop-less loop-again same-length returns)

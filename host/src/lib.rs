@@ -2,8 +2,22 @@
 //!
 //! Proved is what stands behind the calls, in the crates of the project. This crate is not: it declares the C functions of the
 //! archive that `rt staticlib` writes, and gives them the types and the words of hns-hnsr-protocol.
-#![deny(missing_docs)]
+#![deny(missing_docs, unsafe_code)]
 
 pub mod body;
+mod config;
 mod error;
+#[allow(unsafe_code)]
 mod ffi;
+pub mod lent;
+mod packet;
+mod peer;
+mod route;
+mod status;
+
+pub use config::OpaqueRelayConfig;
+pub use error::HnsrRuntimeError;
+pub use packet::{HnsrOpcode, HnsrPacket};
+pub use peer::{HnsrPeerId, MAXIMUM_PEER};
+pub use route::{HnsrActionId, HnsrRoute, QueuedHnsrRoute, RouteIter, Routes};
+pub use status::HnsrRuntimeStatus;

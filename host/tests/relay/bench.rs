@@ -57,7 +57,7 @@ pub fn grant(endpoint: &[u8]) -> Grant<'_> {
         endpoint,
         reservation_id: [5; 16],
         expires_at: EXPIRY,
-        max_active_circuits: 32,
+        max_active_circuits: 100,
         max_bytes_per_circuit: 20_000,
         max_total_bytes: 30_000,
     }

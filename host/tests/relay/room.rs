@@ -1,28 +1,30 @@
 //! Output words: what a call needs, and that a relay of its own tables always has them.
-use crate::bench::{self, circuit, grant, open, relay, say, small, Counting, Relay, START};
+use crate::bench::{accept_body, circuit, grant, open, peer, relay, say, small, Counting, Relay, EXPIRY, START};
 use lekchnam_host::lent::{self, Packet, RelayPacket, Runtime, Tables, CLOSING_WORDS, HANDLE_WORDS};
 use lekchnam_host::{Grant, HnsrActionId, HnsrOpcode, HnsrRuntimeError, OpaqueRelayConfig};
 
-/// Room for all that three pending records and four circuits may have queued.
+/// So many records that their closings need more words than the longest DATA, and room for all of these.
+const RECORDS: usize = 25;
+
 fn filled_config() -> OpaqueRelayConfig {
     OpaqueRelayConfig {
-        maximum_pending: 3,
-        maximum_circuits: 4,
-        maximum_inflight_actions: 64,
-        maximum_inflight_actions_per_circuit: 64,
-        maximum_inflight_actions_per_peer: 64,
+        maximum_pending: RECORDS,
+        maximum_circuits: RECORDS,
+        maximum_inflight_actions: 256,
+        maximum_inflight_actions_per_circuit: 256,
+        maximum_inflight_actions_per_peer: 256,
         ..small()
     }
 }
 
-/// As full as calls can make it: all circuits but one, and then all pending records.
+/// As full as calls can make it: all circuits but one, between r and e, and then all pending records, between s and f.
 fn filled() -> Relay {
     let mut relay = relay(filled_config());
-    for context in 1..=3 {
+    for context in 1..RECORDS as u64 {
         circuit(&mut relay, b"r", b"e", context);
     }
-    for context in 4..=6 {
-        open(&mut relay, b"r", context, grant(b"e")).expect("an OPEN");
+    for context in 1..=RECORDS as u64 {
+        open(&mut relay, b"s", context, grant(b"f")).expect("an OPEN");
     }
     relay
 }
@@ -31,19 +33,19 @@ fn filled() -> Relay {
 fn crammed() -> Relay {
     let (runtime, mut tables) = filled().into_parts();
     let (pending, active) = (tables.pending[0], tables.circuits[0]);
-    tables.pending = (1..=10).map(|id| lent::RelayPending { circuit_id: id, ..pending }).collect();
-    tables.circuits = (11..=20).map(|id| lent::RelayCircuit { circuit_id: id, ..active }).collect();
+    tables.pending = (1..=40).map(|id| lent::RelayPending { circuit_id: id, ..pending }).collect();
+    tables.circuits = (41..=80).map(|id| lent::RelayCircuit { circuit_id: id, ..active }).collect();
     Relay::from_parts(runtime, tables, Counting::default()).expect("stored parts")
 }
 
 type Ending = fn(&mut Relay) -> usize;
 
-/// The calls that end all, each with how many routes it sends for a pending record and for a circuit.
+/// The calls that end many records, each with how many routes it sends for a pending record and for a circuit; none where it ends none.
 const ENDINGS: [(Ending, usize, usize); 5] = [
-    (|relay| relay.disconnect(&bench::peer(b"r")).len(), 1, 2),
-    (|relay| relay.disconnect(&bench::peer(b"e")).len(), 1, 2),
+    (|relay| relay.disconnect(&peer(b"r")).len(), 0, 2),
+    (|relay| relay.disconnect(&peer(b"f")).len(), 1, 0),
     (|relay| relay.revoke_reservation([5; 16]).len(), 2, 2),
-    (|relay| relay.expire(bench::EXPIRY).expect("not short").len(), 2, 2),
+    (|relay| relay.expire(EXPIRY).expect("not short").len(), 2, 2),
     (|relay| relay.replace_enabled(1, false).expect("not short").len(), 2, 2),
 ];
 
@@ -52,13 +54,13 @@ fn a_full_relay_can_always_be_ended() {
     for (end, per_pending, per_circuit) in ENDINGS {
         for relay in [&mut filled(), &mut crammed()] {
             let before = relay.status();
+            assert!(CLOSING_WORDS * (before.pending_circuits + before.active_circuits) > HANDLE_WORDS);
             let routes = end(relay);
             assert_eq!(routes, per_pending * before.pending_circuits + per_circuit * before.active_circuits);
             let after = relay.status();
-            let ended = before.pending_circuits + before.active_circuits;
-            assert_eq!((after.pending_circuits, after.active_circuits), (0, 0));
-            assert_eq!(after.revoked_work, before.revoked_work + ended as u64);
-            assert!(relay.words().len() <= relay.tables().most_words());
+            let left = |routes, count| if routes == 0 { count } else { 0 };
+            assert_eq!(after.pending_circuits, left(per_pending, before.pending_circuits));
+            assert_eq!(after.active_circuits, left(per_circuit, before.active_circuits));
         }
     }
 }
@@ -69,7 +71,7 @@ fn a_relay_without_room_for_actions_can_be_ended_too() {
     let mut relay = relay(small());
     let busy = circuit(&mut relay, b"r", b"e", 1);
     let idle = open(&mut relay, b"r", 2, Grant { reservation_id: [6; 16], ..grant(b"e") }).expect("an OPEN");
-    let opened = say(&mut relay, b"e", HnsrOpcode::Accept, idle, &bench::accept_body()).expect("an ACCEPT");
+    let opened = say(&mut relay, b"e", HnsrOpcode::Accept, idle, &accept_body()).expect("an ACCEPT");
     let action_id = opened.iter().next().expect("an OPENED").action_id;
     relay.acknowledge(action_id, true).expect("it was outstanding");
     while say(&mut relay, b"e", HnsrOpcode::Data, busy, b"x").is_ok() {}
@@ -96,7 +98,7 @@ fn each_call_needs_what_document_01_says() {
     for relay in [&filled(), &crammed()] {
         let status = relay.status();
         let closing = 96 * (status.pending_circuits + status.active_circuits);
-        let action_id = HnsrActionId { generation: 1, sequence: 6 };
+        let action_id = HnsrActionId { generation: 1, sequence: 2 };
         needs(relay, 96, |tables, out, runtime| lent::acknowledge(tables, out, runtime, action_id, true));
         needs(relay, closing, |tables, out, runtime| lent::disconnect(tables, out, runtime, b"nobody"));
         needs(relay, closing, |tables, out, runtime| lent::revoke_reservation(tables, out, runtime, [9; 16].into()));

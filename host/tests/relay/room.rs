@@ -40,7 +40,8 @@ fn crammed() -> Relay {
 
 type Ending = fn(&mut Relay) -> usize;
 
-/// The calls that end many records, each with how many routes it sends for a pending record and for a circuit; none where it ends none.
+/// The calls that end many records, each with how many routes it sends for a pending record and for a circuit; none where it ends
+/// none.
 const ENDINGS: [(Ending, usize, usize); 5] = [
     (|relay| relay.disconnect(&peer(b"r")).len(), 0, 2),
     (|relay| relay.disconnect(&peer(b"f")).len(), 1, 0),

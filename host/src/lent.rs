@@ -1,8 +1,8 @@
 //! The calls over tables and output words that the host keeps itself and lends for each call.
 //!
 //! Every call takes any records, any header, any words and any bytes, and answers with how many output words it wrote or with a
-//! refusal. [`Routes`](crate::Routes) reads the words. What a refusal leaves is document 01's: the output always, and the tables and the header
-//! but where it says otherwise.
+//! refusal. [`Routes`](crate::Routes) reads the words. What a refusal leaves is document 01's: the output always, and the tables
+//! and the header but where it says otherwise.
 //!
 //! ```
 //! use lekchnam_host::lent::{self, Tables};

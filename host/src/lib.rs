@@ -1,7 +1,8 @@
 //! What a Rust host calls of the proved relay.
 //!
-//! [`OpaqueRelayRuntime`] relays circuits between two peers. The host owns connections, clock and reservations: it hands packets in, sends
-//! the routes that come out, and acknowledges each. Types and words are those of hns-hnsr-protocol, so that one takes the other's place.
+//! [`OpaqueRelayRuntime`] relays circuits between two peers. The host owns connections, clock and reservations: it hands packets
+//! in, sends the routes that come out, and acknowledges each. Types and words are those of hns-hnsr-protocol, so that one takes
+//! the other's place.
 //!
 //! ```
 //! use lekchnam_host::{
@@ -45,8 +46,8 @@
 //!
 //! [`lent`] has the same calls over tables that the host keeps itself, and [`body`] the checks of the messages' bodies.
 //!
-//! Proved is what stands behind the calls, in the crates of the project. This crate is not: it declares the C functions of the archive
-//! that `rt staticlib lekchnam` writes, and gives them these types. It runs on x86-64, as the archive does.
+//! Proved is what stands behind the calls, in the crates of the project. This crate is not: it declares the C functions of the
+//! archive that `rt staticlib lekchnam` writes, and gives them these types. It runs on x86-64, as the archive does.
 #![deny(missing_docs, unsafe_code)]
 
 mod admission;

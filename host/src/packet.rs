@@ -29,30 +29,52 @@ const NAMED: [HnsrOpcode; 21] = {
     ]
 };
 
-/// What a packet is. The relay takes OPEN, ACCEPT, DATA, WINDOW, CLOSE and ERROR, and sends these but OPEN and ACCEPT, INCOMING and OPENED.
-#[allow(missing_docs)]
+/// What a packet is.
+///
+/// The relay takes OPEN, ACCEPT, DATA, WINDOW, CLOSE and ERROR. It sends INCOMING, OPENED, DATA, WINDOW, CLOSE and ERROR.
 #[derive(Clone, Copy, Debug, Eq, Hash, PartialEq)]
 pub enum HnsrOpcode {
+    /// 0, of the search for routes.
     FindNode,
+    /// 1, of the search for routes.
     Nodes,
+    /// 2, of the search for routes.
     PutRoute,
+    /// 3, of the search for routes.
     PutResult,
+    /// 4, of the search for routes.
     GetRoute,
+    /// 5, of the search for routes.
     Routes,
+    /// 6, of the search for routes.
     SampleRoutes,
+    /// 7, of reservations.
     Reserve,
+    /// 8, of reservations.
     Offer,
+    /// 9, of reservations.
     Confirm,
+    /// 10, of reservations.
     Confirmed,
+    /// 11, of reservations.
     Renew,
+    /// 12, of reservations.
     Withdraw,
+    /// 13: a requester asks for a circuit.
     Open,
+    /// 14: the relay tells an endpoint of an OPEN.
     Incoming,
+    /// 15: an endpoint takes a circuit.
     Accept,
+    /// 16: the relay tells the requester of an ACCEPT.
     Opened,
+    /// 17: bytes for the other side.
     Data,
+    /// 18: credit for the other side.
     Window,
+    /// 19: one side, or the relay, ends a circuit or an OPEN.
     Close,
+    /// 20: the same, as something went wrong.
     Error,
     /// A number from 21 on. Such a packet is refused with 16.
     Unknown(u8),

@@ -4,8 +4,8 @@ use std::io::{self, Read};
 
 /// The random bytes that an OPEN is given, the least that cannot run short.
 ///
-/// An id is drawn from eight bytes. Eight draws of zero in a row refuse, and so do eight ids that are taken; an id that is taken starts the row
-/// anew. So at the most there are seven zeros in front of each of eight ids: 64 draws.
+/// An id is drawn from eight bytes. Eight draws of zero in a row refuse, and so do eight ids that are taken; an id that is taken
+/// starts the row anew. So at the most there are seven zeros in front of each of eight ids: 64 draws.
 pub const RANDOM_BYTES: usize = 8 * 8 * 8;
 
 /// Random bytes for the ids of circuits.

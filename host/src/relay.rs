@@ -12,9 +12,9 @@ use std::fmt::{self, Debug, Formatter};
 
 /// A relay of circuits between two peers. It does not read their DATA, and it owns no socket and no clock.
 ///
-/// Each route that a call hands out counts until [`acknowledge`](Self::acknowledge) is called with its number. Memory is taken once, by `new`:
-/// for tables of as many places as the configuration allows, and for output words that are enough for every call. So no call is ever
-/// refused for want of places or words (22).
+/// Each route that a call hands out counts until [`acknowledge`](Self::acknowledge) is called with its number. Memory is taken
+/// once, by `new`: for tables of as many places as the configuration allows, and for output words that are enough for every call.
+/// So no call is ever refused for want of places or words (22).
 pub struct OpaqueRelayRuntime<Random = OsRandom> {
     runtime: Runtime,
     tables: Tables,
@@ -25,7 +25,8 @@ pub struct OpaqueRelayRuntime<Random = OsRandom> {
 }
 
 impl OpaqueRelayRuntime {
-    /// A new relay, switched on, that draws ids from the operating system and has [`OpaqueRelayConfig::ledger_places`] in its ledger.
+    /// A new relay, switched on, that draws ids from the operating system and has [`OpaqueRelayConfig::ledger_places`] in its
+    /// ledger.
     pub fn new(
         session: [u8; 16],
         generation: u64,
@@ -52,7 +53,8 @@ impl<Random: RandomSource> OpaqueRelayRuntime<Random> {
         Self::from_parts(runtime, tables, random)
     }
 
-    /// A relay that goes on from stored parts, whatever they hold; 22 where a table has fewer places than the configuration allows.
+    /// A relay that goes on from stored parts, whatever they hold; 22 where a table has fewer places than the configuration
+    /// allows.
     pub fn from_parts(runtime: Runtime, tables: Tables, random: Random) -> Result<Self, HnsrRuntimeError> {
         lent::status(&tables, &runtime)?;
         let out = vec![0; tables.most_words()];

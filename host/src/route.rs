@@ -5,8 +5,8 @@ use crate::peer::{HnsrPeerId, MAXIMUM_PEER};
 use std::fmt::{self, Debug, Formatter};
 use std::iter::FusedIterator;
 
-// Document 01, "Output words": a kind word with the name's length; generation and sequence, high word first; the name; a kind word with
-// the opcode and the body's length; the context; and the body behind these.
+// Document 01, "Output words": a kind word with the name's length; generation and sequence, high word first; the name; a kind
+// word with the opcode and the body's length; the context; and the body behind these.
 const GENERATION: usize = 1;
 const SEQUENCE: usize = GENERATION + 2;
 const NAME: usize = SEQUENCE + 2;

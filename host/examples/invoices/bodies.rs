@@ -1,6 +1,6 @@
 //! The bodies that the two parties write.
 
-pub const TICKET: [u8; 32] = [1; 32];
+const TICKET: [u8; 32] = [1; 32];
 pub const RESERVATION: [u8; 16] = [2; 16];
 const KEY: [u8; 33] = [3; 33];
 const PROFILE: u16 = 1;

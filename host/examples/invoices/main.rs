@@ -1,7 +1,7 @@
 //! Invoices over the relay, in one process: a box at the supplier, the merchant's purchasing system, and the relay between them.
 //!
-//! After each step the relay's status is held to a reckoning made from the history of the calls alone. The first count that differs,
-//! or the first invoice that arrives changed, ends this with exit code 1.
+//! After each step the relay's status is held to a reckoning made from the history of the calls alone. The first count that
+//! differs, or the first invoice that arrives changed, ends this with exit code 1.
 mod bodies;
 mod office;
 mod reckoning;

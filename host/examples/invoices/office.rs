@@ -14,6 +14,8 @@ pub type Result<T> = std::result::Result<T, Box<dyn Error>>;
 const START: u64 = 1_000;
 /// Seconds that a reservation lasts.
 const LASTS: u64 = 3_600;
+/// Seconds that an ACCEPT may take, by the default configuration.
+const ACCEPT_WITHIN: u64 = 10;
 
 /// A route on its way.
 #[derive(Clone)]
@@ -112,7 +114,7 @@ impl Office {
         println!("     box says OPEN");
         let incoming = self.relay.handle(&Admission::Granted(grant), &supplier, &packet, self.now)?;
         let circuit = incoming.iter().next().ok_or("no INCOMING")?.route.packet.context_id;
-        let due = expires_at.min(self.now + 10);
+        let due = expires_at.min(self.now + ACCEPT_WITHIN);
         self.record(|reckoning, routes| reckoning.asked(request, Work { sides: [supplier, merchant], due, expires_at }, routes));
         Ok(circuit)
     }

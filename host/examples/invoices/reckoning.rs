@@ -1,5 +1,5 @@
-//! What the relay's counts must be, reckoned from the calls that were taken and the routes that they handed out. Nothing here looks into
-//! the relay.
+//! What the relay's counts must be, reckoned from the calls that were taken and the routes that they handed out. Nothing here
+//! looks into the relay.
 use lekchnam_host::{HnsrActionId, HnsrOpcode, HnsrPeerId, HnsrRuntimeStatus, Routes};
 use std::collections::BTreeMap;
 

@@ -4,7 +4,8 @@ use crate::ffi::Cause;
 use std::error::Error;
 use std::fmt::{self, Display, Formatter};
 
-/// Why a call is refused. The relay is unchanged by a refusal but where document 01 says otherwise: the clock may have moved, for one.
+/// Why a call is refused. The relay is unchanged by a refusal but where document 01 says otherwise: the clock may have moved, for
+/// one.
 #[derive(Clone, Copy, Debug, Eq, Hash, PartialEq)]
 pub enum HnsrRuntimeError {
     /// 1: a packet or its body is wrong, or the OPEN is not admitted.
@@ -55,71 +56,40 @@ pub enum HnsrRuntimeError {
     LedgerFull,
 }
 
-/// Those without a cause, by number from 2 on.
-const PLAIN: [HnsrRuntimeError; 22] = {
+/// Those without a cause, by number from 2 on, with their words.
+const PLAIN: [(HnsrRuntimeError, &str); 22] = {
     use HnsrRuntimeError::*;
     [
-        InvalidConfig,
-        InvalidSession,
-        InvalidPeer,
-        StaleGeneration,
-        GenerationExhausted,
-        ClockRollback,
-        Randomness,
-        Disabled,
-        Capacity,
-        InvalidAdmission,
-        Deadline,
-        UnknownRequest,
-        UnknownCircuit,
-        WrongPeer,
-        UnexpectedOpcode,
-        FlowControl,
-        ByteLimit,
-        NoQueuedData,
-        UnknownAction,
-        CorruptSnapshot,
-        Short,
-        LedgerFull,
+        (InvalidConfig, "invalid HNSR runtime configuration"),
+        (InvalidSession, "invalid or reused HNSR runtime session"),
+        (InvalidPeer, "invalid HNSR outer peer identity"),
+        (StaleGeneration, "stale HNSR runtime generation"),
+        (GenerationExhausted, "HNSR runtime generation exhausted"),
+        (ClockRollback, "HNSR trusted clock rollback detected"),
+        (Randomness, "HNSR runtime randomness unavailable"),
+        (Disabled, "HNSR runtime role is disabled"),
+        (Capacity, "HNSR runtime capacity reached"),
+        (InvalidAdmission, "invalid HNSR circuit admission"),
+        (Deadline, "invalid or expired HNSR circuit deadline"),
+        (UnknownRequest, "unknown HNSR circuit request"),
+        (UnknownCircuit, "unknown HNSR circuit"),
+        (WrongPeer, "HNSR packet arrived from the wrong outer peer"),
+        (UnexpectedOpcode, "unexpected HNSR runtime opcode"),
+        (FlowControl, "HNSR circuit flow-control bound exceeded"),
+        (ByteLimit, "HNSR circuit byte bound exceeded"),
+        (NoQueuedData, "no queued HNSR requester data"),
+        (UnknownAction, "unknown HNSR queued action"),
+        (CorruptSnapshot, "corrupt HNSR runtime snapshot"),
+        (Short, "HNSR relay tables or output words too few"),
+        (LedgerFull, "HNSR reservation ledger is full"),
     ]
 };
 
 impl HnsrRuntimeError {
     /// Document 01's number: 1 to 23.
     pub fn number(self) -> u32 {
-        match self {
-            Self::Protocol(_) => 1,
-            plain => 2 + PLAIN.iter().take_while(|other| **other != plain).count() as u32,
-        }
-    }
-
-    /// The words, but for a cause.
-    fn text(self) -> &'static str {
-        match self {
-            Self::Protocol(_) => "invalid HNSR packet",
-            Self::InvalidConfig => "invalid HNSR runtime configuration",
-            Self::InvalidSession => "invalid or reused HNSR runtime session",
-            Self::InvalidPeer => "invalid HNSR outer peer identity",
-            Self::StaleGeneration => "stale HNSR runtime generation",
-            Self::GenerationExhausted => "HNSR runtime generation exhausted",
-            Self::ClockRollback => "HNSR trusted clock rollback detected",
-            Self::Randomness => "HNSR runtime randomness unavailable",
-            Self::Disabled => "HNSR runtime role is disabled",
-            Self::Capacity => "HNSR runtime capacity reached",
-            Self::InvalidAdmission => "invalid HNSR circuit admission",
-            Self::Deadline => "invalid or expired HNSR circuit deadline",
-            Self::UnknownRequest => "unknown HNSR circuit request",
-            Self::UnknownCircuit => "unknown HNSR circuit",
-            Self::WrongPeer => "HNSR packet arrived from the wrong outer peer",
-            Self::UnexpectedOpcode => "unexpected HNSR runtime opcode",
-            Self::FlowControl => "HNSR circuit flow-control bound exceeded",
-            Self::ByteLimit => "HNSR circuit byte bound exceeded",
-            Self::NoQueuedData => "no queued HNSR requester data",
-            Self::UnknownAction => "unknown HNSR queued action",
-            Self::CorruptSnapshot => "corrupt HNSR runtime snapshot",
-            Self::Short => "HNSR relay tables or output words too few",
-            Self::LedgerFull => "HNSR reservation ledger is full",
-        }
+        let place = PLAIN.iter().position(|(plain, _)| *plain == self);
+        place.map_or(1, |place| place as u32 + 2)
     }
 }
 
@@ -127,7 +97,7 @@ impl Display for HnsrRuntimeError {
     fn fmt(&self, f: &mut Formatter<'_>) -> fmt::Result {
         match self {
             Self::Protocol(cause) => cause.fmt(f),
-            plain => f.write_str(plain.text()),
+            plain => f.write_str(PLAIN[plain.number() as usize - 2].1),
         }
     }
 }
@@ -142,11 +112,10 @@ impl From<ProtocolError> for HnsrRuntimeError {
 
 /// The archive's answer by its name: 0 is taken, and a 1 has a cause.
 pub(crate) fn answered(answer: u32, cause: Cause) -> Result<(), HnsrRuntimeError> {
-    let number = answer as usize;
-    match (number, checked(cause)) {
+    match (answer, checked(cause)) {
         (0, Ok(())) => Ok(()),
         (1, Err(cause)) => Err(cause.into()),
-        (2.., Ok(())) if number - 2 < PLAIN.len() => Err(PLAIN[number - 2]),
+        (2..=23, Ok(())) => Err(PLAIN[answer as usize - 2].0),
         unknown => panic!("liblekchnam.a is of another version: answer {unknown:?}"),
     }
 }

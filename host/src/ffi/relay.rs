@@ -164,9 +164,9 @@ extern "C" {
 /// Calls a function whose first parameters are lent slices, each as its pointer and its length.
 macro_rules! call {
     ($function:ident, lent $($slice:expr),+; $($rest:expr),+) => {
-        // SAFETY: pointer and length are of one slice that is borrowed for writing, no two slices overlap, and no function keeps a pointer.
-        // The other arguments are numbers, or slices that are only read. Every record, word, byte and number is allowed: the functions ask
-        // nothing of their caller.
+        // SAFETY: pointer and length are of one slice that is borrowed for writing, no two slices overlap, and no function keeps
+        // a pointer. The other arguments are numbers, or slices that are only read. Every record, word, byte and number is
+        // allowed: the functions ask nothing of their caller.
         unsafe { $function($($slice.as_mut_ptr(), $slice.len(),)+ $($rest),+) }
     };
 }

@@ -6,8 +6,8 @@ use crate::route::{words_of, HEAD_WORDS};
 /// The output words that [`handle`](super::handle) needs: a route with the longest DATA.
 pub const HANDLE_WORDS: usize = HEAD_WORDS + words_of(16_384);
 
-/// The output words that [`acknowledge`](super::acknowledge) needs, and a revoking call for each used pending record and circuit: two routes
-/// with the longest message of the relay's own, which is 30 bytes.
+/// The output words that [`acknowledge`](super::acknowledge) needs, and a revoking call for each used pending record and circuit:
+/// two routes with the longest message of the relay's own, which is 30 bytes.
 pub const CLOSING_WORDS: usize = 2 * (HEAD_WORDS + words_of(30));
 
 /// The tables that a call is lent. A call may be lent any records, also such as no relay would leave.

@@ -1,8 +1,8 @@
-//! Links the archive of the proved crate, or says which command makes it.
+//! Links the archive of the proved crate, or says which command makes it. `cargo check` and `cargo doc` do without it.
 use std::env;
 use std::path::PathBuf;
 
-const LIBRARY: &str = "hnsr_body";
+const LIBRARY: &str = "lekchnam";
 /// The folder that has the archive, seen from this one; if it is not set, where `rt staticlib` writes.
 const SETTING: &str = "LEKCHNAM_STATICLIB";
 
@@ -11,11 +11,10 @@ fn main() {
     let folder = folder();
     let archive = folder.join(format!("lib{LIBRARY}.a"));
     println!("cargo::rerun-if-changed={}", archive.display());
-    if archive.is_file() {
-        println!("cargo::rustc-link-search=native={}", folder.display());
-        println!("cargo::rustc-link-lib=static={LIBRARY}");
-    } else {
-        println!("cargo::error={} is not there: `rt staticlib {LIBRARY}` in the project's root makes it", archive.display());
+    println!("cargo::rustc-link-search=native={}", folder.display());
+    println!("cargo::rustc-link-lib=static={LIBRARY}");
+    if !archive.is_file() {
+        println!("cargo::warning={} is not there: `rt staticlib {LIBRARY}` in the project's root makes it", archive.display());
     }
 }
 

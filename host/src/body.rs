@@ -14,7 +14,7 @@
 //! );
 //! ```
 use crate::error::checked;
-use crate::ffi;
+use crate::ffi::body as ffi;
 
 pub use crate::error::{Invalid, ProtocolError};
 
@@ -77,18 +77,13 @@ impl From<ffi::OpenBody> for OpenBody {
     fn from(body: ffi::OpenBody) -> Self {
         Self {
             ticket_id: body.ticket_id,
-            reservation_id: reservation_bytes(body.reservation_id),
+            reservation_id: body.reservation_id.into(),
             endpoint_key: body.endpoint_key,
             profile: body.profile,
             requester_nonce: body.requester_nonce,
             initial_window: body.initial_window,
         }
     }
-}
-
-/// An id's bytes in the order of the wire.
-fn reservation_bytes(id: ffi::ReservationId) -> [u8; 16] {
-    (u128::from(id.high) << 64 | u128::from(id.low)).to_be_bytes()
 }
 
 /// INCOMING: the relay tells an endpoint of an OPEN.

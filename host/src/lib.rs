@@ -1,9 +1,75 @@
 //! What a Rust host calls of the proved relay.
 //!
+//! [`OpaqueRelayRuntime`] relays circuits between two peers. The host owns connections, clock and reservations: it hands packets
+//! in, sends the routes that come out, and acknowledges each. Types and words are those of hns-hnsr-protocol, so that one takes
+//! the other's place.
+//!
+//! ```
+//! use lekchnam_host::{
+//!     Admission, Grant, HnsrOpcode, HnsrPacket, HnsrPeerId, HnsrRuntimeError, OpaqueRelayConfig, OpaqueRelayRuntime,
+//! };
+//!
+//! let (supplier, merchant) = (HnsrPeerId::new("supplier")?, HnsrPeerId::new("merchant")?);
+//! let mut relay = OpaqueRelayRuntime::new([1; 16], 1, OpaqueRelayConfig::default(), 100)?;
+//!
+//! // The supplier asks for a circuit by the merchant's reservation, and the host finds it in its book.
+//! let window = 65_536_u32.to_le_bytes();
+//! let body = [&[1; 32][..], &[2; 16], &[3; 33], &[1, 0], &[4; 16], &window].concat();
+//! let open = HnsrPacket::new(HnsrOpcode::Open, *b"request1", &body)?;
+//! let grant = Grant {
+//!     endpoint: merchant.as_bytes(),
+//!     reservation_id: [2; 16],
+//!     expires_at: 3_700,
+//!     max_active_circuits: 1,
+//!     max_bytes_per_circuit: 1 << 20,
+//!     max_total_bytes: 1 << 20,
+//! };
+//! let routes = relay.handle(&Admission::Granted(grant), &supplier, &open, 100)?;
+//!
+//! // One route comes out: INCOMING, to the merchant. It counts until it is acknowledged.
+//! let incoming = routes.iter().next().expect("one route");
+//! let (number, circuit) = (incoming.action_id, incoming.route.packet.context_id);
+//! assert_eq!(incoming.route.destination, merchant);
+//! assert_eq!(relay.status().queued_actions, 1);
+//! relay.acknowledge(number, true)?;
+//!
+//! // The merchant accepts, and the supplier's bytes pass as they are.
+//! let body = [&window[..], &[5; 16]].concat();
+//! relay.handle(&Admission::Refused, &merchant, &HnsrPacket::new(HnsrOpcode::Accept, circuit, &body)?, 101)?;
+//! let data = HnsrPacket::new(HnsrOpcode::Data, circuit, b"invoice 1")?;
+//! let routes = relay.handle(&Admission::Refused, &supplier, &data, 101)?;
+//! let arrives = routes.iter().next().expect("one route");
+//! assert_eq!((arrives.route.destination, arrives.route.packet), (merchant, data));
+//! assert_eq!(relay.status().queued_bytes, 9);
+//! # Ok::<(), HnsrRuntimeError>(())
+//! ```
+//!
+//! [`lent`] has the same calls over tables that the host keeps itself, and [`body`] the checks of the messages' bodies.
+//!
 //! Proved is what stands behind the calls, in the crates of the project. This crate is not: it declares the C functions of the
-//! archive that `rt staticlib` writes, and gives them the types and the words of hns-hnsr-protocol.
-#![deny(missing_docs)]
+//! archive that `rt staticlib lekchnam` writes, and gives them these types. It runs on x86-64, as the archive does.
+#![deny(missing_docs, unsafe_code)]
 
+mod admission;
 pub mod body;
+mod config;
 mod error;
+#[allow(unsafe_code)]
 mod ffi;
+pub mod lent;
+mod packet;
+mod peer;
+mod random;
+mod relay;
+mod route;
+mod status;
+
+pub use admission::{Admission, Grant};
+pub use config::OpaqueRelayConfig;
+pub use error::HnsrRuntimeError;
+pub use packet::{HnsrOpcode, HnsrPacket};
+pub use peer::{HnsrPeerId, MAXIMUM_PEER};
+pub use random::{OsRandom, RandomSource, RANDOM_BYTES};
+pub use relay::OpaqueRelayRuntime;
+pub use route::{HnsrActionId, HnsrRoute, QueuedHnsrRoute, RouteIter, Routes};
+pub use status::HnsrRuntimeStatus;

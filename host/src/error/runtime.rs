@@ -1,0 +1,121 @@
+//! Why a call is refused, by document 01's numbers and the words of hns-hnsr-protocol.
+use super::{checked, ProtocolError};
+use crate::ffi::Cause;
+use std::error::Error;
+use std::fmt::{self, Display, Formatter};
+
+/// Why a call is refused. The relay is unchanged by a refusal but where document 01 says otherwise: the clock may have moved, for
+/// one.
+#[derive(Clone, Copy, Debug, Eq, Hash, PartialEq)]
+pub enum HnsrRuntimeError {
+    /// 1: a packet or its body is wrong, or the OPEN is not admitted.
+    Protocol(ProtocolError),
+    /// 2: a limit of the configuration is out of its bounds.
+    InvalidConfig,
+    /// 3: the session or the generation is zero.
+    InvalidSession,
+    /// 4: a name does not have 1 to 128 bytes.
+    InvalidPeer,
+    /// 5: the relay has another generation.
+    StaleGeneration,
+    /// 6: a generation or a route's number cannot grow.
+    GenerationExhausted,
+    /// 7: the time is behind the latest one that was seen.
+    ClockRollback,
+    /// 8: no id could be drawn.
+    Randomness,
+    /// 9: the relay is switched off.
+    Disabled,
+    /// 10: a limit is reached.
+    Capacity,
+    /// 11: what was granted no longer holds, or two OPENs fit a CLOSE.
+    InvalidAdmission,
+    /// 12: a deadline would pass 2^64 - 1.
+    Deadline,
+    /// 13: no OPEN waits under this id.
+    UnknownRequest,
+    /// 14: no circuit has this id.
+    UnknownCircuit,
+    /// 15: the sender is not a side of it.
+    WrongPeer,
+    /// 16: the relay does not take such packets.
+    UnexpectedOpcode,
+    /// 17: the sender's credit or the queue does not reach.
+    FlowControl,
+    /// 18: the circuit or the reservation has no such bytes left.
+    ByteLimit,
+    /// 19: the requester's end in hns-hnsr-protocol has it; no call here answers it.
+    NoQueuedData,
+    /// 20: no such route is unacknowledged.
+    UnknownAction,
+    /// 21: the snapshots of hns-hnsr-protocol have it; no call here answers it.
+    CorruptSnapshot,
+    /// 22, added: the tables or the output words are too few.
+    Short,
+    /// 23, added: the ledger is full.
+    LedgerFull,
+}
+
+/// Those without a cause, by number from 2 on, with their words.
+const PLAIN: [(HnsrRuntimeError, &str); 22] = {
+    use HnsrRuntimeError::*;
+    [
+        (InvalidConfig, "invalid HNSR runtime configuration"),
+        (InvalidSession, "invalid or reused HNSR runtime session"),
+        (InvalidPeer, "invalid HNSR outer peer identity"),
+        (StaleGeneration, "stale HNSR runtime generation"),
+        (GenerationExhausted, "HNSR runtime generation exhausted"),
+        (ClockRollback, "HNSR trusted clock rollback detected"),
+        (Randomness, "HNSR runtime randomness unavailable"),
+        (Disabled, "HNSR runtime role is disabled"),
+        (Capacity, "HNSR runtime capacity reached"),
+        (InvalidAdmission, "invalid HNSR circuit admission"),
+        (Deadline, "invalid or expired HNSR circuit deadline"),
+        (UnknownRequest, "unknown HNSR circuit request"),
+        (UnknownCircuit, "unknown HNSR circuit"),
+        (WrongPeer, "HNSR packet arrived from the wrong outer peer"),
+        (UnexpectedOpcode, "unexpected HNSR runtime opcode"),
+        (FlowControl, "HNSR circuit flow-control bound exceeded"),
+        (ByteLimit, "HNSR circuit byte bound exceeded"),
+        (NoQueuedData, "no queued HNSR requester data"),
+        (UnknownAction, "unknown HNSR queued action"),
+        (CorruptSnapshot, "corrupt HNSR runtime snapshot"),
+        (Short, "HNSR relay tables or output words too few"),
+        (LedgerFull, "HNSR reservation ledger is full"),
+    ]
+};
+
+impl HnsrRuntimeError {
+    /// Document 01's number: 1 to 23.
+    pub fn number(self) -> u32 {
+        let place = PLAIN.iter().position(|(plain, _)| *plain == self);
+        place.map_or(1, |place| place as u32 + 2)
+    }
+}
+
+impl Display for HnsrRuntimeError {
+    fn fmt(&self, f: &mut Formatter<'_>) -> fmt::Result {
+        match self {
+            Self::Protocol(cause) => cause.fmt(f),
+            plain => f.write_str(PLAIN[plain.number() as usize - 2].1),
+        }
+    }
+}
+
+impl Error for HnsrRuntimeError {}
+
+impl From<ProtocolError> for HnsrRuntimeError {
+    fn from(cause: ProtocolError) -> Self {
+        Self::Protocol(cause)
+    }
+}
+
+/// The archive's answer by its name: 0 is taken, and a 1 has a cause.
+pub(crate) fn answered(answer: u32, cause: Cause) -> Result<(), HnsrRuntimeError> {
+    match (answer, checked(cause)) {
+        (0, Ok(())) => Ok(()),
+        (1, Err(cause)) => Err(cause.into()),
+        (2..=23, Ok(())) => Err(PLAIN[answer as usize - 2].0),
+        unknown => panic!("liblekchnam.a is of another version: answer {unknown:?}"),
+    }
+}

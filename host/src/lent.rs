@@ -1,0 +1,142 @@
+//! The calls over tables and output words that the host keeps itself and lends for each call.
+//!
+//! Every call takes any records, any header, any words and any bytes, and answers with how many output words it wrote or with a
+//! refusal. [`Routes`](crate::Routes) reads the words. What a refusal leaves is document 01's: the output always, and the tables
+//! and the header but where it says otherwise.
+//!
+//! ```
+//! use lekchnam_host::lent::{self, Tables};
+//! use lekchnam_host::{HnsrRuntimeError, OpaqueRelayConfig};
+//!
+//! let config = OpaqueRelayConfig { maximum_pending: 2, maximum_circuits: 2, ..OpaqueRelayConfig::default() };
+//! let mut tables = Tables::new(&config, 1);
+//! let mut out = vec![0; tables.most_words()];
+//! let mut runtime = lent::new(&mut tables, [1; 16], 1, config, 100)?;
+//! assert_eq!(lent::expire(&mut tables, &mut out, &mut runtime, 101), Ok(0));
+//! assert_eq!(lent::expire(&mut tables, &mut out, &mut runtime, 100), Err(HnsrRuntimeError::ClockRollback));
+//! # Ok::<(), HnsrRuntimeError>(())
+//! ```
+mod records;
+mod tables;
+
+use crate::config::OpaqueRelayConfig;
+use crate::error::{answered, HnsrRuntimeError};
+use crate::ffi::relay as ffi;
+use crate::ffi::Cause;
+use crate::route::HnsrActionId;
+use crate::status::HnsrRuntimeStatus;
+
+pub use records::{
+    InflightAction, RelayCircuit, RelayPacket, RelayPending, RelayTicket, ReservationId, ReservationUsage, Runtime,
+    RuntimeCounters, StoredPeer,
+};
+pub use tables::{Tables, CLOSING_WORDS, HANDLE_WORDS};
+
+/// A packet, and what the host hands over with it.
+#[derive(Clone, Copy, Debug, Default, Eq, PartialEq)]
+pub struct Packet<'a> {
+    /// All that has a fixed length.
+    pub head: RelayPacket,
+    /// The sender's name.
+    pub source: &'a [u8],
+    /// The body.
+    pub body: &'a [u8],
+    /// Of an OPEN that is admitted: the endpoint's name.
+    pub endpoint: &'a [u8],
+    /// Of an OPEN: random bytes, taken eight at a time. [`RANDOM_BYTES`](crate::RANDOM_BYTES) never run out.
+    pub random: &'a [u8],
+}
+
+/// Makes a relay: marks every place unused, and gives its header. A refusal leaves the tables.
+pub fn new(
+    tables: &mut Tables,
+    session: [u8; 16],
+    generation: u64,
+    config: OpaqueRelayConfig,
+    now: u64,
+) -> Result<Runtime, HnsrRuntimeError> {
+    let reply = ffi::new(tables, session, generation, config, now);
+    answered(reply.answer, reply.cause).map(|()| reply.runtime)
+}
+
+/// Takes a packet.
+pub fn handle(
+    tables: &mut Tables,
+    out: &mut [u32],
+    runtime: &mut Runtime,
+    packet: &Packet<'_>,
+) -> Result<usize, HnsrRuntimeError> {
+    let reply = ffi::handle(tables, out, *runtime, packet);
+    kept(runtime, reply)
+}
+
+/// Takes the word that a route was delivered, or was not.
+pub fn acknowledge(
+    tables: &mut Tables,
+    out: &mut [u32],
+    runtime: &mut Runtime,
+    action_id: HnsrActionId,
+    delivered: bool,
+) -> Result<usize, HnsrRuntimeError> {
+    let reply = ffi::acknowledge(tables, out, *runtime, action_id, delivered);
+    kept(runtime, reply)
+}
+
+/// Ends all that a peer is a side of.
+pub fn disconnect(tables: &mut Tables, out: &mut [u32], runtime: &mut Runtime, peer: &[u8]) -> Result<usize, HnsrRuntimeError> {
+    let reply = ffi::disconnect(tables, out, *runtime, peer);
+    kept(runtime, reply)
+}
+
+/// Ends all that goes by a reservation.
+pub fn revoke_reservation(
+    tables: &mut Tables,
+    out: &mut [u32],
+    runtime: &mut Runtime,
+    reservation_id: ReservationId,
+) -> Result<usize, HnsrRuntimeError> {
+    let reply = ffi::revoke_reservation(tables, out, *runtime, reservation_id);
+    kept(runtime, reply)
+}
+
+/// Moves the clock and ends all whose time is over.
+pub fn expire(tables: &mut Tables, out: &mut [u32], runtime: &mut Runtime, now: u64) -> Result<usize, HnsrRuntimeError> {
+    let reply = ffi::expire(tables, out, *runtime, now);
+    kept(runtime, reply)
+}
+
+/// Switches the relay on or off.
+pub fn replace_enabled(
+    tables: &mut Tables,
+    out: &mut [u32],
+    runtime: &mut Runtime,
+    expected_generation: u64,
+    enabled: bool,
+) -> Result<usize, HnsrRuntimeError> {
+    let reply = ffi::replace_enabled(tables, out, *runtime, expected_generation, enabled);
+    kept(runtime, reply)
+}
+
+/// Moves the clock.
+pub fn observe_time(runtime: &mut Runtime, now: u64) -> Result<(), HnsrRuntimeError> {
+    let reply = ffi::observe_time(*runtime, now);
+    kept(runtime, reply).map(|_| ())
+}
+
+/// What the relay tells of itself.
+pub fn status(tables: &Tables, runtime: &Runtime) -> Result<HnsrRuntimeStatus, HnsrRuntimeError> {
+    let reply = ffi::status(tables, *runtime);
+    answered(reply.answer, Cause::NONE).map(|()| reply.status)
+}
+
+/// When [`expire`] has work: the earliest deadline of a pending record or end of a circuit.
+pub fn next_due(tables: &Tables, runtime: &Runtime) -> Result<Option<u64>, HnsrRuntimeError> {
+    let reply = ffi::next_due(tables, *runtime);
+    answered(reply.answer, Cause::NONE).map(|()| reply.some.then_some(reply.due))
+}
+
+/// The header as the call leaves it, refused or not, and the answer.
+fn kept(runtime: &mut Runtime, reply: ffi::RelayReply) -> Result<usize, HnsrRuntimeError> {
+    *runtime = reply.runtime;
+    answered(reply.answer, reply.cause).map(|()| reply.words)
+}

@@ -1,0 +1,115 @@
+//! A packet: opcode, context and body.
+use crate::body::{validate_packet, ProtocolError};
+
+/// The messages, each at the place that its number is.
+const NAMED: [HnsrOpcode; 21] = {
+    use HnsrOpcode::*;
+    [
+        FindNode,
+        Nodes,
+        PutRoute,
+        PutResult,
+        GetRoute,
+        Routes,
+        SampleRoutes,
+        Reserve,
+        Offer,
+        Confirm,
+        Confirmed,
+        Renew,
+        Withdraw,
+        Open,
+        Incoming,
+        Accept,
+        Opened,
+        Data,
+        Window,
+        Close,
+        Error,
+    ]
+};
+
+/// What a packet is.
+///
+/// The relay takes OPEN, ACCEPT, DATA, WINDOW, CLOSE and ERROR. It sends INCOMING, OPENED, DATA, WINDOW, CLOSE and ERROR.
+#[derive(Clone, Copy, Debug, Eq, Hash, PartialEq)]
+pub enum HnsrOpcode {
+    /// 0, of the search for routes.
+    FindNode,
+    /// 1, of the search for routes.
+    Nodes,
+    /// 2, of the search for routes.
+    PutRoute,
+    /// 3, of the search for routes.
+    PutResult,
+    /// 4, of the search for routes.
+    GetRoute,
+    /// 5, of the search for routes.
+    Routes,
+    /// 6, of the search for routes.
+    SampleRoutes,
+    /// 7, of reservations.
+    Reserve,
+    /// 8, of reservations.
+    Offer,
+    /// 9, of reservations.
+    Confirm,
+    /// 10, of reservations.
+    Confirmed,
+    /// 11, of reservations.
+    Renew,
+    /// 12, of reservations.
+    Withdraw,
+    /// 13: a requester asks for a circuit.
+    Open,
+    /// 14: the relay tells an endpoint of an OPEN.
+    Incoming,
+    /// 15: an endpoint takes a circuit.
+    Accept,
+    /// 16: the relay tells the requester of an ACCEPT.
+    Opened,
+    /// 17: bytes for the other side.
+    Data,
+    /// 18: credit for the other side.
+    Window,
+    /// 19: one side, or the relay, ends a circuit or an OPEN.
+    Close,
+    /// 20: the same, as something went wrong.
+    Error,
+    /// A number from 21 on. Such a packet is refused with 16.
+    Unknown(u8),
+}
+
+impl From<u8> for HnsrOpcode {
+    fn from(number: u8) -> Self {
+        NAMED.get(usize::from(number)).copied().unwrap_or(Self::Unknown(number))
+    }
+}
+
+impl From<HnsrOpcode> for u8 {
+    fn from(opcode: HnsrOpcode) -> Self {
+        match opcode {
+            HnsrOpcode::Unknown(number) => number,
+            named => NAMED.iter().take_while(|other| **other != named).count() as u8,
+        }
+    }
+}
+
+/// One packet. Its body is lent.
+#[derive(Clone, Copy, Debug, Eq, PartialEq)]
+pub struct HnsrPacket<'a> {
+    /// What it is.
+    pub opcode: HnsrOpcode,
+    /// The circuit that it is about, or the request.
+    pub context_id: [u8; 8],
+    /// The rest.
+    pub body: &'a [u8],
+}
+
+impl<'a> HnsrPacket<'a> {
+    /// A packet that is not too large and has a context where it must.
+    pub fn new(opcode: HnsrOpcode, context_id: [u8; 8], body: &'a [u8]) -> Result<Self, ProtocolError> {
+        validate_packet(opcode.into(), context_id, body.len())?;
+        Ok(Self { opcode, context_id, body })
+    }
+}

@@ -1,0 +1,177 @@
+//! A relay that owns its tables, its output words and its random source.
+use crate::admission::Admission;
+use crate::config::OpaqueRelayConfig;
+use crate::error::HnsrRuntimeError;
+use crate::lent::{self, Packet, RelayPacket, Runtime, Tables};
+use crate::packet::{HnsrOpcode, HnsrPacket};
+use crate::peer::HnsrPeerId;
+use crate::random::{OsRandom, RandomSource, RANDOM_BYTES};
+use crate::route::{HnsrActionId, Routes};
+use crate::status::HnsrRuntimeStatus;
+use std::fmt::{self, Debug, Formatter};
+
+/// A relay of circuits between two peers. It does not read their DATA, and it owns no socket and no clock.
+///
+/// Each route that a call hands out counts until [`acknowledge`](Self::acknowledge) is called with its number. Memory is taken
+/// once, by `new`: for tables of as many places as the configuration allows, and for output words that are enough for every call.
+/// So no call is ever refused for want of places or words (22).
+pub struct OpaqueRelayRuntime<Random = OsRandom> {
+    runtime: Runtime,
+    tables: Tables,
+    out: Vec<u32>,
+    /// How many words of `out` are the last call's.
+    words: usize,
+    random: Random,
+}
+
+impl OpaqueRelayRuntime {
+    /// A new relay, switched on, that draws ids from the operating system and has [`OpaqueRelayConfig::ledger_places`] in its
+    /// ledger.
+    pub fn new(
+        session: [u8; 16],
+        generation: u64,
+        config: OpaqueRelayConfig,
+        trusted_now: u64,
+    ) -> Result<Self, HnsrRuntimeError> {
+        Self::new_with(session, generation, config, trusted_now, config.ledger_places(), OsRandom::default())
+    }
+}
+
+impl<Random: RandomSource> OpaqueRelayRuntime<Random> {
+    /// A new relay, switched on. The ledger needs a place for each reservation that OPENs go by and that has not ended.
+    pub fn new_with(
+        session: [u8; 16],
+        generation: u64,
+        config: OpaqueRelayConfig,
+        trusted_now: u64,
+        ledger_places: usize,
+        random: Random,
+    ) -> Result<Self, HnsrRuntimeError> {
+        // limits that are out of bounds take no memory: the call refuses them before it looks at the tables
+        let mut tables = config.validate().map_or_else(|_| Tables::default(), |config| Tables::new(&config, ledger_places));
+        let runtime = lent::new(&mut tables, session, generation, config, trusted_now)?;
+        Self::from_parts(runtime, tables, random)
+    }
+
+    /// A relay that goes on from stored parts, whatever they hold; 22 where a table has fewer places than the configuration
+    /// allows.
+    pub fn from_parts(runtime: Runtime, tables: Tables, random: Random) -> Result<Self, HnsrRuntimeError> {
+        lent::status(&tables, &runtime)?;
+        let out = vec![0; tables.most_words()];
+        Ok(Self { runtime, tables, out, words: 0, random })
+    }
+
+    /// Takes a packet of the peer `source`. Of an OPEN the host says whether it is admitted.
+    pub fn handle(
+        &mut self,
+        admission: &Admission<'_>,
+        source: &HnsrPeerId,
+        packet: &HnsrPacket<'_>,
+        now: u64,
+    ) -> Result<Routes<'_>, HnsrRuntimeError> {
+        let mut random = [0; RANDOM_BYTES];
+        let supplied = match packet.opcode {
+            HnsrOpcode::Open => self.random.supply(&mut random).min(RANDOM_BYTES),
+            _ => 0,
+        };
+        let (key_valid, grant) = admission.parts();
+        let granted = grant.unwrap_or_default();
+        let head = RelayPacket {
+            opcode: packet.opcode.into(),
+            context_id: u64::from_be_bytes(packet.context_id),
+            now,
+            key_valid,
+            admitted: grant.is_some(),
+            ticket: granted.ticket(),
+        };
+        let (source, endpoint) = (source.as_bytes(), granted.endpoint);
+        let packet = Packet { head, source, body: packet.body, endpoint, random: &random[..supplied] };
+        let answer = lent::handle(&mut self.tables, &mut self.out, &mut self.runtime, &packet);
+        self.routed(answer)
+    }
+
+    /// Takes the word that a route was delivered, or was not: then what it was for ends.
+    pub fn acknowledge(&mut self, action_id: HnsrActionId, delivered: bool) -> Result<Routes<'_>, HnsrRuntimeError> {
+        let answer = lent::acknowledge(&mut self.tables, &mut self.out, &mut self.runtime, action_id, delivered);
+        self.routed(answer)
+    }
+
+    /// Ends all that a peer is a side of. This cannot be refused: places and words are enough, and a peer has a name.
+    pub fn disconnect(&mut self, peer: &HnsrPeerId) -> Routes<'_> {
+        let answer = lent::disconnect(&mut self.tables, &mut self.out, &mut self.runtime, peer.as_bytes());
+        self.routed(answer).unwrap_or_default()
+    }
+
+    /// Ends all that goes by a reservation. This cannot be refused: places and words are enough.
+    pub fn revoke_reservation(&mut self, reservation_id: [u8; 16]) -> Routes<'_> {
+        let answer = lent::revoke_reservation(&mut self.tables, &mut self.out, &mut self.runtime, reservation_id.into());
+        self.routed(answer).unwrap_or_default()
+    }
+
+    /// Moves the clock and ends all whose time is over. [`next_due`](Self::next_due) says when there is something to end.
+    pub fn expire(&mut self, now: u64) -> Result<Routes<'_>, HnsrRuntimeError> {
+        let answer = lent::expire(&mut self.tables, &mut self.out, &mut self.runtime, now);
+        self.routed(answer)
+    }
+
+    /// Moves the clock.
+    pub fn observe_time(&mut self, trusted_now: u64) -> Result<(), HnsrRuntimeError> {
+        let answer = lent::observe_time(&mut self.runtime, trusted_now);
+        self.routed(answer.map(|()| 0)).map(|_| ())
+    }
+
+    /// Switches the relay on or off. A change raises the generation and drops every unacknowledged route; off ends all.
+    pub fn replace_enabled(&mut self, expected_generation: u64, enabled: bool) -> Result<Routes<'_>, HnsrRuntimeError> {
+        let answer = lent::replace_enabled(&mut self.tables, &mut self.out, &mut self.runtime, expected_generation, enabled);
+        self.routed(answer)
+    }
+
+    /// The routes of a call that was taken.
+    fn routed(&mut self, answer: Result<usize, HnsrRuntimeError>) -> Result<Routes<'_>, HnsrRuntimeError> {
+        self.words = answer.unwrap_or(0);
+        answer.map(|_| self.routes())
+    }
+}
+
+impl<Random> OpaqueRelayRuntime<Random> {
+    /// What the relay tells of itself.
+    pub fn status(&self) -> HnsrRuntimeStatus {
+        lent::status(&self.tables, &self.runtime).expect("the tables have the places that they need")
+    }
+
+    /// When [`expire`](Self::expire) has work: the earliest deadline of a pending record or end of a circuit.
+    pub fn next_due(&self) -> Option<u64> {
+        lent::next_due(&self.tables, &self.runtime).expect("the tables have the places that they need")
+    }
+
+    /// The routes of the last call; none if it was refused.
+    pub fn routes(&self) -> Routes<'_> {
+        Routes::new(self.words())
+    }
+
+    /// The output words of the last call; none if it was refused.
+    pub fn words(&self) -> &[u32] {
+        &self.out[..self.words]
+    }
+
+    /// What is to be stored beside the tables.
+    pub fn runtime(&self) -> &Runtime {
+        &self.runtime
+    }
+
+    /// The tables.
+    pub fn tables(&self) -> &Tables {
+        &self.tables
+    }
+
+    /// The parts to be stored, for [`from_parts`](Self::from_parts).
+    pub fn into_parts(self) -> (Runtime, Tables) {
+        (self.runtime, self.tables)
+    }
+}
+
+impl<Random> Debug for OpaqueRelayRuntime<Random> {
+    fn fmt(&self, f: &mut Formatter<'_>) -> fmt::Result {
+        f.debug_struct("OpaqueRelayRuntime").field("runtime", &self.runtime).finish_non_exhaustive()
+    }
+}

@@ -1,0 +1,152 @@
+//! The routes that a call hands out, read from its output words.
+use crate::ffi::bytes_of;
+use crate::packet::HnsrPacket;
+use crate::peer::{HnsrPeerId, MAXIMUM_PEER};
+use std::fmt::{self, Debug, Formatter};
+use std::iter::FusedIterator;
+
+// Document 01, "Output words": a kind word with the name's length; generation and sequence, high word first; the name; a kind
+// word with the opcode and the body's length; the context; and the body behind these.
+const GENERATION: usize = 1;
+const SEQUENCE: usize = GENERATION + 2;
+const NAME: usize = SEQUENCE + 2;
+const PACKET: usize = NAME + words_of(MAXIMUM_PEER);
+const CONTEXT: usize = PACKET + 1;
+
+/// Words of a route in front of its body.
+pub(crate) const HEAD_WORDS: usize = CONTEXT + 2;
+
+/// How many words so many bytes take.
+pub(crate) const fn words_of(bytes: usize) -> usize {
+    bytes.div_ceil(4)
+}
+
+/// The number of a route, by which the host acknowledges it.
+#[derive(Clone, Copy, Debug, Eq, Hash, PartialEq)]
+pub struct HnsrActionId {
+    /// The relay's generation when it was written.
+    pub generation: u64,
+    /// Its number in that generation, from 1 on.
+    pub sequence: u64,
+}
+
+/// A packet and the peer that it goes to.
+#[derive(Clone, Copy, Debug, Eq, PartialEq)]
+pub struct HnsrRoute<'a> {
+    /// The peer.
+    pub destination: HnsrPeerId,
+    /// The packet.
+    pub packet: HnsrPacket<'a>,
+}
+
+/// A route that counts as unacknowledged until [`acknowledge`](crate::OpaqueRelayRuntime::acknowledge) is called with its number.
+#[derive(Clone, Copy, Debug, Eq, PartialEq)]
+pub struct QueuedHnsrRoute<'a> {
+    /// Its number.
+    pub action_id: HnsrActionId,
+    /// What to send, and where.
+    pub route: HnsrRoute<'a>,
+}
+
+/// The routes of a call, in the order in which they are to be sent. Nothing is copied: bodies are parts of the output words.
+#[derive(Clone, Copy, Default, Eq, PartialEq)]
+pub struct Routes<'a>(&'a [u32]);
+
+impl<'a> Routes<'a> {
+    /// The routes that stand in these words. Words that are no route end them.
+    pub fn new(words: &'a [u32]) -> Self {
+        Self(words)
+    }
+
+    /// The words.
+    pub fn words(&self) -> &'a [u32] {
+        self.0
+    }
+
+    /// Each in turn.
+    pub fn iter(&self) -> RouteIter<'a> {
+        RouteIter(self.0)
+    }
+
+    /// How many.
+    pub fn len(&self) -> usize {
+        self.iter().count()
+    }
+
+    /// Whether there is none.
+    pub fn is_empty(&self) -> bool {
+        self.iter().next().is_none()
+    }
+}
+
+impl Debug for Routes<'_> {
+    fn fmt(&self, f: &mut Formatter<'_>) -> fmt::Result {
+        f.debug_list().entries(self).finish()
+    }
+}
+
+impl<'a> IntoIterator for Routes<'a> {
+    type Item = QueuedHnsrRoute<'a>;
+    type IntoIter = RouteIter<'a>;
+
+    fn into_iter(self) -> RouteIter<'a> {
+        self.iter()
+    }
+}
+
+impl<'a> IntoIterator for &Routes<'a> {
+    type Item = QueuedHnsrRoute<'a>;
+    type IntoIter = RouteIter<'a>;
+
+    fn into_iter(self) -> RouteIter<'a> {
+        self.iter()
+    }
+}
+
+/// The routes of a call, one by one.
+#[derive(Clone, Debug)]
+pub struct RouteIter<'a>(&'a [u32]);
+
+impl<'a> Iterator for RouteIter<'a> {
+    type Item = QueuedHnsrRoute<'a>;
+
+    fn next(&mut self) -> Option<QueuedHnsrRoute<'a>> {
+        let (route, rest) = first_route(self.0)?;
+        self.0 = rest;
+        Some(route)
+    }
+}
+
+impl FusedIterator for RouteIter<'_> {}
+
+/// The route in front, and the words behind it.
+fn first_route(words: &[u32]) -> Option<(QueuedHnsrRoute<'_>, &[u32])> {
+    let (head, rest) = words.split_first_chunk::<HEAD_WORDS>()?;
+    if kind(head[0]) != 1 || kind(head[PACKET]) != 2 {
+        return None;
+    }
+    let length = (head[PACKET] & 0xffff) as usize;
+    let (body, rest) = rest.split_at_checked(words_of(length))?;
+    let context = &bytes_of(&head[CONTEXT..])[..8];
+    let packet = HnsrPacket {
+        opcode: ((head[PACKET] >> 16) as u8).into(),
+        context_id: context.try_into().expect("eight bytes"),
+        body: &bytes_of(body)[..length],
+    };
+    let action_id = HnsrActionId { generation: number(head, GENERATION), sequence: number(head, SEQUENCE) };
+    Some((QueuedHnsrRoute { action_id, route: HnsrRoute { destination: name(head), packet } }, rest))
+}
+
+/// A kind word's top four bits.
+fn kind(word: u32) -> u32 {
+    word >> 28
+}
+
+fn number(head: &[u32; HEAD_WORDS], at: usize) -> u64 {
+    u64::from(head[at]) << 32 | u64::from(head[at + 1])
+}
+
+fn name(head: &[u32; HEAD_WORDS]) -> HnsrPeerId {
+    let length = (head[0] & 0xff) as usize;
+    HnsrPeerId::padded(&bytes_of(&head[NAME..PACKET])[..length.min(MAXIMUM_PEER)])
+}

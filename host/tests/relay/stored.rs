@@ -1,0 +1,95 @@
+//! A relay that goes on from stored parts.
+use crate::bench::{circuit, grant, open, relay, restored, say, small, Counting, Relay, START};
+use lekchnam_host::lent::{self, Packet, RelayPacket, StoredPeer};
+use lekchnam_host::{HnsrActionId, HnsrOpcode, HnsrRuntimeError, Routes};
+
+/// Whether two relays give the same from here on: answers, words, header and tables.
+fn same(first: &mut Relay, second: &mut Relay, call: impl Fn(&mut Relay) -> Option<HnsrRuntimeError>) {
+    assert_eq!(call(first), call(second));
+    assert_eq!(first.words(), second.words());
+    assert_eq!(first.runtime(), second.runtime());
+    assert_eq!(first.tables(), second.tables());
+    assert_eq!((first.status(), first.next_due()), (second.status(), second.next_due()));
+}
+
+#[test]
+fn a_stored_relay_goes_on_as_if_nothing_had_been() {
+    let mut relay = relay(small());
+    let id = circuit(&mut relay, b"r", b"e", 1);
+    open(&mut relay, b"r", 2, grant(b"e")).expect("an OPEN");
+    say(&mut relay, b"r", HnsrOpcode::Data, id, b"on the way").expect("DATA");
+    let mut other = restored(&relay);
+    assert!(other.words().is_empty());
+
+    let action_id = HnsrActionId { generation: 1, sequence: 4 };
+    same(&mut relay, &mut other, |relay| relay.acknowledge(action_id, true).err());
+    same(&mut relay, &mut other, |relay| say(relay, b"e", HnsrOpcode::Data, id, b"an answer").err());
+    same(&mut relay, &mut other, |relay| open(relay, b"r", 3, grant(b"e")).err());
+    same(&mut relay, &mut other, |relay| relay.expire(START + 10).err());
+    same(&mut relay, &mut other, |relay| relay.acknowledge(action_id, true).err());
+    same(&mut relay, &mut other, |relay| relay.replace_enabled(1, false).err());
+    assert_eq!(relay.status().active_circuits + relay.status().pending_circuits, 0);
+}
+
+#[test]
+fn parts_with_too_few_places_are_refused() {
+    let (runtime, tables) = relay(small()).into_parts();
+    let mut shorter = [tables.clone(), tables.clone(), tables.clone()];
+    shorter[0].pending.pop();
+    shorter[1].circuits.pop();
+    shorter[2].inflight.pop();
+    for tables in shorter {
+        assert_eq!(Relay::from_parts(runtime, tables, Counting::default()).unwrap_err(), HnsrRuntimeError::Short);
+    }
+    assert!(Relay::from_parts(runtime, tables, Counting::default()).is_ok());
+}
+
+/// "a peer length over 128 reads as 128"; a name of no bytes is in a table only where a host put it there.
+#[test]
+fn names_in_tables_are_read_as_found() {
+    for (len, read) in [(0, 0), (1, 1), (128, 128), (129, 128), (usize::MAX, 128)] {
+        let mut relay = relay(small());
+        circuit(&mut relay, b"r", b"e", 1);
+        let (runtime, mut tables) = relay.into_parts();
+        tables.circuits[0].endpoint = StoredPeer { len, bytes: [7; 128] };
+        assert_eq!(tables.circuits[0].endpoint.as_bytes().len(), read);
+        let mut relay = Relay::from_parts(runtime, tables, Counting::default()).expect("stored parts");
+        let routes = relay.revoke_reservation([5; 16]);
+        let names: Vec<usize> = routes.iter().map(|queued| queued.route.destination.as_bytes().len()).collect();
+        assert_eq!(names, [1, read]);
+        // nobody is disconnected by a name of no bytes
+        let last = routes.iter().last().expect("two routes").route.destination;
+        assert!(relay.disconnect(&last).is_empty());
+    }
+}
+
+#[test]
+fn an_exhausted_sequence_refuses() {
+    let mut relay = relay(small());
+    let id = circuit(&mut relay, b"r", b"e", 1);
+    let (mut runtime, tables) = relay.into_parts();
+    runtime.next_action_sequence = u64::MAX;
+    let mut relay = Relay::from_parts(runtime, tables, Counting::default()).expect("stored parts");
+    assert_eq!(say(&mut relay, b"r", HnsrOpcode::Data, id, b"x").unwrap_err(), HnsrRuntimeError::GenerationExhausted);
+    assert_eq!(relay.revoke_reservation([5; 16]).len(), 0);
+    assert_eq!(relay.status().revoked_work, 1);
+}
+
+/// The calls over lent tables give what the relay gives that owns them.
+#[test]
+fn lent_and_owned_agree() {
+    let mut relay = relay(small());
+    let id = circuit(&mut relay, b"r", b"e", 1);
+    let (mut runtime, mut tables) = (*relay.runtime(), relay.tables().clone());
+    let mut out = vec![0xdead_beef; tables.most_words()];
+    let head = RelayPacket { opcode: 17, context_id: id, now: START, ..RelayPacket::default() };
+    let packet = Packet { head, source: b"r", body: b"hello", ..Packet::default() };
+    let words = lent::handle(&mut tables, &mut out, &mut runtime, &packet).expect("DATA");
+    assert!(out[words..].iter().all(|word| *word == 0xdead_beef), "words beyond stay");
+
+    let routes = say(&mut relay, b"r", HnsrOpcode::Data, id, b"hello").expect("DATA");
+    assert_eq!(Routes::new(&out[..words]), routes);
+    assert_eq!((relay.runtime(), relay.tables()), (&runtime, &tables));
+    assert_eq!(lent::status(&tables, &runtime), Ok(relay.status()));
+    assert_eq!(lent::next_due(&tables, &runtime), Ok(relay.next_due()));
+}

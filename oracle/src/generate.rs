@@ -3,13 +3,17 @@
 mod details;
 mod messages;
 mod open;
-mod rng;
+mod run;
 mod start;
 
-use crate::trace::{Call, Class, pattern};
-use crate::{Config, Oracle, Route, StateView};
+use crate::Route;
 pub use details::{invalid_details, valid_details};
-use rng::Rng;
+use lekchnam_traces::bytes::pattern;
+use lekchnam_traces::file::Places;
+use lekchnam_traces::rng::Rng;
+use lekchnam_traces::state::Kind;
+use lekchnam_traces::{Call, Class, Config, State};
+pub use run::{Event, Run};
 
 struct Reservation {
     id: [u8; 16],
@@ -104,15 +108,17 @@ impl Generator {
         }
     }
 
-    pub fn ledger_places(&self) -> usize {
-        self.reservations.len()
+    /// The table places that the trace needs.
+    pub fn places(&self) -> Places {
+        Places {
+            pending: self.config.maximum_pending,
+            circuits: self.config.maximum_circuits,
+            actions: self.config.maximum_inflight_actions,
+            ledger: self.reservations.len(),
+        }
     }
 
-    pub fn config(&self) -> Config {
-        self.config
-    }
-
-    fn tick(&mut self, state: &StateView) -> u64 {
+    fn tick(&mut self, state: &State) -> u64 {
         if self.now > u64::MAX - 1_000 && self.rng.chance(75) {
             return self.now;
         }
@@ -130,7 +136,7 @@ impl Generator {
     }
 
     /// To, or just before, the end of something.
-    fn tick_to_an_end(&mut self, state: &StateView) {
+    fn tick_to_an_end(&mut self, state: &State) {
         let near = |end: &u64| end.saturating_sub(self.now) < 40;
         let mut ends: Vec<u64> = state.pending.iter().map(|p| p.deadline).collect();
         ends.extend(state.circuits.iter().map(|c| c.expires_at).filter(near));
@@ -158,7 +164,7 @@ impl Generator {
         self.rng.chance(damage)
     }
 
-    fn handle(&mut self, state: &StateView, source: Vec<u8>, opcode: u8, context: [u8; 8], body: Vec<u8>) -> Call {
+    fn handle(&mut self, state: &State, source: Vec<u8>, opcode: u8, context: [u8; 8], body: Vec<u8>) -> Call {
         let now = self.tick(state);
         // with other opcodes than OPEN these are not looked at
         let random = if self.rng.chance(3) { self.rng.bytes::<8>().to_vec() } else { Vec::new() };
@@ -174,7 +180,7 @@ impl Generator {
         }
     }
 
-    fn acknowledge(&mut self, state: &StateView) -> Call {
+    fn acknowledge(&mut self, state: &State) -> Call {
         let (generation, sequence, percent) = if self.bad() || state.actions.is_empty() {
             let (generation, sequence) = self.stray_action(state);
             (generation, sequence, 70)
@@ -185,7 +191,7 @@ impl Generator {
         Call::Acknowledge { generation, sequence, delivered: self.rng.chance(percent) }
     }
 
-    fn stray_action(&mut self, state: &StateView) -> (u64, u64) {
+    fn stray_action(&mut self, state: &State) -> (u64, u64) {
         match self.rng.below(6) {
             0 => (state.generation.wrapping_add(1), 1),
             1 => (state.generation, state.next_sequence),
@@ -197,7 +203,7 @@ impl Generator {
     }
 
     /// What is refused at entry: a peer's length, a zero context, a packet too large.
-    fn entry(&mut self, state: &StateView) -> (Class, Call) {
+    fn entry(&mut self, state: &State) -> (Class, Call) {
         let mut call = match self.rng.below(3) {
             0 => self.data(state),
             1 => self.open(state),
@@ -231,11 +237,10 @@ impl Generator {
         ('e', call)
     }
 
-    pub fn next(&mut self, relay: &Oracle) -> (Class, Call) {
-        let state = relay.probe();
-        let (class, call) = match self.urgent(&state) {
+    pub fn next(&mut self, state: &State) -> (Class, Call) {
+        let (class, call) = match self.urgent(state) {
             Some(chosen) => chosen,
-            None => self.choose(&state),
+            None => self.choose(state),
         };
         let class = match &call {
             Call::Handle { opcode: 13, admission: Some(g), now, .. } if class == 'd' && g.expires_at <= *now => 'g',
@@ -254,7 +259,7 @@ impl Generator {
     }
 
     /// What chance alone would do too seldom.
-    fn urgent(&mut self, state: &StateView) -> Option<(Class, Call)> {
+    fn urgent(&mut self, state: &State) -> Option<(Class, Call)> {
         if self.poke && state.next_sequence < u64::MAX - 20 && self.rng.chance(5) {
             return Some(('p', Call::Poke { sequence: u64::MAX - self.rng.range(0, 8) }));
         }
@@ -265,7 +270,7 @@ impl Generator {
         let most = self.config.maximum_inflight_actions_per_peer;
         // an INCOMING that fails while the way to its requester is full
         let blocked = |id| state.pending.iter().any(|p| p.id == id && toward(&p.requester) >= most);
-        if let Some(a) = state.actions.iter().find(|a| a.kind == 0 && blocked(a.circuit_id))
+        if let Some(a) = state.actions.iter().find(|a| a.kind == Kind::Incoming && blocked(a.circuit_id))
             && self.rng.chance(8)
         {
             return Some(('d', Call::Acknowledge { generation: a.generation, sequence: a.sequence, delivered: false }));
@@ -278,7 +283,7 @@ impl Generator {
         None
     }
 
-    fn choose(&mut self, state: &StateView) -> (Class, Call) {
+    fn choose(&mut self, state: &State) -> (Class, Call) {
         let call = match self.step(state) {
             Step::Open => self.open(state),
             Step::Accept => self.accept(state),
@@ -301,7 +306,7 @@ impl Generator {
         ('d', call)
     }
 
-    fn step(&mut self, state: &StateView) -> Step {
+    fn step(&mut self, state: &State) -> Step {
         let room = state.pending.len() < self.config.maximum_pending && state.circuits.len() < self.config.maximum_circuits;
         let table = [
             (if room { 22 } else { 4 }, Step::Open),
@@ -329,7 +334,7 @@ impl Generator {
         unreachable!("below the sum of the weights")
     }
 
-    fn replace(&mut self, state: &StateView) -> Call {
+    fn replace(&mut self, state: &State) -> Call {
         let expected = if self.bad() {
             *self.rng.pick(&[0, state.generation.wrapping_sub(1), state.generation.wrapping_add(1)])
         } else {
@@ -340,7 +345,7 @@ impl Generator {
     }
 
     /// Opcodes that have no handling here, one in four of them 21 or more.
-    fn other_opcode(&mut self, state: &StateView) -> (Class, Call) {
+    fn other_opcode(&mut self, state: &State) -> (Class, Call) {
         let opcode = *self.rng.pick(&[0, 1, 2, 3, 4, 5, 6, 7, 8, 9, 10, 11, 12, 14, 16]);
         let (source, context) = (self.peer(), self.id());
         let mut call = self.handle(state, source, opcode, context, pattern(30, 1));
@@ -354,7 +359,7 @@ impl Generator {
     }
 
     /// An earlier packet once more.
-    fn again(&mut self, state: &StateView) -> Call {
+    fn again(&mut self, state: &State) -> Call {
         if self.past.is_empty() {
             return self.open(state);
         }

@@ -1,8 +1,9 @@
 //! Document 01, "Reckoned from history", and its sentence on the counters, held against the Rust's state after each call. This is a
 //! check of the document, not part of the oracle.
 
-use crate::trace::Call;
-use crate::{CircuitView, Outcome, StateView};
+use crate::Outcome;
+use lekchnam_traces::state::{Circuit, Kind};
+use lekchnam_traces::{Call, State};
 use std::collections::BTreeMap;
 
 const COUNTERS: [&str; 5] = ["admitted_opens", "opened_circuits", "bytes_sent", "bytes_received", "revoked_work"];
@@ -24,7 +25,7 @@ impl History {
     }
 
     /// Reckons one call, and says what then differs from the Rust's state.
-    pub fn step(&mut self, before: &StateView, call: &Call, outcome: &Outcome, after: &StateView) -> Vec<&'static str> {
+    pub fn step(&mut self, before: &State, call: &Call, outcome: &Outcome, after: &State) -> Vec<&'static str> {
         let taken = match outcome {
             Ok(_) => true,
             Err(refusal) => self.lenient && refusal.number == 6,
@@ -48,7 +49,7 @@ impl History {
         wrong
     }
 
-    fn open(&mut self, before: &StateView, after: &StateView) {
+    fn open(&mut self, before: &State, after: &State) {
         for record in &after.ledger {
             let old = before.ledger.iter().find(|l| l.reservation_id == record.reservation_id);
             // dropped and made anew in one OPEN shows by its expiry
@@ -67,7 +68,7 @@ impl History {
         self.counters[1] += 1;
     }
 
-    fn data(&mut self, circuit: &CircuitView, source: &[u8], amount: u64) {
+    fn data(&mut self, circuit: &Circuit, source: &[u8], amount: u64) {
         let credit = self.credit.get_mut(&circuit.id).expect("reckoned from its ACCEPT");
         let sender = if circuit.requester == source { &mut credit.0 } else { &mut credit.1 };
         *sender -= amount;
@@ -77,20 +78,20 @@ impl History {
         self.counters[3] += amount;
     }
 
-    fn window(&mut self, circuit: &CircuitView, source: &[u8], delta: u64) {
+    fn window(&mut self, circuit: &Circuit, source: &[u8], delta: u64) {
         let credit = self.credit.get_mut(&circuit.id).expect("reckoned from its ACCEPT");
         let other = if circuit.requester == source { &mut credit.1 } else { &mut credit.0 };
         *other += delta;
     }
 
     /// "revoked_work every other end of a pending record or circuit"
-    fn count_ends(&mut self, before: &StateView, after: &StateView, accepted: Option<[u8; 8]>) {
+    fn count_ends(&mut self, before: &State, after: &State, accepted: Option<[u8; 8]>) {
         let pending = before.pending.iter().filter(|p| !after.pending.iter().any(|q| q.id == p.id));
         let circuits = before.circuits.iter().filter(|c| !after.circuits.iter().any(|d| d.id == c.id));
         self.counters[4] += (pending.filter(|p| accepted != Some(p.id)).count() + circuits.count()) as u64;
     }
 
-    fn mismatches(&self, after: &StateView) -> Vec<&'static str> {
+    fn mismatches(&self, after: &State) -> Vec<&'static str> {
         let mut wrong = Vec::new();
         for c in &after.circuits {
             if self.credit.get(&c.id) != Some(&(u64::from(c.requester_credit), u64::from(c.endpoint_credit))) {
@@ -101,7 +102,7 @@ impl History {
             }
             let of = |kind| after.actions.iter().filter(move |a| a.circuit_id == c.id && a.kind == kind);
             let queued = |kind| of(kind).map(|a| a.bytes).sum::<usize>();
-            if (queued(2), queued(3)) != (c.queued_to_requester, c.queued_to_endpoint) {
+            if (queued(Kind::DataToRequester), queued(Kind::DataToEndpoint)) != (c.queued_to_requester, c.queued_to_endpoint) {
                 wrong.push("queued is not the outstanding DATA");
             }
         }
@@ -113,7 +114,7 @@ impl History {
 }
 
 /// What no call may break: deadlines end by the expiry, ids differ, and an action has its record.
-fn broken(state: &StateView) -> Vec<&'static str> {
+fn broken(state: &State) -> Vec<&'static str> {
     let mut wrong = Vec::new();
     let live = |id| state.circuits.iter().any(|c| c.id == id);
     let open = |id| state.pending.iter().any(|p| p.id == id);
@@ -123,14 +124,19 @@ fn broken(state: &StateView) -> Vec<&'static str> {
         }
     }
     for a in &state.actions {
-        if (a.kind == 0 && !open(a.circuit_id)) || ((1..=4).contains(&a.kind) && !live(a.circuit_id)) {
+        let record = match a.kind {
+            Kind::Incoming => open(a.circuit_id),
+            Kind::Close => true,
+            _ => live(a.circuit_id),
+        };
+        if !record {
             wrong.push("action without its record");
         }
     }
     wrong
 }
 
-fn circuit<'a>(state: &'a StateView, id: &[u8; 8]) -> &'a CircuitView {
+fn circuit<'a>(state: &'a State, id: &[u8; 8]) -> &'a Circuit {
     state.circuits.iter().find(|c| c.id == *id).expect("what was taken has its circuit")
 }
 

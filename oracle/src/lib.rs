@@ -4,28 +4,17 @@
 pub mod generate;
 pub mod history;
 mod refusal;
-pub mod trace;
+pub mod run;
 mod words;
 
 use hns_hnsr_protocol as protocol;
-pub use protocol::{ActionView, CircuitView, LedgerView, OpaqueRelayConfig as Config, PendingView, StateView};
+use lekchnam_traces::{After, Config, Grant, State};
 use protocol::{
     ConfirmedReservation, HnsrActionId, HnsrOpcode, HnsrPacket, HnsrPeerId, OpaqueRelayRuntime, QueuedHnsrRoute, RelayService,
     RelayTicket,
 };
-pub use refusal::{Cause, Refusal};
-pub use words::{fnv, words};
-
-/// What the host hands over with an OPEN that it admits.
-#[derive(Clone, Debug, Eq, PartialEq)]
-pub struct Grant {
-    pub endpoint: Vec<u8>,
-    pub reservation_id: [u8; 16],
-    pub expires_at: u64,
-    pub max_active_circuits: u16,
-    pub max_bytes_per_circuit: u64,
-    pub max_total_bytes: u64,
-}
+pub use refusal::Refusal;
+pub use words::words;
 
 #[derive(Clone, Debug, Eq, PartialEq)]
 pub struct Route {
@@ -80,21 +69,9 @@ fn confirmed(grant: &Grant) -> ConfirmedReservation {
     ConfirmedReservation { ticket, source: protocol::runtime::Source(grant.endpoint.clone()) }
 }
 
-/// Document 01's `status`, in the Rust's field order.
-#[derive(Clone, Copy, Debug, Eq, PartialEq)]
-pub struct Status {
-    pub generation: u64,
-    pub enabled: bool,
-    pub pending_circuits: u64,
-    pub active_circuits: u64,
-    pub queued_bytes: u64,
-    pub queued_actions: u64,
-    pub trusted_time_high_water: u64,
-    pub admitted_opens: u64,
-    pub opened_circuits: u64,
-    pub bytes_sent: u64,
-    pub bytes_received: u64,
-    pub revoked_work: u64,
+/// Added by document 01; not in the Rust.
+fn next_due(state: &State) -> Option<u64> {
+    state.pending.iter().map(|p| p.deadline).chain(state.circuits.iter().map(|c| c.expires_at)).min()
 }
 
 /// Inputs of `handle`.
@@ -116,7 +93,7 @@ pub struct Oracle {
 
 impl Oracle {
     pub fn new(session: [u8; 16], generation: u64, config: Config, now: u64) -> Result<Self, Refusal> {
-        Ok(Self { runtime: OpaqueRelayRuntime::new(session, generation, config, now)? })
+        Ok(Self { runtime: OpaqueRelayRuntime::new(session, generation, config.into(), now)? })
     }
 
     /// Peer length first (4), then the packet (1), as document 01's row "entry" has them: in the
@@ -160,32 +137,32 @@ impl Oracle {
         Ok(routes(self.runtime.replace_enabled(expected, enabled)?))
     }
 
-    pub fn status(&self) -> Status {
+    /// What is told after a call: `status`, next due, and how many ledger records there are.
+    pub fn after(&self) -> After {
         let s = self.runtime.status();
-        Status {
-            generation: s.generation,
-            enabled: s.enabled,
-            pending_circuits: s.pending_circuits as u64,
-            active_circuits: s.active_circuits as u64,
-            queued_bytes: s.queued_bytes as u64,
-            queued_actions: s.queued_actions as u64,
-            trusted_time_high_water: s.trusted_time_high_water,
-            admitted_opens: s.admitted_opens,
-            opened_circuits: s.opened_circuits,
-            bytes_sent: s.bytes_sent,
-            bytes_received: s.bytes_received,
-            revoked_work: s.revoked_work,
+        let state = self.probe();
+        After {
+            status: [
+                s.generation,
+                s.enabled.into(),
+                s.pending_circuits as u64,
+                s.active_circuits as u64,
+                s.queued_bytes as u64,
+                s.queued_actions as u64,
+                s.trusted_time_high_water,
+                s.admitted_opens,
+                s.opened_circuits,
+                s.bytes_sent,
+                s.bytes_received,
+                s.revoked_work,
+            ],
+            due: next_due(&state),
+            ledger: state.ledger.len(),
         }
     }
 
-    /// Added by document 01; not in the Rust. Reckoned here from the probe.
-    pub fn next_due(&self) -> Option<u64> {
-        let state = self.probe();
-        state.pending.iter().map(|p| p.deadline).chain(state.circuits.iter().map(|c| c.expires_at)).min()
-    }
-
     /// All private state, ids ascending.
-    pub fn probe(&self) -> StateView {
+    pub fn probe(&self) -> State {
         self.runtime.probe()
     }
 

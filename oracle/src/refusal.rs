@@ -2,32 +2,7 @@
 use hns_encoding::DecodeError;
 use hns_hnsr_protocol::runtime::{NOT_ACTIVE, REFUSED};
 use hns_hnsr_protocol::{HnsrProtocolError, HnsrRuntimeError};
-
-/// What stands behind a 1.
-#[derive(Clone, Debug, Eq, PartialEq)]
-pub enum Cause {
-    None,
-    End { offset: usize, needed: usize },
-    Trailing { remaining: usize },
-    Invalid(&'static str),
-    TooLarge { actual: usize, maximum: usize },
-    Admission,
-    Other(String),
-}
-
-impl std::fmt::Display for Cause {
-    fn fmt(&self, f: &mut std::fmt::Formatter<'_>) -> std::fmt::Result {
-        match self {
-            Self::None => write!(f, "-"),
-            Self::End { offset, needed } => write!(f, "end:{offset}:{needed}"),
-            Self::Trailing { remaining } => write!(f, "trailing:{remaining}"),
-            Self::Invalid(text) => write!(f, "invalid:{}", text.replace(' ', "_")),
-            Self::TooLarge { actual, maximum } => write!(f, "large:{actual}:{maximum}"),
-            Self::Admission => write!(f, "admission"),
-            Self::Other(text) => write!(f, "other:{}", text.replace(' ', "_")),
-        }
-    }
-}
+use lekchnam_traces::Cause;
 
 /// Numbers 1 to 21 in the order of `HnsrRuntimeError`; the text is the Rust's own.
 #[derive(Clone, Debug, Eq, PartialEq)]
@@ -37,16 +12,14 @@ pub struct Refusal {
     pub text: String,
 }
 
-impl From<HnsrProtocolError> for Cause {
-    fn from(error: HnsrProtocolError) -> Self {
-        match error {
-            HnsrProtocolError::Decode(DecodeError::UnexpectedEnd { offset, needed }) => Self::End { offset, needed },
-            HnsrProtocolError::Decode(DecodeError::TrailingBytes { remaining }) => Self::Trailing { remaining },
-            HnsrProtocolError::Invalid(REFUSED | NOT_ACTIVE) => Self::Admission,
-            HnsrProtocolError::Invalid(text) => Self::Invalid(text),
-            HnsrProtocolError::TooLarge { actual, maximum } => Self::TooLarge { actual, maximum },
-            other => Self::Other(other.to_string()),
-        }
+fn cause(error: HnsrProtocolError) -> Cause {
+    match error {
+        HnsrProtocolError::Decode(DecodeError::UnexpectedEnd { offset, needed }) => Cause::End { offset, missing: needed },
+        HnsrProtocolError::Decode(DecodeError::TrailingBytes { remaining }) => Cause::Trailing { count: remaining },
+        HnsrProtocolError::Invalid(REFUSED | NOT_ACTIVE) => Cause::Admission,
+        HnsrProtocolError::Invalid(text) => Cause::Invalid(text.to_owned()),
+        HnsrProtocolError::TooLarge { actual, maximum } => Cause::TooLarge { actual, maximum },
+        other => Cause::Other(other.to_string()),
     }
 }
 
@@ -81,7 +54,7 @@ impl From<HnsrRuntimeError> for Refusal {
     fn from(error: HnsrRuntimeError) -> Self {
         let (number, text) = (number(&error), error.to_string());
         let cause = match error {
-            HnsrRuntimeError::Protocol(inner) => inner.into(),
+            HnsrRuntimeError::Protocol(inner) => cause(inner),
             _ => Cause::None,
         };
         Self { number, cause, text }

@@ -1,4 +1,4 @@
-//! Document 01, "Output words", and their hash.
+//! Document 01, "Output words".
 use crate::Route;
 
 fn pack(out: &mut Vec<u32>, bytes: &[u8], count: usize) {
@@ -24,15 +24,4 @@ pub fn words(routes: &[Route]) -> Vec<u32> {
         pack(&mut out, &route.body, route.body.len().div_ceil(4));
     }
     out
-}
-
-/// FNV-1a, 64 bits, over the words' bytes, lowest byte first.
-pub fn fnv(words: &[u32]) -> u64 {
-    let mut hash = 0xcbf2_9ce4_8422_2325_u64;
-    for word in words {
-        for byte in word.to_le_bytes() {
-            hash = (hash ^ u64::from(byte)).wrapping_mul(0x0000_0100_0000_01b3);
-        }
-    }
-    hash
 }

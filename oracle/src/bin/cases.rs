@@ -1,5 +1,6 @@
 //! The sixteen cases of document 01. Prints its table and fails where an answer differs.
-use oracle::{Config, Grant, Oracle, Outcome, Packet, words};
+use lekchnam_traces::{Config, Grant};
+use oracle::{Oracle, Outcome, Packet, words};
 
 const REQUESTER: &[u8] = b"requester";
 const ENDPOINT: &[u8] = b"endpoint";

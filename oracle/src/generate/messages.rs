@@ -1,7 +1,7 @@
 //! ACCEPT, DATA, WINDOW, CLOSE and ERROR, aimed at records that are there, or beside them.
 use super::Generator;
-use crate::StateView;
-use crate::trace::{Call, pattern};
+use lekchnam_traces::bytes::pattern;
+use lekchnam_traces::{Call, State};
 
 /// Who sends on which circuit.
 struct Aim {
@@ -17,7 +17,7 @@ impl Generator {
         *self.rng.pick(&[16_384, 16_384, 16_384, 16_385, 32_768, 32_768, 65_536, 1_048_575, 1_048_576])
     }
 
-    pub(super) fn accept(&mut self, state: &StateView) -> Call {
+    pub(super) fn accept(&mut self, state: &State) -> Call {
         let wrong = self.bad();
         let (mut source, mut context, offer) = if state.pending.is_empty() || (wrong && self.rng.chance(25)) {
             (self.peer(), self.id(), 16_384)
@@ -52,7 +52,7 @@ impl Generator {
         self.handle(state, source, 15, context, body)
     }
 
-    fn aim(&mut self, state: &StateView, wrong: bool) -> Aim {
+    fn aim(&mut self, state: &State, wrong: bool) -> Aim {
         if state.circuits.is_empty() || (wrong && self.rng.chance(30)) {
             return self.aim_beside(state);
         }
@@ -70,7 +70,7 @@ impl Generator {
     }
 
     /// At a pending record, or at nothing.
-    fn aim_beside(&mut self, state: &StateView) -> Aim {
+    fn aim_beside(&mut self, state: &State) -> Aim {
         let (source, context) = if !state.pending.is_empty() && self.rng.chance(50) {
             let p = self.rng.pick(&state.pending).clone();
             let source = if self.rng.chance(50) { p.requester } else { p.endpoint };
@@ -81,7 +81,7 @@ impl Generator {
         Aim { source, context, index: None, from_requester: true }
     }
 
-    pub(super) fn data(&mut self, state: &StateView) -> Call {
+    pub(super) fn data(&mut self, state: &State) -> Call {
         let wrong = self.bad();
         let aim = self.aim(state, wrong);
         let mut size = match self.rng.below(10) {
@@ -100,7 +100,7 @@ impl Generator {
     }
 
     /// As many bytes as reach an edge, or one more.
-    fn edge(&mut self, state: &StateView, index: usize, from_requester: bool) -> u64 {
+    fn edge(&mut self, state: &State, index: usize, from_requester: bool) -> u64 {
         let circuit = &state.circuits[index];
         let ledger = state.ledger.iter().find(|l| l.reservation_id == circuit.reservation_id);
         let used = ledger.map_or(0, |l| l.bytes);
@@ -118,7 +118,7 @@ impl Generator {
         edge.saturating_add(self.rng.below(2))
     }
 
-    pub(super) fn window_call(&mut self, state: &StateView) -> Call {
+    pub(super) fn window_call(&mut self, state: &State) -> Call {
         let wrong = self.bad();
         let aim = self.aim(state, wrong);
         let mut delta = *self.rng.pick(&[1, 100, 16_384, 20_000]);
@@ -139,7 +139,7 @@ impl Generator {
         self.handle(state, aim.source, 18, aim.context, body)
     }
 
-    pub(super) fn close(&mut self, state: &StateView) -> Call {
+    pub(super) fn close(&mut self, state: &State) -> Call {
         let wrong = self.bad();
         let opcode = if self.rng.chance(50) { 19 } else { 20 };
         let damaged_body = wrong && self.rng.chance(60);
@@ -153,7 +153,7 @@ impl Generator {
     }
 
     /// A peer and a context that name two pending records, most times where there are such.
-    fn matching_twice(&mut self, state: &StateView) -> Option<(Vec<u8>, [u8; 8])> {
+    fn matching_twice(&mut self, state: &State) -> Option<(Vec<u8>, [u8; 8])> {
         let crossed = |requester: &[u8], context| state.pending.iter().any(|q| q.endpoint == requester && q.id == context);
         let both: Vec<_> = state.pending.iter().filter(|p| crossed(&p.requester, p.requester_context)).collect();
         if both.is_empty() || !self.rng.chance(60) {
@@ -163,7 +163,7 @@ impl Generator {
         Some((p.requester.clone(), p.requester_context))
     }
 
-    fn closing(&mut self, state: &StateView, misaddressed: bool) -> (Vec<u8>, [u8; 8]) {
+    fn closing(&mut self, state: &State, misaddressed: bool) -> (Vec<u8>, [u8; 8]) {
         if state.pending.is_empty() || !(state.circuits.is_empty() || self.rng.chance(50)) {
             let aim = self.aim(state, misaddressed);
             return (aim.source, aim.context);

@@ -1,7 +1,7 @@
 //! OPEN: what the requester asks, what the host grants, and the bytes that it draws ids from.
 use super::{Generator, Reservation};
-use crate::trace::{Call, unhex};
-use crate::{Grant, StateView};
+use lekchnam_traces::bytes::unhex;
+use lekchnam_traces::{Call, Grant, State};
 
 const VALID_KEYS: [&str; 3] = [
     "0279be667ef9dcbbac55a06295ce870b07029bfcdb2dce28d959f2815b16f81798",
@@ -46,7 +46,7 @@ impl Generator {
         };
     }
 
-    pub(super) fn open(&mut self, state: &StateView) -> Call {
+    pub(super) fn open(&mut self, state: &State) -> Call {
         let mut offer = self.offer(state);
         if self.bad() {
             self.spoil(&mut offer);
@@ -58,7 +58,7 @@ impl Generator {
         Call::Handle { source, opcode: 13, context, body, now, key_valid, admission, random }
     }
 
-    fn offer(&mut self, state: &StateView) -> Offer {
+    fn offer(&mut self, state: &State) -> Offer {
         let mut grant = self.grant();
         let mut reservation = grant.reservation_id;
         if self.rng.chance(3) {
@@ -112,7 +112,7 @@ impl Generator {
     }
 
     /// A peer that is not the endpoint and has room for work, if four tries find one.
-    fn requester(&mut self, state: &StateView, grant: &Grant) -> Vec<u8> {
+    fn requester(&mut self, state: &State, grant: &Grant) -> Vec<u8> {
         let mut source = self.peer();
         for _ in 0..4 {
             let pending = state.pending.iter().filter(|p| p.requester == source || p.endpoint == source).count();
@@ -149,14 +149,15 @@ impl Generator {
         let keys = if offer.key_valid { VALID_KEYS } else { INVALID_KEYS };
         let key = *self.rng.pick(&keys);
         let (profile, window) = (offer.profile.to_le_bytes(), offer.window.to_le_bytes());
-        let mut body = [&offer.ticket[..], &offer.reservation, &unhex(key), &profile, &offer.nonce, &window].concat();
+        let mut body =
+            [&offer.ticket[..], &offer.reservation, &unhex(key).expect("a key in hex"), &profile, &offer.nonce, &window].concat();
         if offer.cut {
             self.cut(&mut body);
         }
         body
     }
 
-    fn draws(&mut self, state: &StateView, grant: Option<&Grant>) -> Vec<u8> {
+    fn draws(&mut self, state: &State, grant: Option<&Grant>) -> Vec<u8> {
         let used: Vec<[u8; 8]> = state.pending.iter().map(|p| p.id).chain(state.circuits.iter().map(|c| c.id)).collect();
         let fresh = self.fresh_id(state, grant, &used);
         let zeros = |count: u64| vec![0; 8 * count as usize];
@@ -189,7 +190,7 @@ impl Generator {
         out
     }
 
-    fn fresh_id(&mut self, state: &StateView, grant: Option<&Grant>, used: &[[u8; 8]]) -> [u8; 8] {
+    fn fresh_id(&mut self, state: &State, grant: Option<&Grant>, used: &[[u8; 8]]) -> [u8; 8] {
         let free: Vec<[u8; 8]> = self.ids.iter().copied().filter(|id| !used.contains(id)).collect();
         // an id which the endpoint uses as its own context: the two records that match
         let crossing: Vec<[u8; 8]> = state

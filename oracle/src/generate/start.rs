@@ -1,8 +1,7 @@
 //! The start of a run: its configuration, and `new`, refused perhaps before it is taken.
 use super::Generator;
-use super::rng::Rng;
-use crate::Config;
-use crate::trace::Call;
+use lekchnam_traces::rng::Rng;
+use lekchnam_traces::{Call, Config};
 
 /// Three kinds of trace: tight for peers, tight in all, roomy. The most actions for a circuit, for a peer, and in all.
 fn action_limits(rng: &mut Rng) -> (usize, usize, usize) {

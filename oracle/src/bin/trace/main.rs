@@ -1,98 +1,64 @@
 //! trace gen FIRST COUNT CALLS DIR [--full] [--state]   write trace files and print statistics
 //! trace stats FIRST COUNT CALLS                        statistics only
-//! trace replay [--first] FILE...                       run files again and compare each line; --first: stop at a difference
+//! trace replay FILE...                                 run files again on the Rust; exit 1 at the first difference
 
 mod stats;
 
-use oracle::generate::Generator;
+use lekchnam_traces::replay::replay_files;
+use lekchnam_traces::{State, file};
+use oracle::generate::{Event, Run};
 use oracle::history::History;
-use oracle::trace::{Call, Class, answer, inputs, name, parse, run, state_text};
-use oracle::{Oracle, Outcome, StateView, words};
+use oracle::run::Rust;
 use stats::Stats;
-use std::fmt::Write as _;
+use std::process::ExitCode;
 
-const USAGE: &str = "trace gen FIRST COUNT CALLS DIR [--full] [--state] | stats FIRST COUNT CALLS | replay [--first] FILE...";
+const USAGE: &str = "trace gen FIRST COUNT CALLS DIR [--full] [--state] | stats FIRST COUNT CALLS | replay FILE...";
 
 #[derive(Clone, Copy)]
 struct Options {
     full: bool,
     state: bool,
-    first: bool,
 }
 
-/// One trace on its way.
-struct Run {
-    generator: Generator,
-    relay: Option<Oracle>,
+/// What is reckoned beside one trace.
+struct Reckoning {
     history: History,
     lenient: History,
     poked: bool,
-    text: String,
 }
 
-impl Run {
-    fn new(seed: u64) -> Self {
-        let generator = Generator::new(seed);
-        let c = generator.config();
-        let actions = c.maximum_inflight_actions;
-        let places = format!("{} {} {actions} {}", c.maximum_pending, c.maximum_circuits, generator.ledger_places());
-        let text = format!("# trace {seed}\nplaces {places}\n");
-        let (history, lenient) = (History::default(), History::lenient());
-        Self { generator, relay: None, history, lenient, poked: false, text }
+impl Reckoning {
+    fn new() -> Self {
+        Self { history: History::default(), lenient: History::lenient(), poked: false }
     }
 
-    fn call(&mut self, class: Class, call: &Call, options: Options, stats: &mut Stats) {
-        let before = self.relay.as_ref().map(Oracle::probe);
-        let outcome = run(&mut self.relay, class, call);
-        let after = self.relay.as_ref().map(Oracle::probe);
-        if let Ok(routes) = &outcome {
-            self.generator.saw(routes);
-            let (count, limit) = (words(routes).len(), most_words(call, before.as_ref()));
-            assert!(count <= limit, "{count} words, document 01 allows {limit}: {}", inputs(call));
-        }
-        stats.count(class, call, before.as_ref(), &outcome, after.as_ref());
-        self.poked |= class == 'p';
-        if let (Some(before), Some(after)) = (&before, &after) {
-            self.reckon(before, call, &outcome, after, stats);
-        }
-        let answer = answer(self.relay.as_ref(), &outcome, options.full);
-        let _ = writeln!(self.text, "{} {class} {} => {answer}", name(call), inputs(call));
-        if let (true, Some(state)) = (options.state, &after) {
-            self.text += &state_text(state);
-        }
-    }
-
-    fn reckon(&mut self, before: &StateView, call: &Call, outcome: &Outcome, after: &StateView, stats: &mut Stats) {
-        for wrong in self.history.step(before, call, outcome, after) {
+    fn step(&mut self, event: &Event, stats: &mut Stats) {
+        self.poked |= event.class == 'p';
+        let (Some(before), Some(after)) = (&event.before, &event.after) else { return };
+        for wrong in self.history.step(before, &event.call, &event.outcome, after) {
             stats.history(if self.poked { "poked" } else { "in a run" }, wrong);
         }
-        for wrong in self.lenient.step(before, call, outcome, after) {
+        for wrong in self.lenient.step(before, &event.call, &event.outcome, after) {
             stats.lenient(wrong);
         }
     }
 }
 
-/// Document 01: "`handle` needs 4,136 words, acknowledge 96, the revoking calls 96 for each pending record and circuit".
-fn most_words(call: &Call, before: Option<&StateView>) -> usize {
-    match call {
-        Call::Handle { .. } => 4_136,
-        Call::Acknowledge { .. } => 96,
-        _ => 96 * before.map_or(0, |state| state.pending.len() + state.circuits.len()),
-    }
-}
-
+/// The text of one trace.
 fn one(seed: u64, calls: usize, options: Options, stats: &mut Stats) -> String {
-    let mut trace = Run::new(seed);
+    let run = Run::new(seed, calls);
+    let mut text = vec![format!("# trace {seed}"), run.places.text()];
+    let mut reckoning = Reckoning::new();
     stats.traces += 1;
-    let opening = trace.generator.opening();
-    for call in opening.iter().take(calls) {
-        trace.call('d', call, options, stats);
+    for event in run {
+        let (count, limit) = (event.answer.words.count, event.call.words_needed(event.before.as_ref().map_or(0, State::records)));
+        assert!(count <= limit, "{count} words, document 01 allows {limit}: {}", event.call.text(event.class));
+        stats.count(&event);
+        reckoning.step(&event, stats);
+        text.push(file::line(event.class, &event.call, &event.answer, options.full));
+        text.extend(event.after.filter(|_| options.state).iter().flat_map(State::lines));
     }
-    for _ in opening.len()..calls {
-        let (class, call) = trace.generator.next(trace.relay.as_ref().expect("the opening ends in a taken new"));
-        trace.call(class, &call, options, stats);
-    }
-    trace.text
+    text.join("\n") + "\n"
 }
 
 /// Seeds FIRST .. FIRST + COUNT, and what is done with the text of each.
@@ -105,63 +71,12 @@ fn generate(numbers: [&str; 3], options: Options, keep: impl Fn(u64, String)) {
     stats.print();
 }
 
-fn replay(path: &str) -> Result<u64, String> {
-    let text = std::fs::read_to_string(path).map_err(|e| format!("{path}: {e}"))?;
-    let mut relay = None;
-    let mut count = 0;
-    for (index, line) in text.lines().enumerate() {
-        if line.starts_with('#') || line.starts_with("places ") {
-            continue;
-        }
-        replay_line(&mut relay, line).map_err(|reason| format!("{path}:{}: {reason}", index + 1))?;
-        count += 1;
-    }
-    Ok(count)
-}
-
-fn replay_line(relay: &mut Option<Oracle>, line: &str) -> Result<(), String> {
-    let (left, right) = line.split_once(" => ").ok_or("no =>")?;
-    let (class, call) = parse(left);
-    if format!("{} {class} {}", name(&call), inputs(&call)) != left {
-        return Err("does not read back".into());
-    }
-    let outcome = run(relay, class, &call);
-    let answers = [false, true].map(|full| answer(relay.as_ref(), &outcome, full));
-    if answers.iter().any(|answer| answer == right) {
-        return Ok(());
-    }
-    let short = |t: &str| t.chars().take(160).collect::<String>();
-    Err(format!("{}\n  file {}\n  here {}", short(left), short(right), short(&answers[1])))
-}
-
-/// Whether all files agree.
-fn replay_all(files: &[&str], options: Options) -> bool {
-    let (mut lines, mut bad) = (0, 0);
-    for file in files {
-        let answer = std::panic::catch_unwind(|| replay(file)).unwrap_or_else(|_| Err(format!("{file}: panic")));
-        match answer {
-            Ok(count) => lines += count,
-            Err(text) => {
-                bad += 1;
-                if bad <= 3 {
-                    println!("{text}");
-                }
-                if options.first {
-                    return false;
-                }
-            }
-        }
-    }
-    println!("{} files, {lines} lines agree, {bad} files differ", files.len());
-    bad == 0
-}
-
-fn main() {
+fn main() -> ExitCode {
     let args: Vec<String> = std::env::args().skip(1).collect();
     let has = |flag: &str| args.iter().any(|arg| arg == flag);
-    let options = Options { full: has("--full"), state: has("--state"), first: has("--first") };
-    let args: Vec<&str> = args.iter().map(String::as_str).filter(|arg| !arg.starts_with("--")).collect();
-    match args[..] {
+    let options = Options { full: has("--full"), state: has("--state") };
+    let words: Vec<&str> = args.iter().map(String::as_str).filter(|arg| !arg.starts_with("--")).collect();
+    match words[..] {
         ["gen", first, count, calls, dir] => {
             std::fs::create_dir_all(dir).expect("DIR can be made");
             generate([first, count, calls], options, |seed, text| {
@@ -169,10 +84,11 @@ fn main() {
             });
         }
         ["stats", first, count, calls] => generate([first, count, calls], options, |_, _| {}),
-        ["replay", ref files @ ..] => std::process::exit(i32::from(!replay_all(files, options))),
+        ["replay", _, ..] => return replay_files(&args[1..], "the Rust", |_| Rust::default()),
         _ => {
             eprintln!("{USAGE}");
-            std::process::exit(2);
+            return ExitCode::from(2);
         }
     }
+    ExitCode::SUCCESS
 }

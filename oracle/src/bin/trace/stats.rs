@@ -1,12 +1,12 @@
 //! What traces reach: answers, causes, routes, acknowledgements, revocations.
-use oracle::trace::{Call, Class, name};
-use oracle::{Outcome, Refusal, Route, StateView, words};
+use lekchnam_traces::state::Kind;
+use lekchnam_traces::{Answer, Call, Class, State};
+use oracle::Route;
+use oracle::generate::Event;
 use std::collections::BTreeMap;
 use std::fmt::Display;
 
 type Counts<Key> = BTreeMap<Key, u64>;
-
-const KIND: [&str; 6] = ["Incoming", "Opened", "Data>req", "Data>end", "Control", "Close"];
 
 #[derive(Default)]
 pub struct Stats {
@@ -15,7 +15,7 @@ pub struct Stats {
     causes: Counts<(&'static str, String)>,
     classes: Counts<Class>,
     routes: Counts<&'static str>,
-    acks: Counts<(&'static str, &'static str, u8)>,
+    acks: Counts<(Kind, &'static str, u8)>,
     kept: Counts<(&'static str, u8)>,
     /// Routes that revocations owed, and of these how many were skipped.
     skipped: BTreeMap<&'static str, (u64, u64)>,
@@ -25,27 +25,11 @@ pub struct Stats {
     most_words: BTreeMap<&'static str, usize>,
 }
 
-fn label(call: &Call) -> &'static str {
-    match call {
-        Call::Handle { opcode, .. } => match opcode {
-            13 => "OPEN",
-            15 => "ACCEPT",
-            17 => "DATA",
-            18 => "WINDOW",
-            19 => "CLOSE",
-            20 => "ERROR",
-            21.. => "opcode 21+",
-            _ => "opcode other",
-        },
-        other => name(other),
-    }
-}
-
 fn add<Key: Ord>(counts: &mut Counts<Key>, key: Key) {
     *counts.entry(key).or_default() += 1;
 }
 
-fn same_but_clock(a: &StateView, b: &StateView) -> bool {
+fn same_but_clock(a: &State, b: &State) -> bool {
     let mut a = a.clone();
     a.high_water = b.high_water;
     a == *b
@@ -60,16 +44,17 @@ impl Stats {
         add(&mut self.lenient, wrong);
     }
 
-    pub fn count(&mut self, class: Class, call: &Call, before: Option<&StateView>, outcome: &Outcome, after: Option<&StateView>) {
-        let label = label(call);
-        let number = outcome.as_ref().err().map_or(0, |refusal| refusal.number);
+    pub fn count(&mut self, event: &Event) {
+        let Event { class, call, outcome, answer, .. } = event;
+        let (label, number) = (call.label(), answer.number);
         add(&mut self.calls, (label, number));
-        add(&mut self.classes, class);
+        add(&mut self.classes, *class);
         match outcome {
-            Ok(routes) => self.written(call, routes),
-            Err(refusal) => self.refused(label, refusal),
+            Ok(routes) => self.written(call, routes, answer),
+            Err(_) if number == 1 => add(&mut self.causes, (label, answer.cause.kind())),
+            Err(_) => {}
         }
-        let (Some(before), Some(after)) = (before, after) else { return };
+        let (Some(before), Some(after)) = (&event.before, &event.after) else { return };
         if number != 0 && !same_but_clock(before, after) {
             add(&mut self.kept, (label, number));
         }
@@ -80,16 +65,7 @@ impl Stats {
         }
     }
 
-    fn refused(&mut self, label: &'static str, refusal: &Refusal) {
-        if refusal.number == 1 {
-            let cause = refusal.cause.to_string();
-            let kind = cause.split(':').next().unwrap_or_default();
-            let cause = if kind == "invalid" { &cause } else { kind };
-            add(&mut self.causes, (label, cause.to_owned()));
-        }
-    }
-
-    fn written(&mut self, call: &Call, routes: &[Route]) {
+    fn written(&mut self, call: &Call, routes: &[Route], answer: &Answer) {
         for route in routes {
             let kind = match route.opcode {
                 14 => "Incoming",
@@ -101,22 +77,22 @@ impl Stats {
             };
             add(&mut self.routes, kind);
         }
-        let most = self.most_words.entry(name(call)).or_default();
-        *most = (*most).max(words(routes).len());
+        let most = self.most_words.entry(call.name()).or_default();
+        *most = (*most).max(answer.words.count);
     }
 
-    fn acknowledged(&mut self, call: &Call, before: &StateView, number: u8) {
+    fn acknowledged(&mut self, call: &Call, before: &State, number: u8) {
         if let Call::Acknowledge { generation, sequence, delivered } = call
             && let Some(a) = before.actions.iter().find(|a| (a.generation, a.sequence) == (*generation, *sequence))
         {
             let how = if *delivered { "delivered" } else { "undelivered" };
-            add(&mut self.acks, (KIND[a.kind as usize], how, number));
+            add(&mut self.acks, (a.kind, how, number));
         }
     }
 
     /// Records that a call ended, and the routes that it owed for them.
-    fn ended(&mut self, call: &Call, before: &StateView, routes: usize, after: &StateView) {
-        let label = label(call);
+    fn ended(&mut self, call: &Call, before: &State, routes: usize, after: &State) {
+        let label = call.label();
         let pending = before.pending.iter().filter(|p| !after.pending.iter().any(|q| q.id == p.id)).count();
         let circuits = before.circuits.iter().filter(|c| !after.circuits.iter().any(|d| d.id == c.id)).count();
         let due = match call {
@@ -143,7 +119,7 @@ impl Stats {
     }
 
     /// Calls taken that are easy to get wrong.
-    fn noted(&mut self, call: &Call, before: &StateView, after: &StateView) {
+    fn noted(&mut self, call: &Call, before: &State, after: &State) {
         let Call::Handle { opcode, context, body, now, admission, .. } = call else { return };
         let expired = before.circuits.iter().any(|c| c.id == *context && c.expires_at <= *now);
         let made = after.pending.iter().find(|p| !before.pending.iter().any(|q| q.id == p.id));
@@ -168,7 +144,7 @@ impl Stats {
         section("causes of 1", &self.causes, |(label, cause)| format!("{label:<14} {cause:<48}"));
         section("routes written by action kind", &self.routes, |kind| format!("{kind:<16}"));
         section("acknowledged by action kind (answer)", &self.acks, |(kind, how, number)| {
-            format!("{kind:<10} {how:<12} ({number})")
+            format!("{:<16} {how:<12} ({number})", format!("{kind:?}"))
         });
         section("refusals that left the state changed (clock aside)", &self.kept, |(label, number)| {
             format!("{label:<19} {number:>3}")

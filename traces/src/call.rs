@@ -1,0 +1,87 @@
+//! A call with all its inputs.
+use crate::Config;
+
+/// What the host hands over with an OPEN that it admits.
+#[derive(Clone, Debug, Eq, PartialEq)]
+pub struct Grant {
+    pub endpoint: Vec<u8>,
+    pub reservation_id: [u8; 16],
+    pub expires_at: u64,
+    pub max_active_circuits: u16,
+    pub max_bytes_per_circuit: u64,
+    pub max_total_bytes: u64,
+}
+
+#[derive(Clone, Debug, Eq, PartialEq)]
+#[rustfmt::skip]
+pub enum Call {
+    New { session: [u8; 16], generation: u64, config: Config, now: u64 },
+    Handle {
+        source: Vec<u8>,
+        opcode: u8,
+        context: [u8; 8],
+        body: Vec<u8>,
+        now: u64,
+        key_valid: bool,
+        admission: Option<Grant>,
+        random: Vec<u8>,
+    },
+    Acknowledge { generation: u64, sequence: u64, delivered: bool },
+    Disconnect { peer: Vec<u8> },
+    Revoke { reservation: [u8; 16] },
+    Expire { now: u64 },
+    Observe { now: u64 },
+    Replace { expected: u64, enabled: bool },
+    /// Not a call of document 01.
+    Poke { sequence: u64 },
+}
+
+/// `d` in document 01's domain; `e` refused at entry by `HnsrPeerId::new` or `HnsrPacket::new`; `g` grant not after now; `o` opcode 21 up,
+/// answered as opcode 0 (document 01, not the Rust); `p` poke.
+pub type Class = char;
+
+pub const CLASSES: [Class; 5] = ['d', 'e', 'g', 'o', 'p'];
+
+impl Call {
+    pub fn name(&self) -> &'static str {
+        match self {
+            Self::New { .. } => "new",
+            Self::Handle { .. } => "handle",
+            Self::Acknowledge { .. } => "acknowledge",
+            Self::Disconnect { .. } => "disconnect",
+            Self::Revoke { .. } => "revoke_reservation",
+            Self::Expire { .. } => "expire",
+            Self::Observe { .. } => "observe_time",
+            Self::Replace { .. } => "replace_enabled",
+            Self::Poke { .. } => "poke_sequence",
+        }
+    }
+
+    /// The message of a packet, else the call's name.
+    pub fn label(&self) -> &'static str {
+        match self {
+            Self::Handle { opcode, .. } => match opcode {
+                13 => "OPEN",
+                15 => "ACCEPT",
+                17 => "DATA",
+                18 => "WINDOW",
+                19 => "CLOSE",
+                20 => "ERROR",
+                21.. => "opcode 21+",
+                _ => "opcode other",
+            },
+            other => other.name(),
+        }
+    }
+
+    /// The output words that it needs where there are so many pending records and circuits. Document 01: "`handle` needs 4,136 words,
+    /// acknowledge 96, the revoking calls 96 for each pending record and circuit".
+    pub fn words_needed(&self, records: usize) -> usize {
+        match self {
+            Self::Handle { .. } => 4_136,
+            Self::Acknowledge { .. } => 96,
+            Self::Disconnect { .. } | Self::Revoke { .. } | Self::Expire { .. } | Self::Replace { .. } => 96 * records,
+            Self::New { .. } | Self::Observe { .. } | Self::Poke { .. } => 0,
+        }
+    }
+}

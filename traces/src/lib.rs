@@ -1,0 +1,21 @@
+//! Traces: calls of the relay with what they answered, as lines of text, and the proved library held to them. README.md has the format.
+
+pub mod answer;
+pub mod bytes;
+pub mod call;
+pub mod cause;
+mod fields;
+pub mod file;
+mod inputs;
+pub mod relay;
+pub mod replay;
+pub mod rng;
+pub mod state;
+mod stored;
+
+pub use answer::{After, Answer, Words};
+pub use call::{Call, Class, Grant};
+pub use cause::Cause;
+pub use lekchnam_host::OpaqueRelayConfig as Config;
+pub use relay::Relay;
+pub use state::State;

@@ -1,6 +1,7 @@
 //! The oracle: the Rust's `OpaqueRelayRuntime`, unchanged but for walking its maps by ascending
 //! key, behind calls on plain bytes and numbers.
 
+pub mod compare;
 pub mod generate;
 pub mod history;
 mod refusal;

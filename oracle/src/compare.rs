@@ -1,0 +1,53 @@
+//! The proved library beside the Rust, call by call.
+use crate::generate::{Event, Run};
+use lekchnam_traces::replay::Machine;
+use lekchnam_traces::{Answer, Relay};
+use std::collections::BTreeMap;
+
+/// How often each answer came.
+#[derive(Default)]
+pub struct Counts(BTreeMap<u8, u64>);
+
+/// In a trace file the calls begin in this line.
+const FIRST_LINE: usize = 3;
+
+impl Counts {
+    pub fn calls(&self) -> u64 {
+        self.0.values().sum()
+    }
+
+    fn add(&mut self, answer: &Answer) {
+        *self.0.entry(answer.number).or_default() += 1;
+    }
+}
+
+impl std::fmt::Display for Counts {
+    fn fmt(&self, f: &mut std::fmt::Formatter<'_>) -> std::fmt::Result {
+        let counts: Vec<String> = self.0.iter().map(|(number, count)| format!("{number}: {count}")).collect();
+        f.write_str(&counts.join(", "))
+    }
+}
+
+/// Compares every call of one seed's trace: the answer, its cause, every output word, status, next due, and the whole private state.
+pub fn compare(seed: u64, calls: usize, counts: &mut Counts) -> Result<(), String> {
+    let run = Run::new(seed, calls);
+    let mut library = Relay::new(run.places);
+    for (index, event) in run.enumerate() {
+        let came = library.call(event.class, &event.call);
+        if let Some(what) = difference(&event, &came, &library) {
+            let call = event.call.text(event.class);
+            let (rust, library) = (event.answer.text(true), came.text(true));
+            let line = index + FIRST_LINE;
+            return Err(format!("seed {seed}, line {line}: {what}\n  call    {call}\n  Rust    {rust}\n  library {library}"));
+        }
+        counts.add(&came);
+    }
+    Ok(())
+}
+
+fn difference(event: &Event, came: &Answer, library: &Relay) -> Option<String> {
+    event.answer.difference(came).or_else(|| match (&event.after, library.state()) {
+        (Some(expected), Some(came)) => expected.difference(&came),
+        (expected, came) => (expected.is_some() != came.is_some()).then(|| "one has a relay, the other none".to_owned()),
+    })
+}

@@ -88,6 +88,11 @@ pub struct Packet<'a> {
     pub random: &'a [u8],
 }
 
+/// The Rust's own.
+pub fn default_config() -> Config {
+    protocol::OpaqueRelayConfig::default().into()
+}
+
 pub struct Oracle {
     runtime: OpaqueRelayRuntime,
 }

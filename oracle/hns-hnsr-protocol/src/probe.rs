@@ -58,29 +58,29 @@ fn action((id, action): (&HnsrActionId, &InflightAction)) -> Action {
     }
 }
 
-/// The Rust's configuration and the traces': the same names.
-macro_rules! same_limits {
-    ($limits:expr, $other:ident) => {{
-        let limits = $limits;
-        $other {
-            maximum_pending: limits.maximum_pending,
-            maximum_circuits: limits.maximum_circuits,
-            maximum_circuits_per_peer: limits.maximum_circuits_per_peer,
-            maximum_queue_bytes: limits.maximum_queue_bytes,
-            maximum_inflight_actions: limits.maximum_inflight_actions,
-            maximum_inflight_actions_per_circuit: limits.maximum_inflight_actions_per_circuit,
-            maximum_inflight_actions_per_peer: limits.maximum_inflight_actions_per_peer,
-            maximum_bytes_per_circuit: limits.maximum_bytes_per_circuit,
-            accept_timeout_seconds: limits.accept_timeout_seconds,
+/// The Rust's configuration and the traces' have the same names.
+macro_rules! limits {
+    ($from:ident to $to:ident) => {
+        impl From<$from> for $to {
+            fn from(limits: $from) -> Self {
+                Self {
+                    maximum_pending: limits.maximum_pending,
+                    maximum_circuits: limits.maximum_circuits,
+                    maximum_circuits_per_peer: limits.maximum_circuits_per_peer,
+                    maximum_queue_bytes: limits.maximum_queue_bytes,
+                    maximum_inflight_actions: limits.maximum_inflight_actions,
+                    maximum_inflight_actions_per_circuit: limits.maximum_inflight_actions_per_circuit,
+                    maximum_inflight_actions_per_peer: limits.maximum_inflight_actions_per_peer,
+                    maximum_bytes_per_circuit: limits.maximum_bytes_per_circuit,
+                    accept_timeout_seconds: limits.accept_timeout_seconds,
+                }
+            }
         }
-    }};
+    };
 }
 
-impl From<Config> for OpaqueRelayConfig {
-    fn from(config: Config) -> Self {
-        same_limits!(config, Self)
-    }
-}
+limits!(Config to OpaqueRelayConfig);
+limits!(OpaqueRelayConfig to Config);
 
 impl OpaqueRelayRuntime {
     /// All private state, ids ascending.
@@ -91,7 +91,7 @@ impl OpaqueRelayRuntime {
             generation: self.generation,
             enabled: self.enabled,
             high_water: self.trusted_time_high_water,
-            config: same_limits!(self.config, Config),
+            config: self.config.into(),
             pending: self.pending.iter().map(pending).collect(),
             circuits: self.circuits.iter().map(circuit).collect(),
             ledger: self.reservation_usage.iter().map(usage).collect(),

@@ -1,6 +1,6 @@
 //! The sixteen cases of document 01. Prints its table and fails where an answer differs.
 use lekchnam_traces::{Config, Grant};
-use oracle::{Oracle, Outcome, Packet, words};
+use oracle::{Oracle, Outcome, Packet, default_config, words};
 
 const REQUESTER: &[u8] = b"requester";
 const ENDPOINT: &[u8] = b"endpoint";
@@ -9,7 +9,7 @@ const CONTEXT: [u8; 8] = *b"context1";
 const CIRCUIT: [u8; 8] = *b"circuit1";
 
 fn config(queue: Option<usize>) -> Config {
-    let default = Config::default();
+    let default = default_config();
     Config {
         maximum_pending: 2,
         maximum_circuits: 2,

@@ -1,7 +1,7 @@
 //! The proved library beside the Rust, call by call.
-use crate::generate::{Event, Run};
+use crate::generate::Run;
 use lekchnam_traces::replay::Machine;
-use lekchnam_traces::{Answer, Relay};
+use lekchnam_traces::{Answer, Event, Relay};
 use std::collections::BTreeMap;
 
 /// How often each answer came.

@@ -13,7 +13,7 @@ use lekchnam_traces::file::Places;
 use lekchnam_traces::rng::Rng;
 use lekchnam_traces::state::Kind;
 use lekchnam_traces::{Call, Class, Config, State};
-pub use run::{Event, Run};
+pub use run::Run;
 
 struct Reservation {
     id: [u8; 16],

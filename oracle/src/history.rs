@@ -1,9 +1,9 @@
 //! Document 01, "Reckoned from history", and its sentence on the counters, held against the Rust's state after each call. This is a
 //! check of the document, not part of the oracle.
 
-use crate::Outcome;
+use lekchnam_traces::event::Change;
 use lekchnam_traces::state::{Circuit, Kind};
-use lekchnam_traces::{Call, State};
+use lekchnam_traces::{Call, Event, State};
 use std::collections::BTreeMap;
 
 const COUNTERS: [&str; 5] = ["admitted_opens", "opened_circuits", "bytes_sent", "bytes_received", "revoked_work"];
@@ -25,13 +25,12 @@ impl History {
     }
 
     /// Reckons one call, and says what then differs from the Rust's state.
-    pub fn step(&mut self, before: &State, call: &Call, outcome: &Outcome, after: &State) -> Vec<&'static str> {
-        let taken = match outcome {
-            Ok(_) => true,
-            Err(refusal) => self.lenient && refusal.number == 6,
-        };
+    pub fn step(&mut self, event: &Event) -> Vec<&'static str> {
+        let Some(change) = event.change() else { return Vec::new() };
+        let Change { before, after } = change;
+        let taken = event.taken() || (self.lenient && event.answer.number == 6);
         let mut accepted = None;
-        if let Call::Handle { source, opcode, context, body, .. } = call {
+        if let Call::Handle { source, opcode, context, body, .. } = &event.call {
             match opcode {
                 13 => self.open(before, after),
                 15 if after.circuits.len() > before.circuits.len() => {
@@ -43,7 +42,7 @@ impl History {
                 _ => {}
             }
         }
-        self.count_ends(before, after, accepted);
+        self.count_ends(&change, accepted);
         let mut wrong = self.mismatches(after);
         wrong.extend(broken(after));
         wrong
@@ -85,10 +84,9 @@ impl History {
     }
 
     /// "revoked_work every other end of a pending record or circuit"
-    fn count_ends(&mut self, before: &State, after: &State, accepted: Option<[u8; 8]>) {
-        let pending = before.pending.iter().filter(|p| !after.pending.iter().any(|q| q.id == p.id));
-        let circuits = before.circuits.iter().filter(|c| !after.circuits.iter().any(|d| d.id == c.id));
-        self.counters[4] += (pending.filter(|p| accepted != Some(p.id)).count() + circuits.count()) as u64;
+    fn count_ends(&mut self, change: &Change<'_>, accepted: Option<[u8; 8]>) {
+        let pending = change.ended_pending().into_iter().filter(|p| accepted != Some(p.id));
+        self.counters[4] += (pending.count() + change.ended_circuits().len()) as u64;
     }
 
     fn mismatches(&self, after: &State) -> Vec<&'static str> {

@@ -2,7 +2,7 @@
 use crate::answer::Answer;
 use crate::call::{Call, Class};
 use crate::fields::Fields;
-use crate::state::line_of_state;
+use crate::state::{State, line_of_state};
 
 /// The least table places that a trace needs.
 #[derive(Clone, Copy, Debug, Eq, PartialEq)]
@@ -55,9 +55,30 @@ impl Places {
     }
 }
 
-/// The line of a call.
-pub fn line(class: Class, call: &Call, answer: &Answer, full: bool) -> String {
-    format!("{} => {}", call.text(class), answer.text(full))
+/// A trace file that is written.
+pub struct Writer {
+    lines: Vec<String>,
+    /// Whether every word is listed, however many there are.
+    full: bool,
+}
+
+impl Writer {
+    pub fn new(title: &str, places: Places, full: bool) -> Self {
+        Self { lines: vec![format!("# {title}"), places.text()], full }
+    }
+
+    pub fn call(&mut self, class: Class, call: &Call, answer: &Answer) {
+        self.lines.push(format!("{} => {}", call.text(class), answer.text(self.full)));
+    }
+
+    /// The state after the last call.
+    pub fn state(&mut self, state: &State) {
+        self.lines.extend(state.lines());
+    }
+
+    pub fn text(&self) -> String {
+        self.lines.join("\n") + "\n"
+    }
 }
 
 /// The traces of a file: each begins with its `places`.

@@ -1,6 +1,6 @@
 //! The format: lines are read back as they are written, and a damaged one is refused with its number.
 use lekchnam_traces::bytes::{body_bytes, body_text, hex, pattern, unhex};
-use lekchnam_traces::file::{Fault, line, read};
+use lekchnam_traces::file::{Fault, Places, Writer, read};
 use lekchnam_traces::{Answer, Call, Cause, Config, Grant, Words};
 
 const ID: [u8; 8] = [1, 2, 3, 4, 5, 6, 7, 0xff];
@@ -101,11 +101,12 @@ fn bytes_read_back() {
 fn text() -> String {
     let calls = calls();
     let told = Answer::parse("0 - 0 cbf29ce484222325 | 1 1 0 0 0 0 100 0 0 0 0 0 - 0").unwrap();
-    let mut lines = vec!["# a trace".to_owned(), "places 2 3 9 1".to_owned()];
-    lines.extend([&calls[0], &calls[5], &calls[9]].map(|call| line('d', call, &told, false)));
+    let mut trace = Writer::new("a trace", Places { pending: 2, circuits: 3, actions: 9, ledger: 1 }, false);
+    for call in [&calls[0], &calls[5], &calls[9]] {
+        trace.call('d', call, &told);
+    }
     let ledger = format!("#ledger {} 5 1000", hex(&[2; 16]));
-    lines.extend(["#state next_sequence 4", &ledger, "#action 1 3 0102030405060708 61 5 0"].map(str::to_owned));
-    lines.join("\n")
+    trace.text() + &["#state next_sequence 4", &ledger, "#action 1 3 0102030405060708 61 5 0"].join("\n")
 }
 
 /// The trace with one line changed.

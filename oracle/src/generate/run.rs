@@ -1,21 +1,10 @@
 //! A whole trace by its seed: each call as it is made, on the Rust.
 use super::Generator;
-use crate::Outcome;
 use crate::run::Rust;
 use lekchnam_traces::file::Places;
 use lekchnam_traces::replay::Machine;
-use lekchnam_traces::{Answer, Call, Class, State};
+use lekchnam_traces::{Call, Class, Event, State};
 use std::vec::IntoIter;
-
-/// A call, what it answered, and the private state before and after it.
-pub struct Event {
-    pub class: Class,
-    pub call: Call,
-    pub before: Option<State>,
-    pub outcome: Outcome,
-    pub answer: Answer,
-    pub after: Option<State>,
-}
 
 /// The calls of one seed, so many of them.
 pub struct Run {
@@ -54,6 +43,6 @@ impl Iterator for Run {
         }
         let (answer, after) = (self.rust.answer(&outcome), self.rust.state());
         let before = std::mem::replace(&mut self.state, after.clone());
-        Some(Event { class, call, before, outcome, answer, after })
+        Some(Event { class, call, before, answer, after })
     }
 }

@@ -1,4 +1,4 @@
-//! extra DIR   writes traces of edges that chance reaches badly
+//! extra DIR [NAME...]   writes traces of edges that chance reaches badly, all or those named
 //!
 //!   config.trace     `new` at and past every bound of the configuration (needs large tables)
 //!   utf8.trace       details around every edge of RFC 3629, and its section 7 samples
@@ -15,16 +15,24 @@ mod utf8;
 
 use script::Script;
 
+const SCRIPTS: [(&str, fn() -> Script); 5] = [
+    ("config", config::script),
+    ("utf8", utf8::script),
+    ("bodies", bodies::script),
+    ("draws", draws::script),
+    ("sequence", sequence::script),
+];
+
 fn main() {
-    let dir = std::env::args().nth(1).expect("extra DIR");
+    let mut args = std::env::args().skip(1);
+    let dir = args.next().expect("extra DIR [NAME...]");
+    let names: Vec<String> = args.collect();
     std::fs::create_dir_all(&dir).expect("DIR can be made");
-    let write = |name: &str, script: Script| {
-        println!("{name}: {} calls", script.calls());
-        std::fs::write(format!("{dir}/{name}.trace"), script.text()).expect("DIR can be written to");
-    };
-    write("config", config::script());
-    write("utf8", utf8::script());
-    write("bodies", bodies::script());
-    write("draws", draws::script());
-    write("sequence", sequence::script());
+    for (name, script) in SCRIPTS {
+        if names.is_empty() || names.iter().any(|asked| asked == name) {
+            let script = script();
+            println!("{name}: {} calls", script.calls());
+            std::fs::write(format!("{dir}/{name}.trace"), script.text()).expect("DIR can be written to");
+        }
+    }
 }

@@ -1,6 +1,6 @@
 //! A trace written call by call, and the calls that every script is made of.
 use lekchnam_traces::bytes::unhex;
-use lekchnam_traces::file::{self, Places};
+use lekchnam_traces::file::{Places, Writer};
 use lekchnam_traces::replay::Machine;
 use lekchnam_traces::{Call, Config, Grant};
 use oracle::default_config;
@@ -21,16 +21,15 @@ pub const NOW: u64 = 100;
 
 const KEY: &str = "0279be667ef9dcbbac55a06295ce870b07029bfcdb2dce28d959f2815b16f81798";
 
-#[derive(Default)]
 pub struct Script {
     rust: Rust,
-    head: String,
-    lines: Vec<String>,
+    trace: Writer,
+    calls: usize,
 }
 
 impl Script {
     pub fn new(title: &str, places: Places) -> Self {
-        Self { head: format!("# {title}\n{}\n", places.text()), ..Self::default() }
+        Self { rust: Rust::default(), trace: Writer::new(title, places, false), calls: 0 }
     }
 
     /// A script whose every relay has the limits of `small`.
@@ -41,18 +40,19 @@ impl Script {
     }
 
     pub fn calls(&self) -> usize {
-        self.lines.len()
+        self.calls
     }
 
     pub fn text(&self) -> String {
-        self.head.clone() + &self.lines.join("\n") + "\n"
+        self.trace.text()
     }
 
     /// Runs a call on the Rust and writes its line; the answer's number.
     pub fn call(&mut self, call: Call) -> u8 {
         let class = if matches!(call, Call::Poke { .. }) { 'p' } else { 'd' };
         let answer = self.rust.call(class, &call);
-        self.lines.push(file::line(class, &call, &answer, false));
+        self.trace.call(class, &call, &answer);
+        self.calls += 1;
         answer.number
     }
 

@@ -4,9 +4,10 @@
 
 mod stats;
 
+use lekchnam_traces::file::Writer;
 use lekchnam_traces::replay::replay_files;
-use lekchnam_traces::{State, file};
-use oracle::generate::{Event, Run};
+use lekchnam_traces::{Event, State};
+use oracle::generate::Run;
 use oracle::history::History;
 use oracle::run::Rust;
 use stats::Stats;
@@ -34,11 +35,10 @@ impl Reckoning {
 
     fn step(&mut self, event: &Event, stats: &mut Stats) {
         self.poked |= event.class == 'p';
-        let (Some(before), Some(after)) = (&event.before, &event.after) else { return };
-        for wrong in self.history.step(before, &event.call, &event.outcome, after) {
+        for wrong in self.history.step(event) {
             stats.history(if self.poked { "poked" } else { "in a run" }, wrong);
         }
-        for wrong in self.lenient.step(before, &event.call, &event.outcome, after) {
+        for wrong in self.lenient.step(event) {
             stats.lenient(wrong);
         }
     }
@@ -47,7 +47,7 @@ impl Reckoning {
 /// The text of one trace.
 fn one(seed: u64, calls: usize, options: Options, stats: &mut Stats) -> String {
     let run = Run::new(seed, calls);
-    let mut text = vec![format!("# trace {seed}"), run.places.text()];
+    let mut trace = Writer::new(&format!("trace {seed}"), run.places, options.full);
     let mut reckoning = Reckoning::new();
     stats.traces += 1;
     for event in run {
@@ -55,10 +55,12 @@ fn one(seed: u64, calls: usize, options: Options, stats: &mut Stats) -> String {
         assert!(count <= limit, "{count} words, document 01 allows {limit}: {}", event.call.text(event.class));
         stats.count(&event);
         reckoning.step(&event, stats);
-        text.push(file::line(event.class, &event.call, &event.answer, options.full));
-        text.extend(event.after.filter(|_| options.state).iter().flat_map(State::lines));
+        trace.call(event.class, &event.call, &event.answer);
+        if let (true, Some(state)) = (options.state, &event.after) {
+            trace.state(state);
+        }
     }
-    text.join("\n") + "\n"
+    trace.text()
 }
 
 /// Seeds FIRST .. FIRST + COUNT, and what is done with the text of each.

@@ -1,7 +1,8 @@
-//! The proved library beside the Rust, call by call.
+//! The proved library, or another machine, beside the Rust, call by call.
 use crate::generate::Run;
+use lekchnam_traces::file::Places;
 use lekchnam_traces::replay::Machine;
-use lekchnam_traces::{Answer, Event, Relay};
+use lekchnam_traces::{Answer, Event};
 use std::collections::BTreeMap;
 
 /// How often each answer came.
@@ -29,24 +30,24 @@ impl std::fmt::Display for Counts {
 }
 
 /// Compares every call of one seed's trace: the answer, its cause, every output word, status, next due, and the whole private state.
-pub fn compare(seed: u64, calls: usize, counts: &mut Counts) -> Result<(), String> {
+pub fn compare<Runs: Machine>(seed: u64, calls: usize, make: impl Fn(Places) -> Runs, counts: &mut Counts) -> Result<(), String> {
     let run = Run::new(seed, calls);
-    let mut library = Relay::new(run.places);
+    let mut machine = make(run.places);
     for (index, event) in run.enumerate() {
-        let came = library.call(event.class, &event.call);
-        if let Some(what) = difference(&event, &came, &library) {
+        let came = machine.call(event.class, &event.call);
+        if let Some(what) = difference(&event, &came, &machine) {
             let call = event.call.text(event.class);
-            let (rust, library) = (event.answer.text(true), came.text(true));
+            let (rust, came) = (event.answer.text(true), came.text(true));
             let line = index + FIRST_LINE;
-            return Err(format!("seed {seed}, line {line}: {what}\n  call    {call}\n  Rust    {rust}\n  library {library}"));
+            return Err(format!("seed {seed}, line {line}: {what}\n  call {call}\n  Rust {rust}\n  came {came}"));
         }
         counts.add(&came);
     }
     Ok(())
 }
 
-fn difference(event: &Event, came: &Answer, library: &Relay) -> Option<String> {
-    event.answer.difference(came).or_else(|| match (&event.after, library.state()) {
+fn difference(event: &Event, came: &Answer, machine: &impl Machine) -> Option<String> {
+    event.answer.difference(came).or_else(|| match (&event.after, machine.state()) {
         (Some(expected), Some(came)) => expected.difference(&came),
         (expected, came) => (expected.is_some() != came.is_some()).then(|| "one has a relay, the other none".to_owned()),
     })

@@ -6,12 +6,12 @@ mod open;
 mod run;
 mod start;
 
-use crate::Route;
 pub use details::{invalid_details, valid_details};
 use lekchnam_traces::bytes::pattern;
 use lekchnam_traces::file::Places;
 use lekchnam_traces::rng::Rng;
 use lekchnam_traces::state::Kind;
+use lekchnam_traces::words::Route;
 use lekchnam_traces::{Call, Class, Config, State};
 pub use run::Run;
 

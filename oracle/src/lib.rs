@@ -6,26 +6,15 @@ pub mod generate;
 pub mod history;
 mod refusal;
 pub mod run;
-mod words;
 
 use hns_hnsr_protocol as protocol;
+use lekchnam_traces::words::Route;
 use lekchnam_traces::{After, Config, Grant, State};
 use protocol::{
     ConfirmedReservation, HnsrActionId, HnsrOpcode, HnsrPacket, HnsrPeerId, OpaqueRelayRuntime, QueuedHnsrRoute, RelayService,
     RelayTicket,
 };
 pub use refusal::Refusal;
-pub use words::words;
-
-#[derive(Clone, Debug, Eq, PartialEq)]
-pub struct Route {
-    pub peer: Vec<u8>,
-    pub generation: u64,
-    pub sequence: u64,
-    pub opcode: u8,
-    pub context: [u8; 8],
-    pub body: Vec<u8>,
-}
 
 pub type Outcome = Result<Vec<Route>, Refusal>;
 

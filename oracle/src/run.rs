@@ -1,6 +1,7 @@
 //! The calls of a trace, run on the Rust.
-use crate::{Oracle, Outcome, Packet, words};
+use crate::{Oracle, Outcome, Packet};
 use lekchnam_traces::replay::Machine;
+use lekchnam_traces::words::words;
 use lekchnam_traces::{Answer, Call, Cause, Class, State, Words};
 
 /// The Rust as what runs a trace.

@@ -1,6 +1,7 @@
 //! What a call answers and what is then told from outside: the part of a line behind ` => `.
 use crate::cause::Cause;
 use crate::fields::Fields;
+use lekchnam_host::HnsrRuntimeError;
 use std::fmt::{Display, Write};
 
 /// How many words are listed unless all are asked for.
@@ -128,6 +129,16 @@ impl After {
 }
 
 impl Answer {
+    /// From the output words of a call that is taken, or the refusal.
+    pub fn of(answer: Result<Vec<u32>, HnsrRuntimeError>, after: Option<After>) -> Self {
+        let (number, cause, words) = match answer {
+            Ok(words) => (0, Cause::None, words),
+            Err(HnsrRuntimeError::Protocol(error)) => (1, error.into(), Vec::new()),
+            Err(error) => (error.number() as u8, Cause::None, Vec::new()),
+        };
+        Self { number, cause, words: Words::of(words), after }
+    }
+
     /// `ANSWER CAUSE N HASH WORDS... | STATUS... DUE LEDGER`; `full`: however many words there are, they are listed.
     pub fn text(&self, full: bool) -> String {
         let after = self.after.as_ref().map_or("-".to_owned(), After::text);

@@ -9,12 +9,14 @@ pub mod event;
 mod fields;
 pub mod file;
 mod inputs;
+pub mod reading;
 pub mod relay;
 pub mod replay;
 pub mod required;
 pub mod rng;
 pub mod state;
 mod stored;
+pub mod words;
 
 pub use answer::{After, Answer, Words};
 pub use call::{Call, Class, Grant};

@@ -1,7 +1,6 @@
 //! The calls of a trace, run on the proved library.
-use crate::answer::{After, Answer, Words};
+use crate::answer::{After, Answer};
 use crate::call::{Call, Class, Grant};
-use crate::cause::Cause;
 use crate::file::Places;
 use crate::replay::Machine;
 use crate::state::State;
@@ -153,12 +152,8 @@ fn status(s: &HnsrRuntimeStatus) -> [u64; 12] {
 
 impl Machine for Relay {
     fn call(&mut self, _: Class, call: &Call) -> Answer {
-        let (number, cause, words) = match self.run(call) {
-            Ok(words) => (0, Cause::None, words),
-            Err(HnsrRuntimeError::Protocol(error)) => (1, error.into(), Vec::new()),
-            Err(error) => (error.number() as u8, Cause::None, Vec::new()),
-        };
-        Answer { number, cause, words: Words::of(words), after: self.library.as_ref().map(after) }
+        let answer = self.run(call);
+        Answer::of(answer, self.library.as_ref().map(after))
     }
 
     fn state(&self) -> Option<State> {

@@ -1,6 +1,7 @@
 //! The sixteen cases of document 01. Prints its table and fails where an answer differs.
+use lekchnam_traces::words::words;
 use lekchnam_traces::{Config, Grant};
-use oracle::{Oracle, Outcome, Packet, default_config, words};
+use oracle::{Oracle, Outcome, Packet, default_config};
 
 const REQUESTER: &[u8] = b"requester";
 const ENDPOINT: &[u8] = b"endpoint";

@@ -1,6 +1,7 @@
 //! compare FIRST COUNT CALLS   holds the proved library to the Rust: the traces of COUNT seeds from FIRST on, CALLS calls each
 //!
 //! Exits 1 at the first difference, with the seed, the line that the call has in the seed's trace, the call and both answers.
+use lekchnam_traces::Relay;
 use oracle::compare::{Counts, compare};
 use std::process::ExitCode;
 use std::time::Instant;
@@ -18,7 +19,7 @@ fn main() -> ExitCode {
     let start = Instant::now();
     let mut counts = Counts::default();
     for seed in first..first + count {
-        if let Err(difference) = compare(seed, calls as usize, &mut counts) {
+        if let Err(difference) = compare(seed, calls as usize, Relay::new, &mut counts) {
             println!("{difference}");
             return ExitCode::from(1);
         }

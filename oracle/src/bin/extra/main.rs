@@ -15,7 +15,9 @@ mod utf8;
 
 use script::Script;
 
-const SCRIPTS: [(&str, fn() -> Script); 5] = [
+type Named = (&'static str, fn() -> Script);
+
+const SCRIPTS: [Named; 5] = [
     ("config", config::script),
     ("utf8", utf8::script),
     ("bodies", bodies::script),

@@ -1,5 +1,15 @@
 //! Document 01, "Output words".
-use crate::Route;
+
+/// A packet on its way to a peer, and its number.
+#[derive(Clone, Debug, Eq, PartialEq)]
+pub struct Route {
+    pub peer: Vec<u8>,
+    pub generation: u64,
+    pub sequence: u64,
+    pub opcode: u8,
+    pub context: [u8; 8],
+    pub body: Vec<u8>,
+}
 
 fn pack(out: &mut Vec<u32>, bytes: &[u8], count: usize) {
     for index in 0..count {

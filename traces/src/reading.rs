@@ -1,0 +1,183 @@
+//! A second reading of document 01: the relay over tables as found, written for the tests to compare the library with.
+//!
+//! It is short and slow, and takes of the library only the checks of bodies, packets and limits, which are compared by themselves.
+
+mod circuits;
+mod machine;
+mod open;
+mod queue;
+mod revoking;
+mod table;
+
+use crate::answer::After;
+use crate::{Call, Config, Grant};
+use lekchnam_host::HnsrRuntimeError as Refused;
+use lekchnam_host::body::validate_packet;
+use lekchnam_host::lent::{ReservationUsage, Runtime, RuntimeCounters, StoredPeer, Tables};
+use table::{count, drop_all};
+
+pub use crate::words::Route;
+pub use machine::Reading;
+
+/// The routes of a call that is taken, or the refusal.
+pub type Outcome = Result<Vec<Route>, Refused>;
+
+/// What a host keeps: the header and the tables.
+#[derive(Clone, Debug, Eq, PartialEq)]
+pub struct World {
+    pub runtime: Runtime,
+    pub tables: Tables,
+}
+
+/// A packet with what the host hands over.
+struct Packet<'call> {
+    source: &'call [u8],
+    opcode: u8,
+    context: u64,
+    body: &'call [u8],
+    now: u64,
+    key_valid: bool,
+    admission: Option<&'call Grant>,
+    random: &'call [u8],
+}
+
+impl World {
+    /// Makes a call that is lent so many output words.
+    pub fn call(&mut self, call: &Call, room: usize) -> Outcome {
+        match call {
+            Call::New { session, generation, config, now } => return self.start(*session, *generation, *config, *now),
+            Call::Observe { now } => return self.clock(*now).map(|()| Vec::new()),
+            Call::Poke { sequence } => {
+                self.runtime.next_action_sequence = *sequence;
+                return Ok(Vec::new());
+            }
+            _ => self.lent_enough(call, room)?,
+        }
+        match call {
+            Call::Handle { source, opcode, context, body, now, key_valid, admission, random } => self.handle(&Packet {
+                source,
+                opcode: *opcode,
+                context: u64::from_be_bytes(*context),
+                body,
+                now: *now,
+                key_valid: *key_valid,
+                admission: admission.as_ref(),
+                random,
+            }),
+            Call::Acknowledge { generation, sequence, delivered } => self.acknowledge(*generation, *sequence, *delivered),
+            Call::Disconnect { peer } => self.disconnect(peer),
+            Call::Revoke { reservation } => Ok(self.revoke_reservation((*reservation).into())),
+            Call::Expire { now } => self.expire(*now),
+            Call::Replace { expected, enabled } => self.replace_enabled(*expected, *enabled),
+            Call::New { .. } | Call::Observe { .. } | Call::Poke { .. } => unreachable!("they are above"),
+        }
+    }
+
+    /// "new: 3 session zero or generation 0; 2 what `OpaqueRelayConfig::validate` refuses; 22 Short: a table has fewer places than its
+    /// maximum, or the ledger none". "`new` marks every place unused."
+    fn start(&mut self, session: [u8; 16], generation: u64, config: Config, now: u64) -> Outcome {
+        refuse(session == [0; 16] || generation == 0, Refused::InvalidSession)?;
+        config.validate()?;
+        refuse(short(&config, &self.tables) || self.tables.ledger.is_empty(), Refused::Short)?;
+        drop_all(&mut self.tables.pending, |_| true);
+        drop_all(&mut self.tables.circuits, |_| true);
+        drop_all(&mut self.tables.ledger, |_| true);
+        drop_all(&mut self.tables.inflight, |_| true);
+        self.runtime = Runtime {
+            session,
+            generation,
+            enabled: true,
+            trusted_time_high_water: now,
+            config,
+            next_action_sequence: 1,
+            counters: RuntimeCounters::default(),
+        };
+        Ok(Vec::new())
+    }
+
+    /// "22 output words too few or a table shorter than its maximum".
+    fn lent_enough(&self, call: &Call, room: usize) -> Result<(), Refused> {
+        refuse(short(&self.runtime.config, &self.tables) || room < call.words_needed(self.records()), Refused::Short)
+    }
+
+    /// How many pending records and circuits there are.
+    pub fn records(&self) -> usize {
+        count(&self.tables.pending, |_| true) + count(&self.tables.circuits, |_| true)
+    }
+
+    /// "7 now behind the high water; from here the clock has moved".
+    fn clock(&mut self, now: u64) -> Result<(), Refused> {
+        refuse(now < self.runtime.trusted_time_high_water, Refused::ClockRollback)?;
+        self.runtime.trusted_time_high_water = now;
+        Ok(())
+    }
+
+    /// "4 peer length; 1 packet that `HnsrPacket::validate` refuses"; the clock; "9 disabled; 16 another opcode, 21 up included".
+    fn handle(&mut self, packet: &Packet<'_>) -> Outcome {
+        named(packet.source)?;
+        validate_packet(packet.opcode, packet.context.to_be_bytes(), packet.body.len())?;
+        self.clock(packet.now)?;
+        refuse(!self.runtime.enabled, Refused::Disabled)?;
+        match packet.opcode {
+            13 => self.open(packet),
+            15 => self.accept(packet),
+            17 => self.data(packet),
+            18 => self.window(packet),
+            19 | 20 => self.close(packet),
+            _ => Err(Refused::UnexpectedOpcode),
+        }
+    }
+
+    /// "Ledger records with expiry not after now are dropped".
+    fn drop_lapsed(&mut self, now: u64) {
+        drop_all(&mut self.tables.ledger, |usage: &ReservationUsage| usage.expires_at <= now);
+    }
+
+    /// What is told, or the 22 of `status` and `next_due`.
+    pub fn told(&self) -> Result<After, Refused> {
+        let (runtime, tables) = (&self.runtime, &self.tables);
+        refuse(short(&runtime.config, tables), Refused::Short)?;
+        let circuits = || tables.circuits.iter().filter(|circuit| circuit.used);
+        let queues = circuits().flat_map(|circuit| [circuit.queued_to_requester, circuit.queued_to_endpoint]);
+        let deadlines = tables.pending.iter().filter(|pending| pending.used).map(|pending| pending.deadline);
+        let counters = &runtime.counters;
+        Ok(After {
+            status: [
+                runtime.generation,
+                runtime.enabled.into(),
+                count(&tables.pending, |_| true) as u64,
+                count(&tables.circuits, |_| true) as u64,
+                queues.fold(0, usize::saturating_add) as u64,
+                count(&tables.inflight, |_| true) as u64,
+                runtime.trusted_time_high_water,
+                counters.admitted_opens,
+                counters.opened_circuits,
+                counters.bytes_sent,
+                counters.bytes_received,
+                counters.revoked_work,
+            ],
+            due: deadlines.chain(circuits().map(|circuit| circuit.expires_at)).min(),
+            ledger: count(&tables.ledger, |_| true),
+        })
+    }
+}
+
+fn refuse(refused: bool, by: Refused) -> Result<(), Refused> {
+    if refused { Err(by) } else { Ok(()) }
+}
+
+fn short(config: &Config, tables: &Tables) -> bool {
+    tables.pending.len() < config.maximum_pending
+        || tables.circuits.len() < config.maximum_circuits
+        || tables.inflight.len() < config.maximum_inflight_actions
+}
+
+/// "A peer is 1 to 128 bytes."
+fn named(name: &[u8]) -> Result<StoredPeer, Refused> {
+    lekchnam_host::HnsrPeerId::new(name).map(StoredPeer::from)
+}
+
+/// "a peer length over 128 reads as 128".
+fn same(one: &StoredPeer, other: &StoredPeer) -> bool {
+    one.as_bytes() == other.as_bytes()
+}

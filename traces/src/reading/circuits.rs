@@ -1,0 +1,162 @@
+//! ACCEPT, DATA, WINDOW, CLOSE and ERROR.
+use super::queue::{Kind, Message};
+use super::table::{count, drop_all, lowest, put};
+use super::{Outcome, Packet, Refused, World, named, refuse, same};
+use lekchnam_host::body::{AcceptBody, CloseBody, DataBody, WindowBody};
+use lekchnam_host::lent::{RelayCircuit, RelayPending, StoredPeer};
+
+const MOST_CREDIT: u64 = 1_048_576;
+
+/// The circuit that a packet names: its place, and whether the requester sends.
+struct Named {
+    place: usize,
+    by_requester: bool,
+}
+
+impl World {
+    pub(super) fn accept(&mut self, packet: &Packet<'_>) -> Outcome {
+        let id = packet.context;
+        let (config, tables) = (self.runtime.config, &self.tables);
+        let place = lowest(&tables.pending, |p| p.circuit_id == id).ok_or(Refused::UnknownRequest)?;
+        let p = tables.pending[place];
+        refuse(!same(&p.endpoint, &named(packet.source)?), Refused::WrongPeer)?;
+        refuse(p.deadline <= packet.now || p.ticket.expires_at <= packet.now, Refused::InvalidAdmission)?;
+        let body = AcceptBody::decode(packet.body)?;
+        let full = body.accepted_window > p.initial_window
+            || count(&tables.circuits, |_| true) >= config.maximum_circuits
+            || self.under(p.ticket.reservation_id) > p.ticket.max_active_circuits.into();
+        refuse(full, Refused::Capacity)?;
+        self.action_room(id, &p.requester, Some(id))?;
+        self.tables.pending[place].used = false;
+        drop_all(&mut self.tables.inflight, |action| action.circuit_id == id);
+        let circuit = started(&p, body.accepted_window, config.maximum_bytes_per_circuit);
+        put(&mut self.tables.circuits, |other| other.circuit_id == id, circuit);
+        let opened = &mut self.runtime.counters.opened_circuits;
+        *opened = opened.saturating_add(1);
+        self.queue(Message {
+            destination: p.requester,
+            circuit: id,
+            opcode: 16,
+            context: p.requester_context,
+            // "OPENED 28: circuit 8, then ACCEPT."
+            body: [&id.to_be_bytes()[..], packet.body].concat(),
+            kind: Kind::Opened,
+            to_endpoint: false,
+        })
+    }
+
+    /// "14; 15": no such circuit, or the sender is no side of it; then "10" actions.
+    fn named_circuit(&self, packet: &Packet<'_>) -> Result<Named, Refused> {
+        let circuits = &self.tables.circuits;
+        let place = lowest(circuits, |c| c.circuit_id == packet.context).ok_or(Refused::UnknownCircuit)?;
+        let source = named(packet.source)?;
+        let by_requester = same(&circuits[place].requester, &source);
+        refuse(!by_requester && !same(&circuits[place].endpoint, &source), Refused::WrongPeer)?;
+        Ok(Named { place, by_requester })
+    }
+
+    /// The side that hears.
+    fn receiver(&self, named: &Named) -> StoredPeer {
+        let circuit = &self.tables.circuits[named.place];
+        if named.by_requester { circuit.endpoint } else { circuit.requester }
+    }
+
+    /// "Charges the sender's credit, circuit bytes, ledger and the queue toward the other side."
+    pub(super) fn data(&mut self, packet: &Packet<'_>) -> Outcome {
+        DataBody::decode(packet.body)?;
+        let named = self.named_circuit(packet)?;
+        let receiver = self.receiver(&named);
+        self.action_room(packet.context, &receiver, None)?;
+        let amount = packet.body.len() as u64;
+        let circuit = &mut self.tables.circuits[named.place];
+        let reservation = circuit.reservation_id;
+        let place = lowest(&self.tables.ledger, |usage| usage.reservation_id == reservation).ok_or(Refused::InvalidAdmission)?;
+        let usage = &mut self.tables.ledger[place];
+        let spent = [circuit.forwarded_bytes, usage.bytes].map(|bytes| bytes.saturating_add(amount));
+        refuse(spent[0] > circuit.maximum_bytes || spent[1] > circuit.maximum_total_bytes, Refused::ByteLimit)?;
+        let (credit, queue) = match named.by_requester {
+            true => (&mut circuit.requester_credit, &mut circuit.queued_to_endpoint),
+            false => (&mut circuit.endpoint_credit, &mut circuit.queued_to_requester),
+        };
+        let queued = queue.saturating_add(packet.body.len());
+        refuse(u64::from(*credit) < amount || queued > self.runtime.config.maximum_queue_bytes, Refused::FlowControl)?;
+        *credit -= amount as u32;
+        *queue = queued;
+        [circuit.forwarded_bytes, usage.bytes] = spent;
+        let counters = &mut self.runtime.counters;
+        counters.bytes_sent = counters.bytes_sent.saturating_add(amount);
+        counters.bytes_received = counters.bytes_received.saturating_add(amount);
+        self.queue(Message { to_endpoint: named.by_requester, ..forwarded(packet, receiver, Kind::Data) })
+    }
+
+    /// "Raises the other side's credit."
+    pub(super) fn window(&mut self, packet: &Packet<'_>) -> Outcome {
+        let body = WindowBody::decode(packet.body)?;
+        let named = self.named_circuit(packet)?;
+        let receiver = self.receiver(&named);
+        self.action_room(packet.context, &receiver, None)?;
+        let circuit = &mut self.tables.circuits[named.place];
+        let credit = if named.by_requester { &mut circuit.endpoint_credit } else { &mut circuit.requester_credit };
+        let raised = u64::from(*credit) + u64::from(body.credit_delta);
+        refuse(raised > MOST_CREDIT, Refused::FlowControl)?;
+        *credit = raised as u32;
+        self.queue(forwarded(packet, receiver, Kind::Control))
+    }
+
+    /// "End a pending record, which the requester names by its own context and the endpoint by circuit id (context translated), or a
+    /// circuit; its actions are dropped."
+    pub(super) fn close(&mut self, packet: &Packet<'_>) -> Outcome {
+        CloseBody::decode(packet.body)?;
+        let source = named(packet.source)?;
+        let names = |p: &RelayPending| {
+            same(&p.requester, &source) && p.requester_context == packet.context
+                || same(&p.endpoint, &source) && p.circuit_id == packet.context
+        };
+        refuse(count(&self.tables.pending, names) > 1, Refused::InvalidAdmission)?;
+        let Some(place) = lowest(&self.tables.pending, names) else {
+            let named = self.named_circuit(packet)?;
+            let receiver = self.receiver(&named);
+            self.end_circuit(named.place);
+            return self.queue(forwarded(packet, receiver, Kind::Close));
+        };
+        let p = self.tables.pending[place];
+        self.end_pending(place);
+        let (receiver, context) = match same(&p.requester, &source) {
+            true => (p.endpoint, p.circuit_id),
+            false => (p.requester, p.requester_context),
+        };
+        self.queue(Message { circuit: p.circuit_id, context, ..forwarded(packet, receiver, Kind::Close) })
+    }
+}
+
+/// "the circuit starts with both credits at the accepted window and its byte limit at the smaller of the grant's and the configuration's".
+fn started(p: &RelayPending, window: u32, most_bytes: u64) -> RelayCircuit {
+    RelayCircuit {
+        used: true,
+        circuit_id: p.circuit_id,
+        requester: p.requester,
+        endpoint: p.endpoint,
+        reservation_id: p.ticket.reservation_id,
+        expires_at: p.ticket.expires_at,
+        maximum_bytes: p.ticket.max_bytes_per_circuit.min(most_bytes),
+        maximum_total_bytes: p.ticket.max_total_bytes,
+        requester_credit: window,
+        endpoint_credit: window,
+        forwarded_bytes: 0,
+        queued_to_requester: 0,
+        queued_to_endpoint: 0,
+    }
+}
+
+/// The packet itself, on to the other side.
+fn forwarded(packet: &Packet<'_>, receiver: StoredPeer, kind: Kind) -> Message {
+    Message {
+        destination: receiver,
+        circuit: packet.context,
+        opcode: packet.opcode,
+        context: packet.context,
+        body: packet.body.to_vec(),
+        kind,
+        to_endpoint: false,
+    }
+}

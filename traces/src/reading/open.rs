@@ -1,0 +1,126 @@
+//! OPEN.
+use super::queue::{Kind, Message};
+use super::table::{count, lowest, put};
+use super::{Outcome, Packet, Refused, World, named, refuse, same};
+use crate::Grant;
+use lekchnam_host::body::{OpenBody, ProtocolError};
+use lekchnam_host::lent::{RelayPending, RelayTicket, ReservationId, ReservationUsage, StoredPeer};
+
+/// "8 in a row refuse"; "one of 8 candidates".
+const MOST_DRAWS: usize = 8;
+
+impl World {
+    pub(super) fn open(&mut self, packet: &Packet<'_>) -> Outcome {
+        let requester = named(packet.source)?;
+        self.open_room(&requester, packet.context)?;
+        let body = OpenBody::decode(packet.body, packet.key_valid)?;
+        let grant = packet.admission.filter(|grant| grant.expires_at > packet.now).ok_or(ProtocolError::Admission)?;
+        self.drop_lapsed(packet.now);
+        let endpoint = named(&grant.endpoint)?;
+        let busy = same(&endpoint, &requester)
+            || self.at_most_work(&endpoint)
+            || self.under(body.reservation_id.into()) >= grant.max_active_circuits.into();
+        refuse(busy, Refused::Capacity)?;
+        let circuit_id = self.drawn(packet.random).ok_or(Refused::Randomness)?;
+        self.action_room(circuit_id, &endpoint, None)?;
+        let timeout = self.runtime.config.accept_timeout_seconds;
+        let latest = packet.now.checked_add(timeout).ok_or(Refused::Deadline)?;
+        self.book(grant)?;
+        let record = RelayPending {
+            used: true,
+            circuit_id,
+            requester,
+            endpoint,
+            requester_context: packet.context,
+            ticket: ticket(grant),
+            initial_window: body.initial_window,
+            deadline: latest.min(grant.expires_at),
+        };
+        put(&mut self.tables.pending, |other| other.circuit_id == circuit_id, record);
+        let opens = &mut self.runtime.counters.admitted_opens;
+        *opens = opens.saturating_add(1);
+        self.queue(incoming(&record, &body))
+    }
+
+    /// "10 pending or circuits full, requester's work at its most, same requester and context pending".
+    fn open_room(&self, requester: &StoredPeer, context: u64) -> Result<(), Refused> {
+        let (config, tables) = (&self.runtime.config, &self.tables);
+        let repeated = |p: &RelayPending| same(&p.requester, requester) && p.requester_context == context;
+        let full = count(&tables.pending, |_| true) >= config.maximum_pending
+            || count(&tables.circuits, |_| true) >= config.maximum_circuits
+            || self.at_most_work(requester)
+            || lowest(&tables.pending, repeated).is_some();
+        refuse(full, Refused::Capacity)
+    }
+
+    /// Whether a peer has its most of pending records and circuits, being either side of them.
+    fn at_most_work(&self, peer: &StoredPeer) -> bool {
+        let pending = count(&self.tables.pending, |p| same(&p.requester, peer) || same(&p.endpoint, peer));
+        let circuits = count(&self.tables.circuits, |c| same(&c.requester, peer) || same(&c.endpoint, peer));
+        pending + circuits >= self.runtime.config.maximum_circuits_per_peer.into()
+    }
+
+    /// The pending records and circuits that store a reservation's id.
+    pub(super) fn under(&self, id: ReservationId) -> usize {
+        count(&self.tables.pending, |p| p.ticket.reservation_id == id) + count(&self.tables.circuits, |c| c.reservation_id == id)
+    }
+
+    /// "An all-zero draw is drawn again, 8 in a row refuse. A draw that is already a pending or circuit id counts as one of 8 candidates.
+    /// Running out refuses; a tail under eight is ignored."
+    fn drawn(&self, random: &[u8]) -> Option<u64> {
+        let (mut zeros, mut candidates) = (0, 0);
+        for draw in random.chunks_exact(8) {
+            let id = u64::from_be_bytes(draw.try_into().expect("eight bytes"));
+            let taken = lowest(&self.tables.pending, |p| p.circuit_id == id).is_some()
+                || lowest(&self.tables.circuits, |c| c.circuit_id == id).is_some();
+            match (id, taken) {
+                (0, _) => zeros += 1,
+                (_, true) => (zeros, candidates) = (0, candidates + 1),
+                (_, false) => return Some(id),
+            }
+            if zeros == MOST_DRAWS || candidates == MOST_DRAWS {
+                return None;
+            }
+        }
+        None
+    }
+
+    /// "23 ledger full and record missing"; "A missing ledger record is made before the ByteLimit test and stays"; "18 expiry differs or
+    /// bytes used up".
+    fn book(&mut self, grant: &Grant) -> Result<(), Refused> {
+        let id = ReservationId::from(grant.reservation_id);
+        let ledger = &mut self.tables.ledger;
+        let under = |usage: &ReservationUsage| usage.reservation_id == id;
+        if lowest(ledger, under).is_none() {
+            refuse(count(ledger, |_| true) == ledger.len(), Refused::LedgerFull)?;
+            put(ledger, under, ReservationUsage { used: true, reservation_id: id, bytes: 0, expires_at: grant.expires_at });
+        }
+        let usage = &ledger[lowest(ledger, under).expect("it was made")];
+        refuse(usage.expires_at != grant.expires_at || usage.bytes >= grant.max_total_bytes, Refused::ByteLimit)
+    }
+}
+
+fn ticket(grant: &Grant) -> RelayTicket {
+    RelayTicket {
+        reservation_id: grant.reservation_id.into(),
+        expires_at: grant.expires_at,
+        max_active_circuits: grant.max_active_circuits,
+        max_bytes_per_circuit: grant.max_bytes_per_circuit,
+        max_total_bytes: grant.max_total_bytes,
+    }
+}
+
+/// "INCOMING 62: ticket 32, request 8, profile 2, nonce 16, window 4."
+fn incoming(record: &RelayPending, open: &OpenBody) -> Message {
+    let (request, profile, window) =
+        (record.requester_context.to_be_bytes(), open.profile.to_le_bytes(), open.initial_window.to_le_bytes());
+    Message {
+        destination: record.endpoint,
+        circuit: record.circuit_id,
+        opcode: 14,
+        context: record.circuit_id,
+        body: [&open.ticket_id[..], &request, &profile, &open.requester_nonce, &window].concat(),
+        kind: Kind::Incoming,
+        to_endpoint: false,
+    }
+}

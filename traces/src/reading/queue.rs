@@ -1,0 +1,81 @@
+//! A message becomes a route and an outstanding action.
+use super::table::{count, put};
+use super::{Outcome, Refused, Route, World, refuse, same};
+use lekchnam_host::body::{Invalid, ProtocolError};
+use lekchnam_host::lent::{InflightAction, StoredPeer};
+
+/// "An action's kind is its message's name, but Control for WINDOW and Close for CLOSE and ERROR."
+#[derive(Clone, Copy)]
+pub enum Kind {
+    Incoming = 0,
+    Opened = 1,
+    Data = 2,
+    Control = 3,
+    Close = 4,
+}
+
+impl Kind {
+    pub fn stored(number: u8) -> Self {
+        [Self::Incoming, Self::Opened, Self::Data, Self::Control].get(usize::from(number)).copied().unwrap_or(Self::Close)
+    }
+}
+
+pub struct Message {
+    pub destination: StoredPeer,
+    pub circuit: u64,
+    pub opcode: u8,
+    pub context: u64,
+    pub body: Vec<u8>,
+    pub kind: Kind,
+    /// Of Data.
+    pub to_endpoint: bool,
+}
+
+impl World {
+    /// "10 actions": in all, about the circuit and toward the peer. ACCEPT does not count those that it drops.
+    pub(super) fn action_room(&self, circuit: u64, peer: &StoredPeer, dropped: Option<u64>) -> Result<(), Refused> {
+        let (config, inflight) = (&self.runtime.config, &self.tables.inflight);
+        let stays = |action: &InflightAction| dropped != Some(action.circuit_id);
+        let all = count(inflight, stays);
+        let about = count(inflight, |action| stays(action) && action.circuit_id == circuit);
+        let toward = count(inflight, |action| stays(action) && same(&action.destination, peer));
+        let full = all >= config.maximum_inflight_actions
+            || about >= config.maximum_inflight_actions_per_circuit
+            || toward >= config.maximum_inflight_actions_per_peer;
+        refuse(full, Refused::Capacity)
+    }
+
+    /// "1 `HnsrPacket::new` refuses the made message (before a 10 that follows an ended record); 6 sequence at 2^64 − 1".
+    pub(super) fn queue(&mut self, message: Message) -> Outcome {
+        refuse(message.context == 0, ProtocolError::Invalid(Invalid::ContextZero).into())?;
+        self.action_room(message.circuit, &message.destination, None)?;
+        let (generation, sequence) = (self.runtime.generation, self.runtime.next_action_sequence);
+        refuse(sequence == u64::MAX, Refused::GenerationExhausted)?;
+        let is_data = matches!(message.kind, Kind::Data);
+        let action = InflightAction {
+            used: true,
+            generation,
+            sequence,
+            circuit_id: message.circuit,
+            destination: message.destination,
+            kind: message.kind as u8,
+            to_endpoint: message.to_endpoint,
+            bytes: if is_data { message.body.len() } else { 0 },
+        };
+        put(&mut self.tables.inflight, |other| (other.generation, other.sequence) == (generation, sequence), action);
+        self.runtime.next_action_sequence += 1;
+        Ok(vec![Route {
+            peer: message.destination.as_bytes().to_vec(),
+            generation,
+            sequence,
+            opcode: message.opcode,
+            context: message.context.to_be_bytes(),
+            body: message.body,
+        }])
+    }
+
+    /// "A message that cannot be formed, or finds no capacity or no sequence number, is skipped silently."
+    pub(super) fn tell(&mut self, message: Message) -> Vec<Route> {
+        self.queue(message).unwrap_or_default()
+    }
+}

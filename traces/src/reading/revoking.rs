@@ -1,0 +1,188 @@
+//! The ends of records: acknowledge, revocation, and the calls that revoke.
+use super::queue::{Kind, Message};
+use super::table::{drop_all, lowest, next};
+use super::{Outcome, Refused, Route, World, named, refuse, same};
+use lekchnam_host::lent::{RelayCircuit, RelayPending, ReservationId, StoredPeer};
+
+/// "Reason and detail are constants".
+type Notice = (u16, &'static str);
+
+const PEER_DISCONNECTED: Notice = (11, "outer peer disconnected");
+const RESERVATION_REVOKED: Notice = (6, "reservation revoked");
+const ACCEPTANCE_EXPIRED: Notice = (8, "endpoint acceptance expired");
+const TICKET_EXPIRED: Notice = (6, "relay ticket expired");
+const RELAY_DISABLED: Notice = (15, "opaque relay disabled");
+const ENDPOINT_WRITE_FAILED: Notice = (11, "endpoint write failed");
+const OUTER_WRITE_FAILED: Notice = (11, "outer write failed");
+
+const CLOSE: u8 = 19;
+const ERROR: u8 = 20;
+
+fn notice(destination: StoredPeer, circuit: u64, opcode: u8, context: u64, (reason, detail): Notice) -> Message {
+    let body = [&reason.to_le_bytes()[..], &[detail.len() as u8], detail.as_bytes()].concat();
+    Message { destination, circuit, opcode, context, body, kind: Kind::Close, to_endpoint: false }
+}
+
+fn to_requester(p: &RelayPending, opcode: u8, why: Notice) -> Message {
+    notice(p.requester, p.circuit_id, opcode, p.requester_context, why)
+}
+
+fn close_to_endpoint(p: &RelayPending, why: Notice) -> Message {
+    notice(p.endpoint, p.circuit_id, CLOSE, p.circuit_id, why)
+}
+
+impl World {
+    fn count_revoked(&mut self) {
+        let revoked = &mut self.runtime.counters.revoked_work;
+        *revoked = revoked.saturating_add(1);
+    }
+
+    /// The record's actions are all that are stored under its id.
+    pub(super) fn end_pending(&mut self, place: usize) {
+        let id = self.tables.pending[place].circuit_id;
+        self.tables.pending[place].used = false;
+        drop_all(&mut self.tables.inflight, |action| action.circuit_id == id);
+        self.count_revoked();
+    }
+
+    pub(super) fn end_circuit(&mut self, place: usize) {
+        let id = self.tables.circuits[place].circuit_id;
+        self.tables.circuits[place].used = false;
+        drop_all(&mut self.tables.inflight, |action| action.circuit_id == id);
+        self.count_revoked();
+    }
+
+    /// "A pending record revoked gives ERROR to the requester, CLOSE to the endpoint".
+    fn revoke_pending(&mut self, id: u64, why: Notice) -> Vec<Route> {
+        let Some(place) = lowest(&self.tables.pending, |p| p.circuit_id == id) else { return Vec::new() };
+        let p = self.tables.pending[place];
+        self.end_pending(place);
+        [self.tell(to_requester(&p, ERROR, why)), self.tell(close_to_endpoint(&p, why))].concat()
+    }
+
+    /// "Revocation ends the record, drops its actions, then sends CLOSE to requester, then endpoint, also to a peer that just disconnected."
+    fn revoke_circuit(&mut self, id: u64, why: Notice) -> Vec<Route> {
+        let Some(place) = lowest(&self.tables.circuits, |c| c.circuit_id == id) else { return Vec::new() };
+        let c = self.tables.circuits[place];
+        self.end_circuit(place);
+        [c.requester, c.endpoint].map(|peer| self.tell(notice(peer, id, CLOSE, id, why))).concat()
+    }
+
+    /// "on disconnect only the other peer hears, by CLOSE".
+    fn disconnect_pending(&mut self, id: u64, peer: &StoredPeer) -> Vec<Route> {
+        let Some(place) = lowest(&self.tables.pending, |p| p.circuit_id == id) else { return Vec::new() };
+        let p = self.tables.pending[place];
+        self.end_pending(place);
+        let close = match same(&p.requester, peer) {
+            true => close_to_endpoint(&p, PEER_DISCONNECTED),
+            false => to_requester(&p, CLOSE, PEER_DISCONNECTED),
+        };
+        self.tell(close)
+    }
+
+    /// By ascending id, those that have the property; the record that a lookup of the id then finds is ended. "Pending records come before
+    /// circuits."
+    fn revoke_all(
+        &mut self,
+        pending: impl Fn(&RelayPending) -> bool,
+        end: impl Fn(&mut Self, u64) -> Vec<Route>,
+        circuits: impl Fn(&RelayCircuit) -> bool,
+        why: Notice,
+    ) -> Vec<Route> {
+        let mut routes = Vec::new();
+        let mut last = None;
+        while let Some((id, place)) = next(&self.tables.pending, |p| p.circuit_id, &pending, last) {
+            last = Some((id, place));
+            routes.extend(end(self, id));
+        }
+        last = None;
+        while let Some((id, place)) = next(&self.tables.circuits, |c| c.circuit_id, &circuits, last) {
+            last = Some((id, place));
+            routes.extend(self.revoke_circuit(id, why));
+        }
+        routes
+    }
+
+    /// "Disconnect first drops every action toward that peer, then revokes the records it is a side of."
+    pub(super) fn disconnect(&mut self, peer: &[u8]) -> Outcome {
+        let peer = named(peer)?;
+        drop_all(&mut self.tables.inflight, |action| same(&action.destination, &peer));
+        Ok(self.revoke_all(
+            |p| same(&p.requester, &peer) || same(&p.endpoint, &peer),
+            |world, id| world.disconnect_pending(id, &peer),
+            |c| same(&c.requester, &peer) || same(&c.endpoint, &peer),
+            PEER_DISCONNECTED,
+        ))
+    }
+
+    /// "Revoking a reservation revokes the records that store its id and removes its ledger record."
+    pub(super) fn revoke_reservation(&mut self, id: ReservationId) -> Vec<Route> {
+        if let Some(place) = lowest(&self.tables.ledger, |usage| usage.reservation_id == id) {
+            self.tables.ledger[place].used = false;
+        }
+        self.revoke_all(
+            |p| p.ticket.reservation_id == id,
+            |world, id| world.revoke_pending(id, RESERVATION_REVOKED),
+            |c| c.reservation_id == id,
+            RESERVATION_REVOKED,
+        )
+    }
+
+    /// "Expire drops ledger records as OPEN does, then revokes pending records whose deadline or expiry, and circuits whose expiry, is not
+    /// after now."
+    pub(super) fn expire(&mut self, now: u64) -> Outcome {
+        self.clock(now)?;
+        self.drop_lapsed(now);
+        Ok(self.revoke_all(
+            |p| p.deadline <= now || p.ticket.expires_at <= now,
+            |world, id| world.revoke_pending(id, ACCEPTANCE_EXPIRED),
+            |c| c.expires_at <= now,
+            TICKET_EXPIRED,
+        ))
+    }
+
+    /// "A changed enabled state raises the generation, drops every action, sets the sequence to 1 and, if off, revokes all; the same state
+    /// changes nothing."
+    pub(super) fn replace_enabled(&mut self, expected: u64, enabled: bool) -> Outcome {
+        refuse(expected != self.runtime.generation, Refused::StaleGeneration)?;
+        if enabled == self.runtime.enabled {
+            return Ok(Vec::new());
+        }
+        self.runtime.generation = expected.checked_add(1).ok_or(Refused::GenerationExhausted)?;
+        self.runtime.enabled = enabled;
+        self.runtime.next_action_sequence = 1;
+        drop_all(&mut self.tables.inflight, |_| true);
+        let off = !enabled;
+        Ok(self.revoke_all(|_| off, |world, id| world.revoke_pending(id, RELAY_DISABLED), |_| off, RELAY_DISABLED))
+    }
+
+    /// "Removes the action; for Data lowers that one circuit's queued count."
+    pub(super) fn acknowledge(&mut self, generation: u64, sequence: u64, delivered: bool) -> Outcome {
+        refuse(generation != self.runtime.generation, Refused::StaleGeneration)?;
+        let tables = &mut self.tables;
+        let found = lowest(&tables.inflight, |action| (action.generation, action.sequence) == (generation, sequence));
+        let action = &mut tables.inflight[found.ok_or(Refused::UnknownAction)?];
+        action.used = false;
+        let (id, kind) = (action.circuit_id, Kind::stored(action.kind));
+        if let (Kind::Data, Some(place)) = (kind, lowest(&tables.circuits, |c| c.circuit_id == id)) {
+            let circuit = &mut tables.circuits[place];
+            let queue = if action.to_endpoint { &mut circuit.queued_to_endpoint } else { &mut circuit.queued_to_requester };
+            *queue = queue.saturating_sub(action.bytes);
+        }
+        match kind {
+            _ if delivered => Ok(Vec::new()),
+            Kind::Incoming => self.fail_incoming(id),
+            Kind::Opened | Kind::Data | Kind::Control => Ok(self.revoke_circuit(id, OUTER_WRITE_FAILED)),
+            Kind::Close => Ok(Vec::new()),
+        }
+    }
+
+    /// "Incoming ends the pending record, other actions staying, and sends ERROR".
+    fn fail_incoming(&mut self, id: u64) -> Outcome {
+        let Some(place) = lowest(&self.tables.pending, |p| p.circuit_id == id) else { return Ok(Vec::new()) };
+        let p = self.tables.pending[place];
+        self.tables.pending[place].used = false;
+        self.count_revoked();
+        self.queue(to_requester(&p, ERROR, ENDPOINT_WRITE_FAILED))
+    }
+}

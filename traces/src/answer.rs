@@ -1,7 +1,7 @@
 //! What a call answers and what is then told from outside: the part of a line behind ` => `.
 use crate::cause::Cause;
 use crate::fields::Fields;
-use lekchnam_host::HnsrRuntimeError;
+use lekchnam_host::{HnsrRuntimeError, HnsrRuntimeStatus};
 use std::fmt::{Display, Write};
 
 /// How many words are listed unless all are asked for.
@@ -22,6 +22,24 @@ pub const STATUS: [&str; 12] = [
     "bytes_received",
     "revoked_work",
 ];
+
+/// What `status` tells, in the same order.
+pub fn status_numbers(s: &HnsrRuntimeStatus) -> [u64; STATUS.len()] {
+    [
+        s.generation,
+        s.enabled.into(),
+        s.pending_circuits as u64,
+        s.active_circuits as u64,
+        s.queued_bytes as u64,
+        s.queued_actions as u64,
+        s.trusted_time_high_water,
+        s.admitted_opens,
+        s.opened_circuits,
+        s.bytes_sent,
+        s.bytes_received,
+        s.revoked_work,
+    ]
+}
 
 #[derive(Clone, Debug, Eq, PartialEq)]
 pub struct Answer {

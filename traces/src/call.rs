@@ -1,5 +1,6 @@
 //! A call with all its inputs.
 use crate::Config;
+use lekchnam_host::lent::RelayTicket;
 
 /// What the host hands over with an OPEN that it admits.
 #[derive(Clone, Debug, Eq, PartialEq)]
@@ -10,6 +11,19 @@ pub struct Grant {
     pub max_active_circuits: u16,
     pub max_bytes_per_circuit: u64,
     pub max_total_bytes: u64,
+}
+
+impl Grant {
+    /// All but the name, as the library takes it.
+    pub fn ticket(&self) -> RelayTicket {
+        RelayTicket {
+            reservation_id: self.reservation_id.into(),
+            expires_at: self.expires_at,
+            max_active_circuits: self.max_active_circuits,
+            max_bytes_per_circuit: self.max_bytes_per_circuit,
+            max_total_bytes: self.max_total_bytes,
+        }
+    }
 }
 
 #[derive(Clone, Debug, Eq, PartialEq)]

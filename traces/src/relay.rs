@@ -1,13 +1,11 @@
 //! The calls of a trace, run on the proved library.
-use crate::answer::{After, Answer};
+use crate::answer::{After, Answer, status_numbers};
 use crate::call::{Call, Class, Grant};
 use crate::file::Places;
 use crate::replay::Machine;
 use crate::state::State;
 use lekchnam_host::lent::{self, Packet, RelayPacket, Runtime, Tables};
-use lekchnam_host::{
-    Admission, HnsrActionId, HnsrPacket, HnsrPeerId, HnsrRuntimeError, HnsrRuntimeStatus, OpaqueRelayRuntime, RandomSource,
-};
+use lekchnam_host::{Admission, HnsrActionId, HnsrPacket, HnsrPeerId, HnsrRuntimeError, OpaqueRelayRuntime, RandomSource};
 use std::cell::RefCell;
 use std::rc::Rc;
 
@@ -127,27 +125,10 @@ fn lent_grant(grant: &Grant) -> lekchnam_host::Grant<'_> {
 
 fn after(library: &Library) -> After {
     After {
-        status: status(&library.status()),
+        status: status_numbers(&library.status()),
         due: library.next_due(),
         ledger: library.tables().ledger.iter().filter(|usage| usage.used).count(),
     }
-}
-
-fn status(s: &HnsrRuntimeStatus) -> [u64; 12] {
-    [
-        s.generation,
-        s.enabled.into(),
-        s.pending_circuits as u64,
-        s.active_circuits as u64,
-        s.queued_bytes as u64,
-        s.queued_actions as u64,
-        s.trusted_time_high_water,
-        s.admitted_opens,
-        s.opened_circuits,
-        s.bytes_sent,
-        s.bytes_received,
-        s.revoked_work,
-    ]
 }
 
 impl Machine for Relay {

@@ -4,7 +4,7 @@ use super::table::{count, lowest, put};
 use super::{Outcome, Packet, Refused, World, named, refuse, same};
 use crate::Grant;
 use lekchnam_host::body::{OpenBody, ProtocolError};
-use lekchnam_host::lent::{RelayPending, RelayTicket, ReservationId, ReservationUsage, StoredPeer};
+use lekchnam_host::lent::{RelayPending, ReservationId, ReservationUsage, StoredPeer};
 
 /// "8 in a row refuse"; "one of 8 candidates".
 const MOST_DRAWS: usize = 8;
@@ -32,7 +32,7 @@ impl World {
             requester,
             endpoint,
             requester_context: packet.context,
-            ticket: ticket(grant),
+            ticket: grant.ticket(),
             initial_window: body.initial_window,
             deadline: latest.min(grant.expires_at),
         };
@@ -97,16 +97,6 @@ impl World {
         }
         let usage = &ledger[lowest(ledger, under).expect("it was made")];
         refuse(usage.expires_at != grant.expires_at || usage.bytes >= grant.max_total_bytes, Refused::ByteLimit)
-    }
-}
-
-fn ticket(grant: &Grant) -> RelayTicket {
-    RelayTicket {
-        reservation_id: grant.reservation_id.into(),
-        expires_at: grant.expires_at,
-        max_active_circuits: grant.max_active_circuits,
-        max_bytes_per_circuit: grant.max_bytes_per_circuit,
-        max_total_bytes: grant.max_total_bytes,
     }
 }
 

@@ -1,0 +1,133 @@
+//! What must hold of every call, whatever it is lent.
+use super::Case;
+use super::made::Left;
+use crate::answer::status_numbers;
+use crate::reading::World;
+use crate::rng::Rng;
+use crate::words::words;
+use crate::{Answer, Call};
+use lekchnam_host::lent::{self, StoredPeer, Tables};
+use lekchnam_host::{HnsrRuntimeError, MAXIMUM_PEER};
+
+/// The words of a route in front of its body.
+const HEAD_WORDS: usize = 40;
+
+type Checked = Result<(), String>;
+
+pub fn all(case: &Case, left: &Left, rng: &mut Rng) -> Checked {
+    output(case, left)?;
+    as_read(case, left)?;
+    told(left)?;
+    again(case, left)?;
+    unused_places(case, left, rng)?;
+    behind_names(case, left, rng)?;
+    opaque(case, left, rng)
+}
+
+fn ensure(holds: bool, wrong: &str) -> Checked {
+    if holds { Ok(()) } else { Err(wrong.to_owned()) }
+}
+
+/// "Output is untouched by every refusal." "Words beyond stay." And no more words are written than document 01 says.
+fn output(case: &Case, left: &Left) -> Checked {
+    let written = left.answer.unwrap_or(0);
+    let needed = case.call.words_needed(case.world.records());
+    ensure(written <= needed.min(case.out.len()), "more words are written than document 01 says")?;
+    ensure(left.out[written..] == case.out[written..], "the output is touched beyond the words that are written")
+}
+
+/// The answer, its cause, every word, the header and every record of a used place are those of the second reading. So a refusal leaves
+/// what document 01's table says: "State too, except where marked."
+fn as_read(case: &Case, left: &Left) -> Checked {
+    let mut world = case.world.clone();
+    let read = world.call(&case.call, case.out.len());
+    let expected = Answer::of(read.map(|routes| words(&routes)), None);
+    let came = Answer::of(left.answer.map(|_| left.words().to_vec()), None);
+    if let Some(what) = expected.difference(&came) {
+        return Err(what);
+    }
+    ensure(world.runtime == left.world.runtime, "another header is left")?;
+    ensure(seen(&world) == seen(&left.world), "other records are left")
+}
+
+/// The world as it is read: what unused places hold does not count.
+fn seen(world: &World) -> World {
+    let Tables { pending, circuits, ledger, inflight } = world.tables.clone();
+    fn used<R: Default>(records: Vec<R>, used: impl Fn(&R) -> bool) -> Vec<R> {
+        records.into_iter().map(|record| if used(&record) { record } else { R::default() }).collect()
+    }
+    let tables = Tables {
+        pending: used(pending, |record| record.used),
+        circuits: used(circuits, |record| record.used),
+        ledger: used(ledger, |record| record.used),
+        inflight: used(inflight, |record| record.used),
+    };
+    World { runtime: world.runtime, tables }
+}
+
+/// `status` tells the counts of used marks, the sum of the queues, and the header; `next_due` the earliest end; both are 22 where a table
+/// is short.
+fn told(left: &Left) -> Checked {
+    let World { runtime, tables } = &left.world;
+    let told = (lent::status(tables, runtime), lent::next_due(tables, runtime));
+    let holds = match left.world.told() {
+        Ok(after) => told.0.map(|status| status_numbers(&status)) == Ok(after.status) && told.1 == Ok(after.due),
+        Err(refused) => told == (Err(refused), Err(refused)) && refused == HnsrRuntimeError::Short,
+    };
+    ensure(holds, "`status` or `next_due` tells something else")
+}
+
+/// The same call on a copy gives the same.
+fn again(case: &Case, left: &Left) -> Checked {
+    ensure(case.made() == *left, "the same call on a copy gives something else")
+}
+
+/// "Lent tables are read as found", by their marks: what unused places hold changes nothing.
+fn unused_places(case: &Case, left: &Left, rng: &mut Rng) -> Checked {
+    let other = Case { world: case.world.with_other_unused_places(rng), call: case.call.clone(), out: case.out.clone() }.made();
+    let same = other.answer == left.answer && other.out == left.out && seen(&other.world) == seen(&left.world);
+    ensure(same, "what unused places hold makes a difference")
+}
+
+/// "a peer length over 128 reads as 128", and what stands behind a name is not read.
+fn behind_names(case: &Case, left: &Left, rng: &mut Rng) -> Checked {
+    let mut world = case.world.clone();
+    for name in names(&mut world.tables) {
+        match name.bytes.get_mut(name.len..) {
+            Some(behind) => behind.iter_mut().for_each(|byte| *byte = rng.byte()),
+            None => name.len = *rng.pick(&[MAXIMUM_PEER, MAXIMUM_PEER + 1, usize::MAX]),
+        }
+    }
+    let other = Case { world, call: case.call.clone(), out: case.out.clone() }.made();
+    let same = other.answer == left.answer && other.out == left.out && plain(&other.world) == plain(&left.world);
+    ensure(same, "what stands behind a name makes a difference")
+}
+
+fn names(tables: &mut Tables) -> impl Iterator<Item = &mut StoredPeer> {
+    let pending = tables.pending.iter_mut().flat_map(|p| [&mut p.requester, &mut p.endpoint]);
+    let circuits = tables.circuits.iter_mut().flat_map(|c| [&mut c.requester, &mut c.endpoint]);
+    pending.chain(circuits).chain(tables.inflight.iter_mut().map(|action| &mut action.destination))
+}
+
+/// The world with zeros behind every name, and no length over 128.
+fn plain(world: &World) -> World {
+    let mut plain = world.clone();
+    for name in names(&mut plain.tables) {
+        name.len = name.len.min(MAXIMUM_PEER);
+        name.bytes[name.len..].fill(0);
+    }
+    plain
+}
+
+/// DATA is opaque: other bytes of the same number change the words of the body and nothing else.
+fn opaque(case: &Case, left: &Left, rng: &mut Rng) -> Checked {
+    let mut call = case.call.clone();
+    let Call::Handle { opcode: 17, body, .. } = &mut call else { return Ok(()) };
+    body.iter_mut().for_each(|byte| *byte = rng.byte());
+    let case = Case { world: case.world.clone(), call, out: case.out.clone() };
+    let other = case.made();
+    as_read(&case, &other)?;
+    let head = |left: &Left| left.words().get(..HEAD_WORDS).map(<[u32]>::to_vec);
+    let same = other.answer == left.answer && other.world == left.world && head(&other) == head(left);
+    ensure(same, "the bytes of a DATA make a difference")
+}

@@ -1,6 +1,7 @@
 //! The fixed list: the library answers as recorded, and the list shows all that it must.
 use lekchnam_traces::coverage::{Item, items};
-use lekchnam_traces::file::{Trace, read};
+use lekchnam_traces::file::{Places, Trace, read};
+use lekchnam_traces::reading::Reading;
 use lekchnam_traces::replay::{Machine, replay};
 use lekchnam_traces::required::required;
 use lekchnam_traces::{Event, Relay};
@@ -22,15 +23,24 @@ fn traces() -> Vec<(String, Trace)> {
     traces.collect()
 }
 
-#[test]
-fn the_library_answers_as_recorded() {
+fn replayed<Runs: Machine>(who: &str, make: impl Fn(Places) -> Runs) {
     let traces = traces();
     let mut calls = 0;
     for (path, trace) in &traces {
-        let replayed = replay(trace, &mut Relay::new(trace.places));
+        let replayed = replay(trace, &mut make(trace.places));
         calls += replayed.unwrap_or_else(|found| panic!("{path}:{}: {}", found.line, found.what));
     }
-    println!("compared with answers recorded from the Rust: {} traces, {calls} calls", traces.len());
+    println!("compared with answers recorded from the Rust: {} traces, {calls} calls of {who}", traces.len());
+}
+
+#[test]
+fn the_library_answers_as_recorded() {
+    replayed("the library", Relay::new);
+}
+
+#[test]
+fn the_second_reading_answers_as_recorded() {
+    replayed("the second reading", Reading::new);
 }
 
 fn shown(trace: &Trace) -> Vec<Item> {

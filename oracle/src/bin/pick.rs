@@ -1,8 +1,8 @@
 //! pick FIRST COUNT CALLS TRACES DIR   writes TRACES small traces that together show all that the fixed list must show
 //!
-//! Looks at COUNT seeds from FIRST on, CALLS calls each. For each thing in turn, the rarest first, it takes the seed that shows it soonest, and
-//! of that seed's calls no more than are needed; then seeds from FIRST on, until there are TRACES. The private state stands behind the last
-//! call of each trace. Exits 1 where something is not shown.
+//! Looks at COUNT seeds from FIRST on, CALLS calls each. For each thing in turn, the rarest first, it takes the seed that shows it
+//! soonest, and of that seed's calls no more than are needed; then seeds from FIRST on, until there are TRACES. The private state stands
+//! behind the last call of each trace. Exits 1 where something is not shown.
 use lekchnam_traces::coverage::{Item, items};
 use lekchnam_traces::file::Writer;
 use lekchnam_traces::required::required;

@@ -60,7 +60,8 @@ impl World {
         [self.tell(to_requester(&p, ERROR, why)), self.tell(close_to_endpoint(&p, why))].concat()
     }
 
-    /// "Revocation ends the record, drops its actions, then sends CLOSE to requester, then endpoint, also to a peer that just disconnected."
+    /// "Revocation ends the record, drops its actions, then sends CLOSE to requester, then endpoint, also to a peer that just
+    /// disconnected."
     fn revoke_circuit(&mut self, id: u64, why: Notice) -> Vec<Route> {
         let Some(place) = lowest(&self.tables.circuits, |c| c.circuit_id == id) else { return Vec::new() };
         let c = self.tables.circuits[place];

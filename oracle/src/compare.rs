@@ -1,33 +1,12 @@
 //! The proved library, or another machine, beside the Rust, call by call.
 use crate::generate::Run;
+use lekchnam_traces::counts::Counts;
 use lekchnam_traces::file::Places;
 use lekchnam_traces::replay::Machine;
 use lekchnam_traces::{Answer, Event};
-use std::collections::BTreeMap;
-
-/// How often each answer came.
-#[derive(Default)]
-pub struct Counts(BTreeMap<u8, u64>);
 
 /// In a trace file the calls begin in this line.
 const FIRST_LINE: usize = 3;
-
-impl Counts {
-    pub fn calls(&self) -> u64 {
-        self.0.values().sum()
-    }
-
-    fn add(&mut self, answer: &Answer) {
-        *self.0.entry(answer.number).or_default() += 1;
-    }
-}
-
-impl std::fmt::Display for Counts {
-    fn fmt(&self, f: &mut std::fmt::Formatter<'_>) -> std::fmt::Result {
-        let counts: Vec<String> = self.0.iter().map(|(number, count)| format!("{number}: {count}")).collect();
-        f.write_str(&counts.join(", "))
-    }
-}
 
 /// Compares every call of one seed's trace: the answer, its cause, every output word, status, next due, and the whole private state.
 pub fn compare<Runs: Machine>(seed: u64, calls: usize, make: impl Fn(Places) -> Runs, counts: &mut Counts) -> Result<(), String> {
@@ -41,7 +20,7 @@ pub fn compare<Runs: Machine>(seed: u64, calls: usize, make: impl Fn(Places) -> 
             let line = index + FIRST_LINE;
             return Err(format!("seed {seed}, line {line}: {what}\n  call {call}\n  Rust {rust}\n  came {came}"));
         }
-        counts.add(&came);
+        counts.add(came.number);
     }
     Ok(())
 }

@@ -9,6 +9,7 @@ mod found;
 mod made;
 
 use crate::Call;
+use crate::counts::Counts;
 use crate::reading::World;
 use crate::rng::Rng;
 use made::Left;
@@ -27,33 +28,29 @@ struct Case {
 
 /// How often each answer came, by call.
 #[derive(Default)]
-pub struct Counts(BTreeMap<&'static str, BTreeMap<u8, u64>>);
+pub struct Answers(BTreeMap<&'static str, Counts>);
 
-impl Counts {
+impl Answers {
     fn add(&mut self, case: &Case, left: &Left) {
-        *self.0.entry(case.call.label()).or_default().entry(left.number()).or_default() += 1;
+        self.0.entry(case.call.label()).or_default().add(left.number());
     }
 
     /// How often an answer came.
-    pub fn answers(&self, number: u8) -> u64 {
-        self.0.values().filter_map(|answers| answers.get(&number)).sum()
+    pub fn of(&self, number: u8) -> u64 {
+        self.0.values().map(|counts| counts.of(number)).sum()
     }
 }
 
-impl Display for Counts {
+impl Display for Answers {
     fn fmt(&self, f: &mut Formatter<'_>) -> fmt::Result {
-        for (label, answers) in &self.0 {
-            let answers: Vec<String> = answers.iter().map(|(number, count)| format!("{number}: {count}")).collect();
-            writeln!(f, "  {label:<19} {}", answers.join(", "))?;
-        }
-        Ok(())
+        self.0.iter().try_for_each(|(label, counts)| writeln!(f, "  {label:<19} {counts}"))
     }
 }
 
 /// So many calls by chance. The first that is wrong ends it, with all that is needed to make it again.
-pub fn beyond(seed: u64, calls: u64) -> Result<Counts, String> {
+pub fn beyond(seed: u64, calls: u64) -> Result<Answers, String> {
     let mut rng = Rng::new(seed);
-    let mut counts = Counts::default();
+    let mut answers = Answers::default();
     let mut world = World::by_chance(&mut rng);
     for index in 0..calls {
         if rng.chance(NEW_WORLDS) {
@@ -65,10 +62,10 @@ pub fn beyond(seed: u64, calls: u64) -> Result<Counts, String> {
             let (call, room) = (case.call.text('d'), case.out.len());
             format!("call {index} of seed {seed}: {wrong}\n{call}\n{room} output words lent\n{:#?}\nleft\n{left:#?}", case.world)
         })?;
-        counts.add(&case, &left);
+        answers.add(&case, &left);
         world = left.world;
     }
-    Ok(counts)
+    Ok(answers)
 }
 
 impl Case {

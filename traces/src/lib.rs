@@ -5,6 +5,7 @@ pub mod beyond;
 pub mod bytes;
 pub mod call;
 pub mod cause;
+pub mod counts;
 pub mod coverage;
 pub mod event;
 mod fields;

@@ -6,10 +6,10 @@ const CALLS: u64 = 20_000;
 /// Every number but 19 and 21, which no call answers.
 #[test]
 fn every_answer_is_met_and_nothing_is_wrong() {
-    let counts = beyond(1, CALLS).unwrap_or_else(|wrong| panic!("{wrong}"));
+    let answers = beyond(1, CALLS).unwrap_or_else(|wrong| panic!("{wrong}"));
     for number in (0..=18).chain([20, 22, 23]) {
-        assert!(counts.answers(number) > 0, "no call answers {number}");
+        assert!(answers.of(number) > 0, "no call answers {number}");
     }
-    assert_eq!(counts.answers(19) + counts.answers(21), 0);
+    assert_eq!(answers.of(19) + answers.of(21), 0);
     println!("compared with a second reading: {CALLS} calls beyond the domain");
 }

@@ -2,7 +2,8 @@
 //!
 //! Exits 1 at the first difference, with the seed, the line that the call has in the seed's trace, the call and both answers.
 use lekchnam_traces::Relay;
-use oracle::compare::{Counts, compare};
+use lekchnam_traces::counts::Counts;
+use oracle::compare::compare;
 use std::process::ExitCode;
 use std::time::Instant;
 
@@ -24,7 +25,7 @@ fn main() -> ExitCode {
             return ExitCode::from(1);
         }
     }
-    let (calls, seconds) = (counts.calls(), start.elapsed().as_secs_f64());
+    let (calls, seconds) = (counts.total(), start.elapsed().as_secs_f64());
     println!("compared with the Rust: {count} traces, {calls} calls, {seconds:.1} seconds, no difference; answers {counts}");
     ExitCode::SUCCESS
 }

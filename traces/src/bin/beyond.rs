@@ -13,12 +13,12 @@ fn main() -> ExitCode {
     };
     let start = Instant::now();
     match beyond(seed, calls) {
-        Ok(counts) => {
+        Ok(answers) => {
             println!(
                 "{calls} calls beyond the domain, {:.1} seconds, nothing wrong; answers by call:",
                 start.elapsed().as_secs_f64()
             );
-            print!("{counts}");
+            print!("{answers}");
             ExitCode::SUCCESS
         }
         Err(wrong) => {

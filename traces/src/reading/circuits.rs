@@ -45,7 +45,7 @@ impl World {
         })
     }
 
-    /// "14; 15": no such circuit, or the sender is no side of it; then "10" actions.
+    /// "14; 15": no such circuit, or the sender is no side of it.
     fn named_circuit(&self, packet: &Packet<'_>) -> Result<Named, Refused> {
         let circuits = &self.tables.circuits;
         let place = lowest(circuits, |c| c.circuit_id == packet.context).ok_or(Refused::UnknownCircuit)?;

@@ -13,7 +13,7 @@ use crate::circuits::circuit_of;
 use crate::circuits::circuit_under;
 use crate::circuits::queued_in;
 use crate::inflight::action_is;
-use crate::peer::same_peer;
+use crate::peer::same_peer_in_scan;
 use crate::pending::pending_of;
 use crate::pending::pending_under;
 use crate::pending::requested_by;
@@ -269,7 +269,7 @@ fn tally_on(tally: InflightTally, row: InflightAction, question: ActionQuestion)
     if both(question.replacing, mine) {
         return tally;
     }
-    let toward = same_peer(row.destination, question.peer);
+    let toward = same_peer_in_scan(row.destination, question.peer);
     InflightTally {
         total: tally.total + 1,
         for_circuit: one_more(tally.for_circuit, mine),

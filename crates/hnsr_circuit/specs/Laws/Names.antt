@@ -3,13 +3,14 @@ use Prim.Native.Nat.{ℕ, _+_, _≤_, _<_}
 use native.Mathlib.Numerals.{add-one}
 use native.Mathlib.Omega.{arith}
 use mathlib.Core.Path.{_≡_, sym, ap, _∙_}
-use mathlib.Core.Bool.{Bool, true, false, _&&_}
+use mathlib.Core.Bool.{Bool, true, false, not, _&&_}
 use mathlib.Core.List.{List, map}
-use lib.Dec.{eqb}
+use lib.Dec.{eqb, ltb}
 use lib.ListN.{length, drop, getD, length-map, length-take, drop-of-length-le}
 use lib.Seq.{drop-cons, getD-take}
 use Rattle.hnsr_circuit.specs.declared.peer.HnsrPeerId.{HnsrPeerId}
-use Rattle.hns_encoding.specs.Laws.Tests.{split}
+use borrow.Author.Tests.{ltb-true, eq-eqb}
+use Rattle.hns_encoding.specs.Laws.Tests.{split, both, clash}
 use Rattle.hnsr_circuit.specs.Peer.{maximumPeer, peerLength, peerBytes, sameBytes, samePeer}
 use Rattle.hnsr_circuit.specs.Laws.Peer.{same-names}
 
@@ -62,3 +63,15 @@ module _ (p q : HnsrPeerId) (hp : length (p .bytes) ≡ maximumPeer) (hq : lengt
         let a = name-length p hp in
         let b = name-length q hq in
         sym (bytes-end (peerBytes p) (peerBytes q) i (omega arith) (omega arith)) ∙ h
+
+-- a byte within the names that differs tells them apart
+pub byte-differs : (p q : HnsrPeerId) (n k : ℕ) → n ≡ peerLength p → n ≡ peerLength q
+    → (ltb k n && not (eqb (getD (p .bytes) k 0) (getD (q .bytes) k 0))) ≡ true → samePeer p q ≡ false
+byte-differs p q n k ep eq t =
+    let s = both (ltb k n) (not (eqb (getD (p .bytes) k 0) (getD (q .bytes) k 0))) t in
+    let l = ltb-true k n (s .0) in
+    split (samePeer p q)
+    (λ e.
+    let at = sym (name-at p k (omega arith)) ∙ ap (λ (name : List ℕ). getD name k 0) (same-names p q e) ∙ name-at q k (omega arith) in
+    clash (s .1) (rw (eq-eqb (getD (p .bytes) k 0) (getD (q .bytes) k 0) at)))
+    (λ e. e)

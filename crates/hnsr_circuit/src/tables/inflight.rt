@@ -70,6 +70,17 @@ pub(crate) fn set_action(
     }
 }
 
+// The mark of one record cleared.
+pub(crate) fn unmark_action(inflight: &mut [InflightAction], go: bool, place: usize)
+    ensures { λ _. ⌜ now (inflight .exit) ≡ cond go (set (now (inflight .entry)) place (clearAction (getD (now (inflight .entry)) place noAction))) (now (inflight .entry)) ⌝ }
+{
+    if within(go, place, inflight.len()) {
+        let row = inflight[place];
+        let after = action_unmarked(row);
+        inflight[place] = after;
+    }
+}
+
 // The mark cleared of every record that has what is asked; no other record is stored.
 pub(crate) fn clear_action(inflight: &mut [InflightAction], question: Question)
     ensures { λ _. ⌜ now (inflight .exit) ≡ clear clearAction (actionHas question) (now (inflight .entry)) ⌝ }
@@ -78,8 +89,7 @@ pub(crate) fn clear_action(inflight: &mut [InflightAction], question: Question)
     while i < inflight.len() {
         let row = inflight[i];
         let has = action_has(row, question);
-        let after = action_unmarked(row);
-        set_action(inflight, has, i, after);
+        unmark_action(inflight, has, i);
         i += 1;
     }
 }

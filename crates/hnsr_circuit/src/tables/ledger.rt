@@ -65,6 +65,17 @@ pub(crate) fn set_usage(
     }
 }
 
+// The mark of one record cleared.
+pub(crate) fn unmark_usage(ledger: &mut [ReservationUsage], go: bool, place: usize)
+    ensures { λ _. ⌜ now (ledger .exit) ≡ cond go (set (now (ledger .entry)) place (clearUsage (getD (now (ledger .entry)) place noUsage))) (now (ledger .entry)) ⌝ }
+{
+    if within(go, place, ledger.len()) {
+        let row = ledger[place];
+        let after = usage_unmarked(row);
+        ledger[place] = after;
+    }
+}
+
 // The mark cleared of every record that has what is asked; no other record is stored.
 pub(crate) fn clear_usage(ledger: &mut [ReservationUsage], question: Question)
     ensures { λ _. ⌜ now (ledger .exit) ≡ clear clearUsage (usageHas question) (now (ledger .entry)) ⌝ }
@@ -73,8 +84,7 @@ pub(crate) fn clear_usage(ledger: &mut [ReservationUsage], question: Question)
     while i < ledger.len() {
         let row = ledger[i];
         let has = usage_has(row, question);
-        let after = usage_unmarked(row);
-        set_usage(ledger, has, i, after);
+        unmark_usage(ledger, has, i);
         i += 1;
     }
 }

@@ -4,3 +4,4 @@ pub mod count_action
 pub mod find_action
 pub mod scan_actions
 pub mod set_action
+pub mod unmark_action

@@ -2,4 +2,5 @@ pub mod clear_usage
 pub mod count_usage
 pub mod find_usage
 pub mod set_usage
+pub mod unmark_usage
 pub mod usage_at

@@ -1,9 +1,9 @@
 -- `clear_usage` meets its contract: what is done, with what is left cleared, is the whole table cleared.
 mod Tie
-use mathlib.Core.Path.{_≡_, _∙_}
+use mathlib.Core.Path.{_≡_, refl, _∙_}
 use mathlib.Core.List.{_++_}
 use Prim.Native.Nat.{_≤_, _-_}
-use lib.ListN.{length, take, drop}
+use lib.ListN.{length, getD, take, drop}
 use Rattle.hns_encoding.specs.Loops.{map-done}
 use Rattle.hnsr_circuit.specs.Table.{cleared, clear}
 use Rattle.hnsr_circuit.specs.Ledger.{noUsage, clearUsage}
@@ -32,30 +32,26 @@ slice-copy-out-row c = search needs
 usage-has-requires : tie.Need-usage-has-requires Inv-loop μ-loop
 usage-has-requires c = search needs
 
-usage-unmarked-requires : tie.Need-usage-unmarked-requires Inv-loop μ-loop
-usage-unmarked-requires c = search needs
-
-set-usage-requires : tie.Need-set-usage-requires Inv-loop μ-loop
-set-usage-requires c = search needs
+unmark-usage-requires : tie.Need-unmark-usage-requires Inv-loop μ-loop
+unmark-usage-requires c = search needs
 
 add-i : tie.Need-add-i Inv-loop μ-loop
 add-i c = search needs
 
 loop-less : tie.Need-loop-less Inv-loop μ-loop
-loop-less c = let k = c .before .set-usage .kept .0 in omega arith
+loop-less c = let k = c .before .unmark-usage .kept .0 in omega arith
 
 loop-again : tie.Need-loop-again Inv-loop μ-loop
 loop-again c =
-    let s = c .before .set-usage in
-    let u = c .before .before .before .usage-unmarked in
-    let h = c .before .before .before .before .usage-has in
-    let l = c .before .before .before .before .before .before .before in
+    let s = c .before .unmark-usage in
+    let h = c .before .before .before .usage-has in
+    let l = c .before .before .before .before .before .before in
     let a = l .before .args in
     let k = s .kept .0 in (
       omega arith,
       k ∙ l .loop .inv .1,
-      clear-step clearUsage (usageHas (a .question)) (l .loop .ledger) noUsage (l .loop .i) (h .result) (u .result) (s .last .0) (clear clearUsage (usageHas (a .question)) (a .ledger .now)) (omega arith)
-          (h .ensures) (u .ensures) (s .ensures) (l .loop .inv .2),
+      clear-step clearUsage (usageHas (a .question)) (l .loop .ledger) noUsage (l .loop .i) (h .result) (clearUsage (getD (l .loop .ledger) (l .loop .i) noUsage)) (s .last .0) (clear clearUsage (usageHas (a .question)) (a .ledger .now)) (omega arith)
+          (h .ensures) refl (s .ensures) (l .loop .inv .2),
     )
 
 same-length : tie.Need-same-length Inv-loop μ-loop
@@ -68,4 +64,4 @@ returns c =
     map-done (cleared clearUsage (usageHas (a .question))) (l .loop .ledger) (l .loop .i) (clear clearUsage (usageHas (a .question)) (a .ledger .now)) (omega arith) (l .loop .inv .2)
 
 pub clear-usage-spec : {M : Type 1} → statement M
-clear-usage-spec = tie.close (tie.spec Inv-loop μ-loop loop-holds mul-row slice-copy-out-row usage-has-requires usage-unmarked-requires set-usage-requires add-i loop-less loop-again same-length returns)
+clear-usage-spec = tie.close (tie.spec Inv-loop μ-loop loop-holds mul-row slice-copy-out-row usage-has-requires unmark-usage-requires add-i loop-less loop-again same-length returns)

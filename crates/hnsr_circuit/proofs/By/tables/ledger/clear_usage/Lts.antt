@@ -64,9 +64,9 @@ ps = (MutSlice.pMutS ReservationUsage.row 0 tt) ∷ (Value.pVal record { ty = De
 abbrev pub r : Kinds.RK 1
 r = Unit.rUnit
 abbrev pub xs : List.List Syntax.Ty
-xs = (Syntax.tyInt Syntax.w64) ∷ ReservationUsage.ty ∷ Syntax.tyBool ∷ ReservationUsage.ty ∷ (Syntax.tyInt Syntax.w64) ∷ Syntax.tyBool ∷ Syntax.tyPtr
-    ∷ ReservationUsage.ty ∷ Syntax.tyUnit ∷ ref0 ∷ (Syntax.tyStruct (38 ∷ 91 ∷ 93 ∷ List.[]) (Syntax.tcons ref0 (Syntax.tcons (Syntax.tyInt
-    Syntax.w64) Syntax.tnil))) ∷ List.[]
+xs = (Syntax.tyInt Syntax.w64) ∷ ReservationUsage.ty ∷ Syntax.tyBool ∷ (Syntax.tyInt Syntax.w64) ∷ Syntax.tyBool ∷ Syntax.tyPtr ∷ ReservationUsage.ty
+    ∷ Syntax.tyUnit ∷ ref0 ∷ (Syntax.tyStruct (38 ∷ 91 ∷ 93 ∷ List.[]) (Syntax.tcons ref0 (Syntax.tcons (Syntax.tyInt Syntax.w64) Syntax.tnil))) ∷
+    List.[]
 abbrev pub m : Nat.ℕ
 m = 1
 abbrev pub ps·0 : List.List (Kinds.PK 0)
@@ -77,99 +77,90 @@ ps·0 = ReservationUsage.param ∷ (Value.pVal record { ty = Declared.row Questi
     Local.mem-whole 𝓤 H A W (Declared.row Question.the-type); of-mem = Local.whole-mem 𝓤 H A W (Declared.row Question.the-type); }) ∷ List.[]
 abbrev pub r·0 : Kinds.RK 0
 r·0 = Bool.rBool
-abbrev pub ps·1 : List.List (Kinds.PK 0)
-ps·1 = ReservationUsage.param ∷ List.[]
-abbrev pub r·1 : Kinds.RK 0
-r·1 = ReservationUsage.result
-abbrev pub ps·2 : List.List (Kinds.PK 1)
-ps·2 = (MutSlice.pMutS ReservationUsage.row 0 tt) ∷ Bool.pBool ∷ (Num.pNum Syntax.w64) ∷ ReservationUsage.param ∷ List.[]
-abbrev pub r·2 : Kinds.RK 1
-r·2 = Unit.rUnit
+abbrev pub ps·1 : List.List (Kinds.PK 1)
+ps·1 = (MutSlice.pMutS ReservationUsage.row 0 tt) ∷ Bool.pBool ∷ (Num.pNum Syntax.w64) ∷ List.[]
+abbrev pub r·1 : Kinds.RK 1
+r·1 = Unit.rUnit
 abbrev pub hs : List.List Syntax.Home
 hs = Syntax.valueLocal ∷ Syntax.valueLocal ∷ Syntax.valueLocal ∷ Syntax.valueLocal ∷ Syntax.valueLocal ∷ Syntax.valueLocal ∷ Syntax.valueLocal ∷
-    Syntax.valueLocal ∷ Syntax.valueLocal ∷ Syntax.valueLocal ∷ Syntax.valueLocal ∷ Syntax.valueLocal ∷ Syntax.valueLocal ∷ Syntax.valueLocal ∷
-    List.[]
+    Syntax.valueLocal ∷ Syntax.valueLocal ∷ Syntax.valueLocal ∷ Syntax.valueLocal ∷ Syntax.valueLocal ∷ Syntax.valueLocal ∷ List.[]
 abbrev b0 : Syntax.Body
 b0 = Syntax.assign (Syntax.place 3 List.[]) (Syntax.rvOpd (Syntax.int Syntax.w64 0))
 abbrev b1 : Syntax.Body
-b1 = Syntax.assign (Syntax.place 7 List.[]) (Syntax.rvOpd (Syntax.copy (Syntax.place 1 ((Syntax.field 1) ∷ List.[]))))
+b1 = Syntax.assign (Syntax.place 6 List.[]) (Syntax.rvOpd (Syntax.copy (Syntax.place 1 ((Syntax.field 1) ∷ List.[]))))
 abbrev b2 : Syntax.Body
-b2 = Syntax.assign (Syntax.place 8 List.[]) (Syntax.op2 (Syntax.lt Syntax.unsigned) (Syntax.copy (Syntax.place 3 List.[])) (Syntax.copy (Syntax.place
-    7 List.[])))
+b2 = Syntax.assign (Syntax.place 7 List.[]) (Syntax.op2 (Syntax.lt Syntax.unsigned) (Syntax.copy (Syntax.place 3 List.[])) (Syntax.copy (Syntax.place
+    6 List.[])))
 abbrev b3 : Syntax.Body
 b3 = Syntax.skip
 abbrev b4 : Syntax.Body
 b4 = Syntax.exit 1
 abbrev b5 : Syntax.Body
-b5 = Syntax.cond (Syntax.copy (Syntax.place 8 List.[])) b3 b4
+b5 = Syntax.cond (Syntax.copy (Syntax.place 7 List.[])) b3 b4
 abbrev b6 : Syntax.Body
-b6 = Syntax.assign (Syntax.place 7 List.[]) (Syntax.op2 (Syntax.mul Syntax.unsigned) (Syntax.copy (Syntax.place 3 List.[])) (Syntax.int Syntax.w64
+b6 = Syntax.assign (Syntax.place 6 List.[]) (Syntax.op2 (Syntax.mul Syntax.unsigned) (Syntax.copy (Syntax.place 3 List.[])) (Syntax.int Syntax.w64
     40))
 abbrev b7 : Syntax.Body
-b7 = Syntax.assign (Syntax.place 9 List.[]) (Syntax.op2 Syntax.offset (Syntax.copy (Syntax.place 1 ((Syntax.field 0) ∷ List.[]))) (Syntax.copy
-    (Syntax.place 7 List.[])))
+b7 = Syntax.assign (Syntax.place 8 List.[]) (Syntax.op2 Syntax.offset (Syntax.copy (Syntax.place 1 ((Syntax.field 0) ∷ List.[]))) (Syntax.copy
+    (Syntax.place 6 List.[])))
 abbrev b8 : Syntax.Body
-b8 = Syntax.assign (Syntax.place 10 List.[]) (Syntax.rvOpd (Syntax.copy (Syntax.place 9 ((Syntax.deref ReservationUsage.ty) ∷ List.[]))))
+b8 = Syntax.assign (Syntax.place 9 List.[]) (Syntax.rvOpd (Syntax.copy (Syntax.place 8 ((Syntax.deref ReservationUsage.ty) ∷ List.[]))))
 abbrev b9 : Syntax.Body
-b9 = Syntax.assign (Syntax.place 4 List.[]) (Syntax.rvOpd (Syntax.copy (Syntax.place 10 List.[])))
+b9 = Syntax.assign (Syntax.place 4 List.[]) (Syntax.rvOpd (Syntax.copy (Syntax.place 9 List.[])))
 abbrev b10 : Syntax.Body
 b10 = Syntax.call "hnsr_circuit::question::usage_has" ((Syntax.copy (Syntax.place 4 List.[])) ∷ (Syntax.copy (Syntax.place 2 List.[])) ∷ List.[])
     (Syntax.place 5 List.[])
 abbrev b11 : Syntax.Body
-b11 = Syntax.call "hnsr_circuit::ledger::usage_unmarked" ((Syntax.copy (Syntax.place 4 List.[])) ∷ List.[]) (Syntax.place 6 List.[])
+b11 = Syntax.assign (Syntax.place 11 List.[]) (Syntax.addrOf (Syntax.place 1 ((Syntax.field 0) ∷ (Syntax.deref ReservationUsage.ty) ∷ List.[])))
 abbrev b12 : Syntax.Body
-b12 = Syntax.assign (Syntax.place 12 List.[]) (Syntax.addrOf (Syntax.place 1 ((Syntax.field 0) ∷ (Syntax.deref ReservationUsage.ty) ∷ List.[])))
-abbrev b13 : Syntax.Body
-b13 = Syntax.assign (Syntax.place 13 List.[]) (Syntax.aggregate ((Syntax.copy (Syntax.place 12 List.[])) ∷ (Syntax.copy (Syntax.place 1 ((Syntax.field
+b12 = Syntax.assign (Syntax.place 12 List.[]) (Syntax.aggregate ((Syntax.copy (Syntax.place 11 List.[])) ∷ (Syntax.copy (Syntax.place 1 ((Syntax.field
     1) ∷ List.[]))) ∷ List.[]))
+abbrev b13 : Syntax.Body
+b13 = Syntax.call "hnsr_circuit::tables::ledger::unmark_usage" ((Syntax.copy (Syntax.place 12 List.[])) ∷ (Syntax.copy (Syntax.place 5 List.[])) ∷
+    (Syntax.copy (Syntax.place 3 List.[])) ∷ List.[]) (Syntax.place 10 List.[])
 abbrev b14 : Syntax.Body
-b14 = Syntax.call "hnsr_circuit::tables::ledger::set_usage" ((Syntax.copy (Syntax.place 13 List.[])) ∷ (Syntax.copy (Syntax.place 5 List.[])) ∷
-    (Syntax.copy (Syntax.place 3 List.[])) ∷ (Syntax.copy (Syntax.place 6 List.[])) ∷ List.[]) (Syntax.place 11 List.[])
-abbrev b15 : Syntax.Body
-b15 = Syntax.assign (Syntax.place 3 List.[]) (Syntax.op2 (Syntax.add Syntax.unsigned) (Syntax.copy (Syntax.place 3 List.[])) (Syntax.int Syntax.w64
+b14 = Syntax.assign (Syntax.place 3 List.[]) (Syntax.op2 (Syntax.add Syntax.unsigned) (Syntax.copy (Syntax.place 3 List.[])) (Syntax.int Syntax.w64
     1))
+abbrev b15 : Syntax.Body
+b15 = Syntax.seq b13 b14
 abbrev b16 : Syntax.Body
-b16 = Syntax.seq b14 b15
+b16 = Syntax.seq b12 b15
 abbrev b17 : Syntax.Body
-b17 = Syntax.seq b13 b16
+b17 = Syntax.seq b11 b16
 abbrev b18 : Syntax.Body
-b18 = Syntax.seq b12 b17
+b18 = Syntax.seq b10 b17
 abbrev b19 : Syntax.Body
-b19 = Syntax.seq b11 b18
+b19 = Syntax.seq b9 b18
 abbrev b20 : Syntax.Body
-b20 = Syntax.seq b10 b19
+b20 = Syntax.seq b8 b19
 abbrev b21 : Syntax.Body
-b21 = Syntax.seq b9 b20
+b21 = Syntax.seq b7 b20
 abbrev b22 : Syntax.Body
-b22 = Syntax.seq b8 b21
+b22 = Syntax.seq b6 b21
 abbrev b23 : Syntax.Body
-b23 = Syntax.seq b7 b22
+b23 = Syntax.seq b5 b22
 abbrev b24 : Syntax.Body
-b24 = Syntax.seq b6 b23
+b24 = Syntax.seq b2 b23
 abbrev b25 : Syntax.Body
-b25 = Syntax.seq b5 b24
+b25 = Syntax.seq b1 b24
 abbrev b26 : Syntax.Body
-b26 = Syntax.seq b2 b25
+b26 = Syntax.loop b25
 abbrev b27 : Syntax.Body
-b27 = Syntax.seq b1 b26
+b27 = Syntax.block b26
 abbrev b28 : Syntax.Body
-b28 = Syntax.loop b27
+b28 = Syntax.assign (Syntax.place 0 List.[]) (Syntax.rvOpd Syntax.opdUnit)
 abbrev b29 : Syntax.Body
-b29 = Syntax.block b28
+b29 = Syntax.return
 abbrev b30 : Syntax.Body
-b30 = Syntax.assign (Syntax.place 0 List.[]) (Syntax.rvOpd Syntax.opdUnit)
+b30 = Syntax.seq b28 b29
 abbrev b31 : Syntax.Body
-b31 = Syntax.return
+b31 = Syntax.seq b27 b30
 abbrev b32 : Syntax.Body
-b32 = Syntax.seq b30 b31
-abbrev b33 : Syntax.Body
-b33 = Syntax.seq b29 b32
-abbrev b34 : Syntax.Body
-b34 = Syntax.seq b0 b33
+b32 = Syntax.seq b0 b31
 abbrev pub body : Syntax.Body
-body = b34
+body = b32
 abbrev pub Claims : Type 1
-Claims = Kinds.In 0 ps·0 × Kinds.Out 0 ps·0 r·0 × Kinds.In 0 ps·1 × Kinds.Out 0 ps·1 r·1 × Kinds.In 1 ps·2 × Kinds.Out 1 ps·2 r·2
+Claims = Kinds.In 0 ps·0 × Kinds.Out 0 ps·0 r·0 × Kinds.In 1 ps·1 × Kinds.Out 1 ps·1 r·1
 abbrev e0 : Row.Entry
 e0 = (0, Rows.any-gone Syntax.tyUnit)
 abbrev e1 : Row.Entry
@@ -183,99 +174,89 @@ e4 = (4, Rows.any-gone ReservationUsage.ty)
 abbrev e5 : Row.Entry
 e5 = (5, Rows.any-gone Syntax.tyBool)
 abbrev e6 : Row.Entry
-e6 = (6, Rows.any-gone ReservationUsage.ty)
+e6 = (6, Rows.any-gone (Syntax.tyInt Syntax.w64))
 abbrev e7 : Row.Entry
-e7 = (7, Rows.any-gone (Syntax.tyInt Syntax.w64))
+e7 = (7, Rows.any-gone Syntax.tyBool)
 abbrev e8 : Row.Entry
-e8 = (8, Rows.any-gone Syntax.tyBool)
+e8 = (8, Rows.any-gone Syntax.tyPtr)
 abbrev e9 : Row.Entry
-e9 = (9, Rows.any-gone Syntax.tyPtr)
+e9 = (9, Rows.any-gone ReservationUsage.ty)
 abbrev e10 : Row.Entry
-e10 = (10, Rows.any-gone ReservationUsage.ty)
+e10 = (10, Rows.any-gone Syntax.tyUnit)
 abbrev e11 : Row.Entry
-e11 = (11, Rows.any-gone Syntax.tyUnit)
+e11 = (11, Rows.any-gone ref0)
 abbrev e12 : Row.Entry
-e12 = (12, Rows.any-gone ref0)
-abbrev e13 : Row.Entry
-e13 = (13, Rows.any-gone (Syntax.tyStruct (38 ∷ 91 ∷ 93 ∷ List.[]) (Syntax.tcons ref0 (Syntax.tcons (Syntax.tyInt Syntax.w64) Syntax.tnil))))
+e12 = (12, Rows.any-gone (Syntax.tyStruct (38 ∷ 91 ∷ 93 ∷ List.[]) (Syntax.tcons ref0 (Syntax.tcons (Syntax.tyInt Syntax.w64) Syntax.tnil))))
 abbrev e0·1 : Row.Entry
 e0·1 = (0, Rows.sc-here Row.sUnit)
 abbrev e2·1 : Row.Entry
 e2·1 = (2, Rows.any-gone Laws.mir)
 abbrev e3·1 : Row.Entry
 e3·1 = (3, Rows.sc-here (Row.sInt Syntax.w64))
+abbrev e6·1 : Row.Entry
+e6·1 = (6, Rows.sc-here (Row.sInt Syntax.w64))
 abbrev e7·1 : Row.Entry
-e7·1 = (7, Rows.sc-here (Row.sInt Syntax.w64))
+e7·1 = (7, Rows.sc-here Row.sBool)
 abbrev e8·1 : Row.Entry
-e8·1 = (8, Rows.sc-here Row.sBool)
+e8·1 = (8, Rows.sc-here Row.sPtr)
 abbrev e9·1 : Row.Entry
-e9·1 = (9, Rows.sc-here Row.sPtr)
-abbrev e10·1 : Row.Entry
-e10·1 = (10, ReservationUsage.held)
+e9·1 = (9, ReservationUsage.held)
 abbrev e4·1 : Row.Entry
 e4·1 = (4, ReservationUsage.held)
 abbrev e5·1 : Row.Entry
 e5·1 = (5, Rows.sc-here Row.sBool)
-abbrev e6·1 : Row.Entry
-e6·1 = (6, ReservationUsage.held)
 abbrev e1·1 : Row.Entry
 e1·1 = (1, Relend.mslice-owed ReservationUsage.row ref1 0 1 Row.off)
-abbrev e12·1 : Row.Entry
-e12·1 = (12, Relend.msptr ReservationUsage.row ref0 1)
-abbrev e13·1 : Row.Entry
-e13·1 = (13, Mut.mslice ReservationUsage.row ref0 1)
 abbrev e11·1 : Row.Entry
-e11·1 = (11, Rows.sc-here Row.sUnit)
-abbrev e13·2 : Row.Entry
-e13·2 = (13, Mut.msleft ReservationUsage.row ref0)
+e11·1 = (11, Relend.msptr ReservationUsage.row ref0 1)
+abbrev e12·1 : Row.Entry
+e12·1 = (12, Mut.mslice ReservationUsage.row ref0 1)
+abbrev e10·1 : Row.Entry
+e10·1 = (10, Rows.sc-here Row.sUnit)
+abbrev e12·2 : Row.Entry
+e12·2 = (12, Mut.msleft ReservationUsage.row ref0)
 abbrev pub t0 : List.List Row.Entry
-t0 = e0 ∷ e1 ∷ e2 ∷ e3 ∷ e4 ∷ e5 ∷ e6 ∷ e7 ∷ e8 ∷ e9 ∷ e10 ∷ e11 ∷ e12 ∷ e13 ∷ List.[]
+t0 = e0 ∷ e1 ∷ e2 ∷ e3 ∷ e4 ∷ e5 ∷ e6 ∷ e7 ∷ e8 ∷ e9 ∷ e10 ∷ e11 ∷ e12 ∷ List.[]
 abbrev pub t1 : List.List Row.Entry
-t1 = e0·1 ∷ e1 ∷ e2·1 ∷ e3 ∷ e4 ∷ e5 ∷ e6 ∷ e7 ∷ e8 ∷ e9 ∷ e10 ∷ e11 ∷ e12 ∷ e13 ∷ List.[]
+t1 = e0·1 ∷ e1 ∷ e2·1 ∷ e3 ∷ e4 ∷ e5 ∷ e6 ∷ e7 ∷ e8 ∷ e9 ∷ e10 ∷ e11 ∷ e12 ∷ List.[]
 abbrev pub t2 : List.List Row.Entry
-t2 = e0 ∷ e1 ∷ e2 ∷ e3·1 ∷ e4 ∷ e5 ∷ e6 ∷ e7 ∷ e8 ∷ e9 ∷ e10 ∷ e11 ∷ e12 ∷ e13 ∷ List.[]
+t2 = e0 ∷ e1 ∷ e2 ∷ e3·1 ∷ e4 ∷ e5 ∷ e6 ∷ e7 ∷ e8 ∷ e9 ∷ e10 ∷ e11 ∷ e12 ∷ List.[]
 abbrev pub t3 : List.List Row.Entry
-t3 = e0 ∷ e1 ∷ e2·1 ∷ e3·1 ∷ e4 ∷ e5 ∷ e6 ∷ e7 ∷ e8 ∷ e9 ∷ e10 ∷ e11 ∷ e12 ∷ e13 ∷ List.[]
+t3 = e0 ∷ e1 ∷ e2·1 ∷ e3·1 ∷ e4 ∷ e5 ∷ e6 ∷ e7 ∷ e8 ∷ e9 ∷ e10 ∷ e11 ∷ e12 ∷ List.[]
 abbrev pub t4 : List.List Row.Entry
-t4 = e0 ∷ e1 ∷ e2 ∷ e3·1 ∷ e4 ∷ e5 ∷ e6 ∷ e7·1 ∷ e8 ∷ e9 ∷ e10 ∷ e11 ∷ e12 ∷ e13 ∷ List.[]
+t4 = e0 ∷ e1 ∷ e2 ∷ e3·1 ∷ e4 ∷ e5 ∷ e6·1 ∷ e7 ∷ e8 ∷ e9 ∷ e10 ∷ e11 ∷ e12 ∷ List.[]
 abbrev pub t5 : List.List Row.Entry
-t5 = e0 ∷ e1 ∷ e2 ∷ e3·1 ∷ e4 ∷ e5 ∷ e6 ∷ e7·1 ∷ e8·1 ∷ e9 ∷ e10 ∷ e11 ∷ e12 ∷ e13 ∷ List.[]
+t5 = e0 ∷ e1 ∷ e2 ∷ e3·1 ∷ e4 ∷ e5 ∷ e6·1 ∷ e7·1 ∷ e8 ∷ e9 ∷ e10 ∷ e11 ∷ e12 ∷ List.[]
 abbrev pub t6 : List.List Row.Entry
-t6 = e0 ∷ e1 ∷ e2 ∷ e3·1 ∷ e4 ∷ e5 ∷ e6 ∷ e7 ∷ e8·1 ∷ e9 ∷ e10 ∷ e11 ∷ e12 ∷ e13 ∷ List.[]
+t6 = e0 ∷ e1 ∷ e2 ∷ e3·1 ∷ e4 ∷ e5 ∷ e6 ∷ e7·1 ∷ e8 ∷ e9 ∷ e10 ∷ e11 ∷ e12 ∷ List.[]
 abbrev pub t7 : List.List Row.Entry
-t7 = e0 ∷ e1 ∷ e2·1 ∷ e3·1 ∷ e4 ∷ e5 ∷ e6 ∷ e7 ∷ e8·1 ∷ e9 ∷ e10 ∷ e11 ∷ e12 ∷ e13 ∷ List.[]
+t7 = e0 ∷ e1 ∷ e2·1 ∷ e3·1 ∷ e4 ∷ e5 ∷ e6 ∷ e7·1 ∷ e8 ∷ e9 ∷ e10 ∷ e11 ∷ e12 ∷ List.[]
 abbrev pub t8 : List.List Row.Entry
-t8 = e0 ∷ e1 ∷ e2 ∷ e3·1 ∷ e4 ∷ e5 ∷ e6 ∷ e7·1 ∷ e8 ∷ e9·1 ∷ e10 ∷ e11 ∷ e12 ∷ e13 ∷ List.[]
+t8 = e0 ∷ e1 ∷ e2 ∷ e3·1 ∷ e4 ∷ e5 ∷ e6·1 ∷ e7 ∷ e8·1 ∷ e9 ∷ e10 ∷ e11 ∷ e12 ∷ List.[]
 abbrev pub t9 : List.List Row.Entry
-t9 = e0 ∷ e1 ∷ e2 ∷ e3·1 ∷ e4 ∷ e5 ∷ e6 ∷ e7·1 ∷ e8 ∷ e9·1 ∷ e10·1 ∷ e11 ∷ e12 ∷ e13 ∷ List.[]
+t9 = e0 ∷ e1 ∷ e2 ∷ e3·1 ∷ e4 ∷ e5 ∷ e6·1 ∷ e7 ∷ e8·1 ∷ e9·1 ∷ e10 ∷ e11 ∷ e12 ∷ List.[]
 abbrev pub t10 : List.List Row.Entry
-t10 = e0 ∷ e1 ∷ e2 ∷ e3·1 ∷ e4 ∷ e5 ∷ e6 ∷ e7 ∷ e8 ∷ e9·1 ∷ e10·1 ∷ e11 ∷ e12 ∷ e13 ∷ List.[]
+t10 = e0 ∷ e1 ∷ e2 ∷ e3·1 ∷ e4 ∷ e5 ∷ e6 ∷ e7 ∷ e8·1 ∷ e9·1 ∷ e10 ∷ e11 ∷ e12 ∷ List.[]
 abbrev pub t11 : List.List Row.Entry
-t11 = e0 ∷ e1 ∷ e2 ∷ e3·1 ∷ e4 ∷ e5 ∷ e6 ∷ e7 ∷ e8 ∷ e9 ∷ e10·1 ∷ e11 ∷ e12 ∷ e13 ∷ List.[]
+t11 = e0 ∷ e1 ∷ e2 ∷ e3·1 ∷ e4 ∷ e5 ∷ e6 ∷ e7 ∷ e8 ∷ e9·1 ∷ e10 ∷ e11 ∷ e12 ∷ List.[]
 abbrev pub t12 : List.List Row.Entry
-t12 = e0 ∷ e1 ∷ e2 ∷ e3·1 ∷ e4·1 ∷ e5 ∷ e6 ∷ e7 ∷ e8 ∷ e9 ∷ e10·1 ∷ e11 ∷ e12 ∷ e13 ∷ List.[]
+t12 = e0 ∷ e1 ∷ e2 ∷ e3·1 ∷ e4·1 ∷ e5 ∷ e6 ∷ e7 ∷ e8 ∷ e9·1 ∷ e10 ∷ e11 ∷ e12 ∷ List.[]
 abbrev pub t13 : List.List Row.Entry
-t13 = e0 ∷ e1 ∷ e2 ∷ e3·1 ∷ e4·1 ∷ e5 ∷ e6 ∷ e7 ∷ e8 ∷ e9 ∷ e10 ∷ e11 ∷ e12 ∷ e13 ∷ List.[]
+t13 = e0 ∷ e1 ∷ e2 ∷ e3·1 ∷ e4·1 ∷ e5 ∷ e6 ∷ e7 ∷ e8 ∷ e9 ∷ e10 ∷ e11 ∷ e12 ∷ List.[]
 abbrev pub t14 : List.List Row.Entry
-t14 = e0 ∷ e1 ∷ e2 ∷ e3·1 ∷ e4·1 ∷ e5·1 ∷ e6 ∷ e7 ∷ e8 ∷ e9 ∷ e10 ∷ e11 ∷ e12 ∷ e13 ∷ List.[]
+t14 = e0 ∷ e1 ∷ e2 ∷ e3·1 ∷ e4·1 ∷ e5·1 ∷ e6 ∷ e7 ∷ e8 ∷ e9 ∷ e10 ∷ e11 ∷ e12 ∷ List.[]
 abbrev pub t15 : List.List Row.Entry
-t15 = e0 ∷ e1 ∷ e2 ∷ e3·1 ∷ e4·1 ∷ e5·1 ∷ e6·1 ∷ e7 ∷ e8 ∷ e9 ∷ e10 ∷ e11 ∷ e12 ∷ e13 ∷ List.[]
+t15 = e0 ∷ e1 ∷ e2 ∷ e3·1 ∷ e4 ∷ e5·1 ∷ e6 ∷ e7 ∷ e8 ∷ e9 ∷ e10 ∷ e11 ∷ e12 ∷ List.[]
 abbrev pub t16 : List.List Row.Entry
-t16 = e0 ∷ e1 ∷ e2 ∷ e3·1 ∷ e4 ∷ e5·1 ∷ e6·1 ∷ e7 ∷ e8 ∷ e9 ∷ e10 ∷ e11 ∷ e12 ∷ e13 ∷ List.[]
+t16 = e0 ∷ e1·1 ∷ e2 ∷ e3·1 ∷ e4 ∷ e5·1 ∷ e6 ∷ e7 ∷ e8 ∷ e9 ∷ e10 ∷ e11·1 ∷ e12 ∷ List.[]
 abbrev pub t17 : List.List Row.Entry
-t17 = e0 ∷ e1·1 ∷ e2 ∷ e3·1 ∷ e4 ∷ e5·1 ∷ e6·1 ∷ e7 ∷ e8 ∷ e9 ∷ e10 ∷ e11 ∷ e12·1 ∷ e13 ∷ List.[]
+t17 = e0 ∷ e1·1 ∷ e2 ∷ e3·1 ∷ e4 ∷ e5·1 ∷ e6 ∷ e7 ∷ e8 ∷ e9 ∷ e10 ∷ e11 ∷ e12·1 ∷ List.[]
 abbrev pub t18 : List.List Row.Entry
-t18 = e0 ∷ e1·1 ∷ e2 ∷ e3·1 ∷ e4 ∷ e5·1 ∷ e6·1 ∷ e7 ∷ e8 ∷ e9 ∷ e10 ∷ e11 ∷ e12 ∷ e13·1 ∷ List.[]
+t18 = e0 ∷ e1·1 ∷ e2 ∷ e3·1 ∷ e4 ∷ e5·1 ∷ e6 ∷ e7 ∷ e8 ∷ e9 ∷ e10·1 ∷ e11 ∷ e12·2 ∷ List.[]
 abbrev pub t19 : List.List Row.Entry
-t19 = e0 ∷ e1·1 ∷ e2 ∷ e3·1 ∷ e4 ∷ e5·1 ∷ e6·1 ∷ e7 ∷ e8 ∷ e9 ∷ e10 ∷ e11·1 ∷ e12 ∷ e13·2 ∷ List.[]
+t19 = e0 ∷ e1·1 ∷ e2 ∷ e3·1 ∷ e4 ∷ e5·1 ∷ e6 ∷ e7 ∷ e8 ∷ e9 ∷ e10 ∷ e11 ∷ e12·2 ∷ List.[]
 abbrev pub t20 : List.List Row.Entry
-t20 = e0 ∷ e1·1 ∷ e2 ∷ e3·1 ∷ e4 ∷ e5·1 ∷ e6 ∷ e7 ∷ e8 ∷ e9 ∷ e10 ∷ e11·1 ∷ e12 ∷ e13·2 ∷ List.[]
-abbrev pub t21 : List.List Row.Entry
-t21 = e0 ∷ e1·1 ∷ e2 ∷ e3·1 ∷ e4 ∷ e5·1 ∷ e6 ∷ e7 ∷ e8 ∷ e9 ∷ e10 ∷ e11 ∷ e12 ∷ e13·2 ∷ List.[]
-abbrev pub t22 : List.List Row.Entry
-t22 = e0 ∷ e1 ∷ e2 ∷ e3·1 ∷ e4 ∷ e5·1 ∷ e6 ∷ e7 ∷ e8 ∷ e9 ∷ e10 ∷ e11 ∷ e12 ∷ e13 ∷ List.[]
-abbrev pub t23 : List.List Row.Entry
-t23 = e0·1 ∷ e1 ∷ e2·1 ∷ e3·1 ∷ e4 ∷ e5 ∷ e6 ∷ e7 ∷ e8 ∷ e9 ∷ e10 ∷ e11 ∷ e12 ∷ e13 ∷ List.[]
+t20 = e0·1 ∷ e1 ∷ e2·1 ∷ e3·1 ∷ e4 ∷ e5 ∷ e6 ∷ e7 ∷ e8 ∷ e9 ∷ e10 ∷ e11 ∷ e12 ∷ List.[]
 abbrev pub T0 : Row.Cx
 T0 = record { locals = t0; slots = List.[] }
 abbrev pub T1 : Row.Cx
@@ -316,28 +297,24 @@ abbrev pub T18 : Row.Cx
 T18 = record { locals = t14; slots = List.[] }
 abbrev pub T19 : Row.Cx
 T19 = record { locals = t15; slots = List.[] }
-abbrev pub T20 : Row.Cx
-T20 = record { locals = t16; slots = List.[] }
+abbrev pub T21 : Row.Cx
+T21 = record { locals = t16; slots = List.[] }
 abbrev pub T22 : Row.Cx
 T22 = record { locals = t17; slots = List.[] }
 abbrev pub T23 : Row.Cx
 T23 = record { locals = t18; slots = List.[] }
 abbrev pub T24 : Row.Cx
 T24 = record { locals = t19; slots = List.[] }
-abbrev pub T25 : Row.Cx
-T25 = record { locals = t20; slots = List.[] }
 abbrev pub T26 : Row.Cx
-T26 = record { locals = t21; slots = List.[] }
+T26 = record { locals = t15; slots = List.[] }
 abbrev pub T28 : Row.Cx
-T28 = record { locals = t22; slots = List.[] }
+T28 = record { locals = t15; slots = List.[] }
+abbrev pub T29 : Row.Cx
+T29 = record { locals = t2; slots = List.[] }
 abbrev pub T30 : Row.Cx
-T30 = record { locals = t22; slots = List.[] }
+T30 = record { locals = t20; slots = List.[] }
 abbrev pub T31 : Row.Cx
-T31 = record { locals = t2; slots = List.[] }
-abbrev pub T32 : Row.Cx
-T32 = record { locals = t23; slots = List.[] }
-abbrev pub T33 : Row.Cx
-T33 = record { locals = t1; slots = List.[] }
+T31 = record { locals = t1; slots = List.[] }
 abbrev pub O0 : Typed.Outs
 O0 = record { next = Option.none; exits = List.[]; returns = Option.some T1 }
 abbrev pub O1 : Typed.Outs
@@ -358,66 +335,62 @@ module _ (claims· : Claims) where
   abbrev s0 : Typed.Mo T0 → Typed.Mo T2
   s0 = Scalar.n-use T0 (Scalar.oInt Syntax.w64 0) 3 (Rows.sc-here (Row.sInt Syntax.w64)) (Row.sInt Syntax.w64 .of)
   abbrev s1 : Typed.Mo T2 → Typed.Mo T4
-  s1 = Scalar.n-use T2 (Scalar.oFld 1 ((Syntax.field 1) ∷ List.[]) (Syntax.tyInt Syntax.w64) 8 Shared.lenV) 7 (Rows.sc-here (Row.sInt Syntax.w64))
+  s1 = Scalar.n-use T2 (Scalar.oFld 1 ((Syntax.field 1) ∷ List.[]) (Syntax.tyInt Syntax.w64) 8 Shared.lenV) 6 (Rows.sc-here (Row.sInt Syntax.w64))
       (Row.sInt Syntax.w64 .of)
   abbrev s2 : Typed.Asks T4 T5
-  s2 = Scalar.k-op2 T4 (Syntax.lt Syntax.unsigned) (Scalar.oAt 3 (Syntax.tyInt Syntax.w64) (Row.valS (Row.sInt Syntax.w64))) (Scalar.oAt 7
-      (Syntax.tyInt Syntax.w64) (Row.valS (Row.sInt Syntax.w64))) 8 (Rows.sc-here Row.sBool) (Row.sBool .of)
+  s2 = Scalar.k-op2 T4 (Syntax.lt Syntax.unsigned) (Scalar.oAt 3 (Syntax.tyInt Syntax.w64) (Row.valS (Row.sInt Syntax.w64))) (Scalar.oAt 6
+      (Syntax.tyInt Syntax.w64) (Row.valS (Row.sInt Syntax.w64))) 7 (Rows.sc-here Row.sBool) (Row.sBool .of)
   abbrev s3 : Typed.Mo T5 → Typed.Mo T7
-  s3 = Scalar.n-room T5 7 (Syntax.tyInt Syntax.w64)
+  s3 = Scalar.n-room T5 6 (Syntax.tyInt Syntax.w64)
   abbrev s4 : Typed.Mo T7 → Typed.Mo T8
-  s4 = Scalar.n-room T7 8 Syntax.tyBool
+  s4 = Scalar.n-room T7 7 Syntax.tyBool
   abbrev s5 : Typed.Mo T7 → Typed.Mo T9
   s5 = Scalar.n-room T7 2 Laws.mir
   abbrev s6 : Typed.Mo T9 → Typed.Mo T10
-  s6 = Scalar.n-room T9 8 Syntax.tyBool
+  s6 = Scalar.n-room T9 7 Syntax.tyBool
   abbrev s7 : Typed.Asks T6 T11
   s7 = Scalar.k-op2 T6 (Syntax.mul Syntax.unsigned) (Scalar.oAt 3 (Syntax.tyInt Syntax.w64) (Row.valS (Row.sInt Syntax.w64))) (Scalar.oInt Syntax.w64
-      40) 7 (Rows.sc-here (Row.sInt Syntax.w64)) (Row.sInt Syntax.w64 .of)
+      40) 6 (Rows.sc-here (Row.sInt Syntax.w64)) (Row.sInt Syntax.w64 .of)
   abbrev s8 : Typed.Asks T11 T12
-  s8 = Scalar.k-op2 T11 Syntax.offset (Scalar.oFld 1 ((Syntax.field 0) ∷ List.[]) ref1 0 Reads.ptrVal) (Scalar.oAt 7 (Syntax.tyInt Syntax.w64)
-      (Row.valS (Row.sInt Syntax.w64))) 9 (Rows.sc-here Row.sPtr) (Row.sPtr .of)
+  s8 = Scalar.k-op2 T11 Syntax.offset (Scalar.oFld 1 ((Syntax.field 0) ∷ List.[]) ref1 0 Reads.ptrVal) (Scalar.oAt 6 (Syntax.tyInt Syntax.w64)
+      (Row.valS (Row.sInt Syntax.w64))) 8 (Rows.sc-here Row.sPtr) (Row.sPtr .of)
   abbrev s9 : Typed.Both T12 T13
-  s9 = Move.k-sl-copy-out ReservationUsage.row T12 1 9 10 0 ref1 Row.off ReservationUsage.held (Shared.bySize 40) (λ u. u .1 .1 .1 .0) (λ x. x)
+  s9 = Move.k-sl-copy-out ReservationUsage.row T12 1 8 9 0 ref1 Row.off ReservationUsage.held (Shared.bySize 40) (λ u. u .1 .1 .1 .0) (λ x. x)
       ReservationUsage.none (λ x. Unit) (λ x. x) λ x. x
   abbrev s10 : Typed.Mo T13 → Typed.Mo T14
-  s10 = Scalar.n-room T13 7 (Syntax.tyInt Syntax.w64)
+  s10 = Scalar.n-room T13 6 (Syntax.tyInt Syntax.w64)
   abbrev s11 : Typed.Mo T14 → Typed.Mo T15
-  s11 = Scalar.n-room T14 9 Syntax.tyPtr
+  s11 = Scalar.n-room T14 8 Syntax.tyPtr
   abbrev s12 : Typed.Mo T15 → Typed.Mo T16
-  s12 = LocalCopy.n-val-copy T15 10 4 ReservationUsage.row ReservationUsage.held ReservationUsage.held (λ x. x) (λ x. x) λ x. x
+  s12 = LocalCopy.n-val-copy T15 9 4 ReservationUsage.row ReservationUsage.held ReservationUsage.held (λ x. x) (λ x. x) λ x. x
   abbrev s13 : Typed.Mo T16 → Typed.Mo T17
-  s13 = Scalar.n-room T16 10 ReservationUsage.ty
+  s13 = Scalar.n-room T16 9 ReservationUsage.ty
   abbrev s14 : Typed.Both T17 T18
   s14 = Call.callB ps·0 r·0 (claims· .0) (claims· .1) T17 (record { pos = 4; st = List.[]; d = 0; at = λ x. x }, (record { pos = 2; st = List.[]; d =
       0; at = λ x. x }, tt),) 5 List.[] Syntax.tyBool
-  abbrev s15 : Typed.Both T18 T19
-  s15 = Call.callB ps·1 r·1 (claims· .2) (claims· .3) T18 (record { pos = 4; st = List.[]; d = 0; at = λ x. x }, tt,) 6 List.[] ReservationUsage.ty
-  abbrev s16 : Typed.Mo T19 → Typed.Mo T20
-  s16 = Scalar.n-room T19 4 ReservationUsage.ty
-  abbrev s18 : Typed.Gives T20 T22
-  s18 = Relend.k-sl-relend ReservationUsage.row T20 1 12 0 1 ref1 ref0 Row.off λ x. x
-  abbrev s19 : Typed.Asks T22 T23
-  s19 = Relend.k-sl-aggregate ReservationUsage.row (Relend.asMut ReservationUsage.row) T22 12 13 1 ref0 ref0 (λ x. x) (Scalar.oFld 1 ((Syntax.field 1)
+  abbrev s15 : Typed.Mo T18 → Typed.Mo T19
+  s15 = Scalar.n-room T18 4 ReservationUsage.ty
+  abbrev s17 : Typed.Gives T19 T21
+  s17 = Relend.k-sl-relend ReservationUsage.row T19 1 11 0 1 ref1 ref0 Row.off λ x. x
+  abbrev s18 : Typed.Asks T21 T22
+  s18 = Relend.k-sl-aggregate ReservationUsage.row (Relend.asMut ReservationUsage.row) T21 11 12 1 ref0 ref0 (λ x. x) (Scalar.oFld 1 ((Syntax.field 1)
       ∷ List.[]) (Syntax.tyInt Syntax.w64) 8 λ v. Shared.lenV (v .0))
-  abbrev s20 : Typed.Both T23 T24
-  s20 = Call.callB ps·2 r·2 (claims· .4) (claims· .5) T23 (record { pos = 13; ty = Syntax.tyRef Syntax.erased Syntax.mut ReservationUsage.to; ref = λ
-      x. x; }, (Bool.bAt 5 λ x. x, (Num.vAt 3 λ x. x, (record { pos = 6; st = List.[]; d = 0; at = λ x. x }, tt)),),) 11 (1 ∷ List.[]) Syntax.tyUnit
-  abbrev s21 : Typed.Mo T24 → Typed.Mo T25
-  s21 = Scalar.n-room T24 6 ReservationUsage.ty
-  abbrev s22 : Typed.Mo T25 → Typed.Mo T26
-  s22 = Scalar.n-room T25 11 Syntax.tyUnit
-  abbrev s24 : Typed.Both T26 T28
-  s24 = Relend.k-back-sl ReservationUsage.row T26 13 1 0 1 ref1 ref0 Row.off (λ x. x) λ x. x
-  abbrev s26 : Typed.Asks T28 T30
-  s26 = Scalar.k-op2 T28 (Syntax.add Syntax.unsigned) (Scalar.oAt 3 (Syntax.tyInt Syntax.w64) (Row.valS (Row.sInt Syntax.w64))) (Scalar.oInt
+  abbrev s19 : Typed.Both T22 T23
+  s19 = Call.callB ps·1 r·1 (claims· .2) (claims· .3) T22 (record { pos = 12; ty = Syntax.tyRef Syntax.erased Syntax.mut ReservationUsage.to; ref = λ
+      x. x; }, (Bool.bAt 5 λ x. x, (Num.vAt 3 λ x. x, tt)),) 10 (1 ∷ List.[]) Syntax.tyUnit
+  abbrev s20 : Typed.Mo T23 → Typed.Mo T24
+  s20 = Scalar.n-room T23 10 Syntax.tyUnit
+  abbrev s22 : Typed.Both T24 T26
+  s22 = Relend.k-back-sl ReservationUsage.row T24 12 1 0 1 ref1 ref0 Row.off (λ x. x) λ x. x
+  abbrev s24 : Typed.Asks T26 T28
+  s24 = Scalar.k-op2 T26 (Syntax.add Syntax.unsigned) (Scalar.oAt 3 (Syntax.tyInt Syntax.w64) (Row.valS (Row.sInt Syntax.w64))) (Scalar.oInt
       Syntax.w64 1) 3 (Rows.sc-here (Row.sInt Syntax.w64)) (Row.sInt Syntax.w64 .of)
+  abbrev s25 : Typed.Mo T28 → Typed.Mo T29
+  s25 = Scalar.n-room T28 5 Syntax.tyBool
+  abbrev s26 : Typed.Mo T3 → Typed.Mo T30
+  s26 = Scalar.n-use T3 Scalar.oUnit 0 (Rows.sc-here Row.sUnit) (Row.sUnit .of)
   abbrev s27 : Typed.Mo T30 → Typed.Mo T31
-  s27 = Scalar.n-room T30 5 Syntax.tyBool
-  abbrev s28 : Typed.Mo T3 → Typed.Mo T32
-  s28 = Scalar.n-use T3 Scalar.oUnit 0 (Rows.sc-here Row.sUnit) (Row.sUnit .of)
-  abbrev s29 : Typed.Mo T32 → Typed.Mo T33
-  s29 = Scalar.n-room T32 3 (Syntax.tyInt Syntax.w64)
+  s27 = Scalar.n-room T30 3 (Syntax.tyInt Syntax.w64)
   abbrev put0 : List.List (ReservationUsage.row .Denot) × Rows.sc-here (Row.sInt Syntax.w64) .Mod → Typed.Mo T2 → Typed.Mo T2
   put0 = λ vs u. Row.set 3 (3, Rows.sc-here (Row.sInt Syntax.w64)) (vs .1) (T2 .locals) (Row.set 1 (1, Mut.mslice ReservationUsage.row ref1 0,) record
       { ptr = Row.get 1 (T2 .locals) u .ptr; name = Row.get 1 (T2 .locals) u .name; now = vs .0; } (T2 .locals) u)
@@ -426,9 +399,8 @@ module _ (claims· : Claims) where
     module _ (M : Type 1) where
       abbrev pub Closed : Type 2
       Closed = (𝓤 : URA.URA M) (H : Wp.Heap 𝓤) (A : Atoms.Atoms 𝓤) (W : Kit.Given 𝓤 H A) (𝓣 : Wp.Tables 𝓤 H) (known0 : Plain.Known 𝓤 H A W 𝓣 0 ps·0
-          r·0 (claims· .0) (claims· .1) "hnsr_circuit::question::usage_has") (known1 : Plain.Known 𝓤 H A W 𝓣 0 ps·1 r·1 (claims· .2) (claims· .3)
-          "hnsr_circuit::ledger::usage_unmarked") (known2 : Plain.Known 𝓤 H A W 𝓣 1 ps·2 r·2 (claims· .4) (claims· .5)
-          "hnsr_circuit::tables::ledger::set_usage") → Statement.Triple 𝓤 (Wp.WpFn 𝓤 H (𝓣 .C) (𝓣 .Λ) (Function.fnOf 1 ps r xs m hs body))
+          r·0 (claims· .0) (claims· .1) "hnsr_circuit::question::usage_has") (known1 : Plain.Known 𝓤 H A W 𝓣 1 ps·1 r·1 (claims· .2) (claims· .3)
+          "hnsr_circuit::tables::ledger::unmark_usage") → Statement.Triple 𝓤 (Wp.WpFn 𝓤 H (𝓣 .C) (𝓣 .Λ) (Function.fnOf 1 ps r xs m hs body))
           (Function.plainOf 𝓤 H A 1 ps r Pre· Post·)
     module _ (Inv·0 : InvT-loop) (μ·0 : MeasureT-loop) where
       abbrev at0 : Typed.TF T8 O4
@@ -442,111 +414,98 @@ module _ (claims· : Claims) where
       abbrev at4 : Typed.TF T7 O4
       at4 = λ Ψ. Typed.pass T7 T9 s5 (at3 Ψ)
       abbrev at5 : Typed.TF T7 O4
-      at5 = Scalar.Φcond T7 O4 8 (λ x. x) at1 at4
+      at5 = Scalar.Φcond T7 O4 7 (λ x. x) at1 at4
       abbrev at6 : Typed.TF T5 O4
       at6 = λ Ψ. Typed.pass T5 T7 s3 (at5 Ψ)
-      abbrev at7 : Typed.TF T28 O3
-      at7 = λ Ψ. Typed.ask s26 (Typed.pass T30 T31 s27 (Typed.atNext O3 Ψ))
-      abbrev at8 : Typed.TF T28 O3
+      abbrev at7 : Typed.TF T26 O3
+      at7 = λ Ψ. Typed.ask s24 (Typed.pass T28 T29 s25 (Typed.atNext O3 Ψ))
+      abbrev at8 : Typed.TF T26 O3
       at8 = λ Ψ. at7 Ψ
-      abbrev at9 : Typed.TF T26 O3
-      at9 = λ Ψ. Typed.both s24 (at8 Ψ)
-      abbrev at10 : Typed.TF T26 O3
+      abbrev at9 : Typed.TF T24 O3
+      at9 = λ Ψ. Typed.both s22 (at8 Ψ)
+      abbrev at10 : Typed.TF T24 O3
       at10 = λ Ψ. at9 Ψ
-      abbrev at11 : Typed.TF T25 O3
-      at11 = λ Ψ. Typed.pass T25 T26 s22 (at10 Ψ)
-      abbrev at12 : Typed.TF T24 O3
-      at12 = λ Ψ. Typed.pass T24 T25 s21 (at11 Ψ)
-      abbrev at13 : Typed.TF T23 O3
-      at13 = λ Ψ. Typed.both s20 (at12 Ψ)
-      abbrev at14 : Typed.TF T22 O3
-      at14 = λ Ψ. Typed.ask s19 (at13 Ψ)
-      abbrev at15 : Typed.TF T20 O3
-      at15 = λ Ψ. Typed.give s18 (at14 Ψ)
-      abbrev at16 : Typed.TF T20 O3
-      at16 = λ Ψ. at15 Ψ
-      abbrev at17 : Typed.TF T19 O3
-      at17 = λ Ψ. Typed.pass T19 T20 s16 (at16 Ψ)
-      abbrev at18 : Typed.TF T18 O3
-      at18 = λ Ψ. Typed.both s15 (at17 Ψ)
-      abbrev at19 : Typed.TF T17 O3
-      at19 = λ Ψ. Typed.both s14 (at18 Ψ)
-      abbrev at20 : Typed.TF T16 O3
-      at20 = λ Ψ. Typed.pass T16 T17 s13 (at19 Ψ)
-      abbrev at21 : Typed.TF T15 O3
-      at21 = λ Ψ. Typed.pass T15 T16 s12 (at20 Ψ)
-      abbrev at22 : Typed.TF T14 O3
-      at22 = λ Ψ. Typed.pass T14 T15 s11 (at21 Ψ)
-      abbrev at23 : Typed.TF T13 O3
-      at23 = λ Ψ. Typed.pass T13 T14 s10 (at22 Ψ)
-      abbrev at24 : Typed.TF T12 O3
-      at24 = λ Ψ. Typed.both s9 (at23 Ψ)
-      abbrev at25 : Typed.TF T11 O3
-      at25 = λ Ψ. Typed.ask s8 (at24 Ψ)
-      abbrev at26 : Typed.TF T6 O3
-      at26 = λ Ψ. Typed.ask s7 (at25 Ψ)
-      abbrev at27 : Typed.TF T5 O3
-      at27 = λ Ψ. at6 (Typed.wantNext T6 O3 (at26 Ψ) Ψ)
-      abbrev at28 : Typed.TF T4 O3
-      at28 = λ Ψ. Typed.ask s2 (at27 Ψ)
-      abbrev at29 : Typed.TF T2 O3
-      at29 = λ Ψ. Typed.pass T2 T4 s1 (at28 Ψ)
-      abbrev at30 : Typed.TF T2 O2
-      at30 = Typed.LoopBy T2 O2 put0 (λ u vs. Inv·0 (Row.get 1 (T2 .locals) u .now) (Row.get 2 (T2 .locals) u) (Row.get 3 (T2 .locals) u) (vs .0) (vs
-          .1)) (λ u vs. μ·0 (Row.get 1 (T2 .locals) u .now) (Row.get 2 (T2 .locals) u) (Row.get 3 (T2 .locals) u) (vs .0) (vs .1)) at29
-      abbrev at31 : Typed.TF T2 O1
-      at31 = λ Ψ. at30 (Typed.inBlock O1 Ψ)
-      abbrev at32 : Typed.TF T33 O0
-      at32 = Typed.atRet O0
-      abbrev at33 : Typed.TF T32 O0
-      at33 = λ Ψ. Typed.pass T32 T33 s29 (at32 Ψ)
-      abbrev at34 : Typed.TF T3 O0
-      at34 = λ Ψ. Typed.pass T3 T32 s28 (at33 Ψ)
-      abbrev at35 : Typed.TF T2 O0
-      at35 = λ Ψ. at31 (Typed.wantNext T3 O0 (at34 Ψ) Ψ)
-      abbrev at36 : Typed.TF T0 O0
-      at36 = λ Ψ. Typed.pass T0 T2 s0 (at35 Ψ)
+      abbrev at11 : Typed.TF T23 O3
+      at11 = λ Ψ. Typed.pass T23 T24 s20 (at10 Ψ)
+      abbrev at12 : Typed.TF T22 O3
+      at12 = λ Ψ. Typed.both s19 (at11 Ψ)
+      abbrev at13 : Typed.TF T21 O3
+      at13 = λ Ψ. Typed.ask s18 (at12 Ψ)
+      abbrev at14 : Typed.TF T19 O3
+      at14 = λ Ψ. Typed.give s17 (at13 Ψ)
+      abbrev at15 : Typed.TF T19 O3
+      at15 = λ Ψ. at14 Ψ
+      abbrev at16 : Typed.TF T18 O3
+      at16 = λ Ψ. Typed.pass T18 T19 s15 (at15 Ψ)
+      abbrev at17 : Typed.TF T17 O3
+      at17 = λ Ψ. Typed.both s14 (at16 Ψ)
+      abbrev at18 : Typed.TF T16 O3
+      at18 = λ Ψ. Typed.pass T16 T17 s13 (at17 Ψ)
+      abbrev at19 : Typed.TF T15 O3
+      at19 = λ Ψ. Typed.pass T15 T16 s12 (at18 Ψ)
+      abbrev at20 : Typed.TF T14 O3
+      at20 = λ Ψ. Typed.pass T14 T15 s11 (at19 Ψ)
+      abbrev at21 : Typed.TF T13 O3
+      at21 = λ Ψ. Typed.pass T13 T14 s10 (at20 Ψ)
+      abbrev at22 : Typed.TF T12 O3
+      at22 = λ Ψ. Typed.both s9 (at21 Ψ)
+      abbrev at23 : Typed.TF T11 O3
+      at23 = λ Ψ. Typed.ask s8 (at22 Ψ)
+      abbrev at24 : Typed.TF T6 O3
+      at24 = λ Ψ. Typed.ask s7 (at23 Ψ)
+      abbrev at25 : Typed.TF T5 O3
+      at25 = λ Ψ. at6 (Typed.wantNext T6 O3 (at24 Ψ) Ψ)
+      abbrev at26 : Typed.TF T4 O3
+      at26 = λ Ψ. Typed.ask s2 (at25 Ψ)
+      abbrev at27 : Typed.TF T2 O3
+      at27 = λ Ψ. Typed.pass T2 T4 s1 (at26 Ψ)
+      abbrev at28 : Typed.TF T2 O2
+      at28 = Typed.LoopBy T2 O2 put0 (λ u vs. Inv·0 (Row.get 1 (T2 .locals) u .now) (Row.get 2 (T2 .locals) u) (Row.get 3 (T2 .locals) u) (vs .0) (vs
+          .1)) (λ u vs. μ·0 (Row.get 1 (T2 .locals) u .now) (Row.get 2 (T2 .locals) u) (Row.get 3 (T2 .locals) u) (vs .0) (vs .1)) at27
+      abbrev at29 : Typed.TF T2 O1
+      at29 = λ Ψ. at28 (Typed.inBlock O1 Ψ)
+      abbrev at30 : Typed.TF T31 O0
+      at30 = Typed.atRet O0
+      abbrev at31 : Typed.TF T30 O0
+      at31 = λ Ψ. Typed.pass T30 T31 s27 (at30 Ψ)
+      abbrev at32 : Typed.TF T3 O0
+      at32 = λ Ψ. Typed.pass T3 T30 s26 (at31 Ψ)
+      abbrev at33 : Typed.TF T2 O0
+      at33 = λ Ψ. at29 (Typed.wantNext T3 O0 (at32 Ψ) Ψ)
+      abbrev at34 : Typed.TF T0 O0
+      at34 = λ Ψ. Typed.pass T0 T2 s0 (at33 Ψ)
       abbrev pub Φ : Typed.TF T0 O0
-      Φ = at36
+      Φ = at34
       module _ { M : Type 1 } (𝓤 : URA.URA M) (H : Wp.Heap 𝓤) (A : Atoms.Atoms 𝓤) (W : Kit.Given 𝓤 H A) (𝓣 : Wp.Tables 𝓤 H) where
         abbrev Knowns : Type 1
-        Knowns = Plain.Known 𝓤 H A W 𝓣 0 ps·0 r·0 (claims· .0) (claims· .1) "hnsr_circuit::question::usage_has" × Plain.Known 𝓤 H A W 𝓣 0 ps·1 r·1
-            (claims· .2) (claims· .3) "hnsr_circuit::ledger::usage_unmarked" × Plain.Known 𝓤 H A W 𝓣 1 ps·2 r·2 (claims· .4) (claims· .5)
-            "hnsr_circuit::tables::ledger::set_usage"
+        Knowns = Plain.Known 𝓤 H A W 𝓣 0 ps·0 r·0 (claims· .0) (claims· .1) "hnsr_circuit::question::usage_has" × Plain.Known 𝓤 H A W 𝓣 1 ps·1 r·1
+            (claims· .2) (claims· .3) "hnsr_circuit::tables::ledger::unmark_usage"
       module _ (κs : Lifetimes.Lfts 1) (qs : Lifetimes.Shares 1) where
         abbrev life0 : Row.Life
         life0 = Row.lease (κs .0) (qs .0)
+        abbrev g16 : List.List Row.Entry
+        g16 = (0, Rows.any-gone Syntax.tyUnit) ∷ (1, Relend.mslice-owed ReservationUsage.row ref1 0 1 life0,) ∷ (2, Rows.whole (Declared.row
+            Question.the-type)) ∷ (3, Rows.sc-here (Row.sInt Syntax.w64),) ∷ (4, Rows.any-gone ReservationUsage.ty) ∷ (5, Rows.sc-here Row.sBool,) ∷
+            (6, Rows.any-gone (Syntax.tyInt Syntax.w64)) ∷ (7, Rows.any-gone Syntax.tyBool,) ∷ (8, Rows.any-gone Syntax.tyPtr) ∷ (9, Rows.any-gone
+            ReservationUsage.ty,) ∷ (10, Rows.any-gone Syntax.tyUnit) ∷ (11, Relend.msptr ReservationUsage.row ref0 1,) ∷ (12, Rows.any-gone
+            (Syntax.tyStruct (38 ∷ 91 ∷ 93 ∷ List.[]) (Syntax.tcons ref0 (Syntax.tcons (Syntax.tyInt Syntax.w64) Syntax.tnil))),) ∷ List.[]
         abbrev g17 : List.List Row.Entry
         g17 = (0, Rows.any-gone Syntax.tyUnit) ∷ (1, Relend.mslice-owed ReservationUsage.row ref1 0 1 life0,) ∷ (2, Rows.whole (Declared.row
             Question.the-type)) ∷ (3, Rows.sc-here (Row.sInt Syntax.w64),) ∷ (4, Rows.any-gone ReservationUsage.ty) ∷ (5, Rows.sc-here Row.sBool,) ∷
-            (6, ReservationUsage.held) ∷ (7, Rows.any-gone (Syntax.tyInt Syntax.w64),) ∷ (8, Rows.any-gone Syntax.tyBool) ∷ (9, Rows.any-gone
-            Syntax.tyPtr,) ∷ (10, Rows.any-gone ReservationUsage.ty) ∷ (11, Rows.any-gone Syntax.tyUnit) ∷ (12, Relend.msptr ReservationUsage.row ref0
-            1,) ∷ (13, Rows.any-gone (Syntax.tyStruct (38 ∷ 91 ∷ 93 ∷ List.[]) (Syntax.tcons ref0 (Syntax.tcons (Syntax.tyInt Syntax.w64)
-            Syntax.tnil))),) ∷ List.[]
+            (6, Rows.any-gone (Syntax.tyInt Syntax.w64)) ∷ (7, Rows.any-gone Syntax.tyBool,) ∷ (8, Rows.any-gone Syntax.tyPtr) ∷ (9, Rows.any-gone
+            ReservationUsage.ty,) ∷ (10, Rows.any-gone Syntax.tyUnit) ∷ (11, Rows.any-gone ref0,) ∷ (12, Mut.mslice ReservationUsage.row ref0 1,) ∷
+            List.[]
         abbrev g18 : List.List Row.Entry
         g18 = (0, Rows.any-gone Syntax.tyUnit) ∷ (1, Relend.mslice-owed ReservationUsage.row ref1 0 1 life0,) ∷ (2, Rows.whole (Declared.row
             Question.the-type)) ∷ (3, Rows.sc-here (Row.sInt Syntax.w64),) ∷ (4, Rows.any-gone ReservationUsage.ty) ∷ (5, Rows.sc-here Row.sBool,) ∷
-            (6, ReservationUsage.held) ∷ (7, Rows.any-gone (Syntax.tyInt Syntax.w64),) ∷ (8, Rows.any-gone Syntax.tyBool) ∷ (9, Rows.any-gone
-            Syntax.tyPtr,) ∷ (10, Rows.any-gone ReservationUsage.ty) ∷ (11, Rows.any-gone Syntax.tyUnit) ∷ (12, Rows.any-gone ref0,) ∷ (13, Mut.mslice
-            ReservationUsage.row ref0 1,) ∷ List.[]
+            (6, Rows.any-gone (Syntax.tyInt Syntax.w64)) ∷ (7, Rows.any-gone Syntax.tyBool,) ∷ (8, Rows.any-gone Syntax.tyPtr) ∷ (9, Rows.any-gone
+            ReservationUsage.ty,) ∷ (10, Rows.sc-here Row.sUnit) ∷ (11, Rows.any-gone ref0,) ∷ (12, Mut.msleft ReservationUsage.row ref0,) ∷ List.[]
         abbrev g19 : List.List Row.Entry
         g19 = (0, Rows.any-gone Syntax.tyUnit) ∷ (1, Relend.mslice-owed ReservationUsage.row ref1 0 1 life0,) ∷ (2, Rows.whole (Declared.row
             Question.the-type)) ∷ (3, Rows.sc-here (Row.sInt Syntax.w64),) ∷ (4, Rows.any-gone ReservationUsage.ty) ∷ (5, Rows.sc-here Row.sBool,) ∷
-            (6, ReservationUsage.held) ∷ (7, Rows.any-gone (Syntax.tyInt Syntax.w64),) ∷ (8, Rows.any-gone Syntax.tyBool) ∷ (9, Rows.any-gone
-            Syntax.tyPtr,) ∷ (10, Rows.any-gone ReservationUsage.ty) ∷ (11, Rows.sc-here Row.sUnit) ∷ (12, Rows.any-gone ref0,) ∷ (13, Mut.msleft
-            ReservationUsage.row ref0,) ∷ List.[]
-        abbrev g20 : List.List Row.Entry
-        g20 = (0, Rows.any-gone Syntax.tyUnit) ∷ (1, Relend.mslice-owed ReservationUsage.row ref1 0 1 life0,) ∷ (2, Rows.whole (Declared.row
-            Question.the-type)) ∷ (3, Rows.sc-here (Row.sInt Syntax.w64),) ∷ (4, Rows.any-gone ReservationUsage.ty) ∷ (5, Rows.sc-here Row.sBool,) ∷
-            (6, Rows.any-gone ReservationUsage.ty) ∷ (7, Rows.any-gone (Syntax.tyInt Syntax.w64),) ∷ (8, Rows.any-gone Syntax.tyBool) ∷ (9,
-            Rows.any-gone Syntax.tyPtr,) ∷ (10, Rows.any-gone ReservationUsage.ty) ∷ (11, Rows.sc-here Row.sUnit) ∷ (12, Rows.any-gone ref0,) ∷ (13,
-            Mut.msleft ReservationUsage.row ref0,) ∷ List.[]
-        abbrev g21 : List.List Row.Entry
-        g21 = (0, Rows.any-gone Syntax.tyUnit) ∷ (1, Relend.mslice-owed ReservationUsage.row ref1 0 1 life0,) ∷ (2, Rows.whole (Declared.row
-            Question.the-type)) ∷ (3, Rows.sc-here (Row.sInt Syntax.w64),) ∷ (4, Rows.any-gone ReservationUsage.ty) ∷ (5, Rows.sc-here Row.sBool,) ∷
-            (6, Rows.any-gone ReservationUsage.ty) ∷ (7, Rows.any-gone (Syntax.tyInt Syntax.w64),) ∷ (8, Rows.any-gone Syntax.tyBool) ∷ (9,
-            Rows.any-gone Syntax.tyPtr,) ∷ (10, Rows.any-gone ReservationUsage.ty) ∷ (11, Rows.any-gone Syntax.tyUnit) ∷ (12, Rows.any-gone ref0,) ∷
-            (13, Mut.msleft ReservationUsage.row ref0,) ∷ List.[]
+            (6, Rows.any-gone (Syntax.tyInt Syntax.w64)) ∷ (7, Rows.any-gone Syntax.tyBool,) ∷ (8, Rows.any-gone Syntax.tyPtr) ∷ (9, Rows.any-gone
+            ReservationUsage.ty,) ∷ (10, Rows.any-gone Syntax.tyUnit) ∷ (11, Rows.any-gone ref0,) ∷ (12, Mut.msleft ReservationUsage.row ref0,) ∷
+            List.[]
         abbrev G0 : Row.Cx
         G0 = record { locals = t0; slots = life0 ∷ Row.off ∷ List.[]; }
         abbrev G1 : Row.Cx
@@ -588,9 +547,9 @@ module _ (claims· : Claims) where
         abbrev G19 : Row.Cx
         G19 = record { locals = t15; slots = life0 ∷ Row.off ∷ List.[]; }
         abbrev G20 : Row.Cx
-        G20 = record { locals = t16; slots = life0 ∷ Row.off ∷ List.[]; }
+        G20 = record { locals = t15; slots = life0 ∷ Row.alive ∷ List.[]; }
         abbrev G21 : Row.Cx
-        G21 = record { locals = t16; slots = life0 ∷ Row.alive ∷ List.[]; }
+        G21 = record { locals = g16; slots = Row.off ∷ Row.alive ∷ List.[] }
         abbrev G22 : Row.Cx
         G22 = record { locals = g17; slots = Row.off ∷ Row.alive ∷ List.[] }
         abbrev G23 : Row.Cx
@@ -598,23 +557,19 @@ module _ (claims· : Claims) where
         abbrev G24 : Row.Cx
         G24 = record { locals = g19; slots = Row.off ∷ Row.alive ∷ List.[] }
         abbrev G25 : Row.Cx
-        G25 = record { locals = g20; slots = Row.off ∷ Row.alive ∷ List.[] }
+        G25 = record { locals = g19; slots = Row.off ∷ Row.dead ∷ List.[] }
         abbrev G26 : Row.Cx
-        G26 = record { locals = g21; slots = Row.off ∷ Row.alive ∷ List.[] }
+        G26 = record { locals = t15; slots = life0 ∷ Row.dead ∷ List.[]; }
         abbrev G27 : Row.Cx
-        G27 = record { locals = g21; slots = Row.off ∷ Row.dead ∷ List.[] }
+        G27 = record { locals = t15; slots = life0 ∷ Row.off ∷ List.[]; }
         abbrev G28 : Row.Cx
-        G28 = record { locals = t22; slots = life0 ∷ Row.dead ∷ List.[]; }
+        G28 = record { locals = t15; slots = life0 ∷ Row.off ∷ List.[]; }
         abbrev G29 : Row.Cx
-        G29 = record { locals = t22; slots = life0 ∷ Row.off ∷ List.[]; }
+        G29 = record { locals = t2; slots = life0 ∷ Row.off ∷ List.[]; }
         abbrev G30 : Row.Cx
-        G30 = record { locals = t22; slots = life0 ∷ Row.off ∷ List.[]; }
+        G30 = record { locals = t20; slots = life0 ∷ Row.off ∷ List.[]; }
         abbrev G31 : Row.Cx
-        G31 = record { locals = t2; slots = life0 ∷ Row.off ∷ List.[]; }
-        abbrev G32 : Row.Cx
-        G32 = record { locals = t23; slots = life0 ∷ Row.off ∷ List.[]; }
-        abbrev G33 : Row.Cx
-        G33 = record { locals = t1; slots = life0 ∷ Row.off ∷ List.[]; }
+        G31 = record { locals = t1; slots = life0 ∷ Row.off ∷ List.[]; }
         abbrev Δ0 : Typed.Outs
         Δ0 = record { next = Option.none; exits = List.[]; returns = Option.some G1 }
         abbrev Δ1 : Typed.Outs
@@ -632,76 +587,64 @@ module _ (claims· : Claims) where
           d0 : Typed.Typed 𝓤 H A 𝓣 E G8 b3 Δ4 at0
           d0 = Typed.t-skip 𝓤 H A W 𝓣 E Δ4 tt
           d1 : Typed.Typed 𝓤 H A 𝓣 E G7 b3 Δ4 at1
-          d1 = Typed.g-pre 𝓤 H A W 𝓣 E G7 G8 b3 Δ4 (Typed.pass T7 T8 s4) at0 (Scalar.g-room 𝓤 H A W E G7 8 Syntax.tyBool (Scalar.room-sc 𝓤 H A W
+          d1 = Typed.g-pre 𝓤 H A W 𝓣 E G7 G8 b3 Δ4 (Typed.pass T7 T8 s4) at0 (Scalar.g-room 𝓤 H A W E G7 7 Syntax.tyBool (Scalar.room-sc 𝓤 H A W
               Row.sBool)) d0
           d2 : Typed.Typed 𝓤 H A 𝓣 E G10 b4 Δ4 at2
           d2 = Typed.t-exit 𝓤 H A W 𝓣 E 1 Δ4 tt
           d3 : Typed.Typed 𝓤 H A 𝓣 E G9 b4 Δ4 at3
-          d3 = Typed.g-pre 𝓤 H A W 𝓣 E G9 G10 b4 Δ4 (Typed.pass T9 T10 s6) at2 (Scalar.g-room 𝓤 H A W E G9 8 Syntax.tyBool (Scalar.room-sc 𝓤 H A W
+          d3 = Typed.g-pre 𝓤 H A W 𝓣 E G9 G10 b4 Δ4 (Typed.pass T9 T10 s6) at2 (Scalar.g-room 𝓤 H A W E G9 7 Syntax.tyBool (Scalar.room-sc 𝓤 H A W
               Row.sBool)) d2
           d4 : Typed.Typed 𝓤 H A 𝓣 E G7 b4 Δ4 at4
           d4 = Typed.g-pre 𝓤 H A W 𝓣 E G7 G9 b4 Δ4 (Typed.pass T7 T9 s5) at3 (Scalar.g-room 𝓤 H A W E G7 2 Laws.mir (Local.room-whole 𝓤 H A W
               (Declared.row Question.the-type) Laws.mir Path.refl)) d3
           d5 : Typed.Typed 𝓤 H A 𝓣 E G7 b5 Δ4 at5
-          d5 = Scalar.t-cond 𝓤 H A W E 𝓣 G7 8 (λ x. x) b3 b4 Δ4 at1 at4 (Scalar.reads-sc 𝓤 H A W Row.sBool) Path.refl d1 d4
+          d5 = Scalar.t-cond 𝓤 H A W E 𝓣 G7 7 (λ x. x) b3 b4 Δ4 at1 at4 (Scalar.reads-sc 𝓤 H A W Row.sBool) Path.refl d1 d4
           d6 : Typed.Typed 𝓤 H A 𝓣 E G5 b5 Δ4 at6
-          d6 = Typed.g-pre 𝓤 H A W 𝓣 E G5 G7 b5 Δ4 (Typed.pass T5 T7 s3) at5 (Scalar.g-room 𝓤 H A W E G5 7 (Syntax.tyInt Syntax.w64) (Scalar.room-sc 𝓤
+          d6 = Typed.g-pre 𝓤 H A W 𝓣 E G5 G7 b5 Δ4 (Typed.pass T5 T7 s3) at5 (Scalar.g-room 𝓤 H A W E G5 6 (Syntax.tyInt Syntax.w64) (Scalar.room-sc 𝓤
               H A W (Row.sInt Syntax.w64))) d5
-          d7 : Typed.Typed 𝓤 H A 𝓣 E G29 b15 Δ3 at7
-          d7 = Typed.s-typed 𝓤 H A W 𝓣 E G29 b15 Δ3 (λ Ψ. Typed.ask s26 (Typed.pass T30 T31 s27 Ψ)) tt (Typed.g-post 𝓤 H A W 𝓣 E G29 G30 G31 b15
-              (Typed.ask s26) (Typed.pass T30 T31 s27) (Scalar.t-op2 𝓤 H A W E 𝓣 G29 (Syntax.add Syntax.unsigned) (Scalar.oAt 3 (Syntax.tyInt
+          d7 : Typed.Typed 𝓤 H A 𝓣 E G27 b14 Δ3 at7
+          d7 = Typed.s-typed 𝓤 H A W 𝓣 E G27 b14 Δ3 (λ Ψ. Typed.ask s24 (Typed.pass T28 T29 s25 Ψ)) tt (Typed.g-post 𝓤 H A W 𝓣 E G27 G28 G29 b14
+              (Typed.ask s24) (Typed.pass T28 T29 s25) (Scalar.t-op2 𝓤 H A W E 𝓣 G27 (Syntax.add Syntax.unsigned) (Scalar.oAt 3 (Syntax.tyInt
               Syntax.w64) (Row.valS (Row.sInt Syntax.w64))) (Scalar.oInt Syntax.w64 1) 3 (Rows.sc-here (Row.sInt Syntax.w64)) (Syntax.tyInt
               Syntax.w64) (Row.valS (Row.sInt Syntax.w64)) (Row.sInt Syntax.w64 .of) (Scalar.reads-sc 𝓤 H A W (Row.sInt Syntax.w64), Path.refl) tt
               (Scalar.room-sc 𝓤 H A W (Row.sInt Syntax.w64)) (Scalar.holds-sc 𝓤 H A W (Row.sInt Syntax.w64)) Path.refl (λ u. Path.refl) λ u. tt)
-              (Scalar.g-room 𝓤 H A W E G30 5 Syntax.tyBool (Scalar.room-sc 𝓤 H A W Row.sBool)))
-          d8 : Typed.Typed 𝓤 H A 𝓣 E G28 b15 Δ3 at8
-          d8 = Typed.g-pre 𝓤 H A W 𝓣 E G28 G29 b15 Δ3 (λ Ψ. Ψ) at7 (Lifetime.g-forget 𝓤 H A W E G28 1 Row.dead Path.refl) d7
-          d9 : Typed.Typed 𝓤 H A 𝓣 E G27 b15 Δ3 at9
-          d9 = Typed.g-pre 𝓤 H A W 𝓣 E G27 G28 b15 Δ3 (Typed.both s24) at8 (Relend.g-back-sl 𝓤 H A W E ReservationUsage.row G27 13 1 0 1 ref1 ref0
+              (Scalar.g-room 𝓤 H A W E G28 5 Syntax.tyBool (Scalar.room-sc 𝓤 H A W Row.sBool)))
+          d8 : Typed.Typed 𝓤 H A 𝓣 E G26 b14 Δ3 at8
+          d8 = Typed.g-pre 𝓤 H A W 𝓣 E G26 G27 b14 Δ3 (λ Ψ. Ψ) at7 (Lifetime.g-forget 𝓤 H A W E G26 1 Row.dead Path.refl) d7
+          d9 : Typed.Typed 𝓤 H A 𝓣 E G25 b14 Δ3 at9
+          d9 = Typed.g-pre 𝓤 H A W 𝓣 E G25 G26 b14 Δ3 (Typed.both s22) at8 (Relend.g-back-sl 𝓤 H A W E ReservationUsage.row G25 12 1 0 1 ref1 ref0
               life0 (λ x. x) (λ x. x) (Reads.as-is 𝓤 H A (Mut.msleft ReservationUsage.row ref0)) (Reads.as-is 𝓤 H A (Relend.mslice-owed
               ReservationUsage.row ref1 0 1 life0)) Path.refl Path.refl) d8
-          d10 : Typed.Typed 𝓤 H A 𝓣 E G26 b15 Δ3 at10
-          d10 = Typed.g-pre 𝓤 H A W 𝓣 E G26 G27 b15 Δ3 (λ Ψ. Ψ) at9 (Lifetime.g-end 𝓤 H A W E G26 1 Path.refl) d9
-          d11 : Typed.Typed 𝓤 H A 𝓣 E G25 b15 Δ3 at11
-          d11 = Typed.g-pre 𝓤 H A W 𝓣 E G25 G26 b15 Δ3 (Typed.pass T25 T26 s22) at10 (Scalar.g-room 𝓤 H A W E G25 11 Syntax.tyUnit (Scalar.room-sc 𝓤 H
+          d10 : Typed.Typed 𝓤 H A 𝓣 E G24 b14 Δ3 at10
+          d10 = Typed.g-pre 𝓤 H A W 𝓣 E G24 G25 b14 Δ3 (λ Ψ. Ψ) at9 (Lifetime.g-end 𝓤 H A W E G24 1 Path.refl) d9
+          d11 : Typed.Typed 𝓤 H A 𝓣 E G23 b14 Δ3 at11
+          d11 = Typed.g-pre 𝓤 H A W 𝓣 E G23 G24 b14 Δ3 (Typed.pass T23 T24 s20) at10 (Scalar.g-room 𝓤 H A W E G23 10 Syntax.tyUnit (Scalar.room-sc 𝓤 H
               A W Row.sUnit)) d10
-          d12 : Typed.Typed 𝓤 H A 𝓣 E G24 b15 Δ3 at12
-          d12 = Typed.g-pre 𝓤 H A W 𝓣 E G24 G25 b15 Δ3 (Typed.pass T24 T25 s21) at11 (Scalar.g-room 𝓤 H A W E G24 6 ReservationUsage.ty
-              (Local.room-whole 𝓤 H A W ReservationUsage.row ReservationUsage.ty Path.refl)) d11
-          d13 : Typed.Typed 𝓤 H A 𝓣 E G23 b16 Δ3 at13
-          d13 = Typed.s-seq 𝓤 H A W 𝓣 E G23 G24 b14 b15 Δ3 (Typed.both s20) at12 (Plain.t-call-plain 𝓤 H A W 𝓣 1 ps·2 r·2 (claims· .4) (claims· .5)
-              "hnsr_circuit::tables::ledger::set_usage" (known .2) E (λ pos β. β) G23 (record { pos = 13; ty = Syntax.tyRef Syntax.erased Syntax.mut
-              ReservationUsage.to; ref = λ x. x; }, (Bool.bAt 5 λ x. x, (Num.vAt 3 λ x. x, (record { pos = 6; st = List.[]; d = 0; at = λ x. x },
-              tt)),),) 11 (1 ∷ List.[]) (Call.sub-id 𝓤 H A W (G23 .slots)) (Reads.as-is 𝓤 H A (Mut.mslice ReservationUsage.row ref0 1),
-              Mut.reads-mslice 𝓤 H A W ReservationUsage.row ref0 1, Path.refl, ((Scalar.reads-sc 𝓤 H A W Row.sBool, Path.refl), ((Scalar.reads-sc 𝓤 H
-              A W (Row.sInt Syntax.w64), Path.refl), ((Yields.yields-copy 𝓤 H A W (λ ρ. Unit) ReservationUsage.row Path.refl (ReservationUsage.copies
-              .copy 𝓤 H A W) ReservationUsage.held (λ x. x) (λ x. x) (λ ρ told. Local.mem-whole 𝓤 H A W ReservationUsage.row ρ) λ ρ told.
-              Local.whole-mem 𝓤 H A W ReservationUsage.row ρ, Path.refl,), tt,),),),) (Reads.room-gone 𝓤 H A Syntax.tyUnit) (tt, tt) Path.refl) d12
-          d14 : Typed.Typed 𝓤 H A 𝓣 E G22 b17 Δ3 at14
-          d14 = Typed.s-seq 𝓤 H A W 𝓣 E G22 G23 b13 b16 Δ3 (Typed.ask s19) at13 (Relend.t-sl-aggregate 𝓤 H A W E ReservationUsage.row 𝓣 (Relend.asMut
-              ReservationUsage.row) G22 12 13 1 ref0 ref0 (λ x. x) (Scalar.oFld 1 ((Syntax.field 1) ∷ List.[]) (Syntax.tyInt Syntax.w64) 8 λ v.
+          d12 : Typed.Typed 𝓤 H A 𝓣 E G22 b15 Δ3 at12
+          d12 = Typed.s-seq 𝓤 H A W 𝓣 E G22 G23 b13 b14 Δ3 (Typed.both s19) at11 (Plain.t-call-plain 𝓤 H A W 𝓣 1 ps·1 r·1 (claims· .2) (claims· .3)
+              "hnsr_circuit::tables::ledger::unmark_usage" (known .1) E (λ pos β. β) G22 (record { pos = 12; ty = Syntax.tyRef Syntax.erased
+              Syntax.mut ReservationUsage.to; ref = λ x. x; }, (Bool.bAt 5 λ x. x, (Num.vAt 3 λ x. x, tt)),) 10 (1 ∷ List.[]) (Call.sub-id 𝓤 H A W
+              (G22 .slots)) (Reads.as-is 𝓤 H A (Mut.mslice ReservationUsage.row ref0 1), Mut.reads-mslice 𝓤 H A W ReservationUsage.row ref0 1,
+              Path.refl, ((Scalar.reads-sc 𝓤 H A W Row.sBool, Path.refl), ((Scalar.reads-sc 𝓤 H A W (Row.sInt Syntax.w64), Path.refl), tt),),)
+              (Reads.room-gone 𝓤 H A Syntax.tyUnit) (tt, tt) Path.refl) d11
+          d13 : Typed.Typed 𝓤 H A 𝓣 E G21 b16 Δ3 at13
+          d13 = Typed.s-seq 𝓤 H A W 𝓣 E G21 G22 b12 b15 Δ3 (Typed.ask s18) at12 (Relend.t-sl-aggregate 𝓤 H A W E ReservationUsage.row 𝓣 (Relend.asMut
+              ReservationUsage.row) G21 11 12 1 ref0 ref0 (λ x. x) (Scalar.oFld 1 ((Syntax.field 1) ∷ List.[]) (Syntax.tyInt Syntax.w64) 8 λ v.
               Shared.lenV (v .0)) (Reads.as-is 𝓤 H A (Relend.msptr ReservationUsage.row ref0 1)) (Reads.room-gone 𝓤 H A (Syntax.tyStruct (38 ∷ 91 ∷ 93
               ∷ List.[]) (Syntax.tcons ref0 (Syntax.tcons (Syntax.tyInt Syntax.w64) Syntax.tnil)))) (Relend.reads-owed-len 𝓤 H A W
-              ReservationUsage.row ref1 0 1 life0 8 Path.refl, Path.refl,) Path.refl Path.refl λ b o k. tt) d13
-          d15 : Typed.Typed 𝓤 H A 𝓣 E G21 b18 Δ3 at15
-          d15 = Typed.s-seq 𝓤 H A W 𝓣 E G21 G22 b12 b17 Δ3 (Typed.give s18) at14 (Relend.t-sl-relend 𝓤 H A W E ReservationUsage.row 𝓣 G21 1 12 0 1
+              ReservationUsage.row ref1 0 1 life0 8 Path.refl, Path.refl,) Path.refl Path.refl λ b o k. tt) d12
+          d14 : Typed.Typed 𝓤 H A 𝓣 E G20 b17 Δ3 at14
+          d14 = Typed.s-seq 𝓤 H A W 𝓣 E G20 G21 b11 b16 Δ3 (Typed.give s17) at13 (Relend.t-sl-relend 𝓤 H A W E ReservationUsage.row 𝓣 G20 1 11 0 1
               ref1 ref0 life0 0 (λ x. x) (Reads.as-is 𝓤 H A (Mut.mslice ReservationUsage.row ref1 0)) (Reads.room-gone 𝓤 H A ref0) Path.refl tt
-              Path.refl Path.refl Path.refl λ b o. tt) d14
-          d16 : Typed.Typed 𝓤 H A 𝓣 E G20 b18 Δ3 at16
-          d16 = Typed.g-pre 𝓤 H A W 𝓣 E G20 G21 b18 Δ3 (λ Ψ. Ψ) at15 (Lifetime.g-begin 𝓤 H A W E G20 1 (tt, (tt, (tt, (tt, (tt, (tt, (tt, (tt, (tt,
-              (tt, (tt, (tt, (tt, (tt, tt))))))))))),),),)) d15
-          d17 : Typed.Typed 𝓤 H A 𝓣 E G19 b18 Δ3 at17
-          d17 = Typed.g-pre 𝓤 H A W 𝓣 E G19 G20 b18 Δ3 (Typed.pass T19 T20 s16) at16 (Scalar.g-room 𝓤 H A W E G19 4 ReservationUsage.ty
-              (Local.room-whole 𝓤 H A W ReservationUsage.row ReservationUsage.ty Path.refl)) d16
-          d18 : Typed.Typed 𝓤 H A 𝓣 E G18 b19 Δ3 at18
-          d18 = Typed.s-seq 𝓤 H A W 𝓣 E G18 G19 b11 b18 Δ3 (Typed.both s15) at17 (Plain.t-call-plain 𝓤 H A W 𝓣 0 ps·1 r·1 (claims· .2) (claims· .3)
-              "hnsr_circuit::ledger::usage_unmarked" (known .1) E (λ pos β. β) G18 (record { pos = 4; st = List.[]; d = 0; at = λ x. x }, tt) 6
-              List.[] (Call.sub-id 𝓤 H A W (G18 .slots)) ((Yields.yields-copy 𝓤 H A W (λ ρ. Unit) ReservationUsage.row Path.refl
-              (ReservationUsage.copies .copy 𝓤 H A W) ReservationUsage.held (λ x. x) (λ x. x) (λ ρ told. Local.mem-whole 𝓤 H A W ReservationUsage.row
-              ρ) λ ρ told. Local.whole-mem 𝓤 H A W ReservationUsage.row ρ, Path.refl,), tt,) (Reads.room-gone 𝓤 H A ReservationUsage.ty) tt Path.refl)
-              d17
-          d19 : Typed.Typed 𝓤 H A 𝓣 E G17 b20 Δ3 at19
-          d19 = Typed.s-seq 𝓤 H A W 𝓣 E G17 G18 b10 b19 Δ3 (Typed.both s14) at18 (Plain.t-call-plain 𝓤 H A W 𝓣 0 ps·0 r·0 (claims· .0) (claims· .1)
+              Path.refl Path.refl Path.refl λ b o. tt) d13
+          d15 : Typed.Typed 𝓤 H A 𝓣 E G19 b17 Δ3 at15
+          d15 = Typed.g-pre 𝓤 H A W 𝓣 E G19 G20 b17 Δ3 (λ Ψ. Ψ) at14 (Lifetime.g-begin 𝓤 H A W E G19 1 (tt, (tt, (tt, (tt, (tt, (tt, (tt, (tt, (tt,
+              (tt, (tt, (tt, (tt, tt))))))))))),),)) d14
+          d16 : Typed.Typed 𝓤 H A 𝓣 E G18 b17 Δ3 at16
+          d16 = Typed.g-pre 𝓤 H A W 𝓣 E G18 G19 b17 Δ3 (Typed.pass T18 T19 s15) at15 (Scalar.g-room 𝓤 H A W E G18 4 ReservationUsage.ty
+              (Local.room-whole 𝓤 H A W ReservationUsage.row ReservationUsage.ty Path.refl)) d15
+          d17 : Typed.Typed 𝓤 H A 𝓣 E G17 b18 Δ3 at17
+          d17 = Typed.s-seq 𝓤 H A W 𝓣 E G17 G18 b10 b17 Δ3 (Typed.both s14) at16 (Plain.t-call-plain 𝓤 H A W 𝓣 0 ps·0 r·0 (claims· .0) (claims· .1)
               "hnsr_circuit::question::usage_has" (known .0) E (λ pos β. β) G17 (record { pos = 4; st = List.[]; d = 0; at = λ x. x }, (record { pos =
               2; st = List.[]; d = 0; at = λ x. x }, tt),) 5 List.[] (Call.sub-id 𝓤 H A W (G17 .slots)) ((Yields.yields-copy 𝓤 H A W (λ ρ. Unit)
               ReservationUsage.row Path.refl (ReservationUsage.copies .copy 𝓤 H A W) ReservationUsage.held (λ x. x) (λ x. x) (λ ρ told.
@@ -709,82 +652,82 @@ module _ (claims· : Claims) where
               ((Yields.yields-copy 𝓤 H A W (λ ρ. Unit) (Declared.row Question.the-type) Path.refl (Copies.cStruct Question.the-type Laws.the-laws
               Laws.the-copy .copy 𝓤 H A W) (Rows.whole (Declared.row Question.the-type)) (λ x. x) (λ x. x) (λ ρ told. Local.mem-whole 𝓤 H A W
               (Declared.row Question.the-type) ρ) λ ρ told. Local.whole-mem 𝓤 H A W (Declared.row Question.the-type) ρ, Path.refl,), tt,),)
-              (Reads.room-gone 𝓤 H A Syntax.tyBool) tt Path.refl) d18
-          d20 : Typed.Typed 𝓤 H A 𝓣 E G16 b20 Δ3 at20
-          d20 = Typed.g-pre 𝓤 H A W 𝓣 E G16 G17 b20 Δ3 (Typed.pass T16 T17 s13) at19 (Scalar.g-room 𝓤 H A W E G16 10 ReservationUsage.ty
-              (Local.room-whole 𝓤 H A W ReservationUsage.row ReservationUsage.ty Path.refl)) d19
-          d21 : Typed.Typed 𝓤 H A 𝓣 E G15 b21 Δ3 at21
-          d21 = Typed.s-seq 𝓤 H A W 𝓣 E G15 G16 b9 b20 Δ3 (Typed.pass T15 T16 s12) at20 (LocalCopy.t-val-copy 𝓤 H A W E 𝓣 (λ ρ. Unit) G15 10 4
+              (Reads.room-gone 𝓤 H A Syntax.tyBool) tt Path.refl) d16
+          d18 : Typed.Typed 𝓤 H A 𝓣 E G16 b18 Δ3 at18
+          d18 = Typed.g-pre 𝓤 H A W 𝓣 E G16 G17 b18 Δ3 (Typed.pass T16 T17 s13) at17 (Scalar.g-room 𝓤 H A W E G16 9 ReservationUsage.ty
+              (Local.room-whole 𝓤 H A W ReservationUsage.row ReservationUsage.ty Path.refl)) d17
+          d19 : Typed.Typed 𝓤 H A 𝓣 E G15 b19 Δ3 at19
+          d19 = Typed.s-seq 𝓤 H A W 𝓣 E G15 G16 b9 b18 Δ3 (Typed.pass T15 T16 s12) at18 (LocalCopy.t-val-copy 𝓤 H A W E 𝓣 (λ ρ. Unit) G15 9 4
               ReservationUsage.row ReservationUsage.ty ReservationUsage.ty ReservationUsage.held ReservationUsage.held (λ x. x) (λ x. x) (λ x. x)
               Path.refl (Own.told-none 𝓤 H A (G15 .slots)) (Yields.yields-copy 𝓤 H A W (λ ρ. Unit) ReservationUsage.row Path.refl
               (ReservationUsage.copies .copy 𝓤 H A W) ReservationUsage.held (λ x. x) (λ x. x) (λ ρ told. Local.mem-whole 𝓤 H A W ReservationUsage.row
               ρ) λ ρ told. Local.whole-mem 𝓤 H A W ReservationUsage.row ρ) (Reads.room-gone 𝓤 H A ReservationUsage.ty) (Yields.makes-mem 𝓤 H A W (λ ρ.
               Unit) ReservationUsage.row Path.refl ReservationUsage.held (λ x. x) λ ρ told. Local.whole-mem 𝓤 H A W ReservationUsage.row ρ) Path.refl
-              Path.refl) d20
-          d22 : Typed.Typed 𝓤 H A 𝓣 E G14 b21 Δ3 at22
-          d22 = Typed.g-pre 𝓤 H A W 𝓣 E G14 G15 b21 Δ3 (Typed.pass T14 T15 s11) at21 (Scalar.g-room 𝓤 H A W E G14 9 Syntax.tyPtr (Scalar.room-sc 𝓤 H A
-              W Row.sPtr)) d21
-          d23 : Typed.Typed 𝓤 H A 𝓣 E G13 b21 Δ3 at23
-          d23 = Typed.g-pre 𝓤 H A W 𝓣 E G13 G14 b21 Δ3 (Typed.pass T13 T14 s10) at22 (Scalar.g-room 𝓤 H A W E G13 7 (Syntax.tyInt Syntax.w64)
-              (Scalar.room-sc 𝓤 H A W (Row.sInt Syntax.w64))) d22
-          d24 : Typed.Typed 𝓤 H A 𝓣 E G12 b22 Δ3 at24
-          d24 = Typed.s-seq 𝓤 H A W 𝓣 E G12 G13 b8 b21 Δ3 (Typed.both s9) at23 (Move.t-sl-copy-out 𝓤 H A W E ReservationUsage.row 𝓣 Path.refl
-              (ReservationUsage.copies .copy 𝓤 H A W) (λ ρ. Unit) G12 1 9 10 0 ref1 life0 ReservationUsage.ty ReservationUsage.ty
-              ReservationUsage.held (Shared.bySize 40) (λ u. u .1 .1 .1 .0) (λ x. x) ReservationUsage.none (λ x. Unit) (λ x. x) (λ x. x) (λ i o.
-              Elements.at-mul o 40 i) Path.refl Path.refl (Own.told-none 𝓤 H A (G12 .slots)) (DerefMove.learns-nothing 𝓤 H A ReservationUsage.row)
-              (Reads.as-is 𝓤 H A (Mut.mslice ReservationUsage.row ref1 0)) (Reads.as-is 𝓤 H A (Rows.sc-here Row.sPtr)) (Reads.room-gone 𝓤 H A
-              ReservationUsage.ty) (Yields.makes-mem 𝓤 H A W (λ ρ. Unit) ReservationUsage.row Path.refl ReservationUsage.held (λ x. x) λ ρ told.
-              Local.whole-mem 𝓤 H A W ReservationUsage.row ρ) Path.refl tt Path.refl Path.refl) d23
-          d25 : Typed.Typed 𝓤 H A 𝓣 E G11 b23 Δ3 at25
-          d25 = Typed.s-seq 𝓤 H A W 𝓣 E G11 G12 b7 b22 Δ3 (Typed.ask s8) at24 (Scalar.t-op2 𝓤 H A W E 𝓣 G11 Syntax.offset (Scalar.oFld 1
-              ((Syntax.field 0) ∷ List.[]) ref1 0 Reads.ptrVal) (Scalar.oAt 7 (Syntax.tyInt Syntax.w64) (Row.valS (Row.sInt Syntax.w64))) 9
+              Path.refl) d18
+          d20 : Typed.Typed 𝓤 H A 𝓣 E G14 b19 Δ3 at20
+          d20 = Typed.g-pre 𝓤 H A W 𝓣 E G14 G15 b19 Δ3 (Typed.pass T14 T15 s11) at19 (Scalar.g-room 𝓤 H A W E G14 8 Syntax.tyPtr (Scalar.room-sc 𝓤 H A
+              W Row.sPtr)) d19
+          d21 : Typed.Typed 𝓤 H A 𝓣 E G13 b19 Δ3 at21
+          d21 = Typed.g-pre 𝓤 H A W 𝓣 E G13 G14 b19 Δ3 (Typed.pass T13 T14 s10) at20 (Scalar.g-room 𝓤 H A W E G13 6 (Syntax.tyInt Syntax.w64)
+              (Scalar.room-sc 𝓤 H A W (Row.sInt Syntax.w64))) d20
+          d22 : Typed.Typed 𝓤 H A 𝓣 E G12 b20 Δ3 at22
+          d22 = Typed.s-seq 𝓤 H A W 𝓣 E G12 G13 b8 b19 Δ3 (Typed.both s9) at21 (Move.t-sl-copy-out 𝓤 H A W E ReservationUsage.row 𝓣 Path.refl
+              (ReservationUsage.copies .copy 𝓤 H A W) (λ ρ. Unit) G12 1 8 9 0 ref1 life0 ReservationUsage.ty ReservationUsage.ty ReservationUsage.held
+              (Shared.bySize 40) (λ u. u .1 .1 .1 .0) (λ x. x) ReservationUsage.none (λ x. Unit) (λ x. x) (λ x. x) (λ i o. Elements.at-mul o 40 i)
+              Path.refl Path.refl (Own.told-none 𝓤 H A (G12 .slots)) (DerefMove.learns-nothing 𝓤 H A ReservationUsage.row) (Reads.as-is 𝓤 H A
+              (Mut.mslice ReservationUsage.row ref1 0)) (Reads.as-is 𝓤 H A (Rows.sc-here Row.sPtr)) (Reads.room-gone 𝓤 H A ReservationUsage.ty)
+              (Yields.makes-mem 𝓤 H A W (λ ρ. Unit) ReservationUsage.row Path.refl ReservationUsage.held (λ x. x) λ ρ told. Local.whole-mem 𝓤 H A W
+              ReservationUsage.row ρ) Path.refl tt Path.refl Path.refl) d21
+          d23 : Typed.Typed 𝓤 H A 𝓣 E G11 b21 Δ3 at23
+          d23 = Typed.s-seq 𝓤 H A W 𝓣 E G11 G12 b7 b20 Δ3 (Typed.ask s8) at22 (Scalar.t-op2 𝓤 H A W E 𝓣 G11 Syntax.offset (Scalar.oFld 1
+              ((Syntax.field 0) ∷ List.[]) ref1 0 Reads.ptrVal) (Scalar.oAt 6 (Syntax.tyInt Syntax.w64) (Row.valS (Row.sInt Syntax.w64))) 8
               (Rows.sc-here Row.sPtr) Syntax.tyPtr (Row.valS Row.sPtr) (Row.sPtr .of) (Mut.reads-mslice-ptr 𝓤 H A W ReservationUsage.row ref1 0 0
               Path.refl, Path.refl,) (Scalar.reads-sc 𝓤 H A W (Row.sInt Syntax.w64), Path.refl) (Reads.room-gone 𝓤 H A Syntax.tyPtr) (Scalar.holds-sc
-              𝓤 H A W Row.sPtr) Path.refl (λ u. Path.refl) λ u. tt) d24
-          d26 : Typed.Typed 𝓤 H A 𝓣 E G6 b24 Δ3 at26
-          d26 = Typed.s-seq 𝓤 H A W 𝓣 E G6 G11 b6 b23 Δ3 (Typed.ask s7) at25 (Scalar.t-op2 𝓤 H A W E 𝓣 G6 (Syntax.mul Syntax.unsigned) (Scalar.oAt 3
-              (Syntax.tyInt Syntax.w64) (Row.valS (Row.sInt Syntax.w64))) (Scalar.oInt Syntax.w64 40) 7 (Rows.sc-here (Row.sInt Syntax.w64))
+              𝓤 H A W Row.sPtr) Path.refl (λ u. Path.refl) λ u. tt) d22
+          d24 : Typed.Typed 𝓤 H A 𝓣 E G6 b22 Δ3 at24
+          d24 = Typed.s-seq 𝓤 H A W 𝓣 E G6 G11 b6 b21 Δ3 (Typed.ask s7) at23 (Scalar.t-op2 𝓤 H A W E 𝓣 G6 (Syntax.mul Syntax.unsigned) (Scalar.oAt 3
+              (Syntax.tyInt Syntax.w64) (Row.valS (Row.sInt Syntax.w64))) (Scalar.oInt Syntax.w64 40) 6 (Rows.sc-here (Row.sInt Syntax.w64))
               (Syntax.tyInt Syntax.w64) (Row.valS (Row.sInt Syntax.w64)) (Row.sInt Syntax.w64 .of) (Scalar.reads-sc 𝓤 H A W (Row.sInt Syntax.w64),
               Path.refl) tt (Reads.room-gone 𝓤 H A (Syntax.tyInt Syntax.w64)) (Scalar.holds-sc 𝓤 H A W (Row.sInt Syntax.w64)) Path.refl (λ u.
-              Path.refl) λ u. tt) d25
-          d27 : Typed.Typed 𝓤 H A 𝓣 E G5 b25 Δ3 at27
-          d27 = Typed.t-seq 𝓤 H A W 𝓣 E G5 G6 b5 b24 Δ3 at6 at26 d6 d26
-          d28 : Typed.Typed 𝓤 H A 𝓣 E G4 b26 Δ3 at28
-          d28 = Typed.s-seq 𝓤 H A W 𝓣 E G4 G5 b2 b25 Δ3 (Typed.ask s2) at27 (Scalar.t-op2 𝓤 H A W E 𝓣 G4 (Syntax.lt Syntax.unsigned) (Scalar.oAt 3
-              (Syntax.tyInt Syntax.w64) (Row.valS (Row.sInt Syntax.w64))) (Scalar.oAt 7 (Syntax.tyInt Syntax.w64) (Row.valS (Row.sInt Syntax.w64))) 8
+              Path.refl) λ u. tt) d23
+          d25 : Typed.Typed 𝓤 H A 𝓣 E G5 b23 Δ3 at25
+          d25 = Typed.t-seq 𝓤 H A W 𝓣 E G5 G6 b5 b22 Δ3 at6 at24 d6 d24
+          d26 : Typed.Typed 𝓤 H A 𝓣 E G4 b24 Δ3 at26
+          d26 = Typed.s-seq 𝓤 H A W 𝓣 E G4 G5 b2 b23 Δ3 (Typed.ask s2) at25 (Scalar.t-op2 𝓤 H A W E 𝓣 G4 (Syntax.lt Syntax.unsigned) (Scalar.oAt 3
+              (Syntax.tyInt Syntax.w64) (Row.valS (Row.sInt Syntax.w64))) (Scalar.oAt 6 (Syntax.tyInt Syntax.w64) (Row.valS (Row.sInt Syntax.w64))) 7
               (Rows.sc-here Row.sBool) Syntax.tyBool (Row.valS Row.sBool) (Row.sBool .of) (Scalar.reads-sc 𝓤 H A W (Row.sInt Syntax.w64), Path.refl)
               (Scalar.reads-sc 𝓤 H A W (Row.sInt Syntax.w64), Path.refl) (Reads.room-gone 𝓤 H A Syntax.tyBool) (Scalar.holds-sc 𝓤 H A W Row.sBool)
-              Path.refl (λ u. Path.refl) λ u. tt) d27
-          d29 : Typed.Typed 𝓤 H A 𝓣 E G2 b27 Δ3 at29
-          d29 = Typed.s-seq 𝓤 H A W 𝓣 E G2 G4 b1 b26 Δ3 (Typed.pass T2 T4 s1) at28 (Scalar.t-use 𝓤 H A W E 𝓣 G2 (Scalar.oFld 1 ((Syntax.field 1) ∷
-              List.[]) (Syntax.tyInt Syntax.w64) 8 Shared.lenV) 7 (Rows.sc-here (Row.sInt Syntax.w64)) (Syntax.tyInt Syntax.w64) (Row.valS (Row.sInt
+              Path.refl (λ u. Path.refl) λ u. tt) d25
+          d27 : Typed.Typed 𝓤 H A 𝓣 E G2 b25 Δ3 at27
+          d27 = Typed.s-seq 𝓤 H A W 𝓣 E G2 G4 b1 b24 Δ3 (Typed.pass T2 T4 s1) at26 (Scalar.t-use 𝓤 H A W E 𝓣 G2 (Scalar.oFld 1 ((Syntax.field 1) ∷
+              List.[]) (Syntax.tyInt Syntax.w64) 8 Shared.lenV) 6 (Rows.sc-here (Row.sInt Syntax.w64)) (Syntax.tyInt Syntax.w64) (Row.valS (Row.sInt
               Syntax.w64)) (Row.sInt Syntax.w64 .of) (Mut.reads-mslice-len 𝓤 H A W ReservationUsage.row ref1 0 8 Path.refl, Path.refl,)
               (Reads.room-gone 𝓤 H A (Syntax.tyInt Syntax.w64)) (Scalar.holds-sc 𝓤 H A W (Row.sInt Syntax.w64)) Path.refl (λ u. Path.refl) λ u. tt)
-              d28
-          d30 : Typed.Typed 𝓤 H A 𝓣 E G2 b28 Δ2 at30
-          d30 = Typed.t-loop-by 𝓤 H A W 𝓣 E G2 b27 Δ2 put0 (λ u vs. Inv·0 (Row.get 1 (T2 .locals) u .now) (Row.get 2 (T2 .locals) u) (Row.get 3 (T2
+              d26
+          d28 : Typed.Typed 𝓤 H A 𝓣 E G2 b26 Δ2 at28
+          d28 = Typed.t-loop-by 𝓤 H A W 𝓣 E G2 b25 Δ2 put0 (λ u vs. Inv·0 (Row.get 1 (T2 .locals) u .now) (Row.get 2 (T2 .locals) u) (Row.get 3 (T2
               .locals) u) (vs .0) (vs .1)) (λ u vs. μ·0 (Row.get 1 (T2 .locals) u .now) (Row.get 2 (T2 .locals) u) (Row.get 3 (T2 .locals) u) (vs .0)
-              (vs .1)) at29 d29
-          d31 : Typed.Typed 𝓤 H A 𝓣 E G2 b29 Δ1 at31
-          d31 = Typed.t-block 𝓤 H A W 𝓣 E G2 b28 Δ1 at30 d30
-          d32 : Typed.Typed 𝓤 H A 𝓣 E G33 b31 Δ0 at32
-          d32 = Typed.t-return 𝓤 H A W 𝓣 E Δ0 tt
-          d33 : Typed.Typed 𝓤 H A 𝓣 E G32 b31 Δ0 at33
-          d33 = Typed.g-pre 𝓤 H A W 𝓣 E G32 G33 b31 Δ0 (Typed.pass T32 T33 s29) at32 (Scalar.g-room 𝓤 H A W E G32 3 (Syntax.tyInt Syntax.w64)
-              (Scalar.room-sc 𝓤 H A W (Row.sInt Syntax.w64))) d32
-          d34 : Typed.Typed 𝓤 H A 𝓣 E G3 b32 Δ0 at34
-          d34 = Typed.s-seq 𝓤 H A W 𝓣 E G3 G32 b30 b31 Δ0 (Typed.pass T3 T32 s28) at33 (Scalar.t-use 𝓤 H A W E 𝓣 G3 Scalar.oUnit 0 (Rows.sc-here
+              (vs .1)) at27 d27
+          d29 : Typed.Typed 𝓤 H A 𝓣 E G2 b27 Δ1 at29
+          d29 = Typed.t-block 𝓤 H A W 𝓣 E G2 b26 Δ1 at28 d28
+          d30 : Typed.Typed 𝓤 H A 𝓣 E G31 b29 Δ0 at30
+          d30 = Typed.t-return 𝓤 H A W 𝓣 E Δ0 tt
+          d31 : Typed.Typed 𝓤 H A 𝓣 E G30 b29 Δ0 at31
+          d31 = Typed.g-pre 𝓤 H A W 𝓣 E G30 G31 b29 Δ0 (Typed.pass T30 T31 s27) at30 (Scalar.g-room 𝓤 H A W E G30 3 (Syntax.tyInt Syntax.w64)
+              (Scalar.room-sc 𝓤 H A W (Row.sInt Syntax.w64))) d30
+          d32 : Typed.Typed 𝓤 H A 𝓣 E G3 b30 Δ0 at32
+          d32 = Typed.s-seq 𝓤 H A W 𝓣 E G3 G30 b28 b29 Δ0 (Typed.pass T3 T30 s26) at31 (Scalar.t-use 𝓤 H A W E 𝓣 G3 Scalar.oUnit 0 (Rows.sc-here
               Row.sUnit) Syntax.tyUnit (Row.valS Row.sUnit) (Row.sUnit .of) tt (Reads.room-gone 𝓤 H A Syntax.tyUnit) (Scalar.holds-sc 𝓤 H A W
-              Row.sUnit) Path.refl (λ u. Path.refl) λ u. tt) d33
-          d35 : Typed.Typed 𝓤 H A 𝓣 E G2 b33 Δ0 at35
-          d35 = Typed.t-seq 𝓤 H A W 𝓣 E G2 G3 b29 b32 Δ0 at31 at34 d31 d34
-          d36 : Typed.Typed 𝓤 H A 𝓣 E G0 b34 Δ0 at36
-          d36 = Typed.s-seq 𝓤 H A W 𝓣 E G0 G2 b0 b33 Δ0 (Typed.pass T0 T2 s0) at35 (Scalar.t-use 𝓤 H A W E 𝓣 G0 (Scalar.oInt Syntax.w64 0) 3
+              Row.sUnit) Path.refl (λ u. Path.refl) λ u. tt) d31
+          d33 : Typed.Typed 𝓤 H A 𝓣 E G2 b31 Δ0 at33
+          d33 = Typed.t-seq 𝓤 H A W 𝓣 E G2 G3 b27 b30 Δ0 at29 at32 d29 d32
+          d34 : Typed.Typed 𝓤 H A 𝓣 E G0 b32 Δ0 at34
+          d34 = Typed.s-seq 𝓤 H A W 𝓣 E G0 G2 b0 b31 Δ0 (Typed.pass T0 T2 s0) at33 (Scalar.t-use 𝓤 H A W E 𝓣 G0 (Scalar.oInt Syntax.w64 0) 3
               (Rows.sc-here (Row.sInt Syntax.w64)) (Syntax.tyInt Syntax.w64) (Row.valS (Row.sInt Syntax.w64)) (Row.sInt Syntax.w64 .of) tt
               (Reads.room-gone 𝓤 H A (Syntax.tyInt Syntax.w64)) (Scalar.holds-sc 𝓤 H A W (Row.sInt Syntax.w64)) Path.refl (λ u. Path.refl) λ u. tt)
-              d35
-          pub typed : Typed.Typed 𝓤 H A 𝓣 E (Function.Γin 1 ps r xs m κs qs) b34 (Function.Δret 1 ps r xs m κs qs) Φ
-          typed = d36
+              d33
+          pub typed : Typed.Typed 𝓤 H A 𝓣 E (Function.Γin 1 ps r xs m κs qs) b32 (Function.Δret 1 ps r xs m κs qs) Φ
+          typed = d34
       module _ (κs : Lifetimes.Lfts 1) where
         pub record Args : Type 0 where
           pub ledger : Kinds.Den { n = 1 } κs (MutSlice.pMutS ReservationUsage.row 0 tt)
@@ -809,7 +752,7 @@ module _ (claims· : Claims) where
       abbrev pub m1 : (κs : Lifetimes.Lfts 1) → (args : Args κs) → Typed.Mo T2
       m1 = λ κs args. s0 (m0 κs args)
       abbrev W1 : (κs : Lifetimes.Lfts 1) → (args : Args κs) → Typed.Want O1
-      W1 = λ κs args. Typed.wantNext T3 O0 (at34 (W0 κs args)) (W0 κs args)
+      W1 = λ κs args. Typed.wantNext T3 O0 (at32 (W0 κs args)) (W0 κs args)
       abbrev W2 : (κs : Lifetimes.Lfts 1) → (args : Args κs) → Typed.Want O2
       W2 = λ κs args. Typed.inBlock O1 (W1 κs args)
       abbrev pub Need-loop-holds : Type 0
@@ -825,7 +768,7 @@ module _ (claims· : Claims) where
           O3
       W3 = λ before ledger i. Typed.inLoop T2 O2 (Typed.Round T2 O2 put0 (λ u vs. Inv·0 (Row.get 1 (T2 .locals) u .now) (Row.get 2 (T2 .locals) u)
           (Row.get 3 (T2 .locals) u) (vs .0) (vs .1)) (λ u vs. μ·0 (Row.get 1 (T2 .locals) u .now) (Row.get 2 (T2 .locals) u) (Row.get 3 (T2 .locals)
-          u) (vs .0) (vs .1)) at29 (m1 (before .κs) (before .args)) (ledger, i)) (W2 (before .κs) (before .args))
+          u) (vs .0) (vs .1)) at27 (m1 (before .κs) (before .args)) (ledger, i)) (W2 (before .κs) (before .args))
       abbrev pub m3 : (before : Start) → (ledger : List.List (ReservationUsage.row .Denot)) → (i : Rows.sc-here (Row.sInt Syntax.w64) .Mod) → Typed.Mo
           T4
       m3 = λ before ledger i. s1 (m2 before ledger i)
@@ -834,7 +777,7 @@ module _ (claims· : Claims) where
       m4 = λ before ledger i. s2 .next (m3 before ledger i)
       abbrev W4 : (before : Start) → (ledger : List.List (ReservationUsage.row .Denot)) → (i : Rows.sc-here (Row.sInt Syntax.w64) .Mod) → Typed.Want
           O4
-      W4 = λ before ledger i. Typed.wantNext T6 O3 (at26 (W3 before ledger i)) (W3 before ledger i)
+      W4 = λ before ledger i. Typed.wantNext T6 O3 (at24 (W3 before ledger i)) (W3 before ledger i)
       abbrev pub m5 : (before : Start) → (ledger : List.List (ReservationUsage.row .Denot)) → (i : Rows.sc-here (Row.sInt Syntax.w64) .Mod) → Typed.Mo
           T7
       m5 = λ before ledger i. s3 (m4 before ledger i)
@@ -849,7 +792,7 @@ module _ (claims· : Claims) where
         pub loop : At-loop·own before
       module _ (before· : At-loop) where
         pub record In-loop·own : Type 0 where
-          pub taken : Nat._<_ (Row.get 3 (T4 .locals) (m3 (before· .before) (before· .loop .ledger) (before· .loop .i))) (Row.get 7 (T4 .locals) (m3
+          pub taken : Nat._<_ (Row.get 3 (T4 .locals) (m3 (before· .before) (before· .loop .ledger) (before· .loop .i))) (Row.get 6 (T4 .locals) (m3
               (before· .before) (before· .loop .ledger) (before· .loop .i)))
       pub record In-loop : Type 0 where
         pub before : At-loop
@@ -858,7 +801,7 @@ module _ (claims· : Claims) where
       m6 = λ before. s4 (m5 (before .before) (before .loop .ledger) (before .loop .i))
       module _ (before· : At-loop) where
         pub record After-loop·own : Type 0 where
-          pub left : Nat._≤_ (Row.get 7 (T4 .locals) (m3 (before· .before) (before· .loop .ledger) (before· .loop .i))) (Row.get 3 (T4 .locals) (m3
+          pub left : Nat._≤_ (Row.get 6 (T4 .locals) (m3 (before· .before) (before· .loop .ledger) (before· .loop .i))) (Row.get 3 (T4 .locals) (m3
               (before· .before) (before· .loop .ledger) (before· .loop .i)))
       pub record After-loop : Type 0 where
         pub before : At-loop
@@ -874,7 +817,7 @@ module _ (claims· : Claims) where
       abbrev pub m10 : (before : At-loop) → Typed.Mo T12
       m10 = λ before. s8 .next (m9 before)
       abbrev pub Need-slice-copy-out-row : Type 0
-      Need-slice-copy-out-row = (c : In-loop) → Shared.InSlice T12 1 9 (λ x. x) (λ u. u .1 .1 .1 .0) (m10 (c .before))
+      Need-slice-copy-out-row = (c : In-loop) → Shared.InSlice T12 1 8 (λ x. x) (λ u. u .1 .1 .1 .0) (m10 (c .before))
       abbrev pub m11 : (before : In-loop) → (given : s9 .gives (m10 (before .before))) → Typed.Mo T13
       m11 = λ before given. s9 .next (m10 (before .before)) given
       abbrev pub m12 : (before : In-loop) → (given : s9 .gives (m10 (before .before))) → Typed.Mo T14
@@ -905,134 +848,113 @@ module _ (claims· : Claims) where
       abbrev pub After-usage-has·gave : (c : After-usage-has) → s14 .gives (m15 (c .before .before) (c .before .row .given))
       After-usage-has·gave = λ c. Called.given ps·0 r·0 (claims· .1) T17 (record { pos = 4; st = List.[]; d = 0; at = λ x. x }, (record { pos = 2; st
           = List.[]; d = 0; at = λ x. x }, tt),) (m15 (c .before .before) (c .before .row .given)) (c .usage-has)
-      abbrev pub Need-usage-unmarked-requires : Type 0
-      Need-usage-unmarked-requires = (c : After-usage-has) → s15 .asks (m16 (c .before) (After-usage-has·gave c))
-      abbrev pub m17 : (before : After-usage-has) → (given : s15 .gives (m16 (before .before) (After-usage-has·gave before))) → Typed.Mo T19
-      m17 = λ before given. s15 .next (m16 (before .before) (After-usage-has·gave before)) given
+      abbrev pub m17 : (before : After-row) → (given : s14 .gives (m15 (before .before) (before .row .given))) → Typed.Mo T19
+      m17 = λ before given. s15 (m16 before given)
+      abbrev pub m18 : (before : After-usage-has) → (given : s17 .gives (m17 (before .before) (After-usage-has·gave before))) → Typed.Mo T21
+      m18 = λ before given. s17 .next (m17 (before .before) (After-usage-has·gave before)) given
+      abbrev pub m19 : (before : After-usage-has) → (given : s17 .gives (m17 (before .before) (After-usage-has·gave before))) → Typed.Mo T22
+      m19 = λ before given. s18 .next (m18 before given)
       module _ (before· : After-usage-has) where
-        abbrev pub After-usage-unmarked·own : Type 0
-        After-usage-unmarked·own = Called.Called ps·1 r·1 (claims· .3) T18 (record { pos = 4; st = List.[]; d = 0; at = λ x. x }, tt,) (m16 (before·
-            .before) (After-usage-has·gave before·))
-      pub record After-usage-unmarked : Type 0 where
+        pub record After-unmark-usage-arg·own : Type 0 where
+          pub given : s17 .gives (m17 (before· .before) (After-usage-has·gave before·))
+      pub record After-unmark-usage-arg : Type 0 where
         pub before : After-usage-has
-        pub usage-unmarked : After-usage-unmarked·own before
-      abbrev pub After-usage-unmarked·gave : (c : After-usage-unmarked) → s15 .gives (m16 (c .before .before) (After-usage-has·gave (c .before)))
-      After-usage-unmarked·gave = λ c. Called.given ps·1 r·1 (claims· .3) T18 (record { pos = 4; st = List.[]; d = 0; at = λ x. x }, tt,) (m16 (c
-          .before .before) (After-usage-has·gave (c .before))) (c .usage-unmarked)
-      abbrev pub m18 : (before : After-usage-has) → (given : s15 .gives (m16 (before .before) (After-usage-has·gave before))) → Typed.Mo T20
-      m18 = λ before given. s16 (m17 before given)
-      abbrev pub m19 : (before : After-usage-unmarked) → (given : s18 .gives (m18 (before .before) (After-usage-unmarked·gave before))) → Typed.Mo T22
-      m19 = λ before given. s18 .next (m18 (before .before) (After-usage-unmarked·gave before)) given
-      abbrev pub m20 : (before : After-usage-unmarked) → (given : s18 .gives (m18 (before .before) (After-usage-unmarked·gave before))) → Typed.Mo T23
-      m20 = λ before given. s19 .next (m19 before given)
-      module _ (before· : After-usage-unmarked) where
-        pub record After-set-usage-arg·own : Type 0 where
-          pub given : s18 .gives (m18 (before· .before) (After-usage-unmarked·gave before·))
-      pub record After-set-usage-arg : Type 0 where
-        pub before : After-usage-unmarked
-        pub set-usage-arg : After-set-usage-arg·own before
-      abbrev pub Need-set-usage-requires : Type 0
-      Need-set-usage-requires = (c : After-set-usage-arg) → s20 .asks (m20 (c .before) (c .set-usage-arg .given))
-      abbrev pub m21 : (before : After-set-usage-arg) → (given : s20 .gives (m20 (before .before) (before .set-usage-arg .given))) → Typed.Mo T24
-      m21 = λ before given. s20 .next (m20 (before .before) (before .set-usage-arg .given)) given
-      module _ (before· : After-set-usage-arg) where
-        abbrev pub After-set-usage·own : Type 0
-        After-set-usage·own = Called.Called ps·2 r·2 (claims· .5) T23 (record { pos = 13; ty = Syntax.tyRef Syntax.erased Syntax.mut
-            ReservationUsage.to; ref = λ x. x; }, (Bool.bAt 5 λ x. x, (Num.vAt 3 λ x. x, (record { pos = 6; st = List.[]; d = 0; at = λ x. x },
-            tt)),),) (m20 (before· .before) (before· .set-usage-arg .given))
-      pub record After-set-usage : Type 0 where
-        pub before : After-set-usage-arg
-        pub set-usage : After-set-usage·own before
-      abbrev pub After-set-usage·gave : (c : After-set-usage) → s20 .gives (m20 (c .before .before) (c .before .set-usage-arg .given))
-      After-set-usage·gave = λ c. Called.given ps·2 r·2 (claims· .5) T23 (record { pos = 13; ty = Syntax.tyRef Syntax.erased Syntax.mut
-          ReservationUsage.to; ref = λ x. x; }, (Bool.bAt 5 λ x. x, (Num.vAt 3 λ x. x, (record { pos = 6; st = List.[]; d = 0; at = λ x. x }, tt)),),)
-          (m20 (c .before .before) (c .before .set-usage-arg .given)) (c .set-usage)
-      abbrev pub m22 : (before : After-set-usage-arg) → (given : s20 .gives (m20 (before .before) (before .set-usage-arg .given))) → Typed.Mo T25
-      m22 = λ before given. s21 (m21 before given)
-      abbrev pub m23 : (before : After-set-usage-arg) → (given : s20 .gives (m20 (before .before) (before .set-usage-arg .given))) → Typed.Mo T26
-      m23 = λ before given. s22 (m22 before given)
-      abbrev pub m24 : (before : After-set-usage) → (given : s24 .gives (m23 (before .before) (After-set-usage·gave before))) → Typed.Mo T28
-      m24 = λ before given. s24 .next (m23 (before .before) (After-set-usage·gave before)) given
-      module _ (before· : After-set-usage) where
+        pub unmark-usage-arg : After-unmark-usage-arg·own before
+      abbrev pub Need-unmark-usage-requires : Type 0
+      Need-unmark-usage-requires = (c : After-unmark-usage-arg) → s19 .asks (m19 (c .before) (c .unmark-usage-arg .given))
+      abbrev pub m20 : (before : After-unmark-usage-arg) → (given : s19 .gives (m19 (before .before) (before .unmark-usage-arg .given))) → Typed.Mo
+          T23
+      m20 = λ before given. s19 .next (m19 (before .before) (before .unmark-usage-arg .given)) given
+      module _ (before· : After-unmark-usage-arg) where
+        abbrev pub After-unmark-usage·own : Type 0
+        After-unmark-usage·own = Called.Called ps·1 r·1 (claims· .3) T22 (record { pos = 12; ty = Syntax.tyRef Syntax.erased Syntax.mut
+            ReservationUsage.to; ref = λ x. x; }, (Bool.bAt 5 λ x. x, (Num.vAt 3 λ x. x, tt)),) (m19 (before· .before) (before· .unmark-usage-arg
+            .given))
+      pub record After-unmark-usage : Type 0 where
+        pub before : After-unmark-usage-arg
+        pub unmark-usage : After-unmark-usage·own before
+      abbrev pub After-unmark-usage·gave : (c : After-unmark-usage) → s19 .gives (m19 (c .before .before) (c .before .unmark-usage-arg .given))
+      After-unmark-usage·gave = λ c. Called.given ps·1 r·1 (claims· .3) T22 (record { pos = 12; ty = Syntax.tyRef Syntax.erased Syntax.mut
+          ReservationUsage.to; ref = λ x. x; }, (Bool.bAt 5 λ x. x, (Num.vAt 3 λ x. x, tt)),) (m19 (c .before .before) (c .before .unmark-usage-arg
+          .given)) (c .unmark-usage)
+      abbrev pub m21 : (before : After-unmark-usage-arg) → (given : s19 .gives (m19 (before .before) (before .unmark-usage-arg .given))) → Typed.Mo
+          T24
+      m21 = λ before given. s20 (m20 before given)
+      abbrev pub m22 : (before : After-unmark-usage) → (given : s22 .gives (m21 (before .before) (After-unmark-usage·gave before))) → Typed.Mo T26
+      m22 = λ before given. s22 .next (m21 (before .before) (After-unmark-usage·gave before)) given
+      module _ (before· : After-unmark-usage) where
         pub record After-ledger·own : Type 0 where
-          pub given : s24 .gives (m23 (before· .before) (After-set-usage·gave before·))
+          pub given : s22 .gives (m21 (before· .before) (After-unmark-usage·gave before·))
       pub record After-ledger : Type 0 where
-        pub before : After-set-usage
+        pub before : After-unmark-usage
         pub ledger : After-ledger·own before
       abbrev pub Need-add-i : Type 0
-      Need-add-i = (c : After-ledger) → s26 .asks (m24 (c .before) (c .ledger .given))
-      abbrev pub m25 : (before : After-set-usage) → (given : s24 .gives (m23 (before .before) (After-set-usage·gave before))) → Typed.Mo T30
-      m25 = λ before given. s26 .next (m24 before given)
-      abbrev pub m26 : (before : After-set-usage) → (given : s24 .gives (m23 (before .before) (After-set-usage·gave before))) → Typed.Mo T31
-      m26 = λ before given. s27 (m25 before given)
+      Need-add-i = (c : After-ledger) → s24 .asks (m22 (c .before) (c .ledger .given))
+      abbrev pub m23 : (before : After-unmark-usage) → (given : s22 .gives (m21 (before .before) (After-unmark-usage·gave before))) → Typed.Mo T28
+      m23 = λ before given. s24 .next (m22 before given)
+      abbrev pub m24 : (before : After-unmark-usage) → (given : s22 .gives (m21 (before .before) (After-unmark-usage·gave before))) → Typed.Mo T29
+      m24 = λ before given. s25 (m23 before given)
       abbrev pub Need-loop-less : Type 0
-      Need-loop-less = (c : After-ledger) → Nat._<_ (μ·0 (Row.get 1 (T2 .locals) (m1 (c .before .before .before .before .before .before .before
-          .before .κs) (c .before .before .before .before .before .before .before .before .args)) .now) (Row.get 2 (T2 .locals) (m1 (c .before .before
-          .before .before .before .before .before .before .κs) (c .before .before .before .before .before .before .before .before .args))) (Row.get 3
-          (T2 .locals) (m1 (c .before .before .before .before .before .before .before .before .κs) (c .before .before .before .before .before .before
-          .before .before .args))) (Row.get 1 (T2 .locals) (m26 (c .before) (c .ledger .given)) .now) (Row.get 3 (T2 .locals) (m26 (c .before) (c
-          .ledger .given)))) (μ·0 (Row.get 1 (T2 .locals) (m1 (c .before .before .before .before .before .before .before .before .κs) (c .before
-          .before .before .before .before .before .before .before .args)) .now) (Row.get 2 (T2 .locals) (m1 (c .before .before .before .before .before
-          .before .before .before .κs) (c .before .before .before .before .before .before .before .before .args))) (Row.get 3 (T2 .locals) (m1 (c
-          .before .before .before .before .before .before .before .before .κs) (c .before .before .before .before .before .before .before .before
-          .args))) (c .before .before .before .before .before .before .before .loop .ledger) (c .before .before .before .before .before .before
-          .before .loop .i))
+      Need-loop-less = (c : After-ledger) → Nat._<_ (μ·0 (Row.get 1 (T2 .locals) (m1 (c .before .before .before .before .before .before .before .κs)
+          (c .before .before .before .before .before .before .before .args)) .now) (Row.get 2 (T2 .locals) (m1 (c .before .before .before .before
+          .before .before .before .κs) (c .before .before .before .before .before .before .before .args))) (Row.get 3 (T2 .locals) (m1 (c .before
+          .before .before .before .before .before .before .κs) (c .before .before .before .before .before .before .before .args))) (Row.get 1 (T2
+          .locals) (m24 (c .before) (c .ledger .given)) .now) (Row.get 3 (T2 .locals) (m24 (c .before) (c .ledger .given)))) (μ·0 (Row.get 1 (T2
+          .locals) (m1 (c .before .before .before .before .before .before .before .κs) (c .before .before .before .before .before .before .before
+          .args)) .now) (Row.get 2 (T2 .locals) (m1 (c .before .before .before .before .before .before .before .κs) (c .before .before .before .before
+          .before .before .before .args))) (Row.get 3 (T2 .locals) (m1 (c .before .before .before .before .before .before .before .κs) (c .before
+          .before .before .before .before .before .before .args))) (c .before .before .before .before .before .before .loop .ledger) (c .before
+          .before .before .before .before .before .loop .i))
       abbrev pub Need-loop-again : Type 0
-      Need-loop-again = (c : After-ledger) → Inv·0 (Row.get 1 (T2 .locals) (m1 (c .before .before .before .before .before .before .before .before .κs)
-          (c .before .before .before .before .before .before .before .before .args)) .now) (Row.get 2 (T2 .locals) (m1 (c .before .before .before
-          .before .before .before .before .before .κs) (c .before .before .before .before .before .before .before .before .args))) (Row.get 3 (T2
-          .locals) (m1 (c .before .before .before .before .before .before .before .before .κs) (c .before .before .before .before .before .before
-          .before .before .args))) (Row.get 1 (T2 .locals) (m26 (c .before) (c .ledger .given)) .now) (Row.get 3 (T2 .locals) (m26 (c .before) (c
-          .ledger .given)))
-      abbrev pub m27 : (before : At-loop) → Typed.Mo T32
-      m27 = λ before. s28 (m8 before)
-      abbrev pub m28 : (before : At-loop) → Typed.Mo T33
-      m28 = λ before. s29 (m27 before)
+      Need-loop-again = (c : After-ledger) → Inv·0 (Row.get 1 (T2 .locals) (m1 (c .before .before .before .before .before .before .before .κs) (c
+          .before .before .before .before .before .before .before .args)) .now) (Row.get 2 (T2 .locals) (m1 (c .before .before .before .before .before
+          .before .before .κs) (c .before .before .before .before .before .before .before .args))) (Row.get 3 (T2 .locals) (m1 (c .before .before
+          .before .before .before .before .before .κs) (c .before .before .before .before .before .before .before .args))) (Row.get 1 (T2 .locals)
+          (m24 (c .before) (c .ledger .given)) .now) (Row.get 3 (T2 .locals) (m24 (c .before) (c .ledger .given)))
+      abbrev pub m25 : (before : At-loop) → Typed.Mo T30
+      m25 = λ before. s26 (m8 before)
+      abbrev pub m26 : (before : At-loop) → Typed.Mo T31
+      m26 = λ before. s27 (m25 before)
       abbrev pub Need-same-length : Type 0
-      Need-same-length = (c : After-loop) → MutSlice.SameLen (Row.get 1 (T33 .locals) (m28 (c .before))) (dens (c .before .before .κs) (c .before
+      Need-same-length = (c : After-loop) → MutSlice.SameLen (Row.get 1 (T31 .locals) (m26 (c .before))) (dens (c .before .before .κs) (c .before
           .before .args) .0)
       abbrev pub Need-returns : Type 0
       Need-returns = (c : After-loop) → Post· (c .before .before .κs) (dens (c .before .before .κs) (c .before .before .args)) (Function.resV r (c
-          .before .before .κs) (m28 (c .before) .0)) (Clauses.atExit (Kinds.endedOf 1 ps r) (c .before .before .κs) (dens (c .before .before .κs) (c
-          .before .before .args)) (Enter.lastsP (c .before .before .κs) 1 ps xs (dens (c .before .before .κs) (c .before .before .args)) (m28 (c
+          .before .before .κs) (m26 (c .before) .0)) (Clauses.atExit (Kinds.endedOf 1 ps r) (c .before .before .κs) (dens (c .before .before .κs) (c
+          .before .before .args)) (Enter.lastsP (c .before .before .κs) 1 ps xs (dens (c .before .before .κs) (c .before .before .args)) (m26 (c
           .before) .1)))
       module _ (loop-holds : Need-loop-holds) (mul-row : Need-mul-row) (slice-copy-out-row : Need-slice-copy-out-row) (usage-has-requires :
-          Need-usage-has-requires) (usage-unmarked-requires : Need-usage-unmarked-requires) (set-usage-requires : Need-set-usage-requires) (add-i :
-          Need-add-i) (loop-less : Need-loop-less) (loop-again : Need-loop-again) (same-length : Need-same-length) (returns : Need-returns) where
-        lay7 : (c : After-loop) → at34 (W0 (c .before .before .κs) (c .before .before .args)) (m8 (c .before))
-        lay7 = λ c. ((MutSlice.fix-len (Row.get 1 (T33 .locals) (m28 (c .before)) .ptr) (Row.get 1 (T33 .locals) (m28 (c .before)) .name) (Row.get 1
-            (T33 .locals) (m28 (c .before)) .now) (dens (c .before .before .κs) (c .before .before .args) .0 .now) (same-length record { before = c
+          Need-usage-has-requires) (unmark-usage-requires : Need-unmark-usage-requires) (add-i : Need-add-i) (loop-less : Need-loop-less) (loop-again
+          : Need-loop-again) (same-length : Need-same-length) (returns : Need-returns) where
+        lay6 : (c : After-loop) → at32 (W0 (c .before .before .κs) (c .before .before .args)) (m8 (c .before))
+        lay6 = λ c. ((MutSlice.fix-len (Row.get 1 (T31 .locals) (m26 (c .before)) .ptr) (Row.get 1 (T31 .locals) (m26 (c .before)) .name) (Row.get 1
+            (T31 .locals) (m26 (c .before)) .now) (dens (c .before .before .κs) (c .before .before .args) .0 .now) (same-length record { before = c
             .before; loop-test = c .loop-test }), (tt, tt),), returns record { before = c .before; loop-test = c .loop-test },)
-        lay6 : (c : After-set-usage) → at12 (W3 (c .before .before .before .before .before .before .before) (c .before .before .before .before .before
-            .before .loop .ledger) (c .before .before .before .before .before .before .loop .i)) (m21 (c .before) (After-set-usage·gave c))
-        lay6 = λ c. (Path.refl, λ g. (add-i record { before = record { before = c .before; set-usage = c .set-usage }; ledger = record { given = g };
-            }, (μ·0 (Row.get 1 (T2 .locals) (m1 (c .before .before .before .before .before .before .before .κs) (c .before .before .before .before
-            .before .before .before .args)) .now) (Row.get 2 (T2 .locals) (m1 (c .before .before .before .before .before .before .before .κs) (c
-            .before .before .before .before .before .before .before .args))) (Row.get 3 (T2 .locals) (m1 (c .before .before .before .before .before
-            .before .before .κs) (c .before .before .before .before .before .before .before .args))) (Row.get 1 (T2 .locals) (m26 record { before = c
-            .before; set-usage = c .set-usage; } g) .now) (Row.get 3 (T2 .locals) (m26 record { before = c .before; set-usage = c .set-usage; } g)),
-            loop-less record { before = record { before = c .before; set-usage = c .set-usage }; ledger = record { given = g }; }, ((Row.get 1 (T2
-            .locals) (m26 record { before = c .before; set-usage = c .set-usage; } g) .now, Row.get 3 (T2 .locals) (m26 record { before = c .before;
-            set-usage = c .set-usage; } g),), Path.refl { a = m26 record { before = c .before; set-usage = c .set-usage } g }, loop-again record {
-            before = record { before = c .before; set-usage = c .set-usage }; ledger = record { given = g }; }, Path.refl { a = μ·0 (Row.get 1 (T2
-            .locals) (m1 (c .before .before .before .before .before .before .before .κs) (c .before .before .before .before .before .before .before
-            .args)) .now) (Row.get 2 (T2 .locals) (m1 (c .before .before .before .before .before .before .before .κs) (c .before .before .before
-            .before .before .before .before .args))) (Row.get 3 (T2 .locals) (m1 (c .before .before .before .before .before .before .before .κs) (c
-            .before .before .before .before .before .before .before .args))) (Row.get 1 (T2 .locals) (m26 record { before = c .before; set-usage = c
-            .set-usage; } g) .now) (Row.get 3 (T2 .locals) (m26 record { before = c .before; set-usage = c .set-usage; } g)) },),),),)
-        lay5 : (c : After-usage-unmarked) → at17 (W3 (c .before .before .before .before .before) (c .before .before .before .before .loop .ledger) (c
-            .before .before .before .before .loop .i)) (m17 (c .before) (After-usage-unmarked·gave c))
-        lay5 = λ c. λ g. (Path.refl, (set-usage-requires record { before = record { before = c .before; usage-unmarked = c .usage-unmarked };
-            set-usage-arg = record { given = g }; }, λ g'. lay6 record { before = record { before = record { before = c .before; usage-unmarked = c
-            .usage-unmarked }; set-usage-arg = record { given = g }; }; set-usage = Called.called ps·2 r·2 (claims· .5) T23 (record { pos = 13; ty =
-            Syntax.tyRef Syntax.erased Syntax.mut ReservationUsage.to; ref = λ x. x; }, (Bool.bAt 5 λ x. x, (Num.vAt 3 λ x. x, (record { pos = 6; st =
-            List.[]; d = 0; at = λ x. x }, tt)),),) (m20 record { before = c .before; usage-unmarked = c .usage-unmarked } g) g'; },),)
-        lay4 : (c : After-usage-has) → at18 (W3 (c .before .before .before .before) (c .before .before .before .loop .ledger) (c .before .before
+        lay5 : (c : After-unmark-usage) → at11 (W3 (c .before .before .before .before .before .before) (c .before .before .before .before .before
+            .loop .ledger) (c .before .before .before .before .before .loop .i)) (m20 (c .before) (After-unmark-usage·gave c))
+        lay5 = λ c. (Path.refl, λ g. (add-i record { before = record { before = c .before; unmark-usage = c .unmark-usage }; ledger = record { given =
+            g }; }, (μ·0 (Row.get 1 (T2 .locals) (m1 (c .before .before .before .before .before .before .κs) (c .before .before .before .before
+            .before .before .args)) .now) (Row.get 2 (T2 .locals) (m1 (c .before .before .before .before .before .before .κs) (c .before .before
+            .before .before .before .before .args))) (Row.get 3 (T2 .locals) (m1 (c .before .before .before .before .before .before .κs) (c .before
+            .before .before .before .before .before .args))) (Row.get 1 (T2 .locals) (m24 record { before = c .before; unmark-usage = c .unmark-usage;
+            } g) .now) (Row.get 3 (T2 .locals) (m24 record { before = c .before; unmark-usage = c .unmark-usage; } g)), loop-less record { before =
+            record { before = c .before; unmark-usage = c .unmark-usage }; ledger = record { given = g }; }, ((Row.get 1 (T2 .locals) (m24 record {
+            before = c .before; unmark-usage = c .unmark-usage; } g) .now, Row.get 3 (T2 .locals) (m24 record { before = c .before; unmark-usage = c
+            .unmark-usage; } g),), Path.refl { a = m24 record { before = c .before; unmark-usage = c .unmark-usage } g }, loop-again record { before =
+            record { before = c .before; unmark-usage = c .unmark-usage }; ledger = record { given = g }; }, Path.refl { a = μ·0 (Row.get 1 (T2
+            .locals) (m1 (c .before .before .before .before .before .before .κs) (c .before .before .before .before .before .before .args)) .now)
+            (Row.get 2 (T2 .locals) (m1 (c .before .before .before .before .before .before .κs) (c .before .before .before .before .before .before
+            .args))) (Row.get 3 (T2 .locals) (m1 (c .before .before .before .before .before .before .κs) (c .before .before .before .before .before
+            .before .args))) (Row.get 1 (T2 .locals) (m24 record { before = c .before; unmark-usage = c .unmark-usage; } g) .now) (Row.get 3 (T2
+            .locals) (m24 record { before = c .before; unmark-usage = c .unmark-usage; } g)) },),),),)
+        lay4 : (c : After-usage-has) → at16 (W3 (c .before .before .before .before) (c .before .before .before .loop .ledger) (c .before .before
             .before .loop .i)) (m16 (c .before) (After-usage-has·gave c))
-        lay4 = λ c. (usage-unmarked-requires record { before = c .before; usage-has = c .usage-has }, λ g. lay5 record { before = record { before = c
-            .before; usage-has = c .usage-has }; usage-unmarked = Called.called ps·1 r·1 (claims· .3) T18 (record { pos = 4; st = List.[]; d = 0; at =
-            λ x. x }, tt,) (m16 (c .before) (After-usage-has·gave c)) g; },)
-        lay3 : (c : In-loop) → at26 (W3 (c .before .before) (c .before .loop .ledger) (c .before .loop .i)) (m6 (c .before))
+        lay4 = λ c. λ g. (Path.refl, (unmark-usage-requires record { before = record { before = c .before; usage-has = c .usage-has };
+            unmark-usage-arg = record { given = g }; }, λ g'. lay5 record { before = record { before = record { before = c .before; usage-has = c
+            .usage-has }; unmark-usage-arg = record { given = g }; }; unmark-usage = Called.called ps·1 r·1 (claims· .3) T22 (record { pos = 12; ty =
+            Syntax.tyRef Syntax.erased Syntax.mut ReservationUsage.to; ref = λ x. x; }, (Bool.bAt 5 λ x. x, (Num.vAt 3 λ x. x, tt)),) (m19 record {
+            before = c .before; usage-has = c .usage-has } g) g'; },),)
+        lay3 : (c : In-loop) → at24 (W3 (c .before .before) (c .before .loop .ledger) (c .before .loop .i)) (m6 (c .before))
         lay3 = λ c. (mul-row record { before = c .before; loop-test = c .loop-test }, (tt, ((Path.refl, Path.refl, slice-copy-out-row record { before
             = c .before; loop-test = c .loop-test },), λ g. (usage-has-requires record { before = record { before = c .before; loop-test = c
             .loop-test }; row = record { given = g }; }, λ g'. lay4 record { before = record { before = record { before = c .before; loop-test = c
@@ -1041,25 +963,24 @@ module _ (claims· : Claims) where
             g) g'; },),),),)
         lay2 : (c : After-loop) → at4 (W4 (c .before .before) (c .before .loop .ledger) (c .before .loop .i)) (m5 (c .before .before) (c .before .loop
             .ledger) (c .before .loop .i))
-        lay2 = λ c. lay7 record { before = c .before; loop-test = c .loop-test }
+        lay2 = λ c. lay6 record { before = c .before; loop-test = c .loop-test }
         lay1 : (c : In-loop) → at1 (W4 (c .before .before) (c .before .loop .ledger) (c .before .loop .i)) (m5 (c .before .before) (c .before .loop
             .ledger) (c .before .loop .i))
         lay1 = λ c. lay3 record { before = c .before; loop-test = c .loop-test }
-        pub laid : (c : Start) → at36 (W0 (c .κs) (c .args)) (m0 (c .κs) (c .args))
+        pub laid : (c : Start) → at34 (W0 (c .κs) (c .args)) (m0 (c .κs) (c .args))
         laid = λ c. (((Row.get 1 (T2 .locals) (m1 (c .κs) (c .args)) .now, Row.get 3 (T2 .locals) (m1 (c .κs) (c .args)),), Path.refl { a = m1 (c .κs)
             (c .args) }, loop-holds c,), λ vs inv. (tt, (λ taken. lay1 record { before = record { before = c; loop = record { ledger = vs .0; i = vs
-            .1; inv = inv }; }; loop-test = record { taken = Tests.ltb-true (Row.get 3 (T4 .locals) (m3 c (vs .0) (vs .1))) (Row.get 7 (T4 .locals)
+            .1; inv = inv }; }; loop-test = record { taken = Tests.ltb-true (Row.get 3 (T4 .locals) (m3 c (vs .0) (vs .1))) (Row.get 6 (T4 .locals)
             (m3 c (vs .0) (vs .1))) taken; }; }, λ left. lay2 record { before = record { before = c; loop = record { ledger = vs .0; i = vs .1; inv =
-            inv }; }; loop-test = record { left = Tests.ltb-false (Row.get 3 (T4 .locals) (m3 c (vs .0) (vs .1))) (Row.get 7 (T4 .locals) (m3 c (vs
+            inv }; }; loop-test = record { left = Tests.ltb-false (Row.get 3 (T4 .locals) (m3 c (vs .0) (vs .1))) (Row.get 6 (T4 .locals) (m3 c (vs
             .0) (vs .1))) left; }; },),),)
         module _ (κs : Lifetimes.Lfts 1) (qs : Lifetimes.Shares 1) where
           pub asked : (a : Kinds.Dens κs ps) → (good : Kinds.GoodsP κs ps a) → (pre : Pre· κs a) → (bs : List.List Nat.ℕ) → Φ (Any.wantQ 1 ps r xs m
               κs qs a (Post· κs a)) (Function.init 1 ps r xs m κs qs a)
           asked = λ a good pre bs. laid record { κs = κs; args = record { ledger = a .0; question = a .1 .0 }; good = good; pre = pre; }
         module _ { M : Type 1 } (𝓤 : URA.URA M) (H : Wp.Heap 𝓤) (A : Atoms.Atoms 𝓤) (W : Kit.Given 𝓤 H A) (𝓣 : Wp.Tables 𝓤 H) (known0 : Plain.Known 𝓤
-            H A W 𝓣 0 ps·0 r·0 (claims· .0) (claims· .1) "hnsr_circuit::question::usage_has") (known1 : Plain.Known 𝓤 H A W 𝓣 0 ps·1 r·1 (claims· .2)
-            (claims· .3) "hnsr_circuit::ledger::usage_unmarked") (known2 : Plain.Known 𝓤 H A W 𝓣 1 ps·2 r·2 (claims· .4) (claims· .5)
-            "hnsr_circuit::tables::ledger::set_usage") where
+            H A W 𝓣 0 ps·0 r·0 (claims· .0) (claims· .1) "hnsr_circuit::question::usage_has") (known1 : Plain.Known 𝓤 H A W 𝓣 1 ps·1 r·1 (claims· .2)
+            (claims· .3) "hnsr_circuit::tables::ledger::unmark_usage") where
           pub spec : Statement.Triple 𝓤 (Wp.WpFn 𝓤 H (𝓣 .C) (𝓣 .Λ) (Function.fnOf 1 ps r xs m hs body)) (Function.plainOf 𝓤 H A 1 ps r Pre· Post·)
-          spec = Plain.t-fn-plain 𝓤 H A W 𝓣 1 ps r xs m hs body (λ κs qs bs. Φ) (λ κs qs bs bd. typed κs qs 𝓤 H A W 𝓣 (known0, known1, known2) bs bd)
-              Pre· Post· asked
+          spec = Plain.t-fn-plain 𝓤 H A W 𝓣 1 ps r xs m hs body (λ κs qs bs. Φ) (λ κs qs bs bd. typed κs qs 𝓤 H A W 𝓣 (known0, known1) bs bd) Pre·
+              Post· asked

@@ -1,0 +1,62 @@
+-- `unmark_usage` meets its contract: past the end nothing is stored.
+mod Tie
+use mathlib.Core.Path.{_∙_, ap}
+use Prim.Native.Nat.{_<_}
+use lib.ListN.{length, getD, set}
+use Rattle.hnsr_circuit.specs.declared.records.ReservationUsage.{ReservationUsage}
+use Rattle.hnsr_circuit.specs.Ledger.{noUsage, clearUsage}
+use Rattle.hnsr_circuit.specs.Laws.Scans.{stores-inside, stored, unstored}
+use borrow.Author.Needs.{needs}
+use Rattle.hnsr_circuit.proofs.tables.ledger.unmark_usage.Statement.{statement}
+use Rattle.hnsr_circuit.proofs.tables.ledger.unmark_usage.Proof.Tie as tie
+
+within-requires : tie.Need-within-requires
+within-requires c = search needs
+
+mul-row : tie.Need-mul-row
+mul-row c =
+    let w = c .before in
+    let a = w .before .args in
+    let l : a .place < length (a .ledger .now) = stores-inside (a .ledger .now) (a .go) (w .within .result) (a .place) (w .within .ensures) (c .if1 .taken) in
+    search needs
+
+slice-copy-out-row : tie.Need-slice-copy-out-row
+slice-copy-out-row c =
+    let w = c .before in
+    let a = w .before .args in
+    stores-inside (a .ledger .now) (a .go) (w .within .result) (a .place) (w .within .ensures) (c .if1 .taken)
+
+usage-unmarked-requires : tie.Need-usage-unmarked-requires
+usage-unmarked-requires c = search needs
+
+mul-after : tie.Need-mul-after
+mul-after c =
+    let w = c .before .before .before in
+    let a = w .before .args in
+    let l : a .place < length (a .ledger .now) = stores-inside (a .ledger .now) (a .go) (w .within .result) (a .place) (w .within .ensures) (c .before .before .if1 .taken) in
+    search needs
+
+slice-set-from-after : tie.Need-slice-set-from-after
+slice-set-from-after c =
+    let w = c .before .before .before in
+    let a = w .before .args in
+    stores-inside (a .ledger .now) (a .go) (w .within .result) (a .place) (w .within .ensures) (c .before .before .if1 .taken)
+
+same-length : tie.Need-same-length
+same-length c = search needs
+
+returns : tie.Need-returns
+returns c =
+    let w = c .before .before .before in
+    let a = w .before .args in
+    ap (λ (x : ReservationUsage). set (a .ledger .now) (a .place) x) (c .usage-unmarked .ensures)
+    ∙ stored (a .ledger .now) (a .go) (w .within .result) (a .place) (w .within .ensures) (set (a .ledger .now) (a .place) (clearUsage (getD (a .ledger .now) (a .place) noUsage))) (c .before .before .if1 .taken)
+
+returns-2 : tie.Need-returns-2
+returns-2 c =
+    let w = c .before in
+    let a = w .before .args in
+    unstored (a .ledger .now) (a .go) (w .within .result) (a .place) (w .within .ensures) (clearUsage (getD (a .ledger .now) (a .place) noUsage)) (c .if1 .left)
+
+pub unmark-usage-spec : {M : Type 1} → statement M
+unmark-usage-spec = tie.close (tie.spec within-requires mul-row slice-copy-out-row usage-unmarked-requires mul-after slice-set-from-after same-length returns returns-2)

@@ -7,7 +7,9 @@
 //! | circuit.rs | T1: `HashMap` comes from `crate::ordered`. T2: one line behind the last adds `mod oracle_probe`, which reads private state and sets the next sequence number |
 //! | lib.rs | T3: what stands before `use hns_encoding::DecodeError;`, a module list and re-exports, is blanked; the rest is module `root` |
 //! | record.rs | T4: only `struct RelayTicket` with its derive is taken |
-use std::path::{Path, PathBuf};
+//!
+//! With the feature `as-written` T1 and T2 are left out: circuit.rs too is compiled where it stands.
+use std::path::PathBuf;
 use std::{env, fs};
 
 struct Rust {
@@ -37,8 +39,10 @@ impl Rust {
 fn main() {
     println!("cargo::rerun-if-changed=build.rs");
     let rust = Rust { sources: setting("DEP_HNS_RS_SRC_FOLDER").join("crates/hns-hnsr-protocol/src"), out: setting("OUT_DIR") };
-    let probe = setting("CARGO_MANIFEST_DIR").join("src/probe.rs");
-    let circuit = rust.write("circuit.rs", &circuit(&rust.text("circuit.rs"), &probe));
+    let circuit = match env::var_os("CARGO_FEATURE_AS_WRITTEN") {
+        Some(_) => rust.path("circuit.rs"),
+        None => rust.write("circuit.rs", &circuit(&rust.text("circuit.rs"))),
+    };
     let root = rust.write("root.rs", &root(&rust.text("lib.rs")));
     rust.write("ticket.rs", ticket(&rust.text("record.rs")));
     let modules = [
@@ -55,7 +59,8 @@ fn setting(name: &str) -> PathBuf {
 }
 
 /// T1 and T2.
-fn circuit(text: &str, probe: &Path) -> String {
+fn circuit(text: &str) -> String {
+    let probe = setting("CARGO_MANIFEST_DIR").join("src/probe.rs");
     let line = "use std::collections::{HashMap, VecDeque};";
     assert_eq!(text.matches(line).count(), 1, "circuit.rs: {line}");
     let ordered = text.replace(line, "use crate::ordered::HashMap; use std::collections::VecDeque;");

@@ -12,7 +12,6 @@ use lekchnam_traces::words::Route;
 use lekchnam_traces::{After, Config, Grant, State};
 use protocol::{
     ConfirmedReservation, HnsrActionId, HnsrOpcode, HnsrPacket, HnsrPeerId, OpaqueRelayRuntime, QueuedHnsrRoute, RelayService,
-    RelayTicket,
 };
 pub use refusal::Refusal;
 
@@ -33,30 +32,6 @@ fn routes(list: Vec<QueuedHnsrRoute>) -> Vec<Route> {
 
 fn peer(bytes: &[u8]) -> Result<HnsrPeerId, Refusal> {
     Ok(HnsrPeerId::new(bytes.to_vec())?)
-}
-
-/// The reservation behind a grant. What a grant does not say is zero: the relay does not look at it.
-fn confirmed(grant: &Grant) -> ConfirmedReservation {
-    let ticket = RelayTicket {
-        network_magic: 0,
-        profile: 0,
-        transport: 0,
-        host_type: 0,
-        host: [0; 16],
-        port: 0,
-        relay_key: [0; 33],
-        endpoint_key: [0; 33],
-        reservation_id: grant.reservation_id,
-        issued_at: 0,
-        expires_at: grant.expires_at,
-        max_active_circuits: grant.max_active_circuits,
-        max_bytes_per_circuit: grant.max_bytes_per_circuit,
-        max_total_bytes: grant.max_total_bytes,
-        flags: 0,
-        relay_signature: Vec::new(),
-        endpoint_signature: Vec::new(),
-    };
-    ConfirmedReservation { ticket, source: protocol::runtime::Source(grant.endpoint.clone()) }
 }
 
 /// Added by document 01; not in the Rust.
@@ -100,7 +75,7 @@ impl Oracle {
         let packet = HnsrPacket::new(opcode, call.context, call.body.to_vec())?;
         k256::set_key_valid(call.key_valid);
         getrandom::set_queue(call.random);
-        let service = RelayService { admission: call.admission.as_ref().map(confirmed) };
+        let service = RelayService { admission: call.admission.as_ref().map(ConfirmedReservation::from) };
         let answer = self.runtime.handle(&service, &source, &packet, call.now);
         getrandom::set_queue(&[]);
         Ok(routes(answer?))

@@ -76,7 +76,7 @@ impl Relay {
         let admission = match admission {
             _ if !key_valid => Admission::KeyInvalid,
             None => Admission::Refused,
-            Some(grant) => Admission::Granted(lent_grant(grant)),
+            Some(grant) => Admission::Granted(grant.lent()),
         };
         self.library().handle(&admission, &peer, &packet, *now)?;
         Ok(self.words())
@@ -112,14 +112,17 @@ impl Relay {
     }
 }
 
-fn lent_grant(grant: &Grant) -> lekchnam_host::Grant<'_> {
-    lekchnam_host::Grant {
-        endpoint: &grant.endpoint,
-        reservation_id: grant.reservation_id,
-        expires_at: grant.expires_at,
-        max_active_circuits: grant.max_active_circuits,
-        max_bytes_per_circuit: grant.max_bytes_per_circuit,
-        max_total_bytes: grant.max_total_bytes,
+impl Grant {
+    /// As the library takes it.
+    pub fn lent(&self) -> lekchnam_host::Grant<'_> {
+        lekchnam_host::Grant {
+            endpoint: &self.endpoint,
+            reservation_id: self.reservation_id,
+            expires_at: self.expires_at,
+            max_active_circuits: self.max_active_circuits,
+            max_bytes_per_circuit: self.max_bytes_per_circuit,
+            max_total_bytes: self.max_total_bytes,
+        }
     }
 }
 

@@ -3,6 +3,7 @@
 
 include!(concat!(env!("OUT_DIR"), "/mods.rs"));
 
+mod convert;
 pub mod ordered;
 mod standins;
 

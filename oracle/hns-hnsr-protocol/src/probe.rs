@@ -1,5 +1,4 @@
 // Included in circuit.rs as `mod oracle_probe` (build.rs, T2): a view of the private state.
-use lekchnam_traces::Config;
 use lekchnam_traces::state::{Action, Circuit, Kind, Pending, State, Usage};
 
 fn pending((id, p): (&[u8; 8], &RelayPending)) -> Pending {
@@ -57,30 +56,6 @@ fn action((id, action): (&HnsrActionId, &InflightAction)) -> Action {
         bytes,
     }
 }
-
-/// The Rust's configuration and the traces' have the same names.
-macro_rules! limits {
-    ($from:ident to $to:ident) => {
-        impl From<$from> for $to {
-            fn from(limits: $from) -> Self {
-                Self {
-                    maximum_pending: limits.maximum_pending,
-                    maximum_circuits: limits.maximum_circuits,
-                    maximum_circuits_per_peer: limits.maximum_circuits_per_peer,
-                    maximum_queue_bytes: limits.maximum_queue_bytes,
-                    maximum_inflight_actions: limits.maximum_inflight_actions,
-                    maximum_inflight_actions_per_circuit: limits.maximum_inflight_actions_per_circuit,
-                    maximum_inflight_actions_per_peer: limits.maximum_inflight_actions_per_peer,
-                    maximum_bytes_per_circuit: limits.maximum_bytes_per_circuit,
-                    accept_timeout_seconds: limits.accept_timeout_seconds,
-                }
-            }
-        }
-    };
-}
-
-limits!(Config to OpaqueRelayConfig);
-limits!(OpaqueRelayConfig to Config);
 
 impl OpaqueRelayRuntime {
     /// All private state, ids ascending.

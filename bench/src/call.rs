@@ -1,0 +1,71 @@
+//! What is measured, and in which turns.
+
+/// The bytes of the DATA that is measured.
+pub const SIZES: [usize; 3] = [1, 1_024, 16_384];
+
+#[derive(Clone, Copy, Debug, Eq, PartialEq)]
+pub enum Call {
+    Open,
+    Accept,
+    /// By its place in `SIZES`.
+    Data(usize),
+    Window,
+    Acknowledge,
+    Close,
+    Disconnect,
+    Expire,
+    Status,
+}
+
+impl Call {
+    pub const ALL: [Self; 11] = [
+        Self::Open,
+        Self::Accept,
+        Self::Data(0),
+        Self::Data(1),
+        Self::Data(2),
+        Self::Window,
+        Self::Acknowledge,
+        Self::Close,
+        Self::Disconnect,
+        Self::Expire,
+        Self::Status,
+    ];
+
+    pub fn label(self) -> &'static str {
+        match self {
+            Self::Open => "OPEN",
+            Self::Accept => "ACCEPT",
+            Self::Data(0) => "DATA, 1 byte",
+            Self::Data(1) => "DATA, 1,024 bytes",
+            Self::Data(_) => "DATA, 16,384 bytes",
+            Self::Window => "WINDOW",
+            Self::Acknowledge => "acknowledge",
+            Self::Close => "CLOSE",
+            Self::Disconnect => "disconnect",
+            Self::Expire => "expire",
+            Self::Status => "status",
+        }
+    }
+
+    pub fn place(self) -> usize {
+        Self::ALL.iter().position(|call| *call == self).expect("all are there")
+    }
+}
+
+/// Calls after which a relay stands as before them.
+#[derive(Clone, Copy, Debug)]
+pub enum Turn {
+    /// DATA of a size, acknowledged; WINDOW of as much, acknowledged.
+    Traffic(usize),
+    /// CLOSE, OPEN, ACCEPT, each acknowledged.
+    Life,
+    /// disconnect, acknowledged; OPEN and ACCEPT, acknowledged.
+    Leave,
+    /// expire with nothing due; status.
+    Idle,
+}
+
+impl Turn {
+    pub const ALL: [Self; 6] = [Self::Traffic(0), Self::Traffic(1), Self::Traffic(2), Self::Life, Self::Leave, Self::Idle];
+}

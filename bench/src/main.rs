@@ -1,0 +1,60 @@
+//! The proved relay against the Rust: what each call costs. Writes the figures into docs/BENCHMARKS.md and draws docs/benchmarks.svg.
+mod call;
+mod circuit;
+mod level;
+mod load;
+mod pair;
+mod plot;
+mod relay;
+mod report;
+mod side;
+
+use level::{Level, SIZES, config};
+use load::Fill;
+use pair::Pair;
+use report::{Figures, between, costs, ratios, sizes};
+use std::path::PathBuf;
+use std::{env, fs};
+
+fn main() {
+    let docs = PathBuf::from(env::args_os().nth(1).expect("the folder of BENCHMARKS.md"));
+    let [.., default] = SIZES;
+    let by_use = measured(default, &Level::ALL);
+    let by_size =
+        SIZES.map(|actions| (actions, if actions == default { chosen(&by_use) } else { measured(actions, &SIDE_LEVELS) }));
+    let path = docs.join("BENCHMARKS.md");
+    let mut document = fs::read_to_string(&path).expect("BENCHMARKS.md is there");
+    let machine = env::var("BENCH_MACHINE").unwrap_or_default();
+    for (name, text) in [
+        ("machine", machine + "\n"),
+        ("ratios", ratios(&by_use)),
+        ("figures", costs(&by_use, default)),
+        ("sizes", sizes(&by_size)),
+    ] {
+        document = between(&document, name, &text);
+    }
+    fs::write(&path, document).expect("BENCHMARKS.md is written");
+    fs::write(docs.join("benchmarks.svg"), plot::svg(&by_use).expect("a string takes all")).expect("benchmarks.svg is written");
+}
+
+/// The levels of the table of sizes.
+const SIDE_LEVELS: [Level; 2] = [Level::EMPTY, Level::HALF];
+
+/// One relay of each side, filled step by step.
+fn measured(actions: usize, levels: &[Level]) -> Figures {
+    let config = config(actions);
+    let mut pair = Pair::new(config);
+    let mut figures = Vec::new();
+    for level in levels {
+        eprintln!("{actions} actions, {}", level.label);
+        pair.fill(Fill::share(&config, level.share));
+        figures.push((*level, pair.measure()));
+    }
+    figures
+}
+
+/// Those of all levels that the table of sizes has.
+fn chosen(figures: &Figures) -> Figures {
+    let wanted = |level: &Level| SIDE_LEVELS.iter().any(|other| other.label == level.label);
+    figures.iter().filter(|(level, _)| wanted(level)).cloned().collect()
+}

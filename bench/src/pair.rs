@@ -1,0 +1,101 @@
+//! Both sides in one run: compared, then timed in turns.
+use crate::call::{Call, Turn};
+use crate::load::Fill;
+use crate::relay::{OWN, Relay};
+use crate::side::{Library, Rust, Side};
+use lekchnam_traces::Config;
+use std::time::{Duration, Instant};
+
+/// Turns that are not counted, and how many are: the least, the most, and how long between these.
+const WARM_UP: usize = 3;
+const LEAST: usize = 15;
+const MOST: usize = 2_000;
+const BUDGET: Duration = Duration::from_millis(1_500);
+
+/// Nanoseconds of one call.
+#[derive(Clone, Copy, Debug)]
+pub struct Cost {
+    pub library: f64,
+    pub rust: f64,
+}
+
+impl Cost {
+    pub fn ratio(self) -> f64 {
+        self.library / self.rust
+    }
+}
+
+pub struct Pair {
+    library: Relay<Library>,
+    rust: Relay<Rust>,
+    /// What it costs to read the clock, which is in every timed part.
+    clock: Duration,
+}
+
+impl Pair {
+    pub fn new(config: Config) -> Self {
+        Self { library: Relay::new(Library::new(config)), rust: Relay::new(Rust::new(config)), clock: clock() }
+    }
+
+    pub fn fill(&mut self, to: Fill) {
+        self.library.fill(to);
+        self.rust.fill(to);
+    }
+
+    /// The cost of every call, in the order of `Call::ALL`.
+    pub fn measure(&mut self) -> Vec<Cost> {
+        for turn in Turn::ALL {
+            self.compare(turn);
+            (0..WARM_UP).for_each(|count| self.turn(turn, count % 2 == 0));
+        }
+        self.library.times = Default::default();
+        self.rust.times = Default::default();
+        Turn::ALL.iter().for_each(|turn| self.run(*turn));
+        Call::ALL.map(|call| self.cost(call)).to_vec()
+    }
+
+    /// Ends the run where the answers differ.
+    fn compare(&mut self, turn: Turn) {
+        self.library.seen.log = Some(Vec::new());
+        self.rust.seen.log = Some(Vec::new());
+        self.turn(turn, true);
+        assert_eq!(self.library.seen.log.take(), self.rust.seen.log.take(), "the sides differ in {turn:?}");
+    }
+
+    fn run(&mut self, turn: Turn) {
+        let start = Instant::now();
+        for count in 0..MOST {
+            if count >= LEAST && start.elapsed() > BUDGET {
+                return;
+            }
+            self.turn(turn, count % 2 == 0);
+        }
+    }
+
+    fn turn(&mut self, turn: Turn, library_first: bool) {
+        if library_first {
+            self.library.turn(turn);
+        }
+        self.rust.turn(turn);
+        if !library_first {
+            self.library.turn(turn);
+        }
+    }
+
+    fn cost(&mut self, call: Call) -> Cost {
+        let (clock, place) = (self.clock, call.place());
+        let per_call = |times: &mut Vec<Duration>| median(times).saturating_sub(clock).as_nanos() as f64 / OWN as f64;
+        Cost { library: per_call(&mut self.library.times[place]), rust: per_call(&mut self.rust.times[place]) }
+    }
+}
+
+/// What two readings of the clock are apart.
+fn clock() -> Duration {
+    let mut times: Vec<Duration> = (0..10_000).map(|_| Instant::now().elapsed()).collect();
+    median(&mut times)
+}
+
+fn median(times: &mut [Duration]) -> Duration {
+    times.sort_unstable();
+    times[times.len() / 2]
+}

@@ -1,0 +1,80 @@
+//! The two sides, behind one driver: the same messages go in, and the same routes come out.
+mod library;
+mod rust;
+
+pub use library::Library;
+pub use rust::Rust;
+
+use lekchnam_traces::{Config, Grant};
+use std::fmt::Debug;
+use std::hint::black_box;
+
+/// The clock of every call. It stands still, so that no OPEN of the load runs out.
+pub const NOW: u64 = 1_000_000;
+
+/// A peer's name.
+pub type Name = [u8; 16];
+
+/// What `handle` is given.
+pub struct Message {
+    pub source: Name,
+    pub opcode: u8,
+    pub context: [u8; 8],
+    pub body: Vec<u8>,
+    /// Of an OPEN.
+    pub grant: Option<Grant>,
+}
+
+#[derive(Clone, Copy, Debug, Eq, PartialEq)]
+pub struct ActionId {
+    pub generation: u64,
+    pub sequence: u64,
+}
+
+/// A route as a host reads it.
+#[derive(Debug, Eq, PartialEq)]
+pub struct Route<'a> {
+    pub id: ActionId,
+    pub destination: &'a [u8],
+    pub opcode: u8,
+    pub context: [u8; 8],
+    pub body: &'a [u8],
+}
+
+/// What a host does with the routes of a call: it reads each, and keeps its number.
+#[derive(Default)]
+pub struct Seen {
+    pub ids: Vec<ActionId>,
+    /// Every answer as text, where the sides are compared.
+    pub log: Option<Vec<String>>,
+}
+
+impl Seen {
+    pub fn route(&mut self, route: Route<'_>) {
+        let route = black_box(route);
+        self.ids.push(route.id);
+        self.note(&route);
+    }
+
+    pub fn note(&mut self, answer: &impl Debug) {
+        if let Some(log) = &mut self.log {
+            log.push(format!("{answer:?}"));
+        }
+    }
+}
+
+/// A relay under test. Every call must be taken: a refusal ends the run.
+pub trait Side {
+    /// A message as this side takes it, made before the clock runs.
+    type Packet;
+    type Peer;
+
+    fn new(config: Config) -> Self;
+    fn packet(message: &Message) -> Self::Packet;
+    fn peer(name: &Name) -> Self::Peer;
+    fn handle(&mut self, packet: &Self::Packet, seen: &mut Seen);
+    fn acknowledge(&mut self, id: ActionId, seen: &mut Seen);
+    fn disconnect(&mut self, peer: &Self::Peer, seen: &mut Seen);
+    fn expire(&mut self, seen: &mut Seen);
+    fn status(&self, seen: &mut Seen);
+}

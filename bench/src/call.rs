@@ -11,6 +11,8 @@ pub enum Call {
     Data(usize),
     Window,
     Acknowledge,
+    /// DATA of the middle size and its acknowledge together: what a delivered packet costs.
+    Delivered,
     Close,
     Disconnect,
     Expire,
@@ -18,7 +20,7 @@ pub enum Call {
 }
 
 impl Call {
-    pub const ALL: [Self; 11] = [
+    pub const ALL: [Self; 12] = [
         Self::Open,
         Self::Accept,
         Self::Data(0),
@@ -26,6 +28,7 @@ impl Call {
         Self::Data(2),
         Self::Window,
         Self::Acknowledge,
+        Self::Delivered,
         Self::Close,
         Self::Disconnect,
         Self::Expire,
@@ -41,6 +44,7 @@ impl Call {
             Self::Data(_) => "DATA, 16,384 bytes",
             Self::Window => "WINDOW",
             Self::Acknowledge => "acknowledge",
+            Self::Delivered => "DATA, 1,024 bytes, and its acknowledge",
             Self::Close => "CLOSE",
             Self::Disconnect => "disconnect",
             Self::Expire => "expire",

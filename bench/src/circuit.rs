@@ -64,6 +64,11 @@ impl Circuit {
         self.message(self.requester, 19, vec![0, 0, 0])
     }
 
+    /// The CLOSE of a requester that does not wait for the ACCEPT.
+    pub fn cancel(&self) -> Message {
+        Message { context: self.context, ..self.close() }
+    }
+
     fn message(&self, source: Name, opcode: u8, body: Vec<u8>) -> Message {
         Message { source, opcode, context: self.id, body, grant: None }
     }

@@ -1,8 +1,10 @@
 //! The relays that are measured: how large, and how much of them is in use.
+use crate::call::Call;
+use crate::load::Fill;
 use crate::relay::OWN;
 use lekchnam_traces::Config;
 
-/// How much of each table is in use.
+/// How much of each table is in use. A relay goes through the levels in their order.
 #[derive(Clone, Copy, Debug)]
 pub struct Level {
     pub label: &'static str,
@@ -12,13 +14,16 @@ pub struct Level {
 impl Level {
     pub const EMPTY: Self = Self { label: "empty", share: 0.0 };
     pub const HALF: Self = Self { label: "half", share: 0.5 };
-    pub const ALL: [Self; 5] = [
+    pub const RISING: [Self; 5] = [
         Self::EMPTY,
         Self { label: "1 %", share: 0.01 },
         Self { label: "10 %", share: 0.1 },
         Self::HALF,
         Self { label: "full", share: 1.0 },
     ];
+    /// As empty, but full before.
+    pub const EMPTIED: Self = Self { label: "emptied", share: 0.0 };
+    pub const OF_SIZES: [Self; 2] = [Self::EMPTY, Self::HALF];
 }
 
 /// The table sizes that are compared, in actions; the last is the default's.
@@ -40,12 +45,11 @@ pub fn config(actions: usize) -> Config {
     }
 }
 
-/// How many records the library reads in one reading of what a call goes through: the actions up to the one that is acknowledged, the other
-/// tables where nothing is due, else all actions.
-pub fn records(call: crate::call::Call, config: &Config, level: Level) -> usize {
-    use crate::call::Call;
+/// How many records the library reads in one reading of what a call goes through: up to the action that is acknowledged; where nothing is due
+/// the other three tables; else all actions.
+pub fn records(call: Call, config: &Config, level: Level) -> usize {
     match call {
-        Call::Acknowledge => crate::load::Fill::share(config, level.share).actions + OWN.div_ceil(2),
+        Call::Acknowledge => Fill::share(config, level.share).actions + OWN / 2,
         Call::Expire => config.maximum_pending + config.maximum_circuits + config.ledger_places(),
         _ => config.maximum_inflight_actions,
     }

@@ -1,7 +1,7 @@
 //! What stands in the tables beside the circuits that the calls are measured on.
 use crate::circuit::Circuit;
 use crate::relay::OWN;
-use crate::side::{Seen, Side};
+use crate::side::{Message, Seen, Side};
 use lekchnam_traces::Config;
 
 /// The first numbers of the load's circuits and OPENs, and of their peers.
@@ -11,6 +11,9 @@ const PENDING: u64 = 2_000_000;
 /// How many circuits the peers of the load have.
 const PER_REQUESTER: u64 = 8;
 const PER_ENDPOINT: u64 = 16;
+
+/// How many unacknowledged actions a circuit has at the most.
+const PER_CIRCUIT: usize = 64;
 
 /// How many records a load has.
 #[derive(Clone, Copy, Debug)]
@@ -22,55 +25,69 @@ pub struct Fill {
 
 impl Fill {
     /// A share of each table, less the places that the measured calls take: each is made once on each own circuit, and sends two
-    /// routes at the most.
+    /// routes at the most. There are circuits enough for the actions.
     pub fn share(config: &Config, share: f64) -> Self {
         let part = |places: usize, own: usize| ((places as f64 * share) as usize).saturating_sub(own);
+        let actions = part(config.maximum_inflight_actions, 2 * OWN);
         Self {
             pending: part(config.maximum_pending, OWN),
-            circuits: part(config.maximum_circuits, OWN),
-            actions: part(config.maximum_inflight_actions, 2 * OWN),
+            circuits: part(config.maximum_circuits, OWN).max(actions.div_ceil(PER_CIRCUIT)),
+            actions,
         }
     }
 }
 
-/// The load of one side, which only grows.
+/// The load of one side.
 pub struct Load<S: Side> {
     pending: usize,
     /// DATA of one byte of each circuit's requester, then of its endpoint.
     data: Vec<S::Packet>,
-    actions: usize,
+    /// Its routes that are not acknowledged.
+    actions: Seen,
 }
 
 impl<S: Side> Load<S> {
     pub fn new() -> Self {
-        Self { pending: 0, data: Vec::new(), actions: 0 }
+        Self { pending: 0, data: Vec::new(), actions: Seen::default() }
     }
 
+    /// Adds what is missing. Where there is too much of something, all ends first.
     pub fn fill(&mut self, side: &mut S, to: Fill) {
+        if self.actions.ids.len() > to.actions {
+            self.end(side);
+        }
         while self.data.len() < 2 * to.circuits {
             self.add_circuit(side);
         }
         while self.pending < to.pending {
-            self.add_pending(side);
+            open(side, &spread(PENDING, self.pending));
+            self.pending += 1;
         }
-        // unacknowledged: each stays as one action
-        while self.actions < to.actions {
-            side.handle(&self.data[self.actions % self.data.len()], &mut Seen::default());
-            self.actions += 1;
+        while self.actions.ids.len() < to.actions {
+            let next = self.actions.ids.len() % self.data.len();
+            side.handle(&self.data[next], &mut self.actions);
         }
     }
 
     fn add_circuit(&mut self, side: &mut S) {
         let circuit = spread(CIRCUITS, self.data.len() / 2);
         open(side, &circuit);
-        delivered(side, &S::packet(&circuit.accept()));
+        delivered(side, &circuit.accept());
         self.data.push(S::packet(&circuit.data(circuit.requester, 1)));
         self.data.push(S::packet(&circuit.data(circuit.endpoint, 1)));
     }
 
-    fn add_pending(&mut self, side: &mut S) {
-        open(side, &spread(PENDING, self.pending));
-        self.pending += 1;
+    fn end(&mut self, side: &mut S) {
+        for id in std::mem::take(&mut self.actions.ids) {
+            side.acknowledge(id, &mut self.actions);
+        }
+        for place in 0..self.data.len() / 2 {
+            delivered(side, &spread(CIRCUITS, place).close());
+        }
+        for place in 0..self.pending {
+            delivered(side, &spread(PENDING, place).cancel());
+        }
+        *self = Self::new();
     }
 }
 
@@ -82,13 +99,13 @@ fn spread(first: u64, place: usize) -> Circuit {
 
 fn open<S: Side>(side: &mut S, circuit: &Circuit) {
     getrandom::set_queue(&circuit.id);
-    delivered(side, &S::packet(&circuit.open()));
+    delivered(side, &circuit.open());
 }
 
-/// A packet whose route is delivered.
-fn delivered<S: Side>(side: &mut S, packet: &S::Packet) {
+/// A message whose route is delivered.
+fn delivered<S: Side>(side: &mut S, message: &Message) {
     let mut seen = Seen::default();
-    side.handle(packet, &mut seen);
+    side.handle(&S::packet(message), &mut seen);
     for id in std::mem::take(&mut seen.ids) {
         side.acknowledge(id, &mut seen);
     }

@@ -99,3 +99,22 @@ fn median(times: &mut [Duration]) -> Duration {
     times.sort_unstable();
     times[times.len() / 2]
 }
+
+#[cfg(test)]
+mod tests {
+    use super::Pair;
+    use crate::call::Turn;
+    use crate::level::{Level, SIZES, config};
+    use crate::load::Fill;
+
+    #[test]
+    fn the_sides_agree_at_every_level_of_the_smallest_relays() {
+        for config in [SIZES[0], SIZES[1]].map(config) {
+            let mut pair = Pair::new(config);
+            for level in [&Level::RISING[..], &[Level::EMPTIED]].concat() {
+                pair.fill(Fill::share(&config, level.share));
+                Turn::ALL.iter().for_each(|turn| pair.compare(*turn));
+            }
+        }
+    }
+}

@@ -1,6 +1,6 @@
 //! The chosen calls as a picture: cost against use, both sides, on a scale of powers of ten.
 use crate::call::Call;
-use crate::report::{CHOSEN, Figures, grouped};
+use crate::report::{CHOSEN, Figure, grouped};
 use std::fmt::Write;
 
 const COLUMNS: usize = 3;
@@ -38,7 +38,7 @@ impl Panel {
     }
 
     /// The frame, a line for each power of ten, the levels and the call's name.
-    fn frame(&self, svg: &mut String, call: Call, figures: &Figures) -> std::fmt::Result {
+    fn frame(&self, svg: &mut String, call: Call, figures: &[Figure]) -> std::fmt::Result {
         let Self { left, top } = self;
         writeln!(svg, r##"<rect x="{left}" y="{top}" width="{WIDTH}" height="{HEIGHT}" fill="none" stroke="#888"/>"##)?;
         writeln!(svg, r#"<text x="{left}" y="{}" font-weight="bold">{}</text>"#, top - 8.0, call.label())?;
@@ -78,7 +78,7 @@ fn unit(power: i32) -> String {
     format!("{number} {}", ["ns", "µs", "ms"][(power / 3) as usize])
 }
 
-pub fn svg(figures: &Figures) -> Result<String, std::fmt::Error> {
+pub fn svg(figures: &[Figure]) -> Result<String, std::fmt::Error> {
     let rows = CHOSEN.len().div_ceil(COLUMNS) as f64;
     let (width, height) = (LEFT + COLUMNS as f64 * (WIDTH + GAP.0), TOP + rows * (HEIGHT + GAP.1));
     let mut svg = String::new();

@@ -52,7 +52,7 @@ impl<S: Side> Relay<S> {
         relay
     }
 
-    /// Adds to the load. The circuits that are measured end before and start again after, so that they stand behind it.
+    /// Changes the load. The circuits that are measured end before and start again after, so that they stand behind it.
     pub fn fill(&mut self, to: Fill) {
         self.close_own();
         self.load.fill(&mut self.side, to);
@@ -81,9 +81,12 @@ impl<S: Side> Relay<S> {
     }
 
     fn traffic(&mut self, size: usize) {
-        self.timed(Call::Data(size), |side, own, seen| handle(side, &own.data[size], seen));
-        let took = self.settle();
-        self.times[Call::Acknowledge.place()].push(took);
+        let sent = self.timed(Call::Data(size), |side, own, seen| handle(side, &own.data[size], seen));
+        let settled = self.settle();
+        self.note(Call::Acknowledge, settled);
+        if size == 1 {
+            self.note(Call::Delivered, sent + settled);
+        }
         self.timed(Call::Window, |side, own, seen| handle(side, &own.window[size], seen));
         self.settle();
     }
@@ -110,8 +113,13 @@ impl<S: Side> Relay<S> {
         took
     }
 
-    fn timed(&mut self, call: Call, work: impl FnOnce(&mut S, &Own<S>, &mut Seen)) {
+    fn timed(&mut self, call: Call, work: impl FnOnce(&mut S, &Own<S>, &mut Seen)) -> Duration {
         let took = self.run(work);
+        self.note(call, took);
+        took
+    }
+
+    fn note(&mut self, call: Call, took: Duration) {
         self.times[call.place()].push(took);
     }
 

@@ -2,10 +2,9 @@
 use crate::call::Call;
 use crate::level::{Level, config, records};
 use crate::pair::Cost;
-use std::fmt::Write;
 
-/// What every call costs at each level, in the order of `Call::ALL`.
-pub type Figures = Vec<(Level, Vec<Cost>)>;
+/// What every call costs at a level, in the order of `Call::ALL`.
+pub type Figure = (Level, Vec<Cost>);
 
 /// The calls of the table of sizes, and of the plot.
 pub const CHOSEN: [Call; 6] = [Call::Open, Call::Data(1), Call::Acknowledge, Call::Close, Call::Disconnect, Call::Expire];
@@ -32,55 +31,52 @@ fn short(number: f64) -> String {
     }
 }
 
-fn head(text: &mut String, titles: &[&str]) {
-    writeln!(text, "| {} |", titles.join(" | ")).expect("a string takes all");
-    writeln!(text, "|{}", "---|".repeat(titles.len())).expect("a string takes all");
+fn table(titles: &[String], rows: &[Vec<String>]) -> String {
+    let line = |cells: &[String]| format!("| {} |\n", cells.join(" | "));
+    let body: String = rows.iter().map(|row| line(row)).collect();
+    line(titles) + "|" + &"---|".repeat(titles.len()) + "\n" + &body
+}
+
+fn texts(list: &[&str]) -> Vec<String> {
+    list.iter().map(|text| text.to_string()).collect()
 }
 
 /// Library / Rust: calls by levels.
-pub fn ratios(figures: &Figures) -> String {
-    let mut text = String::new();
-    let levels = figures.iter().map(|(level, _)| level.label);
-    head(&mut text, &["call"].into_iter().chain(levels).collect::<Vec<_>>());
-    for call in Call::ALL {
-        let cells: Vec<String> = figures.iter().map(|(_, costs)| short(costs[call.place()].ratio())).collect();
-        writeln!(text, "| {} | {} |", call.label(), cells.join(" | ")).expect("a string takes all");
-    }
-    text
+pub fn ratios(figures: &[Figure]) -> String {
+    let levels: Vec<&str> = figures.iter().map(|(level, _)| level.label).collect();
+    let row = |call: Call| {
+        let cells = figures.iter().map(|(_, costs)| short(costs[call.place()].ratio())).collect();
+        [texts(&[call.label()]), cells].concat()
+    };
+    table(&texts(&[&["call"], &levels[..]].concat()), &Call::ALL.map(row))
 }
 
 /// All figures: a row for each call and level.
-pub fn costs(figures: &Figures, actions: usize) -> String {
-    let mut text = String::new();
-    head(&mut text, &["call", "in use", "library, ns", "the Rust, ns", "library / Rust", "library, ns for each record"]);
-    for call in Call::ALL {
-        for (level, costs) in figures {
-            let cost = costs[call.place()];
-            let each = cost.library / records(call, &config(actions), *level) as f64;
-            let (library, rust, ratio) = (grouped(cost.library), grouped(cost.rust), short(cost.ratio()));
-            writeln!(text, "| {} | {} | {library} | {rust} | {ratio} | {each:.2} |", call.label(), level.label)
-                .expect("a string takes all");
-        }
-    }
-    text
+pub fn costs(figures: &[Figure], actions: usize) -> String {
+    let titles = ["call", "in use", "library, ns", "the Rust, ns", "library / Rust", "library, ns for each record"];
+    let row = |call: Call, (level, costs): &Figure| {
+        let cost = costs[call.place()];
+        let each = cost.library / records(call, &config(actions), *level) as f64;
+        let numbers = [grouped(cost.library), grouped(cost.rust), short(cost.ratio()), format!("{each:.2}")];
+        [texts(&[call.label(), level.label]), numbers.to_vec()].concat()
+    };
+    let rows: Vec<_> = Call::ALL.iter().flat_map(|call| figures.iter().map(|figure| row(*call, figure))).collect();
+    table(&texts(&titles), &rows)
 }
 
-/// The chosen calls by table size: library and Rust, nearly empty and half full.
-pub fn sizes(list: &[(usize, Figures)]) -> String {
-    let mut text = String::new();
-    let titles: Vec<String> = list.iter().map(|(actions, _)| format!("{} actions", grouped(*actions as f64))).collect();
-    head(&mut text, &["call", "in use"].into_iter().chain(titles.iter().map(String::as_str)).collect::<Vec<_>>());
-    for call in CHOSEN {
-        for (place, level) in [Level::EMPTY, Level::HALF].iter().enumerate() {
-            let cell = |(_, figures): &(usize, Figures)| {
-                let cost = figures[place].1[call.place()];
-                format!("{} / {} = {}", grouped(cost.library), grouped(cost.rust), short(cost.ratio()))
-            };
-            let cells: Vec<String> = list.iter().map(cell).collect();
-            writeln!(text, "| {} | {} | {} |", call.label(), level.label, cells.join(" | ")).expect("a string takes all");
-        }
-    }
-    text
+/// The chosen calls by table size: library / Rust = ratio, at each level that every size has.
+pub fn sizes(list: &[(usize, Vec<Figure>)]) -> String {
+    let actions = list.iter().map(|(actions, _)| format!("{} actions", grouped(*actions as f64))).collect();
+    let row = |call: Call, place: usize| {
+        let cell = |(_, figures): &(usize, Vec<Figure>)| {
+            let cost = figures[place].1[call.place()];
+            format!("{} / {} = {}", grouped(cost.library), grouped(cost.rust), short(cost.ratio()))
+        };
+        [texts(&[call.label(), Level::OF_SIZES[place].label]), list.iter().map(cell).collect()].concat()
+    };
+    let places = 0..Level::OF_SIZES.len();
+    let rows: Vec<_> = CHOSEN.iter().flat_map(|call| places.clone().map(|place| row(*call, place))).collect();
+    table(&[texts(&["call", "in use"]), actions].concat(), &rows)
 }
 
 /// The document with what stands between two marks replaced.
@@ -89,4 +85,21 @@ pub fn between(document: &str, name: &str, text: &str) -> String {
     let (before, rest) = document.split_once(&start).unwrap_or_else(|| panic!("the document has no {start}"));
     let (_, after) = rest.split_once(&end).unwrap_or_else(|| panic!("the document has no {end}"));
     format!("{before}{start}{text}{end}{after}")
+}
+
+#[cfg(test)]
+mod tests {
+    use super::{between, grouped, short};
+
+    #[test]
+    fn numbers_are_short_and_grouped() {
+        assert_eq!([0.0, 999.4, 1_000.0, 1_234_567.0].map(grouped), ["0", "999", "1,000", "1,234,567"]);
+        assert_eq!([0.954, 9.5, 12.34, 1_234.5].map(short), ["0.95", "9.50", "12.3", "1,234"]);
+    }
+
+    #[test]
+    fn what_stands_between_marks_is_replaced() {
+        let document = "a\n<!-- b -->\nold\n<!-- end of b -->\nc\n";
+        assert_eq!(between(document, "b", "new\n"), "a\n<!-- b -->\nnew\n<!-- end of b -->\nc\n");
+    }
 }

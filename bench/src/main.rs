@@ -8,6 +8,7 @@ mod plot;
 mod relay;
 mod report;
 mod side;
+mod times;
 
 use level::{Level, SIZES, config};
 use load::Fill;

@@ -1,9 +1,10 @@
 //! Both sides in one run: compared, then timed in turns.
 use crate::call::{Call, Turn};
 use crate::load::Fill;
-use crate::relay::{OWN, Relay};
+use crate::relay::Relay;
 use crate::side::{Library, Rust, Side};
 use lekchnam_traces::Config;
+use std::ops::Add;
 use std::time::{Duration, Instant};
 
 /// Turns that are not counted, and how many are: the least, the most, and how long between these.
@@ -25,16 +26,22 @@ impl Cost {
     }
 }
 
+impl Add for Cost {
+    type Output = Self;
+
+    fn add(self, other: Self) -> Self {
+        Self { library: self.library + other.library, rust: self.rust + other.rust }
+    }
+}
+
 pub struct Pair {
     library: Relay<Library>,
     rust: Relay<Rust>,
-    /// What it costs to read the clock, which is in every timed part.
-    clock: Duration,
 }
 
 impl Pair {
     pub fn new(config: Config) -> Self {
-        Self { library: Relay::new(Library::new(config)), rust: Relay::new(Rust::new(config)), clock: clock() }
+        Self { library: Relay::new(Library::new(config)), rust: Relay::new(Rust::new(config)) }
     }
 
     pub fn fill(&mut self, to: Fill) {
@@ -48,8 +55,8 @@ impl Pair {
             self.compare(turn);
             (0..WARM_UP).for_each(|count| self.turn(turn, count % 2 == 0));
         }
-        self.library.times = Default::default();
-        self.rust.times = Default::default();
+        self.library.times.forget();
+        self.rust.times.forget();
         Turn::ALL.iter().for_each(|turn| self.run(*turn));
         Call::ALL.map(|call| self.cost(call)).to_vec()
     }
@@ -83,21 +90,11 @@ impl Pair {
     }
 
     fn cost(&mut self, call: Call) -> Cost {
-        let (clock, place) = (self.clock, call.place());
-        let per_call = |times: &mut Vec<Duration>| median(times).saturating_sub(clock).as_nanos() as f64 / OWN as f64;
-        Cost { library: per_call(&mut self.library.times[place]), rust: per_call(&mut self.rust.times[place]) }
+        match call {
+            Call::Delivered => self.cost(Call::Data(1)) + self.cost(Call::Acknowledge),
+            call => Cost { library: self.library.times.median(call), rust: self.rust.times.median(call) },
+        }
     }
-}
-
-/// What two readings of the clock are apart.
-fn clock() -> Duration {
-    let mut times: Vec<Duration> = (0..10_000).map(|_| Instant::now().elapsed()).collect();
-    median(&mut times)
-}
-
-fn median(times: &mut [Duration]) -> Duration {
-    times.sort_unstable();
-    times[times.len() / 2]
 }
 
 #[cfg(test)]

@@ -3,9 +3,9 @@ use crate::call::{Call, SIZES, Turn};
 use crate::circuit::Circuit;
 use crate::load::{Fill, Load};
 use crate::side::{Message, Seen, Side};
-use std::time::{Duration, Instant};
+use crate::times::Times;
 
-/// How many circuits the calls are measured on. Each call is made once on each, in one timed part.
+/// How many circuits the calls are measured on. Each call is made once on each.
 pub const OWN: usize = 8;
 
 /// Their messages, as a side takes them.
@@ -41,13 +41,12 @@ pub struct Relay<S: Side> {
     own: Own<S>,
     load: Load<S>,
     pub seen: Seen,
-    /// What each timed part took, by the call's place.
-    pub times: [Vec<Duration>; Call::ALL.len()],
+    pub times: Times,
 }
 
 impl<S: Side> Relay<S> {
     pub fn new(side: S) -> Self {
-        let mut relay = Self { side, own: Own::new(), load: Load::new(), seen: Seen::default(), times: Default::default() };
+        let mut relay = Self { side, own: Own::new(), load: Load::new(), seen: Seen::default(), times: Times::new() };
         relay.open_own();
         relay
     }
@@ -67,69 +66,49 @@ impl<S: Side> Relay<S> {
                 self.open_own();
             }
             Turn::Leave => {
-                self.timed(Call::Disconnect, |side, own, seen| {
-                    own.requesters.iter().for_each(|peer| side.disconnect(peer, seen))
-                });
+                self.timed(Call::Disconnect, |side, own, seen, place| side.disconnect(&own.requesters[place], seen));
                 self.settle();
                 self.open_own();
             }
             Turn::Idle => {
-                self.timed(Call::Expire, |side, _, seen| (0..OWN).for_each(|_| side.expire(seen)));
-                self.timed(Call::Status, |side, _, seen| (0..OWN).for_each(|_| side.status(seen)));
+                self.timed(Call::Expire, |side, _, seen, _| side.expire(seen));
+                self.timed(Call::Status, |side, _, seen, _| side.status(seen));
             }
         }
     }
 
     fn traffic(&mut self, size: usize) {
-        let sent = self.timed(Call::Data(size), |side, own, seen| handle(side, &own.data[size], seen));
-        let settled = self.settle();
-        self.note(Call::Acknowledge, settled);
-        if size == 1 {
-            self.note(Call::Delivered, sent + settled);
-        }
-        self.timed(Call::Window, |side, own, seen| handle(side, &own.window[size], seen));
+        self.timed(Call::Data(size), |side, own, seen, place| side.handle(&own.data[size][place], seen));
+        let ids = std::mem::take(&mut self.seen.ids);
+        self.timed(Call::Acknowledge, |side, _, seen, place| side.acknowledge(ids[place], seen));
+        self.timed(Call::Window, |side, own, seen, place| side.handle(&own.window[size][place], seen));
         self.settle();
     }
 
     fn close_own(&mut self) {
-        self.timed(Call::Close, |side, own, seen| handle(side, &own.close, seen));
+        self.timed(Call::Close, |side, own, seen, place| side.handle(&own.close[place], seen));
         self.settle();
     }
 
     fn open_own(&mut self) {
         getrandom::set_queue(&self.own.draws);
-        self.timed(Call::Open, |side, own, seen| handle(side, &own.open, seen));
+        self.timed(Call::Open, |side, own, seen, place| side.handle(&own.open[place], seen));
         self.settle();
-        self.timed(Call::Accept, |side, own, seen| handle(side, &own.accept, seen));
+        self.timed(Call::Accept, |side, own, seen, place| side.handle(&own.accept[place], seen));
         self.settle();
     }
 
     /// Acknowledges what the last calls sent.
-    fn settle(&mut self) -> Duration {
-        let mut ids = std::mem::take(&mut self.seen.ids);
-        let took = self.run(|side, _, seen| ids.iter().for_each(|id| side.acknowledge(*id, seen)));
-        ids.clear();
-        self.seen.ids = ids;
-        took
+    fn settle(&mut self) {
+        for id in std::mem::take(&mut self.seen.ids) {
+            self.side.acknowledge(id, &mut self.seen);
+        }
     }
 
-    fn timed(&mut self, call: Call, work: impl FnOnce(&mut S, &Own<S>, &mut Seen)) -> Duration {
-        let took = self.run(work);
-        self.note(call, took);
-        took
+    /// Makes a call on each own circuit.
+    fn timed(&mut self, call: Call, each: impl Fn(&mut S, &Own<S>, &mut Seen, usize)) {
+        self.seen.ids.reserve(2 * OWN);
+        let Self { side, own, seen, times, .. } = self;
+        times.note(call, OWN, |place| each(side, own, seen, place));
     }
-
-    fn note(&mut self, call: Call, took: Duration) {
-        self.times[call.place()].push(took);
-    }
-
-    fn run(&mut self, work: impl FnOnce(&mut S, &Own<S>, &mut Seen)) -> Duration {
-        let start = Instant::now();
-        work(&mut self.side, &self.own, &mut self.seen);
-        start.elapsed()
-    }
-}
-
-fn handle<S: Side>(side: &mut S, packets: &[S::Packet], seen: &mut Seen) {
-    packets.iter().for_each(|packet| side.handle(packet, seen));
 }

@@ -2,6 +2,7 @@
 use crate::Config;
 use crate::reading::World;
 use crate::rng::Rng;
+use lekchnam_host::MAXIMUM_PEER;
 use lekchnam_host::lent::{
     InflightAction, RelayCircuit, RelayPending, RelayTicket, ReservationId, ReservationUsage, Runtime, RuntimeCounters,
     StoredPeer, Tables,
@@ -10,7 +11,10 @@ use lekchnam_host::lent::{
 /// No table has more places than this and some; limits above it are never met.
 const MOST_PLACES: usize = 6;
 const TOP: u64 = u64::MAX;
-const LONG_NAME: [u8; 128] = [b'x'; 128];
+const LONG_NAME: [u8; MAXIMUM_PEER] = [b'x'; MAXIMUM_PEER];
+
+/// Alike but for one byte, or of one byte.
+const NAMES: [&[u8]; 6] = [b"a", b"b", b"peer-number-0001", b"peer-number-0002", b"peer-number-1001", b"deer-number-0001"];
 
 /// Ids and contexts.
 pub fn id(rng: &mut Rng) -> u64 {
@@ -31,9 +35,13 @@ pub fn stored_name(rng: &mut Rng) -> StoredPeer {
     }
     match rng.below(24) {
         0 => name.len = 0,
-        1 => (name.len, name.bytes) = (128, LONG_NAME),
+        1 => (name.len, name.bytes) = (MAXIMUM_PEER, LONG_NAME),
         2 => (name.len, name.bytes) = (*rng.pick(&[129, 200, usize::MAX]), LONG_NAME),
-        _ => (name.len, name.bytes[0]) = (1, *rng.pick(b"abcd")),
+        _ => {
+            let bytes = *rng.pick(&NAMES);
+            name.len = bytes.len();
+            name.bytes[..bytes.len()].copy_from_slice(bytes);
+        }
     }
     name
 }
@@ -44,7 +52,7 @@ pub fn given_name(rng: &mut Rng) -> Vec<u8> {
         0 => Vec::new(),
         1 | 2 => LONG_NAME.to_vec(),
         3 => vec![b'x'; *rng.pick(&[129, 130, 1_000])],
-        _ => vec![*rng.pick(b"abcd")],
+        _ => rng.pick(&NAMES).to_vec(),
     }
 }
 

@@ -1,10 +1,11 @@
 #!/usr/bin/env python3
-"""Tries the wrong programs of crates/*/refuted: each must be refused by a fact.
+"""Tries the wrong programs of crates/*/refuted: the prover must refuse each.
 
     python3 tools/refuted.py [CRATE..]
 
 An edit has the form of a must-fail edit. It is applied to a copy of the project, checked there by `rt dev`, which takes over what stays
-as it is, and undone. For each edit the place and the words of the first error are printed. Exit 1 where an edit is not refused.
+as it is, and undone. For each edit the place and the words of the first error are printed: whether a fact failed, and not a name, is for
+the reader to see. Exit 1 where an edit is not refused, or did not reach the prover.
 The must-fail edits are those that the gate tries; these are too many for it.
 """
 import pathlib
@@ -30,9 +31,18 @@ def replacements(edit):
 
 
 def check(root, crate):
-    """Whether the crate is proved, and what was said."""
+    """What was said of a crate, proved or not."""
     run = subprocess.run(["rt", "dev", crate], cwd=root, capture_output=True, text=True)
-    return run.returncode == 0, run.stdout + run.stderr
+    return run.stdout + run.stderr
+
+
+def verdict(said, root):
+    """The prover's verdict in words, and whether it refused."""
+    if "\nlogic=proved" in said:
+        return "NOT REFUSED", False
+    if "\nlogic=not-proved" in said:
+        return "refused: " + first_error(said, root), True
+    return "BAD EDIT: it did not reach the prover: " + first_error(said, root), False
 
 
 def first_error(said, root):
@@ -52,11 +62,11 @@ def tried(root, crate, edit):
             return False
         before.setdefault(path, text)
         path.write_text(text.replace(old, new))
-    proved, said = check(root, crate)
+    words, refused = verdict(check(root, crate), root)
     for path, text in before.items():
         path.write_text(text)
-    print(f"{crate}/{edit.stem}: " + ("NOT REFUSED" if proved else "refused: " + first_error(said, root)), flush=True)
-    return not proved
+    print(f"{crate}/{edit.stem}: {words}", flush=True)
+    return refused
 
 
 def main():
@@ -70,9 +80,9 @@ def main():
             shutil.copytree(project / "target", root / "target")
         good = True
         for crate in crates:
-            proved, said = check(root, crate)
-            if not proved:
-                sys.exit(f"{crate} is not proved as it stands: {first_error(said, root)}")
+            words, _ = verdict(check(root, crate), root)
+            if words != "NOT REFUSED":
+                sys.exit(f"{crate} is not proved as it stands: {words}")
             for edit in sorted((project / "crates" / crate / "refuted").glob("*.edit")):
                 good = tried(root, crate, edit) and good
     sys.exit(0 if good else 1)

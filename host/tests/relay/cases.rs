@@ -1,5 +1,5 @@
 //! Document 01's sixteen cases.
-use crate::bench::{self, accept_body, grant, open, peer, Relay, START};
+use crate::fixture::{self, accept_body, grant, open, peer, Relay, START};
 use lekchnam_host::{Admission, Grant, HnsrOpcode, HnsrPacket, HnsrRuntimeError, OpaqueRelayConfig};
 
 const ANSWERS: [u32; 16] = [1, 0, 1, 18, 0, 0, 17, 1, 7, 11, 0, 0, 1, 15, 17, 0];
@@ -72,7 +72,7 @@ fn deliver(
 
 /// The answer to the last call of a case.
 fn run(case: Case) -> Result<(), HnsrRuntimeError> {
-    let mut relay = bench::relay(OpaqueRelayConfig { maximum_queue_bytes: case.queue, ..bench::small() });
+    let mut relay = fixture::relay(OpaqueRelayConfig { maximum_queue_bytes: case.queue, ..fixture::small() });
     let circuit = open(&mut relay, REQUESTER, 9, Grant { max_active_circuits: 1, ..grant(ENDPOINT) }).expect("an OPEN");
     let on_circuit = |opcode, body| HnsrPacket { opcode, context_id: circuit.to_be_bytes(), body };
     let accept = accept_body();

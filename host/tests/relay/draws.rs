@@ -1,5 +1,5 @@
 //! The drawing of ids.
-use crate::bench::{grant, open, peer, relay_drawing, small, START};
+use crate::fixture::{grant, open, peer, relay_drawing, small, START};
 use lekchnam_host::lent::{RelayPending, Tables};
 use lekchnam_host::{
     Admission, HnsrOpcode, HnsrPacket, HnsrRuntimeError, OpaqueRelayRuntime, OsRandom, RandomSource, RANDOM_BYTES,

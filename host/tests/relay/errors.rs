@@ -1,5 +1,5 @@
 //! Refusals: their numbers, their words, and which come before which.
-use crate::bench::{circuit, grant, open, open_body, peer, relay, say, small, START};
+use crate::fixture::{circuit, grant, open, open_body, peer, relay, say, small, START};
 use lekchnam_host::body::{Invalid, ProtocolError};
 use lekchnam_host::HnsrRuntimeError::{self, *};
 use lekchnam_host::{

@@ -1,13 +1,8 @@
 //! The safe calls over the archive.
-#[path = "../support/random.rs"]
-#[allow(dead_code)]
-mod random;
-
-mod anything;
-mod bench;
 mod cases;
 mod draws;
 mod errors;
+mod fixture;
 mod room;
 mod routes;
 mod stored;

@@ -1,5 +1,5 @@
 //! Output words: what a call needs, and that a relay of its own tables always has them.
-use crate::bench::{accept_body, circuit, grant, open, peer, relay, say, small, Counting, Relay, EXPIRY, START};
+use crate::fixture::{accept_body, circuit, grant, open, peer, relay, say, small, Counting, Relay, EXPIRY, START};
 use lekchnam_host::lent::{self, Packet, RelayPacket, Runtime, Tables, CLOSING_WORDS, HANDLE_WORDS};
 use lekchnam_host::{Grant, HnsrActionId, HnsrOpcode, HnsrRuntimeError, OpaqueRelayConfig};
 

@@ -1,5 +1,5 @@
 //! Routes, read from output words.
-use crate::bench::{self, circuit, grant, open, peer, relay, say, small, WINDOW};
+use crate::fixture::{self, circuit, grant, open, peer, relay, say, small, WINDOW};
 use lekchnam_host::body::{CloseBody, ErrorBody, IncomingBody, OpenedBody};
 use lekchnam_host::{HnsrActionId, HnsrOpcode, HnsrPacket, HnsrRoute, OpaqueRelayConfig, QueuedHnsrRoute, Routes};
 
@@ -124,7 +124,7 @@ fn opening_a_circuit_sends_incoming_and_opened() {
     let body = IncomingBody::decode(incoming.route.packet.body).expect("a good body");
     assert_eq!((body.open_request_id, body.initial_window), (9_u64.to_be_bytes(), WINDOW));
 
-    let opened = only(say(&mut relay, b"e", HnsrOpcode::Accept, id, &bench::accept_body()).expect("an ACCEPT"));
+    let opened = only(say(&mut relay, b"e", HnsrOpcode::Accept, id, &fixture::accept_body()).expect("an ACCEPT"));
     assert_eq!((opened.route.destination, opened.action_id.sequence), (peer(b"r"), 2));
     assert_eq!((opened.route.packet.opcode, opened.route.packet.context_id), (HnsrOpcode::Opened, 9_u64.to_be_bytes()));
     let body = OpenedBody::decode(opened.route.packet.body).expect("a good body");
@@ -137,7 +137,7 @@ fn ending_tells_both_sides_why() {
     let mut relay = relay(small());
     circuit(&mut relay, b"r", b"e", 1);
     open(&mut relay, b"r", 2, grant(b"e")).expect("an OPEN");
-    let routes = relay.expire(bench::EXPIRY).expect("the clock moves");
+    let routes = relay.expire(fixture::EXPIRY).expect("the clock moves");
     let told: Vec<_> = routes.iter().map(|queued| (queued.route.destination, queued.route.packet)).collect();
     let error = ErrorBody::decode(told[0].1.body).expect("a good body");
     assert_eq!((error.reason, error.detail), (8, "endpoint acceptance expired"));

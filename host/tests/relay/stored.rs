@@ -1,5 +1,5 @@
 //! A relay that goes on from stored parts.
-use crate::bench::{circuit, grant, open, relay, restored, say, small, Counting, Relay, START};
+use crate::fixture::{circuit, grant, open, relay, restored, say, small, Counting, Relay, START};
 use lekchnam_host::lent::{self, Packet, RelayPacket, StoredPeer};
 use lekchnam_host::{HnsrActionId, HnsrOpcode, HnsrRuntimeError, Routes};
 

@@ -1,4 +1,4 @@
--- Demand 3: one claim about any list of calls from a taken `new`, refused ones included, over a machine's step.
+-- Demand 3: one claim about any list of calls from a taken `new`, refused ones included, over a machine: its `new` and its step.
 use Prim.Native.Nat.{ℕ, _+_, _≤_, _<_}
 use mathlib.Core.Path.{_≡_}
 use mathlib.Core.Logic.{_↔_}
@@ -19,15 +19,13 @@ use Rattle.hnsr_circuit.specs.Route.{Route}
 use Rattle.hnsr_circuit.specs.Queue.{opOpen, opData}
 use Rattle.hnsr_circuit.specs.Entry.{handleWords, acknowledgeWords}
 use Rattle.hnsr_circuit.specs.Packet.{Packet, sender, circuitIn}
-use Rattle.hnsr_circuit.specs.Call.{Start, start, Call, callStatus, callNextDue, callObserveTime, callReplaceEnabled, callHandle, callAcknowledge, callDisconnect, callRevokeReservation, callExpire}
+use Rattle.hnsr_circuit.specs.Call.{Start, Call, callStatus, callNextDue, callObserveTime, callReplaceEnabled, callHandle, callAcknowledge, callDisconnect, callRevokeReservation, callExpire}
 use Rattle.hnsr_run.specs.Past.{Action, Past, peerOn, credit, circuitLeft, totalLeft, weight}
 use Rattle.hnsr_run.specs.History.{Event, begin, after, reckon}
 
--- every byte limit that a call brings is below 2^64 − 1
+-- the total that the grant of an admitted OPEN brings is below 2^64 − 1. Its bytes per circuit need no bound: the configuration's stands above them
 abbrev pub limitsBelow : Call → Bool
-limitsBelow (callHandle q room) =
-    not (eqb (q .opcode) opOpen)
-    || (ltb (q .admission .ticket .«max_bytes_per_circuit») (top 64) && ltb (q .admission .ticket .«max_total_bytes») (top 64))
+limitsBelow (callHandle q room) = not (eqb (q .opcode) opOpen && q .admission .admitted) || ltb (q .admission .ticket .«max_total_bytes») (top 64)
 limitsBelow callStatus = true
 limitsBelow callNextDue = true
 limitsBelow (callObserveTime now) = true
@@ -41,7 +39,7 @@ limitsBelow (callExpire now room) = true
 abbrev pub sequenceAfter : Past → ℕ → Event → ℕ
 sequenceAfter h n e = cond (eqb (after h (e .call) (e .answer) (e .routes) .head .generation) (h .head .generation)) n 1 + length (e .routes)
 
--- every byte limit and the action sequence are below 2^64 − 1 throughout
+-- every total and the action sequence are below 2^64 − 1 throughout
 abbrev pub below : Past → ℕ → List Event → Bool
 below h n [] = ltb n (top 64)
 below h n (e ∷ es) = ltb n (top 64) && (limitsBelow (e .call) && below (after h (e .call) (e .answer) (e .routes)) (sequenceAfter h n e) es)
@@ -73,6 +71,11 @@ pub record Passes (o : Outcome) (h : Past) (j : ℕ) (side : RelaySide) (q : Pac
   pub context : route .context ≡ q .context
   pub body : route .body ≡ q .body
 
+-- a machine: what `new` does to the tables lent to it, and what each other call does to what the one before left
+pub record Machine : Type 0 where
+  pub new : World → Start → Outcome
+  pub step : World → Call → Outcome
+
 module _ (step : World → Call → Outcome) where
   abbrev pub leftBy : World → List Call → World
   leftBy w [] = w
@@ -99,7 +102,21 @@ module _ (step : World → Call → Outcome) where
         → Passes (step (leftBy w (map (delivered rooms) order)) (callHandle q room)) h j side q
         ↔ ((length (q .body) ≤ credit side (h .known j)) × (length (q .body) ≤ circuitLeft (h .known j)) × (length (q .body) ≤ totalLeft (h .book) (h .known j))))
 
-  abbrev pub Claim : Type 0
-  Claim = (lent : World) (s : Start) → start lent s .answer ≡ Taken → s .config .«maximum_bytes_per_circuit» < top 64
-      → (calls : List Call) → below (begin s) 1 (events (start lent s .world) calls) ≡ true
-      → Holds (leftBy (start lent s .world) calls) (reckon (begin s) (events (start lent s .world) calls))
+-- a run of a machine: tables lent, a taken `new`, any list of the other calls, each given what the one before left; all limits below 2^64 − 1
+pub record Run (m : Machine) : Type 0 where
+  pub lent : World
+  pub began : Start
+  pub new-taken : m .new lent began .answer ≡ Taken
+  pub limit : began .config .«maximum_bytes_per_circuit» < top 64
+  pub calls : List Call
+  pub bounded : below (begin began) 1 (events (m .step) (m .new lent began .world) calls) ≡ true
+
+-- the world that it leaves, and what its events tell
+abbrev pub worldOf : (m : Machine) → Run m → World
+worldOf m r = leftBy (m .step) (m .new (r .lent) (r .began) .world) (r .calls)
+
+abbrev pub pastOf : (m : Machine) → Run m → Past
+pastOf m r = reckon (begin (r .began)) (events (m .step) (m .new (r .lent) (r .began) .world) (r .calls))
+
+abbrev pub Claim : Machine → Type 0
+Claim m = (r : Run m) → Holds (m .step) (worldOf m r) (pastOf m r)

@@ -24,12 +24,14 @@ use Rattle.hnsr_circuit.specs.Peer.{peerOf, samePeer}
 use Rattle.hnsr_circuit.specs.declared.records.InflightKind.the-variants.{Incoming, Close}
 use Rattle.hnsr_circuit.specs.Inflight.{kindNumber}
 use Rattle.hnsr_circuit.specs.Route.{Route}
+use Rattle.hnsr_circuit.specs.Queue.{opError}
 use Rattle.hnsr_circuit.specs.Entry.{handleWords, peerAnswer, packetAnswer, clockAnswer}
 use Rattle.hnsr_circuit.specs.Packet.{Packet, sender}
+use Rattle.hnsr_circuit.specs.Draw.{undrawn, draws, drawAll}
 use Rattle.hnsr_circuit.specs.Open.{deadlineFor}
 use Rattle.hnsr_circuit.specs.Handle.{Handling, OPEN, ACCEPT, DATA, WINDOW, CLOSE, ERROR, other, handlingOf}
 use Rattle.hnsr_circuit.specs.Call.{Start, Call, callStatus, callNextDue, callObserveTime, callReplaceEnabled, callHandle, callAcknowledge, callDisconnect, callRevokeReservation, callExpire}
-use Rattle.hnsr_run.specs.Past.{Known, Asked, Action, Past, counted, numbered, toward, heard, nothing, noOne, noOpens, noBook, withHead, withBook, withOut, emit, without, movedTo, stood, unstood, openEnded, begun, learnt, circuitEnded, remade, spentBy, unmade}
+use Rattle.hnsr_run.specs.Past.{Known, Asked, Action, Past, counted, numbered, toward, heard, carriedOnce, nothing, noOne, noOpens, noBook, withHead, withBook, withOut, emit, without, movedTo, stood, unstood, openEnded, begun, learnt, circuitEnded, remade, spentBy, unmade}
 
 pub record Event : Type 0 where
   pub call : Call
@@ -72,10 +74,10 @@ knownSide p k = samePeer (k .requester) p || samePeer (k .endpoint) p
 abbrev pub sideIn : HnsrPeerId → Known → RelaySide
 sideIn p k = cond (samePeer (k .requester) p) Requester Endpoint
 
--- ---- OPEN: the id is in the INCOMING route; refused with 18 it has made the missing ledger record
-abbrev pub firstContext : List Route → ℕ
-firstContext [] = 0
-firstContext (r ∷ rs) = r .context
+-- ---- OPEN: the id is the one that document 01's rule draws, of those that neither stand nor are active; refused with 18 it has made the missing
+-- ledger record
+abbrev pub drawnIn : Past → Packet → ℕ
+drawnIn h q = drawAll (λ j. h .opens .standing j || h .active j) undrawn (draws (q .random)) .id
 
 abbrev pub askedFor : OpaqueRelayConfig → Packet → Asked
 askedFor c q = record {
@@ -89,7 +91,7 @@ askedFor c q = record {
 abbrev pub openIn : Packet → HnsrAnswer → List Route → Past → Past
 openIn q a rs h =
     let b = remade (q .now) (h .book) (q .admission .ticket) in
-    cond (taken a) (emit (stood (withBook h b) (firstContext rs) (askedFor (h .head .config) q)) rs) (cond (refusedBy ByteLimit a) (withBook h b) h)
+    cond (taken a) (emit (stood (withBook h b) (drawnIn h q) (askedFor (h .head .config) q)) (heard (λ r. drawnIn h q)) rs) (cond (refusedBy ByteLimit a) (withBook h b) h)
 
 -- ---- ACCEPT: the pending's actions are dropped, and the circuit is active
 abbrev pub startedBy : OpaqueRelayConfig → Asked → (window : ℕ) → Known
@@ -101,6 +103,7 @@ startedBy c k window = record {
   limit = min (k .ticket .«max_bytes_per_circuit») (c .«maximum_bytes_per_circuit»);
   total = k .ticket .«max_total_bytes»;
   window = window;
+  bytes = 0;
   dataR = 0;
   dataE = 0;
   windowR = 0;
@@ -110,29 +113,35 @@ startedBy c k window = record {
 abbrev pub acceptIn : Packet → HnsrAnswer → List Route → Past → Past
 acceptIn q a rs h =
     let j = q .context in
-    cond (written a) (emit (begun (openEnded h j) j (startedBy (h .head .config) (h .opens .asked j) (acceptFields (q .body) .«accepted_window»))) rs) h
+    cond (written a) (emit (begun (openEnded h j) j (startedBy (h .head .config) (h .opens .asked j) (acceptFields (q .body) .«accepted_window»))) (heard (λ r. j)) rs) h
 
 -- ---- DATA and WINDOW
 abbrev pub sent : RelaySide → ℕ → Known → Known
-sent Requester n k = counted k (k .dataR + n) (k .dataE) (k .windowR) (k .windowE)
-sent Endpoint n k = counted k (k .dataR) (k .dataE + n) (k .windowR) (k .windowE)
+sent Requester n k = counted k (k .bytes + n) (k .dataR + n) (k .dataE) (k .windowR) (k .windowE)
+sent Endpoint n k = counted k (k .bytes + n) (k .dataR) (k .dataE + n) (k .windowR) (k .windowE)
 
 abbrev pub granted : RelaySide → ℕ → Known → Known
-granted Requester n k = counted k (k .dataR) (k .dataE) (k .windowR + n) (k .windowE)
-granted Endpoint n k = counted k (k .dataR) (k .dataE) (k .windowR) (k .windowE + n)
+granted Requester n k = counted k (k .bytes) (k .dataR) (k .dataE) (k .windowR + n) (k .windowE)
+granted Endpoint n k = counted k (k .bytes) (k .dataR) (k .dataE) (k .windowR) (k .windowE + n)
+
+-- from neither side: the circuit's bytes alone
+abbrev pub strange : ℕ → Known → Known
+strange n k = counted k (k .bytes + n) (k .dataR) (k .dataE) (k .windowR) (k .windowE)
 
 abbrev pub dataIn : Packet → HnsrAnswer → List Route → Past → Past
 dataIn q a rs h =
     let j = q .context in
     let k = h .known j in
     let n = length (q .body) in
-    cond (taken a) (emit (withBook (learnt h j (sent (sideIn (sender q) k) n k)) (spentBy (h .book) (k .reservation) n)) rs) h
+    let side = sideIn (sender q) k in
+    let g = withBook (learnt h j (cond (knownSide (sender q) k) (sent side n k) (strange n k))) (spentBy (h .book) (k .reservation) n) in
+    cond (taken a) (withOut g (g .out ++ carriedOnce j side n rs)) h
 
 abbrev pub windowIn : Packet → HnsrAnswer → List Route → Past → Past
 windowIn q a rs h =
     let j = q .context in
     let k = h .known j in
-    cond (taken a) (emit (learnt h j (granted (sideIn (sender q) k) (windowFields (q .body) .«credit_delta») k)) rs) h
+    cond (taken a) (emit (learnt h j (cond (knownSide (sender q) k) (granted (sideIn (sender q) k) (windowFields (q .body) .«credit_delta») k) k)) (heard (λ r. j)) rs) h
 
 -- ---- CLOSE, ERROR: the OPEN that the requester names by its own context, or the endpoint by id; else the circuit
 abbrev pub byContext : Past → HnsrPeerId → ℕ → Bool
@@ -148,8 +157,12 @@ endIn p x h =
     cond (byContext h p x) (openEnded h (h .opens .named p x))
     (cond (byId h p x) (openEnded h x) (circuitEnded h x))
 
+-- the id of what is ended
+abbrev pub endedBy : HnsrPeerId → ℕ → Past → ℕ
+endedBy p x h = cond (byContext h p x) (h .opens .named p x) x
+
 abbrev pub closeIn : Packet → HnsrAnswer → List Route → Past → Past
-closeIn q a rs h = cond (ends a) (emit (endIn (sender q) (q .context) h) rs) h
+closeIn q a rs h = cond (ends a) (emit (endIn (sender q) (q .context) h) (heard (λ r. endedBy (sender q) (q .context) h)) rs) h
 
 -- ---- acknowledge: removes the action. Undelivered: Incoming ends the OPEN, other actions staying; Opened, Data, Control the circuit; Close, or
 -- a record no longer there, nothing
@@ -162,7 +175,7 @@ abbrev pub acknowledgeIn : (generation sequence : ℕ) → (delivered : Bool) �
 acknowledgeIn g s delivered a rs h =
     let x = pick (numbered g s) nothing (h .out) in
     let rest = without h (numbered g s) in
-    cond (ends a) (emit (cond delivered rest (failedIn x rest)) rs) h
+    cond (ends a) (emit (cond delivered rest (failedIn x rest)) (heard (λ r. x .circuit)) rs) h
 
 -- ---- the revoking calls: OPENs and circuits of which a test holds end, and their actions are dropped
 abbrev pub goneOpen : Past → (Asked → Bool) → Action → Bool
@@ -171,14 +184,34 @@ goneOpen h q a = h .opens .standing (a .circuit) && q (h .opens .asked (a .circu
 abbrev pub goneCircuit : Past → (Known → Bool) → Action → Bool
 goneCircuit h q a = h .active (a .circuit) && q (h .known (a .circuit))
 
-abbrev pub revoked : Past → (Asked → Bool) → (Known → Bool) → List Route → Past
-revoked h qo qc rs = record {
+-- what a message of the relay's own is about. ERROR goes to the requester of an OPEN under its own context; CLOSE goes under the id
+abbrev pub about : Past → Route → ℕ
+about h r = cond (eqb (r .opcode) opError) (h .opens .named (r .destination) (r .context)) (r .context)
+
+-- on disconnect of p the requester of an OPEN hears by CLOSE too, under its own context, and one number can be such a context and an id: a peer has an
+-- OPEN toward p under the number of another record that it shares with p. If then one of its two CLOSEs found no capacity, the words of the other fit
+-- both records. There, and nowhere else, the route's own label is asked, and only for which of the two
+abbrev pub ownOpen : Past → HnsrPeerId → Route → Bool
+ownOpen h p r = byContext h (r .destination) (r .context) && samePeer (h .opens .asked (h .opens .named (r .destination) (r .context)) .endpoint) p
+
+abbrev pub sharedId : Past → HnsrPeerId → (peer : HnsrPeerId) → ℕ → Bool
+sharedId h p peer j =
+    (h .active j && (knownSide p (h .known j) && knownSide peer (h .known j)))
+    || (h .opens .standing j && (askedSide p (h .opens .asked j) && askedSide peer (h .opens .asked j)))
+
+abbrev pub aboutClose : HnsrPeerId → Past → Route → ℕ
+aboutClose p h r =
+    let j = h .opens .named (r .destination) (r .context) in
+    cond (ownOpen h p r && (not (sharedId h p (r .destination) (r .context)) || eqb (r .circuit) j)) j (r .context)
+
+abbrev pub revoked : Past → (Asked → Bool) → (Known → Bool) → (about : Route → ℕ) → List Route → Past
+revoked h qo qc about rs = record {
   head = h .head;
   active = λ j. h .active j && not (qc (h .known j));
   known = h .known;
   opens = record { standing = λ j. h .opens .standing j && not (qo (h .opens .asked j)); asked = h .opens .asked; named = h .opens .named };
   book = h .book;
-  out = keep (non (goneCircuit h qc)) (keep (non (goneOpen h qo)) (h .out)) ++ map (heard (h .known)) rs;
+  out = keep (non (goneCircuit h qc)) (keep (non (goneOpen h qo)) (h .out)) ++ map (heard about) rs;
 }
 
 abbrev pub askedUnder : ReservationId → Asked → Bool
@@ -204,7 +237,11 @@ abbrev pub switchedTo : Past → Bool → Past
 switchedTo h on = withOut (withHead h (record { generation = h .head .generation + 1; enabled = on; clock = h .head .clock; config = h .head .config })) []
 
 abbrev pub enableIn : Bool → List Route → Past → Past
-enableIn on rs h = cond (Bool·beq (h .head .enabled) on) h (cond on (emit (switchedTo h on) rs) (revoked (switchedTo h on) everyOpen everyCircuit rs))
+enableIn on rs h =
+    cond (Bool·beq (h .head .enabled) on) h
+    (cond on
+    (emit (switchedTo h on) (heard (λ r. r .context)) rs)
+    (revoked (switchedTo h on) everyOpen everyCircuit (about h) rs))
 
 -- ---- handle: entry and clock; from here the clock has moved; then the gate, and the opcode picks the handling
 abbrev pub entered : Past → Packet → (room : ℕ) → HnsrAnswer
@@ -235,9 +272,11 @@ after h (callReplaceEnabled expected on room) a rs = cond (taken a) (enableIn on
 after h (callHandle q room) a rs = handleIn q room a rs h
 after h (callAcknowledge g s delivered room) a rs = acknowledgeIn g s delivered a rs h
 after h (callDisconnect peer room) a rs =
-    cond (taken a) (revoked (without h (toward (peerOf peer))) (askedSide (peerOf peer)) (knownSide (peerOf peer)) rs) h
-after h (callRevokeReservation id room) a rs = cond (taken a) (revoked (withBook h (unmade (h .book) id)) (askedUnder id) (knownUnder id) rs) h
-after h (callExpire now room) a rs = cond (taken a) (revoked (movedTo h now) (askedOver now) (knownOver now) rs) h
+    let p = peerOf peer in
+    cond (taken a) (revoked (without h (toward p)) (askedSide p) (knownSide p) (aboutClose p h) rs) h
+after h (callRevokeReservation id room) a rs =
+    cond (taken a) (revoked (withBook h (unmade (h .book) id)) (askedUnder id) (knownUnder id) (about h) rs) h
+after h (callExpire now room) a rs = cond (taken a) (revoked (movedTo h now) (askedOver now) (knownOver now) (about h) rs) h
 
 abbrev pub reckon : Past → List Event → Past
 reckon h [] = h

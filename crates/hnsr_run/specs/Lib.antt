@@ -2,9 +2,11 @@
 pub mod Past
 pub mod History
 pub mod Claim
+pub mod Tables
 pub mod Orders
 -- ---- by computation
 pub mod Talk
+pub mod Examples
 pub mod RichRun
 pub mod Refuted
 -- ---- the proof

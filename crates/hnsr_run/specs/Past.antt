@@ -2,9 +2,8 @@
 -- No table of the machine is looked at. Circuits and OPENs are functions of the id, reservations of theirs; the actions are one list.
 use Prim.Native.Nat.{ℕ, _+_, _-_}
 use mathlib.Core.Bool.{Bool, true, false, cond, not, _&&_}
-use mathlib.Core.List.{List, _++_, map}
+use mathlib.Core.List.{List, [], _∷_, _++_, map}
 use lib.Dec.{ltb, eqb}
-use lib.ListN.{length}
 use Rattle.hns_encoding.specs.Sums.{only, non}
 use Rattle.hnsr_body.specs.declared.values.ReservationId.{ReservationId}
 use Rattle.hnsr_body.specs.Values.{sameReservation}
@@ -17,7 +16,8 @@ use Rattle.hnsr_circuit.specs.Table.{keep}
 use Rattle.hnsr_circuit.specs.Peer.{noPeer, samePeer}
 use Rattle.hnsr_circuit.specs.Pending.{noReservation, noTicket}
 use Rattle.hnsr_circuit.specs.declared.records.InflightKind.the-variants.{Incoming, Opened, Data, Control, Close}
-use Rattle.hnsr_circuit.specs.Inflight.{kindNumber}
+use Rattle.hnsr_circuit.specs.Inflight.{kindNumber, toEndpoint}
+use Rattle.hnsr_circuit.specs.Circuits.{otherSide}
 use Rattle.hnsr_circuit.specs.Queue.{opIncoming, opOpened, opData, opWindow}
 use Rattle.hnsr_circuit.specs.Route.{Route}
 
@@ -32,6 +32,7 @@ pub record Known : Type 0 where
   pub limit : ℕ
   pub total : ℕ
   pub window : ℕ
+  pub bytes : ℕ
   pub dataR : ℕ
   pub dataE : ℕ
   pub windowR : ℕ
@@ -96,7 +97,7 @@ credit Endpoint k = k .window + k .windowR - k .dataE
 
 -- a circuit's bytes are its DATA taken; left is the circuit's own limit less these
 abbrev pub circuitLeft : Known → ℕ
-circuitLeft k = k .limit - (k .dataR + k .dataE)
+circuitLeft k = k .limit - k .bytes
 
 -- the circuit's own total less all DATA taken under the reservation's id since the OPEN that last made its ledger record
 abbrev pub totalLeft : Book → Known → ℕ
@@ -135,21 +136,38 @@ kindFor n =
     (cond (eqb n opData) (kindNumber Data)
     (cond (eqb n opWindow) (kindNumber Control) (kindNumber Close))))
 
--- the action of a route
-abbrev pub heard : (ℕ → Known) → Route → Action
-heard kn r = record {
+-- the action of a route: its numbers, its destination and its kind are among the route's words; the circuit that it is about is said by the call
+abbrev pub heard : (about : Route → ℕ) → Route → Action
+heard about r = record {
   generation = r .generation;
   sequence = r .sequence;
-  circuit = r .circuit;
+  circuit = about r;
   destination = r .destination;
   kind = kindFor (r .opcode);
-  toEndpoint = eqb (r .opcode) opData && samePeer (kn (r .circuit) .endpoint) (r .destination);
-  bytes = cond (eqb (r .opcode) opData) (length (r .body)) 0;
+  toEndpoint = false;
+  bytes = 0;
 }
 
+-- the action of DATA taken: its circuit, its direction and its bytes are those of the packet, whatever the route has
+abbrev pub carried : (circuit : ℕ) → (from : RelaySide) → (bytes : ℕ) → Route → Action
+carried j from n r = record {
+  generation = r .generation;
+  sequence = r .sequence;
+  circuit = j;
+  destination = r .destination;
+  kind = kindNumber Data;
+  toEndpoint = toEndpoint (otherSide from);
+  bytes = n;
+}
+
+-- the bytes of one DATA are taken once, however many routes it has
+abbrev pub carriedOnce : (circuit : ℕ) → (from : RelaySide) → (bytes : ℕ) → List Route → List Action
+carriedOnce j from n [] = []
+carriedOnce j from n (r ∷ rs) = carried j from n r ∷ map (carried j from 0) rs
+
 -- DATA and WINDOW taken, replaced
-abbrev pub counted : Known → (dataR dataE windowR windowE : ℕ) → Known
-counted k dataR dataE windowR windowE = record {
+abbrev pub counted : Known → (bytes dataR dataE windowR windowE : ℕ) → Known
+counted k bytes dataR dataE windowR windowE = record {
   requester = k .requester;
   endpoint = k .endpoint;
   reservation = k .reservation;
@@ -157,6 +175,7 @@ counted k dataR dataE windowR windowE = record {
   limit = k .limit;
   total = k .total;
   window = k .window;
+  bytes = bytes;
   dataR = dataR;
   dataE = dataE;
   windowR = windowR;
@@ -173,6 +192,7 @@ noOne = record {
   limit = 0;
   total = 0;
   window = 0;
+  bytes = 0;
   dataR = 0;
   dataE = 0;
   windowR = 0;
@@ -209,8 +229,8 @@ withCircuit h ac kn = record { head = h .head; active = ac; known = kn; opens = 
 
 -- ---- small changes
 -- routes written are outstanding actions
-abbrev pub emit : Past → List Route → Past
-emit h rs = withOut h (h .out ++ map (heard (h .known)) rs)
+abbrev pub emit : Past → (Route → Action) → List Route → Past
+emit h f rs = withOut h (h .out ++ map f rs)
 
 abbrev pub without : Past → (Action → Bool) → Past
 without h p = withOut h (keep (non p) (h .out))

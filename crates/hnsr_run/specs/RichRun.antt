@@ -1,5 +1,5 @@
--- A run, computed: several circuits on a shared reservation, both directions queued, a relay switched off and on, an id drawn a second time, an
--- expired OPEN, a disconnect, calls refused. It shows that the claim speaks of something.
+-- A run, computed. It shows that the claim speaks of something: every kind of call, taken and refused; every way in which an OPEN or a circuit ends; then
+-- several circuits on a shared reservation, both directions queued, a relay switched off and on, an id drawn again, an expired OPEN, a disconnect.
 use Prim.Native.Nat.{ℕ}
 use mathlib.Core.Path.{_≡_, refl}
 use mathlib.Core.Bool.{true, false}
@@ -8,23 +8,80 @@ use Rattle.hns_encoding.specs.Sums.{total}
 use Rattle.hnsr_circuit.specs.declared.records.RelaySide.the-variants.{Requester, Endpoint}
 use Rattle.hnsr_circuit.specs.Answers.{number}
 use Rattle.hnsr_circuit.specs.World.{World}
-use Rattle.hnsr_circuit.specs.Entry.{acknowledgeWords}
+use Rattle.hnsr_circuit.specs.Queue.{opError}
+use Rattle.hnsr_circuit.specs.Entry.{handleWords, acknowledgeWords}
 use Rattle.hnsr_circuit.specs.Cases.{lent, notAdmitted}
-use Rattle.hnsr_circuit.specs.Call.{Call, start, step, callStatus, callReplaceEnabled, callDisconnect, callExpire}
+use Rattle.hnsr_circuit.specs.Call.{Call, start, step, callStatus, callNextDue, callObserveTime, callReplaceEnabled, callHandle, callDisconnect, callRevokeReservation, callExpire}
 use Rattle.hnsr_circuit.specs.All.{machine}
-use Rattle.hnsr_run.specs.Past.{Action, Past, credit, circuitLeft, totalLeft, weight}
-use Rattle.hnsr_run.specs.History.{Event, begin, reckon}
+use Rattle.hnsr_run.specs.Past.{Action, credit, circuitLeft, totalLeft, weight}
+use Rattle.hnsr_run.specs.History.{begin}
 use Rattle.hnsr_run.specs.Claim.{leftBy, events, below, delivered}
-use Rattle.hnsr_run.specs.Talk.{tables, fresh, grant, opens, accepts, sends, widens, closes, acked}
+use Rattle.hnsr_run.specs.Talk.{tables, fresh, grant, opens, packet, accepts, sends, widens, closes, fails, acked, lost, ample, leaves, revokes, worldAfter, pastAfter, numberOf}
 
-abbrev pub richCalls : List Call
-richCalls =
+-- every way in which an OPEN or a circuit ends, and every kind of call taken and refused, as far as a run can refuse it: `status` and `next_due` are always
+-- taken. `lost` and `acked` name a route by its generation and number; an end drops what is outstanding under its id
+abbrev endings : List Call
+endings =
+    -- an OPEN: CLOSE by its endpoint, by id; ERROR by its requester, by its own context; INCOMING lost
+    opens 1 2 9 (7 ∷ []) (grant 4 5000) 100
+    ∷ closes 2 7 100
+    ∷ opens 1 2 9 (7 ∷ []) (grant 4 5000) 100
+    ∷ fails 1 9 100
+    ∷ opens 1 2 9 (8 ∷ []) (grant 4 5000) 100
+    ∷ lost 1 5
+    -- a circuit: OPENED lost, and then a CLOSE; DATA lost; WINDOW lost
+    ∷ opens 1 2 9 (10 ∷ []) (grant 4 5000) 100
+    ∷ accepts 2 10 100
+    ∷ lost 1 8
+    ∷ lost 1 9
+    ∷ opens 1 2 9 (11 ∷ []) (grant 4 5000) 100
+    ∷ accepts 2 11 100
+    ∷ sends 1 11 100 100
+    ∷ lost 1 13
+    ∷ opens 1 2 9 (12 ∷ []) (grant 4 5000) 100
+    ∷ accepts 2 12 100
+    ∷ widens 2 12 1000 100
+    ∷ lost 1 18
+    -- CLOSE by the requester, ERROR by the endpoint
+    ∷ opens 1 2 9 (13 ∷ []) (grant 4 5000) 100
+    ∷ accepts 2 13 100
+    ∷ closes 1 13 100
+    ∷ opens 1 2 9 (14 ∷ []) (grant 4 5000) 100
+    ∷ accepts 2 14 100
+    ∷ fails 2 14 100
+    -- refused while a circuit stands
+    ∷ opens 1 2 9 (15 ∷ []) (grant 4 5000) 100
+    ∷ accepts 2 15 100
+    ∷ opens 1 1 8 (16 ∷ []) (grant 4 5000) 100
+    ∷ accepts 2 16 100
+    ∷ widens 2 15 1048576 100
+    ∷ closes 1 16 100
+    ∷ callHandle (packet 1 opError 15 (0 ∷ 0 ∷ 1 ∷ []) 100) handleWords
+    ∷ acked 1 99
+    ∷ callReplaceEnabled 2 false ample
+    ∷ callDisconnect [] ample
+    ∷ callRevokeReservation (record { high = 0; low = 4 }) 0
+    ∷ callExpire 99 ample
+    ∷ callObserveTime 99
+    -- taken: the same state, nobody's peer, nothing over; then the reservation, whose ledger record goes too
+    ∷ callReplaceEnabled 1 true ample
+    ∷ leaves 9
+    ∷ callExpire 100 ample
+    ∷ callObserveTime 100
+    ∷ callNextDue
+    ∷ callStatus
+    ∷ revokes 4
+    ∷ []
+
+-- a relay switched off and on, the id 7 drawn once more, several circuits on a shared reservation
+abbrev sharing : List Call
+sharing =
     opens 1 2 9 (7 ∷ []) (grant 5 5800) 100
     ∷ accepts 2 7 100
     ∷ sends 1 7 1000 100
-    ∷ callReplaceEnabled 1 false 1000
+    ∷ callReplaceEnabled 1 false ample
     ∷ opens 1 2 9 (7 ∷ []) (grant 5 5800) 100
-    ∷ callReplaceEnabled 2 true 1000
+    ∷ callReplaceEnabled 2 true ample
     ∷ opens 1 2 9 (0 ∷ 7 ∷ []) (grant 5 5800) 101
     ∷ accepts 2 7 101
     ∷ opens 3 2 9 (7 ∷ 8 ∷ []) (grant 5 5800) 101
@@ -41,29 +98,34 @@ richCalls =
     ∷ acked 3 6
     ∷ acked 3 6
     ∷ acked 2 7
-    ∷ callExpire 111 1000
+    ∷ callExpire 111 ample
     ∷ opens 1 4 2 (7 ∷ 8 ∷ 12 ∷ []) (grant 5 5800) 112
     ∷ accepts 4 12 112
     ∷ sends 4 12 50 112
-    ∷ callDisconnect (4 ∷ []) 1000
+    ∷ leaves 4
     ∷ closes 3 7 113
     ∷ sends 2 7 10 99
     ∷ callStatus
     ∷ []
 
-abbrev pub worldAfter : List Call → World
-worldAfter calls = leftBy step (start tables fresh .world) calls
+abbrev pub richCalls : List Call
+richCalls = endings ++ sharing
 
-abbrev pub pastAfter : List Call → Past
-pastAfter calls = reckon (begin fresh) (events step (start tables fresh .world) calls)
+pub answers-endings : map numberOf (events step (start tables fresh .world) endings)
+    ≡ 0 ∷ 0 ∷ 0 ∷ 0 ∷ 0 ∷ 0 ∷ 0 ∷ 0 ∷ 0 ∷ 0 ∷ 0 ∷ 0 ∷ 0 ∷ 0 ∷ 0 ∷ 0 ∷ 0 ∷ 0 ∷ 0 ∷ 0 ∷ 0 ∷ 0 ∷ 0 ∷ 0 ∷ 0 ∷ 0
+    ∷ 10 ∷ 13 ∷ 17 ∷ 14 ∷ 1 ∷ 20 ∷ 5 ∷ 4 ∷ 22 ∷ 7 ∷ 7 ∷ 0 ∷ 0 ∷ 0 ∷ 0 ∷ 0 ∷ 0 ∷ 0 ∷ []
+unfolding machine lent notAdmitted
+answers-endings = refl
 
-abbrev numberOf : Event → ℕ
-numberOf e = number (e .answer)
+-- after which only what the relay said of the ends is outstanding: ERRORs 4, 6 and 26, CLOSEs
+pub said-of-endings : map (λ a. a .sequence) (pastAfter endings .out) ≡ 4 ∷ 6 ∷ 10 ∷ 14 ∷ 15 ∷ 19 ∷ 20 ∷ 23 ∷ 26 ∷ 29 ∷ 30 ∷ []
+unfolding machine lent notAdmitted
+said-of-endings = refl
 
-pub answers : map numberOf (events step (start tables fresh .world) richCalls)
+pub answers-sharing : map numberOf (events step (worldAfter endings) sharing)
     ≡ 0 ∷ 0 ∷ 0 ∷ 0 ∷ 9 ∷ 0 ∷ 0 ∷ 0 ∷ 0 ∷ 0 ∷ 0 ∷ 18 ∷ 0 ∷ 0 ∷ 0 ∷ 0 ∷ 15 ∷ 1 ∷ 0 ∷ 0 ∷ 20 ∷ 5 ∷ 0 ∷ 0 ∷ 0 ∷ 0 ∷ 0 ∷ 15 ∷ 7 ∷ 0 ∷ []
 unfolding machine lent notAdmitted
-answers = refl
+answers-sharing = refl
 
 -- ---- the claim's premises hold of it
 pub new-taken : number (start tables fresh .answer) ≡ 0

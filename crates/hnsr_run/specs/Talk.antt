@@ -1,17 +1,21 @@
 -- The calls that the computed runs are made of, and the tables and the start that they run from.
 use Prim.Native.Nat.{ℕ}
-use mathlib.Core.Bool.{true}
+use mathlib.Core.Bool.{true, false}
 use mathlib.Core.List.{List, [], _∷_, _++_}
 use lib.ListN.{replicate}
 use Rattle.hns_encoding.specs.Bytes.{leBytes, beBytes}
 use Rattle.hnsr_circuit.specs.declared.config.OpaqueRelayConfig.{OpaqueRelayConfig}
 use Rattle.hnsr_circuit.specs.declared.records.RelayTicket.{RelayTicket}
+use Rattle.hnsr_circuit.specs.Answers.{number}
 use Rattle.hnsr_circuit.specs.World.{World}
-use Rattle.hnsr_circuit.specs.Queue.{opOpen, opAccept, opData, opWindow, opClose}
+use Rattle.hnsr_circuit.specs.Queue.{opOpen, opAccept, opData, opWindow, opClose, opError}
 use Rattle.hnsr_circuit.specs.Entry.{handleWords, acknowledgeWords}
 use Rattle.hnsr_circuit.specs.Packet.{Packet}
 use Rattle.hnsr_circuit.specs.Cases.{lent, notAdmitted}
-use Rattle.hnsr_circuit.specs.Call.{Start, Call, callHandle, callAcknowledge}
+use Rattle.hnsr_circuit.specs.Call.{Start, start, Call, step, callHandle, callAcknowledge, callDisconnect, callRevokeReservation}
+use Rattle.hnsr_run.specs.Past.{Past}
+use Rattle.hnsr_run.specs.History.{Event, begin, reckon}
+use Rattle.hnsr_run.specs.Claim.{leftBy, events}
 
 abbrev pub fewPlaces : OpaqueRelayConfig
 fewPlaces = record {
@@ -32,15 +36,19 @@ tables = lent 3 3 16 2
 abbrev pub fresh : Start
 fresh = record { session = replicate 16 1; generation = 1; config = fewPlaces; now = 100 }
 
--- at most 4 circuits, 4,000 bytes a circuit, expiry 1,000
-abbrev pub grant : (reservation total : ℕ) → RelayTicket
-grant r total = record {
+-- at most 4 circuits, expiry 1,000
+abbrev pub granting : (reservation bytes total : ℕ) → RelayTicket
+granting r bytes total = record {
   «reservation_id» = record { high = 0; low = r };
   «expires_at» = 1000;
   «max_active_circuits» = 4;
-  «max_bytes_per_circuit» = 4000;
+  «max_bytes_per_circuit» = bytes;
   «max_total_bytes» = total;
 }
+
+-- and 4,000 bytes a circuit
+abbrev pub grant : (reservation total : ℕ) → RelayTicket
+grant r total = granting r 4000 total
 
 -- peers are names of one byte, draws of ids are numbers
 abbrev pub drawing : List ℕ → List ℕ
@@ -86,5 +94,41 @@ widens from id delta now = callHandle (packet from opWindow id (leBytes 4 delta)
 abbrev pub closes : (from context now : ℕ) → Call
 closes from context now = callHandle (packet from opClose context (0 ∷ 0 ∷ 0 ∷ []) now) handleWords
 
+abbrev pub fails : (from context now : ℕ) → Call
+fails from context now = callHandle (packet from opError context (0 ∷ 0 ∷ 0 ∷ []) now) handleWords
+
 abbrev pub acked : (generation sequence : ℕ) → Call
 acked generation sequence = callAcknowledge generation sequence true acknowledgeWords
+
+-- not delivered
+abbrev pub lost : (generation sequence : ℕ) → Call
+lost generation sequence = callAcknowledge generation sequence false acknowledgeWords
+
+-- room for all that a revoking call may say
+abbrev pub ample : ℕ
+ample = 1000
+
+abbrev pub leaves : (peer : ℕ) → Call
+leaves peer = callDisconnect (peer ∷ []) ample
+
+abbrev pub revokes : (reservation : ℕ) → Call
+revokes r = callRevokeReservation (record { high = 0; low = r }) ample
+
+-- ---- a run from the start, and what its events tell
+abbrev pub worldFrom : Start → List Call → World
+worldFrom s calls = leftBy step (start tables s .world) calls
+
+abbrev pub eventsFrom : Start → List Call → List Event
+eventsFrom s calls = events step (start tables s .world) calls
+
+abbrev pub pastFrom : Start → List Call → Past
+pastFrom s calls = reckon (begin s) (eventsFrom s calls)
+
+abbrev pub worldAfter : List Call → World
+worldAfter calls = worldFrom fresh calls
+
+abbrev pub pastAfter : List Call → Past
+pastAfter calls = pastFrom fresh calls
+
+abbrev pub numberOf : Event → ℕ
+numberOf e = number (e .answer)

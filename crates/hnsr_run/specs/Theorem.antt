@@ -1,30 +1,35 @@
--- The run theorem: the claim holds of the definition's `step`. And the claim at the rich run.
+-- The run theorem: the claim holds of the definition, its `start` and its `step`; so does what stands beside it. And both at the rich run.
 use Prim.Native.Nat.{ℕ, _<_}
 use native.Mathlib.Omega.{arith}
 use mathlib.Core.Path.{_≡_, refl, sym, ap, _∙_, subst}
 use mathlib.Core.List.{[], map}
 use lib.ListN.{length}
 use Rattle.hns_encoding.specs.Numbers.{top}
+use Rattle.hnsr_circuit.specs.declared.records.RelayCircuit.{RelayCircuit}
 use Rattle.hnsr_circuit.specs.declared.records.RelaySide.{RelaySide}
+use Rattle.hnsr_circuit.specs.declared.records.RelaySide.the-variants.{Requester, Endpoint}
 use Rattle.hnsr_circuit.specs.declared.answer.HnsrRuntimeError.the-variants.{Short}
 use Rattle.hnsr_circuit.specs.Answers.{check}
 use Rattle.hnsr_circuit.specs.Inflight.{isAction}
 use Rattle.hnsr_circuit.specs.World.{World, Outcome, statusIs, telling, proceed, atTime}
 use Rattle.hnsr_circuit.specs.Queue.{sequenceOf}
 use Rattle.hnsr_circuit.specs.Entry.{tablesAnswer}
-use Rattle.hnsr_circuit.specs.Packet.{Packet}
+use Rattle.hnsr_circuit.specs.Packet.{Packet, circuitIn}
 use Rattle.hnsr_circuit.specs.Data.{handleData}
 use Rattle.hnsr_circuit.specs.Status.{statusOf, status}
 use Rattle.hnsr_circuit.specs.Cases.{lent}
 use Rattle.hnsr_circuit.specs.Call.{start, callStatus, step}
-use Rattle.hnsr_circuit.specs.Circuits.{otherSide}
+use Rattle.hnsr_circuit.specs.Pending.{pendingAt}
+use Rattle.hnsr_circuit.specs.Circuits.{circuitAt, otherSide, peerAt, creditOf}
 use Rattle.hnsr_circuit.specs.Laws.Answers.{number-zero}
 use Rattle.hnsr_circuit.specs.Laws.Totals.{ones-length}
-use Rattle.hnsr_run.specs.Past.{Past, peerOn, withOut, movedTo}
-use Rattle.hnsr_run.specs.History.{begin, reckon}
-use Rattle.hnsr_run.specs.Claim.{Sends, Passes, leftBy, events, delivered, Holds, Claim}
-use Rattle.hnsr_run.specs.Talk.{tables, fresh}
-use Rattle.hnsr_run.specs.RichRun.{richCalls, worldAfter, pastAfter, new-taken, bounded}
+use Rattle.hnsr_run.specs.Past.{Known, Past, peerOn, credit, withOut, movedTo}
+use Rattle.hnsr_run.specs.History.{begin}
+use Rattle.hnsr_run.specs.Claim.{Sends, Passes, Machine, leftBy, delivered, Holds, Run, worldOf, pastOf, Claim}
+use Rattle.hnsr_run.specs.Tables.{SameCircuit, Tabled, Companion}
+use Rattle.hnsr_run.specs.Talk.{tables, fresh, worldAfter, pastAfter}
+use Rattle.hnsr_run.specs.RichRun.{richCalls, new-taken, bounded}
+use Rattle.hnsr_run.specs.Run.Circuits.{Agrees}
 use Rattle.hnsr_run.specs.Run.Rel.{Rel, Places, moved-rel}
 use Rattle.hnsr_run.specs.Run.Steps.{long-enough}
 use Rattle.hnsr_run.specs.Run.Start.{start-rel}
@@ -32,6 +37,10 @@ use Rattle.hnsr_run.specs.Run.Runs.{run-both}
 use Rattle.hnsr_run.specs.Run.Drained.{drain}
 use Rattle.hnsr_run.specs.Run.Entering.{is-data}
 use Rattle.hnsr_run.specs.Run.Passing.{only-if, if}
+
+-- the machine of document 01
+abbrev pub relay : Machine
+relay = record { new = start; step = step }
 
 status-is : (w : World) → Places w → step w callStatus ≡ telling w (statusIs (statusOf w))
 unfolding step status tablesAnswer proceed
@@ -108,13 +117,63 @@ holds w h R H low = record {
   );
 }
 
+-- ---- every run keeps the invariant
+run-rel : (r : Run relay) → Rel (worldOf relay r) (pastOf relay r) × Places (worldOf relay r) × (sequenceOf (worldOf relay r) < top 64)
+run-rel r =
+    let b = start-rel (r .lent) (r .began) (r .new-taken) (r .limit) in
+    run-both (r .calls) (start (r .lent) (r .began) .world) (begin (r .began)) 1 (b .0) (b .1) (b .2) (r .bounded)
+
 -- ---- demand 3
-pub claim : Claim step
-claim lent s new limit calls bound =
-    let r = start-rel lent s new limit in
-    let b = run-both calls (start lent s .world) (begin s) 1 (r .0) (r .1) (r .2) bound in
-    holds (leftBy step (start lent s .world) calls) (reckon (begin s) (events step (start lent s .world) calls)) (b .0) (b .1) (b .2)
+pub claim : Claim relay
+claim r = let k = run-rel r in holds (worldOf relay r) (pastOf relay r) (k .0) (k .1) (k .2)
+
+-- ---- and what the tables hold
+same-circuit : (c : RelayCircuit) (k : Known) → Agrees c k → SameCircuit c k
+same-circuit c k A = record {
+  sides = sides;
+  reservation = A .reservation;
+  expires = A .expires;
+  limit = A .maximum;
+  total = A .total;
+  credits = credits;
+  bytes = A .forwarded;
+}
+  where
+    sides : (side : RelaySide) → peerAt side c ≡ peerOn side k
+    sides Requester = A .requester
+    sides Endpoint = A .endpoint
+
+    credits : (side : RelaySide) → creditOf side c ≡ credit side k
+    credits Requester = omega (arith, A .creditR)
+    credits Endpoint = omega (arith, A .creditE)
+
+tabled : {w : World} {h : Past} → Rel w h → Tabled w h
+unfolding circuitAt pendingAt
+tabled {w} {h} R = let F = R .base .full in record {
+  active = F .circs .found;
+  one-active = F .circs .once;
+  known = λ j a. same-circuit (circuitIn w j) (h .known j) (F .circs .agree j a);
+  standing = F .pends .found;
+  one-standing = F .pends .once;
+  asked = λ j a. let A = F .pends .agree j a in
+      record { requester = A .requester; endpoint = A .endpoint; context = A .context; ticket = A .ticket; deadline = A .deadline };
+  reserved = R .base .books .there;
+  spent = λ r l. R .base .books .stands r l .bytes;
+}
+
+pub companion : Companion relay
+companion r = tabled (run-rel r .0)
 
 -- ---- it is not vacuous
+abbrev pub rich-run : Run relay
+rich-run = record {
+  lent = tables;
+  began = fresh;
+  new-taken = number-zero (start tables fresh .answer) new-taken;
+  limit = omega arith;
+  calls = richCalls;
+  bounded = bounded;
+}
+
 pub rich-holds : Holds step (worldAfter richCalls) (pastAfter richCalls)
-rich-holds = claim tables fresh (number-zero (start tables fresh .answer) new-taken) (omega arith) richCalls bounded
+rich-holds = claim rich-run

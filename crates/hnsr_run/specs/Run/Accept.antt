@@ -23,7 +23,8 @@ use Rattle.hnsr_circuit.specs.Answers.{errorNumber, number}
 use Rattle.hnsr_circuit.specs.Table.{any, pick, put, edit, keep}
 use Rattle.hnsr_circuit.specs.Pending.{pendingAt, clearPending}
 use Rattle.hnsr_circuit.specs.Circuits.{noCircuit, isCircuit, circuitAt, clearCircuit, queuedTo}
-use Rattle.hnsr_circuit.specs.Inflight.{actionUnder, dropped, tallied, capacityAnswer}
+use Rattle.hnsr_circuit.specs.declared.records.InflightKind.the-variants.{Opened}
+use Rattle.hnsr_circuit.specs.Inflight.{kindNumber, actionUnder, dropped, tallied, capacityAnswer}
 use Rattle.hnsr_circuit.specs.World.{World, Outcome, configOf, done}
 use Rattle.hnsr_circuit.specs.Queue.{Message, generationOf, sequenceOf, queued, routed, send}
 use Rattle.hnsr_circuit.specs.Counts.{circuitCount}
@@ -33,7 +34,7 @@ use Rattle.hnsr_circuit.specs.Accept.{circuitFor, withAccept, openedMessage, ac
 use Rattle.hnsr_circuit.specs.Laws.Inflight.{replacing-tally}
 use Rattle.hnsr_circuit.specs.Laws.Marks.{room}
 use Rattle.hnsr_circuit.specs.Laws.Keyed.{Looks, store-looks, store-tells}
-use Rattle.hnsr_run.specs.Past.{Known, Past, at, onCircuit, emit, openEnded, begun}
+use Rattle.hnsr_run.specs.Past.{Known, Past, at, onCircuit, heard, emit, openEnded, begun}
 use Rattle.hnsr_run.specs.History.{written, startedBy, acceptIn}
 use Rattle.hnsr_run.specs.Run.Actions.{room-of}
 use Rattle.hnsr_run.specs.Run.Circuits.{Agrees, circuitKeys, none, suspend, store-queue, idle}
@@ -146,9 +147,20 @@ module _ {w : World} {h : Past} (R : Rel w h) (H : Places w) (low : sequenceOf w
   message : Message
   message = openedMessage p body
 
-  quiet-opened : Quiet (at j started (h .known)) message
+  quiet-opened : Quiet (heard (λ r. j)) message
   unfolding message openedMessage
-  quiet-opened = record { plain = refl; same = λ g s. refl }
+  quiet-opened = record {
+    plain = refl;
+    same = λ g s i. record {
+      generation = g;
+      sequence = s;
+      circuit = sym own i;
+      destination = p .requester;
+      kind = kindNumber Opened;
+      toEndpoint = false;
+      bytes = 0;
+    };
+  }
 
   some : eqb (message .context) 0 ≡ false
   unfolding message openedMessage
@@ -176,7 +188,7 @@ module _ {w : World} {h : Past} (R : Rel w h) (H : Places w) (low : sequenceOf w
         (p .ticket .«expires_at») (q .now)) (D .fresh) .1),
   )))
 
-  rel : Rel (queued message (withAccept w p body)) (emit (begun (openEnded h j) j started) (routed message (withAccept w p body) ∷ []))
+  rel : Rel (queued message (withAccept w p body)) (emit (begun (openEnded h j) j started) (heard (λ r. j)) (routed message (withAccept w p body) ∷ []))
   unfolding queued withAccept started
   rel = record {
     base = record {

@@ -34,7 +34,7 @@ pub record Agrees (c : RelayCircuit) (k : Known) : Type 0 where
   pub total : c .«maximum_total_bytes» ≡ k .total
   pub creditR : c .«requester_credit» + k .dataR ≡ k .window + k .windowE
   pub creditE : c .«endpoint_credit» + k .dataE ≡ k .window + k .windowR
-  pub forwarded : c .«forwarded_bytes» ≡ k .dataR + k .dataE
+  pub forwarded : c .«forwarded_bytes» ≡ k .bytes
   pub limited : k .limit < top 64
   pub totalled : k .total < top 64
 

@@ -20,10 +20,11 @@ use Rattle.hnsr_circuit.specs.Revocation.{pendingIn}
 use Rattle.hnsr_circuit.specs.Laws.Lookups.{pick-has, any-count, any-pick, any-imp}
 use Rattle.hnsr_circuit.specs.Laws.Keyed.{seen, shown, seen-two}
 use Rattle.hnsr_run.specs.Past.{Action, Past, at, emit, openEnded, circuitEnded}
-use Rattle.hnsr_run.specs.History.{ends, byContext, byId, endIn}
+use Rattle.hnsr_run.specs.History.{ends, byContext, byId, endIn, endedBy}
+use Rattle.hnsr_circuit.specs.Route.{Route}
 use Rattle.hnsr_run.specs.Run.Circuits.{none}
-use Rattle.hnsr_run.specs.Run.Full.{pendingKeys, Keeps, Quiet, rest-then, queued-rest, can-room, queue-full}
-use Rattle.hnsr_run.specs.Run.Rel.{Rel, send-cases, emit-nothing, fewer, shrink}
+use Rattle.hnsr_run.specs.Run.Full.{pendingKeys, Keeps, fewer, Quiet, rest-then, queued-rest, can-room, queue-full}
+use Rattle.hnsr_run.specs.Run.Rel.{Rel, send-cases, emit-nothing, shrink}
 
 -- ---- two lookups that find the same record, where at most one has the second
 same-record : {A : Type 0} (p q : A → Bool) (d : A) (g : A → A) (t : List A) → count q t ≤ 1 → any p t ≡ true → q (pick p d t) ≡ true
@@ -36,12 +37,12 @@ same-record {A} p q d g (x ∷ xs) c h k = split (p x)
     (λ f. let c′ = rw f at c in let i = same-record p q d g xs (omega arith) h′ k′ in (rw (e, f) (i .0), rw (e, f) (ap {B = List A} (λ l. x ∷ l) (i .1)))))
 
 -- ---- a record ended, and then the message: told, or refused with 10
-pub sends-after : {w : World} {h : Past} → Rel w h → {v : World} (ac st : ℕ → Bool) (out : List Action) → Keeps none w v (fewer h ac st out)
-    → ((i : ℕ) → ac i ≡ true → h .active i ≡ true) → ((i : ℕ) → st i ≡ true → h .opens .standing i ≡ true) → (m : Message) → Quiet (h .known) m → eqb
+pub sends-after : {f : Route → Action} {w : World} {h : Past} → Rel w h → {v : World} (ac st : ℕ → Bool) (out : List Action) → Keeps none w v (fewer h ac st out)
+    → ((i : ℕ) → ac i ≡ true → h .active i ≡ true) → ((i : ℕ) → st i ≡ true → h .opens .standing i ≡ true) → (m : Message) → Quiet f m → eqb
     (m .context) 0 ≡ false → sequenceOf v < top 64
-    → (ends (send v m .answer) ≡ true) × Rel (send v m .world) (emit (fewer h ac st out) (send v m .routes))
-sends-after {w} {h} R {v} ac st out K la ls m Q some low = send-cases
-    (λ (o : Outcome). (ends (o .answer) ≡ true) × Rel (o .world) (emit (fewer h ac st out) (o .routes))) v m some low
+    → (ends (send v m .answer) ≡ true) × Rel (send v m .world) (emit (fewer h ac st out) f (send v m .routes))
+sends-after {f} {w} {h} R {v} ac st out K la ls m Q some low = send-cases
+    (λ (o : Outcome). (ends (o .answer) ≡ true) × Rel (o .world) (emit (fewer h ac st out) f (o .routes))) v m some low
     (λ e. (
       refl,
       shrink R ac st _ (record {
@@ -140,6 +141,29 @@ module _ {w : World} {h : Past} (R : Rel w h) (p : HnsrPeerId) (x : ℕ) where
                 (h .opens .asked j .endpoint) p) (s .0) (k .0)),
             q,
           ))
+
+  -- and its id
+  pub ended-open : any (namedBy p x) (w .pending) ≡ true → leb 2 (count (namedBy p x) (w .pending)) ≡ false → endedBy p x h ≡ record-found .«circuit_id»
+  ended-open e l = split (byContext h p x)
+      (λ c. let i = by-context c in let n = h .opens .named p x in split (eqb n j)
+      (λ q. ap (λ b. cond b n x) c ∙ eqb-true n j q)
+      (λ q. absurd (let k = two-shown n j (i .0) (s .0) (i .1) (s .1) q in let m = leb-false 2 (count (namedBy p x) (w .pending)) l in omega arith)))
+      (λ c. ap (λ b. cond b (h .opens .named p x) x) c ∙ split (samePeer (h .opens .asked j .requester) p && eqb (h .opens .asked j .context) x)
+      (λ u. clash (subst (λ y. (h .opens .standing y && (samePeer (h .opens .asked y .requester) p && eqb (h .opens .asked y .context) x)) ≡ true) (sym
+      (context-meant j (s .0) u)) (join (h .opens .standing j) (samePeer (h .opens .asked j .requester) p && eqb (h .opens .asked j .context) x)
+      (s .0) u)) c)
+      (λ u. sym (eqb-true j x (both (samePeer (h .opens .asked j .endpoint) p) (eqb j x) (sym (ap (λ b. b || (samePeer (h .opens .asked j .endpoint) p && eqb j x)) u)
+      ∙ s .1) .1))))
+    where
+      j : ℕ
+      j = record-found .«circuit_id»
+
+      s : (h .opens .standing j ≡ true) × (says h p x j ≡ true)
+      s = is-seen e
+
+  pub ended-circuit : any (namedBy p x) (w .pending) ≡ false → endedBy p x h ≡ x
+  ended-circuit e = split (byContext h p x) (λ c. let i = by-context c in clash (is-shown (h .opens .named p x) (i .0) (i .1)) e) (λ c. ap
+      (λ b. cond b (h .opens .named p x) x) c)
 
   pub ends-circuit : any (namedBy p x) (w .pending) ≡ false → endIn p x h ≡ circuitEnded h x
   ends-circuit e = split (byContext h p x)

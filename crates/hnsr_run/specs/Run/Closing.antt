@@ -31,15 +31,16 @@ use Rattle.hnsr_circuit.specs.Revocation.{withoutActions, withoutPending, endPe
 use Rattle.hnsr_circuit.specs.Close.{detailAnswer, closeAnswer, translated, closeTaken, closePending, closeCircuit, handleClose}
 use Rattle.hnsr_circuit.specs.Laws.Lookups.{none-count}
 use Rattle.hnsr_circuit.specs.Laws.Answers.{then-taken, check-taken}
-use Rattle.hnsr_run.specs.Past.{Known, Past, at, kindFor, emit, openEnded}
-use Rattle.hnsr_run.specs.History.{ends, endIn, closeIn}
+use Rattle.hnsr_run.specs.Past.{Action, Past, at, kindFor, heard, emit, openEnded}
+use Rattle.hnsr_run.specs.History.{ends, endIn, endedBy, closeIn}
+use Rattle.hnsr_circuit.specs.Route.{Route}
 use Rattle.hnsr_run.specs.Run.Circuits.{none}
 use Rattle.hnsr_run.specs.Run.Full.{Keeps, Quiet, rest-same}
 use Rattle.hnsr_run.specs.Run.Ended.{at-false, end-circuit, end-pending}
 use Rattle.hnsr_run.specs.Run.DataRows.{named-active}
 use Rattle.hnsr_run.specs.Run.Window.{quiet-forwarded}
 use Rattle.hnsr_run.specs.Run.Undelivered.{refused-ends}
-use Rattle.hnsr_run.specs.Run.Close.{sends-after, is-seen, found-same, ends-open, ends-circuit}
+use Rattle.hnsr_run.specs.Run.Close.{sends-after, is-seen, found-same, ends-open, ends-circuit, ended-open, ended-circuit}
 use Rattle.hnsr_run.specs.Run.Rel.{Rel, proceed-cases}
 
 -- ---- the rows
@@ -77,18 +78,18 @@ then-circuit w q e f =
     sym (ap (λ b. cond b Taken c) (lt-leb 1 n (omega (arith, none-count (namedBy (sender q) (q .context)) (w .pending) f)))) ∙ k
 
 -- ---- the message
-quiet-message : (kn : ℕ → Known) (to : HnsrPeerId) (circuit context : ℕ) (q : Packet) (n : ℕ) → q .opcode ≡ n → eqb n opData ≡ false
-    → kindFor n ≡ kindNumber Close → Quiet kn (message to circuit (q .opcode) context (q .body) Close)
-quiet-message kn to circuit context q n op no-data is-kind = record {
+quiet-message : (to : HnsrPeerId) (j circuit context : ℕ) (q : Packet) (n : ℕ) → j ≡ circuit → q .opcode ≡ n → kindFor n ≡ kindNumber Close
+    → Quiet (heard (λ r. j)) (message to circuit (q .opcode) context (q .body) Close)
+quiet-message to j circuit context q n on op is-kind = record {
   plain = refl;
   same = λ g s i. record {
     generation = g;
     sequence = s;
-    circuit = circuit;
+    circuit = on i;
     destination = to;
     kind = (ap kindFor op ∙ is-kind) i;
-    toEndpoint = (ap (λ x. eqb x opData && samePeer (kn circuit .endpoint) to) op ∙ ap (λ b. b && samePeer (kn circuit .endpoint) to) no-data) i;
-    bytes = (ap (λ x. cond {A = ℕ} (eqb x opData) (length (q .body)) 0) op ∙ ap (λ b. cond {A = ℕ} b (length (q .body)) 0) no-data) i;
+    toEndpoint = false;
+    bytes = 0;
   };
 }
 
@@ -111,10 +112,13 @@ module _ {w : World} {h : Past} (R : Rel w h) (low : sequenceOf w < top 64) (q :
       (λ y. R .base .full .realP (found .«circuit_id») (s .0))
       (λ y. ap (λ (r : RelayPending). eqb (r .«requester_context») 0) (found-same R p x e .0) ∙ ap (λ c. eqb c 0) (A .context) ∙ A .some)
 
-  quiet-open : Quiet (h .known) (translated q found)
+  abbrev told : Route → Action
+  told = heard (λ r. endedBy p x h)
+
+  quiet-open : endedBy p x h ≡ found .«circuit_id» → Quiet told (translated q found)
   unfolding translated
-  quiet-open = choose (λ (m : Message). Quiet (h .known) m) (samePeer (found .requester) (sender q)) _ _
-      (λ y. quiet-message (h .known) _ _ _ q n op no-data is-kind) (λ y. quiet-message (h .known) _ _ _ q n op no-data is-kind)
+  quiet-open on = choose (λ (m : Message). Quiet told m) (samePeer (found .requester) (sender q)) _ _
+      (λ y. quiet-message _ (endedBy p x h) _ _ q n on op is-kind) (λ y. quiet-message _ (endedBy p x h) _ _ q n on op is-kind)
 
   open-world : any (namedBy p x) (w .pending) ≡ true
       → endPending w (pendingAt (found .«circuit_id»)) (found .«circuit_id») ≡ endPending w (namedBy p x) (found .«circuit_id»)
@@ -132,14 +136,14 @@ module _ {w : World} {h : Past} (R : Rel w h) (low : sequenceOf w < top 64) (q :
   ended-sequence j = refl
 
   close-open : any (namedBy p x) (w .pending) ≡ true → leb 2 (count (namedBy p x) (w .pending)) ≡ false
-      → let o = closePending w q found in (ends (o .answer) ≡ true) × Rel (o .world) (emit (endIn p x h) (o .routes))
+      → let o = closePending w q found in (ends (o .answer) ≡ true) × Rel (o .world) (emit (endIn p x h) told (o .routes))
   unfolding closePending
   close-open e l = let j = found .«circuit_id» in let s = is-seen R p x e in
       let K = subst (λ v. Keeps none w v (openEnded h j)) (open-world e) (end-pending w h j (s .0) (record { full = R .base .full; rest = rest-same w })) in
-      subst (λ (g : Past). (ends (closePending w q found .answer) ≡ true) × Rel (closePending w q found .world) (emit g (closePending w q found .routes))) (sym
+      subst (λ (g : Past). (ends (closePending w q found .answer) ≡ true) × Rel (closePending w q found .world) (emit g told (closePending w q found .routes))) (sym
       (ends-open R p x e l))
       (sends-after R (h .active) (at j false (h .opens .standing)) _ K
-      (λ i a. a) (at-false j (h .opens .standing)) (translated q found) quiet-open (some-context e) (subst (λ m. m < top 64) (sym (ended-sequence j)) low))
+      (λ i a. a) (at-false j (h .opens .standing)) (translated q found) (quiet-open (ended-open R p x e l)) (some-context e) (subst (λ m. m < top 64) (sym (ended-sequence j)) low))
 
   -- a circuit
   circuit-sequence : sequenceOf (endCircuit w x) ≡ sequenceOf w
@@ -147,13 +151,13 @@ module _ {w : World} {h : Past} (R : Rel w h) (low : sequenceOf w < top 64) (q :
   circuit-sequence = refl
 
   close-circuit : any (namedBy p x) (w .pending) ≡ false → h .active x ≡ true
-      → let o = closeCircuit w q (namedCircuit w q) in (ends (o .answer) ≡ true) × Rel (o .world) (emit (endIn p x h) (o .routes))
+      → let o = closeCircuit w q (namedCircuit w q) in (ends (o .answer) ≡ true) × Rel (o .world) (emit (endIn p x h) told (o .routes))
   unfolding closeCircuit
   close-circuit e a = let K = end-circuit w h x none (λ i s t. refl) (record { full = R .base .full; rest = rest-same w }) in
-      subst (λ (g : Past). (ends (closeCircuit w q (namedCircuit w q) .answer) ≡ true) × Rel (closeCircuit w q (namedCircuit w q) .world) (emit g (closeCircuit w q
+      subst (λ (g : Past). (ends (closeCircuit w q (namedCircuit w q) .answer) ≡ true) × Rel (closeCircuit w q (namedCircuit w q) .world) (emit g told (closeCircuit w q
       (namedCircuit w q) .routes))) (sym (ends-circuit R p x e))
       (sends-after R (at x false (h .active)) (h .opens .standing) _ K (at-false x (h .active))
-      (λ i a. a) (forwarded q (namedCircuit w q) Close) (quiet-forwarded (h .known) q (namedCircuit w q) Close n op no-data is-kind refl)
+      (λ i a. a) (forwarded q (namedCircuit w q) Close) (quiet-forwarded q (namedCircuit w q) Close (endedBy p x h) n (ended-circuit R p x e) op is-kind refl)
       (R .base .full .real x a) (subst (λ m. m < top 64) (sym circuit-sequence) low))
 
   pub close-keeps : let o = handleClose w q in Rel (o .world) (closeIn q (o .answer) (o .routes) h)
@@ -162,11 +166,11 @@ module _ {w : World} {h : Past} (R : Rel w h) (low : sequenceOf w < top 64) (q :
       (λ e. choose P (any (namedBy p x) (w .pending)) (closePending w q found) (closeCircuit w q (namedCircuit w q))
       (λ f. into (closePending w q found) (close-open f (one-only w q e)))
       (λ f. into (closeCircuit w q (namedCircuit w q)) (close-circuit f (named-active R q (namedCircuit w q) (then-circuit w q e f)))))
-      (λ e f. subst (λ b. Rel w (cond b (emit (endIn p x h) []) h)) (sym (refused-ends (closeTaken w q) e f (never-closed w q 10 refl refl refl refl refl)
+      (λ e f. subst (λ b. Rel w (cond b (emit (endIn p x h) told []) h)) (sym (refused-ends (closeTaken w q) e f (never-closed w q 10 refl refl refl refl refl)
       (never-closed w q 6 refl refl refl refl refl))) R)
     where
       P : Outcome → Type 0
       P o = Rel (o .world) (closeIn q (o .answer) (o .routes) h)
 
-      into : (o : Outcome) → (ends (o .answer) ≡ true) × Rel (o .world) (emit (endIn p x h) (o .routes)) → P o
-      into o r = subst (λ b. Rel (o .world) (cond b (emit (endIn p x h) (o .routes)) h)) (sym (r .0)) (r .1)
+      into : (o : Outcome) → (ends (o .answer) ≡ true) × Rel (o .world) (emit (endIn p x h) told (o .routes)) → P o
+      into o r = subst (λ b. Rel (o .world) (cond b (emit (endIn p x h) told (o .routes)) h)) (sym (r .0)) (r .1)

@@ -25,8 +25,8 @@ use Rattle.hnsr_circuit.specs.World.{World, Outcome, configOf, done}
 use Rattle.hnsr_circuit.specs.Queue.{Message, opData, actionFor, routeFor, generationOf, sequenceOf, queued, routed, send}
 use Rattle.hnsr_circuit.specs.Packet.{Packet, sender, namedCircuit, receiver}
 use Rattle.hnsr_circuit.specs.Data.{withData, dataMessage, dataTaken, dataWith, handleData}
-use Rattle.hnsr_run.specs.Past.{Known, Action, Past, at, peerOn, isData, towardSide, weight, heard, kindFor, emit, learnt, withBook, spentBy}
-use Rattle.hnsr_run.specs.History.{sent, dataIn}
+use Rattle.hnsr_run.specs.Past.{Known, Action, Past, at, peerOn, isData, towardSide, weight, carried, emit, learnt, withBook, spentBy}
+use Rattle.hnsr_run.specs.History.{sideIn, sent, strange, dataIn}
 use Rattle.hnsr_run.specs.Run.Actions.{view, queue-acts, room-of}
 use Rattle.hnsr_run.specs.Run.Circuits.{Agrees, stray, none, queue-queue}
 use Rattle.hnsr_run.specs.Run.Full.{Body, Full, reout}
@@ -34,7 +34,7 @@ use Rattle.hnsr_run.specs.Run.Books.{Books, spend-books}
 use Rattle.hnsr_run.specs.Run.InPlace.{only-one, agreed, place-circuit, looked, resume-at, charged-at, charge-agrees, sent-peers}
 use Rattle.hnsr_run.specs.Run.Limits.{limits, within-top}
 use Rattle.hnsr_run.specs.Run.Rel.{Heads, Rel, proceed-cases, if-taken, can-queue, send-taken}
-use Rattle.hnsr_run.specs.Run.DataRows.{known-rel, named-active, side-same, DataRows, data-rows, to-endpoint, to-side, charged-queue}
+use Rattle.hnsr_run.specs.Run.DataRows.{named-side, known-rel, named-active, side-same, DataRows, data-rows, to-endpoint, to-side, charged-queue}
 
 -- ---- DATA, taken: the circuit charged, the ledger charged, the action queued
 module _ {w : World} {h : Past} (R : Rel w h) (q : Packet) (op : q .opcode ≡ opData) (low : sequenceOf w < top 64) where
@@ -105,33 +105,14 @@ module _ {w : World} {h : Past} (R : Rel w h) (q : Packet) (op : q .opcode ≡ o
         (ap not (subst (λ (s : RelaySide). samePeer (peerAt (otherSide s) circuit) (peerOn (cond (toEndpoint (otherSide side)) Endpoint Requester)
         (h .known id)) ≡ true) from (to-side side A)))))
 
-    heard-it : heard kn (routeFor message (generationOf w) (sequenceOf w)) ≡ act
+    heard-it : carried id side bytes (routeFor message (generationOf w) (sequenceOf w)) ≡ act
     unfolding act message dataMessage
-    heard-it = λ i. record {
-      generation = generationOf w;
-      sequence = sequenceOf w;
-      circuit = id;
-      destination = receiver circuit (sender q);
-      kind = kindFor (op i);
-      toEndpoint = direction i;
-      bytes = amount i;
-    }
-      where
-        known-end : kn id .endpoint ≡ h .known id .endpoint
-        known-end = ap (λ (k : Known). k .endpoint) kn-here ∙ sent-peers side bytes (h .known id) Endpoint
-
-        direction : (eqb (q .opcode) opData && samePeer (kn id .endpoint) (receiver circuit (sender q))) ≡ toEndpoint (otherSide side)
-        direction = ap (λ x. eqb x opData && samePeer (kn id .endpoint) (receiver circuit (sender q))) op ∙ ap
-            (λ p. samePeer p (receiver circuit (sender q))) known-end
-            ∙ subst (λ (s : RelaySide). samePeer (h .known id .endpoint) (peerAt (otherSide s) circuit) ≡ toEndpoint (otherSide side)) from (to-endpoint side A)
-
-        amount : cond (eqb (q .opcode) opData) (length (q .body)) 0 ≡ bytes
-        amount = ap (λ x. cond {A = ℕ} (eqb x opData) (length (q .body)) 0) op
+    heard-it = refl
 
     full : Full none (queued message (withData w id (circuit .«reservation_id») side bytes)) (emit (withBook (learnt h id (sent side bytes (h .known id))) (spentBy
-        (h .book) (circuit .«reservation_id») bytes)) (routed message (withData w id (circuit .«reservation_id») side bytes) ∷ []))
+        (h .book) (circuit .«reservation_id») bytes)) (carried id side bytes) (routed message (withData w id (circuit .«reservation_id») side bytes) ∷ []))
     unfolding queued withData message kn act
-    full = reout (ap (λ (a : Action). h .out ++ (a ∷ [])) (sym heard-here)) (resume-at id (record {
+    full = reout (ap (λ (a : Action). h .out ++ (a ∷ [])) (sym heard-it)) (resume-at id (record {
       acts = queue-acts (R .base .full .acts) message (room-of (configOf w) id (receiver circuit (sender q)) (w .inflight) (D .room));
       circs = changed .circs;
       queue = queue-queue (changed .queue) act honest (λ j s side′. weighs j side′ ∙ ap (λ b. cond (b && towardSide side′ act) bytes 0) s);
@@ -141,9 +122,6 @@ module _ {w : World} {h : Past} (R : Rel w h) (q : Packet) (op : q .opcode ≡ o
       realP = changed .realP;
     }) counts)
       where
-        heard-here : heard (at id (sent side bytes (h .known id)) (h .known)) (routeFor message (generationOf w) (sequenceOf w)) ≡ act
-        heard-here = heard-it
-
         changed : Body (λ i. eqb id i) (configOf w) (generationOf w) (sequenceOf w) (w .pending) (edit (circuitAt id) (charged side bytes) (w .circuits))
             (w .inflight) (h .active) kn (h .opens .standing) (h .opens .asked) (h .out)
         changed = place-circuit (only-one (R .base .full) id (λ i e. refl)) id (eq-eqb id id refl) active (charged side bytes) (sent side bytes (h .known id)) kn
@@ -170,7 +148,7 @@ module _ {w : World} {h : Past} (R : Rel w h) (q : Packet) (op : q .opcode ≡ o
     can = send-taken _ message (can-queue message _ context-some low (D .room))
 
     rel : Rel (queued message (withData w id (circuit .«reservation_id») side bytes)) (emit (withBook (learnt h id (sent side bytes (h .known id))) (spentBy
-        (h .book) (circuit .«reservation_id») bytes)) (routed message (withData w id (circuit .«reservation_id») side bytes) ∷ []))
+        (h .book) (circuit .«reservation_id») bytes)) (carried id side bytes) (routed message (withData w id (circuit .«reservation_id») side bytes) ∷ []))
     unfolding queued withData
     rel = known-rel R (queued message (withData w id (circuit .«reservation_id») side bytes)) id (sent side bytes (h .known id)) (spentBy (h .book)
         (circuit .«reservation_id») bytes .spent) _ full ledger (same-res side) (same-exp side) heads
@@ -199,11 +177,13 @@ data-keeps {w} {h} R low q op = proceed-cases P w (dataTaken w q c side n) (send
     let m = dataMessage q c side n in
     let v = withData w j (c .«reservation_id») side n in
     subst P (sym (can R q op low side refl D))
+    (subst (λ b. Rel (queued m v) (emit (withBook (learnt h j (cond b (sent (sideIn (sender q) (h .known j)) n (h .known j)) (strange n (h .known j)))) (spentBy (h .book)
+    (h .known j .reservation) n)) (carried j (sideIn (sender q) (h .known j)) n) (routed m v ∷ []))) (sym (named-side w q A (D .circuit)))
     (subst (λ (s : RelaySide). Rel (queued m v) (emit (withBook (learnt h j (sent s n (h .known j))) (spentBy (h .book) (h .known j .reservation) n))
-    (routed m v ∷ []))) (side-same q A)
-    (subst (λ (r : ReservationId). Rel (queued m v) (emit (withBook (learnt h j (sent side n (h .known j))) (spentBy (h .book) r n)) (routed m v ∷ [])))
+    (carried j s n) (routed m v ∷ []))) (side-same q A)
+    (subst (λ (r : ReservationId). Rel (queued m v) (emit (withBook (learnt h j (sent side n (h .known j))) (spentBy (h .book) r n)) (carried j side n) (routed m v ∷ [])))
     (A .reservation)
-    (rel R q op low side refl D))))
+    (rel R q op low side refl D)))))
     (λ e f. if-taken (λ (g : Past). Rel w g) e _ h R)
   where
     P : Outcome → Type 0

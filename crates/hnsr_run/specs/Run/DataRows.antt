@@ -27,7 +27,7 @@ use Rattle.hnsr_circuit.specs.Data.{bytesAnswer, flowAnswer, dataTaken}
 use Rattle.hnsr_circuit.specs.Laws.Answers.{then-taken, check-taken}
 use Rattle.hnsr_circuit.specs.Laws.Peer.{same-refl, same-comm}
 use Rattle.hnsr_run.specs.Past.{Known, Action, Past, at, peerOn, towardSide, lives}
-use Rattle.hnsr_run.specs.History.{sideIn}
+use Rattle.hnsr_run.specs.History.{knownSide, sideIn}
 use Rattle.hnsr_run.specs.Run.Circuits.{Agrees, none}
 use Rattle.hnsr_run.specs.Run.Full.{Full}
 use Rattle.hnsr_run.specs.Run.Ends.{circuit-there}
@@ -95,6 +95,14 @@ named-active {w} {h} R q c e = sym (circuit-there w h (R .base .full) (q .contex
 pub side-same : (q : Packet) {c : RelayCircuit} {k : Known} → Agrees c k → sideOf (sender q) c ≡ sideIn (sender q) k
 unfolding sideOf
 side-same q A = ap (λ p. cond {A = RelaySide} (samePeer p (sender q)) Requester Endpoint) (A .requester)
+
+-- and the sender is a side of it
+pub named-side : (w : World) (q : Packet) {c : RelayCircuit} {k : Known} → Agrees c k → circuitAnswer (hasCircuit w (q .context)) c (sender q) ≡ Taken
+    → knownSide (sender q) k ≡ true
+unfolding circuitAnswer
+named-side w q {c} {k} A e = sym (λ i. samePeer (A .requester i) (sender q) || samePeer (A .endpoint i) (sender q))
+    ∙ not-false (isSide (sender q) c) (check-taken (not (isSide (sender q) c)) WrongPeer (then-taken (check (not (hasCircuit w
+    (q .context))) UnknownCircuit) (check (not (isSide (sender q) c)) WrongPeer) e .1))
 
 -- ---- DATA: what its rows say
 pub record DataRows (w : World) (q : Packet) (c : RelayCircuit) (side : RelaySide) (n : ℕ) : Type 0 where

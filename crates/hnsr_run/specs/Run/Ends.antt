@@ -1,51 +1,161 @@
 -- Revocation of one record: it ends, its actions are dropped, and its sides are told.
 use Prim.Native.Nat.{ℕ}
-use mathlib.Core.Path.{_≡_, refl, _∙_}
-use mathlib.Core.Bool.{Bool, true, false}
-use mathlib.Core.List.{map}
+use mathlib.Core.Path.{_≡_, refl, sym, ap, _∙_, subst}
+use mathlib.Core.Bool.{Bool, true, false, cond, not, _&&_, _||_, or-true}
+use mathlib.Core.List.{List, map}
 use lib.Dec.{eqb}
-use borrow.Author.Tests.{eq-eqb}
-use Rattle.hns_encoding.specs.Laws.Tests.{choose, clash, both}
+use borrow.Author.Tests.{eqb-true, eq-eqb}
+use Rattle.hns_encoding.specs.Laws.Tests.{choose, split, clash, both, join}
 use Rattle.hns_encoding.specs.Sums.{non, count}
 use Rattle.hnsr_body.specs.declared.messages.Notice.{Notice}
 use Rattle.hnsr_circuit.specs.declared.peer.HnsrPeerId.{HnsrPeerId}
 use Rattle.hnsr_circuit.specs.declared.records.RelayPending.{RelayPending}
+use Rattle.hnsr_circuit.specs.declared.records.RelaySide.{RelaySide}
+use Rattle.hnsr_circuit.specs.declared.records.RelaySide.the-variants.{Requester, Endpoint}
 use Rattle.hnsr_circuit.specs.Table.{any, edit, clear}
 use Rattle.hnsr_circuit.specs.Peer.{samePeer}
 use Rattle.hnsr_circuit.specs.Pending.{noPending, pendingAt, clearPending}
-use Rattle.hnsr_circuit.specs.Circuits.{circuitAt, clearCircuit}
+use Rattle.hnsr_circuit.specs.Circuits.{circuitAt, clearCircuit, peerAt}
 use Rattle.hnsr_circuit.specs.World.{World}
-use Rattle.hnsr_circuit.specs.Queue.{Message, Sent}
+use Rattle.hnsr_circuit.specs.declared.records.InflightKind.the-variants.{Close}
+use Rattle.hnsr_circuit.specs.Inflight.{kindNumber}
+use Rattle.hnsr_circuit.specs.Route.{Route}
+use Rattle.hnsr_circuit.specs.Queue.{Message, Sent, opClose, opError, routeFor}
 use Rattle.hnsr_circuit.specs.Packet.{circuitIn}
-use Rattle.hnsr_circuit.specs.Revocation.{withoutPending, withoutActions, endPending, endCircuit, errorToRequester, closeToRequester, closeToEndpoint, closeTo, pendingIn, hasPending, revokedPending, revokePending, revokedCircuit, revokeCircuit}
+use Rattle.hnsr_circuit.specs.Revocation.{withoutPending, withoutActions, endPending, endCircuit, closing, errorToRequester, closeToRequester, closeToEndpoint, closeTo, pendingIn, hasPending, revokedPending, revokePending, revokedCircuit, revokeCircuit}
 use Rattle.hnsr_circuit.specs.RevokingCalls.{closeToOther, disconnectedPending, disconnectPending}
 use Rattle.hnsr_circuit.specs.Laws.Lookups.{pick-has}
+use Rattle.hnsr_circuit.specs.Laws.Peer.{same-refl}
 use Rattle.hnsr_circuit.specs.Laws.Edits.{edit-clear}
-use Rattle.hnsr_run.specs.Past.{Known, Past, onCircuit, heard, emit, openEnded, circuitEnded}
+use Rattle.hnsr_run.specs.Past.{Known, Asked, Action, Past, peerOn, onCircuit, kindFor, heard, emit, openEnded, circuitEnded}
+use Rattle.hnsr_run.specs.History.{askedSide, knownSide, byContext, about, sharedId, aboutClose}
 use Rattle.hnsr_run.specs.Run.Walks.{when-cases}
-use Rattle.hnsr_run.specs.Run.Full.{Full, Keeps, Quiet, tell-keeps, two-tells, tell-on, two-on, tell-tables, two-tables}
+use Rattle.hnsr_run.specs.Run.Full.{AgreesP, Full, Keeps, fewer, Quiet, tell-keeps, two-tells, tell-on, two-on, tell-tables, two-tables}
 use Rattle.hnsr_run.specs.Run.Ended.{end-circuit, end-pending}
 
--- ---- the relay's own messages are no DATA
-pub quiet-error : (kn : ℕ → Known) (n : Notice) (p : RelayPending) → Quiet kn (errorToRequester n p)
-unfolding errorToRequester
-quiet-error kn n p = record { plain = refl; same = λ g s. refl }
+-- ---- the relay's own messages are no DATA, and their routes tell what they are about: of the OPENs with qo and the circuits with qc, that end, the
+-- endpoint and both sides hear under the id; the requester hears under its own context, where T tells so
+pub record Labelled (qo : Asked → Bool) (qc : Known → Bool) (T : (opcode : ℕ) → Asked → Bool) (f : Route → Action) (h : Past) : Type 0 where
+  pub endpoint : (j : ℕ) (n : Notice) → h .opens .standing j ≡ true → qo (h .opens .asked j) ≡ true
+      → Quiet f (closing (h .opens .asked j .endpoint) j opClose j n)
+  pub sides : (j : ℕ) (n : Notice) (side : RelaySide) → h .active j ≡ true → qc (h .known j) ≡ true → Quiet f (closing (peerOn side (h .known j)) j opClose j n)
+  pub asker : (j opcode : ℕ) (n : Notice) → kindFor opcode ≡ kindNumber Close → h .opens .standing j ≡ true → T opcode (h .opens .asked j) ≡ true
+      → Quiet f (closing (h .opens .asked j .requester) j opcode (h .opens .asked j .context) n)
 
-pub quiet-close : (kn : ℕ → Known) (n : Notice) (p : RelayPending) → Quiet kn (closeToEndpoint n p)
-unfolding closeToEndpoint
-quiet-close kn n p = record { plain = refl; same = λ g s. refl }
+-- a revocation: requesters hear by ERROR
+abbrev pub byError : (opcode : ℕ) → Asked → Bool
+byError opcode k = eqb opcode opError
 
-quiet-requester : (kn : ℕ → Known) (n : Notice) (p : RelayPending) → Quiet kn (closeToRequester n p)
-unfolding closeToRequester
-quiet-requester kn n p = record { plain = refl; same = λ g s. refl }
+-- a disconnect: requesters of OPENs toward the peer hear, by CLOSE
+abbrev pub byClose : HnsrPeerId → (opcode : ℕ) → Asked → Bool
+byClose p opcode k = samePeer (k .endpoint) p
 
-quiet-to : (kn : ℕ → Known) (n : Notice) (peer : HnsrPeerId) (id : ℕ) → Quiet kn (closeTo n peer id)
-unfolding closeTo
-quiet-to kn n peer id = record { plain = refl; same = λ g s. refl }
+abbrev Leads : Past → Type 0
+Leads h = (j : ℕ) → h .opens .standing j ≡ true → (p : HnsrPeerId) → samePeer (h .opens .asked j .requester) p ≡ true
+    → h .opens .named p (h .opens .asked j .context) ≡ j
 
-quiet-other : (kn : ℕ → Known) (peer : HnsrPeerId) (p : RelayPending) → Quiet kn (closeToOther peer p)
+heard-as : (told : Route → ℕ) (peer : HnsrPeerId) (id opcode context : ℕ) (n : Notice) → kindFor opcode ≡ kindNumber Close
+    → ((g s : ℕ) → told (routeFor (closing peer id opcode context n) g s) ≡ id) → Quiet (heard told) (closing peer id opcode context n)
+heard-as told peer id opcode context n k e = record {
+  plain = refl;
+  same = λ g s i. record { generation = g; sequence = s; circuit = e g s i; destination = peer; kind = k i; toEndpoint = false; bytes = 0 };
+}
+
+pub labelled : (qo : Asked → Bool) (qc : Known → Bool) (h : Past) → Leads h → Labelled qo qc byError (heard (about h)) h
+labelled qo qc h leads = record {
+  endpoint = λ j n a s. heard-as (about h) (h .opens .asked j .endpoint) j opClose j n refl (λ g i. refl);
+  sides = λ j n side a s. heard-as (about h) (peerOn side (h .known j)) j opClose j n refl (λ g i. refl);
+  asker = λ j opcode n k a t. let p = h .opens .asked j .requester in let x = h .opens .asked j .context in
+      heard-as (about h) p j opcode x n k (λ g i. ap (λ b. cond b (h .opens .named p x) x) t ∙ leads j a p (same-refl p));
+}
+
+pub labelled-close : (p : HnsrPeerId) (h : Past) → Leads h → Labelled (askedSide p) (knownSide p) (byClose p) (heard (aboutClose p h)) h
+labelled-close p h leads = record {
+  endpoint = λ j n a s. heard-as (aboutClose p h) (h .opens .asked j .endpoint) j opClose j n refl (λ g i. meant-id (h .opens .asked j .endpoint) j (shared-open j a s));
+  sides = λ j n side a s. heard-as (aboutClose p h) (peerOn side (h .known j)) j opClose j n refl (λ g i. meant-id (peerOn side (h .known j)) j (shared-circuit j side a s));
+  asker = λ j opcode n k a t. heard-as (aboutClose p h) (h .opens .asked j .requester) j opcode (h .opens .asked j .context) n k (λ g i. meant j a t);
+}
+  where
+    or-one : (x y : Bool) → y ≡ true → (x || y) ≡ true
+    or-one x y e = ap (λ b. x || b) e ∙ or-true x
+
+    side-own : (side : RelaySide) (k : Known) → knownSide (peerOn side k) k ≡ true
+    side-own Requester k = ap (λ b. b || samePeer (k .endpoint) (k .requester)) (same-refl (k .requester))
+    side-own Endpoint k = or-one (samePeer (k .requester) (k .endpoint)) _ (same-refl (k .endpoint))
+
+    shared-open : (j : ℕ) → h .opens .standing j ≡ true → askedSide p (h .opens .asked j) ≡ true → sharedId h p (h .opens .asked j .endpoint) j ≡ true
+    shared-open j a s = let k = h .opens .asked j in or-one (h .active j && (knownSide p (h .known j) && knownSide (k .endpoint) (h .known j))) _ (join (h .opens .standing j)
+        (askedSide p k && askedSide (k .endpoint) k) a (join (askedSide p k) (askedSide (k .endpoint) k) s (or-one (samePeer (k .requester) (k .endpoint)) _ (same-refl
+        (k .endpoint)))))
+
+    shared-circuit : (j : ℕ) (side : RelaySide) → h .active j ≡ true → knownSide p (h .known j) ≡ true → sharedId h p (peerOn side (h .known j)) j ≡ true
+    shared-circuit j side a s = let k = h .known j in ap (λ b. b || (h .opens .standing j && (askedSide p (h .opens .asked j) && askedSide (peerOn side k) (h .opens .asked j)))) (join
+        (h .active j) (knownSide p k && knownSide (peerOn side k) k) a (join (knownSide p k) (knownSide (peerOn side k) k) s (side-own side k)))
+
+    -- a shared id is meant unless the label is the OPEN's, and then it is the same
+    meant-id : (peer : HnsrPeerId) (id : ℕ) → sharedId h p peer id ≡ true → let j = h .opens .named peer id in
+        cond ((byContext h peer id && samePeer (h .opens .asked j .endpoint) p) && (not (sharedId h p peer id) || eqb id j)) j id ≡ id
+    meant-id peer id e = let j = h .opens .named peer id in let o = byContext h peer id && samePeer (h .opens .asked j .endpoint) p in
+        ap (λ b. cond (o && (not b || eqb id j)) j id) e ∙ split (o && eqb id j)
+        (λ y. ap (λ b. cond b j id) y ∙ sym (eqb-true id j (both o (eqb id j) y .1)))
+        (λ y. ap (λ b. cond b j id) y)
+
+    meant : (j : ℕ) → h .opens .standing j ≡ true → samePeer (h .opens .asked j .endpoint) p ≡ true
+        → let d = h .opens .asked j .requester in let x = h .opens .asked j .context in let i = h .opens .named d x in
+        cond ((byContext h d x && samePeer (h .opens .asked i .endpoint) p) && (not (sharedId h p d x) || eqb j i)) i x ≡ j
+    meant j a t = let d = h .opens .asked j .requester in let x = h .opens .asked j .context in
+        let l : h .opens .named d x ≡ j = leads j a d (same-refl d) in
+        let c = h .opens .standing j && (samePeer d d && eqb x x) in
+        let k : c ≡ true = join (h .opens .standing j) (samePeer d d && eqb x x) a (join (samePeer d d) (eqb x x) (same-refl d) (eq-eqb x x refl)) in
+        let o = c && samePeer (h .opens .asked j .endpoint) p in
+        let m : (not (sharedId h p d x) || eqb j j) ≡ true = or-one (not (sharedId h p d x)) (eqb j j) (eq-eqb j j refl) in
+        subst (λ i. cond (((h .opens .standing i && (samePeer (h .opens .asked i .requester) d && eqb (h .opens .asked i .context) x)) && samePeer (h .opens .asked i .endpoint) p)
+        && (not (sharedId h p d x) || eqb j i)) i x ≡ j) (sym l)
+        (ap (λ b. cond b j x) (join o (not (sharedId h p d x) || eqb j j) (join c (samePeer (h .opens .asked j .endpoint) p) k t) m))
+
+-- one message, told by its circuit
+pub quiet-about : (peer : HnsrPeerId) (j id opcode context : ℕ) (n : Notice) → j ≡ id → kindFor opcode ≡ kindNumber Close
+    → Quiet (heard (λ r. j)) (closing peer id opcode context n)
+quiet-about peer j id opcode context n e k = record {
+  plain = refl;
+  same = λ g s i. record { generation = g; sequence = s; circuit = e i; destination = peer; kind = k i; toEndpoint = false; bytes = 0 };
+}
+
+-- the same of a past in which fewer OPENs stand and fewer circuits are active
+pub still-labelled : {qo : Asked → Bool} {qc : Known → Bool} {T : ℕ → Asked → Bool} {f : Route → Action} {h : Past} → Labelled qo qc T f h → (ac st : ℕ → Bool) (out : List Action)
+    → ((j : ℕ) → ac j ≡ true → h .active j ≡ true) → ((j : ℕ) → st j ≡ true → h .opens .standing j ≡ true) → Labelled qo qc T f (fewer h ac st out)
+still-labelled L ac st out l m = record {
+  endpoint = λ j n a. L .endpoint j n (m j a);
+  sides = λ j n side a. L .sides j n side (l j a);
+  asker = λ j opcode n k a. L .asker j opcode n k (m j a);
+}
+
+module _ {qo : Asked → Bool} {qc : Known → Bool} {T : ℕ → Asked → Bool} {f : Route → Action} {h : Past} (L : Labelled qo qc T f h) (n : Notice) (p : RelayPending) (j : ℕ)
+    (a : h .opens .standing j ≡ true) (A : AgreesP p (h .opens .asked j)) (id : p .«circuit_id» ≡ j) where
+  quiet-error : T opError (h .opens .asked j) ≡ true → Quiet f (errorToRequester n p)
+  unfolding errorToRequester
+  quiet-error t = subst (λ (m : Message). Quiet f m) (sym (λ i. closing (A .requester i) (id i) opError (A .context i) n)) (L .asker j opError n refl a t)
+
+  quiet-close : qo (h .opens .asked j) ≡ true → Quiet f (closeToEndpoint n p)
+  unfolding closeToEndpoint
+  quiet-close s = subst (λ (m : Message). Quiet f m) (sym (λ i. closing (A .endpoint i) (id i) opClose (id i) n)) (L .endpoint j n a s)
+
+  quiet-requester : T opClose (h .opens .asked j) ≡ true → Quiet f (closeToRequester n p)
+  unfolding closeToRequester
+  quiet-requester t = subst (λ (m : Message). Quiet f m) (sym (λ i. closing (A .requester i) (id i) opClose (A .context i) n)) (L .asker j opClose n refl a t)
+
+pub quiet-to : {qo : Asked → Bool} {qc : Known → Bool} {T : ℕ → Asked → Bool} {f : Route → Action} {S : ℕ → Bool} {h : Past} → Labelled qo qc T f h → (n : Notice) (w : World) (j : ℕ)
+    → Full S w h → h .active j ≡ true → qc (h .known j) ≡ true → (side : RelaySide) → Quiet f (closeTo n (peerAt side (circuitIn w j)) j)
+unfolding closeTo circuitAt
+quiet-to {f = f} L n w j F a s Requester = subst (λ (p : HnsrPeerId). Quiet f (closing p j opClose j n)) (sym (F .circs .agree j a .requester)) (L .sides j n Requester a s)
+quiet-to {f = f} L n w j F a s Endpoint = subst (λ (p : HnsrPeerId). Quiet f (closing p j opClose j n)) (sym (F .circs .agree j a .endpoint)) (L .sides j n Endpoint a s)
+
+quiet-other : (peer : HnsrPeerId) {qc : Known → Bool} {f : Route → Action} {h : Past} → Labelled (askedSide peer) qc (byClose peer) f h → (p : RelayPending) (j : ℕ)
+    → h .opens .standing j ≡ true → askedSide peer (h .opens .asked j) ≡ true → AgreesP p (h .opens .asked j) → p .«circuit_id» ≡ j → Quiet f (closeToOther peer p)
 unfolding closeToOther
-quiet-other kn peer p = choose (λ (m : Message). Quiet kn m) (samePeer (p .requester) peer) _ _ (λ e. quiet-close kn _ p) (λ e. quiet-requester kn _ p)
+quiet-other peer {f = f} {h = h} L p j a s A id = choose (λ (m : Message). Quiet f m) (samePeer (p .requester) peer) _ _ (λ e. quiet-close L _ p j a A id s)
+    (λ e. quiet-requester L _ p j a A id (ap (λ b. b || samePeer (h .opens .asked j .endpoint) peer) (sym (ap (λ (x : HnsrPeerId). samePeer x peer) (sym (A .requester)) ∙ e))
+    ∙ s))
 
 -- ---- one pending record, one circuit
 pub pending-id : {S : ℕ → Bool} (w : World) (h : Past) → Full S w h → (j : ℕ) → h .opens .standing j ≡ true → eqb (pendingIn w j .«circuit_id») j ≡ true
@@ -55,6 +165,13 @@ pending-id w h F j a = both (pendingIn w j .used) (eqb (pendingIn w j .«circuit
 pub pending-there : {S : ℕ → Bool} (w : World) (h : Past) → Full S w h → (j : ℕ) → hasPending w j ≡ h .opens .standing j
 unfolding pendingAt
 pending-there w h F j = F .pends .found j
+
+pub pending-is : {S : ℕ → Bool} (w : World) (h : Past) → Full S w h → (j : ℕ) → h .opens .standing j ≡ true → pendingIn w j .«circuit_id» ≡ j
+pending-is w h F j a = eqb-true (pendingIn w j .«circuit_id») j (pending-id w h F j a)
+
+pub pending-agrees : {S : ℕ → Bool} (w : World) (h : Past) → Full S w h → (j : ℕ) → h .opens .standing j ≡ true → AgreesP (pendingIn w j) (h .opens .asked j)
+unfolding pendingAt
+pending-agrees w h F j a = F .pends .agree j a
 
 pub circuit-there : {S : ℕ → Bool} (w : World) (h : Past) → Full S w h → (j : ℕ) → any (circuitAt j) (w .circuits) ≡ h .active j
 unfolding circuitAt
@@ -71,11 +188,11 @@ unfolding circuitAt
 circuit-table w h F j = edit-clear (circuitAt j) clearCircuit (w .circuits) (F .circs .once j)
 
 -- what an end of a pending record has to do
-pub record EndsOne (end : World → ℕ → Sent) : Type 1 where
-  pub keeps : (S : ℕ → Bool) (u : World) (w : World) (h : Past) (j : ℕ) → Keeps S u w h → h .opens .standing j ≡ true
-      → Keeps S u (end w j .world) (emit (openEnded h j) (end w j .routes))
-  pub about : {S : ℕ → Bool} (w : World) (h : Past) (j : ℕ) → Full S w h → h .opens .standing j ≡ true
-      → count (non (onCircuit j)) (map (heard (h .known)) (end w j .routes)) ≡ 0
+pub record EndsOne (qo : Asked → Bool) (T : ℕ → Asked → Bool) (end : World → ℕ → Sent) : Type 1 where
+  pub keeps : {qc : Known → Bool} {f : Route → Action} (S : ℕ → Bool) (u : World) (w : World) (h : Past) (j : ℕ) → Labelled qo qc T f h → Keeps S u w h
+      → h .opens .standing j ≡ true → qo (h .opens .asked j) ≡ true → Keeps S u (end w j .world) (emit (openEnded h j) f (end w j .routes))
+  pub about : {qc : Known → Bool} {f : Route → Action} {S : ℕ → Bool} (w : World) (h : Past) (j : ℕ) → Labelled qo qc T f h → Full S w h → h .opens .standing j ≡ true
+      → qo (h .opens .asked j) ≡ true → count (non (onCircuit j)) (map f (end w j .routes)) ≡ 0
   pub table : {S : ℕ → Bool} (w : World) (h : Past) (j : ℕ) → Full S w h → h .opens .standing j ≡ true
       → end w j .world .pending ≡ edit (pendingAt j) clearPending (w .pending)
 
@@ -99,50 +216,56 @@ unfolding closeToOther closeToEndpoint closeToRequester
 other-id peer w h F j a = choose (λ (m : Message). eqb (m .circuit) j ≡ true) (samePeer (pendingIn w j .requester) peer) _ _ (λ e. pending-id w h F j a)
     (λ e. pending-id w h F j a)
 
-pub revoking : (n : Notice) → EndsOne (revokePending n)
+pub revoking : (qo : Asked → Bool) (n : Notice) → EndsOne qo byError (revokePending n)
 unfolding revokePending revokedPending
-revoking n = record {
-  keeps = λ S u w h j K a. when-cases (λ (s : Sent). Keeps S u (s .world) (emit (openEnded h j) (s .routes))) (hasPending w j) _ w
-      (λ e. two-tells (errorToRequester n (pendingIn w j)) (closeToEndpoint n (pendingIn w j)) (endPending w (pendingAt j) j) (openEnded h j)
-      (end-pending w h j a K) (quiet-error _ n _) (quiet-close _ n _))
+revoking qo n = record {
+  keeps = λ {qc} {f} S u w h j L K a s. when-cases (λ (o : Sent). Keeps S u (o .world) (emit (openEnded h j) f (o .routes))) (hasPending w j) _ w
+      (λ e. let A = pending-agrees w h (K .full) j a in let i = pending-is w h (K .full) j a in
+      two-tells (errorToRequester n (pendingIn w j)) (closeToEndpoint n (pendingIn w j)) (endPending w (pendingAt j) j) (openEnded h j)
+      (end-pending w h j a K) (quiet-error L n _ j a A i refl) (quiet-close L n _ j a A i s))
       (λ e. clash (pending-there w h (K .full) j ∙ a) e);
-  about = λ w h j F a. when-cases (λ (s : Sent). count (non (onCircuit j)) (map (heard (h .known)) (s .routes)) ≡ 0) (hasPending w j) _ w
-      (λ e. two-on (h .known) (errorToRequester n (pendingIn w j)) (closeToEndpoint n (pendingIn w j)) (endPending w (pendingAt j) j) j (error-id n w h F j a)
-      (close-id n w h F j a))
+  about = λ {qc} {f} w h j L F a s. when-cases (λ (o : Sent). count (non (onCircuit j)) (map f (o .routes)) ≡ 0) (hasPending w j) _ w
+      (λ e. let A = pending-agrees w h F j a in let i = pending-is w h F j a in
+      two-on (errorToRequester n (pendingIn w j)) (closeToEndpoint n (pendingIn w j)) (endPending w (pendingAt j) j) j (quiet-error L n _ j a A i refl)
+      (quiet-close L n _ j a A i s) (error-id n w h F j a) (close-id n w h F j a))
       (λ e. refl);
   table = λ w h j F a. when-cases (λ (s : Sent). s .world .pending ≡ edit (pendingAt j) clearPending (w .pending)) (hasPending w j) _ w
       (λ e. two-tables (errorToRequester n (pendingIn w j)) (closeToEndpoint n (pendingIn w j)) (endPending w (pendingAt j) j) .pending ∙ ended-pendings w j)
       (λ e. clash (pending-there w h F j ∙ a) e);
 }
 
-pub disconnecting : (peer : HnsrPeerId) → EndsOne (disconnectPending peer)
+pub disconnecting : (peer : HnsrPeerId) → EndsOne (askedSide peer) (byClose peer) (disconnectPending peer)
 unfolding disconnectPending disconnectedPending
 disconnecting peer = record {
-  keeps = λ S u w h j K a. when-cases (λ (s : Sent). Keeps S u (s .world) (emit (openEnded h j) (s .routes))) (hasPending w j) _ w
-      (λ e. tell-keeps (closeToOther peer (pendingIn w j)) (endPending w (pendingAt j) j) (openEnded h j) (end-pending w h j a K) (quiet-other _ peer _))
+  keeps = λ {qc} {f} S u w h j L K a s. when-cases (λ (o : Sent). Keeps S u (o .world) (emit (openEnded h j) f (o .routes))) (hasPending w j) _ w
+      (λ e. tell-keeps (closeToOther peer (pendingIn w j)) (endPending w (pendingAt j) j) (openEnded h j) (end-pending w h j a K) (quiet-other peer L _ j a s
+      (pending-agrees w h (K .full) j a) (pending-is w h (K .full) j a)))
       (λ e. clash (pending-there w h (K .full) j ∙ a) e);
-  about = λ w h j F a. when-cases (λ (s : Sent). count (non (onCircuit j)) (map (heard (h .known)) (s .routes)) ≡ 0) (hasPending w j) _ w
-      (λ e. tell-on (h .known) (closeToOther peer (pendingIn w j)) (endPending w (pendingAt j) j) j (other-id peer w h F j a))
+  about = λ {qc} {f} w h j L F a s. when-cases (λ (o : Sent). count (non (onCircuit j)) (map f (o .routes)) ≡ 0) (hasPending w j) _ w
+      (λ e. tell-on (closeToOther peer (pendingIn w j)) (endPending w (pendingAt j) j) j (quiet-other peer L _ j a s (pending-agrees w h F j a) (pending-is w h F j a))
+      (other-id peer w h F j a))
       (λ e. refl);
   table = λ w h j F a. when-cases (λ (s : Sent). s .world .pending ≡ edit (pendingAt j) clearPending (w .pending)) (hasPending w j) _ w
       (λ e. tell-tables (closeToOther peer (pendingIn w j)) (endPending w (pendingAt j) j) .pending ∙ ended-pendings w j)
       (λ e. clash (pending-there w h F j ∙ a) e);
 }
 
-pub revoke-circuit : {S : ℕ → Bool} {u : World} (n : Notice) (w : World) (h : Past) (j : ℕ) (S′ : ℕ → Bool) → ((i : ℕ) → S′ i ≡ false → eqb j i ≡ false
-    → S i ≡ false) → Keeps S u w h → h .active j ≡ true
-    → Keeps S′ u (revokeCircuit n w j .world) (emit (circuitEnded h j) (revokeCircuit n w j .routes))
+pub revoke-circuit : {f : Route → Action} {S : ℕ → Bool} {u : World} (n : Notice) (w : World) (h : Past) (j : ℕ) (S′ : ℕ → Bool) → ((i : ℕ) → S′ i ≡ false → eqb j i ≡ false
+    → S i ≡ false) → ((side : RelaySide) → Quiet f (closeTo n (peerAt side (circuitIn w j)) j)) → Keeps S u w h → h .active j ≡ true
+    → Keeps S′ u (revokeCircuit n w j .world) (emit (circuitEnded h j) f (revokeCircuit n w j .routes))
 unfolding revokeCircuit revokedCircuit
-revoke-circuit {S} {u} n w h j S′ sw K a = when-cases
-    (λ (s : Sent). Keeps S′ u (s .world) (emit (circuitEnded h j) (s .routes))) (any (circuitAt j) (w .circuits)) _ w
+revoke-circuit {f} {S} {u} n w h j S′ sw L K a = when-cases
+    (λ (s : Sent). Keeps S′ u (s .world) (emit (circuitEnded h j) f (s .routes))) (any (circuitAt j) (w .circuits)) _ w
     (λ e. two-tells (closeTo n (circuitIn w j .requester) j) (closeTo n (circuitIn w j .endpoint) j) (endCircuit w j) (circuitEnded h j)
-    (end-circuit w h j S′ sw K) (quiet-to _ n _ j) (quiet-to _ n _ j))
+    (end-circuit w h j S′ sw K) (L Requester) (L Endpoint))
     (λ e. clash (circuit-there w h (K .full) j ∙ a) e)
 
-pub circuit-about : (kn : ℕ → Known) (n : Notice) (w : World) (j : ℕ) → count (non (onCircuit j)) (map (heard kn) (revokeCircuit n w j .routes)) ≡ 0
+pub circuit-about : {f : Route → Action} (n : Notice) (w : World) (j : ℕ) → ((side : RelaySide) → Quiet f (closeTo n (peerAt side (circuitIn w j)) j))
+    → count (non (onCircuit j)) (map f (revokeCircuit n w j .routes)) ≡ 0
 unfolding revokeCircuit revokedCircuit closeTo
-circuit-about kn n w j = when-cases (λ (s : Sent). count (non (onCircuit j)) (map (heard kn) (s .routes)) ≡ 0) (any (circuitAt j) (w .circuits)) _ w
-    (λ e. two-on kn (closeTo n (circuitIn w j .requester) j) (closeTo n (circuitIn w j .endpoint) j) (endCircuit w j) j (eq-eqb j j refl) (eq-eqb j j refl))
+circuit-about {f} n w j L = when-cases (λ (s : Sent). count (non (onCircuit j)) (map f (s .routes)) ≡ 0) (any (circuitAt j) (w .circuits)) _ w
+    (λ e. two-on (closeTo n (circuitIn w j .requester) j) (closeTo n (circuitIn w j .endpoint) j) (endCircuit w j) j (L Requester) (L Endpoint)
+    (eq-eqb j j refl) (eq-eqb j j refl))
     (λ e. refl)
 
 ended-circuits : (w : World) (j : ℕ) → endCircuit w j .circuits ≡ edit (circuitAt j) clearCircuit (w .circuits)

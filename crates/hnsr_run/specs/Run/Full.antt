@@ -26,9 +26,10 @@ use Rattle.hnsr_circuit.specs.declared.records.InflightKind.the-variants.{Data}
 use Rattle.hnsr_circuit.specs.Inflight.{kindNumber, tallied, capacityAnswer}
 use Rattle.hnsr_circuit.specs.World.{World, configOf}
 use Rattle.hnsr_circuit.specs.Queue.{Message, routeFor, actionFor, generationOf, sequenceOf, queueAnswer, canQueue, queued, routed, andThen, tellIf, tell}
+use Rattle.hnsr_circuit.specs.Route.{Route}
 use Rattle.hnsr_circuit.specs.Laws.Answers.{then-taken}
 use Rattle.hnsr_circuit.specs.Laws.Keyed.{Keys, Tells}
-use Rattle.hnsr_run.specs.Past.{Known, Asked, Action, Past, peerOn, isData, onCircuit, towardSide, weight, heard, emit}
+use Rattle.hnsr_run.specs.Past.{Known, Asked, Action, Past, peerOn, isData, onCircuit, towardSide, weight, emit}
 use Rattle.hnsr_run.specs.Run.Actions.{Acts, view, inUse, queue-acts, room-of}
 use Rattle.hnsr_run.specs.Run.Circuits.{Circs, Queue, stray, sideTo, queue-queue}
 
@@ -86,11 +87,22 @@ pub record Keeps (S : ℕ → Bool) (u w : World) (h : Past) : Type 0 where
   pub full : Full S w h
   pub rest : Rest u w
 
+-- ---- records end, actions come and go
+abbrev pub fewer : Past → (ac st : ℕ → Bool) → List Action → Past
+fewer h ac st out = record {
+  head = h .head;
+  active = ac;
+  known = h .known;
+  opens = record { standing = st; asked = h .opens .asked; named = h .opens .named };
+  book = h .book;
+  out = out;
+}
+
 -- ---- a message told
 -- one that is not DATA, whose route tells its action
-pub record Quiet (kn : ℕ → Known) (m : Message) : Type 0 where
+pub record Quiet (f : Route → Action) (m : Message) : Type 0 where
   pub plain : eqb (kindNumber (m .kind)) (kindNumber Data) ≡ false
-  pub same : (g n : ℕ) → heard kn (routeFor m g n) ≡ view (actionFor m g n)
+  pub same : (g n : ℕ) → f (routeFor m g n) ≡ view (actionFor m g n)
 
 pub can-room : (m : Message) (w : World) → canQueue m w ≡ Taken → count inUse (w .inflight) < configOf w .«maximum_inflight_actions»
 unfolding canQueue queueAnswer
@@ -139,8 +151,8 @@ plain-stray ac kn a e = ap (λ b. b && not (ac (a .circuit) && samePeer (a .dest
 pub plain-weight : (j : ℕ) (side : RelaySide) (a : Action) → isData a ≡ false → weight j side a ≡ 0
 plain-weight j side a e = ap (λ b. cond (b && (onCircuit j a && towardSide side a)) (a .bytes) 0) e
 
-pub queue-full : {S : ℕ → Bool} (w : World) (h : Past) (m : Message) → Full S w h → Quiet (h .known) m
-    → count inUse (w .inflight) < configOf w .«maximum_inflight_actions» → Full S (queued m w) (emit h (routed m w ∷ []))
+pub queue-full : {S : ℕ → Bool} {f : Route → Action} (w : World) (h : Past) (m : Message) → Full S w h → Quiet f m
+    → count inUse (w .inflight) < configOf w .«maximum_inflight_actions» → Full S (queued m w) (emit h f (routed m w ∷ []))
 unfolding queued
 queue-full {S} w h m F Q l = reout (ap (λ a. h .out ++ (a ∷ [])) (sym (Q .same (generationOf w) (sequenceOf w)))) (record {
   acts = queue-acts (F .acts) m l;
@@ -153,15 +165,15 @@ queue-full {S} w h m F Q l = reout (ap (λ a. h .out ++ (a ∷ [])) (sym (Q .sam
   realP = F .realP;
 })
 
-tell-if : {S : ℕ → Bool} {u : World} (a : HnsrAnswer) (m : Message) (w : World) (h : Past) → (a ≡ Taken
-    → count inUse (w .inflight) < configOf w .«maximum_inflight_actions») → Keeps S u w h → Quiet (h .known) m
-    → Keeps S u (tellIf a m w .world) (emit h (tellIf a m w .routes))
+tell-if : {S : ℕ → Bool} {f : Route → Action} {u : World} (a : HnsrAnswer) (m : Message) (w : World) (h : Past) → (a ≡ Taken
+    → count inUse (w .inflight) < configOf w .«maximum_inflight_actions») → Keeps S u w h → Quiet f m
+    → Keeps S u (tellIf a m w .world) (emit h f (tellIf a m w .routes))
 unfolding tellIf
 tell-if Taken m w h l K Q = record { full = queue-full w h m (K .full) Q (l refl); rest = rest-then (K .rest) (queued-rest m w) }
 tell-if {S} (Refused e) m w h l K Q = record { full = reout (sym (append-nil (h .out))) (K .full); rest = K .rest }
 
-pub tell-keeps : {S : ℕ → Bool} {u : World} (m : Message) (w : World) (h : Past) → Keeps S u w h → Quiet (h .known) m
-    → Keeps S u (tell m w .world) (emit h (tell m w .routes))
+pub tell-keeps : {S : ℕ → Bool} {f : Route → Action} {u : World} (m : Message) (w : World) (h : Past) → Keeps S u w h → Quiet f m
+    → Keeps S u (tell m w .world) (emit h f (tell m w .routes))
 unfolding tell
 tell-keeps m w h K Q = tell-if (canQueue m w) m w h (can-room m w) K Q
 
@@ -169,33 +181,33 @@ pub map-append : {A B : Type 0} (f : A → B) (xs ys : List A) → map f (xs ++ 
 map-append f [] ys = refl
 map-append {B = B} f (x ∷ xs) ys = ap {B = List B} (λ l. f x ∷ l) (map-append f xs ys)
 
-pub two-tells : {S : ℕ → Bool} {u : World} (m n : Message) (w : World) (h : Past) → Keeps S u w h → Quiet (h .known) m → Quiet (h .known) n
-    → Keeps S u (andThen (tell m w) (tell n) .world) (emit h (andThen (tell m w) (tell n) .routes))
-two-tells {S} {u} m n w h K Q P =
-    let k = tell-keeps n (tell m w .world) (emit h (tell m w .routes)) (tell-keeps m w h K Q) P in
-    let e = append-assoc (h .out) (map (heard (h .known)) (tell m w .routes)) (map (heard (h .known)) (tell n (tell m w .world) .routes)) ∙ ap
-    (λ l. h .out ++ l) (sym (map-append (heard (h .known)) (tell m w .routes) (tell n (tell m w .world) .routes))) in
+pub two-tells : {S : ℕ → Bool} {f : Route → Action} {u : World} (m n : Message) (w : World) (h : Past) → Keeps S u w h → Quiet f m → Quiet f n
+    → Keeps S u (andThen (tell m w) (tell n) .world) (emit h f (andThen (tell m w) (tell n) .routes))
+two-tells {S} {f} {u} m n w h K Q P =
+    let k = tell-keeps n (tell m w .world) (emit h f (tell m w .routes)) (tell-keeps m w h K Q) P in
+    let e = append-assoc (h .out) (map f (tell m w .routes)) (map f (tell n (tell m w .world) .routes)) ∙ ap
+    (λ l. h .out ++ l) (sym (map-append f (tell m w .routes) (tell n (tell m w .world) .routes))) in
     record { full = reout e (k .full); rest = k .rest }
 
 -- its routes are about its circuit; it leaves the tables of records alone
-tell-if-on : (kn : ℕ → Known) (a : HnsrAnswer) (m : Message) (w : World) (j : ℕ) → eqb (m .circuit) j ≡ true
-    → count (non (onCircuit j)) (map (heard kn) (tellIf a m w .routes)) ≡ 0
+tell-if-on : {f : Route → Action} (a : HnsrAnswer) (m : Message) (w : World) (j : ℕ) → Quiet f m → eqb (m .circuit) j ≡ true
+    → count (non (onCircuit j)) (map f (tellIf a m w .routes)) ≡ 0
 unfolding tellIf
-tell-if-on kn Taken m w j e = rw e
-tell-if-on kn (Refused x) m w j e = refl
+tell-if-on {f} Taken m w j Q e = rw (Q .same (generationOf w) (sequenceOf w), e)
+tell-if-on (Refused x) m w j Q e = refl
 
-pub tell-on : (kn : ℕ → Known) (m : Message) (w : World) (j : ℕ) → eqb (m .circuit) j ≡ true → count (non (onCircuit j)) (map (heard kn) (tell m w .routes)) ≡ 0
+pub tell-on : {f : Route → Action} (m : Message) (w : World) (j : ℕ) → Quiet f m → eqb (m .circuit) j ≡ true
+    → count (non (onCircuit j)) (map f (tell m w .routes)) ≡ 0
 unfolding tell
-tell-on kn m w j e = tell-if-on kn (canQueue m w) m w j e
+tell-on m w j Q e = tell-if-on (canQueue m w) m w j Q e
 
-pub two-on : (kn : ℕ → Known) (m n : Message) (w : World) (j : ℕ) → eqb (m .circuit) j ≡ true → eqb (n .circuit) j ≡ true
-    → count (non (onCircuit j)) (map (heard kn) (andThen (tell m w) (tell n) .routes)) ≡ 0
-two-on kn m n w j e f = rw (map-append (heard kn) (tell m w .routes) (tell n (tell m w .world) .routes)) (omega (
+pub two-on : {f : Route → Action} (m n : Message) (w : World) (j : ℕ) → Quiet f m → Quiet f n → eqb (m .circuit) j ≡ true → eqb (n .circuit) j ≡ true
+    → count (non (onCircuit j)) (map f (andThen (tell m w) (tell n) .routes)) ≡ 0
+two-on {f} m n w j Q P e d = rw (map-append f (tell m w .routes) (tell n (tell m w .world) .routes)) (omega (
   arith,
-  total-append (one (non (onCircuit j))) (map
-      (heard kn) (tell m w .routes)) (map (heard kn) (tell n (tell m w .world) .routes)),
-  tell-on kn m w j e,
-  tell-on kn n (tell m w .world) j f,
+  total-append (one (non (onCircuit j))) (map f (tell m w .routes)) (map f (tell n (tell m w .world) .routes)),
+  tell-on m w j Q e,
+  tell-on n (tell m w .world) j P d,
 ))
 
 pub record SameTables (w v : World) : Type 0 where

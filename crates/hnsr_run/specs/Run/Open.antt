@@ -45,6 +45,7 @@ use Rattle.hnsr_run.specs.Run.Rel.{Live, Rel, if-not, not-taken, reledge
 pub record Admitted (w : World) (q : Packet) : Type 0 where
   pub pending : pendingCount w < configOf w .«maximum_pending»
   pub new : any (requestedBy (sender q) (q .context)) (w .pending) ≡ false
+  pub granted : q .admission .admitted ≡ true
   pub unexpired : q .now < q .admission .ticket .«expires_at»
 
 pub admitted-rows : (w : World) (q : Packet) → openAdmitted w q ≡ Taken → Admitted w q
@@ -67,6 +68,7 @@ admitted-rows w q e =
     record {
       pending = leb-false (configOf w .«maximum_pending») (pendingCount w) (i .0);
       new = h .1;
+      granted = not-false (q .admission .admitted) (j .0);
       unexpired = leb-false (q .admission .ticket .«expires_at») (q .now) (j .1);
     }
 

@@ -25,15 +25,17 @@ use Rattle.hnsr_circuit.specs.World.{World, Outcome, configOf, withLedger}
 use Rattle.hnsr_circuit.specs.Queue.{sequenceOf, queued, routed, send}
 use Rattle.hnsr_circuit.specs.Counts.{pendingCount}
 use Rattle.hnsr_circuit.specs.Packet.{Packet, sender}
-use Rattle.hnsr_circuit.specs.Draw.{undrawn, draws, idTaken, drawn}
+use Rattle.hnsr_circuit.specs.Draw.{undrawn, draws, idTaken, drawAll, drawn}
+use Rattle.hnsr_circuit.specs.declared.records.Drawing.{Drawing}
 use Rattle.hnsr_circuit.specs.Open.{deadlineFor, Opening, pendingFor, incomingMessage, withOpen, opening, openAdmitted, openPlaced, openBooked, openGranted, openLapsed, handleOpen}
 use Rattle.hnsr_circuit.specs.Laws.Answers.{check-taken}
 use Rattle.hnsr_circuit.specs.Laws.Marks.{room}
 use Rattle.hnsr_circuit.specs.Laws.Peer.{same-comm}
-use Rattle.hnsr_run.specs.Past.{Asked, Book, Past, emit, stood, withBook, lives, remade}
-use Rattle.hnsr_run.specs.History.{taken, firstContext, askedFor, openIn}
-use Rattle.hnsr_run.specs.Run.Full.{AgreesP}
-use Rattle.hnsr_run.specs.Run.Ends.{circuit-there}
+use Rattle.hnsr_run.specs.Past.{Asked, Book, Past, heard, emit, stood, withBook, lives, remade}
+use Rattle.hnsr_run.specs.History.{taken, drawnIn, askedFor, openIn}
+use Rattle.hnsr_run.specs.Run.Full.{AgreesP, Full}
+use Rattle.hnsr_run.specs.Run.Circuits.{none}
+use Rattle.hnsr_run.specs.Run.Ends.{pending-there, circuit-there}
 use Rattle.hnsr_run.specs.Run.Books.{lapse-books, lapsed-lives}
 use Rattle.hnsr_run.specs.Run.Booking.{lives-remade, Free, draw-free}
 use Rattle.hnsr_run.specs.Run.Open.{Admitted, admitted-rows, Placed, placed-rows, never-admitted, never-placed, stays, booked-rel}
@@ -58,9 +60,10 @@ usage-expiry t u e = eqb-true (u .«expires_at») (t .«expires_at») (not-false
     (t .«expires_at»))) (leb (t .«max_total_bytes») (u .bytes)) (check-taken (not (eqb (u .«expires_at») (t .«expires_at»)) || leb (t .«max_total_bytes»)
     (u .bytes)) ByteLimit e) .0))
 
-incoming-context : (o : Opening) → o .id ≡ incomingMessage o .context
-unfolding incomingMessage
-incoming-context o = refl
+same-draw : (w : World) (h : Past) → Full none w h → (random : List ℕ)
+    → drawn w random ≡ drawAll (λ j. h .opens .standing j || h .active j) undrawn (draws random)
+unfolding drawn idTaken
+same-draw w h F random = λ i. drawAll (λ j. pending-there w h F j i || circuit-there w h F j i) undrawn (draws random)
 
 drawn-free : (w : World) (random : List ℕ) → drawn w random .found ≡ true → Free (idTaken w) (drawn w random .id)
 unfolding drawn
@@ -75,7 +78,7 @@ unfolding pendingCount
 few-pending w q D = D .pending
 
 module _ {w : World} {h : Past} (R : Rel w h) (H : Places w) (low : sequenceOf w < top 64) (q : Packet) (clock : h .head .clock ≡ q .now)
-    (on : h .head .enabled ≡ true) (ctx : eqb (q .context) 0 ≡ false) (tot : q .admission .ticket .«max_total_bytes» < top 64) where
+    (on : h .head .enabled ≡ true) (ctx : eqb (q .context) 0 ≡ false) (tot : q .admission .admitted ≡ true → q .admission .ticket .«max_total_bytes» < top 64) where
   abbrev ticket : RelayTicket
   ticket = q .admission .ticket
 
@@ -120,7 +123,7 @@ module _ {w : World} {h : Past} (R : Rel w h) (H : Places w) (low : sequenceOf w
       some = ctx;
       ticket = refl;
       deadline = ap (λ (c : OpaqueRelayConfig). deadlineFor c ticket (q .now)) (R .base .heads .config);
-      totalled = tot;
+      totalled = tot (D .granted);
     }
 
     finish : usageAnswer ticket (usageOf (ticket .«reservation_id») (w₂ .ledger)) ≡ Taken
@@ -152,13 +155,16 @@ module _ {w : World} {h : Past} (R : Rel w h) (H : Places w) (low : sequenceOf w
               ∙ usage-expiry ticket (usageOf (ticket .«reservation_id») (w₂ .ledger)) y;
         }
 
-        into-past : Rel (queued (incomingMessage o₁) (withOpen w₂ o₁)) (emit (stood (withBook h book₂) (o₁ .id) k) (routed (incomingMessage o₁)
+        same-id : o₁ .id ≡ drawnIn h q
+        same-id = ap (λ (d : Drawing). d .id) (same-draw w₁ h (R₁ .base .full) (q .random))
+
+        into-past : Rel (queued (incomingMessage o₁) (withOpen w₂ o₁)) (emit (stood (withBook h book₂) (o₁ .id) k) (heard (λ r. o₁ .id)) (routed (incomingMessage o₁)
             (withOpen w₂ o₁) ∷ []))
-            → Rel (queued (incomingMessage o₁) (withOpen w₂ o₁)) (emit (stood (withBook h (remade (q .now) (h .book) ticket)) (firstContext (routed
-            (incomingMessage o₁) (withOpen w₂ o₁) ∷ [])) k) (routed (incomingMessage o₁) (withOpen w₂ o₁) ∷ []))
-        into-past r = subst (λ j. Rel (queued (incomingMessage o₁) (withOpen w₂ o₁)) (emit (stood (withBook h (remade (q .now) (h .book) ticket)) j k) (routed
-            (incomingMessage o₁) (withOpen w₂ o₁) ∷ []))) (incoming-context o₁)
-            (subst (λ b. Rel (queued (incomingMessage o₁) (withOpen w₂ o₁)) (emit (stood (withBook h b) (o₁ .id) k) (routed (incomingMessage o₁)
+            → Rel (queued (incomingMessage o₁) (withOpen w₂ o₁)) (emit (stood (withBook h (remade (q .now) (h .book) ticket)) (drawnIn h q) k) (heard (λ r. drawnIn h q))
+            (routed (incomingMessage o₁) (withOpen w₂ o₁) ∷ []))
+        into-past r = subst (λ j. Rel (queued (incomingMessage o₁) (withOpen w₂ o₁)) (emit (stood (withBook h (remade (q .now) (h .book) ticket)) j k) (heard (λ r. j)) (routed
+            (incomingMessage o₁) (withOpen w₂ o₁) ∷ []))) same-id
+            (subst (λ b. Rel (queued (incomingMessage o₁) (withOpen w₂ o₁)) (emit (stood (withBook h b) (o₁ .id) k) (heard (λ r. o₁ .id)) (routed (incomingMessage o₁)
             (withOpen w₂ o₁) ∷ []))) later r)
 
     booked-refused : (e : HnsrRuntimeError) → usageAnswer ticket (usageOf (ticket .«reservation_id») (w₂ .ledger)) ≡ Refused e → Rel w₂ (openIn q (Refused e) [] h)

@@ -21,7 +21,7 @@ use Rattle.hnsr_circuit.specs.Open.{Opening, pendingFor, incomingMessage, withO
 use Rattle.hnsr_circuit.specs.Laws.Marks.{room}
 use Rattle.hnsr_circuit.specs.Laws.Peer.{same-names, names-same}
 use Rattle.hnsr_circuit.specs.Laws.Keyed.{Looks, store-looks, store-tells, shown}
-use Rattle.hnsr_run.specs.Past.{Asked, Past, at, emit, stood}
+use Rattle.hnsr_run.specs.Past.{Asked, Past, at, heard, emit, stood}
 use Rattle.hnsr_run.specs.Run.Actions.{room-of}
 use Rattle.hnsr_run.specs.Run.Circuits.{none}
 use Rattle.hnsr_run.specs.Run.Full.{AgreesP, pendingKeys, Full, Quiet, queue-full}
@@ -79,7 +79,7 @@ module _ {w : World} {h : Past} (R : Rel w h) (H : Places w) (low : sequenceOf w
   unfoldable pub message : Message
   message = incomingMessage o
 
-  quiet-incoming : Quiet (h .known) message
+  quiet-incoming : Quiet (heard (λ r. j)) message
   unfolding message incomingMessage
   quiet-incoming = record { plain = refl; same = λ g s. refl }
 
@@ -98,7 +98,7 @@ module _ {w : World} {h : Past} (R : Rel w h) (H : Places w) (low : sequenceOf w
   pub can : send (withOpen w o) message ≡ done (queued message (withOpen w o)) (routed message (withOpen w o) ∷ [])
   can = send-taken (withOpen w o) message (can-queue message (withOpen w o) some-context (subst (λ n. n < top 64) (sym same-sequence) low) can-room)
 
-  pub rel : Rel (queued message (withOpen w o)) (emit (stood h (o .id) k) (routed message (withOpen w o) ∷ []))
+  pub rel : Rel (queued message (withOpen w o)) (emit (stood h (o .id) k) (heard (λ r. o .id)) (routed message (withOpen w o) ∷ []))
   unfolding queued withOpen
   rel = record {
     base = record {

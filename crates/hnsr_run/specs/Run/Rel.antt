@@ -3,7 +3,7 @@ use Prim.Native.Nat.{ℕ, _≤_, _<_}
 use native.Mathlib.Omega.{arith}
 use mathlib.Core.Path.{_≡_, refl, sym, ap, _∙_, subst}
 use mathlib.Core.Bool.{Bool, true, false, cond, true≢false}
-use mathlib.Core.List.{List, [], _∷_, append-nil}
+use mathlib.Core.List.{List, [], _∷_, _++_, append-nil}
 use mathlib.Core.Logic.{_⊎_, inl, inr}
 use lib.Dec.{ltb, eqb}
 use lib.ListN.{length}
@@ -26,10 +26,10 @@ use Rattle.hnsr_circuit.specs.Inflight.{tallied, capacityLeft, capacityAnswer}
 use Rattle.hnsr_circuit.specs.World.{World, Outcome, configOf, refuse, done, proceed, withLedger, atTime}
 use Rattle.hnsr_circuit.specs.Queue.{Message, generationOf, sequenceOf, queueAnswer, canQueue, queued, routed, send}
 use Rattle.hnsr_circuit.specs.Laws.Answers.{number-zero}
-use Rattle.hnsr_run.specs.Past.{Book, Action, Head, Past, lives, movedTo, withOut, emit}
+use Rattle.hnsr_run.specs.Past.{Book, Action, Head, Past, lives, movedTo, withOut}
 use Rattle.hnsr_run.specs.History.{taken}
 use Rattle.hnsr_run.specs.Run.Circuits.{none}
-use Rattle.hnsr_run.specs.Run.Full.{Full, Rest, Keeps}
+use Rattle.hnsr_run.specs.Run.Full.{Full, Rest, Keeps, fewer}
 use Rattle.hnsr_run.specs.Run.Books.{Books, later-books}
 
 -- ---- the invariant
@@ -129,7 +129,7 @@ send-cases P w m e l t f = pick-one (can-or-full m w e l)
     pick-one (inr h) = subst P (sym (send-full w m h)) f
 
 -- no route, no action
-pub emit-nothing : {w : World} {h : Past} → Rel w h → Rel w (emit h [])
+pub emit-nothing : {w : World} {h : Past} → Rel w h → Rel w (withOut h (h .out ++ []))
 emit-nothing {w} {h} R = subst (λ o. Rel w (withOut h o)) (sym (append-nil (h .out))) R
 
 -- ---- records end, actions come and go; the rest stays
@@ -140,16 +140,6 @@ heads-rest r s = record {
   clock = r .clock ∙ s .clock;
   config = r .config
       ∙ s .config;
-}
-
-abbrev pub fewer : Past → (ac st : ℕ → Bool) → List Action → Past
-fewer h ac st out = record {
-  head = h .head;
-  active = ac;
-  known = h .known;
-  opens = record { standing = st; asked = h .opens .asked; named = h .opens .named };
-  book = h .book;
-  out = out;
 }
 
 pub shrink-base : {S : ℕ → Bool} {w : World} {h : Past} → Base S w h → {v : World} (ac st : ℕ → Bool) (out : List Action) → Keeps none w v (fewer h ac st out)

@@ -21,22 +21,23 @@ use Rattle.hnsr_circuit.specs.Queue.{Sent}
 use Rattle.hnsr_circuit.specs.Revocation.{revokeCircuit, walk, pendingTable, circuitTable, revokeAll}
 use Rattle.hnsr_circuit.specs.Laws.Totals.{keep-append, keep-whole}
 use Rattle.hnsr_circuit.specs.Laws.Sweep.{none-ends, none-goes, one-ends, one-goes}
-use Rattle.hnsr_run.specs.Past.{Known, Asked, Action, Past, onCircuit, heard, emit, openEnded, circuitEnded}
+use Rattle.hnsr_run.specs.Past.{Known, Asked, Action, Past, at, onCircuit, heard, emit, openEnded, circuitEnded}
 use Rattle.hnsr_run.specs.History.{goneOpen, goneCircuit, revoked}
 use Rattle.hnsr_run.specs.Run.Circuits.{Agrees, circuitKeys, none}
 use Rattle.hnsr_run.specs.Run.Walks.{walked}
+use Rattle.hnsr_run.specs.Run.Ended.{at-false}
 use Rattle.hnsr_run.specs.Run.Full.{AgreesP, pendingKeys, Keeps, map-append, suspending}
-use Rattle.hnsr_run.specs.Run.Ends.{pending-table, circuit-table, EndsOne, revoke-circuit, circuit-about, circuit-ended}
+use Rattle.hnsr_run.specs.Run.Ends.{Labelled, still-labelled, quiet-to, pending-table, circuit-table, EndsOne, revoke-circuit, circuit-about, circuit-ended}
 
 -- ---- the walk over the pending records: routes are about ids that are no circuits
-abbrev pub partedOpens : Past → (Asked → Bool) → List Route → Past
-partedOpens h q rs = record {
+abbrev pub partedOpens : (Route → Action) → Past → (Asked → Bool) → List Route → Past
+partedOpens f h q rs = record {
   head = h .head;
   active = h .active;
   known = h .known;
   opens = record { standing = λ j. h .opens .standing j && not (q (h .opens .asked j)); asked = h .opens .asked; named = h .opens .named };
   book = h .book;
-  out = keep (non (goneOpen h q)) (h .out) ++ map (heard (h .known)) rs;
+  out = keep (non (goneOpen h q)) (h .out) ++ map f rs;
 }
 
 abbrev pub activeOn : Past → Action → Bool
@@ -45,12 +46,16 @@ activeOn h a = h .active (a .circuit)
 abbrev placed : Action → ℕ
 placed a = a .circuit
 
-module _ (end : World → ℕ → Sent) (E : EndsOne end) (Q : RelayPending → Bool) (q : Asked → Bool) (same-q : (x : RelayPending)
-    (k : Asked) → AgreesP x k → Q x ≡ q k) (S : ℕ → Bool) (u : World) where
+module _ (qc : Known → Bool) (T : ℕ → Asked → Bool) (Q : RelayPending → Bool) (q : Asked → Bool) (same-q : (x : RelayPending) (k : Asked) → AgreesP x k → Q x ≡ q k)
+    (end : World → ℕ → Sent) (E : EndsOne q T end) (f : Route → Action) (S : ℕ → Bool) (u : World) where
   abbrev J : Past → List Route → Type 0
-  J h rs = count (activeOn h) (map (heard (h .known)) rs) ≡ 0
+  J h rs = count (activeOn h) (map f rs) ≡ 0
 
-  none-open : (h : Past) → ((i : ℕ) → h .opens .standing i ≡ true → q (h .opens .asked i) ≡ false) → partedOpens h q [] ≡ h
+  -- what the walk keeps
+  abbrev Told : World → Past → Type 0
+  Told w h = Keeps S u w h × Labelled q qc T f h
+
+  none-open : (h : Past) → ((i : ℕ) → h .opens .standing i ≡ true → q (h .opens .asked i) ≡ false) → partedOpens f h q [] ≡ h
   none-open h free = λ i. record {
     head = h .head;
     active = h .active;
@@ -60,8 +65,8 @@ module _ (end : World → ℕ → Sent) (E : EndsOne end) (Q : RelayPending → 
     out = none-goes placed q (h .opens .standing) (h .opens .asked) free (h .out) i;
   }
 
-  more-open : (w : World) (h : Past) (m : ℕ) (rs : List Route) → Keeps S u w h → h .opens .standing m ≡ true → q (h .opens .asked m) ≡ true
-      → partedOpens (emit (openEnded h m) (end w m .routes)) q rs ≡ partedOpens h q (end w m .routes ++ rs)
+  more-open : (w : World) (h : Past) (m : ℕ) (rs : List Route) → Told w h → h .opens .standing m ≡ true → q (h .opens .asked m) ≡ true
+      → partedOpens f (emit (openEnded h m) f (end w m .routes)) q rs ≡ partedOpens f h q (end w m .routes ++ rs)
   more-open w h m rs K a s = λ i. record {
     head = h .head;
     active = h .active;
@@ -71,50 +76,47 @@ module _ (end : World → ℕ → Sent) (E : EndsOne end) (Q : RelayPending → 
     out = outs i;
   }
     where
-      f : Route → Action
-      f = heard (h .known)
-
-      outs : partedOpens (emit (openEnded h m) (end w m .routes)) q rs .out ≡ partedOpens h q (end w m .routes ++ rs) .out
-      outs = one-goes placed q (h .opens .standing) (h .opens .asked) m a s (h .out) (map f (end w m .routes)) (map f rs) (E .about w h m (K .full) a) ∙ ap
+      outs : partedOpens f (emit (openEnded h m) f (end w m .routes)) q rs .out ≡ partedOpens f h q (end w m .routes ++ rs) .out
+      outs = one-goes placed q (h .opens .standing) (h .opens .asked) m a s (h .out) (map f (end w m .routes)) (map f rs) (E .about w h m (K .1) (K .0 .full) a s) ∙ ap
           (λ l. keep (non (goneOpen h q)) (h .out) ++ l) (sym (map-append f (end w m .routes) rs))
 
-  J-open : (w : World) (h : Past) (m : ℕ) (rs : List Route) → Keeps S u w h → h .opens .standing m ≡ true → J (emit (openEnded h m) (end w m .routes)) rs
-      → J h (end w m .routes ++ rs)
-  J-open w h m rs K a j =
-      let f = heard (h .known) in
+  J-open : (w : World) (h : Past) (m : ℕ) (rs : List Route) → Told w h → h .opens .standing m ≡ true → q (h .opens .asked m) ≡ true
+      → J (emit (openEnded h m) f (end w m .routes)) rs → J h (end w m .routes ++ rs)
+  J-open w h m rs K a s j =
       let r = map f (end w m .routes) in
       let y = total-le (one (activeOn h)) (one (non (onCircuit m))) r (λ x. split (eqb m (x .circuit))
-      (λ g. let z = ap (λ b. cond {A = ℕ} b 1 0) (ap (h .active) (sym (eqb-true m (x .circuit) g)) ∙ K .full .disjoint m a) in omega arith)
+      (λ g. let z = ap (λ b. cond {A = ℕ} b 1 0) (ap (h .active) (sym (eqb-true m (x .circuit) g)) ∙ K .0 .full .disjoint m a) in omega arith)
       (λ g. let z = ap (λ b. cond {A = ℕ} (not b) 1 0) (eqb-comm (x .circuit) m ∙ g) in omega (arith, cond-le (activeOn h x)))) in
-      ap (count (activeOn h)) (map-append f (end w m .routes) rs) ∙ omega (arith, total-append (one (activeOn h)) r (map f rs), E .about w h m (K .full) a)
+      ap (count (activeOn h)) (map-append f (end w m .routes) rs) ∙ omega (arith, total-append (one (activeOn h)) r (map f rs), E .about w h m (K .1) (K .0 .full) a s)
 
-  pub walk-pending : (p : RelayPending → Bool) → ((x : RelayPending) → p x ≡ (x .used && Q x)) → (w : World) (h : Past) → Keeps S u w h
-      → Keeps S u (walk pendingId pendingTable p end w .world) (partedOpens h q (walk pendingId pendingTable p end w .routes)) × J h
+  pub walk-pending : (p : RelayPending → Bool) → ((x : RelayPending) → p x ≡ (x .used && Q x)) → (w : World) (h : Past) → Told w h
+      → Told (walk pendingId pendingTable p end w .world) (partedOpens f h q (walk pendingId pendingTable p end w .routes)) × J h
       (walk pendingId pendingTable p end w .routes)
   unfolding pendingAt
-  walk-pending p same w h K = walked pendingKeys (λ i j. refl) Q q same-q pendingTable end (Keeps S u) (λ h. h .opens .standing) (λ h. h .opens .asked)
-      (λ h m rs. emit (openEnded h m) rs) (λ h rs. partedOpens h q rs) J
-      (λ w h K. K .full .pends)
-      (λ w h m K a s. E .keeps S u w h m K a)
-      (λ w h m K a. E .table w h m (K .full) a ∙ pending-table w h (K .full) m)
+  walk-pending p same w h K = walked pendingKeys (λ i j. refl) Q q same-q pendingTable end Told (λ h. h .opens .standing) (λ h. h .opens .asked)
+      (λ h m rs. emit (openEnded h m) f rs) (λ h rs. partedOpens f h q rs) J
+      (λ w h K. K .0 .full .pends)
+      (λ w h m K a s. (E .keeps S u w h m (K .1) (K .0) a s, still-labelled (K .1) (h .active) (at m false (h .opens .standing)) _ (λ i x. x) (at-false m (h .opens .standing))))
+      (λ w h m K a. E .table w h m (K .0 .full) a ∙ pending-table w h (K .0 .full) m)
       (λ h m rs i. refl) (λ h m rs. refl) none-open more-open (λ h. refl) J-open p same w h K
 
 -- ---- the walk over the circuits: those that will end are in suspense
-abbrev pub partedCircuits : Past → (Known → Bool) → List Route → Past
-partedCircuits h q rs = record {
+abbrev pub partedCircuits : (Route → Action) → Past → (Known → Bool) → List Route → Past
+partedCircuits f h q rs = record {
   head = h .head;
   active = λ j. h .active j && not (q (h .known j));
   known = h .known;
   opens = h .opens;
   book = h .book;
-  out = keep (non (goneCircuit h q)) (h .out) ++ map (heard (h .known)) rs;
+  out = keep (non (goneCircuit h q)) (h .out) ++ map f rs;
 }
 
-module _ (n : Notice) (Q : RelayCircuit → Bool) (q : Known → Bool) (same-q : (x : RelayCircuit) (k : Known) → Agrees x k → Q x ≡ q k) (u : World) where
+module _ (qo : Asked → Bool) (T : ℕ → Asked → Bool) (n : Notice) (Q : RelayCircuit → Bool) (q : Known → Bool) (same-q : (x : RelayCircuit) (k : Known) → Agrees x k → Q x ≡ q k)
+    (f : Route → Action) (u : World) where
   abbrev Going : World → Past → Type 0
-  Going w h = Keeps (λ i. q (h .known i)) u w h
+  Going w h = Keeps (λ i. q (h .known i)) u w h × Labelled qo q T f h
 
-  none-circuit : (h : Past) → ((i : ℕ) → h .active i ≡ true → q (h .known i) ≡ false) → partedCircuits h q [] ≡ h
+  none-circuit : (h : Past) → ((i : ℕ) → h .active i ≡ true → q (h .known i) ≡ false) → partedCircuits f h q [] ≡ h
   none-circuit h free = λ i. record {
     head = h .head;
     active = λ j. none-ends placed q (h .active) (h .known) free j i;
@@ -125,7 +127,7 @@ module _ (n : Notice) (Q : RelayCircuit → Bool) (q : Known → Bool) (same-q :
   }
 
   more-circuit : (w : World) (h : Past) (m : ℕ) (rs : List Route) → Going w h → h .active m ≡ true → q (h .known m) ≡ true
-      → partedCircuits (emit (circuitEnded h m) (revokeCircuit n w m .routes)) q rs ≡ partedCircuits h q (revokeCircuit n w m .routes ++ rs)
+      → partedCircuits f (emit (circuitEnded h m) f (revokeCircuit n w m .routes)) q rs ≡ partedCircuits f h q (revokeCircuit n w m .routes ++ rs)
   more-circuit w h m rs K a s = λ i. record {
     head = h .head;
     active = λ j. one-ends placed q (h .active) (h .known) m a s j i;
@@ -135,28 +137,28 @@ module _ (n : Notice) (Q : RelayCircuit → Bool) (q : Known → Bool) (same-q :
     out = outs i;
   }
     where
-      f : Route → Action
-      f = heard (h .known)
-
-      outs : partedCircuits (emit (circuitEnded h m) (revokeCircuit n w m .routes)) q rs .out ≡ partedCircuits h q (revokeCircuit n w m .routes ++ rs) .out
-      outs = one-goes placed q (h .active) (h .known) m a s (h .out) (map f (revokeCircuit n w m .routes)) (map f rs) (circuit-about (h .known) n w m) ∙ ap
+      outs : partedCircuits f (emit (circuitEnded h m) f (revokeCircuit n w m .routes)) q rs .out ≡ partedCircuits f h q (revokeCircuit n w m .routes ++ rs) .out
+      outs = one-goes placed q (h .active) (h .known) m a s (h .out) (map f (revokeCircuit n w m .routes)) (map f rs) (circuit-about n w m (quiet-to (K .1) n w m (K .0 .full) a s)) ∙ ap
           (λ l. keep (non (goneCircuit h q)) (h .out) ++ l) (sym (map-append f (revokeCircuit n w m .routes) rs))
 
   pub walk-circuits : (p : RelayCircuit → Bool) → ((x : RelayCircuit) → p x ≡ (x .used && Q x)) → (w : World) (h : Past) → Going w h
-      → Keeps (λ i. q (h .known i)) u (walk circuitId circuitTable p (revokeCircuit n) w .world) (partedCircuits h q (walk circuitId circuitTable p
+      → Keeps (λ i. q (h .known i)) u (walk circuitId circuitTable p (revokeCircuit n) w .world) (partedCircuits f h q (walk circuitId circuitTable p
       (revokeCircuit n) w .routes))
   unfolding circuitAt
   walk-circuits p same w h K = walked circuitKeys (λ i j. refl) Q q same-q circuitTable (revokeCircuit n) Going (λ h. h .active) (λ h. h .known)
-      (λ h m rs. emit (circuitEnded h m) rs) (λ h rs. partedCircuits h q rs) (λ h rs. Unit {0})
-      (λ w h K. K .full .circs)
-      (λ w h m K a s. revoke-circuit n w h m (λ i. q (h .known i)) (λ i t e. t) K a)
-      (λ w h m K a. circuit-ended n w h m (K .full) a ∙ circuit-table w h (K .full) m)
-      (λ h m rs i. refl) (λ h m rs. refl) none-circuit more-circuit (λ h. tt) (λ w h m rs K a j. tt) p same w h K .0
+      (λ h m rs. emit (circuitEnded h m) f rs) (λ h rs. partedCircuits f h q rs) (λ h rs. Unit {0})
+      (λ w h K. K .0 .full .circs)
+      (λ w h m K a s. (
+        revoke-circuit n w h m (λ i. q (h .known i)) (λ i t e. t) (quiet-to (K .1) n w m (K .0 .full) a s) (K .0) a,
+        still-labelled (K .1) (at m false (h .active)) (h .opens .standing) _ (at-false m (h .active)) (λ i x. x),
+      ))
+      (λ w h m K a. circuit-ended n w h m (K .0 .full) a ∙ circuit-table w h (K .0 .full) m)
+      (λ h m rs i. refl) (λ h m rs. refl) none-circuit more-circuit (λ h. tt) (λ w h m rs K a s j. tt) p same w h K .0 .0
 
 -- ---- both
-both-path : (h : Past) (qo : Asked → Bool) (qc : Known → Bool) (r rs : List Route) → count (activeOn h) (map (heard (h .known)) r) ≡ 0
-    → partedCircuits (partedOpens h qo r) qc rs ≡ revoked h qo qc (r ++ rs)
-both-path h qo qc r rs z = λ i. record {
+both-path : (told : Route → ℕ) (h : Past) (qo : Asked → Bool) (qc : Known → Bool) (r rs : List Route) → count (activeOn h) (map (heard told) r) ≡ 0
+    → partedCircuits (heard told) (partedOpens (heard told) h qo r) qc rs ≡ revoked h qo qc told (r ++ rs)
+both-path told h qo qc r rs z = λ i. record {
   head = h .head;
   active = λ j. h .active j && not (qc (h .known j));
   known = h .known;
@@ -166,7 +168,7 @@ both-path h qo qc r rs z = λ i. record {
 }
   where
     f : Route → Action
-    f = heard (h .known)
+    f = heard told
 
     stays : List Action
     stays = keep (non (goneOpen h qo)) (h .out)
@@ -185,29 +187,33 @@ both-path h qo qc r rs z = λ i. record {
         off true y e = absurd (false≢true e)
         off false y e = refl
 
-    outs : partedCircuits (partedOpens h qo r) qc rs .out ≡ revoked h qo qc (r ++ rs) .out
+    outs : partedCircuits f (partedOpens f h qo r) qc rs .out ≡ revoked h qo qc told (r ++ rs) .out
     outs = ap (λ l. l ++ map f rs) (keep-append (non (goneCircuit h qc)) stays (map f r) ∙ ap
         (λ l. keep (non (goneCircuit h qc)) stays ++ l) (keep-whole (non (goneCircuit h qc)) (non (activeOn h)) (map f r) idle unmoved))
         ∙ append-assoc (keep (non (goneCircuit h qc)) stays) (map f r) (map f rs) ∙ ap (λ l. keep (non (goneCircuit h qc)) stays ++ l) (sym (map-append f r rs))
 
-pub revoke-all : {S : ℕ → Bool} {u : World} (w : World) (h : Past) (end : World → ℕ → Sent) → EndsOne end → (n : Notice)
+pub revoke-all : {S : ℕ → Bool} {u : World} (T : ℕ → Asked → Bool) (told : Route → ℕ) (w : World) (h : Past) (end : World → ℕ → Sent) (n : Notice)
     → (p : RelayPending → Bool) (Q : RelayPending → Bool) (qo : Asked → Bool) → ((x : RelayPending) → p x ≡ (x .used && Q x)) → ((x : RelayPending)
     (k : Asked) → AgreesP x k → Q x ≡ qo k)
     → (c : RelayCircuit → Bool) (C : RelayCircuit → Bool) (qc : Known → Bool) → ((x : RelayCircuit) → c x ≡ (x .used && C x)) → ((x : RelayCircuit)
     (k : Known) → Agrees x k → C x ≡ qc k)
-    → ((i : ℕ) → S i ≡ true → h .active i ≡ true → qc (h .known i) ≡ true) → Keeps S u w h
-    → Keeps none u (revokeAll end p (revokeCircuit n) c w .world) (revoked h qo qc (revokeAll end p (revokeCircuit n) c w .routes))
+    → ((i : ℕ) → S i ≡ true → h .active i ≡ true → qc (h .known i) ≡ true) → EndsOne qo T end → Labelled qo qc T (heard told) h → Keeps S u w h
+    → Keeps none u (revokeAll end p (revokeCircuit n) c w .world) (revoked h qo qc told (revokeAll end p (revokeCircuit n) c w .routes))
 unfolding revokeAll
-revoke-all {S} {u} w h end E n p Q qo ep sp c C qc ec sc sus K =
-    let a = walk-pending end E Q qo sp S u p ep w h K in
+revoke-all {S} {u} T told w h end n p Q qo ep sp c C qc ec sc sus E L K =
+    let f = heard told in
+    let a = walk-pending qc T Q qo sp end E f S u p ep w h (K, L) in
     let first = walk pendingId pendingTable p end w in
-    let g = partedOpens h qo (first .routes) in
-    let b = walk-circuits n C qc sc u c ec (first .world) g (record {
-      full = suspending (λ j s t. split (S j) (λ x. clash (sus j x t) s) (λ x. x)) (a .0 .full);
-      rest = a .0 .rest;
-    }) in
+    let g = partedOpens f h qo (first .routes) in
+    let b = walk-circuits qo T n C qc sc f u c ec (first .world) g (
+      record {
+        full = suspending (λ j s t. split (S j) (λ x. clash (sus j x t) s) (λ x. x)) (a .0 .0 .full);
+        rest = a .0 .0 .rest;
+      },
+      a .0 .1,
+    ) in
     let second = walk circuitId circuitTable c (revokeCircuit n) (first .world) in
-    subst (λ k. Keeps none u (second .world) k) (both-path h qo qc (first .routes) (second .routes) (a .1)) (record {
+    subst (λ k. Keeps none u (second .world) k) (both-path told h qo qc (first .routes) (second .routes) (a .1)) (record {
       full = suspending
           (λ j s t. not-true (qc (h .known j)) (both (h .active j) (not (qc (h .known j))) t .1)) (b .full);
       rest = b .rest;

@@ -34,11 +34,11 @@ use Rattle.hnsr_circuit.specs.Laws.Peer.{same-names, names-same}
 use Rattle.hnsr_circuit.specs.Laws.Answers.{then-taken, check-taken}
 use Rattle.hnsr_circuit.specs.Laws.Keyed.{same-comm}
 use Rattle.hnsr_run.specs.Past.{Known, Book, Action, Past, peerOn, isData, onCircuit, toward, towardSide, weight, without, withBook, movedTo, lives, unmade}
-use Rattle.hnsr_run.specs.History.{askedSide, knownSide, askedUnder, knownUnder, askedOver, knownOver, after}
+use Rattle.hnsr_run.specs.History.{askedSide, knownSide, about, aboutClose, askedUnder, knownUnder, askedOver, knownOver, after}
 use Rattle.hnsr_run.specs.Run.Actions.{drop-acts}
 use Rattle.hnsr_run.specs.Run.Circuits.{stray, sideTo, none, suspend, drop-queue}
 use Rattle.hnsr_run.specs.Run.Full.{Full, Keeps, rest-same}
-use Rattle.hnsr_run.specs.Run.Ends.{revoking, disconnecting}
+use Rattle.hnsr_run.specs.Run.Ends.{byError, byClose, labelled, labelled-close, revoking, disconnecting}
 use Rattle.hnsr_run.specs.Run.Revocations.{revoke-all}
 use Rattle.hnsr_run.specs.Run.Books.{Books, usageKeys, lapse-books, unmake-books}
 use Rattle.hnsr_run.specs.Run.Rel.{Live, Rel, proceed-cases, if-taken, shrink, moved-rel, reledger, heads-rest}
@@ -100,11 +100,11 @@ unfolding disconnect disconnectPeer revokeAll pendingOf circuitOf
 disconnect-keeps {w} {h} R peer room = proceed-cases
     (λ (o : Outcome). Rel (o .world) (after h (callDisconnect peer room) (o .answer) (o .routes))) w (roomAnswer w room (revokingWords w) then peerAnswer
     (length peer)) (disconnectPeer w (peerOf peer))
-    (λ e. shrink R _ _ _ (revoke-all (withoutActionsToward w p) (without h (toward p)) (disconnectPending p) (disconnecting p) PeerDisconnected
+    (λ e. shrink R _ _ _ (revoke-all (byClose p) (aboutClose p h) (withoutActionsToward w p) (without h (toward p)) (disconnectPending p) PeerDisconnected
     (pendingOf p) (λ x. samePeer (x .requester) p || samePeer (x .endpoint) p) (askedSide p) (λ x. refl)
     (λ x k A i. samePeer (A .requester i) p || samePeer (A .endpoint i) p)
     (circuitOf p) (isSide p) (knownSide p) (λ x. refl) (λ x k A i. samePeer (A .requester i) p || samePeer (A .endpoint i) p)
-    (λ i s a. s) (toward-keeps w h p (R .base .full)))
+    (λ i s a. s) (disconnecting p) (labelled-close p (without h (toward p)) (R .base .names)) (toward-keeps w h p (R .base .full)))
     (λ i. less (h .active) (λ j. not (knownSide p (h .known j))) i) (λ i. less (h .opens .standing) (λ j. not (askedSide p (h .opens .asked j))) i))
     (λ e f. if-taken (λ (g : Past). Rel w g) e _ h R)
   where
@@ -124,12 +124,11 @@ pub revoke-keeps : {w : World} {h : Past} → Rel w h → (id : ReservationId) (
 unfolding revokeReservation revokeUnder revokeAll pendingUnder circuitUnder
 revoke-keeps {w} {h} R id room = proceed-cases (λ (o : Outcome). Rel (o .world) (after h (callRevokeReservation id room) (o .answer) (o .routes))) w
     (roomAnswer w room (revokingWords w)) (revokeUnder w id)
-    (λ e. let K = revoke-all (withoutUsage w id) (withBook h (unmade (h .book) id)) (revokePending ReservationRevoked)
-    (revoking ReservationRevoked) ReservationRevoked
+    (λ e. let K = revoke-all byError (about h) (withoutUsage w id) (withBook h (unmade (h .book) id)) (revokePending ReservationRevoked) ReservationRevoked
     (pendingUnder id) (λ x. sameReservation (x .ticket .«reservation_id») id) (askedUnder id) (λ x. refl)
     (λ x k A i. sameReservation (A .ticket i .«reservation_id») id)
     (circuitUnder id) (λ x. sameReservation (x .«reservation_id») id) (knownUnder id) (λ x. refl) (λ x k A i. sameReservation (A .reservation i) id)
-    (λ i s a. absurd (false≢true s)) (record { full = R .base .full; rest = rest-same (withoutUsage w id) }) in
+    (λ i s a. absurd (false≢true s)) (revoking (askedUnder id) ReservationRevoked) (labelled (askedUnder id) (knownUnder id) (withBook h (unmade (h .book) id)) (R .base .names)) (record { full = R .base .full; rest = rest-same (withoutUsage w id) }) in
     record {
       base = record {
         full = K .full;
@@ -168,9 +167,9 @@ expire-keeps {w} {h} R now room = proceed-cases (λ (o : Outcome). Rel (o .world
     (w .header .«trusted_time_high_water») now) e .1) in
     let R₁ = moved-rel R now (omega (arith, R .base .heads .clock)) in
     let R₂ = reledger R₁ (lapsed now (w .ledger)) (lapse-books (R₁ .base .books)) in
-    shrink R₂ _ _ _ (revoke-all (withoutLapsed (atTime w now) now) (movedTo h now) (revokePending AcceptanceExpired) (revoking AcceptanceExpired) TicketExpired
+    shrink R₂ _ _ _ (revoke-all byError (about h) (withoutLapsed (atTime w now) now) (movedTo h now) (revokePending AcceptanceExpired) TicketExpired
     (pendingOver now) (overdue now) (askedOver now) (λ x. refl) (λ x k A i. leb (A .deadline i) now || leb (A .ticket i .«expires_at») now)
     (circuitOver now) (λ x. leb (x .«expires_at») now) (knownOver now) (λ x. refl) (λ x k A i. leb (A .expires i) now)
-    (λ i s a. absurd (false≢true s)) (record { full = R₂ .base .full; rest = rest-same (withoutLapsed (atTime w now) now) }))
+    (λ i s a. absurd (false≢true s)) (revoking (askedOver now) AcceptanceExpired) (labelled (askedOver now) (knownOver now) (movedTo h now) (R .base .names)) (record { full = R₂ .base .full; rest = rest-same (withoutLapsed (atTime w now) now) }))
     (λ i. less (h .active) (λ j. not (knownOver now (h .known j))) i) (λ i. less (h .opens .standing) (λ j. not (askedOver now (h .opens .asked j))) i))
     (λ e f. if-taken (λ (g : Past). Rel w g) e _ h R)

@@ -8,7 +8,7 @@ use lib.Dec.{ltb, eqb}
 use lib.ListN.{length}
 use borrow.Author.Tests.{eqb-true, le-ltb, ltb-true, not-false, not-true}
 use Rattle.hns_encoding.specs.Numbers.{top}
-use Rattle.hns_encoding.specs.Laws.Tests.{choose, both, or-none}
+use Rattle.hns_encoding.specs.Laws.Tests.{choose, or-none}
 use Rattle.hnsr_body.specs.declared.error.Checked.the-variants.{Ok, Err}
 use Rattle.hnsr_body.specs.declared.error.HnsrInvalid.the-variants.{ContextZero}
 use Rattle.hnsr_body.specs.declared.error.HnsrProtocolError.the-variants.{Invalid, TooLarge}
@@ -99,7 +99,8 @@ check-refused false x e h = sym (unlike h)
     unlike k = cc
 
 module _ {w : World} {h : Past} (R : Rel w h) (H : Places w) (low : sequenceOf w < top 64) (q : Packet) (clock : h .head .clock ≡ q .now)
-    (context : q .opcode ≡ opOpen → eqb (q .context) 0 ≡ false) (limit : q .opcode ≡ opOpen → q .admission .ticket .«max_total_bytes» < top 64) where
+    (context : q .opcode ≡ opOpen → eqb (q .context) 0 ≡ false) (limit : q .opcode ≡ opOpen → q .admission .admitted ≡ true
+    → q .admission .ticket .«max_total_bytes» < top 64) where
   dispatched : h .head .enabled ≡ true
       → let o = dispatch (handlingOf (q .opcode)) w q in Rel (o .world) (handledAs (handlingOf (q .opcode)) q (o .answer) (o .routes) h)
   unfolding dispatch
@@ -122,12 +123,12 @@ module _ {w : World} {h : Past} (R : Rel w h) (H : Places w) (low : sequenceOf w
       (λ e f. if-not (λ (g : Past). Rel w g) (h .head .enabled) _ h (sym (R .base .heads .enabled)
       ∙ not-true (w .header .enabled) (check-refused (not (w .header .enabled)) Disabled e f)) R)
 
-open-limit : (q : Packet) (room : ℕ) → limitsBelow (callHandle q room) ≡ true → q .opcode ≡ opOpen → q .admission .ticket .«max_total_bytes» < top 64
-open-limit q room l e =
-    let a = ltb (q .admission .ticket .«max_bytes_per_circuit») (top 64) in
+open-limit : (q : Packet) (room : ℕ) → limitsBelow (callHandle q room) ≡ true → q .opcode ≡ opOpen → q .admission .admitted ≡ true
+    → q .admission .ticket .«max_total_bytes» < top 64
+open-limit q room l e g =
     let b = ltb (q .admission .ticket .«max_total_bytes») (top 64) in
-    let k : (not (eqb opOpen opOpen) || (a && b)) ≡ true = subst (λ n. (not (eqb n opOpen) || (a && b)) ≡ true) e l in
-    ltb-true (q .admission .ticket .«max_total_bytes») (top 64) (both a b k .1)
+    ltb-true (q .admission .ticket .«max_total_bytes») (top 64) (subst (λ u. (not (eqb opOpen opOpen && u) || b) ≡ true) g (subst
+    (λ n. (not (eqb n opOpen && q .admission .admitted) || b) ≡ true) e l))
 
 handle-keeps : {w : World} {h : Past} → Rel w h → Places w → sequenceOf w < top 64 → (q : Packet) (room : ℕ) → limitsBelow (callHandle q room) ≡ true
     → let o = handle w q room in Rel (o .world) (handleIn q room (o .answer) (o .routes) h)

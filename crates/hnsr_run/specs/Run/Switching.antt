@@ -23,11 +23,11 @@ use Rattle.hnsr_circuit.specs.Revocation.{revokePending, revokeAll}
 use Rattle.hnsr_circuit.specs.RevokingCalls.{changes, changeAnswer, switched, switchTo, replaceEnabled}
 use Rattle.hnsr_circuit.specs.Call.{callReplaceEnabled}
 use Rattle.hnsr_circuit.specs.Laws.Marks.{clear-total, clear-length}
-use Rattle.hnsr_run.specs.Past.{Action, Past, emit}
-use Rattle.hnsr_run.specs.History.{taken, everyOpen, everyCircuit, revoked, switchedTo, enableIn, after}
+use Rattle.hnsr_run.specs.Past.{Action, Past, heard, emit}
+use Rattle.hnsr_run.specs.History.{taken, everyOpen, everyCircuit, about, revoked, switchedTo, enableIn, after}
 use Rattle.hnsr_run.specs.Run.Actions.{Acts, view, inUse}
 use Rattle.hnsr_run.specs.Run.Full.{rest-same, suspending}
-use Rattle.hnsr_run.specs.Run.Ends.{revoking}
+use Rattle.hnsr_run.specs.Run.Ends.{byError, labelled, revoking}
 use Rattle.hnsr_run.specs.Run.Revocations.{revoke-all}
 use Rattle.hnsr_run.specs.Run.Rel.{Base, Rel, proceed-cases, if-taken, shrink-base}
 use Rattle.hnsr_run.specs.Run.Revoking.{less}
@@ -87,13 +87,13 @@ on-keeps {w} {h} R off = let B = switched-base R true in record {
   quietP = λ e. absurd (true≢false e);
 }
 
-off-keeps : {w : World} {h : Past} → Rel w h → let o = switchTo w false in Rel (o .world) (revoked (switchedTo h false) everyOpen everyCircuit (o .routes))
+off-keeps : {w : World} {h : Past} → Rel w h → let o = switchTo w false in Rel (o .world) (revoked (switchedTo h false) everyOpen everyCircuit (about h) (o .routes))
 unfolding switchTo revokeAll isPending isCircuit
 off-keeps {w} {h} R = let B = switched-base R false in
-    let K = revoke-all (switched w false) (switchedTo h false) (revokePending RelayDisabled) (revoking RelayDisabled) RelayDisabled
+    let K = revoke-all byError (about h) (switched w false) (switchedTo h false) (revokePending RelayDisabled) RelayDisabled
     isPending (λ x. true) everyOpen (λ x. sym (and-true (x .used))) (λ x k A. refl)
     isCircuit (λ x. true) everyCircuit (λ x. sym (and-true (x .used))) (λ x k A. refl)
-    (λ i s a. refl) (record { full = B .full; rest = rest-same (switched w false) }) in
+    (λ i s a. refl) (revoking everyOpen RelayDisabled) (labelled everyOpen everyCircuit (switchedTo h false) (R .base .names)) (record { full = B .full; rest = rest-same (switched w false) }) in
     record {
       base = shrink-base B _ _ _ K (λ i. less (h .active) (λ j. not true) i) (λ i. less (h .opens .standing) (λ j. not true) i);
       quiet = λ e j. and-false (h .active j);
@@ -112,7 +112,7 @@ switch-keeps : {w : World} {h : Past} → Rel w h → (on : Bool) → Bool·beq 
 unfolding switchTo revokeAll
 switch-keeps {w} {h} R true e = (subst (λ b. Rel (switched w true) (cond b h (switchedTo h true))) (sym e) (on-keeps R (beq-false (h .head .enabled) e)), refl)
 switch-keeps {w} {h} R false e = (
-  subst (λ b. Rel (switchTo w false .world) (cond b h (revoked (switchedTo h false) everyOpen everyCircuit
+  subst (λ b. Rel (switchTo w false .world) (cond b h (revoked (switchedTo h false) everyOpen everyCircuit (about h)
       (switchTo w false .routes)))) (sym e) (off-keeps R),
   refl,
 )
@@ -125,7 +125,7 @@ replace-keeps {w} {h} R expected on room = proceed-cases P w (roomAnswer w room 
     (λ e. choose P (changes w on) (switchTo w on) (done w [])
     (λ c. let s = switch-keeps R on (ap (λ b. Bool·beq b on) (sym (R .base .heads .enabled)) ∙ not-true (Bool·beq (w .header .enabled) on) c) in
     subst (λ a. Rel (switchTo w on .world) (cond (taken a) (enableIn on (switchTo w on .routes) h) h)) (sym (s .1)) (s .0))
-    (λ c. subst (λ b. Rel w (cond b h (cond on (emit (switchedTo h on) []) (revoked (switchedTo h on) everyOpen everyCircuit [])))) (sym (ap
+    (λ c. subst (λ b. Rel w (cond b h (cond on (emit (switchedTo h on) (heard (λ r. r .context)) []) (revoked (switchedTo h on) everyOpen everyCircuit (about h) [])))) (sym (ap
     (λ b. Bool·beq b on) (sym (R .base .heads .enabled)) ∙ beq-off (w .header .enabled) on c)) R))
     (λ e f. if-taken (λ (g : Past). Rel w g) e _ h R)
   where

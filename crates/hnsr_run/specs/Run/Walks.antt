@@ -94,8 +94,8 @@ module _ {A K : Type 0} (X : Keys A ℕ K) (by : (i j : ℕ) → eqb i j ≡ X .
       (none : (h : Past) → ((i : ℕ) → st h i ≡ true → q (kn h i) ≡ false) → swept h [] ≡ h)
       (more : (w : World) (h : Past) (m : ℕ) (rs : List Route) → I w h → st h m ≡ true → q (kn h m) ≡ true
       → swept (fin h m (end w m .routes)) rs ≡ swept h (end w m .routes ++ rs))
-      (J-none : (h : Past) → J h []) (J-more : (w : World) (h : Past) (m : ℕ) (rs : List Route) → I w h → st h m ≡ true → J (fin h m (end w m .routes)) rs
-      → J h (end w m .routes ++ rs)) where
+      (J-none : (h : Past) → J h []) (J-more : (w : World) (h : Past) (m : ℕ) (rs : List Route) → I w h → st h m ≡ true → q (kn h m) ≡ true
+      → J (fin h m (end w m .routes)) rs → J h (end w m .routes ++ rs)) where
     abbrev goes : ℕ → Walked → World → Sent
     goes turns c w = walkFrom (X .key) table (having X by Q) end turns c w
 
@@ -146,7 +146,7 @@ module _ {A K : Type 0} (X : Keys A ℕ K) (by : (i j : ℕ) → eqb i j ≡ X .
             let r = ih N (end w m .world) (fin h m rs) R₁ l₁ b₁ in (
               subst (λ g. I (goes turns N (end w m .world) .world) g) (more w h m (goes turns N (end w m .world) .routes) R a s) (r .0),
               J-more w h m (goes turns N
-                  (end w m .world) .routes) R a (r .1),
+                  (end w m .world) .routes) R a s (r .1),
             )
 
     pub walked : (p : A → Bool) → ((a : A) → p a ≡ having X by Q a) → (w : World) (h : Past) → I w h

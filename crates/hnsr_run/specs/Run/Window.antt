@@ -23,29 +23,28 @@ use Rattle.hnsr_circuit.specs.Queue.{Message, opData, opWindow, sequenceOf, que
 use Rattle.hnsr_circuit.specs.Packet.{Packet, sender, hasCircuit, namedCircuit, circuitAnswer, receiver, forwarded}
 use Rattle.hnsr_circuit.specs.Window.{creditAnswer, withWindow, windowTaken, windowWith, handleWindow}
 use Rattle.hnsr_circuit.specs.Laws.Answers.{then-taken}
-use Rattle.hnsr_run.specs.Past.{Known, Past, at, kindFor, emit, learnt}
-use Rattle.hnsr_run.specs.History.{granted, windowIn}
+use Rattle.hnsr_run.specs.Past.{Known, Past, at, kindFor, heard, emit, learnt}
+use Rattle.hnsr_run.specs.History.{sideIn, granted, windowIn}
 use Rattle.hnsr_run.specs.Run.Actions.{room-of}
 use Rattle.hnsr_run.specs.Run.Circuits.{none}
 use Rattle.hnsr_run.specs.Run.Full.{Full, Quiet, queue-full}
 use Rattle.hnsr_run.specs.Run.InPlace.{only-one, agreed, place-circuit, looked, resume-at, raised-at, raise-agrees, granted-peers}
-use Rattle.hnsr_run.specs.Run.DataRows.{known-rel, named-active, side-same}
+use Rattle.hnsr_run.specs.Run.DataRows.{named-side, known-rel, named-active, side-same}
 use Rattle.hnsr_run.specs.Run.Rel.{Rel, proceed-cases, if-taken, can-queue, send-taken}
 
 -- a packet that is passed on, and is no DATA
-pub quiet-forwarded : (kn : ℕ → Known) (q : Packet) (c : RelayCircuit) (kind : InflightKind) (n : ℕ) → q .opcode ≡ n → eqb n opData ≡ false
-    → kindFor n ≡ kindNumber kind → eqb (kindNumber kind) (kindNumber Data) ≡ false → Quiet kn (forwarded q c kind)
-quiet-forwarded kn q c kind n op no-data is-kind plain = record {
+pub quiet-forwarded : (q : Packet) (c : RelayCircuit) (kind : InflightKind) (j n : ℕ) → j ≡ q .context → q .opcode ≡ n → kindFor n ≡ kindNumber kind
+    → eqb (kindNumber kind) (kindNumber Data) ≡ false → Quiet (heard (λ r. j)) (forwarded q c kind)
+quiet-forwarded q c kind j n on op is-kind plain = record {
   plain = plain;
   same = λ g s i. record {
     generation = g;
     sequence = s;
-    circuit = q .context;
+    circuit = on i;
     destination = receiver c (sender q);
     kind = (ap kindFor op ∙ is-kind) i;
-    toEndpoint = (ap (λ x. eqb x opData && samePeer (kn (q .context) .endpoint) (receiver c (sender q))) op ∙ ap
-        (λ b. b && samePeer (kn (q .context) .endpoint) (receiver c (sender q))) no-data) i;
-    bytes = (ap (λ x. cond {A = ℕ} (eqb x opData) (length (q .body)) 0) op ∙ ap (λ b. cond {A = ℕ} b (length (q .body)) 0) no-data) i;
+    toEndpoint = false;
+    bytes = 0;
   };
 }
 
@@ -75,12 +74,12 @@ module _ {w : World} {h : Past} (R : Rel w h) (q : Packet) (op : q .opcode ≡ o
   unfolding withWindow
   can = send-taken _ passed (can-queue passed _ (R .base .full .real (q .context) active) low room)
 
-  rel : Rel (queued passed (withWindow w (q .context) side n)) (emit (learnt h (q .context) (granted side n (h .known (q .context)))) (routed passed (withWindow w
+  rel : Rel (queued passed (withWindow w (q .context) side n)) (emit (learnt h (q .context) (granted side n (h .known (q .context)))) (heard (λ r. q .context)) (routed passed (withWindow w
       (q .context) side n) ∷ []))
   unfolding queued withWindow
   rel = known-rel R (queued passed (withWindow w (q .context) side n)) (q .context) (granted side n (h .known (q .context))) (h .book .spent) _
-      (queue-full (withWindow w (q .context) side n) (learnt h (q .context) (granted side n (h .known (q .context)))) passed wider (quiet-forwarded _ q
-      (namedCircuit w q) Control opWindow op refl refl refl) (room-of (configOf w) (q .context) (receiver (namedCircuit w q) (sender q)) (w .inflight) room))
+      (queue-full (withWindow w (q .context) side n) (learnt h (q .context) (granted side n (h .known (q .context)))) passed wider (quiet-forwarded q
+      (namedCircuit w q) Control (q .context) opWindow refl op refl refl) (room-of (configOf w) (q .context) (receiver (namedCircuit w q) (sender q)) (w .inflight) room))
       (R .base .books) (same-res side) (same-exp side) (record {
         generation = R .base .heads .generation;
         enabled = R .base .heads .enabled;
@@ -109,9 +108,11 @@ window-keeps {w} {h} R low q op = proceed-cases P w (windowTaken w q c side n) (
     let active = named-active R q c (a .0) in
     let v = withWindow w j side n in
     subst P (sym (can R q op low side n active room))
-    (subst (λ (s : RelaySide). Rel (queued (forwarded q c Control) v) (emit (learnt h j (granted s n (h .known j))) (routed (forwarded q c Control) v ∷ [])))
+    (subst (λ b. Rel (queued (forwarded q c Control) v) (emit (learnt h j (cond b (granted (sideIn (sender q) (h .known j)) n (h .known j)) (h .known j))) (heard (λ r. j))
+    (routed (forwarded q c Control) v ∷ []))) (sym (named-side w q (agreed (R .base .full) j active) (a .0)))
+    (subst (λ (s : RelaySide). Rel (queued (forwarded q c Control) v) (emit (learnt h j (granted s n (h .known j))) (heard (λ r. j)) (routed (forwarded q c Control) v ∷ [])))
     (side-same q (agreed (R .base .full) j active))
-    (rel R q op low side n active room)))
+    (rel R q op low side n active room))))
     (λ e f. if-taken (λ (g : Past). Rel w g) e _ h R)
   where
     P : Outcome → Type 0

@@ -1,0 +1,115 @@
+-- What the wrong machines are made of: the relay with one call replaced; and the runs that refute them.
+use Prim.Native.Nat.{ℕ}
+use native.Mathlib.Omega.{arith}
+use mathlib.Core.Path.{_≡_, ap, _∙_}
+use mathlib.Core.Bool.{Bool, true, _&&_}
+use mathlib.Core.List.{List, [], _∷_, _++_}
+use lib.Dec.{eqb, leb, ltb}
+use lib.ListN.{length}
+use borrow.Author.Tests.{eqb-true, leb-true, ltb-true}
+use Rattle.hns_encoding.specs.Laws.Tests.{both}
+use Rattle.hnsr_body.specs.Data.{mostData}
+use Rattle.hnsr_circuit.specs.declared.answer.HnsrAnswer.{HnsrAnswer}
+use Rattle.hnsr_circuit.specs.declared.answer.HnsrAnswer.the-variants.{Taken}
+use Rattle.hnsr_circuit.specs.declared.records.RelaySide.{RelaySide}
+use Rattle.hnsr_circuit.specs.Answers.{_then_}
+use Rattle.hnsr_circuit.specs.Peer.{peerGood, samePeer}
+use Rattle.hnsr_circuit.specs.World.{World, Outcome, Told, silent, statusIs, dueIs}
+use Rattle.hnsr_circuit.specs.Queue.{opData}
+use Rattle.hnsr_circuit.specs.Entry.{handleWords, clockAnswer}
+use Rattle.hnsr_circuit.specs.Handle.{entryAnswer}
+use Rattle.hnsr_circuit.specs.Packet.{Packet, sender}
+use Rattle.hnsr_circuit.specs.Call.{Call, start, step, callStatus, callNextDue, callObserveTime, callReplaceEnabled, callHandle, callAcknowledge, callDisconnect, callRevokeReservation, callExpire}
+use Rattle.hnsr_run.specs.Past.{Past, peerOn}
+use Rattle.hnsr_run.specs.History.{begin}
+use Rattle.hnsr_run.specs.Claim.{Sends, Machine, events, below, Holds, Run}
+use Rattle.hnsr_run.specs.Talk.{tables, fresh, grant, opens, accepts, sends}
+
+-- ---- the relay with one call replaced
+abbrev replacing : (World → Packet → (room : ℕ) → Outcome) → (World → (generation sequence : ℕ) → (delivered : Bool) → (room : ℕ) → Outcome)
+    → (World → Outcome) → World → Call → Outcome
+replacing handles acknowledges tells w callStatus = tells w
+replacing handles acknowledges tells w callNextDue = step w callNextDue
+replacing handles acknowledges tells w (callObserveTime now) = step w (callObserveTime now)
+replacing handles acknowledges tells w (callReplaceEnabled expected on room) = step w (callReplaceEnabled expected on room)
+replacing handles acknowledges tells w (callHandle q room) = handles w q room
+replacing handles acknowledges tells w (callAcknowledge g s delivered room) = acknowledges w g s delivered room
+replacing handles acknowledges tells w (callDisconnect peer room) = step w (callDisconnect peer room)
+replacing handles acknowledges tells w (callRevokeReservation id room) = step w (callRevokeReservation id room)
+replacing handles acknowledges tells w (callExpire now room) = step w (callExpire now room)
+
+abbrev handled : World → Packet → (room : ℕ) → Outcome
+handled w q room = step w (callHandle q room)
+
+abbrev acknowledged : World → (generation sequence : ℕ) → (delivered : Bool) → (room : ℕ) → Outcome
+acknowledged w g s delivered room = step w (callAcknowledge g s delivered room)
+
+abbrev pub handling : (World → Packet → (room : ℕ) → Outcome) → Machine
+handling f = record { new = start; step = replacing f acknowledged (λ w. step w callStatus) }
+
+abbrev pub acknowledging : (World → (generation sequence : ℕ) → (delivered : Bool) → (room : ℕ) → Outcome) → Machine
+acknowledging f = record { new = start; step = replacing handled f (λ w. step w callStatus) }
+
+abbrev pub telling-status : (World → Outcome) → Machine
+telling-status f = record { new = start; step = replacing handled acknowledged f }
+
+-- entry and clock, in front of what is replaced
+abbrev pub entering : World → Packet → (room : ℕ) → HnsrAnswer
+entering w q room = entryAnswer w q room then clockAnswer (w .header .«trusted_time_high_water») (q .now)
+
+-- ---- the runs: a circuit, whose OPENED has the number 2; then DATA of 40 bytes toward the endpoint, whose route has the number 3
+abbrev pub opened : List Call
+opened = opens 1 2 9 (7 ∷ []) (grant 5 100) 100 ∷ accepts 2 7 100 ∷ []
+
+abbrev pub talk : List Call
+talk = opened ++ (sends 1 7 40 100 ∷ [])
+
+abbrev pub run-of : (m : Machine) → m .new tables fresh .answer ≡ Taken → (calls : List Call) → below (begin fresh) 1 (events (m .step) (m .new tables fresh .world) calls) ≡ true
+    → Run m
+run-of m new-taken calls bounded = record { lent = tables; began = fresh; new-taken = new-taken; limit = omega arith; calls = calls; bounded = bounded }
+
+-- ---- the parts of the claim, for computing
+abbrev pub actionsIn : Told → ℕ
+actionsIn silent = 0
+actionsIn (statusIs s) = s .«queued_actions»
+actionsIn (dueIs d) = 0
+
+pub status-tells : (f : World → Call → Outcome) (w : World) (h : Past) → Holds f w h → actionsIn (f w callStatus .told) ≡ length (h .out)
+status-tells f w h H = ap actionsIn (H .status .2) ∙ H .status .3
+
+abbrev pub sendable : Past → (circuit : ℕ) → RelaySide → Packet → (room : ℕ) → Bool
+sendable h j side q room =
+    eqb (q .opcode) opData
+    && (eqb (q .context) j
+    && (peerGood (length (q .source))
+    && (samePeer (peerOn side (h .known j)) (sender q)
+    && (ltb 0 (length (q .body))
+    && (leb (length (q .body)) mostData
+    && (leb (length (q .body)) (h .head .config .«maximum_queue_bytes»)
+    && (leb (h .head .clock) (q .now)
+    && (ltb (q .now) (h .known j .expires)
+    && leb handleWords room))))))))
+
+pub can-send : (h : Past) (j : ℕ) (side : RelaySide) (q : Packet) (room : ℕ) → sendable h j side q room ≡ true → Sends h j side q room
+can-send h j side q room e =
+    let a = both (eqb (q .opcode) opData) _ e in
+    let b = both (eqb (q .context) j) _ (a .1) in
+    let c = both (peerGood (length (q .source))) _ (b .1) in
+    let d = both (samePeer (peerOn side (h .known j)) (sender q)) _ (c .1) in
+    let f = both (ltb 0 (length (q .body))) _ (d .1) in
+    let g = both (leb (length (q .body)) mostData) _ (f .1) in
+    let i = both (leb (length (q .body)) (h .head .config .«maximum_queue_bytes»)) _ (g .1) in
+    let k = both (leb (h .head .clock) (q .now)) _ (i .1) in
+    let l = both (ltb (q .now) (h .known j .expires)) (leb handleWords room) (k .1) in
+    record {
+      opcode = eqb-true (q .opcode) opData (a .0);
+      context = eqb-true (q .context) j (b .0);
+      named = c .0;
+      from = d .0;
+      some = ltb-true 0 (length (q .body)) (f .0);
+      fits = leb-true (length (q .body)) mostData (g .0);
+      queue = leb-true (length (q .body)) (h .head .config .«maximum_queue_bytes») (i .0);
+      forward = leb-true (h .head .clock) (q .now) (k .0);
+      unexpired = ltb-true (q .now) (h .known j .expires) (l .0);
+      words = leb-true handleWords room (l .1);
+    }

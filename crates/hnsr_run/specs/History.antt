@@ -19,10 +19,10 @@ use Rattle.hnsr_circuit.specs.declared.answer.HnsrRuntimeError.the-variants.{Sh
 use Rattle.hnsr_circuit.specs.declared.records.RelaySide.{RelaySide}
 use Rattle.hnsr_circuit.specs.declared.records.RelaySide.the-variants.{Requester, Endpoint}
 use Rattle.hnsr_circuit.specs.Answers.{errorNumber, number, check, _then_}
-use Rattle.hnsr_circuit.specs.Table.{pick, keep}
+use Rattle.hnsr_circuit.specs.Table.{any, pick, keep}
 use Rattle.hnsr_circuit.specs.Peer.{peerOf, samePeer}
 use Rattle.hnsr_circuit.specs.declared.records.InflightKind.the-variants.{Incoming, Close}
-use Rattle.hnsr_circuit.specs.Inflight.{kindNumber}
+use Rattle.hnsr_circuit.specs.Inflight.{kindNumber, capacityLeft}
 use Rattle.hnsr_circuit.specs.Route.{Route}
 use Rattle.hnsr_circuit.specs.Queue.{opError}
 use Rattle.hnsr_circuit.specs.Entry.{handleWords, peerAnswer, packetAnswer, clockAnswer}
@@ -31,7 +31,7 @@ use Rattle.hnsr_circuit.specs.Draw.{undrawn, draws, drawAll}
 use Rattle.hnsr_circuit.specs.Open.{deadlineFor}
 use Rattle.hnsr_circuit.specs.Handle.{Handling, OPEN, ACCEPT, DATA, WINDOW, CLOSE, ERROR, other, handlingOf}
 use Rattle.hnsr_circuit.specs.Call.{Start, Call, callStatus, callNextDue, callObserveTime, callReplaceEnabled, callHandle, callAcknowledge, callDisconnect, callRevokeReservation, callExpire}
-use Rattle.hnsr_run.specs.Past.{Known, Asked, Action, Past, counted, numbered, toward, heard, carriedOnce, nothing, noOne, noOpens, noBook, withHead, withBook, withOut, emit, without, movedTo, stood, unstood, openEnded, begun, learnt, circuitEnded, remade, spentBy, unmade}
+use Rattle.hnsr_run.specs.Past.{Known, Asked, Action, Past, counted, onCircuit, numbered, toward, tally, heard, carriedOnce, nothing, noOne, noOpens, noBook, withHead, withBook, withOut, emit, without, movedTo, stood, unstood, openEnded, begun, learnt, circuitEnded, remade, spentBy, unmade}
 
 pub record Event : Type 0 where
   pub call : Call
@@ -184,13 +184,22 @@ goneOpen h q a = h .opens .standing (a .circuit) && q (h .opens .asked (a .circu
 abbrev pub goneCircuit : Past → (Known → Bool) → Action → Bool
 goneCircuit h q a = h .active (a .circuit) && q (h .known (a .circuit))
 
--- what a message of the relay's own is about. ERROR goes to the requester of an OPEN under its own context; CLOSE goes under the id
+abbrev pub revoked : Past → (Asked → Bool) → (Known → Bool) → List Action → Past
+revoked h qo qc told = record {
+  head = h .head;
+  active = λ j. h .active j && not (qc (h .known j));
+  known = h .known;
+  opens = record { standing = λ j. h .opens .standing j && not (qo (h .opens .asked j)); asked = h .opens .asked; named = h .opens .named };
+  book = h .book;
+  out = keep (non (goneCircuit h qc)) (keep (non (goneOpen h qo)) (h .out)) ++ told;
+}
+
+-- ---- what a revocation says is about: ERROR, to the requester of an OPEN, goes under its own context; CLOSE goes under the id
 abbrev pub about : Past → Route → ℕ
 about h r = cond (eqb (r .opcode) opError) (h .opens .named (r .destination) (r .context)) (r .context)
 
--- on disconnect of p the requester of an OPEN hears by CLOSE too, under its own context, and one number can be such a context and an id: a peer has an
--- OPEN toward p under the number of another record that it shares with p. If then one of its two CLOSEs found no capacity, the words of the other fit
--- both records. There, and nowhere else, the route's own label is asked, and only for which of the two
+-- ---- what a disconnect of p says: of an OPEN only the other peer hears, by CLOSE, and a requester under its own context. So one number can be a context and
+-- an id: a peer has an OPEN toward p under the number of another record that it shares with p
 abbrev pub ownOpen : Past → HnsrPeerId → Route → Bool
 ownOpen h p r = byContext h (r .destination) (r .context) && samePeer (h .opens .asked (h .opens .named (r .destination) (r .context)) .endpoint) p
 
@@ -199,20 +208,39 @@ sharedId h p peer j =
     (h .active j && (knownSide p (h .known j) && knownSide peer (h .known j)))
     || (h .opens .standing j && (askedSide p (h .opens .asked j) && askedSide peer (h .opens .asked j)))
 
-abbrev pub aboutClose : HnsrPeerId → Past → Route → ℕ
-aboutClose p h r =
-    let j = h .opens .named (r .destination) (r .context) in
-    cond (ownOpen h p r && (not (sharedId h p (r .destination) (r .context)) || eqb (r .circuit) j)) j (r .context)
+-- then it is the record whose turn comes first, if its CLOSE found capacity then and was not heard yet; else the other. OPENs come before circuits, by
+-- ascending id; at the turn of the OPEN k its own actions and those of the OPENs before it are dropped, and what these said came on top
+abbrev pub atTurn : Past → HnsrPeerId → (k : ℕ) → (earlier : List Action) → List Action
+atTurn h p k earlier =
+    keep (λ a. not (goneOpen h (askedSide p) a && leb (a .circuit) k)) (h .out)
+    ++ keep (λ a. h .opens .standing (a .circuit) && ltb (a .circuit) k) earlier
 
-abbrev pub revoked : Past → (Asked → Bool) → (Known → Bool) → (about : Route → ℕ) → List Route → Past
-revoked h qo qc about rs = record {
-  head = h .head;
-  active = λ j. h .active j && not (qc (h .known j));
-  known = h .known;
-  opens = record { standing = λ j. h .opens .standing j && not (qo (h .opens .asked j)); asked = h .opens .asked; named = h .opens .named };
-  book = h .book;
-  out = keep (non (goneCircuit h qc)) (keep (non (goneOpen h qo)) (h .out)) ++ map (heard about) rs;
-}
+abbrev pub otherOf : HnsrPeerId → Asked → HnsrPeerId
+otherOf p k = cond (samePeer (k .requester) p) (k .endpoint) (k .requester)
+
+abbrev pub comes : HnsrPeerId → Past → (earlier : List Action) → (k : ℕ) → Bool
+comes p h earlier k =
+    not (any (onCircuit k) earlier)
+    && not (eqb (capacityLeft (h .head .config) (tally k (otherOf p (h .opens .asked k)) (atTurn h p k earlier))) 0)
+
+abbrev pub inTurn : HnsrPeerId → Past → (earlier : List Action) → (first last : ℕ) → ℕ
+inTurn p h earlier first last = cond (comes p h earlier first) first last
+
+abbrev pub aboutClose : HnsrPeerId → Past → (earlier : List Action) → Route → ℕ
+aboutClose p h earlier r =
+    let x = r .context in
+    let j = h .opens .named (r .destination) x in
+    cond (ownOpen h p r)
+    (cond (sharedId h p (r .destination) x)
+    (cond (h .opens .standing x && ltb x j) (inTurn p h earlier x j) (inTurn p h earlier j x))
+    j)
+    x
+
+abbrev pub heardOnLeaving : HnsrPeerId → Past → (earlier : List Action) → List Route → List Action
+heardOnLeaving p h earlier [] = []
+heardOnLeaving p h earlier (r ∷ rs) =
+    let a = heard (aboutClose p h earlier) r in
+    a ∷ heardOnLeaving p h (earlier ++ (a ∷ [])) rs
 
 abbrev pub askedUnder : ReservationId → Asked → Bool
 askedUnder r k = sameReservation (k .ticket .«reservation_id») r
@@ -241,7 +269,7 @@ enableIn on rs h =
     cond (Bool·beq (h .head .enabled) on) h
     (cond on
     (emit (switchedTo h on) (heard (λ r. r .context)) rs)
-    (revoked (switchedTo h on) everyOpen everyCircuit (about h) rs))
+    (revoked (switchedTo h on) everyOpen everyCircuit (map (heard (about h)) rs)))
 
 -- ---- handle: entry and clock; from here the clock has moved; then the gate, and the opcode picks the handling
 abbrev pub entered : Past → Packet → (room : ℕ) → HnsrAnswer
@@ -273,10 +301,11 @@ after h (callHandle q room) a rs = handleIn q room a rs h
 after h (callAcknowledge g s delivered room) a rs = acknowledgeIn g s delivered a rs h
 after h (callDisconnect peer room) a rs =
     let p = peerOf peer in
-    cond (taken a) (revoked (without h (toward p)) (askedSide p) (knownSide p) (aboutClose p h) rs) h
+    let left = without h (toward p) in
+    cond (taken a) (revoked left (askedSide p) (knownSide p) (heardOnLeaving p left [] rs)) h
 after h (callRevokeReservation id room) a rs =
-    cond (taken a) (revoked (withBook h (unmade (h .book) id)) (askedUnder id) (knownUnder id) (about h) rs) h
-after h (callExpire now room) a rs = cond (taken a) (revoked (movedTo h now) (askedOver now) (knownOver now) (about h) rs) h
+    cond (taken a) (revoked (withBook h (unmade (h .book) id)) (askedUnder id) (knownUnder id) (map (heard (about h)) rs)) h
+after h (callExpire now room) a rs = cond (taken a) (revoked (movedTo h now) (askedOver now) (knownOver now) (map (heard (about h)) rs)) h
 
 abbrev pub reckon : Past → List Event → Past
 reckon h [] = h

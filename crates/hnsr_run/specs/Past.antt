@@ -4,12 +4,14 @@ use Prim.Native.Nat.{ℕ, _+_, _-_}
 use mathlib.Core.Bool.{Bool, true, false, cond, not, _&&_}
 use mathlib.Core.List.{List, [], _∷_, _++_, map}
 use lib.Dec.{ltb, eqb}
-use Rattle.hns_encoding.specs.Sums.{only, non}
+use lib.ListN.{length}
+use Rattle.hns_encoding.specs.Sums.{only, non, count}
 use Rattle.hnsr_body.specs.declared.values.ReservationId.{ReservationId}
 use Rattle.hnsr_body.specs.Values.{sameReservation}
 use Rattle.hnsr_circuit.specs.declared.peer.HnsrPeerId.{HnsrPeerId}
 use Rattle.hnsr_circuit.specs.declared.config.OpaqueRelayConfig.{OpaqueRelayConfig}
 use Rattle.hnsr_circuit.specs.declared.records.RelayTicket.{RelayTicket}
+use Rattle.hnsr_circuit.specs.declared.records.InflightTally.{InflightTally}
 use Rattle.hnsr_circuit.specs.declared.records.RelaySide.{RelaySide}
 use Rattle.hnsr_circuit.specs.declared.records.RelaySide.the-variants.{Requester, Endpoint}
 use Rattle.hnsr_circuit.specs.Table.{keep}
@@ -127,6 +129,10 @@ towardSide Endpoint a = a .toEndpoint
 
 abbrev pub weight : ℕ → RelaySide → Action → ℕ
 weight j side a = only (λ x. isData x && (onCircuit j x && towardSide side x)) (λ x. x .bytes) a
+
+-- the three counts that the action capacity goes by: all, those of a circuit, those toward a peer
+abbrev pub tally : ℕ → HnsrPeerId → List Action → InflightTally
+tally j peer out = record { total = length out; «for_circuit» = count (onCircuit j) out; «for_peer» = count (toward peer) out }
 
 -- an action's kind is its message's name, but Control for WINDOW and Close for CLOSE and ERROR
 abbrev pub kindFor : (opcode : ℕ) → ℕ

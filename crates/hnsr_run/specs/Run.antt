@@ -9,9 +9,11 @@ pub mod Limits
 pub mod Walks
 pub mod Ends
 pub mod Revocations
+pub mod Leaving
 -- ---- the ledger, and the whole invariant
 pub mod Books
 pub mod Rel
+pub mod Disconnecting
 -- ---- each call keeps it
 pub mod Revoking
 pub mod Switching

@@ -16,16 +16,17 @@ use Rattle.hnsr_circuit.specs.declared.config.OpaqueRelayConfig.{OpaqueRelayCon
 use Rattle.hnsr_circuit.specs.declared.records.InflightAction.{InflightAction}
 use Rattle.hnsr_circuit.specs.declared.answer.HnsrAnswer.the-variants.{Taken}
 use Rattle.hnsr_circuit.specs.declared.answer.HnsrRuntimeError.the-variants.{Capacity}
-use Rattle.hnsr_circuit.specs.Table.{any, pick, put, edit, clear, keep}
-use Rattle.hnsr_circuit.specs.Inflight.{noAction, isAction, actionAt, clearAction, retained, tallied, capacityLeft, capacityAnswer}
+use Rattle.hnsr_circuit.specs.Table.{also, any, pick, put, edit, clear, keep}
+use Rattle.hnsr_circuit.specs.Inflight.{noAction, isAction, actionAt, actionUnder, actionToward, clearAction, retained, tallied, capacityLeft, capacityAnswer}
+use Rattle.hnsr_circuit.specs.Peer.{samePeer}
 use Rattle.hnsr_circuit.specs.Queue.{Message, actionFor}
-use Rattle.hnsr_circuit.specs.Laws.Totals.{total-keep, keep-le, total-also}
+use Rattle.hnsr_circuit.specs.Laws.Totals.{total-keep, keep-le, total-also, ones-length}
 use Rattle.hnsr_circuit.specs.Laws.Lookups.{count-none, total-key}
 use Rattle.hnsr_circuit.specs.Laws.Marks.{clear-total, clear-length, length-put}
 use Rattle.hnsr_circuit.specs.Laws.Edits.{edit-clear}
 use Rattle.hnsr_circuit.specs.Laws.Answers.{check-taken}
 use Rattle.hnsr_circuit.specs.Laws.Bag.{Bag, Held, held-count, held-any, queue-held}
-use Rattle.hnsr_run.specs.Past.{Action, numbered}
+use Rattle.hnsr_run.specs.Past.{Action, onCircuit, toward, numbered, tally}
 
 abbrev pub view : InflightAction → Action
 view i = record {
@@ -156,3 +157,28 @@ room-of c circuit peer t h =
     plain : (u : Bool) → cond {A = ℕ} (u && true) 1 0 ≡ cond u 1 0
     plain true = refl
     plain false = refl
+
+-- the counts of the table are those of the list
+pub tally-held : {c : OpaqueRelayConfig} {g next : ℕ} {t : List InflightAction} {out : List Action} → Acts c g next t out → (j : ℕ) (peer : HnsrPeerId)
+    → tallied false j peer t ≡ tally j peer out
+unfolding tallied actionUnder actionToward
+tally-held {t = t} {out = out} R j peer = λ i. record { total = all i; «for_circuit» = on i; «for_peer» = to i }
+  where
+    plain : (u b : Bool) → cond {A = ℕ} ((u && true) && (u && b)) 1 0 ≡ cond (u && b) 1 0
+    plain true b = refl
+    plain false b = refl
+
+    used : (u : Bool) → cond {A = ℕ} (u && true) 1 0 ≡ cond u 1 0
+    used true = refl
+    used false = refl
+
+    all : count (retained false j) t ≡ length out
+    all = total-ext (one (retained false j)) (one inUse) t (λ i. used (i .used)) ∙ R .held .same (λ a. 1) ∙ ones-length out
+
+    on : count (also (retained false j) (λ i. i .used && eqb (i .«circuit_id») j)) t ≡ count (onCircuit j) out
+    on = total-ext (one (also (retained false j) (λ i. i .used && eqb (i .«circuit_id») j))) (one (holding (onCircuit j))) t (λ i. plain (i .used) (eqb (i .«circuit_id») j))
+        ∙ held-count actions (R .held) (onCircuit j)
+
+    to : count (also (retained false j) (λ i. i .used && samePeer (i .destination) peer)) t ≡ count (toward peer) out
+    to = total-ext (one (also (retained false j) (λ i. i .used && samePeer (i .destination) peer))) (one (holding (toward peer))) t (λ i. plain (i .used) (samePeer
+        (i .destination) peer)) ∙ held-count actions (R .held) (toward peer)

@@ -1,5 +1,5 @@
 -- Every order of the outstanding actions: acknowledging each once as delivered is taken each time, and leaves nothing outstanding.
-use Prim.Native.Nat.{ℕ, _≤_, _<_}
+use Prim.Native.Nat.{ℕ, _+_, _≤_, _<_}
 use native.Mathlib.Omega.{arith}
 use mathlib.Core.Path.{_≡_, refl, sym, ap, _∙_, subst}
 use mathlib.Core.Bool.{Bool, true, false, cond, not, _&&_}
@@ -119,7 +119,8 @@ drain rooms enough (a ∷ rest) w h R H low s =
     let t = ack-taken w H g q (rooms a) e (action-found w h (R .base .full) g q ∙ f) (enough a) in
     let st = ack-step w g q (rooms a) t in
     let R₁ = shrink R (h .active) (h .opens .standing) (keep (non (numbered g q)) (h .out)) (settled-keeps w h (R .base .full) g q f) (λ i x. x) (λ i x. x) in
-    let H₁ = subst (λ (o : Outcome). Places (o .world)) st (step-both R H low (callAcknowledge g q true (rooms a)) refl .1) in
+    let H₁ = subst (λ (o : Outcome). Places (o .world)) st (step-both R H low (callAcknowledge g q true (rooms a)) refl
+    (λ same. subst (λ (o : Outcome). sequenceOf w + length (o .routes) < top 64) (sym st) (omega arith)) .1) in
     drain-one rooms a rest w (next w g q) h (numbered g q) st
     (drain rooms enough rest (next w g q) (without h (numbered g q)) R₁ H₁ (subst
     (λ n. n < top 64) (sym (next-sequence w g q)) low) (rest-ordered a rest (h .out) s (both-once (A .held) g q)))

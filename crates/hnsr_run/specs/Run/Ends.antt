@@ -1,11 +1,11 @@
 -- Revocation of one record: it ends, its actions are dropped, and its sides are told.
 use Prim.Native.Nat.{ℕ}
 use mathlib.Core.Path.{_≡_, refl, sym, ap, _∙_, subst}
-use mathlib.Core.Bool.{Bool, true, false, cond, not, _&&_, _||_, or-true}
+use mathlib.Core.Bool.{Bool, true, false, cond}
 use mathlib.Core.List.{List, map}
 use lib.Dec.{eqb}
 use borrow.Author.Tests.{eqb-true, eq-eqb}
-use Rattle.hns_encoding.specs.Laws.Tests.{choose, split, clash, both, join}
+use Rattle.hns_encoding.specs.Laws.Tests.{choose, clash, both}
 use Rattle.hns_encoding.specs.Sums.{non, count}
 use Rattle.hnsr_body.specs.declared.messages.Notice.{Notice}
 use Rattle.hnsr_circuit.specs.declared.peer.HnsrPeerId.{HnsrPeerId}
@@ -28,7 +28,7 @@ use Rattle.hnsr_circuit.specs.Laws.Lookups.{pick-has}
 use Rattle.hnsr_circuit.specs.Laws.Peer.{same-refl}
 use Rattle.hnsr_circuit.specs.Laws.Edits.{edit-clear}
 use Rattle.hnsr_run.specs.Past.{Known, Asked, Action, Past, peerOn, onCircuit, kindFor, heard, emit, openEnded, circuitEnded}
-use Rattle.hnsr_run.specs.History.{askedSide, knownSide, byContext, about, sharedId, aboutClose}
+use Rattle.hnsr_run.specs.History.{askedSide, about}
 use Rattle.hnsr_run.specs.Run.Walks.{when-cases}
 use Rattle.hnsr_run.specs.Run.Full.{AgreesP, Full, Keeps, fewer, Quiet, tell-keeps, two-tells, tell-on, two-on, tell-tables, two-tables}
 use Rattle.hnsr_run.specs.Run.Ended.{end-circuit, end-pending}
@@ -45,10 +45,6 @@ pub record Labelled (qo : Asked → Bool) (qc : Known → Bool) (T : (opcode : �
 -- a revocation: requesters hear by ERROR
 abbrev pub byError : (opcode : ℕ) → Asked → Bool
 byError opcode k = eqb opcode opError
-
--- a disconnect: requesters of OPENs toward the peer hear, by CLOSE
-abbrev pub byClose : HnsrPeerId → (opcode : ℕ) → Asked → Bool
-byClose p opcode k = samePeer (k .endpoint) p
 
 abbrev Leads : Past → Type 0
 Leads h = (j : ℕ) → h .opens .standing j ≡ true → (p : HnsrPeerId) → samePeer (h .opens .asked j .requester) p ≡ true
@@ -69,49 +65,13 @@ labelled qo qc h leads = record {
       heard-as (about h) p j opcode x n k (λ g i. ap (λ b. cond b (h .opens .named p x) x) t ∙ leads j a p (same-refl p));
 }
 
-pub labelled-close : (p : HnsrPeerId) (h : Past) → Leads h → Labelled (askedSide p) (knownSide p) (byClose p) (heard (aboutClose p h)) h
-labelled-close p h leads = record {
-  endpoint = λ j n a s. heard-as (aboutClose p h) (h .opens .asked j .endpoint) j opClose j n refl (λ g i. meant-id (h .opens .asked j .endpoint) j (shared-open j a s));
-  sides = λ j n side a s. heard-as (aboutClose p h) (peerOn side (h .known j)) j opClose j n refl (λ g i. meant-id (peerOn side (h .known j)) j (shared-circuit j side a s));
-  asker = λ j opcode n k a t. heard-as (aboutClose p h) (h .opens .asked j .requester) j opcode (h .opens .asked j .context) n k (λ g i. meant j a t);
+-- and so do the labels that the machine itself gives
+pub labelled-own : (qo : Asked → Bool) (qc : Known → Bool) (h : Past) → Labelled qo qc (λ opcode k. true) (heard (λ r. r .circuit)) h
+labelled-own qo qc h = record {
+  endpoint = λ j n a s. heard-as (λ r. r .circuit) (h .opens .asked j .endpoint) j opClose j n refl (λ g i. refl);
+  sides = λ j n side a s. heard-as (λ r. r .circuit) (peerOn side (h .known j)) j opClose j n refl (λ g i. refl);
+  asker = λ j opcode n k a t. heard-as (λ r. r .circuit) (h .opens .asked j .requester) j opcode (h .opens .asked j .context) n k (λ g i. refl);
 }
-  where
-    or-one : (x y : Bool) → y ≡ true → (x || y) ≡ true
-    or-one x y e = ap (λ b. x || b) e ∙ or-true x
-
-    side-own : (side : RelaySide) (k : Known) → knownSide (peerOn side k) k ≡ true
-    side-own Requester k = ap (λ b. b || samePeer (k .endpoint) (k .requester)) (same-refl (k .requester))
-    side-own Endpoint k = or-one (samePeer (k .requester) (k .endpoint)) _ (same-refl (k .endpoint))
-
-    shared-open : (j : ℕ) → h .opens .standing j ≡ true → askedSide p (h .opens .asked j) ≡ true → sharedId h p (h .opens .asked j .endpoint) j ≡ true
-    shared-open j a s = let k = h .opens .asked j in or-one (h .active j && (knownSide p (h .known j) && knownSide (k .endpoint) (h .known j))) _ (join (h .opens .standing j)
-        (askedSide p k && askedSide (k .endpoint) k) a (join (askedSide p k) (askedSide (k .endpoint) k) s (or-one (samePeer (k .requester) (k .endpoint)) _ (same-refl
-        (k .endpoint)))))
-
-    shared-circuit : (j : ℕ) (side : RelaySide) → h .active j ≡ true → knownSide p (h .known j) ≡ true → sharedId h p (peerOn side (h .known j)) j ≡ true
-    shared-circuit j side a s = let k = h .known j in ap (λ b. b || (h .opens .standing j && (askedSide p (h .opens .asked j) && askedSide (peerOn side k) (h .opens .asked j)))) (join
-        (h .active j) (knownSide p k && knownSide (peerOn side k) k) a (join (knownSide p k) (knownSide (peerOn side k) k) s (side-own side k)))
-
-    -- a shared id is meant unless the label is the OPEN's, and then it is the same
-    meant-id : (peer : HnsrPeerId) (id : ℕ) → sharedId h p peer id ≡ true → let j = h .opens .named peer id in
-        cond ((byContext h peer id && samePeer (h .opens .asked j .endpoint) p) && (not (sharedId h p peer id) || eqb id j)) j id ≡ id
-    meant-id peer id e = let j = h .opens .named peer id in let o = byContext h peer id && samePeer (h .opens .asked j .endpoint) p in
-        ap (λ b. cond (o && (not b || eqb id j)) j id) e ∙ split (o && eqb id j)
-        (λ y. ap (λ b. cond b j id) y ∙ sym (eqb-true id j (both o (eqb id j) y .1)))
-        (λ y. ap (λ b. cond b j id) y)
-
-    meant : (j : ℕ) → h .opens .standing j ≡ true → samePeer (h .opens .asked j .endpoint) p ≡ true
-        → let d = h .opens .asked j .requester in let x = h .opens .asked j .context in let i = h .opens .named d x in
-        cond ((byContext h d x && samePeer (h .opens .asked i .endpoint) p) && (not (sharedId h p d x) || eqb j i)) i x ≡ j
-    meant j a t = let d = h .opens .asked j .requester in let x = h .opens .asked j .context in
-        let l : h .opens .named d x ≡ j = leads j a d (same-refl d) in
-        let c = h .opens .standing j && (samePeer d d && eqb x x) in
-        let k : c ≡ true = join (h .opens .standing j) (samePeer d d && eqb x x) a (join (samePeer d d) (eqb x x) (same-refl d) (eq-eqb x x refl)) in
-        let o = c && samePeer (h .opens .asked j .endpoint) p in
-        let m : (not (sharedId h p d x) || eqb j j) ≡ true = or-one (not (sharedId h p d x)) (eqb j j) (eq-eqb j j refl) in
-        subst (λ i. cond (((h .opens .standing i && (samePeer (h .opens .asked i .requester) d && eqb (h .opens .asked i .context) x)) && samePeer (h .opens .asked i .endpoint) p)
-        && (not (sharedId h p d x) || eqb j i)) i x ≡ j) (sym l)
-        (ap (λ b. cond b j x) (join o (not (sharedId h p d x) || eqb j j) (join c (samePeer (h .opens .asked j .endpoint) p) k t) m))
 
 -- one message, told by its circuit
 pub quiet-about : (peer : HnsrPeerId) (j id opcode context : ℕ) (n : Notice) → j ≡ id → kindFor opcode ≡ kindNumber Close
@@ -150,12 +110,11 @@ unfolding closeTo circuitAt
 quiet-to {f = f} L n w j F a s Requester = subst (λ (p : HnsrPeerId). Quiet f (closing p j opClose j n)) (sym (F .circs .agree j a .requester)) (L .sides j n Requester a s)
 quiet-to {f = f} L n w j F a s Endpoint = subst (λ (p : HnsrPeerId). Quiet f (closing p j opClose j n)) (sym (F .circs .agree j a .endpoint)) (L .sides j n Endpoint a s)
 
-quiet-other : (peer : HnsrPeerId) {qc : Known → Bool} {f : Route → Action} {h : Past} → Labelled (askedSide peer) qc (byClose peer) f h → (p : RelayPending) (j : ℕ)
-    → h .opens .standing j ≡ true → askedSide peer (h .opens .asked j) ≡ true → AgreesP p (h .opens .asked j) → p .«circuit_id» ≡ j → Quiet f (closeToOther peer p)
+quiet-other : (peer : HnsrPeerId) {qo : Asked → Bool} {qc : Known → Bool} {f : Route → Action} {h : Past} → Labelled qo qc (λ opcode k. true) f h → (p : RelayPending) (j : ℕ)
+    → h .opens .standing j ≡ true → qo (h .opens .asked j) ≡ true → AgreesP p (h .opens .asked j) → p .«circuit_id» ≡ j → Quiet f (closeToOther peer p)
 unfolding closeToOther
-quiet-other peer {f = f} {h = h} L p j a s A id = choose (λ (m : Message). Quiet f m) (samePeer (p .requester) peer) _ _ (λ e. quiet-close L _ p j a A id s)
-    (λ e. quiet-requester L _ p j a A id (ap (λ b. b || samePeer (h .opens .asked j .endpoint) peer) (sym (ap (λ (x : HnsrPeerId). samePeer x peer) (sym (A .requester)) ∙ e))
-    ∙ s))
+quiet-other peer {f = f} L p j a s A id = choose (λ (m : Message). Quiet f m) (samePeer (p .requester) peer) _ _ (λ e. quiet-close L _ p j a A id s)
+    (λ e. quiet-requester L _ p j a A id refl)
 
 -- ---- one pending record, one circuit
 pub pending-id : {S : ℕ → Bool} (w : World) (h : Past) → Full S w h → (j : ℕ) → h .opens .standing j ≡ true → eqb (pendingIn w j .«circuit_id») j ≡ true
@@ -234,7 +193,7 @@ revoking qo n = record {
       (λ e. clash (pending-there w h F j ∙ a) e);
 }
 
-pub disconnecting : (peer : HnsrPeerId) → EndsOne (askedSide peer) (byClose peer) (disconnectPending peer)
+pub disconnecting : (peer : HnsrPeerId) → EndsOne (askedSide peer) (λ opcode k. true) (disconnectPending peer)
 unfolding disconnectPending disconnectedPending
 disconnecting peer = record {
   keeps = λ {qc} {f} S u w h j L K a s. when-cases (λ (o : Sent). Keeps S u (o .world) (emit (openEnded h j) f (o .routes))) (hasPending w j) _ w

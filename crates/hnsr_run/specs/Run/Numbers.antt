@@ -106,7 +106,7 @@ unfolding revokePending revokedPending
 revoke-pending-counts n w id = when-cases (CountedPart w) (hasPending w id) _ w
     (λ e. end-pending-counts w (pendingAt id) id (two-counts _ _ (endPending w (pendingAt id) id))) (λ e. stay w)
 
-disconnect-pending-counts : (peer : HnsrPeerId) (w : World) (id : ℕ) → CountedPart w (disconnectPending peer w id)
+pub disconnect-pending-counts : (peer : HnsrPeerId) (w : World) (id : ℕ) → CountedPart w (disconnectPending peer w id)
 unfolding disconnectPending disconnectedPending
 disconnect-pending-counts peer w id = when-cases (CountedPart w) (hasPending w id) _ w
     (λ e. end-pending-counts w (pendingAt id) id (tell-counts _ (endPending w (pendingAt id) id))) (λ e. stay w)

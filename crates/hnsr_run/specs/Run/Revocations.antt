@@ -89,16 +89,23 @@ module _ (qc : Known → Bool) (T : ℕ → Asked → Bool) (Q : RelayPending �
       (λ g. let z = ap (λ b. cond {A = ℕ} (not b) 1 0) (eqb-comm (x .circuit) m ∙ g) in omega (arith, cond-le (activeOn h x)))) in
       ap (count (activeOn h)) (map-append f (end w m .routes) rs) ∙ omega (arith, total-append (one (activeOn h)) r (map f rs), E .about w h m (K .1) (K .0 .full) a s)
 
-  pub walk-pending : (p : RelayPending → Bool) → ((x : RelayPending) → p x ≡ (x .used && Q x)) → (w : World) (h : Past) → Told w h
-      → Told (walk pendingId pendingTable p end w .world) (partedOpens f h q (walk pendingId pendingTable p end w .routes)) × J h
-      (walk pendingId pendingTable p end w .routes)
+  -- N: what else is to be known of the routes
+  pub walk-pending : (N : World → Past → List Route → Type 0)
+      → ((w : World) (h : Past) → Told w h → ((i : ℕ) → h .opens .standing i ≡ true → q (h .opens .asked i) ≡ false) → N w h [])
+      → ((w : World) (h : Past) (m : ℕ) (rs : List Route) → Told w h → h .opens .standing m ≡ true → q (h .opens .asked m) ≡ true
+      → ((i : ℕ) → h .opens .standing i ≡ true → q (h .opens .asked i) ≡ true → m ≤ i)
+      → N (end w m .world) (emit (openEnded h m) f (end w m .routes)) rs → N w h (end w m .routes ++ rs))
+      → (p : RelayPending → Bool) → ((x : RelayPending) → p x ≡ (x .used && Q x)) → (w : World) (h : Past) → Told w h
+      → Told (walk pendingId pendingTable p end w .world) (partedOpens f h q (walk pendingId pendingTable p end w .routes)) × (J h
+      (walk pendingId pendingTable p end w .routes) × N w h (walk pendingId pendingTable p end w .routes))
   unfolding pendingAt
-  walk-pending p same w h K = walked pendingKeys (λ i j. refl) Q q same-q pendingTable end Told (λ h. h .opens .standing) (λ h. h .opens .asked)
-      (λ h m rs. emit (openEnded h m) f rs) (λ h rs. partedOpens f h q rs) J
+  walk-pending N N-none N-more p same w h K = walked pendingKeys (λ i j. refl) Q q same-q pendingTable end Told (λ h. h .opens .standing) (λ h. h .opens .asked)
+      (λ h m rs. emit (openEnded h m) f rs) (λ h rs. partedOpens f h q rs) (λ w h rs. J h rs × N w h rs)
       (λ w h K. K .0 .full .pends)
       (λ w h m K a s. (E .keeps S u w h m (K .1) (K .0) a s, still-labelled (K .1) (h .active) (at m false (h .opens .standing)) _ (λ i x. x) (at-false m (h .opens .standing))))
       (λ w h m K a. E .table w h m (K .0 .full) a ∙ pending-table w h (K .0 .full) m)
-      (λ h m rs i. refl) (λ h m rs. refl) none-open more-open (λ h. refl) J-open p same w h K
+      (λ h m rs i. refl) (λ h m rs. refl) none-open more-open (λ w h K free. (refl, N-none w h K free))
+      (λ w h m rs K a s l j. (J-open w h m rs K a s (j .0), N-more w h m rs K a s l (j .1))) p same w h K
 
 -- ---- the walk over the circuits: those that will end are in suspense
 abbrev pub partedCircuits : (Route → Action) → Past → (Known → Bool) → List Route → Past
@@ -141,23 +148,28 @@ module _ (qo : Asked → Bool) (T : ℕ → Asked → Bool) (n : Notice) (Q : Re
       outs = one-goes placed q (h .active) (h .known) m a s (h .out) (map f (revokeCircuit n w m .routes)) (map f rs) (circuit-about n w m (quiet-to (K .1) n w m (K .0 .full) a s)) ∙ ap
           (λ l. keep (non (goneCircuit h q)) (h .out) ++ l) (sym (map-append f (revokeCircuit n w m .routes) rs))
 
-  pub walk-circuits : (p : RelayCircuit → Bool) → ((x : RelayCircuit) → p x ≡ (x .used && Q x)) → (w : World) (h : Past) → Going w h
+  pub walk-circuits : (N : Past → List Route → Type 0) → ((h : Past) → N h [])
+      → ((w : World) (h : Past) (m : ℕ) (rs : List Route) → Going w h → h .active m ≡ true → q (h .known m) ≡ true
+      → N (emit (circuitEnded h m) f (revokeCircuit n w m .routes)) rs → N h (revokeCircuit n w m .routes ++ rs))
+      → (p : RelayCircuit → Bool) → ((x : RelayCircuit) → p x ≡ (x .used && Q x)) → (w : World) (h : Past) → Going w h
       → Keeps (λ i. q (h .known i)) u (walk circuitId circuitTable p (revokeCircuit n) w .world) (partedCircuits f h q (walk circuitId circuitTable p
-      (revokeCircuit n) w .routes))
+      (revokeCircuit n) w .routes)) × N h (walk circuitId circuitTable p (revokeCircuit n) w .routes)
   unfolding circuitAt
-  walk-circuits p same w h K = walked circuitKeys (λ i j. refl) Q q same-q circuitTable (revokeCircuit n) Going (λ h. h .active) (λ h. h .known)
-      (λ h m rs. emit (circuitEnded h m) f rs) (λ h rs. partedCircuits f h q rs) (λ h rs. Unit {0})
+  walk-circuits N N-none N-more p same w h K =
+      let r = walked circuitKeys (λ i j. refl) Q q same-q circuitTable (revokeCircuit n) Going (λ h. h .active) (λ h. h .known)
+      (λ h m rs. emit (circuitEnded h m) f rs) (λ h rs. partedCircuits f h q rs) (λ w h rs. N h rs)
       (λ w h K. K .0 .full .circs)
       (λ w h m K a s. (
         revoke-circuit n w h m (λ i. q (h .known i)) (λ i t e. t) (quiet-to (K .1) n w m (K .0 .full) a s) (K .0) a,
         still-labelled (K .1) (at m false (h .active)) (h .opens .standing) _ (at-false m (h .active)) (λ i x. x),
       ))
       (λ w h m K a. circuit-ended n w h m (K .0 .full) a ∙ circuit-table w h (K .0 .full) m)
-      (λ h m rs i. refl) (λ h m rs. refl) none-circuit more-circuit (λ h. tt) (λ w h m rs K a s j. tt) p same w h K .0 .0
+      (λ h m rs i. refl) (λ h m rs. refl) none-circuit more-circuit (λ w h K free. N-none h) (λ w h m rs K a s l j. N-more w h m rs K a s j) p same w h K in
+      (r .0 .0, r .1)
 
 -- ---- both
 both-path : (told : Route → ℕ) (h : Past) (qo : Asked → Bool) (qc : Known → Bool) (r rs : List Route) → count (activeOn h) (map (heard told) r) ≡ 0
-    → partedCircuits (heard told) (partedOpens (heard told) h qo r) qc rs ≡ revoked h qo qc told (r ++ rs)
+    → partedCircuits (heard told) (partedOpens (heard told) h qo r) qc rs ≡ revoked h qo qc (map (heard told) (r ++ rs))
 both-path told h qo qc r rs z = λ i. record {
   head = h .head;
   active = λ j. h .active j && not (qc (h .known j));
@@ -187,7 +199,7 @@ both-path told h qo qc r rs z = λ i. record {
         off true y e = absurd (false≢true e)
         off false y e = refl
 
-    outs : partedCircuits f (partedOpens f h qo r) qc rs .out ≡ revoked h qo qc told (r ++ rs) .out
+    outs : partedCircuits f (partedOpens f h qo r) qc rs .out ≡ revoked h qo qc (map f (r ++ rs)) .out
     outs = ap (λ l. l ++ map f rs) (keep-append (non (goneCircuit h qc)) stays (map f r) ∙ ap
         (λ l. keep (non (goneCircuit h qc)) stays ++ l) (keep-whole (non (goneCircuit h qc)) (non (activeOn h)) (map f r) idle unmoved))
         ∙ append-assoc (keep (non (goneCircuit h qc)) stays) (map f r) (map f rs) ∙ ap (λ l. keep (non (goneCircuit h qc)) stays ++ l) (sym (map-append f r rs))
@@ -198,14 +210,14 @@ pub revoke-all : {S : ℕ → Bool} {u : World} (T : ℕ → Asked → Bool) (to
     → (c : RelayCircuit → Bool) (C : RelayCircuit → Bool) (qc : Known → Bool) → ((x : RelayCircuit) → c x ≡ (x .used && C x)) → ((x : RelayCircuit)
     (k : Known) → Agrees x k → C x ≡ qc k)
     → ((i : ℕ) → S i ≡ true → h .active i ≡ true → qc (h .known i) ≡ true) → EndsOne qo T end → Labelled qo qc T (heard told) h → Keeps S u w h
-    → Keeps none u (revokeAll end p (revokeCircuit n) c w .world) (revoked h qo qc told (revokeAll end p (revokeCircuit n) c w .routes))
+    → Keeps none u (revokeAll end p (revokeCircuit n) c w .world) (revoked h qo qc (map (heard told) (revokeAll end p (revokeCircuit n) c w .routes)))
 unfolding revokeAll
 revoke-all {S} {u} T told w h end n p Q qo ep sp c C qc ec sc sus E L K =
     let f = heard told in
-    let a = walk-pending qc T Q qo sp end E f S u p ep w h (K, L) in
+    let a = walk-pending qc T Q qo sp end E f S u (λ w h rs. Unit {0}) (λ w h K n. tt) (λ w h m rs K a s l j. tt) p ep w h (K, L) in
     let first = walk pendingId pendingTable p end w in
     let g = partedOpens f h qo (first .routes) in
-    let b = walk-circuits qo T n C qc sc f u c ec (first .world) g (
+    let b = walk-circuits qo T n C qc sc f u (λ h rs. Unit {0}) (λ h. tt) (λ w h m rs K a s j. tt) c ec (first .world) g (
       record {
         full = suspending (λ j s t. split (S j) (λ x. clash (sus j x t) s) (λ x. x)) (a .0 .0 .full);
         rest = a .0 .0 .rest;
@@ -213,8 +225,8 @@ revoke-all {S} {u} T told w h end n p Q qo ep sp c C qc ec sc sus E L K =
       a .0 .1,
     ) in
     let second = walk circuitId circuitTable c (revokeCircuit n) (first .world) in
-    subst (λ k. Keeps none u (second .world) k) (both-path told h qo qc (first .routes) (second .routes) (a .1)) (record {
+    subst (λ k. Keeps none u (second .world) k) (both-path told h qo qc (first .routes) (second .routes) (a .1 .0)) (record {
       full = suspending
-          (λ j s t. not-true (qc (h .known j)) (both (h .active j) (not (qc (h .known j))) t .1)) (b .full);
-      rest = b .rest;
+          (λ j s t. not-true (qc (h .known j)) (both (h .active j) (not (qc (h .known j))) t .1)) (b .0 .full);
+      rest = b .0 .rest;
     })

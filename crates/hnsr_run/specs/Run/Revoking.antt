@@ -1,13 +1,14 @@
 -- Disconnect, revoke_reservation and expire keep the invariant.
-use Prim.Native.Nat.{ℕ, _≤_}
+use Prim.Native.Nat.{ℕ, _+_, _≤_, _<_}
 use native.Mathlib.Omega.{arith}
 use mathlib.Core.Path.{_≡_, refl, sym, ap, _∙_, subst}
 use mathlib.Core.Bool.{Bool, true, false, cond, not, _&&_, _||_, true≢false, false≢true, or-true}
-use mathlib.Core.List.{List}
-use lib.Dec.{leb, ltb}
+use mathlib.Core.List.{List, []}
+use lib.Dec.{leb, ltb, eqb}
 use lib.ListN.{length}
-use borrow.Author.Tests.{eqb-true, ltb-false, not-true}
-use Rattle.hns_encoding.specs.Laws.Tests.{both}
+use borrow.Author.Tests.{eqb-true, eq-eqb, ltb-false, not-true}
+use Rattle.hns_encoding.specs.Numbers.{top}
+use Rattle.hns_encoding.specs.Laws.Tests.{choose, both}
 use Rattle.hns_encoding.specs.Sums.{only, non, total}
 use Rattle.hns_encoding.specs.Laws.Sums.{total-zero}
 use Rattle.hnsr_body.specs.declared.values.ReservationId.{ReservationId}
@@ -25,6 +26,7 @@ use Rattle.hnsr_circuit.specs.Circuits.{circuitOf, circuitUnder, circuitOver, i
 use Rattle.hnsr_circuit.specs.Ledger.{lapsed}
 use Rattle.hnsr_circuit.specs.Inflight.{actionToward, dropped}
 use Rattle.hnsr_circuit.specs.World.{World, Outcome, atTime}
+use Rattle.hnsr_circuit.specs.Queue.{sequenceOf}
 use Rattle.hnsr_circuit.specs.Entry.{roomAnswer, revokingWords, peerAnswer, clockAnswer}
 use Rattle.hnsr_circuit.specs.Revocation.{revokePending, revokeAll}
 use Rattle.hnsr_circuit.specs.RevokingCalls.{withoutActionsToward, disconnectPending, disconnectPeer, disconnect, withoutUsage, revokeUnder, revokeReservation, withoutLapsed, expireAt, expire}
@@ -34,12 +36,13 @@ use Rattle.hnsr_circuit.specs.Laws.Peer.{same-names, names-same}
 use Rattle.hnsr_circuit.specs.Laws.Answers.{then-taken, check-taken}
 use Rattle.hnsr_circuit.specs.Laws.Keyed.{same-comm}
 use Rattle.hnsr_run.specs.Past.{Known, Book, Action, Past, peerOn, isData, onCircuit, toward, towardSide, weight, without, withBook, movedTo, lives, unmade}
-use Rattle.hnsr_run.specs.History.{askedSide, knownSide, about, aboutClose, askedUnder, knownUnder, askedOver, knownOver, after}
+use Rattle.hnsr_run.specs.History.{taken, askedSide, knownSide, revoked, about, heardOnLeaving, askedUnder, knownUnder, askedOver, knownOver, after}
 use Rattle.hnsr_run.specs.Run.Actions.{drop-acts}
 use Rattle.hnsr_run.specs.Run.Circuits.{stray, sideTo, none, suspend, drop-queue}
 use Rattle.hnsr_run.specs.Run.Full.{Full, Keeps, rest-same}
-use Rattle.hnsr_run.specs.Run.Ends.{byError, byClose, labelled, labelled-close, revoking, disconnecting}
+use Rattle.hnsr_run.specs.Run.Ends.{byError, labelled, labelled-own, revoking, disconnecting}
 use Rattle.hnsr_run.specs.Run.Revocations.{revoke-all}
+use Rattle.hnsr_run.specs.Run.Disconnecting.{leaving-heard}
 use Rattle.hnsr_run.specs.Run.Books.{Books, usageKeys, lapse-books, unmake-books}
 use Rattle.hnsr_run.specs.Run.Rel.{Live, Rel, proceed-cases, if-taken, shrink, moved-rel, reledger, heads-rest}
 
@@ -95,21 +98,32 @@ pub less : (f g : ℕ → Bool) (i : ℕ) → (f i && g i) ≡ true → f i ≡ 
 less f g i e = both (f i) (g i) e .0
 
 pub disconnect-keeps : {w : World} {h : Past} → Rel w h → (peer : List ℕ) (room : ℕ)
-    → let o = disconnect w peer room in Rel (o .world) (after h (callDisconnect peer room) (o .answer) (o .routes))
+    → let o = disconnect w peer room in
+    (eqb (after h (callDisconnect peer room) (o .answer) (o .routes) .head .generation) (h .head .generation) ≡ true → sequenceOf w + length (o .routes) < top 64)
+    → Rel (o .world) (after h (callDisconnect peer room) (o .answer) (o .routes))
 unfolding disconnect disconnectPeer revokeAll pendingOf circuitOf
-disconnect-keeps {w} {h} R peer room = proceed-cases
-    (λ (o : Outcome). Rel (o .world) (after h (callDisconnect peer room) (o .answer) (o .routes))) w (roomAnswer w room (revokingWords w) then peerAnswer
-    (length peer)) (disconnectPeer w (peerOf peer))
-    (λ e. shrink R _ _ _ (revoke-all (byClose p) (aboutClose p h) (withoutActionsToward w p) (without h (toward p)) (disconnectPending p) PeerDisconnected
-    (pendingOf p) (λ x. samePeer (x .requester) p || samePeer (x .endpoint) p) (askedSide p) (λ x. refl)
-    (λ x k A i. samePeer (A .requester i) p || samePeer (A .endpoint i) p)
-    (circuitOf p) (isSide p) (knownSide p) (λ x. refl) (λ x k A i. samePeer (A .requester i) p || samePeer (A .endpoint i) p)
-    (λ i s a. s) (disconnecting p) (labelled-close p (without h (toward p)) (R .base .names)) (toward-keeps w h p (R .base .full)))
-    (λ i. less (h .active) (λ j. not (knownSide p (h .known j))) i) (λ i. less (h .opens .standing) (λ j. not (askedSide p (h .opens .asked j))) i))
-    (λ e f. if-taken (λ (g : Past). Rel w g) e _ h R)
+disconnect-keeps {w} {h} R peer room next = proceed-cases
+    (λ (o : Outcome). sequenceOf w + length (o .routes) < top 64 → Rel (o .world) (after h (callDisconnect peer room) (o .answer) (o .routes))) w (roomAnswer w room
+    (revokingWords w) then peerAnswer (length peer)) (disconnectPeer w p)
+    (λ e low. left-keeps low)
+    (λ e f low. if-taken (λ (g : Past). Rel w g) e _ h R)
+    (next (choose (λ (g : Past). eqb (g .head .generation) (h .head .generation) ≡ true) (taken (disconnect w peer room .answer)) _ h
+    (λ x. eq-eqb (h .head .generation) (h .head .generation) refl) (λ x. eq-eqb (h .head .generation) (h .head .generation) refl)))
   where
     p : HnsrPeerId
     p = peerOf peer
+
+    left-keeps : let o = disconnectPeer w p in sequenceOf w + length (o .routes) < top 64
+        → Rel (o .world) (revoked (without h (toward p)) (askedSide p) (knownSide p) (heardOnLeaving p (without h (toward p)) [] (o .routes)))
+    left-keeps low = let K = toward-keeps w h p (R .base .full) in
+        subst (λ told. Rel (disconnectPeer w p .world) (revoked (without h (toward p)) (askedSide p) (knownSide p) told)) (sym (leaving-heard p (withoutActionsToward w p)
+        (without h (toward p)) K (R .base .names) (R .base .heads .config) low))
+        (shrink R _ _ _ (revoke-all (λ opcode k. true) (λ r. r .circuit) (withoutActionsToward w p) (without h (toward p)) (disconnectPending p) PeerDisconnected
+        (pendingOf p) (λ x. samePeer (x .requester) p || samePeer (x .endpoint) p) (askedSide p) (λ x. refl)
+        (λ x k A i. samePeer (A .requester i) p || samePeer (A .endpoint i) p)
+        (circuitOf p) (isSide p) (knownSide p) (λ x. refl) (λ x k A i. samePeer (A .requester i) p || samePeer (A .endpoint i) p)
+        (λ i s a. s) (disconnecting p) (labelled-own (askedSide p) (knownSide p) (without h (toward p))) K)
+        (λ i. less (h .active) (λ j. not (knownSide p (h .known j))) i) (λ i. less (h .opens .standing) (λ j. not (askedSide p (h .opens .asked j))) i))
 
 -- ---- revoke_reservation
 unmade-live : (now : ℕ) (b : Book) (id r : ReservationId) (e : ℕ) → not (sameReservation r id) ≡ true → Live now b r e → Live now (unmade b id) r e

@@ -23,7 +23,7 @@ use Rattle.hnsr_circuit.specs.Handle.{Handling, OPEN, ACCEPT, DATA, WINDOW, CLO
 use Rattle.hnsr_circuit.specs.Call.{Call, callStatus, callNextDue, callObserveTime, callReplaceEnabled, callHandle, callAcknowledge, callDisconnect, callRevokeReservation, callExpire, step}
 use Rattle.hnsr_circuit.specs.Laws.StepPlaces.{step-places}
 use Rattle.hnsr_run.specs.Past.{Action, Past, numbered, nothing, without}
-use Rattle.hnsr_run.specs.History.{taken, ends, written, entered, handledAs, byContext, byId, failedIn, endIn, reckon, after}
+use Rattle.hnsr_run.specs.History.{Event, taken, ends, written, entered, handledAs, byContext, byId, failedIn, endIn, reckon, after}
 use Rattle.hnsr_run.specs.Claim.{leftBy, events, below, sequenceAfter, limitsBelow}
 use Rattle.hnsr_run.specs.Run.Rel.{Rel, Places}
 use Rattle.hnsr_run.specs.Run.Steps.{step-keeps}
@@ -68,9 +68,10 @@ same-config h (callExpire now room) a rs = choose (Same (h .head .config)) (take
 
 -- ---- one step, and a run
 pub step-both : {w : World} {h : Past} → Rel w h → Places w → sequenceOf w < top 64 → (c : Call) → limitsBelow c ≡ true
+    → (eqb (after h c (step w c .answer) (step w c .routes) .head .generation) (h .head .generation) ≡ true → sequenceOf w + length (step w c .routes) < top 64)
     → Rel (step w c .world) (after h c (step w c .answer) (step w c .routes)) × Places (step w c .world)
-step-both {w} {h} R H low c lim =
-    let R₁ = step-keeps R H low c lim in
+step-both {w} {h} R H low c lim next =
+    let R₁ = step-keeps R H low c lim next in
     let m = step-places w c in
     let e : configOf (step w c .world) ≡ configOf w = R₁ .base .heads .config ∙ same-config h c (step w c .answer) (step w c .routes)
     ∙ sym (R .base .heads .config) in (
@@ -88,6 +89,10 @@ pub sequence-is : {w : World} {h : Past} → Rel w h → (c : Call) (n : ℕ) �
 sequence-is {w} {h} R c n R₁ e = step-numbered w c ∙ λ i. cond (eqb (R₁ .base .heads .generation i) (R .base .heads .generation i)) (e i) 1 + length
     (step w c .routes)
 
+below-now : (h : Past) (n : ℕ) (es : List Event) → below h n es ≡ true → n < top 64
+below-now h n [] b = ltb-true n (top 64) b
+below-now h n (e ∷ es) b = ltb-true n (top 64) (both (ltb n (top 64)) _ b .0)
+
 pub run-both : (cs : List Call) (w : World) (h : Past) (n : ℕ) → Rel w h → Places w → sequenceOf w ≡ n → below h n (events step w cs) ≡ true
     → Rel (leftBy step w cs) (reckon h (events step w cs)) × Places (leftBy step w cs) × (sequenceOf (leftBy step w cs) < top 64)
 run-both [] w h n R H e b = (R, H, subst (λ m. m < top 64) (sym e) (ltb-true n (top 64) b))
@@ -97,5 +102,6 @@ run-both (c ∷ cs) w h n R H e b =
     let m = sequenceAfter h n (record { call = c; answer = o .answer; routes = o .routes }) in
     let x = both (ltb n (top 64)) (limitsBelow c && below g m (events step (o .world) cs)) b in
     let y = both (limitsBelow c) (below g m (events step (o .world) cs)) (x .1) in
-    let s = step-both R H (subst (λ k. k < top 64) (sym e) (ltb-true n (top 64) (x .0))) c (y .0) in
+    let s = step-both R H (subst (λ k. k < top 64) (sym e) (ltb-true n (top 64) (x .0))) c (y .0)
+    (λ same. subst (λ k. k + length (o .routes) < top 64) (sym e) (subst (λ b. cond b n 1 + length (o .routes) < top 64) same (below-now g m (events step (o .world) cs) (y .1)))) in
     run-both cs (o .world) g m (s .0) (s .1) (sequence-is R c n (s .0) e) (y .1)

@@ -1,5 +1,5 @@
 -- Every call keeps the invariant, taken or refused: entry, clock and gate of `handle`, the opcode's handling, and the other calls.
-use Prim.Native.Nat.{ℕ, _<_}
+use Prim.Native.Nat.{ℕ, _+_, _<_}
 use native.Mathlib.Omega.{arith}
 use mathlib.Core.Path.{_≡_, refl, sym, ap, _∙_, subst}
 use mathlib.Core.Bool.{Bool, true, false, cond, not, _&&_, _||_}
@@ -160,16 +160,18 @@ observe-keeps {w} {h} R now = proceed-cases (λ (o : Outcome). Rel (o .world) (a
     (λ e. moved-rel R now (let l = clock-taken (w .header .«trusted_time_high_water») now e in omega (arith, R .base .heads .clock)))
     (λ e f. if-taken (λ (g : Past). Rel w g) e _ h R)
 
+-- the sequence is below its top before the call; and after it, unless a switch starts it again
 pub step-keeps : {w : World} {h : Past} → Rel w h → Places w → sequenceOf w < top 64 → (c : Call) → limitsBelow c ≡ true
+    → (eqb (after h c (step w c .answer) (step w c .routes) .head .generation) (h .head .generation) ≡ true → sequenceOf w + length (step w c .routes) < top 64)
     → Rel (step w c .world) (after h c (step w c .answer) (step w c .routes))
 unfolding step status nextDue
-step-keeps {w} {h} R H low callStatus lim = proceed-cases (λ (o : Outcome). Rel (o .world) h) w (tablesAnswer w) (telling w (statusIs (statusOf w))) (λ e. R)
+step-keeps {w} {h} R H low callStatus lim next = proceed-cases (λ (o : Outcome). Rel (o .world) h) w (tablesAnswer w) (telling w (statusIs (statusOf w))) (λ e. R)
     (λ e f. R)
-step-keeps {w} {h} R H low callNextDue lim = proceed-cases (λ (o : Outcome). Rel (o .world) h) w (tablesAnswer w) (telling w (dueIs (dueOf w))) (λ e. R) (λ e f. R)
-step-keeps R H low (callObserveTime now) lim = observe-keeps R now
-step-keeps R H low (callReplaceEnabled expected on room) lim = replace-keeps R expected on room
-step-keeps R H low (callHandle q room) lim = handle-keeps R H low q room lim
-step-keeps R H low (callAcknowledge g s delivered room) lim = acknowledge-keeps R low g s delivered room
-step-keeps R H low (callDisconnect peer room) lim = disconnect-keeps R peer room
-step-keeps R H low (callRevokeReservation id room) lim = revoke-keeps R id room
-step-keeps R H low (callExpire now room) lim = expire-keeps R now room
+step-keeps {w} {h} R H low callNextDue lim next = proceed-cases (λ (o : Outcome). Rel (o .world) h) w (tablesAnswer w) (telling w (dueIs (dueOf w))) (λ e. R) (λ e f. R)
+step-keeps R H low (callObserveTime now) lim next = observe-keeps R now
+step-keeps R H low (callReplaceEnabled expected on room) lim next = replace-keeps R expected on room
+step-keeps R H low (callHandle q room) lim next = handle-keeps R H low q room lim
+step-keeps R H low (callAcknowledge g s delivered room) lim next = acknowledge-keeps R low g s delivered room
+step-keeps R H low (callDisconnect peer room) lim next = disconnect-keeps R peer room next
+step-keeps R H low (callRevokeReservation id room) lim next = revoke-keeps R id room
+step-keeps R H low (callExpire now room) lim next = expire-keeps R now room

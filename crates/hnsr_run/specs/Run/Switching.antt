@@ -3,7 +3,7 @@ use Prim.Native.Nat.{ℕ, _+_}
 use native.Mathlib.Omega.{arith}
 use mathlib.Core.Path.{_≡_, refl, sym, ap, _∙_, subst}
 use mathlib.Core.Bool.{Bool, true, false, cond, not, Bool·beq, true≢false, and-false, and-true}
-use mathlib.Core.List.{List, []}
+use mathlib.Core.List.{List, [], map}
 use borrow.Author.Tests.{not-true, not-false}
 use Rattle.hns_encoding.specs.Laws.Tests.{choose, clash}
 use Rattle.hns_encoding.specs.Laws.Sums.{total-zero}
@@ -87,7 +87,7 @@ on-keeps {w} {h} R off = let B = switched-base R true in record {
   quietP = λ e. absurd (true≢false e);
 }
 
-off-keeps : {w : World} {h : Past} → Rel w h → let o = switchTo w false in Rel (o .world) (revoked (switchedTo h false) everyOpen everyCircuit (about h) (o .routes))
+off-keeps : {w : World} {h : Past} → Rel w h → let o = switchTo w false in Rel (o .world) (revoked (switchedTo h false) everyOpen everyCircuit (map (heard (about h)) (o .routes)))
 unfolding switchTo revokeAll isPending isCircuit
 off-keeps {w} {h} R = let B = switched-base R false in
     let K = revoke-all byError (about h) (switched w false) (switchedTo h false) (revokePending RelayDisabled) RelayDisabled
@@ -112,8 +112,8 @@ switch-keeps : {w : World} {h : Past} → Rel w h → (on : Bool) → Bool·beq 
 unfolding switchTo revokeAll
 switch-keeps {w} {h} R true e = (subst (λ b. Rel (switched w true) (cond b h (switchedTo h true))) (sym e) (on-keeps R (beq-false (h .head .enabled) e)), refl)
 switch-keeps {w} {h} R false e = (
-  subst (λ b. Rel (switchTo w false .world) (cond b h (revoked (switchedTo h false) everyOpen everyCircuit (about h)
-      (switchTo w false .routes)))) (sym e) (off-keeps R),
+  subst (λ b. Rel (switchTo w false .world) (cond b h (revoked (switchedTo h false) everyOpen everyCircuit (map (heard (about h))
+      (switchTo w false .routes))))) (sym e) (off-keeps R),
   refl,
 )
 
@@ -125,7 +125,7 @@ replace-keeps {w} {h} R expected on room = proceed-cases P w (roomAnswer w room 
     (λ e. choose P (changes w on) (switchTo w on) (done w [])
     (λ c. let s = switch-keeps R on (ap (λ b. Bool·beq b on) (sym (R .base .heads .enabled)) ∙ not-true (Bool·beq (w .header .enabled) on) c) in
     subst (λ a. Rel (switchTo w on .world) (cond (taken a) (enableIn on (switchTo w on .routes) h) h)) (sym (s .1)) (s .0))
-    (λ c. subst (λ b. Rel w (cond b h (cond on (emit (switchedTo h on) (heard (λ r. r .context)) []) (revoked (switchedTo h on) everyOpen everyCircuit (about h) [])))) (sym (ap
+    (λ c. subst (λ b. Rel w (cond b h (cond on (emit (switchedTo h on) (heard (λ r. r .context)) []) (revoked (switchedTo h on) everyOpen everyCircuit [])))) (sym (ap
     (λ b. Bool·beq b on) (sym (R .base .heads .enabled)) ∙ beq-off (w .header .enabled) on c)) R))
     (λ e f. if-taken (λ (g : Past). Rel w g) e _ h R)
   where

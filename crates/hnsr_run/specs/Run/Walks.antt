@@ -7,7 +7,7 @@ use mathlib.Core.Bool.{Bool, true, false, cond, _&&_, _||_, false≢true}
 use mathlib.Core.List.{List, [], _∷_, _++_}
 use lib.Dec.{leb, ltb, eqb}
 use lib.ListN.{length}
-use borrow.Author.Tests.{leb-true, lt-ltb, eqb-false}
+use borrow.Author.Tests.{leb-true, lt-ltb, ltb-false, eqb-false}
 use Rattle.hns_encoding.specs.Laws.Tests.{split, both, join, clash}
 use Rattle.hns_encoding.specs.Sums.{count}
 use Rattle.hns_encoding.specs.Laws.Sums.{count-length}
@@ -84,8 +84,32 @@ module _ {A K : Type 0} (X : Keys A ℕ K) (by : (i j : ℕ) → eqb i j ≡ X .
           under a u = let x = both (X .used a) (low a) u in let y = both (Q a) (ltb (X .key a) m) (x .1) in
               join (having X by Q a) (ltb (X .key a) (least X by Q t)) (join (X .used a) (Q a) (x .0) (y .0)) (ap (ltb (X .key a)) (sym e) ∙ y .1)
 
+  -- and nothing that has Q is below it
+  least-of : {t : List A} {st : ℕ → Bool} {kn : ℕ → K} → Tells X t st kn → (m : ℕ) → m ≡ least X by Q t → (i : ℕ) → st i ≡ true → q (kn i) ≡ true → m ≤ i
+  least-of {t} {st} {kn} T m e i stood s = split (ltb i m) (λ l. clash (shown X T low i stood (has l)) none-lower) (λ l. ltb-false i m l)
+    where
+      low : A → Bool
+      low a = Q a && ltb (X .key a) m
+
+      none-lower : any (λ a. X .used a && low a) t ≡ false
+      none-lower = split (any (λ a. X .used a && low a) t)
+          (λ h. clash (any-imp (λ a. X .used a && low a) (λ a. having X by Q a && ltb (X .key a) (least X by Q t)) t under h) (count-none
+          (λ a. having X by Q a && ltb (X .key a) (least X by Q t)) t (lowest-least (having X by Q) (X .key) t)))
+          (λ h. h)
+        where
+          under : (a : A) → (X .used a && low a) ≡ true → (having X by Q a && ltb (X .key a) (least X by Q t)) ≡ true
+          under a u = let x = both (X .used a) (low a) u in let y = both (Q a) (ltb (X .key a) m) (x .1) in
+              join (having X by Q a) (ltb (X .key a) (least X by Q t)) (join (X .used a) (Q a) (x .0) (y .0)) (ap (ltb (X .key a)) (sym e) ∙ y .1)
+
+      own : X .key (look X t i) ≡ i
+      own = X .same-eq (X .key (look X t i)) i (both (X .used (look X t i)) (X .same (X .key (look X t i)) i) (pick-has (keyed X i) (X .nobody) t (T .found i
+          ∙ stood)) .1)
+
+      has : ltb i m ≡ true → low (look X t i) ≡ true
+      has l = join (Q (look X t i)) (ltb (X .key (look X t i)) m) (same-q (look X t i) (kn i) (T .agree i stood) ∙ s) (ap (λ n. ltb n m) own ∙ l)
+
   module _ (table : World → List A) (end : World → ℕ → Sent) (I : World → Past → Type 0) (st : Past → ℕ → Bool) (kn : Past → ℕ → K)
-      (fin : Past → ℕ → List Route → Past) (swept : Past → List Route → Past) (J : Past → List Route → Type 0)
+      (fin : Past → ℕ → List Route → Past) (swept : Past → List Route → Past) (J : World → Past → List Route → Type 0)
       (tells : (w : World) (h : Past) → I w h → Tells X (table w) (st h) (kn h))
       (turn : (w : World) (h : Past) (m : ℕ) → I w h → st h m ≡ true → q (kn h m) ≡ true → I (end w m .world) (fin h m (end w m .routes)))
       (turn-table : (w : World) (h : Past) (m : ℕ) → I w h → st h m ≡ true → table (end w m .world) ≡ clear (X .unmark) (keyed X m) (table w))
@@ -94,24 +118,25 @@ module _ {A K : Type 0} (X : Keys A ℕ K) (by : (i j : ℕ) → eqb i j ≡ X .
       (none : (h : Past) → ((i : ℕ) → st h i ≡ true → q (kn h i) ≡ false) → swept h [] ≡ h)
       (more : (w : World) (h : Past) (m : ℕ) (rs : List Route) → I w h → st h m ≡ true → q (kn h m) ≡ true
       → swept (fin h m (end w m .routes)) rs ≡ swept h (end w m .routes ++ rs))
-      (J-none : (h : Past) → J h []) (J-more : (w : World) (h : Past) (m : ℕ) (rs : List Route) → I w h → st h m ≡ true → q (kn h m) ≡ true
-      → J (fin h m (end w m .routes)) rs → J h (end w m .routes ++ rs)) where
+      (J-none : (w : World) (h : Past) → I w h → ((i : ℕ) → st h i ≡ true → q (kn h i) ≡ false) → J w h [])
+      (J-more : (w : World) (h : Past) (m : ℕ) (rs : List Route) → I w h → st h m ≡ true → q (kn h m) ≡ true
+      → ((i : ℕ) → st h i ≡ true → q (kn h i) ≡ true → m ≤ i) → J (end w m .world) (fin h m (end w m .routes)) rs → J w h (end w m .routes ++ rs)) where
     abbrev goes : ℕ → Walked → World → Sent
     goes turns c w = walkFrom (X .key) table (having X by Q) end turns c w
 
-    stop : (w : World) (h : Past) → I w h → any (having X by Q) (table w) ≡ false → I w (swept h []) × J h []
-    stop w h R n = (subst (λ g. I w g) (sym (none h (none-has X by Q q same-q (tells w h R) n))) R, J-none h)
+    stop : (w : World) (h : Past) → I w h → any (having X by Q) (table w) ≡ false → I w (swept h []) × J w h []
+    stop w h R n = let free = none-has X by Q q same-q (tells w h R) n in (subst (λ g. I w g) (sym (none h free)) R, J-none w h R free)
 
     abbrev Goes : ℕ → Type 0
     Goes turns = (c : Walked) (w : World) (h : Past) → I w h → count (having X by Q) (table w) ≤ turns → any (behind (X .key) (having X by Q) c) (table w) ≡ false
-        → I (goes turns c w .world) (swept h (goes turns c w .routes)) × J h (goes turns c w .routes)
+        → I (goes turns c w .world) (swept h (goes turns c w .routes)) × J w h (goes turns c w .routes)
 
     walk-from : (turns : ℕ) (c : Walked) (w : World) (h : Past) → I w h → count (having X by Q) (table w) ≤ turns
         → any (behind (X .key) (having X by Q) c) (table w) ≡ false
-        → I (goes turns c w .world) (swept h (goes turns c w .routes)) × J h (goes turns c w .routes)
+        → I (goes turns c w .world) (swept h (goes turns c w .routes)) × J w h (goes turns c w .routes)
     unfolding walkFrom
     walk-from zero c w h R l b = stop w h R (count-none (having X by Q) (table w) (omega arith))
-    walk-from (suc turns) c w h R l b = when-cases (λ (s : Sent). I (s .world) (swept h (s .routes)) × J h (s .routes)) (N .taken)
+    walk-from (suc turns) c w h R l b = when-cases (λ (s : Sent). I (s .world) (swept h (s .routes)) × J w h (s .routes)) (N .taken)
         (λ v. andThen (end v (N .id)) (goes turns N)) w (λ e. one-turn e (walk-from turns)) (λ e. stop w h R (sym (nl .0) ∙ e))
       where
         N : Walked
@@ -121,7 +146,7 @@ module _ {A K : Type 0} (X : Keys A ℕ K) (by : (i j : ℕ) → eqb i j ≡ X .
         nl = next-lowest (X .key) (having X by Q) c (table w) b
 
         one-turn : N .taken ≡ true → Goes turns
-            → I (goes turns N (end w (N .id) .world) .world) (swept h (end w (N .id) .routes ++ goes turns N (end w (N .id) .world) .routes)) × J h (end w
+            → I (goes turns N (end w (N .id) .world) .world) (swept h (end w (N .id) .routes ++ goes turns N (end w (N .id) .world) .routes)) × J w h (end w
             (N .id) .routes ++ goes turns N (end w (N .id) .world) .routes)
         one-turn e ih =
             let some = sym (nl .0) ∙ e in
@@ -146,14 +171,14 @@ module _ {A K : Type 0} (X : Keys A ℕ K) (by : (i j : ℕ) → eqb i j ≡ X .
             let r = ih N (end w m .world) (fin h m rs) R₁ l₁ b₁ in (
               subst (λ g. I (goes turns N (end w m .world) .world) g) (more w h m (goes turns N (end w m .world) .routes) R a s) (r .0),
               J-more w h m (goes turns N
-                  (end w m .world) .routes) R a s (r .1),
+                  (end w m .world) .routes) R a s (least-of T m lo) (r .1),
             )
 
     pub walked : (p : A → Bool) → ((a : A) → p a ≡ having X by Q a) → (w : World) (h : Past) → I w h
-        → I (walk (X .key) table p end w .world) (swept h (walk (X .key) table p end w .routes)) × J h (walk (X .key) table p end w .routes)
+        → I (walk (X .key) table p end w .world) (swept h (walk (X .key) table p end w .routes)) × J w h (walk (X .key) table p end w .routes)
     unfolding walk
     walked p same w h R = subst (λ (p : A → Bool). I (walkFrom (X .key) table p end (length (table w)) notYet w .world) (swept h (walkFrom (X .key) table p end
-        (length (table w)) notYet w .routes)) × J h (walkFrom (X .key) table p end (length (table w)) notYet w .routes)) (sym (λ i a. same a i))
+        (length (table w)) notYet w .routes)) × J w h (walkFrom (X .key) table p end (length (table w)) notYet w .routes)) (sym (λ i a. same a i))
         (walk-from (length (table w)) notYet w h R (count-length (having X by Q) (table w)) (nothing-behind (table w)))
       where
         nothing-behind : (t : List A) → any (behind (X .key) (having X by Q) notYet) t ≡ false

@@ -1,6 +1,7 @@
 -- ---- the claim
 pub mod Past
 pub mod History
+pub mod Words
 pub mod Claim
 pub mod Tables
 pub mod Orders

@@ -109,7 +109,7 @@ impl IncomingBody {
 
     /// As [`decode`](Self::decode), with the fields of a refused body too.
     pub fn read(input: &[u8]) -> Read<Self> {
-        Read::of(ffi::read(ffi::hnsr_body_decode_incoming, input))
+        Read::of(ffi::decode_incoming(input))
     }
 }
 
@@ -142,7 +142,7 @@ impl AcceptBody {
 
     /// As [`decode`](Self::decode), with the fields of a refused body too.
     pub fn read(input: &[u8]) -> Read<Self> {
-        Read::of(ffi::read(ffi::hnsr_body_decode_accept, input))
+        Read::of(ffi::decode_accept(input))
     }
 }
 
@@ -171,7 +171,7 @@ impl OpenedBody {
 
     /// As [`decode`](Self::decode), with the fields of a refused body too.
     pub fn read(input: &[u8]) -> Read<Self> {
-        Read::of(ffi::read(ffi::hnsr_body_decode_opened, input))
+        Read::of(ffi::decode_opened(input))
     }
 }
 
@@ -195,7 +195,7 @@ pub struct DataBody<'input> {
 impl<'input> DataBody<'input> {
     /// Checks the size.
     pub fn decode(input: &'input [u8]) -> Result<Self, ProtocolError> {
-        checked(ffi::read(ffi::hnsr_body_decode_data, input)).map(|()| Self { bytes: input })
+        checked(ffi::decode_data(input)).map(|()| Self { bytes: input })
     }
 }
 
@@ -214,7 +214,7 @@ impl WindowBody {
 
     /// As [`decode`](Self::decode), with the field of a refused body too.
     pub fn read(input: &[u8]) -> Read<Self> {
-        Read::of(ffi::read(ffi::hnsr_body_decode_window, input))
+        Read::of(ffi::decode_window(input))
     }
 }
 
@@ -264,7 +264,7 @@ impl<'input> CloseBody<'input> {
 
     /// The fields in front of the detail, of a refused body too.
     pub fn read(input: &[u8]) -> Read<ReasonDetail> {
-        Read::of(ffi::read(ffi::hnsr_body_decode_close, input))
+        Read::of(ffi::decode_close(input))
     }
 }
 
@@ -286,13 +286,13 @@ impl<'input> ErrorBody<'input> {
 
     /// The fields in front of the detail, of a refused body too.
     pub fn read(input: &[u8]) -> Read<ReasonDetail> {
-        Read::of(ffi::read(ffi::hnsr_body_decode_error, input))
+        Read::of(ffi::decode_error(input))
     }
 }
 
 /// Whether a text is UTF-8 by RFC 3629.
 pub fn is_utf8(text: &[u8]) -> bool {
-    ffi::read(ffi::hnsr_body_is_utf8, text)
+    ffi::is_utf8(text)
 }
 
 /// What hns-hnsr-protocol's `HnsrPacket::new` checks: the size first, then that the context is not zero, which opcode 6 may have.

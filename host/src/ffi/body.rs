@@ -59,27 +59,38 @@ pub struct Answer<Body> {
     pub body: Body,
 }
 
+/// Declares functions of the archive that take a slice of bytes and nothing else, and gives each a safe name.
+macro_rules! readers {
+    ($($name:ident by $function:ident -> $out:ty;)+) => {
+        extern "C" {
+            $(fn $function(input: *const u8, length: usize) -> $out;)+
+        }
+
+        $(pub fn $name(input: &[u8]) -> $out {
+            // SAFETY: pointer and length are of one slice, and the function only reads it, during the call.
+            unsafe { $function(input.as_ptr(), input.len()) }
+        })+
+    };
+}
+
+readers! {
+    is_utf8 by hnsr_body_is_utf8 -> bool;
+    decode_incoming by hnsr_body_decode_incoming -> Answer<IncomingBody>;
+    decode_accept by hnsr_body_decode_accept -> Answer<AcceptBody>;
+    decode_opened by hnsr_body_decode_opened -> Answer<OpenedBody>;
+    decode_data by hnsr_body_decode_data -> Cause;
+    decode_window by hnsr_body_decode_window -> Answer<WindowBody>;
+    decode_close by hnsr_body_decode_close -> Answer<ReasonDetail>;
+    decode_error by hnsr_body_decode_error -> Answer<ReasonDetail>;
+}
+
 extern "C" {
-    pub fn hnsr_body_is_utf8(text: *const u8, length: usize) -> bool;
     fn hnsr_body_decode_open(input: *const u8, length: usize, key_valid: bool) -> Answer<OpenBody>;
-    pub fn hnsr_body_decode_incoming(input: *const u8, length: usize) -> Answer<IncomingBody>;
-    pub fn hnsr_body_decode_accept(input: *const u8, length: usize) -> Answer<AcceptBody>;
-    pub fn hnsr_body_decode_opened(input: *const u8, length: usize) -> Answer<OpenedBody>;
-    pub fn hnsr_body_decode_data(input: *const u8, length: usize) -> Cause;
-    pub fn hnsr_body_decode_window(input: *const u8, length: usize) -> Answer<WindowBody>;
-    pub fn hnsr_body_decode_close(input: *const u8, length: usize) -> Answer<ReasonDetail>;
-    pub fn hnsr_body_decode_error(input: *const u8, length: usize) -> Answer<ReasonDetail>;
     fn hnsr_body_validate_packet(opcode: u8, context_id: u64, body_length: usize) -> Cause;
 }
 
-/// Calls one of the functions above that take a slice and nothing else.
-pub fn read<Out>(reader: unsafe extern "C" fn(*const u8, usize) -> Out, input: &[u8]) -> Out {
-    // SAFETY: pointer and length are of one slice, and each of these functions only reads it, during the call.
-    unsafe { reader(input.as_ptr(), input.len()) }
-}
-
 pub fn decode_open(input: &[u8], key_valid: bool) -> Answer<OpenBody> {
-    // SAFETY: as in `read`.
+    // SAFETY: pointer and length are of one slice, and the function only reads it, during the call.
     unsafe { hnsr_body_decode_open(input.as_ptr(), input.len(), key_valid) }
 }
 

@@ -161,13 +161,18 @@ extern "C" {
     ) -> DueReply;
 }
 
-/// Calls a function whose first parameters are lent slices, each as its pointer and its length.
+/// Calls a function whose first parameters are slices, each as its pointer and its length: lent to be written, or only read.
 macro_rules! call {
     ($function:ident, lent $($slice:expr),+; $($rest:expr),+) => {
         // SAFETY: pointer and length are of one slice that is borrowed for writing, no two slices overlap, and no function keeps
         // a pointer. The other arguments are numbers, or slices that are only read. Every record, word, byte and number is
         // allowed: the functions ask nothing of their caller.
         unsafe { $function($($slice.as_mut_ptr(), $slice.len(),)+ $($rest),+) }
+    };
+    ($function:ident, read $($slice:expr),+; $($rest:expr),+) => {
+        // SAFETY: pointer and length are of one slice, and the function only reads it, during the call. The other arguments are
+        // numbers. Every record and number is allowed.
+        unsafe { $function($($slice.as_ptr(), $slice.len(),)+ $($rest),+) }
     };
 }
 
@@ -224,21 +229,12 @@ pub fn observe_time(runtime: Runtime, time: u64) -> RelayReply {
     unsafe { opaque_relay_observe_time(runtime, time) }
 }
 
-/// `opaque_relay_status` or `opaque_relay_next_due`.
-type Asking<Reply> =
-    unsafe extern "C" fn(*const RelayPending, usize, *const RelayCircuit, usize, *const InflightAction, usize, Runtime) -> Reply;
-
-fn ask<Reply>(asking: Asking<Reply>, tables: &Tables, runtime: Runtime) -> Reply {
-    let Tables { pending, circuits, inflight, .. } = tables;
-    let (p, c, i) = (pending.as_ptr(), circuits.as_ptr(), inflight.as_ptr());
-    // SAFETY: pointer and length are of one slice, and both functions only read it, during the call.
-    unsafe { asking(p, pending.len(), c, circuits.len(), i, inflight.len(), runtime) }
-}
-
 pub fn status(tables: &Tables, runtime: Runtime) -> StatusReply {
-    ask(opaque_relay_status, tables, runtime)
+    let Tables { pending, circuits, inflight, .. } = tables;
+    call!(opaque_relay_status, read pending, circuits, inflight; runtime)
 }
 
 pub fn next_due(tables: &Tables, runtime: Runtime) -> DueReply {
-    ask(opaque_relay_next_due, tables, runtime)
+    let Tables { pending, circuits, inflight, .. } = tables;
+    call!(opaque_relay_next_due, read pending, circuits, inflight; runtime)
 }

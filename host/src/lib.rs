@@ -67,7 +67,7 @@ mod status;
 pub use admission::{Admission, Grant};
 pub use config::OpaqueRelayConfig;
 pub use error::HnsrRuntimeError;
-pub use packet::{HnsrOpcode, HnsrPacket};
+pub use packet::{HnsrOpcode, HnsrPacket, UnknownOpcode};
 pub use peer::{HnsrPeerId, MAXIMUM_PEER};
 pub use random::{OsRandom, RandomSource, RANDOM_BYTES};
 pub use relay::OpaqueRelayRuntime;

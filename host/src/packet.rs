@@ -77,19 +77,45 @@ pub enum HnsrOpcode {
     /// 20: the same, as something went wrong.
     Error,
     /// A number from 21 on. Such a packet is refused with 16.
-    Unknown(u8),
+    Unknown(UnknownOpcode),
+}
+
+/// An opcode that is no message's: 21 to 255. Only [`HnsrOpcode::from`] makes one, so that no message has two forms.
+///
+/// ```
+/// use lekchnam_host::HnsrOpcode;
+///
+/// assert_eq!(HnsrOpcode::from(13), HnsrOpcode::Open);
+/// assert!(matches!(HnsrOpcode::from(21), HnsrOpcode::Unknown(unknown) if unknown.number() == 21));
+/// ```
+///
+/// ```compile_fail
+/// lekchnam_host::HnsrOpcode::Unknown(13);
+/// ```
+///
+/// ```compile_fail
+/// lekchnam_host::UnknownOpcode(13);
+/// ```
+#[derive(Clone, Copy, Debug, Eq, Hash, PartialEq)]
+pub struct UnknownOpcode(u8);
+
+impl UnknownOpcode {
+    /// The number.
+    pub const fn number(self) -> u8 {
+        self.0
+    }
 }
 
 impl From<u8> for HnsrOpcode {
     fn from(number: u8) -> Self {
-        NAMED.get(usize::from(number)).copied().unwrap_or(Self::Unknown(number))
+        NAMED.get(usize::from(number)).copied().unwrap_or(Self::Unknown(UnknownOpcode(number)))
     }
 }
 
 impl From<HnsrOpcode> for u8 {
     fn from(opcode: HnsrOpcode) -> Self {
         match opcode {
-            HnsrOpcode::Unknown(number) => number,
+            HnsrOpcode::Unknown(unknown) => unknown.number(),
             named => NAMED.iter().take_while(|other| **other != named).count() as u8,
         }
     }

@@ -48,12 +48,25 @@ fn opcodes_have_the_numbers_of_the_rust() {
     for number in 0..=255_u8 {
         let opcode = HnsrOpcode::from(number);
         assert_eq!(u8::from(opcode), number);
-        assert_eq!(matches!(opcode, HnsrOpcode::Unknown(_)), number > 20);
+        match opcode {
+            HnsrOpcode::Unknown(unknown) => assert_eq!((unknown.number(), number > 20), (number, true)),
+            _ => assert!(number <= 20),
+        }
     }
     let relayed = [(13, HnsrOpcode::Open), (15, HnsrOpcode::Accept), (17, HnsrOpcode::Data), (18, HnsrOpcode::Window)];
     let sent = [(14, HnsrOpcode::Incoming), (16, HnsrOpcode::Opened), (19, HnsrOpcode::Close), (20, HnsrOpcode::Error)];
     for (number, opcode) in relayed.into_iter().chain(sent) {
         assert_eq!(u8::from(opcode), number);
+    }
+}
+
+#[test]
+fn every_opcode_from_21_on_is_refused_with_16_and_moves_the_clock() {
+    let mut relay = relay(small());
+    for (number, now) in (21..=255_u8).zip(START..) {
+        let packet = HnsrPacket::new(number.into(), [1; 8], b"").expect("a packet");
+        assert_eq!(relay.handle(&Admission::Refused, &peer(b"r"), &packet, now).unwrap_err(), UnexpectedOpcode);
+        assert_eq!(relay.status().trusted_time_high_water, now);
     }
 }
 
@@ -139,7 +152,7 @@ fn a_refused_call_has_no_words_and_may_move_the_clock() {
     assert!(!relay.words().is_empty());
     assert_eq!(say(&mut relay, b"r", HnsrOpcode::Data, id + 1, b"x").unwrap_err(), UnknownCircuit);
     assert!(relay.words().is_empty() && relay.routes().is_empty());
-    let unknown = HnsrPacket::new(HnsrOpcode::Unknown(21), [1; 8], b"").expect("a packet");
+    let unknown = HnsrPacket::new(21.into(), [1; 8], b"").expect("a packet");
     assert_eq!(relay.handle(&Admission::Refused, &peer(b"r"), &unknown, START + 5).unwrap_err(), UnexpectedOpcode);
     assert_eq!(relay.status().trusted_time_high_water, START + 5);
     assert_eq!(relay.observe_time(START), Err(ClockRollback));

@@ -10,6 +10,10 @@ use crate::route::{HnsrActionId, Routes};
 use crate::status::HnsrRuntimeStatus;
 use std::fmt::{self, Debug, Formatter};
 
+/// Why `status` and `next_due` cannot fail. Their one refusal is 22, a table with fewer places than its limit. `from_parts`, which
+/// makes every relay, has asked `status` of these tables; from then on no table changes its length, and no call changes a limit.
+const PLACES_ARE_ENOUGH: &str = "the tables have the places that they need";
+
 /// A relay of circuits between two peers. It does not read their DATA, and it owns no socket and no clock.
 ///
 /// Each route that a call hands out counts until [`acknowledge`](Self::acknowledge) is called with its number. Memory is taken
@@ -96,16 +100,17 @@ impl<Random: RandomSource> OpaqueRelayRuntime<Random> {
         self.routed(answer)
     }
 
-    /// Ends all that a peer is a side of. This cannot be refused: places and words are enough, and a peer has a name.
-    pub fn disconnect(&mut self, peer: &HnsrPeerId) -> Routes<'_> {
+    /// Ends all that a peer is a side of. Refused, with 4, is only a name of no bytes, which no peer has: a route may have it where
+    /// stored tables do.
+    pub fn disconnect(&mut self, peer: &HnsrPeerId) -> Result<Routes<'_>, HnsrRuntimeError> {
         let answer = lent::disconnect(&mut self.tables, &mut self.out, &mut self.runtime, peer.as_bytes());
-        self.routed(answer).unwrap_or_default()
+        self.routed(answer)
     }
 
-    /// Ends all that goes by a reservation. This cannot be refused: places and words are enough.
-    pub fn revoke_reservation(&mut self, reservation_id: [u8; 16]) -> Routes<'_> {
+    /// Ends all that goes by a reservation. Its one refusal is 22, and the relay has places and words enough.
+    pub fn revoke_reservation(&mut self, reservation_id: [u8; 16]) -> Result<Routes<'_>, HnsrRuntimeError> {
         let answer = lent::revoke_reservation(&mut self.tables, &mut self.out, &mut self.runtime, reservation_id.into());
-        self.routed(answer).unwrap_or_default()
+        self.routed(answer)
     }
 
     /// Moves the clock and ends all whose time is over. [`next_due`](Self::next_due) says when there is something to end.
@@ -136,12 +141,12 @@ impl<Random: RandomSource> OpaqueRelayRuntime<Random> {
 impl<Random> OpaqueRelayRuntime<Random> {
     /// What the relay tells of itself.
     pub fn status(&self) -> HnsrRuntimeStatus {
-        lent::status(&self.tables, &self.runtime).expect("the tables have the places that they need")
+        lent::status(&self.tables, &self.runtime).expect(PLACES_ARE_ENOUGH)
     }
 
     /// When [`expire`](Self::expire) has work: the earliest deadline of a pending record or end of a circuit.
     pub fn next_due(&self) -> Option<u64> {
-        lent::next_due(&self.tables, &self.runtime).expect("the tables have the places that they need")
+        lent::next_due(&self.tables, &self.runtime).expect(PLACES_ARE_ENOUGH)
     }
 
     /// The routes of the last call; none if it was refused.

@@ -49,10 +49,10 @@ impl Relay {
                 self.library().acknowledge(action_id, *delivered)?;
             }
             Call::Disconnect { peer } => match HnsrPeerId::new(&peer[..]) {
-                Ok(peer) => _ = self.library().disconnect(&peer),
+                Ok(peer) => _ = self.library().disconnect(&peer)?,
                 Err(_) => return self.by_parts(|tables, out, runtime| lent::disconnect(tables, out, runtime, peer)),
             },
-            Call::Revoke { reservation } => _ = self.library().revoke_reservation(*reservation),
+            Call::Revoke { reservation } => _ = self.library().revoke_reservation(*reservation)?,
             Call::Expire { now } => _ = self.library().expire(*now)?,
             Call::Observe { now } => self.library().observe_time(*now)?,
             Call::Replace { expected, enabled } => _ = self.library().replace_enabled(*expected, *enabled)?,

@@ -71,7 +71,7 @@ impl Side for Library {
     }
 
     fn disconnect(&mut self, peer: &HnsrPeerId, seen: &mut Seen) {
-        read(self.0.disconnect(peer), seen);
+        read(self.0.disconnect(peer).expect("taken"), seen);
     }
 
     fn expire(&mut self, seen: &mut Seen) {

@@ -208,7 +208,7 @@ impl Office {
     /// The box comes back by a new connection.
     pub fn break_connection(&mut self) -> Result<()> {
         let broken = self.supplier();
-        self.relay.disconnect(&broken);
+        self.relay.disconnect(&broken)?;
         self.record(|reckoning, routes| reckoning.disconnected(broken, routes));
         self.connections += 1;
         Ok(())

@@ -43,9 +43,9 @@ type Ending = fn(&mut Relay) -> usize;
 /// The calls that end many records, each with how many routes it sends for a pending record and for a circuit; none where it ends
 /// none.
 const ENDINGS: [(Ending, usize, usize); 5] = [
-    (|relay| relay.disconnect(&peer(b"r")).len(), 0, 2),
-    (|relay| relay.disconnect(&peer(b"f")).len(), 1, 0),
-    (|relay| relay.revoke_reservation([5; 16]).len(), 2, 2),
+    (|relay| relay.disconnect(&peer(b"r")).expect("not short").len(), 0, 2),
+    (|relay| relay.disconnect(&peer(b"f")).expect("not short").len(), 1, 0),
+    (|relay| relay.revoke_reservation([5; 16]).expect("not short").len(), 2, 2),
     (|relay| relay.expire(EXPIRY).expect("not short").len(), 2, 2),
     (|relay| relay.replace_enabled(1, false).expect("not short").len(), 2, 2),
 ];
@@ -77,7 +77,7 @@ fn a_relay_without_room_for_actions_can_be_ended_too() {
     relay.acknowledge(action_id, true).expect("it was outstanding");
     while say(&mut relay, b"e", HnsrOpcode::Data, busy, b"x").is_ok() {}
     assert_eq!(relay.status().queued_actions, 8);
-    assert!(relay.revoke_reservation([6; 16]).is_empty());
+    assert!(relay.revoke_reservation([6; 16]).expect("not short").is_empty());
     assert_eq!((relay.status().active_circuits, relay.status().revoked_work), (1, 1));
 }
 

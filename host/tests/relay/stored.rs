@@ -54,12 +54,14 @@ fn names_in_tables_are_read_as_found() {
         tables.circuits[0].endpoint = StoredPeer { len, bytes: [7; 128] };
         assert_eq!(tables.circuits[0].endpoint.as_bytes().len(), read);
         let mut relay = Relay::from_parts(runtime, tables, Counting::default()).expect("stored parts");
-        let routes = relay.revoke_reservation([5; 16]);
+        let routes = relay.revoke_reservation([5; 16]).expect("not short");
         let names: Vec<usize> = routes.iter().map(|queued| queued.route.destination.as_bytes().len()).collect();
         assert_eq!(names, [1, read]);
-        // nobody is disconnected by a name of no bytes
+        // a name of no bytes is no peer's, and the refusal is told
         let last = routes.iter().last().expect("two routes").route.destination;
-        assert!(relay.disconnect(&last).is_empty());
+        let expected = if read == 0 { Err(HnsrRuntimeError::InvalidPeer) } else { Ok(0) };
+        assert_eq!(relay.disconnect(&last).map(|routes| routes.len()), expected);
+        assert!(relay.words().is_empty());
     }
 }
 
@@ -71,7 +73,7 @@ fn an_exhausted_sequence_refuses() {
     runtime.next_action_sequence = u64::MAX;
     let mut relay = Relay::from_parts(runtime, tables, Counting::default()).expect("stored parts");
     assert_eq!(say(&mut relay, b"r", HnsrOpcode::Data, id, b"x").unwrap_err(), HnsrRuntimeError::GenerationExhausted);
-    assert_eq!(relay.revoke_reservation([5; 16]).len(), 0);
+    assert_eq!(relay.revoke_reservation([5; 16]).map(|routes| routes.len()), Ok(0));
     assert_eq!(relay.status().revoked_work, 1);
 }
 

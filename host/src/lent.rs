@@ -9,7 +9,7 @@
 //! use lekchnam_host::{HnsrRuntimeError, OpaqueRelayConfig};
 //!
 //! let config = OpaqueRelayConfig { maximum_pending: 2, maximum_circuits: 2, ..OpaqueRelayConfig::default() };
-//! let mut tables = Tables::new(&config, 1);
+//! let mut tables = Tables::new(&config, 1)?;
 //! let mut out = vec![0; tables.most_words()];
 //! let mut runtime = lent::new(&mut tables, [1; 16], 1, config, 100)?;
 //! assert_eq!(lent::expire(&mut tables, &mut out, &mut runtime, 101), Ok(0));
@@ -30,6 +30,7 @@ pub use records::{
     InflightAction, RelayCircuit, RelayPacket, RelayPending, RelayTicket, ReservationId, ReservationUsage, Runtime,
     RuntimeCounters, StoredPeer,
 };
+pub(crate) use tables::unused;
 pub use tables::{Tables, CLOSING_WORDS, HANDLE_WORDS};
 
 /// A packet, and what the host hands over with it.

@@ -43,6 +43,21 @@ impl OpaqueRelayRuntime {
 
 impl<Random: RandomSource> OpaqueRelayRuntime<Random> {
     /// A new relay, switched on. The ledger needs a place for each reservation that OPENs go by and that has not ended.
+    ///
+    /// Refused with 3, 2 and 22, in this order: 22 ([`Short`](HnsrRuntimeError::Short)) where the ledger has no place, or where the
+    /// memory for the tables and the output words cannot be had. Before a 3 or a 2 no memory is taken.
+    ///
+    /// ```
+    /// use lekchnam_host::{HnsrRuntimeError, OpaqueRelayConfig, OpaqueRelayRuntime, OsRandom};
+    ///
+    /// let new = |generation, ledger_places| {
+    ///     let config = OpaqueRelayConfig::default();
+    ///     OpaqueRelayRuntime::new_with([1; 16], generation, config, 100, ledger_places, OsRandom::default()).map(|_| ())
+    /// };
+    /// assert_eq!(new(1, 5_000), Ok(()));
+    /// assert_eq!(new(1, usize::MAX), Err(HnsrRuntimeError::Short));
+    /// assert_eq!(new(0, usize::MAX), Err(HnsrRuntimeError::InvalidSession));
+    /// ```
     pub fn new_with(
         session: [u8; 16],
         generation: u64,
@@ -51,17 +66,22 @@ impl<Random: RandomSource> OpaqueRelayRuntime<Random> {
         ledger_places: usize,
         random: Random,
     ) -> Result<Self, HnsrRuntimeError> {
-        // limits that are out of bounds take no memory: the call refuses them before it looks at the tables
-        let mut tables = config.validate().map_or_else(|_| Tables::default(), |config| Tables::new(&config, ledger_places));
-        let runtime = lent::new(&mut tables, session, generation, config, trusted_now)?;
+        let new = |tables: &mut Tables| lent::new(tables, session, generation, config, trusted_now);
+        // over no tables it answers 3, 2, or the 22 that says that nothing but tables is wanting
+        match new(&mut Tables::default()) {
+            Err(refused) if refused != HnsrRuntimeError::Short => return Err(refused),
+            _ => {}
+        }
+        let mut tables = Tables::new(&config, ledger_places)?;
+        let runtime = new(&mut tables)?;
         Self::from_parts(runtime, tables, random)
     }
 
     /// A relay that goes on from stored parts, whatever they hold; 22 where a table has fewer places than the configuration
-    /// allows.
+    /// allows, or where the memory for the output words cannot be had.
     pub fn from_parts(runtime: Runtime, tables: Tables, random: Random) -> Result<Self, HnsrRuntimeError> {
         lent::status(&tables, &runtime)?;
-        let out = vec![0; tables.most_words()];
+        let out = lent::unused(tables.most_words())?;
         Ok(Self { runtime, tables, out, words: 0, random })
     }
 

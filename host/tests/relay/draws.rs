@@ -1,6 +1,6 @@
 //! The drawing of ids.
 use crate::fixture::{grant, open, peer, relay_drawing, small, START};
-use lekchnam_host::lent::{RelayPending, Tables};
+use lekchnam_host::lent::RelayPending;
 use lekchnam_host::{
     Admission, HnsrOpcode, HnsrPacket, HnsrRuntimeError, OpaqueRelayRuntime, OsRandom, RandomSource, RANDOM_BYTES,
 };
@@ -100,5 +100,4 @@ fn the_operating_system_has_bytes() {
     assert_ne!(rooms[0], rooms[1]);
     let mut relay = OpaqueRelayRuntime::new([1; 16], 1, small(), START).expect("a relay");
     assert_eq!(open(&mut relay, b"r", 1, grant(b"e")).map(|id| id != 0), Ok(true));
-    assert_eq!(Tables::new(&small(), 4).pending.len(), relay.tables().pending.len());
 }

@@ -1,6 +1,7 @@
 //! Refusals: their numbers, their words, and which come before which.
 use crate::fixture::{circuit, grant, open, open_body, peer, relay, say, small, START};
 use lekchnam_host::body::{Invalid, ProtocolError};
+use lekchnam_host::lent::{ReservationUsage, Tables};
 use lekchnam_host::HnsrRuntimeError::{self, *};
 use lekchnam_host::{
     Admission, Grant, HnsrActionId, HnsrOpcode, HnsrPacket, HnsrPeerId, OpaqueRelayConfig, OpaqueRelayRuntime, OsRandom,
@@ -83,21 +84,50 @@ fn names_of_peers() {
     assert!(peer(&[1]) < peer(&[1, 0]) && peer(&[1, 9]) < peer(&[2]));
 }
 
+/// The answer to a `new` that is refused.
+fn refused_new(session: [u8; 16], generation: u64, config: OpaqueRelayConfig, ledger_places: usize) -> HnsrRuntimeError {
+    let random = OsRandom::default();
+    OpaqueRelayRuntime::new_with(session, generation, config, START, ledger_places, random).map(|_| ()).unwrap_err()
+}
+
+/// More places than there are addresses: of any record, of the ledger's, and of those just so many that their bytes can be counted.
+const NOT_TO_BE_HAD: [usize; 3] =
+    [usize::MAX, usize::MAX / size_of::<ReservationUsage>(), isize::MAX as usize / size_of::<ReservationUsage>()];
+
 #[test]
 fn new_refuses_session_then_configuration_then_ledger() {
     let none = OpaqueRelayConfig { maximum_pending: 0, ..small() };
     let vast = OpaqueRelayConfig { maximum_pending: usize::MAX, maximum_circuits: usize::MAX, ..small() };
-    let new = |session, generation, config, ledger| {
-        OpaqueRelayRuntime::new_with(session, generation, config, START, ledger, OsRandom::default()).map(|_| ()).unwrap_err()
-    };
-    for config in [none, vast] {
-        assert_eq!(new([0; 16], 1, config, 0), InvalidSession);
-        assert_eq!(new([1; 16], 0, config, 0), InvalidSession);
-        assert_eq!(new([1; 16], 1, config, 0), InvalidConfig);
-        assert_eq!(config.validate(), Err(InvalidConfig));
+    for ledger_places in [0, 1].into_iter().chain(NOT_TO_BE_HAD) {
+        for config in [none, vast] {
+            assert_eq!(refused_new([0; 16], 1, config, ledger_places), InvalidSession);
+            assert_eq!(refused_new([1; 16], 0, config, ledger_places), InvalidSession);
+            assert_eq!(refused_new([1; 16], 1, config, ledger_places), InvalidConfig);
+            assert_eq!(config.validate(), Err(InvalidConfig));
+        }
+        assert_eq!(refused_new([0; 16], 1, small(), ledger_places), InvalidSession);
+        assert_eq!(refused_new([1; 16], 0, small(), ledger_places), InvalidSession);
     }
-    assert_eq!(new([1; 16], 1, small(), 0), Short);
+    assert_eq!(refused_new([1; 16], 1, small(), 0), Short);
     assert_eq!(small().validate(), Ok(small()));
+}
+
+#[test]
+fn memory_that_cannot_be_had_is_refused_with_22() {
+    for places in NOT_TO_BE_HAD {
+        assert_eq!(refused_new([1; 16], 1, small(), places), Short);
+        assert_eq!(Tables::new(&small(), places), Err(Short));
+        // limits that `validate` would refuse
+        let limits = [
+            OpaqueRelayConfig { maximum_pending: places, ..small() },
+            OpaqueRelayConfig { maximum_circuits: places, ..small() },
+            OpaqueRelayConfig { maximum_inflight_actions: places, ..small() },
+        ];
+        for config in limits {
+            assert_eq!(Tables::new(&config, 1), Err(Short));
+        }
+    }
+    assert_eq!(Tables::new(&small(), 0).map(|tables| tables.ledger.len()), Ok(0));
 }
 
 #[test]

@@ -32,7 +32,7 @@ impl Reading {
 
 /// Tables for these limits, and a header that means nothing.
 fn unstarted(config: &OpaqueRelayConfig, ledger_places: usize) -> World {
-    let tables = config.validate().map_or_else(|_| Tables::default(), |config| Tables::new(&config, ledger_places));
+    let tables = config.validate().and_then(|config| Tables::new(&config, ledger_places)).unwrap_or_default();
     let runtime = Runtime {
         session: [0; 16],
         generation: 0,

@@ -28,7 +28,7 @@ impl HnsrPeerId {
         self.0.as_bytes()
     }
 
-    /// A name of at most 128 bytes, with zeros behind it: so two are equal where their bytes are.
+    /// A name of at most 128 bytes, with zeros behind it, as the relay stores one.
     pub(crate) fn padded(name: &[u8]) -> Self {
         let mut stored = StoredPeer { len: name.len(), ..StoredPeer::default() };
         stored.bytes[..name.len()].copy_from_slice(name);

@@ -11,9 +11,9 @@ mod table;
 
 use crate::answer::After;
 use crate::{Call, Config, Grant};
-use lekchnam_host::HnsrRuntimeError as Refused;
 use lekchnam_host::body::validate_packet;
 use lekchnam_host::lent::{ReservationUsage, Runtime, RuntimeCounters, StoredPeer, Tables};
+use lekchnam_host::{HnsrRuntimeError as Refused, MAXIMUM_PEER};
 use table::{count, drop_all};
 
 pub use crate::words::Route;
@@ -23,10 +23,27 @@ pub use machine::Reading;
 pub type Outcome = Result<Vec<Route>, Refused>;
 
 /// What a host keeps: the header and the tables.
-#[derive(Clone, Debug, Eq, PartialEq)]
+#[derive(Clone, Debug, Eq)]
 pub struct World {
     pub runtime: Runtime,
     pub tables: Tables,
+}
+
+/// Of a name every byte counts and the length as it stands, since a stored name is copied whole: records alone are equal where their
+/// names read the same.
+impl PartialEq for World {
+    fn eq(&self, other: &Self) -> bool {
+        let same_names = names(&self.tables).eq(names(&other.tables));
+        self.runtime == other.runtime && self.tables == other.tables && same_names
+    }
+}
+
+/// The names of every place, as they stand.
+fn names(tables: &Tables) -> impl Iterator<Item = (usize, [u8; MAXIMUM_PEER])> {
+    let pending = tables.pending.iter().flat_map(|p| [p.requester, p.endpoint]);
+    let circuits = tables.circuits.iter().flat_map(|c| [c.requester, c.endpoint]);
+    let actions = tables.inflight.iter().map(|action| action.destination);
+    pending.chain(circuits).chain(actions).map(|name| (name.len, name.bytes))
 }
 
 /// A packet with what the host hands over.

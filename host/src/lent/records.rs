@@ -1,6 +1,7 @@
 //! The records of the four tables, as the archive has them. An id is a number whose highest byte is the first on the wire.
 use crate::config::OpaqueRelayConfig;
 use crate::peer::MAXIMUM_PEER;
+use std::hash::{Hash, Hasher};
 
 /// A reservation's sixteen bytes.
 #[repr(C)]
@@ -25,9 +26,19 @@ impl From<ReservationId> for [u8; 16] {
     }
 }
 
-/// A peer's name in a record. What stands behind the name is not read.
+/// A peer's name in a record. What stands behind the name is not read, and two are equal where their names are, as they are to the
+/// relay.
+///
+/// ```
+/// use lekchnam_host::lent::StoredPeer;
+///
+/// let long = StoredPeer { len: 128, bytes: [7; 128] };
+/// assert_eq!(long, StoredPeer { len: usize::MAX, ..long });
+/// assert_eq!(StoredPeer { len: 0, ..long }, StoredPeer::default());
+/// assert_ne!(long, StoredPeer { len: 127, ..long });
+/// ```
 #[repr(C)]
-#[derive(Clone, Copy, Debug, Eq, Hash, PartialEq)]
+#[derive(Clone, Copy, Debug)]
 pub struct StoredPeer {
     /// How long the name is; over 128 reads as 128.
     pub len: usize,
@@ -39,6 +50,20 @@ impl StoredPeer {
     /// The name.
     pub fn as_bytes(&self) -> &[u8] {
         &self.bytes[..self.len.min(MAXIMUM_PEER)]
+    }
+}
+
+impl PartialEq for StoredPeer {
+    fn eq(&self, other: &Self) -> bool {
+        self.as_bytes() == other.as_bytes()
+    }
+}
+
+impl Eq for StoredPeer {}
+
+impl Hash for StoredPeer {
+    fn hash<H: Hasher>(&self, state: &mut H) {
+        self.as_bytes().hash(state);
     }
 }
 

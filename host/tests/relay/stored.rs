@@ -1,14 +1,20 @@
 //! A relay that goes on from stored parts.
 use crate::fixture::{circuit, grant, open, relay, restored, say, small, Counting, Relay, START};
-use lekchnam_host::lent::{self, Packet, RelayPacket, StoredPeer};
+use lekchnam_host::lent::{self, Packet, RelayPacket, RelayPending, StoredPeer, Tables};
 use lekchnam_host::{HnsrActionId, HnsrOpcode, HnsrRuntimeError, Routes};
+use std::collections::HashSet;
+
+/// Every field of every place, also what stands behind a name, which `==` does not look at.
+fn raw(tables: &Tables) -> String {
+    format!("{tables:?}")
+}
 
 /// Whether two relays give the same from here on: answers, words, header and tables.
 fn same(first: &mut Relay, second: &mut Relay, call: impl Fn(&mut Relay) -> Option<HnsrRuntimeError>) {
     assert_eq!(call(first), call(second));
     assert_eq!(first.words(), second.words());
     assert_eq!(first.runtime(), second.runtime());
-    assert_eq!(first.tables(), second.tables());
+    assert_eq!(raw(first.tables()), raw(second.tables()));
     assert_eq!((first.status(), first.next_due()), (second.status(), second.next_due()));
 }
 
@@ -42,6 +48,29 @@ fn parts_with_too_few_places_are_refused() {
         assert_eq!(Relay::from_parts(runtime, tables, Counting::default()).unwrap_err(), HnsrRuntimeError::Short);
     }
     assert!(Relay::from_parts(runtime, tables, Counting::default()).is_ok());
+}
+
+/// Two stored names are the same where the names are, as the relay reads them: no length over 128, nothing behind the name.
+#[test]
+fn stored_names_are_equal_where_they_read_the_same() {
+    let name = |len, behind| {
+        let mut bytes = [behind; 128];
+        bytes[..2].copy_from_slice(b"ab");
+        StoredPeer { len, bytes }
+    };
+    let names = [0, 1, 2, 3, 127, 128, 129, usize::MAX].map(|len| [name(len, 0), name(len, 9)]);
+    for one in names.as_flattened() {
+        for other in names.as_flattened() {
+            let same = one.as_bytes() == other.as_bytes();
+            assert_eq!(one == other, same);
+            assert_eq!(HashSet::from([*one, *other]).len(), if same { 1 } else { 2 });
+            let record = |requester| RelayPending { requester, ..RelayPending::default() };
+            assert_eq!(record(*one) == record(*other), same);
+        }
+    }
+    assert_eq!(name(2, 0), name(2, 9));
+    assert_eq!(name(128, 9), name(usize::MAX, 9));
+    assert_ne!(name(3, 0), name(3, 9));
 }
 
 /// "a peer length over 128 reads as 128"; a name of no bytes is in a table only where a host put it there.
@@ -91,7 +120,7 @@ fn lent_and_owned_agree() {
 
     let routes = say(&mut relay, b"r", HnsrOpcode::Data, id, b"hello").expect("DATA");
     assert_eq!(Routes::new(&out[..words]), routes);
-    assert_eq!((relay.runtime(), relay.tables()), (&runtime, &tables));
+    assert_eq!((relay.runtime(), raw(relay.tables())), (&runtime, raw(&tables)));
     assert_eq!(lent::status(&tables, &runtime), Ok(relay.status()));
     assert_eq!(lent::next_due(&tables, &runtime), Ok(relay.next_due()));
 }

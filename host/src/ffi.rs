@@ -1,8 +1,9 @@
-//! The archive's C functions, and the structs that only pass between. A slice is passed as its pointer and its length. All that
-//! is unsafe stands here.
+//! The archive's C functions, and the structs that only pass between; and one of the C library. A slice is passed as its pointer and
+//! its length. All that is unsafe stands here.
 pub mod body;
 #[cfg(test)]
 mod layout;
+pub mod random;
 pub mod relay;
 
 // Numbers of 64 bits are taken for `usize` and back, and `bytes_of` reads words as they lie in memory.

@@ -179,6 +179,11 @@ impl<Random> OpaqueRelayRuntime<Random> {
         &self.out[..self.words]
     }
 
+    /// The random source. Where an OPEN is refused with 8, it may tell whether it failed ([`OsRandom::failure`]).
+    pub fn random(&self) -> &Random {
+        &self.random
+    }
+
     /// What is to be stored beside the tables.
     pub fn runtime(&self) -> &Runtime {
         &self.runtime

@@ -22,7 +22,7 @@ pub enum HnsrRuntimeError {
     GenerationExhausted,
     /// 7: the time is behind the latest one that was seen.
     ClockRollback,
-    /// 8: no id could be drawn.
+    /// 8: no id could be drawn, or the random source had no bytes ([`OsRandom::failure`](crate::OsRandom::failure) tells which).
     Randomness,
     /// 9: the relay is switched off.
     Disabled,

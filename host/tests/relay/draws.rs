@@ -5,6 +5,8 @@ use lekchnam_host::{
     Admission, HnsrOpcode, HnsrPacket, HnsrRuntimeError, OpaqueRelayRuntime, OsRandom, RandomSource, RANDOM_BYTES,
 };
 use std::cell::Cell;
+use std::io;
+use std::rc::Rc;
 
 const TAKEN: u64 = 7;
 const FRESH: u64 = 9;
@@ -63,6 +65,38 @@ fn a_source_without_bytes_refuses_opens_alone() {
     assert_eq!(open(&mut relay, b"r", 1, grant(b"r")), Err(HnsrRuntimeError::Capacity));
 }
 
+/// A source that fails as long as it is told to, and keeps why.
+struct Failing {
+    broken: Rc<Cell<bool>>,
+    failure: Option<io::ErrorKind>,
+}
+
+impl RandomSource for Failing {
+    fn supply(&mut self, room: &mut [u8]) -> usize {
+        self.failure = self.broken.get().then_some(io::ErrorKind::Unsupported);
+        // zeros, if it does not fail
+        if self.broken.get() {
+            0
+        } else {
+            room.len()
+        }
+    }
+}
+
+/// Both are an 8, at document 01's place among the rows; the source tells them apart.
+#[test]
+fn a_failing_source_can_be_told_from_an_unlucky_draw() {
+    let broken = Rc::new(Cell::new(true));
+    let mut relay = relay_drawing(small(), Failing { broken: broken.clone(), failure: None });
+    for (fails, failure) in [(true, Some(io::ErrorKind::Unsupported)), (false, None), (true, Some(io::ErrorKind::Unsupported))] {
+        broken.set(fails);
+        assert_eq!(open(&mut relay, b"r", 1, grant(b"e")), Err(HnsrRuntimeError::Randomness));
+        assert_eq!(relay.random().failure, failure);
+        // a row before the drawing is answered all the same
+        assert_eq!(open(&mut relay, b"r", 1, grant(b"r")), Err(HnsrRuntimeError::Capacity));
+    }
+}
+
 #[test]
 fn a_source_that_claims_too_much_is_not_believed() {
     let mut relay = relay_drawing(small(), |room: &mut [u8]| {
@@ -96,8 +130,10 @@ fn the_operating_system_has_bytes() {
     let mut rooms = [[0; RANDOM_BYTES]; 2];
     for room in &mut rooms {
         assert_eq!(source.supply(room), RANDOM_BYTES);
+        assert!(source.failure().is_none());
     }
     assert_ne!(rooms[0], rooms[1]);
     let mut relay = OpaqueRelayRuntime::new([1; 16], 1, small(), START).expect("a relay");
     assert_eq!(open(&mut relay, b"r", 1, grant(b"e")).map(|id| id != 0), Ok(true));
+    assert!(relay.random().failure().is_none());
 }

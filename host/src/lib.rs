@@ -47,7 +47,8 @@
 //! [`lent`] has the same calls over tables that the host keeps itself, and [`body`] the checks of the messages' bodies.
 //!
 //! Proved is what stands behind the calls, in the crates of the project. This crate is not: it declares the C functions of the
-//! archive that `rt staticlib lekchnam` writes, and gives them these types. It runs on x86-64, as the archive does.
+//! archive that `rt staticlib lekchnam` writes, and gives them these types. It runs on x86-64, as the archive does. `host/archive`
+//! makes the archive; where it was made elsewhere, `LEKCHNAM_STATICLIB` names its folder.
 #![deny(missing_docs, unsafe_code)]
 
 mod admission;

@@ -50,7 +50,7 @@ pub enum HnsrRuntimeError {
     UnknownAction,
     /// 21: the snapshots of hns-hnsr-protocol have it; no call here answers it.
     CorruptSnapshot,
-    /// 22, added: the tables or the output words are too few.
+    /// 22, added: the tables or the output words are too few, or the memory for them cannot be had.
     Short,
     /// 23, added: the ledger is full.
     LedgerFull,

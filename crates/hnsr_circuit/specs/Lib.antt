@@ -46,5 +46,7 @@ pub mod Cases
 pub mod FoundWorlds
 pub mod Found
 pub mod FoundMore
+-- ---- rows in front of rows
+pub mod Rows
 -- ---- what is proved of them
 pub mod Laws

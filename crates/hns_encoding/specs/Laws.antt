@@ -1,7 +1,6 @@
 pub mod Tests
 pub mod Sums
 pub mod Lists
-pub mod Numbers
 pub mod Bytes
 pub mod Words
 pub mod Cursor

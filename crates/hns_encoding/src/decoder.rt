@@ -108,27 +108,27 @@ impl Decoder {
         saturating_sub_usize(input.len(), self.position)
     }
 
-    // The cursor behind the next `length` bytes.
-    pub fn skip(self, input: &[u8], length: usize) -> Step
-        ensures { λ r. ⌜ r ≡ steps Step.Ok Step.Err length (now (input .entry)) self ⌝ }
+    // The cursor behind the next `width` bytes.
+    pub fn skip(self, input: &[u8], width: usize) -> Step
+        ensures { λ r. ⌜ r ≡ steps Step.Ok Step.Err width (now (input .entry)) self ⌝ }
     {
         let at = self.position;
-        if fits(input.len(), at, length) {
+        if fits(input.len(), at, width) {
             Step::Ok(Decoder {
-                position: at + length,
+                position: at + width,
             })
         } else {
-            Step::Err(unexpected_end(input.len(), at, length))
+            Step::Err(unexpected_end(input.len(), at, width))
         }
     }
 
-    // The next `length` bytes as a part of the input; no bytes where `skip` says that it ends early.
-    pub fn read_slice(self, input: &[u8], length: usize) -> &[u8]
-        ensures { λ r. ⌜ now r ≡ part length (now (input .entry)) self ⌝ }
+    // The next `width` bytes as a part of the input; no bytes where `skip` says that it ends early.
+    pub fn read_slice(self, input: &[u8], width: usize) -> &[u8]
+        ensures { λ r. ⌜ now r ≡ part width (now (input .entry)) self ⌝ }
     {
         let at = self.position;
-        if fits(input.len(), at, length) {
-            &input[at..at + length]
+        if fits(input.len(), at, width) {
+            &input[at..at + width]
         } else {
             &input[..0]
         }

@@ -1,7 +1,7 @@
 // Sums, differences and the smaller of two, for every pair of operands. Each contract names a definition over the width in bits.
 ghost use mathlib.Core.Path.{_≡_};
 ghost use Prim.Native.Nat.{_-_, min};
-ghost use Rattle.hns_encoding.specs.Numbers.{saturatingAdd, checkedAdd};
+ghost use Rattle.hns_encoding.specs.Numbers.{saturatingAdd};
 
 // The sum, or the largest u64 where it would pass it.
 pub fn saturating_add_u64(a: u64, b: u64) -> u64
@@ -26,37 +26,6 @@ pub fn saturating_sub_usize(a: usize, b: usize) -> usize
     ensures { λ r. ⌜ r ≡ a - b ⌝ }
 {
     if b <= a { a - b } else { 0 }
-}
-
-// A sum that is reported when it does not fit.
-pub enum CheckedU64 {
-    Some(u64),
-    None,
-}
-
-pub enum CheckedU32 {
-    Some(u32),
-    None,
-}
-
-pub fn checked_add_u64(a: u64, b: u64) -> CheckedU64
-    ensures { λ r. ⌜ r ≡ checkedAdd CheckedU64.Some CheckedU64.None 64 a b ⌝ }
-{
-    if a <= u64::MAX - b {
-        CheckedU64::Some(a + b)
-    } else {
-        CheckedU64::None
-    }
-}
-
-pub fn checked_add_u32(a: u32, b: u32) -> CheckedU32
-    ensures { λ r. ⌜ r ≡ checkedAdd CheckedU32.Some CheckedU32.None 32 a b ⌝ }
-{
-    if a <= u32::MAX - b {
-        CheckedU32::Some(a + b)
-    } else {
-        CheckedU32::None
-    }
 }
 
 pub fn min_u64(a: u64, b: u64) -> u64

@@ -16,7 +16,7 @@ add-result : tie.Need-add-result
 add-result c =
     let s = c .before in
     let a = s .before .before .args in
-    record { fits = omega (arith, there (length (a .input .now)) (a .self .position) (a .length) (s .fits2 .result) (s .fits2 .ensures) (c .if1 .taken)) }
+    record { fits = omega (arith, there (length (a .input .now)) (a .self .position) (a .width) (s .fits2 .result) (s .fits2 .ensures) (c .if1 .taken)) }
 
 sub-result : tie.Need-sub-result
 sub-result c = search needs
@@ -28,7 +28,7 @@ part-result-end : tie.Need-part-result-end
 part-result-end c =
     let s = c .before in
     let a = s .before .before .args in
-    there (length (a .input .now)) (a .self .position) (a .length) (s .fits2 .result) (s .fits2 .ensures) (c .if1 .taken)
+    there (length (a .input .now)) (a .self .position) (a .width) (s .fits2 .result) (s .fits2 .ensures) (c .if1 .taken)
 
 slice-aggregate-result : tie.Need-slice-aggregate-result
 slice-aggregate-result c = search needs
@@ -37,14 +37,14 @@ returns : tie.Need-returns
 returns c =
     let s = c .before .before in
     let a = s .before .before .args in
-    ap (λ (k : ℕ). take k (drop (a .self .position) (a .input .now))) (add-sub-cancel-left (a .self .position) (a .length))
-    ∙ part-ok (a .length) (a .input .now) (a .self) (s .fits2 .result) (s .fits2 .ensures) (c .before .if1 .taken)
+    ap (λ (k : ℕ). take k (drop (a .self .position) (a .input .now))) (add-sub-cancel-left (a .self .position) (a .width))
+    ∙ part-ok (a .width) (a .input .now) (a .self) (s .fits2 .result) (s .fits2 .ensures) (c .before .if1 .taken)
 
 returns-2 : tie.Need-returns-2
 returns-2 c =
     let s = c .before .before in
     let a = s .before .before .args in
-    part-err (a .length) (a .input .now) (a .self) (s .fits2 .result) (s .fits2 .ensures) (c .before .if1 .left)
+    part-err (a .width) (a .input .now) (a .self) (s .fits2 .result) (s .fits2 .ensures) (c .before .if1 .left)
 
 pub read-slice-spec : {M : Type 1} → statement M
 read-slice-spec =

@@ -1,14 +1,14 @@
 -- `read_u32_le` meets its contract: the law of a field, at 4 bytes.
 use Prim.Native.Nat.{ℕ}
 use native.Mathlib.Omega.{arith}
-use mathlib.Core.Path.{_∙_, ap}
+use mathlib.Core.Path.{_≡_, _∙_, ap}
 use mathlib.Core.List.{List}
 use lib.Dec.{lit≤}
 use lib.ListN.{length}
 use Rattle.hns_encoding.specs.declared.decoder.Decoder.{Decoder}
 use Rattle.hns_encoding.specs.declared.decoder.ReadU32.the-variants.{Ok, Err}
 use Rattle.hns_encoding.specs.Bytes.{le}
-use Rattle.hns_encoding.specs.Cursor.{behind}
+use Rattle.hns_encoding.specs.Cursor.{behind, field}
 use Rattle.hns_encoding.specs.Laws.Cursor.{there, read-ok, read-err}
 use borrow.Author.Needs.{needs}
 use native.Mathlib.Omega.{arith}
@@ -22,7 +22,7 @@ le-at-requires : tie.Need-le-at-requires
 le-at-requires c κs =
     let s = c .before in
     let a = s .before .before .args in
-    (there (length (a .input .now)) (a .self .position) 4 (s .fits2 .result) (s .fits2 .ensures) (c .if1 .taken), lit≤ tt)
+    (omega (arith, there (length (a .input .now)) (a .self .position) 4 (s .fits2 .result) (s .fits2 .ensures) (c .if1 .taken)), lit≤ tt)
 
 cast-t8 : tie.Need-cast-t8
 cast-t8 c = search needs
@@ -40,7 +40,8 @@ returns : tie.Need-returns
 returns c =
     let s = c .before .before in
     let a = s .before .before .args in
-    ap (λ (n : ℕ). Ok n (behind 4 (a .self))) (c .le-at .ensures .0)
+    let value : c .le-at .result ≡ le (field (a .input .now) (a .self .position) 4) = c .le-at .ensures .0 in
+    ap (λ (n : ℕ). Ok n (behind 4 (a .self))) value
     ∙ read-ok (λ (bytes : List ℕ) (next : Decoder). Ok (le bytes) next) Err 4 (a .input .now) (a .self) (s .fits2 .result) (s .fits2 .ensures) (c .before .if1 .taken)
 
 returns-2 : tie.Need-returns-2

@@ -1,10 +1,10 @@
 pub mod Utf8Tests
 pub mod Utf8Form
 pub mod Utf8Encode
-pub mod Layout
 pub mod Fields
 pub mod Messages
 pub mod Parts
+pub mod Layout
 pub mod Values
 pub mod RoundTrip
 pub mod DetailTrip

@@ -5,6 +5,7 @@ pub mod Utf8CodePoints
 pub mod Utf8Examples
 pub mod Causes
 pub mod Layout
+pub mod Fields
 pub mod Values
 pub mod Open
 pub mod Incoming

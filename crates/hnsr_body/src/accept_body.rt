@@ -1,21 +1,23 @@
 // ACCEPT: an endpoint takes a circuit. OPENED: the relay tells the requester; it is a circuit id and then ACCEPT.
 use crate::error::Checked;
 use crate::error::HnsrInvalid;
-use crate::fields::array_16_at;
+use crate::fields::next_array_16;
+use crate::fields::next_u32;
+use crate::fields::next_u64_be;
 use crate::fields::put_bytes_at;
 use crate::fields::put_u32_at;
 use crate::fields::put_u64_be_at;
-use crate::fields::u32_at;
-use crate::fields::u64_be_at;
+use crate::fields::start;
 use crate::layout::answered;
-use crate::layout::lay_out;
+use crate::layout::finish;
 use crate::values::is_nonzero;
 use crate::values::is_some;
 use crate::values::is_window;
 use hns_encoding::logic::both;
 ghost use mathlib.Core.Path.{_≡_};
 ghost use lib.ListN.{length};
-ghost use Rattle.hnsr_body.specs.Accept.{acceptBytes, acceptFields, acceptGood, acceptSize, decodeAccept, decodeOpened, encodeAccept, encodeOpened, openedAnswer, openedBytes, openedFields, openedGood, openedRest, openedSize};
+ghost use Rattle.hnsr_body.specs.Accept.{acceptBytes, acceptFields, acceptGood, acceptSize, acceptWidths, decodeAccept, decodeOpened, encodeAccept, encodeOpened, openedAnswer, openedBytes, openedFields, openedGood, openedRest, openedSize, openedWidths};
+ghost use Rattle.hnsr_body.specs.Layout.{laidOut};
 
 #[repr(C)]
 pub struct AcceptBody {
@@ -60,17 +62,21 @@ impl AcceptBody {
 
     pub const SIZE: usize = Self::ENDPOINT_NONCE + 16;
 
-    pub const WIDTHS: [usize; 2] = [
-        Self::ENDPOINT_NONCE - Self::ACCEPTED_WINDOW,
-        Self::SIZE - Self::ENDPOINT_NONCE,
-    ];
-
-    fn fields(input: &[u8]) -> Self
-        ensures { λ r. ⌜ r ≡ acceptFields (now (input .entry)) ⌝ }
+    // Field after field, each from the step that the one before handed back; the result is the layout's.
+    fn fields(input: &[u8]) -> AcceptRead
+        ensures { λ r. ⌜ (r .result ≡ laidOut acceptWidths (now (input .entry))) × (r .body ≡ acceptFields (now (input .entry))) ⌝ }
     {
-        Self {
-            accepted_window: u32_at(input, Self::ACCEPTED_WINDOW),
-            endpoint_nonce: array_16_at(input, Self::ENDPOINT_NONCE),
+        let window = next_u32(start(), input);
+        let step = window.step;
+        let nonce = next_array_16(step, input);
+        let step = nonce.step;
+        let endpoint_nonce = nonce.bytes;
+        AcceptRead {
+            result: finish(step, input),
+            body: Self {
+                accepted_window: window.value,
+                endpoint_nonce,
+            },
         }
     }
 
@@ -84,8 +90,9 @@ impl AcceptBody {
     pub fn decode(input: &[u8]) -> AcceptRead
         ensures { λ r. ⌜ r ≡ decodeAccept (now (input .entry)) ⌝ }
     {
-        let layout = lay_out(input, &Self::WIDTHS);
-        let body = Self::fields(input);
+        let read = Self::fields(input);
+        let layout = read.result;
+        let body = read.body;
         let valid = body.is_valid();
         AcceptRead {
             result: answered(layout, valid, HnsrInvalid::AcceptResponse),
@@ -127,19 +134,24 @@ impl OpenedBody {
 
     pub const SIZE: usize = Self::ACCEPTED_WINDOW + AcceptBody::SIZE;
 
-    pub const WIDTHS: [usize; 3] = [
-        Self::ACCEPTED_WINDOW - Self::CIRCUIT_ID,
-        Self::ENDPOINT_NONCE - Self::ACCEPTED_WINDOW,
-        Self::SIZE - Self::ENDPOINT_NONCE,
-    ];
-
-    fn fields(input: &[u8]) -> Self
-        ensures { λ r. ⌜ r ≡ openedFields (now (input .entry)) ⌝ }
+    // Field after field, each from the step that the one before handed back; the result is the layout's.
+    fn fields(input: &[u8]) -> OpenedRead
+        ensures { λ r. ⌜ (r .result ≡ laidOut openedWidths (now (input .entry))) × (r .body ≡ openedFields (now (input .entry))) ⌝ }
     {
-        Self {
-            circuit_id: u64_be_at(input, Self::CIRCUIT_ID),
-            accepted_window: u32_at(input, Self::ACCEPTED_WINDOW),
-            endpoint_nonce: array_16_at(input, Self::ENDPOINT_NONCE),
+        let circuit = next_u64_be(start(), input);
+        let step = circuit.step;
+        let window = next_u32(step, input);
+        let step = window.step;
+        let nonce = next_array_16(step, input);
+        let step = nonce.step;
+        let endpoint_nonce = nonce.bytes;
+        OpenedRead {
+            result: finish(step, input),
+            body: Self {
+                circuit_id: circuit.value,
+                accepted_window: window.value,
+                endpoint_nonce,
+            },
         }
     }
 
@@ -173,8 +185,9 @@ impl OpenedBody {
     pub fn decode(input: &[u8]) -> OpenedRead
         ensures { λ r. ⌜ r ≡ decodeOpened (now (input .entry)) ⌝ }
     {
-        let layout = lay_out(input, &Self::WIDTHS);
-        let body = Self::fields(input);
+        let read = Self::fields(input);
+        let layout = read.result;
+        let body = read.body;
         OpenedRead {
             result: body.answered(layout),
             body,

@@ -1,14 +1,16 @@
 // DATA: bytes that are passed on as they are. WINDOW: credit for the other side.
 use crate::error::Checked;
 use crate::error::HnsrInvalid;
+use crate::fields::next_u32;
 use crate::fields::put_u32_at;
-use crate::fields::u32_at;
+use crate::fields::start;
 use crate::layout::answered;
-use crate::layout::lay_out;
+use crate::layout::finish;
 use crate::values::MAX_WINDOW;
 ghost use mathlib.Core.Path.{_≡_};
 ghost use lib.ListN.{length};
-ghost use Rattle.hnsr_body.specs.Data.{dataChecked, dataGood, decodeWindow, deltaGood, encodeWindow, windowBytes, windowFields, windowSize};
+ghost use Rattle.hnsr_body.specs.Data.{dataChecked, dataGood, decodeWindow, deltaGood, encodeWindow, windowBytes, windowFields, windowSize, windowWidths};
+ghost use Rattle.hnsr_body.specs.Layout.{laidOut};
 
 pub struct DataBody {
     pub length: usize,
@@ -61,17 +63,21 @@ impl WindowBody {
 
     pub const SIZE: usize = Self::CREDIT_DELTA + 4;
 
-    pub const WIDTHS: [usize; 1] = [Self::SIZE - Self::CREDIT_DELTA];
-
     pub const MIN_DELTA: u32 = 1;
 
     pub const MAX_DELTA: u32 = MAX_WINDOW;
 
-    fn fields(input: &[u8]) -> Self
-        ensures { λ r. ⌜ r ≡ windowFields (now (input .entry)) ⌝ }
+    // Its one field; the result is the layout's.
+    fn fields(input: &[u8]) -> WindowRead
+        ensures { λ r. ⌜ (r .result ≡ laidOut windowWidths (now (input .entry))) × (r .body ≡ windowFields (now (input .entry))) ⌝ }
     {
-        Self {
-            credit_delta: u32_at(input, Self::CREDIT_DELTA),
+        let delta = next_u32(start(), input);
+        let step = delta.step;
+        WindowRead {
+            result: finish(step, input),
+            body: Self {
+                credit_delta: delta.value,
+            },
         }
     }
 
@@ -84,8 +90,9 @@ impl WindowBody {
     pub fn decode(input: &[u8]) -> WindowRead
         ensures { λ r. ⌜ r ≡ decodeWindow (now (input .entry)) ⌝ }
     {
-        let layout = lay_out(input, &Self::WIDTHS);
-        let body = Self::fields(input);
+        let read = Self::fields(input);
+        let layout = read.result;
+        let body = read.body;
         let valid = body.is_valid();
         WindowRead {
             result: answered(layout, valid, HnsrInvalid::WindowCredit),

@@ -2,21 +2,23 @@
 use crate::error::Checked;
 use crate::error::HnsrInvalid;
 use crate::error::HnsrProtocolError;
+use crate::fields::next_u8;
+use crate::fields::next_u16;
 use crate::fields::put_bytes_at;
 use crate::fields::put_u8_at;
 use crate::fields::put_u16_at;
-use crate::fields::u8_at;
-use crate::fields::u16_at;
+use crate::fields::rest;
+use crate::fields::start;
 use crate::layout::answered;
-use crate::layout::walk;
 use crate::utf8::is_utf8;
-use hns_encoding::Decoder;
 use hns_encoding::decoder::Step;
 ghost use mathlib.Core.Path.{_≡_};
 ghost use Prim.Native.Nat.{_≤_};
+ghost use mathlib.Core.Bool.{_&&_};
+ghost use lib.Dec.{eqb, leb};
 ghost use lib.ListN.{drop, length};
 ghost use Rattle.hns_encoding.specs.Cursor.{writtenAt};
-ghost use Rattle.hnsr_body.specs.Detail.{decodeDetail, detailBytes, detailSize, detailWidths, encodeDetail, headSize, headed, lengthIs, mostDetail, reasonDetail};
+ghost use Rattle.hnsr_body.specs.Detail.{decodeDetail, detailBytes, detailSize, detailWidths, encodeDetail, headSize, headed, mostDetail, reasonDetail};
 ghost use Rattle.hnsr_body.specs.Layout.{walked};
 
 // The reason, and how long the detail is, which stands in the body from its fourth byte on.
@@ -29,6 +31,12 @@ pub struct ReasonDetail {
 // A field that the input ends before reads as 0; the result then says so.
 pub struct DetailRead {
     pub result: Checked,
+    pub body: ReasonDetail,
+}
+
+// The two fields in front of the detail, and the step behind them.
+struct DetailHead {
+    pub step: Step,
     pub body: ReasonDetail,
 }
 
@@ -47,65 +55,67 @@ impl ReasonDetail {
 
     pub const DETAIL: usize = Self::LENGTH + 1;
 
-    pub const WIDTHS: [usize; 2] = [Self::LENGTH - Self::REASON, Self::DETAIL - Self::LENGTH];
-
     pub const MAX_DETAIL: usize = 128;
 
     pub const MAX_SIZE: usize = Self::DETAIL + Self::MAX_DETAIL;
 
-    fn fields(input: &[u8]) -> Self
-        ensures { λ r. ⌜ r ≡ reasonDetail (now (input .entry)) ⌝ }
+    // Each field from the step that the one before handed back.
+    fn head(input: &[u8]) -> DetailHead
+        ensures { λ r. ⌜ (r .step ≡ walked detailWidths (now (input .entry)) (record { position = 0 })) × (r .body ≡ reasonDetail (now (input .entry))) ⌝ }
     {
-        Self {
-            reason: u16_at(input, Self::REASON),
-            detail_length: u8_at(input, Self::LENGTH) as usize,
+        let reason = next_u16(start(), input);
+        let step = reason.step;
+        let length = next_u8(step, input);
+        let step = length.step;
+        DetailHead {
+            step,
+            body: Self {
+                reason: reason.value,
+                detail_length: length.value as usize,
+            },
         }
     }
 
-    // A length over 128, or not the count of bytes left, is invalid.
-    fn is_length(self, input: &[u8]) -> bool
-        ensures { λ r. ⌜ r ≡ lengthIs (now (input .entry)) (self .«detail_length») ⌝ }
+    // Whether the two fields are there.
+    fn headed(step: Step) -> Checked
+        ensures { λ r. ⌜ r ≡ headed step ⌝ }
     {
-        let left = Decoder {
-            position: Self::DETAIL,
-        }.remaining(input);
-        self.detail_length <= Self::MAX_DETAIL && left == self.detail_length
-    }
-
-    // Whether the two fields in front are there.
-    fn head(input: &[u8]) -> Checked
-        ensures { λ r. ⌜ r ≡ headed (walked detailWidths (now (input .entry)) (record { position = 0 })) ⌝ }
-    {
-        let step = walk(input, &Self::WIDTHS);
         match step {
             Step::Ok(_) => Checked::Ok,
             Step::Err(error) => Checked::Err(HnsrProtocolError::Decode(error)),
         }
     }
 
+    // A length over 128, or not the count of bytes left, is invalid.
+    fn is_length(self, left: usize) -> bool
+        ensures { λ r. ⌜ r ≡ (leb (self .«detail_length») mostDetail && eqb left (self .«detail_length»)) ⌝ }
+    {
+        self.detail_length <= Self::MAX_DETAIL && left == self.detail_length
+    }
+
     // The text: what stands behind the two fields.
     pub fn detail(input: &[u8]) -> &[u8]
         ensures { λ r. ⌜ now r ≡ drop headSize (now (input .entry)) ⌝ }
     {
-        let at = Self::DETAIL;
-        if input.len() < at {
-            &input[..0]
-        } else {
-            &input[at..]
-        }
+        let head = Self::head(input);
+        let step = head.step;
+        rest(step, input)
     }
 
     pub fn decode(input: &[u8]) -> DetailRead
         ensures { λ r. ⌜ r ≡ decodeDetail (now (input .entry)) ⌝ }
     {
-        let body = Self::fields(input);
+        let head = Self::head(input);
+        let step = head.step;
+        let body = head.body;
+        let detail = rest(step, input);
         let sized = answered(
-            Self::head(input),
-            body.is_length(input),
+            Self::headed(step),
+            body.is_length(detail.len()),
             HnsrInvalid::DiagnosticDetail,
         );
         DetailRead {
-            result: answered(sized, is_utf8(Self::detail(input)), HnsrInvalid::NotUtf8),
+            result: answered(sized, is_utf8(detail), HnsrInvalid::NotUtf8),
             body,
         }
     }

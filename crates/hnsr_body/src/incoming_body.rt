@@ -1,24 +1,26 @@
 // INCOMING: the relay tells an endpoint of an OPEN.
 use crate::error::Checked;
 use crate::error::HnsrInvalid;
-use crate::fields::array_16_at;
-use crate::fields::array_32_at;
+use crate::fields::next_array_16;
+use crate::fields::next_array_32;
+use crate::fields::next_u16;
+use crate::fields::next_u32;
+use crate::fields::next_u64_be;
 use crate::fields::put_bytes_at;
 use crate::fields::put_u16_at;
 use crate::fields::put_u32_at;
 use crate::fields::put_u64_be_at;
-use crate::fields::u16_at;
-use crate::fields::u32_at;
-use crate::fields::u64_be_at;
+use crate::fields::start;
 use crate::layout::answered;
-use crate::layout::lay_out;
+use crate::layout::finish;
 use crate::values::is_nonzero;
 use crate::values::is_some;
 use crate::values::is_window;
 use hns_encoding::logic::both;
 ghost use mathlib.Core.Path.{_≡_};
 ghost use lib.ListN.{length};
-ghost use Rattle.hnsr_body.specs.Incoming.{decodeIncoming, encodeIncoming, incomingBytes, incomingFields, incomingGood, incomingSize};
+ghost use Rattle.hnsr_body.specs.Incoming.{decodeIncoming, encodeIncoming, incomingBytes, incomingFields, incomingGood, incomingSize, incomingWidths};
+ghost use Rattle.hnsr_body.specs.Layout.{laidOut};
 
 #[repr(C)]
 pub struct IncomingBody {
@@ -55,23 +57,31 @@ impl IncomingBody {
 
     pub const SIZE: usize = Self::INITIAL_WINDOW + 4;
 
-    pub const WIDTHS: [usize; 5] = [
-        Self::OPEN_REQUEST_ID - Self::TICKET_ID,
-        Self::PROFILE - Self::OPEN_REQUEST_ID,
-        Self::REQUESTER_NONCE - Self::PROFILE,
-        Self::INITIAL_WINDOW - Self::REQUESTER_NONCE,
-        Self::SIZE - Self::INITIAL_WINDOW,
-    ];
-
-    fn fields(input: &[u8]) -> Self
-        ensures { λ r. ⌜ r ≡ incomingFields (now (input .entry)) ⌝ }
+    // Field after field, each from the step that the one before handed back; the result is the layout's.
+    fn fields(input: &[u8]) -> IncomingRead
+        ensures { λ r. ⌜ (r .result ≡ laidOut incomingWidths (now (input .entry))) × (r .body ≡ incomingFields (now (input .entry))) ⌝ }
     {
-        Self {
-            ticket_id: array_32_at(input, Self::TICKET_ID),
-            open_request_id: u64_be_at(input, Self::OPEN_REQUEST_ID),
-            profile: u16_at(input, Self::PROFILE),
-            requester_nonce: array_16_at(input, Self::REQUESTER_NONCE),
-            initial_window: u32_at(input, Self::INITIAL_WINDOW),
+        let ticket = next_array_32(start(), input);
+        let step = ticket.step;
+        let request = next_u64_be(step, input);
+        let step = request.step;
+        let profile = next_u16(step, input);
+        let step = profile.step;
+        let nonce = next_array_16(step, input);
+        let step = nonce.step;
+        let window = next_u32(step, input);
+        let step = window.step;
+        let ticket_id = ticket.bytes;
+        let requester_nonce = nonce.bytes;
+        IncomingRead {
+            result: finish(step, input),
+            body: Self {
+                ticket_id,
+                open_request_id: request.value,
+                profile: profile.value,
+                requester_nonce,
+                initial_window: window.value,
+            },
         }
     }
 
@@ -88,8 +98,9 @@ impl IncomingBody {
     pub fn decode(input: &[u8]) -> IncomingRead
         ensures { λ r. ⌜ r ≡ decodeIncoming (now (input .entry)) ⌝ }
     {
-        let layout = lay_out(input, &Self::WIDTHS);
-        let body = Self::fields(input);
+        let read = Self::fields(input);
+        let layout = read.result;
+        let body = read.body;
         let valid = body.is_valid();
         IncomingRead {
             result: answered(layout, valid, HnsrInvalid::IncomingParameters),

@@ -1,34 +1,12 @@
-// The fields of a body of fixed size, one after the other: the first that does not fit ends early, and then nothing may be left.
+// How a reader answers: an early end, then bytes left over, then the values.
 use crate::error::Checked;
 use crate::error::HnsrInvalid;
 use crate::error::HnsrProtocolError;
-use hns_encoding::Decoder;
 use hns_encoding::decoder::Finish;
 use hns_encoding::decoder::Step;
 ghost use mathlib.Core.Path.{_≡_};
 ghost use Rattle.hnsr_body.specs.Causes.{answer};
-ghost use Rattle.hnsr_body.specs.Layout.{laidOut, walked};
-
-// The cursor behind fields of these widths.
-pub(crate) fn walk(input: &[u8], widths: &[usize]) -> Step
-    ensures { λ r. ⌜ r ≡ walked (now (widths .entry)) (now (input .entry)) (record { position = 0 }) ⌝ }
-{
-    let mut cursor = Decoder::new();
-    let mut i = 0;
-    while i < widths.len() {
-        let step = cursor.skip(input, widths[i]);
-        match step {
-            Step::Ok(next) => {
-                cursor = next;
-            }
-            Step::Err(error) => {
-                return Step::Err(error);
-            }
-        }
-        i += 1;
-    }
-    Step::Ok(cursor)
-}
+ghost use Rattle.hnsr_body.specs.Layout.{finished};
 
 // What a reader answers: the layout's refusal first, then that of the values.
 pub(crate) fn answered(layout: Checked, valid: bool, text: HnsrInvalid) -> Checked
@@ -46,11 +24,10 @@ pub(crate) fn answered(layout: Checked, valid: bool, text: HnsrInvalid) -> Check
     }
 }
 
-// Whether the input is fields of these widths and nothing more.
-pub(crate) fn lay_out(input: &[u8], widths: &[usize]) -> Checked
-    ensures { λ r. ⌜ r ≡ laidOut (now (widths .entry)) (now (input .entry)) ⌝ }
+// The layout's answer, from the step behind the last field: nothing may be left.
+pub(crate) fn finish(step: Step, input: &[u8]) -> Checked
+    ensures { λ r. ⌜ r ≡ finished (now (input .entry)) step ⌝ }
 {
-    let step = walk(input, widths);
     match step {
         Step::Err(error) => Checked::Err(HnsrProtocolError::Decode(error)),
         Step::Ok(cursor) => {

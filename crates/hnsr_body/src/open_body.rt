@@ -1,17 +1,18 @@
 // OPEN: a requester asks for a circuit under a reservation.
 use crate::error::Checked;
 use crate::error::HnsrInvalid;
-use crate::fields::array_16_at;
-use crate::fields::array_32_at;
-use crate::fields::array_33_at;
+use crate::fields::next_array_16;
+use crate::fields::next_array_32;
+use crate::fields::next_array_33;
+use crate::fields::next_u16;
+use crate::fields::next_u32;
 use crate::fields::put_bytes_at;
 use crate::fields::put_u16_at;
 use crate::fields::put_u32_at;
 use crate::fields::put_u64_be_at;
-use crate::fields::u16_at;
-use crate::fields::u32_at;
+use crate::fields::start;
 use crate::layout::answered;
-use crate::layout::lay_out;
+use crate::layout::finish;
 use crate::values::ReservationId;
 use crate::values::is_nonzero;
 use crate::values::is_some;
@@ -20,7 +21,8 @@ use crate::values::reservation_of;
 use hns_encoding::logic::both;
 ghost use mathlib.Core.Path.{_≡_};
 ghost use lib.ListN.{length};
-ghost use Rattle.hnsr_body.specs.Open.{decodeOpen, encodeOpen, openBytes, openFields, openGood, openSize};
+ghost use Rattle.hnsr_body.specs.Open.{decodeOpen, encodeOpen, openBytes, openFields, openGood, openSize, openWidths};
+ghost use Rattle.hnsr_body.specs.Layout.{laidOut};
 
 #[repr(C)]
 pub struct OpenBody {
@@ -60,25 +62,36 @@ impl OpenBody {
 
     pub const SIZE: usize = Self::INITIAL_WINDOW + 4;
 
-    pub const WIDTHS: [usize; 6] = [
-        Self::RESERVATION_ID - Self::TICKET_ID,
-        Self::ENDPOINT_KEY - Self::RESERVATION_ID,
-        Self::PROFILE - Self::ENDPOINT_KEY,
-        Self::REQUESTER_NONCE - Self::PROFILE,
-        Self::INITIAL_WINDOW - Self::REQUESTER_NONCE,
-        Self::SIZE - Self::INITIAL_WINDOW,
-    ];
-
-    fn fields(input: &[u8]) -> Self
-        ensures { λ r. ⌜ r ≡ openFields (now (input .entry)) ⌝ }
+    // Field after field, each from the step that the one before handed back; the result is the layout's.
+    fn fields(input: &[u8]) -> OpenRead
+        ensures { λ r. ⌜ (r .result ≡ laidOut openWidths (now (input .entry))) × (r .body ≡ openFields (now (input .entry))) ⌝ }
     {
-        Self {
-            ticket_id: array_32_at(input, Self::TICKET_ID),
-            reservation_id: reservation_of(array_16_at(input, Self::RESERVATION_ID)),
-            endpoint_key: array_33_at(input, Self::ENDPOINT_KEY),
-            profile: u16_at(input, Self::PROFILE),
-            requester_nonce: array_16_at(input, Self::REQUESTER_NONCE),
-            initial_window: u32_at(input, Self::INITIAL_WINDOW),
+        let ticket = next_array_32(start(), input);
+        let step = ticket.step;
+        let reservation = next_array_16(step, input);
+        let step = reservation.step;
+        let key = next_array_33(step, input);
+        let step = key.step;
+        let profile = next_u16(step, input);
+        let step = profile.step;
+        let nonce = next_array_16(step, input);
+        let step = nonce.step;
+        let window = next_u32(step, input);
+        let step = window.step;
+        let ticket_id = ticket.bytes;
+        let endpoint_key = key.bytes;
+        let requester_nonce = nonce.bytes;
+        let reservation = reservation.bytes;
+        OpenRead {
+            result: finish(step, input),
+            body: Self {
+                ticket_id,
+                reservation_id: reservation_of(reservation),
+                endpoint_key,
+                profile: profile.value,
+                requester_nonce,
+                initial_window: window.value,
+            },
         }
     }
 
@@ -97,8 +110,9 @@ impl OpenBody {
     pub fn decode(input: &[u8], key_valid: bool) -> OpenRead
         ensures { λ r. ⌜ r ≡ decodeOpen «key_valid» (now (input .entry)) ⌝ }
     {
-        let layout = lay_out(input, &Self::WIDTHS);
-        let body = Self::fields(input);
+        let read = Self::fields(input);
+        let layout = read.result;
+        let body = read.body;
         let valid = body.is_valid(key_valid);
         OpenRead {
             result: answered(layout, valid, HnsrInvalid::OpenParameters),

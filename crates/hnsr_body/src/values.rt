@@ -1,5 +1,6 @@
 // Values that the bodies share: ids and nonces that are not zero, windows, and reservation ids.
-use crate::fields::u64_be_at;
+use crate::fields::next_u64_be;
+use crate::fields::start;
 ghost use mathlib.Core.Path.{_≡_};
 ghost use Rattle.hns_encoding.specs.Bytes.{allZero};
 ghost use Rattle.hnsr_body.specs.Values.{nonzero, reservationGood, reservationOf, someByte, windowGood};
@@ -61,8 +62,11 @@ pub(crate) fn is_nonzero(n: u64) -> bool
 pub(crate) fn reservation_of(bytes: [u8; 16]) -> ReservationId
     ensures { λ r. ⌜ r ≡ reservationOf bytes ⌝ }
 {
+    let high = next_u64_be(start(), &bytes);
+    let step = high.step;
+    let low = next_u64_be(step, &bytes);
     ReservationId {
-        high: u64_be_at(&bytes, 0),
-        low: u64_be_at(&bytes, 8),
+        high: high.value,
+        low: low.value,
     }
 }

@@ -1,30 +1,39 @@
--- `reservation_of` meets its contract: both halves are read.
-use mathlib.Core.Path.{_≡_}
+-- `reservation_of` meets its contract: the law of fields one after the other, at two numbers of eight bytes.
+use Prim.Native.Nat.{ℕ}
+use mathlib.Core.List.{List, [], _∷_}
+use Rattle.hnsr_body.specs.Laws.Layout.{through-field}
 use borrow.Author.Needs.{needs}
 use Rattle.hnsr_body.proofs.values.reservation_of.Statement.{statement}
 use Rattle.hnsr_body.proofs.values.reservation_of.Tie as tie
 
-slice-aggregate-u64-be-at : tie.Need-slice-aggregate-u64-be-at
-slice-aggregate-u64-be-at c = search needs
+start-requires : tie.Need-start-requires
+start-requires c κs = search needs
 
-u64-be-at-requires : tie.Need-u64-be-at-requires
-u64-be-at-requires c κs = search needs
+slice-aggregate-next-u64-be : tie.Need-slice-aggregate-next-u64-be
+slice-aggregate-next-u64-be c = search needs
 
-slice-aggregate-u64-be-at-2 : tie.Need-slice-aggregate-u64-be-at-2
-slice-aggregate-u64-be-at-2 c = search needs
+next-u64-be-requires : tie.Need-next-u64-be-requires
+next-u64-be-requires c κs = search needs
 
-u64-be-at-requires-2 : tie.Need-u64-be-at-requires-2
-u64-be-at-requires-2 c κs = search needs
+slice-aggregate-next-u64-be-2 : tie.Need-slice-aggregate-next-u64-be-2
+slice-aggregate-next-u64-be-2 c = search needs
+
+next-u64-be-requires-2 : tie.Need-next-u64-be-requires-2
+next-u64-be-requires-2 c κs = search needs
 
 returns : tie.Need-returns
-returns c = λ i. record { high = c .before .before .u64-be-at .ensures i; low = c .u64-be-at2 .ensures i }
+returns c =
+    let bytes = c .before .before .before .before .before .args .t1 in
+    let widths : List ℕ = 8 ∷ 8 ∷ [] in
+    cc (through-field bytes widths 0, through-field bytes widths 1)
 
 pub reservation-of-spec : {M : Type 1} → statement M
 reservation-of-spec =
     tie.close
     (tie.spec
-    slice-aggregate-u64-be-at
-    u64-be-at-requires
-    slice-aggregate-u64-be-at-2
-    u64-be-at-requires-2
+    start-requires
+    slice-aggregate-next-u64-be
+    next-u64-be-requires
+    slice-aggregate-next-u64-be-2
+    next-u64-be-requires-2
     returns)

@@ -4,12 +4,6 @@ use borrow.Author.Needs.{needs}
 use Rattle.hnsr_body.proofs.accept_body.OpenedBody.decode.Statement.{statement}
 use Rattle.hnsr_body.proofs.accept_body.OpenedBody.decode.Tie as tie
 
-slice-aggregate-lay-out : tie.Need-slice-aggregate-lay-out
-slice-aggregate-lay-out c = search needs
-
-lay-out-requires : tie.Need-lay-out-requires
-lay-out-requires c κs = search needs
-
 fields-requires : tie.Need-fields-requires
 fields-requires c κs = search needs
 
@@ -21,6 +15,4 @@ unfolding decodeOpened
 returns c = cc
 
 pub decode-spec : {M : Type 1} → statement M
-decode-spec =
-    tie.close
-    (tie.spec slice-aggregate-lay-out lay-out-requires fields-requires answered-requires returns)
+decode-spec = tie.close (tie.spec fields-requires answered-requires returns)

@@ -1,23 +1,35 @@
 -- `ReasonDetail::decode` meets its contract: head, length and text are those of the definition.
-use Rattle.hnsr_body.specs.Detail.{decodeDetail, reasonDetail}
+use Prim.Native.Nat.{ℕ}
+use mathlib.Core.Path.{_∙_, ap, ap₂}
+use mathlib.Core.Bool.{Bool, _&&_}
+use lib.Dec.{eqb, leb}
+use lib.ListN.{length, length-drop}
+use Rattle.hnsr_body.specs.declared.detail_body.ReasonDetail.{ReasonDetail}
+use Rattle.hnsr_body.specs.declared.error.Checked.{Checked}
+use Rattle.hnsr_body.specs.declared.error.HnsrInvalid.the-variants.{DiagnosticDetail, NotUtf8}
+use Rattle.hnsr_body.specs.Causes.{answer}
+use Rattle.hnsr_body.specs.Detail.{decodeDetail, reasonDetail, detailWidths, headSize, headed, mostDetail}
+use Rattle.hnsr_body.specs.Fields.{left}
+use Rattle.hnsr_body.specs.Laws.Layout.{walked-left}
+use Rattle.hnsr_body.specs.Utf8.{utf8}
 use borrow.Author.Needs.{needs}
 use Rattle.hnsr_body.proofs.detail_body.ReasonDetail.decode.Statement.{statement}
 use Rattle.hnsr_body.proofs.detail_body.ReasonDetail.decode.Tie as tie
 
-fields-requires : tie.Need-fields-requires
-fields-requires c κs = search needs
-
 head-requires : tie.Need-head-requires
 head-requires c κs = search needs
+
+rest-requires : tie.Need-rest-requires
+rest-requires c κs = search needs
+
+headed-requires : tie.Need-headed-requires
+headed-requires c κs = search needs
 
 is-length-requires : tie.Need-is-length-requires
 is-length-requires c κs = search needs
 
 answered-requires : tie.Need-answered-requires
 answered-requires c κs = search needs
-
-detail-requires : tie.Need-detail-requires
-detail-requires c κs = search needs
 
 is-utf8-requires : tie.Need-is-utf8-requires
 is-utf8-requires c κs = search needs
@@ -27,17 +39,27 @@ answered-requires-2 c κs = search needs
 
 returns : tie.Need-returns
 unfolding decodeDetail reasonDetail
-returns c = cc
+returns c =
+    let input = c .before .before .before .before .before .before .before .before .before .args .input .now in
+    let h = c .before .before .before .before .before .before .before .head .ensures in
+    let text = c .before .before .before .before .before .rest .ensures ∙ ap (left input) (h .0) ∙ walked-left input detailWidths in
+    let there = c .before .before .before .before .headed .ensures ∙ ap headed (h .0) in
+    let n = ap (λ (b : ReasonDetail). b .«detail_length») (h .1) in
+    let size = ap length text ∙ length-drop headSize input in
+    let fits = c .before .before .before .is-length .ensures ∙ ap₂ (λ (n k : ℕ). leb n mostDetail && eqb k n) n size in
+    let sized = c .before .before .answered .ensures ∙ ap₂ (λ (l : Checked) (v : Bool). answer l v DiagnosticDetail) there fits in
+    let good = c .before .is-utf8 .ensures ∙ ap utf8 text in
+    λ i. record { result = (c .answered2 .ensures ∙ ap₂ (λ (l : Checked) (v : Bool). answer l v NotUtf8) sized good) i; body = h .1 i }
 
 pub decode-spec : {M : Type 1} → statement M
 decode-spec =
     tie.close
     (tie.spec
-    fields-requires
     head-requires
+    rest-requires
+    headed-requires
     is-length-requires
     answered-requires
-    detail-requires
     is-utf8-requires
     answered-requires-2
     returns)

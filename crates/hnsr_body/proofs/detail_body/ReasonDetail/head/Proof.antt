@@ -1,29 +1,29 @@
--- `head` meets its contract: each arm is its case of the definition.
-use mathlib.Core.Path.{sym, _∙_, ap}
-use Rattle.hnsr_body.specs.Detail.{headed, detailWidths}
+-- `head` meets its contract: the law of fields one after the other, at the widths in front of the detail.
+use Rattle.hnsr_body.specs.Detail.{reasonDetail, detailWidths}
+use Rattle.hnsr_body.specs.Laws.Layout.{through-walked, through-field}
 use borrow.Author.Needs.{needs}
 use Rattle.hnsr_body.proofs.detail_body.ReasonDetail.head.Statement.{statement}
 use Rattle.hnsr_body.proofs.detail_body.ReasonDetail.head.Tie as tie
 
-slice-aggregate-walk : tie.Need-slice-aggregate-walk
-slice-aggregate-walk c = search needs
+start-requires : tie.Need-start-requires
+start-requires c κs = search needs
 
-walk-requires : tie.Need-walk-requires
-walk-requires c κs = search needs
+next-u16-requires : tie.Need-next-u16-requires
+next-u16-requires c κs = search needs
 
-enum-told : tie.Need-enum-told
-enum-told c = search needs
+next-u8-requires : tie.Need-next-u8-requires
+next-u8-requires c κs = search needs
 
-enum-known-step : tie.Need-enum-known-step
-enum-known-step c = search needs
+cast-t7 : tie.Need-cast-t7
+cast-t7 c = search needs
 
 returns : tie.Need-returns
-returns c = ap headed (sym (c .enum-told .given .1) ∙ c .before .before .walk .ensures)
-
-returns-2 : tie.Need-returns-2
-returns-2 c = ap headed (sym (c .before .step .given .1) ∙ c .before .before .before .walk .ensures)
+unfolding reasonDetail
+returns c =
+    let input = c .before .before .before .before .before .args .input .now in (
+      cc (through-walked input detailWidths),
+      cc (through-field input detailWidths 0, through-field input detailWidths 1),
+    )
 
 pub head-spec : {M : Type 1} → statement M
-head-spec =
-    tie.close
-    (tie.spec slice-aggregate-walk walk-requires enum-told enum-known-step returns returns-2)
+head-spec = tie.close (tie.spec start-requires next-u16-requires next-u8-requires cast-t7 returns)

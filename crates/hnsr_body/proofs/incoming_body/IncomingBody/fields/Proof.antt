@@ -1,35 +1,49 @@
--- `IncomingBody::fields` meets its contract: each field is read where it stands.
-use Rattle.hnsr_body.specs.Incoming.{incomingFields}
+-- `IncomingBody::fields` meets its contract: the law of fields one after the other, at the widths of this body.
+use Rattle.hnsr_body.specs.Incoming.{incomingFields, incomingWidths}
+use Rattle.hnsr_body.specs.Layout.{laidOut}
+use Rattle.hnsr_body.specs.Laws.Layout.{through-walked, through-field}
 use borrow.Author.Needs.{needs}
 use Rattle.hnsr_body.proofs.incoming_body.IncomingBody.fields.Statement.{statement}
 use Rattle.hnsr_body.proofs.incoming_body.IncomingBody.fields.Tie as tie
 
-array-32-at-requires : tie.Need-array-32-at-requires
-array-32-at-requires c κs = search needs
+start-requires : tie.Need-start-requires
+start-requires c κs = search needs
 
-u64-be-at-requires : tie.Need-u64-be-at-requires
-u64-be-at-requires c κs = search needs
+next-array-32-requires : tie.Need-next-array-32-requires
+next-array-32-requires c κs = search needs
 
-u16-at-requires : tie.Need-u16-at-requires
-u16-at-requires c κs = search needs
+next-u64-be-requires : tie.Need-next-u64-be-requires
+next-u64-be-requires c κs = search needs
 
-array-16-at-requires : tie.Need-array-16-at-requires
-array-16-at-requires c κs = search needs
+next-u16-requires : tie.Need-next-u16-requires
+next-u16-requires c κs = search needs
 
-u32-at-requires : tie.Need-u32-at-requires
-u32-at-requires c κs = search needs
+next-array-16-requires : tie.Need-next-array-16-requires
+next-array-16-requires c κs = search needs
+
+next-u32-requires : tie.Need-next-u32-requires
+next-u32-requires c κs = search needs
+
+finish-requires : tie.Need-finish-requires
+finish-requires c κs = search needs
 
 returns : tie.Need-returns
-unfolding incomingFields
-returns c = cc
+unfolding laidOut incomingFields
+returns c =
+    let input = c .before .before .before .before .before .before .before .before .before .before .args .input .now in (
+      cc (through-walked input incomingWidths),
+      cc (through-field input incomingWidths 0, through-field input incomingWidths 1, through-field input incomingWidths 2, through-field input incomingWidths 3, through-field input incomingWidths 4),
+    )
 
 pub fields-spec : {M : Type 1} → statement M
 fields-spec =
     tie.close
     (tie.spec
-    array-32-at-requires
-    u64-be-at-requires
-    u16-at-requires
-    array-16-at-requires
-    u32-at-requires
+    start-requires
+    next-array-32-requires
+    next-u64-be-requires
+    next-u16-requires
+    next-array-16-requires
+    next-u32-requires
+    finish-requires
     returns)

@@ -1,43 +1,78 @@
--- `OpenBody::fields` meets its contract: each field is read where it stands.
-use Rattle.hnsr_body.specs.Open.{openFields}
+-- `OpenBody::fields` meets its contract: the law of fields one after the other, at the widths of this body.
+use Prim.Native.Nat.{ℕ}
+use mathlib.Core.Path.{_∙_, ap}
+use mathlib.Core.List.{List}
+use Rattle.hns_encoding.specs.Bytes.{le}
+use Rattle.hnsr_body.specs.Open.{openFields, openWidths}
+use Rattle.hnsr_body.specs.Layout.{laidOut, finished}
+use Rattle.hnsr_body.specs.Values.{reservationOf}
+use Rattle.hnsr_body.specs.Fields.{stepped, fetched}
+use Rattle.hnsr_body.specs.Laws.Layout.{through-walked, through-field}
 use borrow.Author.Needs.{needs}
 use Rattle.hnsr_body.proofs.open_body.OpenBody.fields.Statement.{statement}
 use Rattle.hnsr_body.proofs.open_body.OpenBody.fields.Tie as tie
 
-array-32-at-requires : tie.Need-array-32-at-requires
-array-32-at-requires c κs = search needs
+start-requires : tie.Need-start-requires
+start-requires c κs = search needs
 
-array-16-at-requires : tie.Need-array-16-at-requires
-array-16-at-requires c κs = search needs
+next-array-32-requires : tie.Need-next-array-32-requires
+next-array-32-requires c κs = search needs
+
+next-array-16-requires : tie.Need-next-array-16-requires
+next-array-16-requires c κs = search needs
+
+next-array-33-requires : tie.Need-next-array-33-requires
+next-array-33-requires c κs = search needs
+
+next-u16-requires : tie.Need-next-u16-requires
+next-u16-requires c κs = search needs
+
+next-array-16-requires-2 : tie.Need-next-array-16-requires-2
+next-array-16-requires-2 c κs = search needs
+
+next-u32-requires : tie.Need-next-u32-requires
+next-u32-requires c κs = search needs
+
+finish-requires : tie.Need-finish-requires
+finish-requires c κs = search needs
 
 reservation-of-requires : tie.Need-reservation-of-requires
 reservation-of-requires c κs = search needs
 
-array-33-at-requires : tie.Need-array-33-at-requires
-array-33-at-requires c κs = search needs
-
-u16-at-requires : tie.Need-u16-at-requires
-u16-at-requires c κs = search needs
-
-array-16-at-requires-2 : tie.Need-array-16-at-requires-2
-array-16-at-requires-2 c κs = search needs
-
-u32-at-requires : tie.Need-u32-at-requires
-u32-at-requires c κs = search needs
-
 returns : tie.Need-returns
-unfolding openFields
-returns c = cc
+unfolding laidOut openFields
+returns c =
+    let input = c .before .before .before .before .before .before .before .before .before .before .before .before .before .before .args .input .now in
+    let s0 = c .before .before .before .before .before .before .before .before .before .before .before .before .start .ensures in
+    let s1 = c .before .before .before .before .before .before .before .before .before .before .before .next-array-32 .ensures .0 ∙ ap (stepped 32 input) s0 in
+    let s2 = c .before .before .before .before .before .before .before .before .before .before .next-array-16 .ensures .0 ∙ ap (stepped 16 input) s1 in
+    let s3 = c .before .before .before .before .before .before .before .before .before .next-array-33 .ensures .0 ∙ ap (stepped 33 input) s2 in
+    let s4 = c .before .before .before .before .before .before .before .before .next-u16 .ensures .0 ∙ ap (stepped 2 input) s3 in
+    let s5 = c .before .before .before .before .before .before .before .next-array-162 .ensures .0 ∙ ap (stepped 16 input) s4 in
+    let s6 = c .before .before .before .before .before .before .next-u32 .ensures .0 ∙ ap (stepped 4 input) s5 in (
+      c .before .finish .ensures ∙ ap (finished input) (s6 ∙ through-walked input openWidths),
+      λ i. record {
+        «ticket_id» = (c .before .before .before .before .before .before .before .before .before .before .before .next-array-32 .ensures .1 ∙ ap (fetched 32 input) s0 ∙ through-field input openWidths 0) i;
+        «reservation_id» =
+            (c .reservation-of .ensures ∙ ap (λ (bytes : List ℕ). reservationOf bytes) (c .before .before .before .before .before .before .before .before .before .before .next-array-16 .ensures .1 ∙ ap (fetched 16 input) s1 ∙ through-field input openWidths 1)) i;
+        «endpoint_key» = (c .before .before .before .before .before .before .before .before .before .next-array-33 .ensures .1 ∙ ap (fetched 33 input) s2 ∙ through-field input openWidths 2) i;
+        profile = (c .before .before .before .before .before .before .before .before .next-u16 .ensures .1 ∙ ap le (ap (fetched 2 input) s3 ∙ through-field input openWidths 3)) i;
+        «requester_nonce» = (c .before .before .before .before .before .before .before .next-array-162 .ensures .1 ∙ ap (fetched 16 input) s4 ∙ through-field input openWidths 4) i;
+        «initial_window» = (c .before .before .before .before .before .before .next-u32 .ensures .1 ∙ ap le (ap (fetched 4 input) s5 ∙ through-field input openWidths 5)) i;
+      },
+    )
 
 pub fields-spec : {M : Type 1} → statement M
 fields-spec =
     tie.close
     (tie.spec
-    array-32-at-requires
-    array-16-at-requires
+    start-requires
+    next-array-32-requires
+    next-array-16-requires
+    next-array-33-requires
+    next-u16-requires
+    next-array-16-requires-2
+    next-u32-requires
+    finish-requires
     reservation-of-requires
-    array-33-at-requires
-    u16-at-requires
-    array-16-at-requires-2
-    u32-at-requires
     returns)

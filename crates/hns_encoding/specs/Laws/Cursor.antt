@@ -11,9 +11,8 @@ use borrow.Author.Tests.{leb-true, le-leb, eqb-true}
 use Rattle.hns_encoding.specs.Words.{wordCount, bytesOf}
 use Rattle.hns_encoding.specs.declared.decoder.Decoder.{Decoder}
 use Rattle.hns_encoding.specs.declared.decoder.DecodeError.{DecodeError}
-use Rattle.hns_encoding.specs.Cursor.{within, field, writtenAt, unexpectedEnd, has, behind, reads, steps, written, finishes, arrayRead, part, bytesRead, noRoom, Puts}
+use Rattle.hns_encoding.specs.Cursor.{within, field, writtenAt, unexpectedEnd, has, behind, reads, written, finishes, arrayRead, part, bytesRead, noRoom, Puts}
 use Rattle.hns_encoding.specs.declared.decoder.DecodeError.the-variants.{TrailingBytes}
-use Rattle.hns_encoding.specs.declared.decoder.Step.the-variants as Step
 use Rattle.hns_encoding.specs.declared.decoder.Finish.the-variants as Finish
 use Rattle.hns_encoding.specs.declared.encoder.Put.{Put}
 use Rattle.hns_encoding.specs.declared.encoder.Put.the-variants.{Ok}
@@ -77,32 +76,7 @@ module _ (before : List ℕ) (at : ℕ) (ys : List ℕ) (width : ℕ) (w : width
         leaves = sym (on-false _ (writtenAt before at ys) before failed);
       }
 
--- ---- an answer taken apart: what was answered tells where any other reading of the same field goes
-module _ (width : ℕ) (xs : List ℕ) (d : Decoder) {R : Type 0} (ok : Decoder → R) (err : DecodeError → R) where
-  pub step-ok : (next : Decoder) → steps Step.Ok Step.Err width xs d ≡ Step.Ok next → steps ok err width xs d ≡ ok next
-  step-ok next h =
-      split (has width xs d)
-      (λ t.
-      let a = on-true _ (Step.Ok (behind width d)) (Step.Err (unexpectedEnd (length xs) (d .position) width)) t in
-      let e : behind width d ≡ next = cc in
-      on-true _ (ok (behind width d)) (err (unexpectedEnd (length xs) (d .position) width)) t ∙ ap ok e)
-      (λ f.
-      let a = on-false _ (Step.Ok (behind width d)) (Step.Err (unexpectedEnd (length xs) (d .position) width)) f in
-      let z : _≡_ {A = ℕ} 0 1 = cc in
-      absurd (omega arith))
-
-  pub step-err : (error : DecodeError) → steps Step.Ok Step.Err width xs d ≡ Step.Err error → steps ok err width xs d ≡ err error
-  step-err error h =
-      split (has width xs d)
-      (λ t.
-      let a = on-true _ (Step.Ok (behind width d)) (Step.Err (unexpectedEnd (length xs) (d .position) width)) t in
-      let z : _≡_ {A = ℕ} 0 1 = cc in
-      absurd (omega arith))
-      (λ f.
-      let a = on-false _ (Step.Ok (behind width d)) (Step.Err (unexpectedEnd (length xs) (d .position) width)) f in
-      let e : unexpectedEnd (length xs) (d .position) width ≡ error = cc in
-      on-false _ (ok (behind width d)) (err (unexpectedEnd (length xs) (d .position) width)) f ∙ ap err e)
-
+-- ---- an end taken apart: what was answered tells what any other reading of the same end gives
 module _ (xs : List ℕ) (d : Decoder) {R : Type 0} (ok : R) (err : DecodeError → R) where
   pub finish-ok : finishes Finish.Ok Finish.Err xs d ≡ Finish.Ok → (d .position ≡ length xs) × (finishes ok err xs d ≡ ok)
   finish-ok h =

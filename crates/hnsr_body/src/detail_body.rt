@@ -65,13 +65,13 @@ impl ReasonDetail {
     {
         let reason = next_u16(start(), input);
         let step = reason.step;
-        let length = next_u8(step, input);
-        let step = length.step;
+        let size = next_u8(step, input);
+        let step = size.step;
         DetailHead {
             step,
             body: Self {
                 reason: reason.value,
-                detail_length: length.value as usize,
+                detail_length: size.value as usize,
             },
         }
     }

@@ -132,11 +132,11 @@ pub(crate) fn next_array_16(step: Step, input: &[u8]) -> ReadArray16
     ensures { λ r. ⌜ (r .step ≡ stepped 16 (now (input .entry)) step) × (r .bytes ≡ fetched 16 (now (input .entry)) step) ⌝ }
 {
     match step {
-        Step::Ok(cursor) => cursor.read_array_16(input),
         Step::Err(_) => ReadArray16 {
             step,
             bytes: [0u8; 16],
         },
+        Step::Ok(cursor) => cursor.read_array_16(input),
     }
 }
 
@@ -144,11 +144,11 @@ pub(crate) fn next_array_32(step: Step, input: &[u8]) -> ReadArray32
     ensures { λ r. ⌜ (r .step ≡ stepped 32 (now (input .entry)) step) × (r .bytes ≡ fetched 32 (now (input .entry)) step) ⌝ }
 {
     match step {
-        Step::Ok(cursor) => cursor.read_array_32(input),
         Step::Err(_) => ReadArray32 {
             step,
             bytes: [0u8; 32],
         },
+        Step::Ok(cursor) => cursor.read_array_32(input),
     }
 }
 
@@ -156,11 +156,11 @@ pub(crate) fn next_array_33(step: Step, input: &[u8]) -> ReadArray33
     ensures { λ r. ⌜ (r .step ≡ stepped 33 (now (input .entry)) step) × (r .bytes ≡ fetched 33 (now (input .entry)) step) ⌝ }
 {
     match step {
-        Step::Ok(cursor) => cursor.read_array_33(input),
         Step::Err(_) => ReadArray33 {
             step,
             bytes: [0u8; 33],
         },
+        Step::Ok(cursor) => cursor.read_array_33(input),
     }
 }
 

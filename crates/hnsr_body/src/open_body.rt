@@ -79,9 +79,9 @@ impl OpenBody {
         let window = next_u32(step, input);
         let step = window.step;
         let ticket_id = ticket.bytes;
+        let reservation = reservation.bytes;
         let endpoint_key = key.bytes;
         let requester_nonce = nonce.bytes;
-        let reservation = reservation.bytes;
         OpenRead {
             result: finish(step, input),
             body: Self {

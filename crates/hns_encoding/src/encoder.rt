@@ -171,6 +171,6 @@ impl Encoder {
         ensures { λ r. ⌜ Puts r (now (out .entry)) (now (out .exit)) (self .position) (words (beBytes 8 value)) ⌝ }
     {
         let bytes = be_bytes(value);
-        self.put_bytes_as_words(out, &bytes)
+        self.put_padded_as_words(out, &bytes, 2)
     }
 }

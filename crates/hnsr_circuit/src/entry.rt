@@ -27,10 +27,10 @@ pub(crate) fn too_few(
 }
 
 // 4: peer length
-pub(crate) fn peer_answer(length: usize) -> HnsrAnswer
-    ensures { λ r. ⌜ r ≡ peerAnswer length ⌝ }
+pub(crate) fn peer_answer(size: usize) -> HnsrAnswer
+    ensures { λ r. ⌜ r ≡ peerAnswer size ⌝ }
 {
-    let good = both(1 <= length, length <= MAXIMUM_PEER);
+    let good = both(1 <= size, size <= MAXIMUM_PEER);
     check(no(good), HnsrRuntimeError::InvalidPeer)
 }
 

@@ -50,13 +50,13 @@ fn room_answer(room: usize, few: bool) -> HnsrAnswer
 }
 
 // 1: what `HnsrPacket::validate` refuses
-fn packet_answer(packet: RelayPacket, length: usize) -> HnsrAnswer
-    ensures { λ r. ⌜ r ≡ packetAnswer (packet .opcode) (packet .«context_id») length ⌝ }
+fn packet_answer(packet: RelayPacket, body_size: usize) -> HnsrAnswer
+    ensures { λ r. ⌜ r ≡ packetAnswer (packet .opcode) (packet .«context_id») «body_size» ⌝ }
 {
     let envelope = HnsrPacket {
         opcode: packet.opcode,
         context_id: packet.context_id,
-        body_length: length,
+        body_length: body_size,
     };
     let checked = envelope.validate();
     body_answer(checked)

@@ -222,11 +222,11 @@ fn put_queued(
 }
 
 // The output word that is next.
-fn position_after(go: bool, at: usize, length: usize) -> usize
-    requires { ⌜ length < 65536 ⌝ }
-    ensures { λ r. ⌜ r ≡ cond go (saturatingAdd 64 at (headWords + wordCount length)) at ⌝ }
+fn position_after(go: bool, at: usize, body_size: usize) -> usize
+    requires { ⌜ «body_size» < 65536 ⌝ }
+    ensures { λ r. ⌜ r ≡ cond go (saturatingAdd 64 at (headWords + wordCount «body_size»)) at ⌝ }
 {
-    let size = route_size(length);
+    let size = route_size(body_size);
     let after = saturating_add_usize(at, size);
     if go {
         return after;

@@ -34,19 +34,19 @@ pub(crate) const HANDLE_WORDS: usize = HEAD_WORDS + DataBody::MAX_SIZE / 4;
 pub(crate) const CLOSING_WORDS: usize = 2 * (HEAD_WORDS + (Message::MAX_SIZE + 3) / 4);
 
 // A kind word's top four bits are its kind: 1 for the peer, with its length in the low 8 bits.
-fn peer_word(length: usize) -> u32
-    requires { ⌜ length ≤ 128 ⌝ }
-    ensures { λ r. ⌜ r ≡ kindWord 1 length ⌝ }
+fn peer_word(size: usize) -> u32
+    requires { ⌜ size ≤ 128 ⌝ }
+    ensures { λ r. ⌜ r ≡ kindWord 1 size ⌝ }
 {
-    0x1000_0000 + length as u32
+    0x1000_0000 + size as u32
 }
 
 // 2 for the packet, with the opcode in bits 16 to 23 and the body's length in bits 0 to 15.
-fn packet_word(opcode: u8, length: usize) -> u32
-    requires { ⌜ length < 65536 ⌝ }
-    ensures { λ r. ⌜ r ≡ kindWord 2 (opcode * 65536 + length) ⌝ }
+fn packet_word(opcode: u8, size: usize) -> u32
+    requires { ⌜ size < 65536 ⌝ }
+    ensures { λ r. ⌜ r ≡ kindWord 2 (opcode * 65536 + size) ⌝ }
 {
-    0x2000_0000 + (opcode as u32 * 0x1_0000 + length as u32)
+    0x2000_0000 + (opcode as u32 * 0x1_0000 + size as u32)
 }
 
 // ---- one field, where it fits
@@ -110,11 +110,11 @@ fn put_packet_words(out: &mut [u32], at: usize, message: Outgoing, body: &[u8])
 }
 
 // How many words a route with so long a body takes.
-pub(crate) fn route_size(length: usize) -> usize
-    requires { ⌜ length < 65536 ⌝ }
-    ensures { λ r. ⌜ r ≡ headWords + wordCount length ⌝ }
+pub(crate) fn route_size(body_size: usize) -> usize
+    requires { ⌜ «body_size» < 65536 ⌝ }
+    ensures { λ r. ⌜ r ≡ headWords + wordCount «body_size» ⌝ }
 {
-    HEAD_WORDS + word_count(length)
+    HEAD_WORDS + word_count(body_size)
 }
 
 // The route's words at a place in the output: all of them, or, where they do not fit, none.

@@ -57,8 +57,18 @@ pub opcode-from-21 : (w : World) (q : Packet) (room : ℕ) → entryAnswer w q r
 unfolding step handle handleGate gateAnswer clockAnswer handlingOf dispatch proceed
 opcode-from-21 w q room entry forward on high = record {
   error = UnexpectedOpcode;
-  outcome = rw (entry, le-ltb (q .now) (w .header .«trusted_time_high_water») forward, on, not-that opOpen (omega arith), not-that opAccept (omega arith), not-that opData (omega
-      arith), not-that opWindow (omega arith), not-that opClose (omega arith), not-that opError (omega arith));
+  outcome = rw (
+    entry,
+    le-ltb (q .now) (w .header .«trusted_time_high_water») forward,
+    on,
+    not-that opOpen (omega arith),
+    not-that opAccept (omega arith),
+    not-that opData (omega
+        arith),
+    not-that opWindow (omega arith),
+    not-that opClose (omega arith),
+    not-that opError (omega arith),
+  );
   number = refl;
 }
   where

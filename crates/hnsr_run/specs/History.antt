@@ -1,6 +1,6 @@
 -- What each event changes (document 01, "Reckoned from history" and the two paragraphs after it; the rules of "Down through the call"), and what
--- the whole list of events tells. What a call ends or drops is document 01's rule applied to what is known; what a refused call left
--- behind shows in its number.
+-- the whole list of events tells. What a call ends or drops is document 01's rule applied to what is known; what a refused call left behind shows in its
+-- number; what a route is about follows from the call and the route's words (`Words.words-alone`).
 use Prim.Native.Nat.{ℕ, _+_, min}
 use mathlib.Core.Bool.{Bool, true, false, cond, not, _&&_, _||_, Bool·beq}
 use mathlib.Core.List.{List, [], _∷_, _++_, map}
@@ -56,7 +56,8 @@ taken a = eqb (number a) 0
 abbrev pub refusedBy : HnsrRuntimeError → HnsrAnswer → Bool
 refusedBy e a = eqb (number a) (errorNumber e)
 
--- refused with 10 after a record was ended or an action removed (CLOSE, ERROR, acknowledge), or with 6 by the queueing: everything earlier stays
+-- refused with 10 after a record was ended or an action removed (CLOSE, ERROR, acknowledge), or with 6 by the queueing: everything earlier stays. A 1 ends
+-- nothing: that of a body comes before the end, and that of the queueing needs a stored context of zero, which no run makes
 abbrev pub ends : HnsrAnswer → Bool
 ends a = taken a || (refusedBy Capacity a || refusedBy GenerationExhausted a)
 
@@ -124,7 +125,7 @@ abbrev pub granted : RelaySide → ℕ → Known → Known
 granted Requester n k = counted k (k .bytes) (k .dataR) (k .dataE) (k .windowR + n) (k .windowE)
 granted Endpoint n k = counted k (k .bytes) (k .dataR) (k .dataE) (k .windowR) (k .windowE + n)
 
--- from neither side: the circuit's bytes alone
+-- from neither side: the circuit's bytes alone (and the reservation's)
 abbrev pub strange : ℕ → Known → Known
 strange n k = counted k (k .bytes + n) (k .dataR) (k .dataE) (k .windowR) (k .windowE)
 

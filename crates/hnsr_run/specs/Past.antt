@@ -1,5 +1,6 @@
--- What is known from the events of a run alone: circuits, OPENs that stand, reservations, outstanding actions, and how each small change leaves it.
--- No table of the machine is looked at. Circuits and OPENs are functions of the id, reservations of theirs; the actions are one list.
+-- What is known from the events of a run alone, that is from calls, answers, and of routes what their output words tell: circuits, OPENs that stand,
+-- reservations, outstanding actions, and how each small change leaves it. No table of the machine is looked at, and no label of a route. Circuits and OPENs are
+-- functions of the id, reservations of theirs; the actions are one list.
 use Prim.Native.Nat.{ℕ, _+_, _-_}
 use mathlib.Core.Bool.{Bool, true, false, cond, not, _&&_}
 use mathlib.Core.List.{List, [], _∷_, _++_, map}
@@ -142,7 +143,7 @@ kindFor n =
     (cond (eqb n opData) (kindNumber Data)
     (cond (eqb n opWindow) (kindNumber Control) (kindNumber Close))))
 
--- the action of a route: its numbers, its destination and its kind are among the route's words; the circuit that it is about is said by the call
+-- the action of a route: its numbers, its destination and its kind are among the route's words; `about` tells the circuit, from the call and the words
 abbrev pub heard : (about : Route → ℕ) → Route → Action
 heard about r = record {
   generation = r .generation;

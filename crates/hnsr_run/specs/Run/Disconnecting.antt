@@ -88,8 +88,11 @@ module _ (p : HnsrPeerId) where
   Shared h r = (r .circuit ≡ r .context) × ((h .active (r .context) && (knownSide p (h .known (r .context)) && knownSide (r .destination) (h .known (r .context)))) ≡ true)
 
   shared-fits : (h : Past) (r : Route) → Shared h r → Fits p h r
-  shared-fits h r s = inl (s .0, ap (λ b. b || (h .opens .standing (r .context) && (askedSide p (h .opens .asked (r .context)) && askedSide (r .destination) (h .opens .asked
-      (r .context))))) (s .1))
+  shared-fits h r s = inl (
+    s .0,
+    ap (λ b. b || (h .opens .standing (r .context) && (askedSide p (h .opens .asked (r .context)) && askedSide (r .destination) (h .opens .asked
+        (r .context))))) (s .1),
+  )
 
   -- what fits after a turn fits before it
   fits-before : (h : Past) (m : ℕ) (ms : List Route) (r : Route) → Fits p (emit (openEnded h m) own ms) r → Fits p h r

@@ -112,11 +112,11 @@ pub record Run (m : Machine) : Type 0 where
   pub bounded : below (begin began) 1 (events (m .step) (m .new lent began .world) calls) ≡ true
 
 -- the world that it leaves, and what its events tell
-abbrev pub worldOf : (m : Machine) → Run m → World
-worldOf m r = leftBy (m .step) (m .new (r .lent) (r .began) .world) (r .calls)
+abbrev pub worldAt : (m : Machine) → Run m → World
+worldAt m r = leftBy (m .step) (m .new (r .lent) (r .began) .world) (r .calls)
 
-abbrev pub pastOf : (m : Machine) → Run m → Past
-pastOf m r = reckon (begin (r .began)) (events (m .step) (m .new (r .lent) (r .began) .world) (r .calls))
+abbrev pub pastAt : (m : Machine) → Run m → Past
+pastAt m r = reckon (begin (r .began)) (events (m .step) (m .new (r .lent) (r .began) .world) (r .calls))
 
 abbrev pub Claim : Machine → Type 0
-Claim m = (r : Run m) → Holds (m .step) (worldOf m r) (pastOf m r)
+Claim m = (r : Run m) → Holds (m .step) (worldAt m r) (pastAt m r)

@@ -1,6 +1,5 @@
 -- A run, computed. It shows that the claim speaks of something: every kind of call, taken and refused; every way in which an OPEN or a circuit ends; then
 -- several circuits on a shared reservation, both directions queued, a relay switched off and on, an id drawn again, an expired OPEN, a disconnect.
-use Prim.Native.Nat.{ℕ}
 use mathlib.Core.Path.{_≡_, refl}
 use mathlib.Core.Bool.{true, false}
 use mathlib.Core.List.{List, [], _∷_, _++_, map}

@@ -16,7 +16,7 @@ use Rattle.hnsr_circuit.specs.World.{World}
 use Rattle.hnsr_circuit.specs.Packet.{hasCircuit, circuitIn}
 use Rattle.hnsr_circuit.specs.Revocation.{hasPending, pendingIn}
 use Rattle.hnsr_run.specs.Past.{Known, Asked, Past, peerOn, credit, lives}
-use Rattle.hnsr_run.specs.Claim.{Machine, Run, worldOf, pastOf}
+use Rattle.hnsr_run.specs.Claim.{Machine, Run, worldAt, pastAt}
 
 -- a circuit and what is known of it
 pub record SameCircuit (c : RelayCircuit) (k : Known) : Type 0 where
@@ -48,4 +48,4 @@ pub record Tabled (w : World) (h : Past) : Type 0 where
 
 -- at the end of any run, so at every moment of one
 abbrev pub Companion : Machine → Type 0
-Companion m = (r : Run m) → Tabled (worldOf m r) (pastOf m r)
+Companion m = (r : Run m) → Tabled (worldAt m r) (pastAt m r)

@@ -25,7 +25,7 @@ use Rattle.hnsr_circuit.specs.Laws.Answers.{number-zero}
 use Rattle.hnsr_circuit.specs.Laws.Totals.{ones-length}
 use Rattle.hnsr_run.specs.Past.{Known, Past, peerOn, credit, withOut, movedTo}
 use Rattle.hnsr_run.specs.History.{begin}
-use Rattle.hnsr_run.specs.Claim.{Sends, Passes, Machine, leftBy, delivered, Holds, Run, worldOf, pastOf, Claim}
+use Rattle.hnsr_run.specs.Claim.{Sends, Passes, Machine, leftBy, delivered, Holds, Run, worldAt, pastAt, Claim}
 use Rattle.hnsr_run.specs.Tables.{SameCircuit, Tabled, Companion}
 use Rattle.hnsr_run.specs.Talk.{tables, fresh, worldAfter, pastAfter}
 use Rattle.hnsr_run.specs.RichRun.{richCalls, new-taken, bounded}
@@ -118,14 +118,14 @@ holds w h R H low = record {
 }
 
 -- ---- every run keeps the invariant
-run-rel : (r : Run relay) → Rel (worldOf relay r) (pastOf relay r) × Places (worldOf relay r) × (sequenceOf (worldOf relay r) < top 64)
+run-rel : (r : Run relay) → Rel (worldAt relay r) (pastAt relay r) × Places (worldAt relay r) × (sequenceOf (worldAt relay r) < top 64)
 run-rel r =
     let b = start-rel (r .lent) (r .began) (r .new-taken) (r .limit) in
     run-both (r .calls) (start (r .lent) (r .began) .world) (begin (r .began)) 1 (b .0) (b .1) (b .2) (r .bounded)
 
 -- ---- demand 3
 pub claim : Claim relay
-claim r = let k = run-rel r in holds (worldOf relay r) (pastOf relay r) (k .0) (k .1) (k .2)
+claim r = let k = run-rel r in holds (worldAt relay r) (pastAt relay r) (k .0) (k .1) (k .2)
 
 -- ---- and what the tables hold
 same-circuit : (c : RelayCircuit) (k : Known) → Agrees c k → SameCircuit c k

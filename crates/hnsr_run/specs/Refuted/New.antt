@@ -12,7 +12,7 @@ use Rattle.hnsr_circuit.specs.World.{World, Outcome, withHeader, withInflight}
 use Rattle.hnsr_circuit.specs.Cases.{lent}
 use Rattle.hnsr_circuit.specs.Call.{Start, start, step}
 use Rattle.hnsr_circuit.specs.All.{machine}
-use Rattle.hnsr_run.specs.Claim.{Machine, Run, worldOf, pastOf, Claim}
+use Rattle.hnsr_run.specs.Claim.{Machine, Run, worldAt, pastAt, Claim}
 use Rattle.hnsr_run.specs.Talk.{tables, fresh}
 use Rattle.hnsr_run.specs.Refuted.Machines.{status-tells}
 
@@ -33,5 +33,5 @@ pub uncleared-refuted : Claim uncleared → ⊥
 unfolding machine lent
 uncleared-refuted C =
     let r : Run uncleared = record { lent = foundTables; began = fresh; new-taken = refl; limit = omega arith; calls = []; bounded = refl } in
-    let k : _≡_ {A = ℕ} 1 0 = status-tells step (worldOf uncleared r) (pastOf uncleared r) (C r) in
+    let k : _≡_ {A = ℕ} 1 0 = status-tells step (worldAt uncleared r) (pastAt uncleared r) (C r) in
     omega arith

@@ -3,7 +3,7 @@ use Prim.Native.Nat.{ℕ}
 use native.Mathlib.Omega.{arith}
 use mathlib.Core.Path.{_≡_, refl}
 use mathlib.Core.Bool.{cond}
-use mathlib.Core.List.{List, [], _∷_, _++_, map}
+use mathlib.Core.List.{[], _∷_, _++_, map}
 use lib.Dec.{eqb}
 use Rattle.hnsr_circuit.specs.declared.runtime.HnsrRuntimeStatus.{HnsrRuntimeStatus}
 use Rattle.hnsr_circuit.specs.declared.records.InflightAction.{InflightAction}
@@ -18,7 +18,7 @@ use Rattle.hnsr_circuit.specs.Status.{statusOf}
 use Rattle.hnsr_circuit.specs.Cases.{lent, notAdmitted}
 use Rattle.hnsr_circuit.specs.Call.{step, callHandle}
 use Rattle.hnsr_circuit.specs.All.{machine}
-use Rattle.hnsr_run.specs.Claim.{Machine, worldOf, pastOf, Claim}
+use Rattle.hnsr_run.specs.Claim.{Machine, worldAt, pastAt, Claim}
 use Rattle.hnsr_run.specs.Talk.{grant, opens, closes}
 use Rattle.hnsr_run.specs.Refuted.Machines.{handling, telling-status, opened, talk, run-of, status-tells}
 
@@ -46,7 +46,7 @@ pub invented-refuted : Claim invented → ⊥
 unfolding machine lent notAdmitted
 invented-refuted C =
     let r = run-of invented refl talk refl in
-    let k : _≡_ {A = ℕ} 1 2 = status-tells (invented .step) (worldOf invented r) (pastOf invented r) (C r) in
+    let k : _≡_ {A = ℕ} 1 2 = status-tells (invented .step) (worldAt invented r) (pastAt invented r) (C r) in
     omega arith
 
 -- ---- INCOMING is stored under circuit 0, and labelled so in its route: ACCEPT does not drop it
@@ -83,7 +83,7 @@ pub lingering-refuted : Claim lingering → ⊥
 unfolding machine lent notAdmitted
 lingering-refuted C =
     let r = run-of lingering refl opened refl in
-    let k : _≡_ {A = ℕ} 2 1 = status-tells (lingering .step) (worldOf lingering r) (pastOf lingering r) (C r) in
+    let k : _≡_ {A = ℕ} 2 1 = status-tells (lingering .step) (worldAt lingering r) (pastAt lingering r) (C r) in
     omega arith
 
 -- ---- an OPEN looks at pending records alone, and draws the id of a circuit that stands: its CLOSE drops that circuit's actions too
@@ -100,5 +100,5 @@ pub twice-refuted : Claim twice → ⊥
 unfolding machine lent notAdmitted
 twice-refuted C =
     let r = run-of twice refl (talk ++ (opens 3 2 9 (7 ∷ []) (grant 5 100) 100 ∷ closes 3 9 100 ∷ [])) refl in
-    let k : _≡_ {A = ℕ} 1 3 = status-tells (twice .step) (worldOf twice r) (pastOf twice r) (C r) in
+    let k : _≡_ {A = ℕ} 1 3 = status-tells (twice .step) (worldAt twice r) (pastAt twice r) (C r) in
     omega arith

@@ -34,7 +34,7 @@ use Rattle.hnsr_run.specs.Run.Books.{Books, spend-books}
 use Rattle.hnsr_run.specs.Run.InPlace.{only-one, agreed, place-circuit, looked, resume-at, charged-at, charge-agrees, sent-peers}
 use Rattle.hnsr_run.specs.Run.Limits.{limits, within-top}
 use Rattle.hnsr_run.specs.Run.Rel.{Heads, Rel, proceed-cases, if-taken, can-queue, send-taken}
-use Rattle.hnsr_run.specs.Run.DataRows.{named-side, known-rel, named-active, side-same, DataRows, data-rows, to-endpoint, to-side, charged-queue}
+use Rattle.hnsr_run.specs.Run.DataRows.{named-side, known-rel, named-active, side-same, DataRows, data-rows, to-side, charged-queue}
 
 -- ---- DATA, taken: the circuit charged, the ledger charged, the action queued
 module _ {w : World} {h : Past} (R : Rel w h) (q : Packet) (op : q .opcode ≡ opData) (low : sequenceOf w < top 64) where

@@ -2,15 +2,14 @@
 use Prim.Native.Nat.{ℕ, _+_, _≤_, _<_}
 use native.Mathlib.Omega.{arith}
 use mathlib.Core.Path.{_≡_, refl, sym, ap, _∙_, subst}
-use mathlib.Core.Bool.{Bool, true, false, cond, not, _&&_, _||_, and-false, or-true}
-use mathlib.Core.List.{List, [], _∷_, _++_, map, append-assoc, append-nil}
+use mathlib.Core.Bool.{Bool, true, false, cond, not, _&&_, _||_, and-false}
+use mathlib.Core.List.{List, [], _∷_, _++_, map}
 use mathlib.Core.Logic.{_⊎_, inl, inr}
 use lib.Dec.{ltb, eqb}
 use lib.ListN.{length, length-append}
-use borrow.Author.Tests.{eqb-true, ltb-false, le-ltb, eq-eqb}
+use borrow.Author.Tests.{ltb-false, le-ltb, eq-eqb}
 use Rattle.hns_encoding.specs.Numbers.{top}
 use Rattle.hns_encoding.specs.Laws.Tests.{split, clash, both, join, either}
-use Rattle.hnsr_body.specs.declared.messages.Notice.{Notice}
 use Rattle.hnsr_body.specs.declared.messages.Notice.the-variants.{PeerDisconnected}
 use Rattle.hnsr_circuit.specs.declared.peer.HnsrPeerId.{HnsrPeerId}
 use Rattle.hnsr_circuit.specs.declared.records.RelaySide.{RelaySide}
@@ -19,8 +18,6 @@ use Rattle.hnsr_circuit.specs.declared.records.RelayPending.{RelayPending}
 use Rattle.hnsr_circuit.specs.declared.records.RelayCircuit.{RelayCircuit}
 use Rattle.hnsr_circuit.specs.declared.answer.HnsrAnswer.{HnsrAnswer}
 use Rattle.hnsr_circuit.specs.declared.answer.HnsrAnswer.the-variants.{Taken, Refused}
-use Rattle.hnsr_circuit.specs.declared.answer.HnsrRuntimeError.the-variants.{Capacity}
-use Rattle.hnsr_circuit.specs.Answers.{check}
 use Rattle.hnsr_circuit.specs.Table.{any}
 use Rattle.hnsr_circuit.specs.Peer.{samePeer}
 use Rattle.hnsr_circuit.specs.Pending.{pendingId, pendingAt, pendingOf}
@@ -28,26 +25,23 @@ use Rattle.hnsr_circuit.specs.Circuits.{circuitId, circuitAt, circuitOf, isSide
 use Rattle.hnsr_circuit.specs.Inflight.{tallied, capacityLeft, capacityAnswer}
 use Rattle.hnsr_circuit.specs.Route.{Route}
 use Rattle.hnsr_circuit.specs.World.{World, configOf}
-use Rattle.hnsr_circuit.specs.Queue.{Message, Sent, opClose, routeFor, generationOf, sequenceOf, queueAnswer, canQueue, routed, when, andThen, tellIf, tell}
+use Rattle.hnsr_circuit.specs.Queue.{Message, Sent, opClose, sequenceOf, queueAnswer, canQueue, routed, when, tellIf, tell}
 use Rattle.hnsr_circuit.specs.Packet.{circuitIn}
-use Rattle.hnsr_circuit.specs.Revocation.{withoutPending, withoutActions, endPending, endCircuit, closing, closeToRequester, closeToEndpoint, closeTo, hasPending, pendingIn, revokedCircuit, revokeCircuit, walk, pendingTable, circuitTable, revokeAll}
+use Rattle.hnsr_circuit.specs.Revocation.{withoutPending, withoutActions, endPending, endCircuit, closing, closeToRequester, closeToEndpoint, closeTo, pendingIn, revokedCircuit, revokeCircuit, walk, pendingTable, circuitTable, revokeAll}
 use Rattle.hnsr_circuit.specs.RevokingCalls.{closeToOther, disconnectedPending, disconnectPending}
 use Rattle.hnsr_circuit.specs.Laws.Peer.{same-refl}
-use Rattle.hnsr_run.specs.Past.{Known, Asked, Action, Past, peerOn, onCircuit, tally, heard, emit, openEnded, circuitEnded}
-use Rattle.hnsr_run.specs.History.{askedSide, knownSide, byContext, ownOpen, sharedId, atTurn, otherOf, comes, aboutClose, heardOnLeaving}
+use Rattle.hnsr_run.specs.Past.{Known, Asked, Action, Past, onCircuit, tally, heard, emit, openEnded, circuitEnded}
+use Rattle.hnsr_run.specs.History.{askedSide, knownSide, ownOpen, sharedId, atTurn, otherOf, comes, aboutClose, heardOnLeaving}
 use Rattle.hnsr_run.specs.Run.Actions.{tally-held}
 use Rattle.hnsr_run.specs.Run.Circuits.{Agrees}
 use Rattle.hnsr_run.specs.Run.Full.{AgreesP, Full, Keeps}
 use Rattle.hnsr_run.specs.Run.Ended.{end-pending}
 use Rattle.hnsr_run.specs.Run.Walks.{when-cases}
-use Rattle.hnsr_run.specs.Run.Ends.{pending-agrees, pending-is, pending-there, circuit-there, disconnecting, labelled-own}
+use Rattle.hnsr_run.specs.Run.Ends.{pending-agrees, pending-is, pending-there, disconnecting, labelled-own}
 use Rattle.hnsr_run.specs.Run.Revocations.{walk-pending, walk-circuits, partedOpens}
 use Rattle.hnsr_run.specs.Run.Rel.{can-queue}
 use Rattle.hnsr_run.specs.Run.Numbers.{disconnect-pending-counts}
-use Rattle.hnsr_run.specs.Run.Leaving.{All, all-append, all-imp, own, After, Fits, Turn, own-turn, own-stands, later}
-
-or-one : (x y : Bool) → y ≡ true → (x || y) ≡ true
-or-one x y e = ap (λ b. x || b) e ∙ or-true x
+use Rattle.hnsr_run.specs.Run.Leaving.{All, all-append, all-imp, or-one, own, After, Fits, Turn, own-turn, own-stands, later}
 
 -- ---- the CLOSE of a turn
 abbrev said : HnsrPeerId → ℕ → (context : ℕ) → Message

@@ -6,8 +6,7 @@ use mathlib.Core.Bool.{Bool, true, false, cond, not, _&&_, _||_, and-false, or-t
 use mathlib.Core.List.{List, [], _∷_, _++_, map, append-assoc, append-nil}
 use mathlib.Core.Logic.{_⊎_, inl, inr}
 use lib.Dec.{leb, ltb, eqb}
-use lib.ListN.{length}
-use borrow.Author.Tests.{eqb-true, eqb-false, ltb-true, leb-true, lt-ltb, le-ltb, le-leb, lt-leb, eq-eqb, ne-eqb}
+use borrow.Author.Tests.{eqb-true, eqb-false, lt-ltb, le-ltb, le-leb, lt-leb, eq-eqb, ne-eqb}
 use Rattle.hns_encoding.specs.Laws.Tests.{split, clash, both, join, either, eqb-comm}
 use Rattle.hns_encoding.specs.Sums.{non}
 use Rattle.hnsr_circuit.specs.declared.peer.HnsrPeerId.{HnsrPeerId}
@@ -16,7 +15,7 @@ use Rattle.hnsr_circuit.specs.Peer.{samePeer}
 use Rattle.hnsr_circuit.specs.Inflight.{capacityLeft}
 use Rattle.hnsr_circuit.specs.Route.{Route}
 use Rattle.hnsr_circuit.specs.Laws.Totals.{keep-append, keep-keep}
-use Rattle.hnsr_run.specs.Past.{Asked, Action, Past, onCircuit, tally, heard, emit, openEnded}
+use Rattle.hnsr_run.specs.Past.{Action, Past, onCircuit, tally, heard, emit, openEnded}
 use Rattle.hnsr_run.specs.History.{askedSide, knownSide, byContext, goneOpen, ownOpen, sharedId, atTurn, otherOf, comes, aboutClose, heardOnLeaving}
 
 -- ---- of every member of a list
@@ -61,7 +60,7 @@ module _ {A : Type 0} where
 abbrev pub own : Route → Action
 own = heard (λ r. r .circuit)
 
-or-one : (x y : Bool) → y ≡ true → (x || y) ≡ true
+pub or-one : (x y : Bool) → y ≡ true → (x || y) ≡ true
 or-one x y e = ap (λ b. x || b) e ∙ or-true x
 
 -- an id whose turn comes after that of the OPEN m

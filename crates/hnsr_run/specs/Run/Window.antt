@@ -1,10 +1,9 @@
 -- WINDOW keeps the invariant: the other side's credit is raised, and a Control queued.
 use Prim.Native.Nat.{ℕ, _<_}
 use mathlib.Core.Path.{_≡_, refl, sym, ap, _∙_, subst}
-use mathlib.Core.Bool.{true, false, cond, _&&_}
+use mathlib.Core.Bool.{true, false, cond}
 use mathlib.Core.List.{[], _∷_}
 use lib.Dec.{eqb}
-use lib.ListN.{length}
 use borrow.Author.Tests.{eq-eqb}
 use Rattle.hns_encoding.specs.Numbers.{top}
 use Rattle.hnsr_body.specs.Data.{decodeWindow, windowFields}
@@ -13,17 +12,16 @@ use Rattle.hnsr_circuit.specs.declared.records.RelaySide.{RelaySide}
 use Rattle.hnsr_circuit.specs.declared.records.RelaySide.the-variants.{Requester, Endpoint}
 use Rattle.hnsr_circuit.specs.declared.answer.HnsrAnswer.the-variants.{Taken}
 use Rattle.hnsr_circuit.specs.Answers.{bodyAnswer, _then_}
-use Rattle.hnsr_circuit.specs.Peer.{samePeer}
 use Rattle.hnsr_circuit.specs.Circuits.{sideOf, queuedTo, raised}
 use Rattle.hnsr_circuit.specs.declared.records.InflightKind.{InflightKind}
 use Rattle.hnsr_circuit.specs.declared.records.InflightKind.the-variants.{Data, Control}
 use Rattle.hnsr_circuit.specs.Inflight.{kindNumber, tallied, capacityAnswer}
 use Rattle.hnsr_circuit.specs.World.{World, Outcome, configOf, done}
-use Rattle.hnsr_circuit.specs.Queue.{Message, opData, opWindow, sequenceOf, queued, routed, send}
+use Rattle.hnsr_circuit.specs.Queue.{Message, opWindow, sequenceOf, queued, routed, send}
 use Rattle.hnsr_circuit.specs.Packet.{Packet, sender, hasCircuit, namedCircuit, circuitAnswer, receiver, forwarded}
 use Rattle.hnsr_circuit.specs.Window.{creditAnswer, withWindow, windowTaken, windowWith, handleWindow}
 use Rattle.hnsr_circuit.specs.Laws.Answers.{then-taken}
-use Rattle.hnsr_run.specs.Past.{Known, Past, at, kindFor, heard, emit, learnt}
+use Rattle.hnsr_run.specs.Past.{Past, at, kindFor, heard, emit, learnt}
 use Rattle.hnsr_run.specs.History.{sideIn, granted, windowIn}
 use Rattle.hnsr_run.specs.Run.Actions.{room-of}
 use Rattle.hnsr_run.specs.Run.Circuits.{none}

@@ -6,7 +6,6 @@ use mathlib.Core.Bool.{Bool, true, false}
 use mathlib.Core.List.{List, [], _∷_, _++_, map}
 use Rattle.hnsr_body.specs.declared.messages.Notice.the-variants.{PeerDisconnected}
 use Rattle.hnsr_body.specs.Messages.{noticeBody}
-use Rattle.hnsr_circuit.specs.declared.config.OpaqueRelayConfig.{OpaqueRelayConfig}
 use Rattle.hnsr_circuit.specs.declared.answer.HnsrAnswer.the-variants.{Refused}
 use Rattle.hnsr_circuit.specs.declared.answer.HnsrRuntimeError.the-variants.{GenerationExhausted, ClockRollback, StaleGeneration}
 use Rattle.hnsr_circuit.specs.declared.records.RelayTicket.{RelayTicket}
@@ -19,7 +18,7 @@ use Rattle.hnsr_circuit.specs.Call.{Start, Call, callReplaceEnabled, callHandle
 use Rattle.hnsr_circuit.specs.All.{machine}
 use Rattle.hnsr_run.specs.Past.{Past}
 use Rattle.hnsr_run.specs.History.{Event, after}
-use Rattle.hnsr_run.specs.Talk.{fresh, grant, opens, packet, accepts, sends, widens, closes, fails, acked, lost, ample, leaves, revokes, eventsFrom, pastFrom, pastAfter, numberOf}
+use Rattle.hnsr_run.specs.Talk.{fresh, tight, grant, opens, packet, accepts, sends, widens, closes, fails, acked, lost, ample, leaves, revokes, eventsFrom, pastFrom, pastAfter, numberOf}
 
 -- the peer 1 asks 2 for the circuit 7 under its context 9; the circuit stands
 abbrev asked : List Call
@@ -71,23 +70,7 @@ pub stale-context : (answersOf fresh drawnTwice ≡ 0 ∷ 0 ∷ 0 ∷ 14 ∷ [])
 unfolding machine lent notAdmitted
 stale-context = (refl, refl)
 
--- ---- few actions: four in all, two on a circuit, two toward a peer
-abbrev fewActions : OpaqueRelayConfig
-fewActions = record {
-  «maximum_pending» = 3;
-  «maximum_circuits» = 3;
-  «maximum_circuits_per_peer» = 32;
-  «maximum_queue_bytes» = 65536;
-  «maximum_inflight_actions» = 4;
-  «maximum_inflight_actions_per_circuit» = 2;
-  «maximum_inflight_actions_per_peer» = 2;
-  «maximum_bytes_per_circuit» = 16777216;
-  «accept_timeout_seconds» = 10;
-}
-
-abbrev tight : Start
-tight = record { session = fresh .session; generation = 1; config = fewActions; now = 100 }
-
+-- ---- few actions, `tight`
 -- INCOMING lost: the OPEN ends, also where the ERROR finds no capacity and the answer is 10
 pub lost-incoming : (answersOf fresh (asked ++ (lost 1 1 ∷ [])) ≡ 0 ∷ 0 ∷ []) × (pendings (pastAfter (asked ++ (lost 1 1 ∷ []))) ≡ false ∷ false ∷ [])
 unfolding machine lent notAdmitted

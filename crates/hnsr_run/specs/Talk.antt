@@ -36,6 +36,23 @@ tables = lent 3 3 16 2
 abbrev pub fresh : Start
 fresh = record { session = replicate 16 1; generation = 1; config = fewPlaces; now = 100 }
 
+-- few actions: four in all, two on a circuit, two toward a peer
+abbrev fewActions : OpaqueRelayConfig
+fewActions = record {
+  «maximum_pending» = 3;
+  «maximum_circuits» = 3;
+  «maximum_circuits_per_peer» = 32;
+  «maximum_queue_bytes» = 65536;
+  «maximum_inflight_actions» = 4;
+  «maximum_inflight_actions_per_circuit» = 2;
+  «maximum_inflight_actions_per_peer» = 2;
+  «maximum_bytes_per_circuit» = 16777216;
+  «accept_timeout_seconds» = 10;
+}
+
+abbrev pub tight : Start
+tight = record { session = replicate 16 1; generation = 1; config = fewActions; now = 100 }
+
 -- at most 4 circuits, expiry 1,000
 abbrev pub granting : (reservation bytes total : ℕ) → RelayTicket
 granting r bytes total = record {

@@ -1,5 +1,5 @@
 -- What the wrong machines are made of: the relay with one call replaced; and the runs that refute them.
-use Prim.Native.Nat.{ℕ}
+use Prim.Native.Nat.{ℕ, _<_}
 use native.Mathlib.Omega.{arith}
 use mathlib.Core.Path.{_≡_, ap, _∙_}
 use mathlib.Core.Bool.{Bool, true, _&&_}
@@ -7,6 +7,7 @@ use mathlib.Core.List.{List, [], _∷_, _++_}
 use lib.Dec.{eqb, leb, ltb}
 use lib.ListN.{length}
 use borrow.Author.Tests.{eqb-true, leb-true, ltb-true}
+use Rattle.hns_encoding.specs.Numbers.{top}
 use Rattle.hns_encoding.specs.Laws.Tests.{both}
 use Rattle.hnsr_body.specs.Data.{mostData}
 use Rattle.hnsr_circuit.specs.declared.answer.HnsrAnswer.{HnsrAnswer}
@@ -19,24 +20,29 @@ use Rattle.hnsr_circuit.specs.Queue.{opData}
 use Rattle.hnsr_circuit.specs.Entry.{handleWords, clockAnswer}
 use Rattle.hnsr_circuit.specs.Handle.{entryAnswer}
 use Rattle.hnsr_circuit.specs.Packet.{Packet, sender}
-use Rattle.hnsr_circuit.specs.Call.{Call, start, step, callStatus, callNextDue, callObserveTime, callReplaceEnabled, callHandle, callAcknowledge, callDisconnect, callRevokeReservation, callExpire}
+use Rattle.hnsr_circuit.specs.Call.{Start, Call, start, step, callStatus, callNextDue, callObserveTime, callReplaceEnabled, callHandle, callAcknowledge, callDisconnect, callRevokeReservation, callExpire}
 use Rattle.hnsr_run.specs.Past.{Past, peerOn}
 use Rattle.hnsr_run.specs.History.{begin}
 use Rattle.hnsr_run.specs.Claim.{Sends, Machine, events, below, Holds, Run}
 use Rattle.hnsr_run.specs.Talk.{tables, fresh, grant, opens, accepts, sends}
 
 -- ---- the relay with one call replaced
-abbrev replacing : (World → Packet → (room : ℕ) → Outcome) → (World → (generation sequence : ℕ) → (delivered : Bool) → (room : ℕ) → Outcome)
-    → (World → Outcome) → World → Call → Outcome
-replacing handles acknowledges tells w callStatus = tells w
-replacing handles acknowledges tells w callNextDue = step w callNextDue
-replacing handles acknowledges tells w (callObserveTime now) = step w (callObserveTime now)
-replacing handles acknowledges tells w (callReplaceEnabled expected on room) = step w (callReplaceEnabled expected on room)
-replacing handles acknowledges tells w (callHandle q room) = handles w q room
-replacing handles acknowledges tells w (callAcknowledge g s delivered room) = acknowledges w g s delivered room
-replacing handles acknowledges tells w (callDisconnect peer room) = step w (callDisconnect peer room)
-replacing handles acknowledges tells w (callRevokeReservation id room) = step w (callRevokeReservation id room)
-replacing handles acknowledges tells w (callExpire now room) = step w (callExpire now room)
+pub record Replaced : Type 0 where
+  pub handles : World → Packet → (room : ℕ) → Outcome
+  pub acknowledges : World → (generation sequence : ℕ) → (delivered : Bool) → (room : ℕ) → Outcome
+  pub disconnects : World → (peer : List ℕ) → (room : ℕ) → Outcome
+  pub tells : World → Outcome
+
+abbrev replacing : Replaced → World → Call → Outcome
+replacing r w callStatus = r .tells w
+replacing r w callNextDue = step w callNextDue
+replacing r w (callObserveTime now) = step w (callObserveTime now)
+replacing r w (callReplaceEnabled expected on room) = step w (callReplaceEnabled expected on room)
+replacing r w (callHandle q room) = r .handles w q room
+replacing r w (callAcknowledge g s delivered room) = r .acknowledges w g s delivered room
+replacing r w (callDisconnect peer room) = r .disconnects w peer room
+replacing r w (callRevokeReservation id room) = step w (callRevokeReservation id room)
+replacing r w (callExpire now room) = step w (callExpire now room)
 
 abbrev handled : World → Packet → (room : ℕ) → Outcome
 handled w q room = step w (callHandle q room)
@@ -44,14 +50,23 @@ handled w q room = step w (callHandle q room)
 abbrev acknowledged : World → (generation sequence : ℕ) → (delivered : Bool) → (room : ℕ) → Outcome
 acknowledged w g s delivered room = step w (callAcknowledge g s delivered room)
 
+abbrev disconnected : World → (peer : List ℕ) → (room : ℕ) → Outcome
+disconnected w peer room = step w (callDisconnect peer room)
+
+abbrev told : World → Outcome
+told w = step w callStatus
+
 abbrev pub handling : (World → Packet → (room : ℕ) → Outcome) → Machine
-handling f = record { new = start; step = replacing f acknowledged (λ w. step w callStatus) }
+handling f = record { new = start; step = replacing (record { handles = f; acknowledges = acknowledged; disconnects = disconnected; tells = told }) }
 
 abbrev pub acknowledging : (World → (generation sequence : ℕ) → (delivered : Bool) → (room : ℕ) → Outcome) → Machine
-acknowledging f = record { new = start; step = replacing handled f (λ w. step w callStatus) }
+acknowledging f = record { new = start; step = replacing (record { handles = handled; acknowledges = f; disconnects = disconnected; tells = told }) }
+
+abbrev pub disconnecting : (World → (peer : List ℕ) → (room : ℕ) → Outcome) → Machine
+disconnecting f = record { new = start; step = replacing (record { handles = handled; acknowledges = acknowledged; disconnects = f; tells = told }) }
 
 abbrev pub telling-status : (World → Outcome) → Machine
-telling-status f = record { new = start; step = replacing handled acknowledged f }
+telling-status f = record { new = start; step = replacing (record { handles = handled; acknowledges = acknowledged; disconnects = disconnected; tells = f }) }
 
 -- entry and clock, in front of what is replaced
 abbrev pub entering : World → Packet → (room : ℕ) → HnsrAnswer
@@ -64,9 +79,13 @@ opened = opens 1 2 9 (7 ∷ []) (grant 5 100) 100 ∷ accepts 2 7 100 ∷ []
 abbrev pub talk : List Call
 talk = opened ++ (sends 1 7 40 100 ∷ [])
 
+abbrev pub run-from : (s : Start) (m : Machine) → m .new tables s .answer ≡ Taken → s .config .«maximum_bytes_per_circuit» < top 64 → (calls : List Call)
+    → below (begin s) 1 (events (m .step) (m .new tables s .world) calls) ≡ true → Run m
+run-from s m new-taken limit calls bounded = record { lent = tables; began = s; new-taken = new-taken; limit = limit; calls = calls; bounded = bounded }
+
 abbrev pub run-of : (m : Machine) → m .new tables fresh .answer ≡ Taken → (calls : List Call) → below (begin fresh) 1 (events (m .step) (m .new tables fresh .world) calls) ≡ true
     → Run m
-run-of m new-taken calls bounded = record { lent = tables; began = fresh; new-taken = new-taken; limit = omega arith; calls = calls; bounded = bounded }
+run-of m new-taken calls bounded = run-from fresh m new-taken (omega arith) calls bounded
 
 -- ---- the parts of the claim, for computing
 abbrev pub actionsIn : Told → ℕ

@@ -99,6 +99,10 @@ pub close-exhausted : circuits (after (pastAfter standing) (closes 1 7 100) (Ref
 unfolding machine lent notAdmitted
 close-exhausted = refl
 
+pub error-exhausted : circuits (after (pastAfter standing) (fails 1 7 100) (Refused GenerationExhausted) []) ≡ false ∷ false ∷ []
+unfolding machine lent notAdmitted
+error-exhausted = refl
+
 pub close-bad-body : let calls = standing ++ (callHandle (packet 1 opClose 7 (0 ∷ 0 ∷ 1 ∷ []) 100) handleWords ∷ callHandle (packet 1 opError 7 [] 100) handleWords ∷ []) in
     (answersOf fresh calls ≡ 0 ∷ 0 ∷ 1 ∷ 1 ∷ []) × (circuits (pastAfter calls) ≡ true ∷ false ∷ [])
 unfolding machine lent notAdmitted

@@ -1,8 +1,8 @@
 -- The header with one part replaced, and the counters (document 01, "Down through the call": opened_circuits counts ACCEPTs, bytes_sent and
 -- bytes_received the bytes of each DATA, revoked_work every other end of a pending record or circuit).
 use Prim.Native.Nat.{ℕ, _+_}
-use mathlib.Core.Bool.{Bool, true}
-use mathlib.Core.List.{List}
+use mathlib.Core.Bool.{Bool, true, false}
+use mathlib.Core.List.{List, replicate}
 use Rattle.hns_encoding.specs.Numbers.{saturatingAdd}
 use Rattle.hnsr_circuit.specs.declared.config.OpaqueRelayConfig.{OpaqueRelayConfig}
 use Rattle.hnsr_circuit.specs.declared.runtime.OpaqueRelayRuntime.{OpaqueRelayRuntime}
@@ -84,5 +84,30 @@ newHeader session generation config now = record {
   «trusted_time_high_water» = now;
   config = config;
   «next_action_sequence» = 1;
+  counters = noCounts;
+}
+
+-- what a refused `new` hands back: zeros, and off
+abbrev pub noConfig : OpaqueRelayConfig
+noConfig = record {
+  «maximum_pending» = 0;
+  «maximum_circuits» = 0;
+  «maximum_circuits_per_peer» = 0;
+  «maximum_queue_bytes» = 0;
+  «maximum_inflight_actions» = 0;
+  «maximum_inflight_actions_per_circuit» = 0;
+  «maximum_inflight_actions_per_peer» = 0;
+  «maximum_bytes_per_circuit» = 0;
+  «accept_timeout_seconds» = 0;
+}
+
+abbrev pub noHeader : OpaqueRelayRuntime
+noHeader = record {
+  session = replicate 16 0;
+  generation = 0;
+  enabled = false;
+  «trusted_time_high_water» = 0;
+  config = noConfig;
+  «next_action_sequence» = 0;
   counters = noCounts;
 }

@@ -19,6 +19,8 @@ pub mod Route
 pub mod Names
 pub mod Scans
 pub mod Turns
+pub mod Held
+pub mod HeldTables
 pub mod Progress
 pub mod Queueing
 pub mod Handlers

@@ -20,6 +20,7 @@ pub mod Entry
 -- ---- the calls
 pub mod Packet
 pub mod Progress
+pub mod Held
 pub mod Queueing
 pub mod Draw
 pub mod Open

@@ -1,6 +1,6 @@
 -- What `status`, `next_due` and `new` hand back, as the code does: the answer, and what is told or made where it is taken.
 use mathlib.Core.Path.{_≡_}
-use mathlib.Core.Bool.{true, false}
+use mathlib.Core.Bool.{false, cond}
 use mathlib.Core.List.{List}
 use Rattle.hnsr_circuit.specs.declared.records.RelayPending.{RelayPending}
 use Rattle.hnsr_circuit.specs.declared.records.RelayCircuit.{RelayCircuit}
@@ -13,6 +13,7 @@ use Rattle.hnsr_circuit.specs.declared.runtime.StatusTold.{StatusTold}
 use Rattle.hnsr_circuit.specs.declared.runtime.DueTold.{DueTold}
 use Rattle.hnsr_circuit.specs.declared.runtime.Relayed.{Relayed}
 use Rattle.hnsr_circuit.specs.Answers.{taken}
+use Rattle.hnsr_circuit.specs.Header.{noHeader}
 use Rattle.hnsr_circuit.specs.World.{World, Told, silent, statusIs, dueIs, Outcome}
 use Rattle.hnsr_circuit.specs.Progress.{worldOf}
 
@@ -49,9 +50,9 @@ statusTold o = record { answer = o .answer; status = statusIn (o .told) }
 abbrev pub dueTold : Outcome → DueTold
 dueTold o = record { answer = o .answer; due = dueIn (o .told) }
 
--- what `new` hands back: its answer, the tables that it leaves and, where it is taken, the runtime that it makes
+-- what `new` hands back: its answer, the tables as they are seen, and the runtime that it makes, or zeros and off where it is refused
 pub record Made (r : Relayed) (p : List RelayPending) (c : List RelayCircuit) (l : List ReservationUsage) (i : List InflightAction) (o : Outcome) : Type 0 where
   pub answer : r .answer ≡ o .answer
   pub tables : worldOf (o .world .header) p c l i ≡ o .world
-  pub runtime : taken (o .answer) ≡ true → r .runtime ≡ o .world .header
+  pub runtime : r .runtime ≡ cond (taken (o .answer)) (o .world .header) noHeader
   pub words : r .words ≡ 0

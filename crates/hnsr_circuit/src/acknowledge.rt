@@ -7,6 +7,7 @@ ghost use Prim.Native.Nat.{ℕ};
 ghost use lib.Dec.{ltb};
 ghost use lib.ListN.{length};
 ghost use Rattle.hnsr_body.specs.Messages.{noticeBody};
+ghost use Rattle.hnsr_circuit.specs.Held.{heldCircuits, heldActions, worldSeen, handedSeen};
 ghost use Rattle.hnsr_circuit.specs.declared.answer.HnsrRuntimeError.the-variants.{Short};
 ghost use Rattle.hnsr_circuit.specs.declared.records.RelayPending.{RelayPending};
 ghost use Rattle.hnsr_circuit.specs.declared.records.RelayCircuit.{RelayCircuit};
@@ -18,7 +19,7 @@ ghost use Rattle.hnsr_circuit.specs.Inflight.{clearAction, kindOf, towar
 ghost use Rattle.hnsr_circuit.specs.Entry.{acknowledgeWords, tooFew};
 ghost use Rattle.hnsr_circuit.specs.Acknowledge.{generationAnswer, actionAnswer, failIncoming, acknowledgeAction, settled};
 ghost use Rattle.hnsr_circuit.specs.Queue.{send};
-ghost use Rattle.hnsr_circuit.specs.Progress.{worldOf, messageOf, handedBack, ending, outcome};
+ghost use Rattle.hnsr_circuit.specs.Progress.{messageOf, ending, outcome};
 ghost use Rattle.hnsr_circuit.specs.Lookup.{actionFound};
 ghost use Rattle.hnsr_circuit.specs.Question.{at};
 ghost use Rattle.hnsr_circuit.specs.Revoking.{errorOut, revokedIf};
@@ -38,6 +39,7 @@ use crate::inflight::kind_of;
 use crate::inflight::toward_side;
 use crate::lookup::look_up_action;
 use crate::lookup::look_up_pending;
+use crate::places::Places;
 use crate::question::at;
 use crate::queue::asking;
 use crate::queue::send;
@@ -183,16 +185,17 @@ fn action_gone(found: ActionFound) -> InflightAction
 // The queue toward a side, lowered.
 pub(crate) fn lower_circuit(
     circuits: &mut [RelayCircuit],
+    places: Places,
     go: bool,
     id: u64,
     side: RelaySide,
     n: usize,
 )
-    ensures { λ _. ⌜ now (circuits .exit) ≡ cond go (edit (circuitAt id) (lowered side n) (now (circuits .entry))) (now (circuits .entry)) ⌝ }
+    ensures { λ _. ⌜ heldCircuits places (now (circuits .exit)) ≡ cond go (edit (circuitAt id) (lowered side n) (heldCircuits places (now (circuits .entry)))) (heldCircuits places (now (circuits .entry))) ⌝ }
 {
     let question = at(id, 0);
-    let place = find_circuit(circuits, question);
-    let circuit = circuit_at(circuits, place);
+    let place = find_circuit(circuits, places, question);
+    let circuit = circuit_at(circuits, places, place);
     let after = circuit_lowered(circuit, side, n);
     set_circuit(circuits, go, place, after);
 }
@@ -225,13 +228,14 @@ pub(crate) fn send_notice(
     inflight: &mut [InflightAction],
     out: &mut [u32],
     runtime: OpaqueRelayRuntime,
+    places: Places,
     message: Outgoing,
     notice: Notice,
 ) -> Relayed
-    ensures { λ r. ⌜ ((p : List RelayPending) (c : List RelayCircuit) (l : List ReservationUsage) → handedBack r p c l (now (inflight .exit)) (now (out .exit)) ≡ ending (now (out .entry)) (send (worldOf runtime p c l (now (inflight .entry))) (messageOf message (noticeBody notice)))) ⌝ }
+    ensures { λ r. ⌜ ((p : List RelayPending) (c : List RelayCircuit) (l : List ReservationUsage) → handedSeen r p c l (now (inflight .exit)) (now (out .exit)) ≡ ending (now (out .entry)) (send (worldSeen runtime places p c l (now (inflight .entry))) (messageOf message (noticeBody notice)))) ⌝ }
 {
     let question = asking(runtime, message);
-    let scan = scan_actions(inflight, question);
+    let scan = scan_actions(inflight, places, question);
     let written = notice.encode();
     let bytes = written.bytes;
     let length = written.length;
@@ -240,6 +244,7 @@ pub(crate) fn send_notice(
         out,
         HnsrAnswer::Taken,
         runtime,
+        places,
         message,
         scan,
         &bytes[..length],
@@ -252,21 +257,22 @@ pub(crate) fn fail_incoming(
     inflight: &mut [InflightAction],
     out: &mut [u32],
     runtime: OpaqueRelayRuntime,
+    places: Places,
     id: u64,
 ) -> Relayed
-    ensures { λ r. ⌜ ((c : List RelayCircuit) (l : List ReservationUsage) → handedBack r (now (pending .exit)) c l (now (inflight .exit)) (now (out .exit)) ≡ ending (now (out .entry)) (failIncoming (worldOf runtime (now (pending .entry)) c l (now (inflight .entry))) id)) ⌝ }
+    ensures { λ r. ⌜ ((c : List RelayCircuit) (l : List ReservationUsage) → handedSeen r (now (pending .exit)) c l (now (inflight .exit)) (now (out .exit)) ≡ ending (now (out .entry)) (failIncoming (worldSeen runtime places (now (pending .entry)) c l (now (inflight .entry))) id)) ⌝ }
 {
     let question = at(id, 0);
-    let found = look_up_pending(pending, question);
+    let found = look_up_pending(pending, places, question);
     let gone = pending_gone(found);
     let plan = fail_plan(found, runtime);
     let after = plan.runtime;
     let message = plan.message;
     if plan.go {
         set_pending(pending, true, plan.place, gone);
-        return send_notice(inflight, out, after, message, Notice::EndpointWriteFailed);
+        return send_notice(inflight, out, after, places, message, Notice::EndpointWriteFailed);
     }
-    taken_with(runtime)
+    taken_with(runtime, places)
 }
 
 // Close, or a record no longer there, does nothing.
@@ -276,12 +282,13 @@ pub(crate) fn settle(
     inflight: &mut [InflightAction],
     out: &mut [u32],
     runtime: OpaqueRelayRuntime,
+    places: Places,
     plan: SettlePlan,
 ) -> Relayed
-    ensures { λ r. ⌜ ((l : List ReservationUsage) (a : InflightAction) (delivered : Bool) → Settles plan a delivered → handedBack r (now (pending .exit)) (now (circuits .exit)) l (now (inflight .exit)) (now (out .exit)) ≡ ending (now (out .entry)) (settled (worldOf runtime (now (pending .entry)) (now (circuits .entry)) l (now (inflight .entry))) a delivered)) ⌝ }
+    ensures { λ r. ⌜ ((l : List ReservationUsage) (a : InflightAction) (delivered : Bool) → Settles plan a delivered → handedSeen r (now (pending .exit)) (now (circuits .exit)) l (now (inflight .exit)) (now (out .exit)) ≡ ending (now (out .entry)) (settled (worldSeen runtime places (now (pending .entry)) (now (circuits .entry)) l (now (inflight .entry))) a delivered)) ⌝ }
 {
     if plan.fail {
-        return fail_incoming(pending, inflight, out, runtime, plan.id);
+        return fail_incoming(pending, inflight, out, runtime, places, plan.id);
     }
     if plan.revoke {
         return revoke_one(
@@ -289,11 +296,12 @@ pub(crate) fn settle(
             inflight,
             out,
             runtime,
+            places,
             Notice::OuterWriteFailed,
             plan.id,
         );
     }
-    taken_with(runtime)
+    taken_with(runtime, places)
 }
 
 pub(crate) fn acknowledge_action(
@@ -302,17 +310,18 @@ pub(crate) fn acknowledge_action(
     inflight: &mut [InflightAction],
     out: &mut [u32],
     runtime: OpaqueRelayRuntime,
+    places: Places,
     found: ActionFound,
     delivered: bool,
 ) -> Relayed
-    ensures { λ r. ⌜ ((l : List ReservationUsage) (generation sequence : ℕ) → found ≡ actionFound (at generation sequence) (now (inflight .entry)) → handedBack r (now (pending .exit)) (now (circuits .exit)) l (now (inflight .exit)) (now (out .exit)) ≡ ending (now (out .entry)) (acknowledgeAction (worldOf runtime (now (pending .entry)) (now (circuits .entry)) l (now (inflight .entry))) generation sequence delivered (found .action))) ⌝ }
+    ensures { λ r. ⌜ ((l : List ReservationUsage) (generation sequence : ℕ) → found ≡ actionFound (at generation sequence) (heldActions places (now (inflight .entry))) → handedSeen r (now (pending .exit)) (now (circuits .exit)) l (now (inflight .exit)) (now (out .exit)) ≡ ending (now (out .entry)) (acknowledgeAction (worldSeen runtime places (now (pending .entry)) (now (circuits .entry)) l (now (inflight .entry))) generation sequence delivered (found .action))) ⌝ }
 {
     let gone = action_gone(found);
     let plan = settle_plan(found, delivered);
     let side = plan.side;
     set_action(inflight, true, plan.place, gone);
-    lower_circuit(circuits, plan.lower, plan.id, side, plan.bytes);
-    settle(pending, circuits, inflight, out, runtime, plan)
+    lower_circuit(circuits, places, plan.lower, plan.id, side, plan.bytes);
+    settle(pending, circuits, inflight, out, runtime, places, plan)
 }
 
 pub fn acknowledge(
@@ -321,19 +330,20 @@ pub fn acknowledge(
     inflight: &mut [InflightAction],
     out: &mut [u32],
     runtime: OpaqueRelayRuntime,
+    places: Places,
     generation: u64,
     sequence: u64,
     delivered: bool,
 ) -> Relayed
-    ensures { λ r. ⌜ ((l : List ReservationUsage) → handedBack r (now (pending .exit)) (now (circuits .exit)) l (now (inflight .exit)) (now (out .exit)) ≡ outcome (now (out .entry)) (step (worldOf runtime (now (pending .entry)) (now (circuits .entry)) l (now (inflight .entry))) (callAcknowledge generation sequence delivered (length (now (out .entry)))))) ⌝ }
+    ensures { λ r. ⌜ ((l : List ReservationUsage) → handedSeen r (now (pending .exit)) (now (circuits .exit)) l (now (inflight .exit)) (now (out .exit)) ≡ outcome (now (out .entry)) (step (worldSeen runtime places (now (pending .entry)) (now (circuits .entry)) l (now (inflight .entry))) (callAcknowledge generation sequence delivered (length (now (out .entry)))))) ⌝ }
 {
     let config = runtime.config;
     let question = at(generation, sequence);
-    let found = look_up_action(inflight, question);
+    let found = look_up_action(inflight, places, question);
     let few = too_few(config, pending.len(), circuits.len(), inflight.len());
     let answer = acknowledge_answer(runtime, few, out.len(), generation, found);
     if is_taken(answer) {
-        return acknowledge_action(pending, circuits, inflight, out, runtime, found, delivered);
+        return acknowledge_action(pending, circuits, inflight, out, runtime, places, found, delivered);
     }
-    refused(runtime, answer)
+    refused(runtime, places, answer)
 }

@@ -5,6 +5,7 @@ ghost use mathlib.Core.List.{List};
 ghost use Prim.Native.Nat.{ℕ};
 ghost use lib.Dec.{eqb};
 ghost use lib.ListN.{length};
+ghost use Rattle.hnsr_circuit.specs.Held.{heldPending, heldCircuits, heldLedger, heldActions, worldSeen, handedSeen};
 ghost use Rattle.hnsr_circuit.specs.declared.records.RelayPending.{RelayPending};
 ghost use Rattle.hnsr_circuit.specs.declared.records.RelayCircuit.{RelayCircuit};
 ghost use Rattle.hnsr_circuit.specs.declared.records.ReservationUsage.{ReservationUsage};
@@ -18,7 +19,7 @@ ghost use Rattle.hnsr_circuit.specs.New.{sessionAnswer};
 ghost use Rattle.hnsr_circuit.specs.Told.{noStatus, statusTold, dueTold, Made};
 ghost use Rattle.hnsr_circuit.specs.Status.{statusFrom};
 ghost use Rattle.hnsr_circuit.specs.declared.records.NextDue.the-variants.{Never};
-ghost use Rattle.hnsr_circuit.specs.Progress.{worldOf, handedBack, outcome};
+ghost use Rattle.hnsr_circuit.specs.Progress.{worldOf, outcome};
 ghost use Rattle.hnsr_circuit.specs.Call.{start, step, callStatus, callNextDue, callObserveTime};
 use crate::answer::HnsrAnswer;
 use crate::answer::HnsrRuntimeError;
@@ -29,7 +30,11 @@ use crate::config::OpaqueRelayConfig;
 use crate::entry::clock_answer;
 use crate::entry::too_few;
 use crate::header::new_header;
+use crate::header::no_runtime;
 use crate::header::with_clock;
+use crate::places::Places;
+use crate::places::every_place;
+use crate::places::no_place;
 use crate::question::used;
 use crate::records::CircuitTotals;
 use crate::records::InflightAction;
@@ -46,11 +51,7 @@ use crate::runtime::Relayed;
 use crate::runtime::StatusTold;
 use crate::tables::circuits::circuit_due;
 use crate::tables::circuits::circuit_totals;
-use crate::tables::circuits::clear_circuit;
-use crate::tables::inflight::clear_action;
 use crate::tables::inflight::count_action;
-use crate::tables::ledger::clear_usage;
-use crate::tables::pending::clear_pending;
 use crate::tables::pending::count_pending;
 use crate::tables::pending::pending_due;
 use hns_encoding::logic::either;
@@ -85,31 +86,29 @@ fn new_answer(
     first_refusal(named, rest)
 }
 
-// Marks every place unused. Where it is refused the tables stay, and the runtime means nothing.
+// No place is in use, whatever the tables hold: no table is touched. Where it is refused every place stays as found, and the runtime is zeros and off.
 pub fn new(
-    pending: &mut [RelayPending],
-    circuits: &mut [RelayCircuit],
-    ledger: &mut [ReservationUsage],
-    inflight: &mut [InflightAction],
+    pending: &[RelayPending],
+    circuits: &[RelayCircuit],
+    ledger: &[ReservationUsage],
+    inflight: &[InflightAction],
     session: [u8; 16],
     generation: u64,
     config: OpaqueRelayConfig,
     time: u64,
 ) -> Relayed
-    ensures { λ r. ⌜ ((h : OpaqueRelayRuntime) → Made r (now (pending .exit)) (now (circuits .exit)) (now (ledger .exit)) (now (inflight .exit)) (start (worldOf h (now (pending .entry)) (now (circuits .entry)) (now (ledger .entry)) (now (inflight .entry))) (record { session = session; generation = generation; config = config; now = time }))) ⌝ }
+    ensures { λ r. ⌜ ((h : OpaqueRelayRuntime) → Made r (heldPending (r .places) (now (pending .entry))) (heldCircuits (r .places) (now (circuits .entry))) (heldLedger (r .places) (now (ledger .entry))) (heldActions (r .places) (now (inflight .entry))) (start (worldOf h (now (pending .entry)) (now (circuits .entry)) (now (ledger .entry)) (now (inflight .entry))) (record { session = session; generation = generation; config = config; now = time }))) ⌝ }
 {
     let few = too_few(config, pending.len(), circuits.len(), inflight.len());
     let answer = new_answer(session, generation, config, few, ledger.len());
     let runtime = new_header(session, generation, config, time);
-    let every = used();
     if is_taken(answer) {
-        clear_pending(pending, every);
-        clear_circuit(circuits, every);
-        clear_usage(ledger, every);
-        clear_action(inflight, every);
-        return taken_with(runtime);
+        let none = no_place();
+        return taken_with(runtime, none);
     }
-    refused(runtime, answer)
+    let off = no_runtime();
+    let every = every_place();
+    refused(off, every, answer)
 }
 
 // ---- status
@@ -177,16 +176,17 @@ pub fn status(
     circuits: &[RelayCircuit],
     inflight: &[InflightAction],
     runtime: OpaqueRelayRuntime,
+    places: Places,
 ) -> StatusTold
-    ensures { λ r. ⌜ ((l : List ReservationUsage) → r ≡ statusTold (step (worldOf runtime (now (pending .entry)) (now (circuits .entry)) l (now (inflight .entry))) callStatus)) ⌝ }
+    ensures { λ r. ⌜ ((l : List ReservationUsage) → r ≡ statusTold (step (worldSeen runtime places (now (pending .entry)) (now (circuits .entry)) l (now (inflight .entry))) callStatus)) ⌝ }
 {
     let config = runtime.config;
     let question = used();
-    let waiting = count_pending(pending, question);
-    let totals = circuit_totals(circuits);
-    let actions = count_action(inflight, question);
+    let waiting = count_pending(pending, places, question);
+    let totals = circuit_totals(circuits, places);
+    let outstanding = count_action(inflight, places, question);
     let few = too_few(config, pending.len(), circuits.len(), inflight.len());
-    let all = status_of(runtime, waiting, totals, actions);
+    let all = status_of(runtime, waiting, totals, outstanding);
     status_told(few, all)
 }
 
@@ -211,25 +211,26 @@ pub fn next_due(
     circuits: &[RelayCircuit],
     inflight: &[InflightAction],
     runtime: OpaqueRelayRuntime,
+    places: Places,
 ) -> DueTold
-    ensures { λ r. ⌜ ((l : List ReservationUsage) → r ≡ dueTold (step (worldOf runtime (now (pending .entry)) (now (circuits .entry)) l (now (inflight .entry))) callNextDue)) ⌝ }
+    ensures { λ r. ⌜ ((l : List ReservationUsage) → r ≡ dueTold (step (worldSeen runtime places (now (pending .entry)) (now (circuits .entry)) l (now (inflight .entry))) callNextDue)) ⌝ }
 {
     let config = runtime.config;
-    let first = pending_due(pending, NextDue::Never);
-    let second = circuit_due(circuits, first);
+    let first = pending_due(pending, places, NextDue::Never);
+    let second = circuit_due(circuits, places, first);
     let few = too_few(config, pending.len(), circuits.len(), inflight.len());
     due_told(few, second)
 }
 
 // ---- observe_time: it is lent no table, and asks no 22
 
-pub fn observe_time(runtime: OpaqueRelayRuntime, time: u64) -> Relayed
-    ensures { λ r. ⌜ ((p : List RelayPending) (c : List RelayCircuit) (l : List ReservationUsage) (i : List InflightAction) (out : List ℕ) → handedBack r p c l i out ≡ outcome out (step (worldOf runtime p c l i) (callObserveTime time))) ⌝ }
+pub fn observe_time(runtime: OpaqueRelayRuntime, places: Places, time: u64) -> Relayed
+    ensures { λ r. ⌜ ((p : List RelayPending) (c : List RelayCircuit) (l : List ReservationUsage) (i : List InflightAction) (out : List ℕ) → handedSeen r p c l i out ≡ outcome out (step (worldSeen runtime places p c l i) (callObserveTime time))) ⌝ }
 {
     let answer = clock_answer(runtime.trusted_time_high_water, time);
     let moved = with_clock(runtime, time);
     if is_taken(answer) {
-        return taken_with(moved);
+        return taken_with(moved, places);
     }
-    refused(runtime, answer)
+    refused(runtime, places, answer)
 }

@@ -4,13 +4,14 @@ ghost use mathlib.Core.Bool.{_||_};
 ghost use Prim.Native.Nat.{_<_};
 ghost use lib.Dec.{ltb};
 ghost use lib.ListN.{length};
+ghost use Rattle.hnsr_circuit.specs.Held.{worldSeen, handedSeen};
 ghost use Rattle.hnsr_circuit.specs.declared.answer.HnsrAnswer.the-variants.{Refused};
 ghost use Rattle.hnsr_circuit.specs.declared.answer.HnsrRuntimeError.the-variants.{Short, UnexpectedOpcode};
 ghost use Rattle.hnsr_circuit.specs.Answers.{check, _then_};
 ghost use Rattle.hnsr_circuit.specs.Entry.{handleWords, peerAnswer, packetAnswer, clockAnswer};
 ghost use Rattle.hnsr_circuit.specs.Handle.{handlingOf, dispatch, gateAnswer, handleGate};
 ghost use Rattle.hnsr_circuit.specs.Call.{step, callHandle};
-ghost use Rattle.hnsr_circuit.specs.Progress.{worldOf, packetOf, handedBack, ending, outcome};
+ghost use Rattle.hnsr_circuit.specs.Progress.{packetOf, ending, outcome};
 use crate::answer::HnsrAnswer;
 use crate::answer::HnsrRuntimeError;
 use crate::answer::body_answer;
@@ -26,6 +27,8 @@ use crate::handle_data::handle_data;
 use crate::handle_open::handle_open;
 use crate::handle_window::handle_window;
 use crate::header::with_clock;
+use crate::lookup::trim;
+use crate::places::Places;
 use crate::records::InflightAction;
 use crate::records::RelayCircuit;
 use crate::records::RelayPacket;
@@ -90,13 +93,14 @@ pub(crate) fn gate_answer(enabled: bool) -> HnsrAnswer
 // ---- the opcode picks the handling
 
 // 16: another opcode, 21 up included
-fn unexpected(runtime: OpaqueRelayRuntime) -> Relayed
-    ensures { λ r. ⌜ (r .runtime ≡ runtime) × (r .answer ≡ Refused UnexpectedOpcode) × (r .words ≡ 0) ⌝ }
+fn unexpected(runtime: OpaqueRelayRuntime, places: Places) -> Relayed
+    ensures { λ r. ⌜ ((r .runtime ≡ runtime) × (r .answer ≡ Refused UnexpectedOpcode) × (r .words ≡ 0)) × (r .places ≡ places) ⌝ }
 {
     Relayed {
         runtime,
         answer: HnsrAnswer::Refused(HnsrRuntimeError::UnexpectedOpcode),
         words: 0,
+        places,
     }
 }
 
@@ -108,6 +112,7 @@ pub(crate) fn dispatch(
     inflight: &mut [InflightAction],
     out: &mut [u32],
     relay: OpaqueRelayRuntime,
+    places: Places,
     packet: RelayPacket,
     peer: &[u8],
     body: &[u8],
@@ -115,7 +120,7 @@ pub(crate) fn dispatch(
     random: &[u8],
 ) -> Relayed
     requires { ⌜ length (now body) < 65536 ⌝ }
-    ensures { λ r. ⌜ handedBack r (now (pending .exit)) (now (circuits .exit)) (now (ledger .exit)) (now (inflight .exit)) (now (out .exit)) ≡ ending (now (out .entry)) (dispatch (handlingOf (packet .opcode)) (worldOf relay (now (pending .entry)) (now (circuits .entry)) (now (ledger .entry)) (now (inflight .entry))) (packetOf packet (now (peer .entry)) (now (body .entry)) (now (endpoint .entry)) (now (random .entry)))) ⌝ }
+    ensures { λ r. ⌜ handedSeen r (now (pending .exit)) (now (circuits .exit)) (now (ledger .exit)) (now (inflight .exit)) (now (out .exit)) ≡ ending (now (out .entry)) (dispatch (handlingOf (packet .opcode)) (worldSeen relay places (now (pending .entry)) (now (circuits .entry)) (now (ledger .entry)) (now (inflight .entry))) (packetOf packet (now (peer .entry)) (now (body .entry)) (now (endpoint .entry)) (now (random .entry)))) ⌝ }
 {
     let opcode = packet.opcode;
     match opcode {
@@ -126,17 +131,18 @@ pub(crate) fn dispatch(
             inflight,
             out,
             relay,
+            places,
             packet,
             peer,
             body,
             endpoint,
             random,
         ),
-        15 => handle_accept(pending, circuits, inflight, out, relay, packet, peer, body),
-        17 => handle_data(circuits, ledger, inflight, out, relay, packet, peer, body),
-        18 => handle_window(circuits, inflight, out, relay, packet, peer, body),
-        19..=20 => handle_close(pending, circuits, inflight, out, relay, packet, peer, body),
-        0..=12 | 14 | 16 | 21..=255 => unexpected(relay),
+        15 => handle_accept(pending, circuits, inflight, out, relay, places, packet, peer, body),
+        17 => handle_data(circuits, ledger, inflight, out, relay, places, packet, peer, body),
+        18 => handle_window(circuits, inflight, out, relay, places, packet, peer, body),
+        19..=20 => handle_close(pending, circuits, inflight, out, relay, places, packet, peer, body),
+        0..=12 | 14 | 16 | 21..=255 => unexpected(relay, places),
     }
 }
 
@@ -148,6 +154,7 @@ pub(crate) fn handle_gate(
     inflight: &mut [InflightAction],
     out: &mut [u32],
     runtime: OpaqueRelayRuntime,
+    places: Places,
     packet: RelayPacket,
     source: &[u8],
     body: &[u8],
@@ -155,7 +162,7 @@ pub(crate) fn handle_gate(
     random: &[u8],
 ) -> Relayed
     requires { ⌜ length (now body) < 65536 ⌝ }
-    ensures { λ r. ⌜ handedBack r (now (pending .exit)) (now (circuits .exit)) (now (ledger .exit)) (now (inflight .exit)) (now (out .exit)) ≡ ending (now (out .entry)) (handleGate (worldOf runtime (now (pending .entry)) (now (circuits .entry)) (now (ledger .entry)) (now (inflight .entry))) (packetOf packet (now (source .entry)) (now (body .entry)) (now (endpoint .entry)) (now (random .entry)))) ⌝ }
+    ensures { λ r. ⌜ handedSeen r (now (pending .exit)) (now (circuits .exit)) (now (ledger .exit)) (now (inflight .exit)) (now (out .exit)) ≡ ending (now (out .entry)) (handleGate (worldSeen runtime places (now (pending .entry)) (now (circuits .entry)) (now (ledger .entry)) (now (inflight .entry))) (packetOf packet (now (source .entry)) (now (body .entry)) (now (endpoint .entry)) (now (random .entry)))) ⌝ }
 {
     let answer = gate_answer(runtime.enabled);
     if is_taken(answer) {
@@ -166,6 +173,7 @@ pub(crate) fn handle_gate(
             inflight,
             out,
             runtime,
+            places,
             packet,
             source,
             body,
@@ -173,7 +181,7 @@ pub(crate) fn handle_gate(
             random,
         );
     }
-    refused(runtime, answer)
+    refused(runtime, places, answer)
 }
 
 pub fn handle(
@@ -183,13 +191,14 @@ pub fn handle(
     inflight: &mut [InflightAction],
     out: &mut [u32],
     runtime: OpaqueRelayRuntime,
+    places: Places,
     packet: RelayPacket,
     source: &[u8],
     body: &[u8],
     endpoint: &[u8],
     random: &[u8],
 ) -> Relayed
-    ensures { λ r. ⌜ handedBack r (now (pending .exit)) (now (circuits .exit)) (now (ledger .exit)) (now (inflight .exit)) (now (out .exit)) ≡ outcome (now (out .entry)) (step (worldOf runtime (now (pending .entry)) (now (circuits .entry)) (now (ledger .entry)) (now (inflight .entry))) (callHandle (packetOf packet (now (source .entry)) (now (body .entry)) (now (endpoint .entry)) (now (random .entry))) (length (now (out .entry))))) ⌝ }
+    ensures { λ r. ⌜ handedSeen r (now (pending .exit)) (now (circuits .exit)) (now (ledger .exit)) (now (inflight .exit)) (now (out .exit)) ≡ outcome (now (out .entry)) (step (worldSeen runtime places (now (pending .entry)) (now (circuits .entry)) (now (ledger .entry)) (now (inflight .entry))) (callHandle (packetOf packet (now (source .entry)) (now (body .entry)) (now (endpoint .entry)) (now (random .entry))) (length (now (out .entry))))) ⌝ }
 {
     let config = runtime.config;
     let few = too_few(config, pending.len(), circuits.len(), inflight.len());
@@ -197,6 +206,7 @@ pub fn handle(
     let answer = entry_answer(room, runtime, packet, source.len(), body.len());
     if is_taken(answer) {
         let moved = with_clock(runtime, packet.now);
+        let fewer = trim(pending, circuits, ledger, inflight, places);
         return handle_gate(
             pending,
             circuits,
@@ -204,6 +214,7 @@ pub fn handle(
             inflight,
             out,
             moved,
+            fewer,
             packet,
             source,
             body,
@@ -211,5 +222,5 @@ pub fn handle(
             random,
         );
     }
-    refused(runtime, answer)
+    refused(runtime, places, answer)
 }

@@ -5,14 +5,16 @@ ghost use mathlib.Core.List.{List};
 ghost use Prim.Native.Nat.{ℕ};
 ghost use lib.ListN.{set};
 ghost use Rattle.hnsr_body.specs.Accept.{openedBytes};
+ghost use Rattle.hnsr_circuit.specs.Held.{held, heldPending, heldCircuits, heldActions, worldSeen, handedSeen};
 ghost use Rattle.hnsr_circuit.specs.Table.{put};
 ghost use Rattle.hnsr_circuit.specs.Peer.{peerOf};
-ghost use Rattle.hnsr_circuit.specs.Circuits.{isCircuit, circuitAt};
+ghost use Rattle.hnsr_circuit.specs.Pending.{clearPending};
+ghost use Rattle.hnsr_circuit.specs.Circuits.{isCircuit, circuitAt, clearCircuit};
 ghost use Rattle.hnsr_circuit.specs.Inflight.{actionUnder, dropped, tallied};
 ghost use Rattle.hnsr_circuit.specs.Question.{pendingWork, circuitWork};
 ghost use Rattle.hnsr_circuit.specs.World.{proceed};
 ghost use Rattle.hnsr_circuit.specs.Queue.{send};
-ghost use Rattle.hnsr_circuit.specs.Progress.{worldOf, messageOf, packetOf, handedBack, ending};
+ghost use Rattle.hnsr_circuit.specs.Progress.{messageOf, packetOf, ending};
 ghost use Rattle.hnsr_circuit.specs.Accept.{handleAccept};
 ghost use Rattle.hnsr_circuit.specs.Laws.Opening.{acceptRows, acceptWork, putPlace};
 ghost use Rattle.hnsr_circuit.specs.declared.records.RelayPending.{RelayPending};
@@ -30,6 +32,9 @@ use crate::config::OpaqueRelayConfig;
 use crate::lookup::drop_actions;
 use crate::lookup::look_up_pending;
 use crate::peer::peer_of;
+use crate::places::Places;
+use crate::places::raised;
+use crate::places::with_circuits;
 use crate::question::at;
 use crate::question::unused;
 use crate::queue::asking;
@@ -63,15 +68,23 @@ pub(crate) fn put_place(place: usize, places: usize, spare: usize) -> usize
 }
 
 // A circuit replaces what its id finds, else takes the lowest unused place.
-pub(crate) fn put_circuit(circuits: &mut [RelayCircuit], go: bool, id: u64, row: RelayCircuit)
-    ensures { λ _. ⌜ now (circuits .exit) ≡ cond go (put isCircuit (circuitAt id) row (now (circuits .entry))) (now (circuits .entry)) ⌝ }
+pub(crate) fn put_circuit(
+    circuits: &mut [RelayCircuit],
+    places: Places,
+    go: bool,
+    id: u64,
+    row: RelayCircuit,
+) -> usize
+    ensures { λ r. ⌜ held clearCircuit r (now (circuits .exit)) ≡ cond go (put isCircuit (circuitAt id) row (heldCircuits places (now (circuits .entry)))) (heldCircuits places (now (circuits .entry))) ⌝ }
 {
+    let size = circuits.len();
     let same = at(id, 0);
-    let old = find_circuit(circuits, same);
+    let old = find_circuit(circuits, places, same);
     let free = unused();
-    let spare = find_circuit(circuits, free);
-    let place = put_place(old, circuits.len(), spare);
+    let spare = find_circuit(circuits, places, free);
+    let place = put_place(old, size, spare);
     set_circuit(circuits, go, place, row);
+    raised(places.circuits, go, place, size)
 }
 
 // The rows, over the tables as found.
@@ -79,20 +92,21 @@ pub(crate) fn accept_answered(
     pending: &[RelayPending],
     circuits: &[RelayCircuit],
     inflight: &[InflightAction],
+    places: Places,
     config: OpaqueRelayConfig,
     packet: RelayPacket,
     found: PendingFound,
     read: AcceptRead,
     source: &[u8],
 ) -> HnsrAnswer
-    ensures { λ r. ⌜ r ≡ acceptRows config found (peerOf (now (source .entry))) (packet .now) read (pendingWork (acceptWork found) (now (pending .entry))) (circuitWork (acceptWork found) (now (circuits .entry))) (tallied true (packet .«context_id») (found .pending .requester) (now (inflight .entry))) ⌝ }
+    ensures { λ r. ⌜ r ≡ acceptRows config found (peerOf (now (source .entry))) (packet .now) read (pendingWork (acceptWork found) (heldPending places (now (pending .entry)))) (circuitWork (acceptWork found) (heldCircuits places (now (circuits .entry)))) (tallied true (packet .«context_id») (found .pending .requester) (heldActions places (now (inflight .entry)))) ⌝ }
 {
     let peer = peer_of(source);
     let question = accept_work(found);
-    let waiting = pending_work(pending, question);
-    let running = circuit_work(circuits, question);
+    let waiting = pending_work(pending, places, question);
+    let running = circuit_work(circuits, places, question);
     let asked = replacing(found, packet.context_id);
-    let scan = scan_actions(inflight, asked);
+    let scan = scan_actions(inflight, places, asked);
     let tally = scan.tally;
     accept_rows(
         config,
@@ -111,15 +125,18 @@ pub(crate) fn accept_written(
     pending: &mut [RelayPending],
     circuits: &mut [RelayCircuit],
     inflight: &mut [InflightAction],
+    places: Places,
     plan: AcceptPlan,
     unmarked: RelayPending,
     circuit: RelayCircuit,
-)
-    ensures { λ _. ⌜ (now (pending .exit) ≡ cond (plan .go) (set (now (pending .entry)) (plan .place) unmarked) (now (pending .entry))) × (now (circuits .exit) ≡ cond (plan .go) (put isCircuit (circuitAt (plan .id)) circuit (now (circuits .entry))) (now (circuits .entry))) × (now (inflight .exit) ≡ cond (plan .go) (dropped (actionUnder (plan .id)) (now (inflight .entry))) (now (inflight .entry))) ⌝ }
+) -> usize
+    requires { ⌜ clearPending unmarked ≡ unmarked ⌝ }
+    ensures { λ r. ⌜ (heldPending places (now (pending .exit)) ≡ cond (plan .go) (set (heldPending places (now (pending .entry))) (plan .place) unmarked) (heldPending places (now (pending .entry)))) × (held clearCircuit r (now (circuits .exit)) ≡ cond (plan .go) (put isCircuit (circuitAt (plan .id)) circuit (heldCircuits places (now (circuits .entry)))) (heldCircuits places (now (circuits .entry)))) × (heldActions places (now (inflight .exit)) ≡ cond (plan .go) (dropped (actionUnder (plan .id)) (heldActions places (now (inflight .entry)))) (heldActions places (now (inflight .entry)))) ⌝ }
 {
     set_pending(pending, plan.go, plan.place, unmarked);
-    put_circuit(circuits, plan.go, plan.id, circuit);
-    drop_actions(inflight, plan.go, plan.id);
+    let number = put_circuit(circuits, places, plan.go, plan.id, circuit);
+    drop_actions(inflight, places, plan.go, plan.id);
+    number
 }
 
 // OPENED, the last step.
@@ -128,15 +145,16 @@ pub(crate) fn send_opened(
     out: &mut [u32],
     before: HnsrAnswer,
     runtime: OpaqueRelayRuntime,
+    places: Places,
     message: Outgoing,
     opened: OpenedBody,
 ) -> Relayed
-    ensures { λ r. ⌜ ((p : List RelayPending) (c : List RelayCircuit) (l : List ReservationUsage) → handedBack r p c l (now (inflight .exit)) (now (out .exit)) ≡ ending (now (out .entry)) (let w = worldOf runtime p c l (now (inflight .entry)) in proceed w before (send w (messageOf message (openedBytes opened))))) ⌝ }
+    ensures { λ r. ⌜ ((p : List RelayPending) (c : List RelayCircuit) (l : List ReservationUsage) → handedSeen r p c l (now (inflight .exit)) (now (out .exit)) ≡ ending (now (out .entry)) (let w = worldSeen runtime places p c l (now (inflight .entry)) in proceed w before (send w (messageOf message (openedBytes opened))))) ⌝ }
 {
     let question = asking(runtime, message);
-    let scan = scan_actions(inflight, question);
+    let scan = scan_actions(inflight, places, question);
     let bytes = opened.to_bytes();
-    send(inflight, out, before, runtime, message, scan, &bytes)
+    send(inflight, out, before, runtime, places, message, scan, &bytes)
 }
 
 pub(crate) fn handle_accept(
@@ -145,20 +163,22 @@ pub(crate) fn handle_accept(
     inflight: &mut [InflightAction],
     out: &mut [u32],
     runtime: OpaqueRelayRuntime,
+    places: Places,
     packet: RelayPacket,
     source: &[u8],
     body: &[u8],
 ) -> Relayed
-    ensures { λ r. ⌜ ((l : List ReservationUsage) (e rs : List ℕ) → handedBack r (now (pending .exit)) (now (circuits .exit)) l (now (inflight .exit)) (now (out .exit)) ≡ ending (now (out .entry)) (handleAccept (worldOf runtime (now (pending .entry)) (now (circuits .entry)) l (now (inflight .entry))) (packetOf packet (now (source .entry)) (now (body .entry)) e rs))) ⌝ }
+    ensures { λ r. ⌜ ((l : List ReservationUsage) (e rs : List ℕ) → handedSeen r (now (pending .exit)) (now (circuits .exit)) l (now (inflight .exit)) (now (out .exit)) ≡ ending (now (out .entry)) (handleAccept (worldSeen runtime places (now (pending .entry)) (now (circuits .entry)) l (now (inflight .entry))) (packetOf packet (now (source .entry)) (now (body .entry)) e rs))) ⌝ }
 {
     let question = at(packet.context_id, 0);
-    let found = look_up_pending(pending, question);
+    let found = look_up_pending(pending, places, question);
     let read = AcceptBody::decode(body);
     let config = runtime.config;
     let answer = accept_answered(
         pending,
         circuits,
         inflight,
+        places,
         config,
         packet,
         found,
@@ -171,6 +191,7 @@ pub(crate) fn handle_accept(
     let counted = plan.runtime;
     let message = plan.message;
     let opened = plan.opened;
-    accept_written(pending, circuits, inflight, plan, row, circuit);
-    send_opened(inflight, out, answer, counted, message, opened)
+    let number = accept_written(pending, circuits, inflight, places, plan, row, circuit);
+    let after = with_circuits(places, number);
+    send_opened(inflight, out, answer, counted, after, message, opened)
 }

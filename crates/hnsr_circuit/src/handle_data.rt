@@ -3,10 +3,11 @@ ghost use mathlib.Core.Path.{_≡_};
 ghost use mathlib.Core.List.{List};
 ghost use Prim.Native.Nat.{ℕ, _<_};
 ghost use lib.ListN.{length};
+ghost use Rattle.hnsr_circuit.specs.Held.{heldCircuits, heldLedger, heldActions, worldSeen, handedSeen};
 ghost use Rattle.hnsr_circuit.specs.declared.records.RelayPending.{RelayPending};
 ghost use Rattle.hnsr_circuit.specs.Data.{handleData};
 ghost use Rattle.hnsr_circuit.specs.Plans.{dataPlanned};
-ghost use Rattle.hnsr_circuit.specs.Progress.{worldOf, packetOf, handedBack, ending};
+ghost use Rattle.hnsr_circuit.specs.Progress.{packetOf, ending};
 use crate::data::DataPlan;
 use crate::data::data_plan;
 use crate::lookup::look_up_circuit;
@@ -15,6 +16,7 @@ use crate::lookup::spend;
 use crate::message::data_on;
 use crate::message::reservation_of;
 use crate::peer::peer_of;
+use crate::places::Places;
 use crate::question::at;
 use crate::question::at_reservation;
 use crate::queue::asking;
@@ -34,21 +36,22 @@ pub(crate) fn plan_data(
     ledger: &[ReservationUsage],
     inflight: &[InflightAction],
     runtime: OpaqueRelayRuntime,
+    places: Places,
     packet: RelayPacket,
     source: &[u8],
     n: usize,
 ) -> DataPlan
-    ensures { λ r. ⌜ r ≡ dataPlanned runtime (now (circuits .entry)) (now (ledger .entry)) (now (inflight .entry)) packet (now (source .entry)) n ⌝ }
+    ensures { λ r. ⌜ r ≡ dataPlanned runtime (heldCircuits places (now (circuits .entry))) (heldLedger places (now (ledger .entry))) (heldActions places (now (inflight .entry))) packet (now (source .entry)) n ⌝ }
 {
     let peer = peer_of(source);
     let question = at(packet.context_id, 0);
-    let named = look_up_circuit(circuits, question);
+    let named = look_up_circuit(circuits, places, question);
     let message = data_on(packet, named, peer, n);
     let asked = asking(runtime, message);
-    let scan = scan_actions(inflight, asked);
+    let scan = scan_actions(inflight, places, asked);
     let reservation = reservation_of(named);
     let under = at_reservation(reservation);
-    let booked = look_up_usage(ledger, under);
+    let booked = look_up_usage(ledger, places, under);
     data_plan(runtime, named, booked, scan, peer, message, n)
 }
 
@@ -58,22 +61,23 @@ pub(crate) fn handle_data(
     inflight: &mut [InflightAction],
     out: &mut [u32],
     runtime: OpaqueRelayRuntime,
+    places: Places,
     packet: RelayPacket,
     source: &[u8],
     body: &[u8],
 ) -> Relayed
     requires { ⌜ length (now body) < 65536 ⌝ }
-    ensures { λ r. ⌜ ((p : List RelayPending) (e rs : List ℕ) → handedBack r p (now (circuits .exit)) (now (ledger .exit)) (now (inflight .exit)) (now (out .exit)) ≡ ending (now (out .entry)) (handleData (worldOf runtime p (now (circuits .entry)) (now (ledger .entry)) (now (inflight .entry))) (packetOf packet (now (source .entry)) (now (body .entry)) e rs))) ⌝ }
+    ensures { λ r. ⌜ ((p : List RelayPending) (e rs : List ℕ) → handedSeen r p (now (circuits .exit)) (now (ledger .exit)) (now (inflight .exit)) (now (out .exit)) ≡ ending (now (out .entry)) (handleData (worldSeen runtime places p (now (circuits .entry)) (now (ledger .entry)) (now (inflight .entry))) (packetOf packet (now (source .entry)) (now (body .entry)) e rs))) ⌝ }
 {
     let n = body.len();
     let bytes = n as u64;
-    let plan = plan_data(circuits, ledger, inflight, runtime, packet, source, n);
+    let plan = plan_data(circuits, ledger, inflight, runtime, places, packet, source, n);
     let answer = plan.answer;
     let side = plan.side;
     let counted = plan.runtime;
     let message = plan.message;
     let scan = plan.scan;
     charge_circuit(circuits, plan.go, plan.place, side, n);
-    spend(ledger, plan.go, plan.usage_place, bytes);
-    send(inflight, out, answer, counted, message, scan, body)
+    spend(ledger, places, plan.go, plan.usage_place, bytes);
+    send(inflight, out, answer, counted, places, message, scan, body)
 }

@@ -5,12 +5,13 @@ ghost use mathlib.Core.Bool.{cond};
 ghost use mathlib.Core.List.{List};
 ghost use Prim.Native.Nat.{ℕ};
 ghost use Rattle.hnsr_circuit.specs.Table.{put};
-ghost use Rattle.hnsr_circuit.specs.Pending.{isPending, pendingAt};
-ghost use Rattle.hnsr_circuit.specs.Ledger.{booked};
+ghost use Rattle.hnsr_circuit.specs.Pending.{isPending, pendingAt, clearPending};
+ghost use Rattle.hnsr_circuit.specs.Ledger.{booked, clearUsage};
+ghost use Rattle.hnsr_circuit.specs.Held.{held, heldPending, heldCircuits, heldLedger, heldActions, worldSeen, handedSeen};
 ghost use Rattle.hnsr_circuit.specs.World.{proceed};
 ghost use Rattle.hnsr_circuit.specs.Queue.{actionsScanned};
 ghost use Rattle.hnsr_circuit.specs.Draw.{undrawn, draws, drawAll};
-ghost use Rattle.hnsr_circuit.specs.Progress.{worldOf, packetOf, asking, handedBack, ending};
+ghost use Rattle.hnsr_circuit.specs.Progress.{packetOf, asking, ending};
 ghost use Rattle.hnsr_circuit.specs.Open.{openBooked, openLapsed, handleOpen};
 ghost use Rattle.hnsr_circuit.specs.Laws.Opening.{isTaken, gathering, ledgerAsked, openingOf, incomingOut};
 ghost use Rattle.hnsr_circuit.specs.declared.records.RelayCircuit.{RelayCircuit};
@@ -42,6 +43,10 @@ use crate::open::open_work;
 use crate::open::pending_for;
 use crate::open::placed_rows;
 use crate::peer::peer_of;
+use crate::places::Places;
+use crate::places::raised;
+use crate::places::with_ledger;
+use crate::places::with_pending;
 use crate::question::at;
 use crate::question::at_reservation;
 use crate::question::unused;
@@ -70,18 +75,18 @@ use crate::tables::pending::set_pending;
 use hnsr_body::open_body::OpenBody;
 
 // Whether an id is a pending record's or a circuit's.
-pub(crate) fn id_taken(pending: &[RelayPending], circuits: &[RelayCircuit], id: u64) -> bool
-    ensures { λ r. ⌜ r ≡ isTaken (now (pending .entry)) (now (circuits .entry)) id ⌝ }
+pub(crate) fn id_taken(pending: &[RelayPending], circuits: &[RelayCircuit], places: Places, id: u64) -> bool
+    ensures { λ r. ⌜ r ≡ isTaken (heldPending places (now (pending .entry))) (heldCircuits places (now (circuits .entry))) id ⌝ }
 {
     let question = at(id, 0);
-    let waiting = find_pending(pending, question);
-    let running = find_circuit(circuits, question);
+    let waiting = find_pending(pending, places, question);
+    let running = find_circuit(circuits, places, question);
     either_found(waiting, pending.len(), running, circuits.len())
 }
 
 // The draws in order, until one ends the drawing; a tail under eight bytes is ignored.
-pub(crate) fn draw(pending: &[RelayPending], circuits: &[RelayCircuit], random: &[u8]) -> Drawing
-    ensures { λ r. ⌜ r ≡ drawAll (isTaken (now (pending .entry)) (now (circuits .entry))) undrawn (draws (now (random .entry))) ⌝ }
+pub(crate) fn draw(pending: &[RelayPending], circuits: &[RelayCircuit], places: Places, random: &[u8]) -> Drawing
+    ensures { λ r. ⌜ r ≡ drawAll (isTaken (heldPending places (now (pending .entry))) (heldCircuits places (now (circuits .entry)))) undrawn (draws (now (random .entry))) ⌝ }
 {
     let mut drawing = undrawn();
     let mut place: usize = 0;
@@ -90,7 +95,7 @@ pub(crate) fn draw(pending: &[RelayPending], circuits: &[RelayCircuit], random: 
             return drawing;
         }
         let id = draw_at(random, place);
-        let taken = id_taken(pending, circuits, id);
+        let taken = id_taken(pending, circuits, places, id);
         drawing = draw_turn(drawing, id, taken);
         place += 8;
     }
@@ -98,40 +103,55 @@ pub(crate) fn draw(pending: &[RelayPending], circuits: &[RelayCircuit], random: 
 }
 
 // A pending record replaces what its id finds, else takes the lowest unused place.
-pub(crate) fn put_pending(pending: &mut [RelayPending], go: bool, id: u64, row: RelayPending)
-    ensures { λ _. ⌜ now (pending .exit) ≡ cond go (put isPending (pendingAt id) row (now (pending .entry))) (now (pending .entry)) ⌝ }
+pub(crate) fn put_pending(
+    pending: &mut [RelayPending],
+    places: Places,
+    go: bool,
+    id: u64,
+    row: RelayPending,
+) -> usize
+    ensures { λ r. ⌜ held clearPending r (now (pending .exit)) ≡ cond go (put isPending (pendingAt id) row (heldPending places (now (pending .entry)))) (heldPending places (now (pending .entry))) ⌝ }
 {
+    let size = pending.len();
     let same = at(id, 0);
-    let old = find_pending(pending, same);
+    let old = find_pending(pending, places, same);
     let free = unused();
-    let spare = find_pending(pending, free);
-    let place = put_place(old, pending.len(), spare);
+    let spare = find_pending(pending, places, free);
+    let place = put_place(old, size, spare);
     set_pending(pending, go, place, row);
+    raised(places.pending, go, place, size)
 }
 
 // The missing ledger record is made; the one that is found stays as it is.
-pub(crate) fn book(ledger: &mut [ReservationUsage], go: bool, ticket: RelayTicket)
-    ensures { λ _. ⌜ now (ledger .exit) ≡ cond go (booked ticket (now (ledger .entry))) (now (ledger .entry)) ⌝ }
+pub(crate) fn book(
+    ledger: &mut [ReservationUsage],
+    places: Places,
+    go: bool,
+    ticket: RelayTicket,
+) -> usize
+    ensures { λ r. ⌜ held clearUsage r (now (ledger .exit)) ≡ cond go (booked ticket (heldLedger places (now (ledger .entry)))) (heldLedger places (now (ledger .entry))) ⌝ }
 {
+    let size = ledger.len();
     let id = ticket.reservation_id;
     let question = at_reservation(id);
-    let found = look_up_usage(ledger, question);
+    let found = look_up_usage(ledger, places, question);
     let free = unused();
-    let spare = find_usage(ledger, free);
+    let spare = find_usage(ledger, places, free);
     let row = booked_usage(found, ticket);
     let place = booked_place(found, spare);
     set_usage(ledger, go, place, row);
+    raised(places.ledger, go, place, size)
 }
 
 // What OPEN asks of the ledger.
-pub(crate) fn ask_ledger(ledger: &[ReservationUsage], ticket: RelayTicket) -> LedgerRoom
-    ensures { λ r. ⌜ r ≡ ledgerAsked (ticket .«reservation_id») (now (ledger .entry)) ⌝ }
+pub(crate) fn ask_ledger(ledger: &[ReservationUsage], places: Places, ticket: RelayTicket) -> LedgerRoom
+    ensures { λ r. ⌜ r ≡ ledgerAsked (ticket .«reservation_id») (heldLedger places (now (ledger .entry))) ⌝ }
 {
     let id = ticket.reservation_id;
     let question = at_reservation(id);
-    let place = find_usage(ledger, question);
+    let place = find_usage(ledger, places, question);
     let all = used();
-    let many = count_usage(ledger, all);
+    let many = count_usage(ledger, places, all);
     ledger_room(place, many, ledger.len())
 }
 
@@ -139,19 +159,20 @@ pub(crate) fn ask_ledger(ledger: &[ReservationUsage], ticket: RelayTicket) -> Le
 pub(crate) fn gather(
     pending: &[RelayPending],
     circuits: &[RelayCircuit],
+    places: Places,
     packet: RelayPacket,
     source: &[u8],
     body: &[u8],
     endpoint: &[u8],
 ) -> OpenGathered
-    ensures { λ r. ⌜ r ≡ gathering packet (now (source .entry)) (now (body .entry)) (now (endpoint .entry)) (now (pending .entry)) (now (circuits .entry)) ⌝ }
+    ensures { λ r. ⌜ r ≡ gathering packet (now (source .entry)) (now (body .entry)) (now (endpoint .entry)) (heldPending places (now (pending .entry))) (heldCircuits places (now (circuits .entry))) ⌝ }
 {
     let requester = peer_of(source);
     let other = peer_of(endpoint);
     let read = OpenBody::decode(body, packet.key_valid);
     let question = open_work(packet, requester, other, read);
-    let waiting = pending_work(pending, question);
-    let running = circuit_work(circuits, question);
+    let waiting = pending_work(pending, places, question);
+    let running = circuit_work(circuits, places, question);
     open_gathering(
         packet,
         requester,
@@ -171,25 +192,27 @@ pub(crate) fn open_booked(
     out: &mut [u32],
     before: HnsrAnswer,
     runtime: OpaqueRelayRuntime,
+    places: Places,
     plan: OpenPlan,
     scan: ActionScan,
 ) -> Relayed
-    requires { ⌜ scan ≡ actionsScanned (asking runtime (incomingOut plan)) (now inflight) ⌝ }
-    ensures { λ r. ⌜ ((c : List RelayCircuit) → handedBack r (now (pending .exit)) c (now (ledger .entry)) (now (inflight .exit)) (now (out .exit)) ≡ ending (now (out .entry)) (let w = worldOf runtime (now (pending .entry)) c (now (ledger .entry)) (now (inflight .entry)) in proceed w before (openBooked w (openingOf plan)))) ⌝ }
+    requires { ⌜ scan ≡ actionsScanned (asking runtime (incomingOut plan)) (heldActions places (now inflight)) ⌝ }
+    ensures { λ r. ⌜ ((c : List RelayCircuit) → handedSeen r (now (pending .exit)) c (now (ledger .entry)) (now (inflight .exit)) (now (out .exit)) ≡ ending (now (out .entry)) (let w = worldSeen runtime places (now (pending .entry)) c (now (ledger .entry)) (now (inflight .entry)) in proceed w before (openBooked w (openingOf plan)))) ⌝ }
 {
     let ticket = plan.ticket;
     let id = ticket.reservation_id;
     let question = at_reservation(id);
-    let found = look_up_usage(ledger, question);
+    let found = look_up_usage(ledger, places, question);
     let answer = booked_answer(before, ticket, found);
     let go = is_taken(answer);
     let row = pending_for(plan);
-    put_pending(pending, go, plan.id, row);
+    let number = put_pending(pending, places, go, plan.id, row);
+    let after = with_pending(places, number);
     let counted = opened(go, runtime);
     let message = incoming_out(plan);
     let incoming = incoming_for(plan);
     let bytes = incoming.to_bytes();
-    send(inflight, out, answer, counted, message, scan, &bytes)
+    send(inflight, out, answer, counted, after, message, scan, &bytes)
 }
 
 // The second stage: ledger records past their expiry are dropped.
@@ -201,24 +224,26 @@ pub(crate) fn open_lapsed(
     out: &mut [u32],
     before: HnsrAnswer,
     runtime: OpaqueRelayRuntime,
+    places: Places,
     gathered: OpenGathered,
     random: &[u8],
 ) -> Relayed
-    ensures { λ r. ⌜ ((q : RelayPacket) (source body endpoint : List ℕ) → gathered ≡ gathering q source body endpoint (now (pending .entry)) (now (circuits .entry)) → handedBack r (now (pending .exit)) (now (circuits .entry)) (now (ledger .exit)) (now (inflight .exit)) (now (out .exit)) ≡ ending (now (out .entry)) (let w = worldOf runtime (now (pending .entry)) (now (circuits .entry)) (now (ledger .entry)) (now (inflight .entry)) in proceed w before (openLapsed w (packetOf q source body endpoint (now (random .entry)))))) ⌝ }
+    ensures { λ r. ⌜ ((q : RelayPacket) (source body endpoint : List ℕ) → gathered ≡ gathering q source body endpoint (heldPending places (now (pending .entry))) (heldCircuits places (now (circuits .entry))) → handedSeen r (now (pending .exit)) (now (circuits .entry)) (now (ledger .exit)) (now (inflight .exit)) (now (out .exit)) ≡ ending (now (out .entry)) (let w = worldSeen runtime places (now (pending .entry)) (now (circuits .entry)) (now (ledger .entry)) (now (inflight .entry)) in proceed w before (openLapsed w (packetOf q source body endpoint (now (random .entry)))))) ⌝ }
 {
     let config = runtime.config;
-    let drawing = draw(pending, circuits, random);
+    let drawing = draw(pending, circuits, places, random);
     let plan = open_plan(config, gathered, drawing);
     let ticket = plan.ticket;
     let message = incoming_out(plan);
     let question = asking(runtime, message);
-    let scan = scan_actions(inflight, question);
-    let room = ask_ledger(ledger, ticket);
+    let scan = scan_actions(inflight, places, question);
+    let room = ask_ledger(ledger, places, ticket);
     let own = placed_rows(config, gathered, plan, drawing, scan, room);
     let answer = first_refusal(before, own);
     let go = is_taken(answer);
-    book(ledger, go, ticket);
-    open_booked(pending, ledger, inflight, out, answer, runtime, plan, scan)
+    let number = book(ledger, places, go, ticket);
+    let after = with_ledger(places, number);
+    open_booked(pending, ledger, inflight, out, answer, runtime, after, plan, scan)
 }
 
 pub(crate) fn handle_open(
@@ -228,19 +253,20 @@ pub(crate) fn handle_open(
     inflight: &mut [InflightAction],
     out: &mut [u32],
     runtime: OpaqueRelayRuntime,
+    places: Places,
     packet: RelayPacket,
     source: &[u8],
     body: &[u8],
     endpoint: &[u8],
     random: &[u8],
 ) -> Relayed
-    ensures { λ r. ⌜ handedBack r (now (pending .exit)) (now (circuits .exit)) (now (ledger .exit)) (now (inflight .exit)) (now (out .exit)) ≡ ending (now (out .entry)) (handleOpen (worldOf runtime (now (pending .entry)) (now (circuits .entry)) (now (ledger .entry)) (now (inflight .entry))) (packetOf packet (now (source .entry)) (now (body .entry)) (now (endpoint .entry)) (now (random .entry)))) ⌝ }
+    ensures { λ r. ⌜ handedSeen r (now (pending .exit)) (now (circuits .exit)) (now (ledger .exit)) (now (inflight .exit)) (now (out .exit)) ≡ ending (now (out .entry)) (handleOpen (worldSeen runtime places (now (pending .entry)) (now (circuits .entry)) (now (ledger .entry)) (now (inflight .entry))) (packetOf packet (now (source .entry)) (now (body .entry)) (now (endpoint .entry)) (now (random .entry)))) ⌝ }
 {
-    let gathered = gather(pending, circuits, packet, source, body, endpoint);
+    let gathered = gather(pending, circuits, places, packet, source, body, endpoint);
     let config = runtime.config;
     let answer = open_rows(config, gathered);
     let go = is_taken(answer);
-    drop_lapsed(ledger, go, packet.now);
+    drop_lapsed(ledger, places, go, packet.now);
     open_lapsed(
         pending,
         circuits,
@@ -249,6 +275,7 @@ pub(crate) fn handle_open(
         out,
         answer,
         runtime,
+        places,
         gathered,
         random,
     )

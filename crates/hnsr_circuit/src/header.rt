@@ -1,6 +1,6 @@
 // The header with one part replaced, where a call goes on; and its counters, each of which stops at its top.
 ghost use mathlib.Core.Path.{_≡_};
-ghost use Rattle.hnsr_circuit.specs.Header.{countOpen, countAccept, countBytes, countRevoked, withClock, withSequence, withCounters, withEnabled, newHeader, noCounts};
+ghost use Rattle.hnsr_circuit.specs.Header.{countOpen, countAccept, countBytes, countRevoked, withClock, withSequence, withCounters, withEnabled, newHeader, noHeader, noCounts};
 ghost use mathlib.Core.Bool.{cond, true};
 ghost use Prim.Native.Nat.{_+_, _<_};
 use crate::config::OpaqueRelayConfig;
@@ -130,6 +130,18 @@ pub(crate) fn with_enabled(runtime: OpaqueRelayRuntime, on: bool) -> OpaqueRelay
     }
 }
 
+fn no_counters() -> RuntimeCounters
+    ensures { λ r. ⌜ r ≡ noCounts ⌝ }
+{
+    RuntimeCounters {
+        admitted_opens: 0,
+        opened_circuits: 0,
+        bytes_sent: 0,
+        bytes_received: 0,
+        revoked_work: 0,
+    }
+}
+
 pub(crate) fn new_header(
     session: [u8; 16],
     generation: u64,
@@ -138,13 +150,7 @@ pub(crate) fn new_header(
 ) -> OpaqueRelayRuntime
     ensures { λ r. ⌜ r ≡ newHeader session generation config now ⌝ }
 {
-    let counters = RuntimeCounters {
-        admitted_opens: 0,
-        opened_circuits: 0,
-        bytes_sent: 0,
-        bytes_received: 0,
-        revoked_work: 0,
-    };
+    let counters = no_counters();
     OpaqueRelayRuntime {
         session,
         generation,
@@ -152,6 +158,33 @@ pub(crate) fn new_header(
         trusted_time_high_water: now,
         config,
         next_action_sequence: 1,
+        counters,
+    }
+}
+
+// What a refused `new` hands back: zeros, and off.
+pub(crate) fn no_runtime() -> OpaqueRelayRuntime
+    ensures { λ r. ⌜ r ≡ noHeader ⌝ }
+{
+    let config = OpaqueRelayConfig {
+        maximum_pending: 0,
+        maximum_circuits: 0,
+        maximum_circuits_per_peer: 0,
+        maximum_queue_bytes: 0,
+        maximum_inflight_actions: 0,
+        maximum_inflight_actions_per_circuit: 0,
+        maximum_inflight_actions_per_peer: 0,
+        maximum_bytes_per_circuit: 0,
+        accept_timeout_seconds: 0,
+    };
+    let counters = no_counters();
+    OpaqueRelayRuntime {
+        session: [0; 16],
+        generation: 0,
+        enabled: false,
+        trusted_time_high_water: 0,
+        config,
+        next_action_sequence: 0,
         counters,
     }
 }

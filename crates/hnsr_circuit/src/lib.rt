@@ -24,6 +24,7 @@ mod message;
 mod open;
 pub mod peer;
 mod pending;
+pub mod places;
 mod question;
 mod queue;
 pub mod records;

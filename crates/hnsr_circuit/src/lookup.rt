@@ -3,12 +3,15 @@ ghost use mathlib.Core.Path.{_≡_};
 ghost use mathlib.Core.Bool.{cond};
 ghost use lib.Dec.{ltb};
 ghost use lib.ListN.{set, getD};
+ghost use Rattle.hnsr_circuit.specs.Held.{heldPending, heldCircuits, heldLedger, heldActions};
 ghost use Rattle.hnsr_circuit.specs.Table.{edit};
 ghost use Rattle.hnsr_circuit.specs.Inflight.{actionUnder, dropped};
 ghost use Rattle.hnsr_circuit.specs.Ledger.{noUsage, usageAt, clearUsage, spent, lapsed};
 ghost use Rattle.hnsr_circuit.specs.Lookup.{pendingFound, circuitFound, usageFound, actionFound};
 use crate::ledger::usage_spent;
 use crate::ledger::usage_unmarked;
+use crate::places::Places;
+use crate::places::places_of;
 use crate::question::at_reservation;
 use crate::question::over;
 use crate::question::under_circuit;
@@ -23,15 +26,19 @@ use crate::records::ReservationUsage;
 use crate::records::UsageFound;
 use crate::tables::circuits::circuit_at;
 use crate::tables::circuits::find_circuit;
+use crate::tables::circuits::trim_circuits;
 use crate::tables::inflight::action_at;
 use crate::tables::inflight::clear_action;
 use crate::tables::inflight::find_action;
+use crate::tables::inflight::trim_actions;
 use crate::tables::ledger::clear_usage;
 use crate::tables::ledger::find_usage;
 use crate::tables::ledger::set_usage;
+use crate::tables::ledger::trim_ledger;
 use crate::tables::ledger::usage_at;
 use crate::tables::pending::find_pending;
 use crate::tables::pending::pending_at;
+use crate::tables::pending::trim_pending;
 use hnsr_body::values::ReservationId;
 
 fn pending_found(place: usize, places: usize, pending: RelayPending) -> PendingFound
@@ -44,11 +51,11 @@ fn pending_found(place: usize, places: usize, pending: RelayPending) -> PendingF
     }
 }
 
-pub(crate) fn look_up_pending(pending: &[RelayPending], question: Question) -> PendingFound
-    ensures { λ r. ⌜ r ≡ pendingFound question (now (pending .entry)) ⌝ }
+pub(crate) fn look_up_pending(pending: &[RelayPending], places: Places, question: Question) -> PendingFound
+    ensures { λ r. ⌜ r ≡ pendingFound question (heldPending places (now (pending .entry))) ⌝ }
 {
-    let place = find_pending(pending, question);
-    let row = pending_at(pending, place);
+    let place = find_pending(pending, places, question);
+    let row = pending_at(pending, places, place);
     pending_found(place, pending.len(), row)
 }
 
@@ -62,11 +69,11 @@ fn circuit_found(place: usize, places: usize, circuit: RelayCircuit) -> CircuitF
     }
 }
 
-pub(crate) fn look_up_circuit(circuits: &[RelayCircuit], question: Question) -> CircuitFound
-    ensures { λ r. ⌜ r ≡ circuitFound question (now (circuits .entry)) ⌝ }
+pub(crate) fn look_up_circuit(circuits: &[RelayCircuit], places: Places, question: Question) -> CircuitFound
+    ensures { λ r. ⌜ r ≡ circuitFound question (heldCircuits places (now (circuits .entry))) ⌝ }
 {
-    let place = find_circuit(circuits, question);
-    let row = circuit_at(circuits, place);
+    let place = find_circuit(circuits, places, question);
+    let row = circuit_at(circuits, places, place);
     circuit_found(place, circuits.len(), row)
 }
 
@@ -80,11 +87,11 @@ fn usage_found(place: usize, places: usize, usage: ReservationUsage) -> UsageFou
     }
 }
 
-pub(crate) fn look_up_usage(ledger: &[ReservationUsage], question: Question) -> UsageFound
-    ensures { λ r. ⌜ r ≡ usageFound question (now (ledger .entry)) ⌝ }
+pub(crate) fn look_up_usage(ledger: &[ReservationUsage], places: Places, question: Question) -> UsageFound
+    ensures { λ r. ⌜ r ≡ usageFound question (heldLedger places (now (ledger .entry))) ⌝ }
 {
-    let place = find_usage(ledger, question);
-    let row = usage_at(ledger, place);
+    let place = find_usage(ledger, places, question);
+    let row = usage_at(ledger, places, place);
     usage_found(place, ledger.len(), row)
 }
 
@@ -98,50 +105,67 @@ fn action_found(place: usize, places: usize, action: InflightAction) -> ActionFo
     }
 }
 
-pub(crate) fn look_up_action(inflight: &[InflightAction], question: Question) -> ActionFound
-    ensures { λ r. ⌜ r ≡ actionFound question (now (inflight .entry)) ⌝ }
+pub(crate) fn look_up_action(inflight: &[InflightAction], places: Places, question: Question) -> ActionFound
+    ensures { λ r. ⌜ r ≡ actionFound question (heldActions places (now (inflight .entry))) ⌝ }
 {
-    let place = find_action(inflight, question);
-    let row = action_at(inflight, place);
+    let place = find_action(inflight, places, question);
+    let row = action_at(inflight, places, place);
     action_found(place, inflight.len(), row)
 }
 
 // The actions of a circuit, dropped.
-pub(crate) fn drop_actions(inflight: &mut [InflightAction], go: bool, id: u64)
-    ensures { λ _. ⌜ now (inflight .exit) ≡ cond go (dropped (actionUnder id) (now (inflight .entry))) (now (inflight .entry)) ⌝ }
+pub(crate) fn drop_actions(inflight: &mut [InflightAction], places: Places, go: bool, id: u64)
+    ensures { λ _. ⌜ heldActions places (now (inflight .exit)) ≡ cond go (dropped (actionUnder id) (heldActions places (now (inflight .entry)))) (heldActions places (now (inflight .entry))) ⌝ }
 {
     let question = under_circuit(id);
     if go {
-        clear_action(inflight, question);
+        clear_action(inflight, places, question);
     }
 }
 
 // Ledger records with expiry not after now, dropped.
-pub(crate) fn drop_lapsed(ledger: &mut [ReservationUsage], go: bool, time: u64)
-    ensures { λ _. ⌜ now (ledger .exit) ≡ cond go (lapsed time (now (ledger .entry))) (now (ledger .entry)) ⌝ }
+pub(crate) fn drop_lapsed(ledger: &mut [ReservationUsage], places: Places, go: bool, time: u64)
+    ensures { λ _. ⌜ heldLedger places (now (ledger .exit)) ≡ cond go (lapsed time (heldLedger places (now (ledger .entry)))) (heldLedger places (now (ledger .entry))) ⌝ }
 {
     let question = over(time);
     if go {
-        clear_usage(ledger, question);
+        clear_usage(ledger, places, question);
     }
 }
 
 // DATA of n bytes, charged to a ledger record.
-pub(crate) fn spend(ledger: &mut [ReservationUsage], go: bool, place: usize, n: u64)
-    ensures { λ _. ⌜ now (ledger .exit) ≡ cond go (set (now (ledger .entry)) place (spent n (getD (now (ledger .entry)) place noUsage))) (now (ledger .entry)) ⌝ }
+pub(crate) fn spend(ledger: &mut [ReservationUsage], places: Places, go: bool, place: usize, n: u64)
+    ensures { λ _. ⌜ heldLedger places (now (ledger .exit)) ≡ cond go (set (heldLedger places (now (ledger .entry))) place (spent n (getD (heldLedger places (now (ledger .entry))) place noUsage))) (heldLedger places (now (ledger .entry))) ⌝ }
 {
-    let usage = usage_at(ledger, place);
+    let usage = usage_at(ledger, places, place);
     let after = usage_spent(usage, n);
     set_usage(ledger, go, place, after);
 }
 
 // The ledger record of a reservation, dropped.
-pub(crate) fn drop_usage(ledger: &mut [ReservationUsage], id: ReservationId)
-    ensures { λ _. ⌜ now (ledger .exit) ≡ edit (usageAt id) clearUsage (now (ledger .entry)) ⌝ }
+pub(crate) fn drop_usage(ledger: &mut [ReservationUsage], places: Places, id: ReservationId)
+    ensures { λ _. ⌜ heldLedger places (now (ledger .exit)) ≡ edit (usageAt id) clearUsage (heldLedger places (now (ledger .entry))) ⌝ }
 {
     let question = at_reservation(id);
-    let place = find_usage(ledger, question);
-    let usage = usage_at(ledger, place);
+    let place = find_usage(ledger, places, question);
+    let usage = usage_at(ledger, places, place);
     let gone = usage_unmarked(usage);
     set_usage(ledger, true, place, gone);
+}
+
+// The numbers lowered past unused places: every table is seen as before.
+pub(crate) fn trim(
+    pending: &[RelayPending],
+    circuits: &[RelayCircuit],
+    ledger: &[ReservationUsage],
+    inflight: &[InflightAction],
+    places: Places,
+) -> Places
+    ensures { λ r. ⌜ (heldPending r (now (pending .entry)) ≡ heldPending places (now (pending .entry))) × (heldCircuits r (now (circuits .entry)) ≡ heldCircuits places (now (circuits .entry))) × (heldLedger r (now (ledger .entry)) ≡ heldLedger places (now (ledger .entry))) × (heldActions r (now (inflight .entry)) ≡ heldActions places (now (inflight .entry))) ⌝ }
+{
+    let waiting = trim_pending(pending, places);
+    let running = trim_circuits(circuits, places);
+    let booked = trim_ledger(ledger, places);
+    let outstanding = trim_actions(inflight, places);
+    places_of(waiting, running, booked, outstanding)
 }

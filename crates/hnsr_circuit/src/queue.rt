@@ -5,11 +5,12 @@ ghost use mathlib.Core.List.{List, []};
 ghost use Prim.Native.Nat.{_+_, _<_};
 ghost use lib.ListN.{length};
 ghost use Rattle.hnsr_body.specs.Messages.{noticeBody};
+ghost use Rattle.hnsr_circuit.specs.Held.{heldActions, worldSeen, handedSeen, underwaySeen};
 ghost use Rattle.hnsr_circuit.specs.Answers.{taken, _then_};
 ghost use Rattle.hnsr_circuit.specs.Queue.{queueAnswer, actionFor, routeFor, actionsScanned, send, tell, when};
 ghost use Rattle.hnsr_circuit.specs.Header.{withSequence};
 ghost use Rattle.hnsr_circuit.specs.World.{proceed};
-ghost use Rattle.hnsr_circuit.specs.Progress.{worldOf, messageOf, handedBack, ending, underway, advance, asking, scanPlace};
+ghost use Rattle.hnsr_circuit.specs.Progress.{messageOf, ending, advance, asking, scanPlace};
 ghost use Rattle.hnsr_circuit.specs.Queueing.{Queueing};
 ghost use Rattle.hnsr_circuit.specs.Route.{headWords, routeWords};
 ghost use Rattle.hns_encoding.specs.Numbers.{saturatingAdd};
@@ -27,6 +28,9 @@ use crate::config::OpaqueRelayConfig;
 use crate::header::with_sequence;
 use crate::inflight::capacity_answer;
 use crate::inflight::kind_number;
+use crate::places::Places;
+use crate::places::raised;
+use crate::places::with_actions;
 use crate::records::ActionQuestion;
 use crate::records::ActionScan;
 use crate::records::InflightAction;
@@ -162,8 +166,8 @@ fn queued_place(queued: Queued) -> usize
     queued.place
 }
 
-fn relayed(queued: Queued, words: usize) -> Relayed
-    ensures { λ r. ⌜ (r .runtime ≡ queued .runtime) × (r .answer ≡ queued .answer) × (r .words ≡ words) ⌝ }
+fn relayed(queued: Queued, words: usize, places: Places) -> Relayed
+    ensures { λ r. ⌜ ((r .runtime ≡ queued .runtime) × (r .answer ≡ queued .answer) × (r .words ≡ words)) × (r .places ≡ places) ⌝ }
 {
     let runtime = queued.runtime;
     let answer = queued.answer;
@@ -171,14 +175,19 @@ fn relayed(queued: Queued, words: usize) -> Relayed
         runtime,
         answer,
         words,
+        places,
     }
 }
 
-fn sending_on(queued: Queued, position: usize) -> Sending
-    ensures { λ r. ⌜ (r .runtime ≡ queued .runtime) × (r .position ≡ position) ⌝ }
+fn sending_on(queued: Queued, position: usize, places: Places) -> Sending
+    ensures { λ r. ⌜ ((r .runtime ≡ queued .runtime) × (r .position ≡ position)) × (r .places ≡ places) ⌝ }
 {
     let runtime = queued.runtime;
-    Sending { runtime, position }
+    Sending {
+        runtime,
+        position,
+        places,
+    }
 }
 
 // Nothing before a part that is to be done, a refusal before one that is not.
@@ -240,21 +249,25 @@ pub(crate) fn send(
     out: &mut [u32],
     before: HnsrAnswer,
     runtime: OpaqueRelayRuntime,
+    places: Places,
     message: Outgoing,
     scan: ActionScan,
     body: &[u8],
 ) -> Relayed
-    requires { ⌜ (scan ≡ actionsScanned (asking runtime message) (now inflight)) × (length (now body) < 65536) ⌝ }
-    ensures { λ r. ⌜ ((p : List RelayPending) (c : List RelayCircuit) (l : List ReservationUsage) → handedBack r p c l (now (inflight .exit)) (now (out .exit)) ≡ ending (now (out .entry)) (let w = worldOf runtime p c l (now (inflight .entry)) in proceed w before (send w (messageOf message (now (body .entry)))))) ⌝ }
+    requires { ⌜ (scan ≡ actionsScanned (asking runtime message) (heldActions places (now inflight))) × (length (now body) < 65536) ⌝ }
+    ensures { λ r. ⌜ ((p : List RelayPending) (c : List RelayCircuit) (l : List ReservationUsage) → handedSeen r p c l (now (inflight .exit)) (now (out .exit)) ≡ ending (now (out .entry)) (let w = worldSeen runtime places p c l (now (inflight .entry)) in proceed w before (send w (messageOf message (now (body .entry)))))) ⌝ }
 {
+    let size = inflight.len();
     let queued = queue(before, runtime, message, scan);
     let action = queued_action(queued);
     let go = queued_go(queued);
     let place = queued_place(queued);
+    let number = raised(places.actions, go, place, size);
+    let after = with_actions(places, number);
     set_action(inflight, go, place, action);
     put_queued(out, go, 0, message, runtime, body);
     let words = position_after(go, 0, body.len());
-    relayed(queued, words)
+    relayed(queued, words, after)
 }
 
 // A part of a call that cannot be refused: a message that cannot be formed, or finds no capacity or no sequence number, is skipped silently.
@@ -267,21 +280,25 @@ pub(crate) fn tell(
     body: &[u8],
 ) -> Sending
     requires { ⌜ length (now body) < 65536 ⌝ }
-    ensures { λ r. ⌜ ((p : List RelayPending) (c : List RelayCircuit) (l : List ReservationUsage) → underway r p c l (now (inflight .exit)) (now (out .exit)) ≡ advance (when go (tell (messageOf message (now (body .entry))))) (underway sending p c l (now (inflight .entry)) (now (out .entry)))) ⌝ }
+    ensures { λ r. ⌜ ((p : List RelayPending) (c : List RelayCircuit) (l : List ReservationUsage) → underwaySeen r p c l (now (inflight .exit)) (now (out .exit)) ≡ advance (when go (tell (messageOf message (now (body .entry))))) (underwaySeen sending p c l (now (inflight .entry)) (now (out .entry)))) ⌝ }
 {
     let runtime = sending.runtime;
     let at = sending.position;
+    let places = sending.places;
+    let size = inflight.len();
     let question = asking(runtime, message);
-    let scan = scan_actions(inflight, question);
+    let scan = scan_actions(inflight, places, question);
     let before = going(go);
     let queued = queue(before, runtime, message, scan);
     let action = queued_action(queued);
     let now = queued_go(queued);
     let place = queued_place(queued);
+    let number = raised(places.actions, now, place, size);
+    let after = with_actions(places, number);
     set_action(inflight, now, place, action);
     put_queued(out, now, at, message, runtime, body);
     let position = position_after(now, at, body.len());
-    sending_on(queued, position)
+    sending_on(queued, position, after)
 }
 
 // A message of the relay's own.
@@ -293,7 +310,7 @@ pub(crate) fn tell_notice(
     message: Outgoing,
     notice: Notice,
 ) -> Sending
-    ensures { λ r. ⌜ ((p : List RelayPending) (c : List RelayCircuit) (l : List ReservationUsage) → underway r p c l (now (inflight .exit)) (now (out .exit)) ≡ advance (when go (tell (messageOf message (noticeBody notice)))) (underway sending p c l (now (inflight .entry)) (now (out .entry)))) ⌝ }
+    ensures { λ r. ⌜ ((p : List RelayPending) (c : List RelayCircuit) (l : List ReservationUsage) → underwaySeen r p c l (now (inflight .exit)) (now (out .exit)) ≡ advance (when go (tell (messageOf message (noticeBody notice)))) (underwaySeen sending p c l (now (inflight .entry)) (now (out .entry)))) ⌝ }
 {
     let written = notice.encode();
     let bytes = written.bytes;

@@ -1,8 +1,9 @@
 // The end of a record, and revocation: it ends the record, drops its actions, then tells both sides; a walk revokes what has a property, by
 // ascending id (document 01, "Down through the call").
 ghost use mathlib.Core.Path.{_≡_};
-ghost use mathlib.Core.Bool.{cond, not, _&&_};
+ghost use mathlib.Core.Bool.{cond, false, not, _&&_};
 ghost use mathlib.Core.List.{List};
+ghost use Rattle.hnsr_circuit.specs.Held.{asksUnused, worldSeen, handedSeen, underwaySeen};
 ghost use Rattle.hnsr_circuit.specs.declared.records.RelayPending.{RelayPending};
 ghost use Rattle.hnsr_circuit.specs.declared.records.RelayCircuit.{RelayCircuit};
 ghost use Rattle.hnsr_circuit.specs.declared.records.ReservationUsage.{ReservationUsage};
@@ -12,7 +13,7 @@ ghost use Rattle.hnsr_circuit.specs.Circuits.{clearCircuit, circuitId};
 ghost use Rattle.hnsr_circuit.specs.Question.{pendingHas, circuitHas};
 ghost use Rattle.hnsr_circuit.specs.Queue.{opClose, finished};
 ghost use Rattle.hnsr_circuit.specs.declared.answer.HnsrAnswer.the-variants.{Taken};
-ghost use Rattle.hnsr_circuit.specs.Progress.{worldOf, underway, advance, handedBack, ending};
+ghost use Rattle.hnsr_circuit.specs.Progress.{advance, ending};
 ghost use Rattle.hnsr_circuit.specs.Revocation.{revokeCircuit, walk, pendingTable, circuitTable};
 ghost use Rattle.hnsr_circuit.specs.Revoking.{closingOut, errorOut, closeOut, otherOut, firstOut, revokedIf, endingPending, revokingAll};
 use crate::answer::HnsrAnswer;
@@ -24,6 +25,7 @@ use crate::lookup::look_up_pending;
 use crate::peer::HnsrPeerId;
 use crate::peer::same_peer;
 use crate::pending::pending_unmarked;
+use crate::places::Places;
 use crate::question::at;
 use crate::queue::tell_notice;
 use crate::records::CircuitFound;
@@ -139,18 +141,20 @@ fn first_message(revoking: Revoking, pending: RelayPending) -> Outgoing
 // ---- one record
 
 fn counted(go: bool, sending: Sending) -> Sending
-    ensures { λ r. ⌜ (r .runtime ≡ revokedIf go (sending .runtime)) × (r .position ≡ sending .position) ⌝ }
+    ensures { λ r. ⌜ (r .runtime ≡ revokedIf go (sending .runtime)) × (r .position ≡ sending .position) × (r .places ≡ sending .places) ⌝ }
 {
     let runtime = sending.runtime;
+    let places = sending.places;
     let after = revoked(go, runtime);
     Sending {
         runtime: after,
         position: sending.position,
+        places,
     }
 }
 
 fn plan_pending(found: PendingFound, sending: Sending, revoking: Revoking) -> EndPlan
-    ensures { λ r. ⌜ (r .go ≡ found .found) × (r .place ≡ found .place) × (r .sending .runtime ≡ revokedIf (found .found) (sending .runtime)) × (r .sending .position ≡ sending .position) × (r .first ≡ firstOut revoking (found .pending)) × (r .also ≡ (found .found && not (revoking .disconnecting))) × (r .second ≡ closeOut (found .pending)) ⌝ }
+    ensures { λ r. ⌜ (r .go ≡ found .found) × (r .place ≡ found .place) × (r .sending .runtime ≡ revokedIf (found .found) (sending .runtime)) × (r .sending .position ≡ sending .position) × (r .first ≡ firstOut revoking (found .pending)) × (r .also ≡ (found .found && not (revoking .disconnecting))) × (r .second ≡ closeOut (found .pending)) × (r .sending .places ≡ sending .places) ⌝ }
 {
     let pending = found.pending;
     let first = first_message(revoking, pending);
@@ -194,11 +198,12 @@ pub(crate) fn revoke_pending(
     revoking: Revoking,
     id: u64,
 ) -> Sending
-    ensures { λ r. ⌜ ((c : List RelayCircuit) (l : List ReservationUsage) → underway r (now (pending .exit)) c l (now (inflight .exit)) (now (out .exit)) ≡ advance (λ w. endingPending revoking w id) (underway sending (now (pending .entry)) c l (now (inflight .entry)) (now (out .entry)))) ⌝ }
+    ensures { λ r. ⌜ ((c : List RelayCircuit) (l : List ReservationUsage) → underwaySeen r (now (pending .exit)) c l (now (inflight .exit)) (now (out .exit)) ≡ advance (λ w. endingPending revoking w id) (underwaySeen sending (now (pending .entry)) c l (now (inflight .entry)) (now (out .entry)))) ⌝ }
 {
+    let places = sending.places;
     let notice = pending_notice(revoking);
     let question = at(id, 0);
-    let found = look_up_pending(pending, question);
+    let found = look_up_pending(pending, places, question);
     let gone = pending_gone(found);
     let plan = plan_pending(found, sending, revoking);
     let go = plan.go;
@@ -206,13 +211,13 @@ pub(crate) fn revoke_pending(
     let first = plan.first;
     let second = plan.second;
     set_pending(pending, go, plan.place, gone);
-    drop_actions(inflight, go, id);
+    drop_actions(inflight, places, go, id);
     let told = tell_notice(inflight, out, go, after, first, notice);
     tell_notice(inflight, out, plan.also, told, second, notice)
 }
 
 fn plan_circuit(found: CircuitFound, sending: Sending, id: u64) -> EndPlan
-    ensures { λ r. ⌜ (r .go ≡ found .found) × (r .place ≡ found .place) × (r .sending .runtime ≡ revokedIf (found .found) (sending .runtime)) × (r .sending .position ≡ sending .position) × (r .first ≡ closingOut (found .circuit .requester) id opClose id) × (r .also ≡ found .found) × (r .second ≡ closingOut (found .circuit .endpoint) id opClose id) ⌝ }
+    ensures { λ r. ⌜ (r .go ≡ found .found) × (r .place ≡ found .place) × (r .sending .runtime ≡ revokedIf (found .found) (sending .runtime)) × (r .sending .position ≡ sending .position) × (r .first ≡ closingOut (found .circuit .requester) id opClose id) × (r .also ≡ found .found) × (r .second ≡ closingOut (found .circuit .endpoint) id opClose id) × (r .sending .places ≡ sending .places) ⌝ }
 {
     let circuit = found.circuit;
     let requester = circuit.requester;
@@ -246,10 +251,11 @@ pub(crate) fn revoke_circuit(
     notice: Notice,
     id: u64,
 ) -> Sending
-    ensures { λ r. ⌜ ((p : List RelayPending) (l : List ReservationUsage) → underway r p (now (circuits .exit)) l (now (inflight .exit)) (now (out .exit)) ≡ advance (λ w. revokeCircuit notice w id) (underway sending p (now (circuits .entry)) l (now (inflight .entry)) (now (out .entry)))) ⌝ }
+    ensures { λ r. ⌜ ((p : List RelayPending) (l : List ReservationUsage) → underwaySeen r p (now (circuits .exit)) l (now (inflight .exit)) (now (out .exit)) ≡ advance (λ w. revokeCircuit notice w id) (underwaySeen sending p (now (circuits .entry)) l (now (inflight .entry)) (now (out .entry)))) ⌝ }
 {
+    let places = sending.places;
     let question = at(id, 0);
-    let found = look_up_circuit(circuits, question);
+    let found = look_up_circuit(circuits, places, question);
     let gone = circuit_gone(found);
     let plan = plan_circuit(found, sending, id);
     let go = plan.go;
@@ -257,7 +263,7 @@ pub(crate) fn revoke_circuit(
     let first = plan.first;
     let second = plan.second;
     set_circuit(circuits, go, plan.place, gone);
-    drop_actions(inflight, go, id);
+    drop_actions(inflight, places, go, id);
     let told = tell_notice(inflight, out, go, after, first, notice);
     tell_notice(inflight, out, plan.also, told, second, notice)
 }
@@ -271,7 +277,8 @@ pub(crate) fn walk_pending(
     sending: Sending,
     revoking: Revoking,
 ) -> Sending
-    ensures { λ r. ⌜ ((c : List RelayCircuit) (l : List ReservationUsage) → underway r (now (pending .exit)) c l (now (inflight .exit)) (now (out .exit)) ≡ advance (walk pendingId pendingTable (pendingHas (revoking .question)) (endingPending revoking)) (underway sending (now (pending .entry)) c l (now (inflight .entry)) (now (out .entry)))) ⌝ }
+    requires { ⌜ asksUnused (revoking .question .ask) ≡ false ⌝ }
+    ensures { λ r. ⌜ ((c : List RelayCircuit) (l : List ReservationUsage) → underwaySeen r (now (pending .exit)) c l (now (inflight .exit)) (now (out .exit)) ≡ advance (walk pendingId pendingTable (pendingHas (revoking .question)) (endingPending revoking)) (underwaySeen sending (now (pending .entry)) c l (now (inflight .entry)) (now (out .entry)))) ⌝ }
 {
     let question = revoking.question;
     let most = pending.len();
@@ -279,7 +286,7 @@ pub(crate) fn walk_pending(
     let mut cursor = not_yet();
     let mut turn: usize = 0;
     while turn < most {
-        let next = next_pending(pending, question, cursor);
+        let next = next_pending(pending, told.places, question, cursor);
         if no(next.taken) {
             return told;
         }
@@ -297,7 +304,8 @@ pub(crate) fn walk_circuits(
     sending: Sending,
     revoking: Revoking,
 ) -> Sending
-    ensures { λ r. ⌜ ((p : List RelayPending) (l : List ReservationUsage) → underway r p (now (circuits .exit)) l (now (inflight .exit)) (now (out .exit)) ≡ advance (walk circuitId circuitTable (circuitHas (revoking .question)) (revokeCircuit (revoking .«circuit_notice»))) (underway sending p (now (circuits .entry)) l (now (inflight .entry)) (now (out .entry)))) ⌝ }
+    requires { ⌜ asksUnused (revoking .question .ask) ≡ false ⌝ }
+    ensures { λ r. ⌜ ((p : List RelayPending) (l : List ReservationUsage) → underwaySeen r p (now (circuits .exit)) l (now (inflight .exit)) (now (out .exit)) ≡ advance (walk circuitId circuitTable (circuitHas (revoking .question)) (revokeCircuit (revoking .«circuit_notice»))) (underwaySeen sending p (now (circuits .entry)) l (now (inflight .entry)) (now (out .entry)))) ⌝ }
 {
     let question = revoking.question;
     let notice = revoking.circuit_notice;
@@ -306,7 +314,7 @@ pub(crate) fn walk_circuits(
     let mut cursor = not_yet();
     let mut turn: usize = 0;
     while turn < most {
-        let next = next_circuit(circuits, question, cursor);
+        let next = next_circuit(circuits, told.places, question, cursor);
         if no(next.taken) {
             return told;
         }
@@ -319,23 +327,26 @@ pub(crate) fn walk_circuits(
 
 // ---- all that has the property: pending records come before circuits
 
-fn started(runtime: OpaqueRelayRuntime) -> Sending
-    ensures { λ r. ⌜ (r .runtime ≡ runtime) × (r .position ≡ 0) ⌝ }
+fn started(runtime: OpaqueRelayRuntime, places: Places) -> Sending
+    ensures { λ r. ⌜ ((r .runtime ≡ runtime) × (r .position ≡ 0)) × (r .places ≡ places) ⌝ }
 {
     Sending {
         runtime,
         position: 0,
+        places,
     }
 }
 
 pub(crate) fn finished(sending: Sending) -> Relayed
-    ensures { λ r. ⌜ (r .runtime ≡ sending .runtime) × (r .answer ≡ Taken) × (r .words ≡ sending .position) ⌝ }
+    ensures { λ r. ⌜ ((r .runtime ≡ sending .runtime) × (r .answer ≡ Taken) × (r .words ≡ sending .position)) × (r .places ≡ sending .places) ⌝ }
 {
     let runtime = sending.runtime;
+    let places = sending.places;
     Relayed {
         runtime,
         answer: HnsrAnswer::Taken,
         words: sending.position,
+        places,
     }
 }
 
@@ -345,11 +356,13 @@ pub(crate) fn revoke_all(
     inflight: &mut [InflightAction],
     out: &mut [u32],
     runtime: OpaqueRelayRuntime,
+    places: Places,
     revoking: Revoking,
 ) -> Relayed
-    ensures { λ r. ⌜ ((l : List ReservationUsage) → handedBack r (now (pending .exit)) (now (circuits .exit)) l (now (inflight .exit)) (now (out .exit)) ≡ ending (now (out .entry)) (revokingAll revoking (worldOf runtime (now (pending .entry)) (now (circuits .entry)) l (now (inflight .entry))))) ⌝ }
+    requires { ⌜ asksUnused (revoking .question .ask) ≡ false ⌝ }
+    ensures { λ r. ⌜ ((l : List ReservationUsage) → handedSeen r (now (pending .exit)) (now (circuits .exit)) l (now (inflight .exit)) (now (out .exit)) ≡ ending (now (out .entry)) (revokingAll revoking (worldSeen runtime places (now (pending .entry)) (now (circuits .entry)) l (now (inflight .entry))))) ⌝ }
 {
-    let start = started(runtime);
+    let start = started(runtime, places);
     let first = walk_pending(pending, inflight, out, start, revoking);
     let second = walk_circuits(circuits, inflight, out, first, revoking);
     finished(second)
@@ -361,12 +374,13 @@ pub(crate) fn revoke_one(
     inflight: &mut [InflightAction],
     out: &mut [u32],
     runtime: OpaqueRelayRuntime,
+    places: Places,
     notice: Notice,
     id: u64,
 ) -> Relayed
-    ensures { λ r. ⌜ ((p : List RelayPending) (l : List ReservationUsage) → handedBack r p (now (circuits .exit)) l (now (inflight .exit)) (now (out .exit)) ≡ ending (now (out .entry)) (finished (revokeCircuit notice (worldOf runtime p (now (circuits .entry)) l (now (inflight .entry))) id))) ⌝ }
+    ensures { λ r. ⌜ ((p : List RelayPending) (l : List ReservationUsage) → handedSeen r p (now (circuits .exit)) l (now (inflight .exit)) (now (out .exit)) ≡ ending (now (out .entry)) (finished (revokeCircuit notice (worldSeen runtime places p (now (circuits .entry)) l (now (inflight .entry))) id))) ⌝ }
 {
-    let start = started(runtime);
+    let start = started(runtime, places);
     let told = revoke_circuit(circuits, inflight, out, start, notice, id);
     finished(told)
 }

@@ -6,6 +6,7 @@ ghost use Prim.Native.Nat.{_+_, _*_, _<_};
 ghost use lib.Dec.{ltb};
 ghost use lib.ListN.{length};
 ghost use Rattle.hns_encoding.specs.Sums.{count};
+ghost use Rattle.hnsr_circuit.specs.Held.{heldPending, heldCircuits, worldSeen, handedSeen};
 ghost use Rattle.hnsr_circuit.specs.declared.answer.HnsrRuntimeError.the-variants.{Short};
 ghost use Rattle.hnsr_circuit.specs.declared.answer.HnsrAnswer.the-variants.{Taken};
 ghost use Rattle.hnsr_circuit.specs.declared.records.RelayPending.{RelayPending};
@@ -16,7 +17,7 @@ ghost use Rattle.hnsr_circuit.specs.Pending.{isPending};
 ghost use Rattle.hnsr_circuit.specs.Circuits.{isCircuit};
 ghost use Rattle.hnsr_circuit.specs.Entry.{closingWords, tooFew};
 ghost use Rattle.hnsr_circuit.specs.Call.{step, callDisconnect, callRevokeReservation, callExpire, callReplaceEnabled};
-ghost use Rattle.hnsr_circuit.specs.Progress.{worldOf, handedBack, outcome};
+ghost use Rattle.hnsr_circuit.specs.Progress.{outcome};
 ghost use Rattle.hnsr_circuit.specs.RevokingCalls.{changeAnswer};
 ghost use Rattle.hnsr_circuit.specs.Revoking.{disconnectingAll};
 ghost use Rattle.hnsr_circuit.specs.RevokingCalls.{switchTo};
@@ -37,6 +38,7 @@ use crate::lookup::drop_lapsed;
 use crate::lookup::drop_usage;
 use crate::peer::HnsrPeerId;
 use crate::peer::peer_of;
+use crate::places::Places;
 use crate::question::of_peer;
 use crate::question::over;
 use crate::question::under;
@@ -97,26 +99,28 @@ fn room_answer(
 pub(crate) fn entry_answer(
     pending: &[RelayPending],
     circuits: &[RelayCircuit],
+    places: Places,
     inflight: usize,
     room: usize,
     config: OpaqueRelayConfig,
 ) -> HnsrAnswer
-    ensures { λ r. ⌜ r ≡ check (ltb room (closingWords * (count isPending (now (pending .entry)) + count isCircuit (now (circuits .entry)))) || tooFew config (length (now (pending .entry))) (length (now (circuits .entry))) inflight) Short ⌝ }
+    ensures { λ r. ⌜ r ≡ check (ltb room (closingWords * (count isPending (heldPending places (now (pending .entry))) + count isCircuit (heldCircuits places (now (circuits .entry))))) || tooFew config (length (heldPending places (now (pending .entry)))) (length (heldCircuits places (now (circuits .entry)))) inflight) Short ⌝ }
 {
     let question = used();
-    let waiting = count_pending(pending, question);
-    let active = count_circuit(circuits, question);
+    let waiting = count_pending(pending, places, question);
+    let active = count_circuit(circuits, places, question);
     let short = room_short(room, waiting, active);
     room_answer(config, pending.len(), circuits.len(), inflight, short)
 }
 
-pub(crate) fn refused(runtime: OpaqueRelayRuntime, answer: HnsrAnswer) -> Relayed
-    ensures { λ r. ⌜ (r .runtime ≡ runtime) × (r .answer ≡ answer) × (r .words ≡ 0) ⌝ }
+pub(crate) fn refused(runtime: OpaqueRelayRuntime, places: Places, answer: HnsrAnswer) -> Relayed
+    ensures { λ r. ⌜ ((r .runtime ≡ runtime) × (r .answer ≡ answer) × (r .words ≡ 0)) × (r .places ≡ places) ⌝ }
 {
     Relayed {
         runtime,
         answer,
         words: 0,
+        places,
     }
 }
 
@@ -154,22 +158,23 @@ pub fn disconnect(
     inflight: &mut [InflightAction],
     out: &mut [u32],
     runtime: OpaqueRelayRuntime,
+    places: Places,
     peer: &[u8],
 ) -> Relayed
-    ensures { λ r. ⌜ ((l : List ReservationUsage) → handedBack r (now (pending .exit)) (now (circuits .exit)) l (now (inflight .exit)) (now (out .exit)) ≡ outcome (now (out .entry)) (step (worldOf runtime (now (pending .entry)) (now (circuits .entry)) l (now (inflight .entry))) (callDisconnect (now (peer .entry)) (length (now (out .entry)))))) ⌝ }
+    ensures { λ r. ⌜ ((l : List ReservationUsage) → handedSeen r (now (pending .exit)) (now (circuits .exit)) l (now (inflight .exit)) (now (out .exit)) ≡ outcome (now (out .entry)) (step (worldSeen runtime places (now (pending .entry)) (now (circuits .entry)) l (now (inflight .entry))) (callDisconnect (now (peer .entry)) (length (now (out .entry)))))) ⌝ }
 {
     let config = runtime.config;
-    let room = entry_answer(pending, circuits, inflight.len(), out.len(), config);
+    let room = entry_answer(pending, circuits, places, inflight.len(), out.len(), config);
     let named = peer_answer(peer.len());
     let answer = first_refusal(room, named);
     if is_taken(answer) {
         let name = peer_of(peer);
         let question = of_peer(name);
         let all = disconnecting(name);
-        clear_action(inflight, question);
-        return revoke_all(pending, circuits, inflight, out, runtime, all);
+        clear_action(inflight, places, question);
+        return revoke_all(pending, circuits, inflight, out, runtime, places, all);
     }
-    refused(runtime, answer)
+    refused(runtime, places, answer)
 }
 
 // Revokes the records that store the reservation's id and removes its ledger record.
@@ -180,12 +185,13 @@ pub fn revoke_reservation(
     inflight: &mut [InflightAction],
     out: &mut [u32],
     runtime: OpaqueRelayRuntime,
+    places: Places,
     id: ReservationId,
 ) -> Relayed
-    ensures { λ r. ⌜ handedBack r (now (pending .exit)) (now (circuits .exit)) (now (ledger .exit)) (now (inflight .exit)) (now (out .exit)) ≡ outcome (now (out .entry)) (step (worldOf runtime (now (pending .entry)) (now (circuits .entry)) (now (ledger .entry)) (now (inflight .entry))) (callRevokeReservation id (length (now (out .entry))))) ⌝ }
+    ensures { λ r. ⌜ handedSeen r (now (pending .exit)) (now (circuits .exit)) (now (ledger .exit)) (now (inflight .exit)) (now (out .exit)) ≡ outcome (now (out .entry)) (step (worldSeen runtime places (now (pending .entry)) (now (circuits .entry)) (now (ledger .entry)) (now (inflight .entry))) (callRevokeReservation id (length (now (out .entry))))) ⌝ }
 {
     let config = runtime.config;
-    let answer = entry_answer(pending, circuits, inflight.len(), out.len(), config);
+    let answer = entry_answer(pending, circuits, places, inflight.len(), out.len(), config);
     if is_taken(answer) {
         let question = under(id);
         let all = revoking(
@@ -193,10 +199,10 @@ pub fn revoke_reservation(
             Notice::ReservationRevoked,
             Notice::ReservationRevoked,
         );
-        drop_usage(ledger, id);
-        return revoke_all(pending, circuits, inflight, out, runtime, all);
+        drop_usage(ledger, places, id);
+        return revoke_all(pending, circuits, inflight, out, runtime, places, all);
     }
-    refused(runtime, answer)
+    refused(runtime, places, answer)
 }
 
 // Drops ledger records as OPEN does, then revokes pending records whose deadline or expiry, and circuits whose expiry, is not after now.
@@ -207,22 +213,23 @@ pub fn expire(
     inflight: &mut [InflightAction],
     out: &mut [u32],
     runtime: OpaqueRelayRuntime,
+    places: Places,
     time: u64,
 ) -> Relayed
-    ensures { λ r. ⌜ handedBack r (now (pending .exit)) (now (circuits .exit)) (now (ledger .exit)) (now (inflight .exit)) (now (out .exit)) ≡ outcome (now (out .entry)) (step (worldOf runtime (now (pending .entry)) (now (circuits .entry)) (now (ledger .entry)) (now (inflight .entry))) (callExpire time (length (now (out .entry))))) ⌝ }
+    ensures { λ r. ⌜ handedSeen r (now (pending .exit)) (now (circuits .exit)) (now (ledger .exit)) (now (inflight .exit)) (now (out .exit)) ≡ outcome (now (out .entry)) (step (worldSeen runtime places (now (pending .entry)) (now (circuits .entry)) (now (ledger .entry)) (now (inflight .entry))) (callExpire time (length (now (out .entry))))) ⌝ }
 {
     let config = runtime.config;
-    let room = entry_answer(pending, circuits, inflight.len(), out.len(), config);
+    let room = entry_answer(pending, circuits, places, inflight.len(), out.len(), config);
     let clock = clock_answer(runtime.trusted_time_high_water, time);
     let answer = first_refusal(room, clock);
     if is_taken(answer) {
         let question = over(time);
         let all = revoking(question, Notice::AcceptanceExpired, Notice::TicketExpired);
         let moved = with_clock(runtime, time);
-        drop_lapsed(ledger, true, time);
-        return revoke_all(pending, circuits, inflight, out, moved, all);
+        drop_lapsed(ledger, places, true, time);
+        return revoke_all(pending, circuits, inflight, out, moved, places, all);
     }
-    refused(runtime, answer)
+    refused(runtime, places, answer)
 }
 
 // Whether the state would change.
@@ -235,13 +242,14 @@ fn changed(before: bool, enabled: bool) -> bool
     enabled
 }
 
-pub(crate) fn taken_with(runtime: OpaqueRelayRuntime) -> Relayed
-    ensures { λ r. ⌜ (r .runtime ≡ runtime) × (r .answer ≡ Taken) × (r .words ≡ 0) ⌝ }
+pub(crate) fn taken_with(runtime: OpaqueRelayRuntime, places: Places) -> Relayed
+    ensures { λ r. ⌜ ((r .runtime ≡ runtime) × (r .answer ≡ Taken) × (r .words ≡ 0)) × (r .places ≡ places) ⌝ }
 {
     Relayed {
         runtime,
         answer: HnsrAnswer::Taken,
         words: 0,
+        places,
     }
 }
 
@@ -252,19 +260,20 @@ pub(crate) fn switch_to(
     inflight: &mut [InflightAction],
     out: &mut [u32],
     runtime: OpaqueRelayRuntime,
+    places: Places,
     enabled: bool,
 ) -> Relayed
     requires { ⌜ runtime .generation < 18446744073709551615 ⌝ }
-    ensures { λ r. ⌜ ((l : List ReservationUsage) → handedBack r (now (pending .exit)) (now (circuits .exit)) l (now (inflight .exit)) (now (out .exit)) ≡ ending (now (out .entry)) (switchTo (worldOf runtime (now (pending .entry)) (now (circuits .entry)) l (now (inflight .entry))) enabled)) ⌝ }
+    ensures { λ r. ⌜ ((l : List ReservationUsage) → handedSeen r (now (pending .exit)) (now (circuits .exit)) l (now (inflight .exit)) (now (out .exit)) ≡ ending (now (out .entry)) (switchTo (worldSeen runtime places (now (pending .entry)) (now (circuits .entry)) l (now (inflight .entry))) enabled)) ⌝ }
 {
     let every = used();
     let switched = with_enabled(runtime, enabled);
-    clear_action(inflight, every);
+    clear_action(inflight, places, every);
     if enabled {
-        return taken_with(switched);
+        return taken_with(switched, places);
     }
     let all = revoking(every, Notice::RelayDisabled, Notice::RelayDisabled);
-    revoke_all(pending, circuits, inflight, out, switched, all)
+    revoke_all(pending, circuits, inflight, out, switched, places, all)
 }
 
 // The same state changes nothing.
@@ -274,13 +283,14 @@ pub fn replace_enabled(
     inflight: &mut [InflightAction],
     out: &mut [u32],
     runtime: OpaqueRelayRuntime,
+    places: Places,
     expected_generation: u64,
     enabled: bool,
 ) -> Relayed
-    ensures { λ r. ⌜ ((l : List ReservationUsage) → handedBack r (now (pending .exit)) (now (circuits .exit)) l (now (inflight .exit)) (now (out .exit)) ≡ outcome (now (out .entry)) (step (worldOf runtime (now (pending .entry)) (now (circuits .entry)) l (now (inflight .entry))) (callReplaceEnabled «expected_generation» enabled (length (now (out .entry)))))) ⌝ }
+    ensures { λ r. ⌜ ((l : List ReservationUsage) → handedSeen r (now (pending .exit)) (now (circuits .exit)) l (now (inflight .exit)) (now (out .exit)) ≡ outcome (now (out .entry)) (step (worldSeen runtime places (now (pending .entry)) (now (circuits .entry)) l (now (inflight .entry))) (callReplaceEnabled «expected_generation» enabled (length (now (out .entry)))))) ⌝ }
 {
     let config = runtime.config;
-    let room = entry_answer(pending, circuits, inflight.len(), out.len(), config);
+    let room = entry_answer(pending, circuits, places, inflight.len(), out.len(), config);
     let current = generation_answer(runtime.generation, expected_generation);
     let changes = changed(runtime.enabled, enabled);
     let exhausted = change_answer(runtime.generation, changes);
@@ -288,9 +298,9 @@ pub fn replace_enabled(
     let answer = first_refusal(room, rest);
     if is_taken(answer) {
         if changes {
-            return switch_to(pending, circuits, inflight, out, runtime, enabled);
+            return switch_to(pending, circuits, inflight, out, runtime, places, enabled);
         }
-        return taken_with(runtime);
+        return taken_with(runtime, places);
     }
-    refused(runtime, answer)
+    refused(runtime, places, answer)
 }

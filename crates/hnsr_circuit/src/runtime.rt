@@ -1,6 +1,7 @@
 // What a host keeps beside the tables, by value, and what `status` tells.
 use crate::answer::HnsrAnswer;
 use crate::config::OpaqueRelayConfig;
+use crate::places::Places;
 use crate::records::NextDue;
 
 #[repr(C)]
@@ -39,17 +40,19 @@ pub struct HnsrRuntimeStatus {
     pub revoked_work: u64,
 }
 
-// What a call hands back: the runtime for the host to keep, the answer, and how many output words it wrote.
+// What a call hands back: the answer, how many output words it wrote, and for the host to keep the runtime and the places in use.
 pub struct Relayed {
     pub runtime: OpaqueRelayRuntime,
     pub answer: HnsrAnswer,
     pub words: usize,
+    pub places: Places,
 }
 
-// A call under way: the runtime, and the output word that is next.
+// A call under way: the runtime, the output word that is next, and the places in use.
 pub struct Sending {
     pub runtime: OpaqueRelayRuntime,
     pub position: usize,
+    pub places: Places,
 }
 
 // What `status` and `next_due` hand back: the answer, and what they tell where it is taken.

@@ -6,3 +6,4 @@ pub mod look_up_circuit
 pub mod look_up_pending
 pub mod look_up_usage
 pub mod spend
+pub mod trim

@@ -28,7 +28,6 @@ use Rattle.hnsr_circuit.specs.declared.window.WindowPlan.{WindowPlan}
 use Rattle.hnsr_circuit.specs.declared.close.ClosePlan.{ClosePlan}
 use Rattle.hnsr_circuit.specs.declared.runtime.OpaqueRelayRuntime.{OpaqueRelayRuntime}
 use Rattle.hnsr_circuit.specs.declared.runtime.RuntimeCounters.{RuntimeCounters}
-use Rattle.hnsr_circuit.specs.declared.runtime.Relayed.{Relayed}
 use Rattle.hnsr_circuit.specs.declared.answer.HnsrAnswer.{HnsrAnswer}
 use Rattle.hnsr_circuit.specs.declared.answer.HnsrAnswer.the-variants.{Taken, Refused}
 use Rattle.hnsr_circuit.specs.declared.answer.HnsrRuntimeError.the-variants.{FlowControl}
@@ -44,7 +43,7 @@ use Rattle.hnsr_circuit.specs.Header.{withCounters, countBytes, countRev
 use Rattle.hnsr_circuit.specs.World.{proceed}
 use Rattle.hnsr_circuit.specs.Queue.{Message, send, actionsScanned}
 use Rattle.hnsr_circuit.specs.Packet.{sender, circuitAnswer}
-use Rattle.hnsr_circuit.specs.Progress.{worldOf, messageOf, packetOf, asking, handedBack, ending}
+use Rattle.hnsr_circuit.specs.Progress.{Result, worldOf, messageOf, packetOf, asking, ending}
 use Rattle.hnsr_circuit.specs.Data.{withData, dataMessage, dataTaken, dataWith, handleData}
 use Rattle.hnsr_circuit.specs.Window.{creditAnswer, withWindow, windowTaken, windowWith, handleWindow}
 use Rattle.hnsr_circuit.specs.Revocation.{withoutActions, withoutPending, endPending, endCircuit}
@@ -84,13 +83,13 @@ module _ (h : OpaqueRelayRuntime) (c : List RelayCircuit) (l : List ReservationU
       ∙ ap (λ (x : ActionQuestion). actionsScanned x i) (asking-counted (d .go) h (countBytes (length body) (h .counters)) (d .message))
       ∙ sym (λ x. actionsScanned (asking (ep x .runtime) (ep x .message)) i)
 
-  pub data-handled : (out : List ℕ) (p : List RelayPending) (e rs : List ℕ) (r : Relayed) (c′ : List RelayCircuit) (l′ : List ReservationUsage) (i′ : List InflightAction) (out′ : List ℕ)
+  pub data-handled : (out : List ℕ) (p : List RelayPending) (e rs : List ℕ) (r : Result) (c′ : List RelayCircuit) (l′ : List ReservationUsage)
       → c′ ≡ cond (plan .go) (set c (plan .place) (charged (plan .side) (length body) (getD c (plan .place) noCircuit))) c
       → l′ ≡ cond (plan .go) (set l (plan .«usage_place») (spent (length body) (getD l (plan .«usage_place») noUsage))) l
-      → handedBack r p c′ l′ i′ out′ ≡ ending out (proceed (worldOf (plan .runtime) p c′ l′ i) (plan .answer) (send (worldOf (plan .runtime) p c′ l′ i) (messageOf (plan .message) body)))
-      → handedBack r p c′ l′ i′ out′ ≡ ending out (handleData (worldOf h p c l i) (packetOf q source body e rs))
+      → r ≡ ending out (proceed (worldOf (plan .runtime) p c′ l′ i) (plan .answer) (send (worldOf (plan .runtime) p c′ l′ i) (messageOf (plan .message) body)))
+      → r ≡ ending out (handleData (worldOf h p c l i) (packetOf q source body e rs))
   unfolding handleData dataWith dataTaken withData dataMessage sender circuitAsked usageAsked actionsScanned
-  data-handled out p e rs r c′ l′ i′ out′ ec el es =
+  data-handled out p e rs r c′ l′ ec el es =
       let n = length body in
       let d = dataPlanned h c l i q source n in
       let id = q .«context_id» in
@@ -149,12 +148,12 @@ module _ (h : OpaqueRelayRuntime) (c : List RelayCircuit) (i : List InflightActi
       subst (λ (x : WindowPlan). creditOf (otherSide (x .side)) (getD c (x .place) noCircuit) + x .delta < 4294967296) (sym ep)
       (subst (λ (x : RelayCircuit). creditOf (otherSide (d .side)) x + d .delta < 4294967296) (sym (pick-at (circuitAt id) noCircuit c)) small)
 
-  pub window-handled : (out : List ℕ) (p : List RelayPending) (l : List ReservationUsage) (e rs : List ℕ) (r : Relayed) (c′ : List RelayCircuit) (i′ : List InflightAction) (out′ : List ℕ)
+  pub window-handled : (out : List ℕ) (p : List RelayPending) (l : List ReservationUsage) (e rs : List ℕ) (r : Result) (c′ : List RelayCircuit)
       → c′ ≡ cond (plan .go) (set c (plan .place) (raised (plan .side) (plan .delta) (getD c (plan .place) noCircuit))) c
-      → handedBack r p c′ l i′ out′ ≡ ending out (proceed (worldOf h p c′ l i) (plan .answer) (send (worldOf h p c′ l i) (messageOf (plan .message) body)))
-      → handedBack r p c′ l i′ out′ ≡ ending out (handleWindow (worldOf h p c l i) (packetOf q source body e rs))
+      → r ≡ ending out (proceed (worldOf h p c′ l i) (plan .answer) (send (worldOf h p c′ l i) (messageOf (plan .message) body)))
+      → r ≡ ending out (handleWindow (worldOf h p c l i) (packetOf q source body e rs))
   unfolding handleWindow windowWith windowTaken withWindow sender circuitAsked actionsScanned decodeWindow
-  window-handled out p l e rs r c′ i′ out′ ec es =
+  window-handled out p l e rs r c′ ec es =
       let d = windowPlanned h c i q source body in
       let id = q .«context_id» in
       let circuits : c′ ≡ cond (d .go) (edit (circuitAt id) (raised (d .side) (d .delta)) c) c =
@@ -180,14 +179,14 @@ passes-end h h1 p p1 c c1 l i idp idc mp mc body false (Refused e) = refl
 
 module _ (h : OpaqueRelayRuntime) (p : List RelayPending) (c : List RelayCircuit) (i : List InflightAction) (q : RelayPacket) (source body : List ℕ)
     (plan : ClosePlan) (ep : plan ≡ closePlanned h p c q source body) where
-  pub close-handled : (out : List ℕ) (l : List ReservationUsage) (e rs : List ℕ) (r : Relayed) (p′ : List RelayPending) (c′ : List RelayCircuit) (i₁ i′ : List InflightAction) (out′ : List ℕ)
+  pub close-handled : (out : List ℕ) (l : List ReservationUsage) (e rs : List ℕ) (r : Result) (p′ : List RelayPending) (c′ : List RelayCircuit) (i₁ : List InflightAction)
       → p′ ≡ cond (plan .«ends_pending») (set p (plan .«pending_place») (clearPending (getD p (plan .«pending_place») noPending))) p
       → c′ ≡ cond (plan .«ends_circuit») (set c (plan .«circuit_place») (clearCircuit (getD c (plan .«circuit_place») noCircuit))) c
       → i₁ ≡ cond (plan .go) (dropped (actionUnder (plan .id)) i) i
-      → handedBack r p′ c′ l i′ out′ ≡ ending out (proceed (worldOf (plan .runtime) p′ c′ l i₁) (plan .answer) (send (worldOf (plan .runtime) p′ c′ l i₁) (messageOf (plan .message) body)))
-      → handedBack r p′ c′ l i′ out′ ≡ ending out (handleClose (worldOf h p c l i) (packetOf q source body e rs))
+      → r ≡ ending out (proceed (worldOf (plan .runtime) p′ c′ l i₁) (plan .answer) (send (worldOf (plan .runtime) p′ c′ l i₁) (messageOf (plan .message) body)))
+      → r ≡ ending out (handleClose (worldOf h p c l i) (packetOf q source body e rs))
   unfolding handleClose closeTaken detailAnswer closePending closeCircuit translated endPending endCircuit withoutActions withoutPending sender circuitAsked pendingAsked
-  close-handled out l e rs r p′ c′ i₁ i′ out′ eq ec ei es =
+  close-handled out l e rs r p′ c′ i₁ eq ec ei es =
       let d = closePlanned h p c q source body in
       let id = q .«context_id» in
       let peer = peerOf source in

@@ -8,7 +8,6 @@ use Rattle.hnsr_circuit.specs.declared.records.RelayPending.{RelayPendin
 use Rattle.hnsr_circuit.specs.declared.records.RelayCircuit.{RelayCircuit}
 use Rattle.hnsr_circuit.specs.declared.records.ReservationUsage.{ReservationUsage}
 use Rattle.hnsr_circuit.specs.declared.records.InflightAction.{InflightAction}
-use Rattle.hnsr_circuit.specs.declared.records.Question.{Question}
 use Rattle.hnsr_circuit.specs.declared.records.NextDue.{NextDue}
 use Rattle.hnsr_circuit.specs.declared.records.NextDue.the-variants.{Never}
 use Rattle.hnsr_circuit.specs.declared.runtime.OpaqueRelayRuntime.{OpaqueRelayRuntime}
@@ -24,9 +23,8 @@ use Rattle.hnsr_circuit.specs.Table.{clear}
 use Rattle.hnsr_circuit.specs.Pending.{isPending, clearPending}
 use Rattle.hnsr_circuit.specs.Circuits.{isCircuit, clearCircuit}
 use Rattle.hnsr_circuit.specs.Ledger.{isUsage, clearUsage}
-use Rattle.hnsr_circuit.specs.Inflight.{clearAction, dropped}
-use Rattle.hnsr_circuit.specs.Question.{used, pendingHas, pendingAsked, circuitHas, circuitAsked, usageHas, usageAsked, actionHas, actionAsked}
-use Rattle.hnsr_circuit.specs.Header.{withClock}
+use Rattle.hnsr_circuit.specs.Inflight.{isAction, clearAction, dropped}
+use Rattle.hnsr_circuit.specs.Header.{withClock, noHeader}
 use Rattle.hnsr_circuit.specs.Route.{outWords, output}
 use Rattle.hnsr_circuit.specs.World.{World, statusIs, dueIs, Outcome, done, proceed, telling, atTime}
 use Rattle.hnsr_circuit.specs.New.{emptied}
@@ -74,32 +72,23 @@ module _ (p : List RelayPending) (c : List RelayCircuit) (l : List ReservationUs
       ∙ ap (λ (z : HnsrAnswer). outcome out (proceed (worldOf h p c l i) z (done (atTime (worldOf h p c l i) time) []))) e
 
 -- ---- new
-module _ (h n : OpaqueRelayRuntime) (p : List RelayPending) (c : List RelayCircuit) (l : List ReservationUsage) (i : List InflightAction) (r : Relayed) (a b : HnsrAnswer)
-    (e : a ≡ b) (f : (r .runtime ≡ n) × (r .answer ≡ a) × (r .words ≡ 0)) where
-  pub empties : (q : Question) (p′ : List RelayPending) (c′ : List RelayCircuit) (l′ : List ReservationUsage) (i′ : List InflightAction) → q ≡ used
-      → p′ ≡ clear clearPending (pendingHas q) p → c′ ≡ clear clearCircuit (circuitHas q) c → l′ ≡ clear clearUsage (usageHas q) l
-      → i′ ≡ clear clearAction (actionHas q) i → taken a ≡ true
+module _ (h n : OpaqueRelayRuntime) (p p′ : List RelayPending) (c c′ : List RelayCircuit) (l l′ : List ReservationUsage) (i i′ : List InflightAction) (r : Relayed)
+    (a b : HnsrAnswer) (e : a ≡ b) where
+  pub empties : (r .runtime ≡ n) × (r .answer ≡ a) × (r .words ≡ 0) → p′ ≡ clear clearPending isPending p → c′ ≡ clear clearCircuit isCircuit c
+      → l′ ≡ clear clearUsage isUsage l → i′ ≡ clear clearAction isAction i → taken a ≡ true
       → Made r p′ c′ l′ i′ (proceed (worldOf h p c l i) b (done (emptied (worldOf h p c l i) n) []))
-  unfolding proceed emptied dropped pendingAsked circuitAsked usageAsked actionAsked
-  empties q p′ c′ l′ i′ eq ep ec el ei t =
+  unfolding proceed emptied dropped
+  empties f ep ec el ei t =
       let is = taken-is a t in
       subst (λ (z : HnsrAnswer). Made r p′ c′ l′ i′ (proceed (worldOf h p c l i) z (done (emptied (worldOf h p c l i) n) []))) (sym is ∙ e)
-      (record {
-        answer = f .1 ∙ is;
-        tables =
-            let ep2 = ep ∙ ap (λ (x : Question). clear clearPending (pendingHas x) p) eq in
-            let ec2 = ec ∙ ap (λ (x : Question). clear clearCircuit (circuitHas x) c) eq in
-            let el2 = el ∙ ap (λ (x : Question). clear clearUsage (usageHas x) l) eq in
-            let ei2 = ei ∙ ap (λ (x : Question). clear clearAction (actionHas x) i) eq in
-            λ x. worldOf n (ep2 x) (ec2 x) (el2 x) (ei2 x);
-        runtime = λ _. f .0;
-        words = f .2;
-      })
+      (record { answer = f .1 ∙ is; tables = λ x. worldOf n (ep x) (ec x) (el x) (ei x); runtime = f .0; words = f .2 })
 
-  keeps : (z : HnsrAnswer) → r .answer ≡ z → taken z ≡ false → Made r p c l i (proceed (worldOf h p c l i) z (done (emptied (worldOf h p c l i) n) []))
-  unfolding proceed
-  keeps Taken ea t = absurd (true≢false t)
-  keeps (Refused x) ea t = record { answer = ea; tables = refl; runtime = λ k. absurd (false≢true k); words = f .2 }
+  module _ (f : (r .runtime ≡ noHeader) × (r .answer ≡ a) × (r .words ≡ 0)) (ep : p′ ≡ p) (ec : c′ ≡ c) (el : l′ ≡ l) (ei : i′ ≡ i) where
+    keeps : (z : HnsrAnswer) → r .answer ≡ z → taken z ≡ false
+        → Made r p′ c′ l′ i′ (proceed (worldOf h p c l i) z (done (emptied (worldOf h p c l i) n) []))
+    unfolding proceed
+    keeps Taken ea t = absurd (true≢false t)
+    keeps (Refused x) ea t = record { answer = ea; tables = λ y. worldOf h (ep y) (ec y) (el y) (ei y); runtime = f .0; words = f .2 }
 
-  pub refuses-new : taken a ≡ false → Made r p c l i (proceed (worldOf h p c l i) b (done (emptied (worldOf h p c l i) n) []))
-  refuses-new t = keeps b (f .1 ∙ e) (ap taken (sym e) ∙ t)
+    pub refuses-new : taken a ≡ false → Made r p′ c′ l′ i′ (proceed (worldOf h p c l i) b (done (emptied (worldOf h p c l i) n) []))
+    refuses-new t = keeps b (f .1 ∙ e) (ap taken (sym e) ∙ t)

@@ -1,17 +1,23 @@
-// The table of circuits: the only functions that index it. A place past its end has no record, and a store there stores nothing.
+// The table of circuits: the only functions that index it. Only places below its number are in use, whatever the marks above; a place past the end
+// has no record, and a store there stores nothing.
 ghost use mathlib.Core.Path.{_≡_};
-ghost use mathlib.Core.Bool.{cond};
+ghost use mathlib.Core.Bool.{cond, false};
 ghost use lib.ListN.{getD, set};
 ghost use Rattle.hns_encoding.specs.Sums.{count};
-ghost use Rattle.hnsr_circuit.specs.Table.{clear, placeOf, next};
+ghost use Rattle.hnsr_circuit.specs.Held.{held, heldCircuits, asksUnused};
+ghost use Rattle.hnsr_circuit.specs.Table.{placeOf, next};
 ghost use Rattle.hnsr_circuit.specs.Circuits.{noCircuit, clearCircuit, circuitId};
 ghost use Rattle.hnsr_circuit.specs.Question.{circuitHas, circuitWork};
 ghost use Rattle.hnsr_circuit.specs.NextDue.{circuitDue};
 ghost use Rattle.hnsr_circuit.specs.Status.{circuitTotals};
 ghost use Rattle.hnsr_circuit.specs.Circuits.{charged};
 use crate::circuits::circuit_charged;
-use crate::circuits::circuit_unmarked;
+use crate::circuits::is_circuit;
 use crate::circuits::no_circuit;
+use crate::places::Places;
+use crate::places::asks_unused;
+use crate::places::held_circuit;
+use crate::places::or_else;
 use crate::question::circuit_has;
 use crate::records::CircuitTotals;
 use crate::records::NextDue;
@@ -30,28 +36,36 @@ use crate::scan::no_work;
 use crate::scan::not_yet;
 use crate::scan::one_more;
 use crate::scan::within;
+use hns_encoding::numbers::min_usize;
 
 // The lowest place whose record has what is asked, else the number of places.
-pub(crate) fn find_circuit(circuits: &[RelayCircuit], question: Question) -> usize
-    ensures { λ r. ⌜ r ≡ placeOf (circuitHas question) (now (circuits .entry)) ⌝ }
+pub(crate) fn find_circuit(circuits: &[RelayCircuit], places: Places, question: Question) -> usize
+    ensures { λ r. ⌜ r ≡ placeOf (circuitHas question) (heldCircuits places (now (circuits .entry))) ⌝ }
 {
+    let size = circuits.len();
+    let end = min_usize(places.circuits, size);
+    let unused = asks_unused(question);
     let mut i: usize = 0;
-    while i < circuits.len() {
+    while i < end {
         let row = circuits[i];
         if circuit_has(row, question) {
             return i;
         }
         i += 1;
     }
-    i
+    or_else(unused, i, size)
 }
 
-pub(crate) fn count_circuit(circuits: &[RelayCircuit], question: Question) -> usize
-    ensures { λ r. ⌜ r ≡ count (circuitHas question) (now (circuits .entry)) ⌝ }
+// Of a question that no unused record answers.
+pub(crate) fn count_circuit(circuits: &[RelayCircuit], places: Places, question: Question) -> usize
+    requires { ⌜ asksUnused (question .ask) ≡ false ⌝ }
+    ensures { λ r. ⌜ r ≡ count (circuitHas question) (heldCircuits places (now (circuits .entry))) ⌝ }
 {
+    let size = circuits.len();
+    let end = min_usize(places.circuits, size);
     let mut counted: usize = 0;
     let mut i: usize = 0;
-    while i < circuits.len() {
+    while i < end {
         let row = circuits[i];
         let has = circuit_has(row, question);
         counted = one_more(counted, has);
@@ -60,11 +74,12 @@ pub(crate) fn count_circuit(circuits: &[RelayCircuit], question: Question) -> us
     counted
 }
 
-pub(crate) fn circuit_at(circuits: &[RelayCircuit], place: usize) -> RelayCircuit
-    ensures { λ r. ⌜ r ≡ getD (now (circuits .entry)) place noCircuit ⌝ }
+pub(crate) fn circuit_at(circuits: &[RelayCircuit], places: Places, place: usize) -> RelayCircuit
+    ensures { λ r. ⌜ r ≡ getD (heldCircuits places (now (circuits .entry))) place noCircuit ⌝ }
 {
     if place < circuits.len() {
-        return circuits[place];
+        let row = circuits[place];
+        return held_circuit(row, place < places.circuits);
     }
     no_circuit()
 }
@@ -77,27 +92,16 @@ pub(crate) fn set_circuit(circuits: &mut [RelayCircuit], go: bool, place: usize,
     }
 }
 
-// The mark cleared of every record that has what is asked; no other record is stored.
-pub(crate) fn clear_circuit(circuits: &mut [RelayCircuit], question: Question)
-    ensures { λ _. ⌜ now (circuits .exit) ≡ clear clearCircuit (circuitHas question) (now (circuits .entry)) ⌝ }
-{
-    let mut i: usize = 0;
-    while i < circuits.len() {
-        let row = circuits[i];
-        let has = circuit_has(row, question);
-        let after = circuit_unmarked(row);
-        set_circuit(circuits, has, i, after);
-        i += 1;
-    }
-}
-
 // Of the records that have what is asked, above the cursor, the one with the least id and place.
-pub(crate) fn next_circuit(circuits: &[RelayCircuit], question: Question, cursor: Walked) -> Walked
-    ensures { λ r. ⌜ r ≡ next circuitId (circuitHas question) cursor (now (circuits .entry)) ⌝ }
+pub(crate) fn next_circuit(circuits: &[RelayCircuit], places: Places, question: Question, cursor: Walked) -> Walked
+    requires { ⌜ asksUnused (question .ask) ≡ false ⌝ }
+    ensures { λ r. ⌜ r ≡ next circuitId (circuitHas question) cursor (heldCircuits places (now (circuits .entry))) ⌝ }
 {
+    let size = circuits.len();
+    let end = min_usize(places.circuits, size);
     let mut best = not_yet();
     let mut i: usize = 0;
-    while i < circuits.len() {
+    while i < end {
         let row = circuits[i];
         best = circuit_turn(question, cursor, best, row, i);
         i += 1;
@@ -106,12 +110,14 @@ pub(crate) fn next_circuit(circuits: &[RelayCircuit], question: Question, cursor
 }
 
 // All that OPEN and ACCEPT ask of the table, in one pass.
-pub(crate) fn circuit_work(circuits: &[RelayCircuit], question: WorkQuestion) -> Work
-    ensures { λ r. ⌜ r ≡ circuitWork question (now (circuits .entry)) ⌝ }
+pub(crate) fn circuit_work(circuits: &[RelayCircuit], places: Places, question: WorkQuestion) -> Work
+    ensures { λ r. ⌜ r ≡ circuitWork question (heldCircuits places (now (circuits .entry))) ⌝ }
 {
+    let size = circuits.len();
+    let end = min_usize(places.circuits, size);
     let mut work = no_work();
     let mut i: usize = 0;
-    while i < circuits.len() {
+    while i < end {
         let row = circuits[i];
         work = circuit_worked(work, row, question);
         i += 1;
@@ -119,12 +125,14 @@ pub(crate) fn circuit_work(circuits: &[RelayCircuit], question: WorkQuestion) ->
     work
 }
 
-pub(crate) fn circuit_due(circuits: &[RelayCircuit], due: NextDue) -> NextDue
-    ensures { λ r. ⌜ r ≡ circuitDue (now (circuits .entry)) due ⌝ }
+pub(crate) fn circuit_due(circuits: &[RelayCircuit], places: Places, due: NextDue) -> NextDue
+    ensures { λ r. ⌜ r ≡ circuitDue (heldCircuits places (now (circuits .entry))) due ⌝ }
 {
+    let size = circuits.len();
+    let end = min_usize(places.circuits, size);
     let mut earliest = due;
     let mut i: usize = 0;
-    while i < circuits.len() {
+    while i < end {
         let row = circuits[i];
         earliest = circuit_due_turn(earliest, row);
         i += 1;
@@ -133,12 +141,14 @@ pub(crate) fn circuit_due(circuits: &[RelayCircuit], due: NextDue) -> NextDue
 }
 
 // What `status` asks of the table, in one pass.
-pub(crate) fn circuit_totals(circuits: &[RelayCircuit]) -> CircuitTotals
-    ensures { λ r. ⌜ r ≡ circuitTotals (now (circuits .entry)) ⌝ }
+pub(crate) fn circuit_totals(circuits: &[RelayCircuit], places: Places) -> CircuitTotals
+    ensures { λ r. ⌜ r ≡ circuitTotals (heldCircuits places (now (circuits .entry))) ⌝ }
 {
+    let size = circuits.len();
+    let end = min_usize(places.circuits, size);
     let mut totals = no_totals();
     let mut i: usize = 0;
-    while i < circuits.len() {
+    while i < end {
         let row = circuits[i];
         totals = circuit_totalled(totals, row);
         i += 1;
@@ -167,4 +177,21 @@ pub(crate) fn charge_circuit(
     if within(go, place, circuits.len()) {
         charge(&mut circuits[place], side, n);
     }
+}
+
+// The number lowered past the unused places below it.
+pub(crate) fn trim_circuits(circuits: &[RelayCircuit], places: Places) -> usize
+    ensures { λ r. ⌜ held clearCircuit r (now (circuits .entry)) ≡ heldCircuits places (now (circuits .entry)) ⌝ }
+{
+    let size = circuits.len();
+    let mut n = min_usize(places.circuits, size);
+    while 0 < n {
+        let last = n - 1;
+        let row = circuits[last];
+        if is_circuit(row) {
+            return n;
+        }
+        n = last;
+    }
+    n
 }

@@ -1,14 +1,22 @@
-// The table of outstanding actions: the only functions that index it. A place past its end has no record, and a store there stores nothing.
+// The table of outstanding actions: the only functions that index it. Only places below its number are in use, whatever the marks above; a place past the end
+// has no record, and a store there stores nothing.
 ghost use mathlib.Core.Path.{_≡_};
-ghost use mathlib.Core.Bool.{cond};
+ghost use mathlib.Core.Bool.{cond, false};
 ghost use lib.ListN.{getD, set};
 ghost use Rattle.hns_encoding.specs.Sums.{count};
+ghost use Rattle.hnsr_circuit.specs.Held.{held, heldActions, asksUnused};
 ghost use Rattle.hnsr_circuit.specs.Table.{clear, placeOf};
 ghost use Rattle.hnsr_circuit.specs.Inflight.{noAction, clearAction};
 ghost use Rattle.hnsr_circuit.specs.Question.{actionHas};
 ghost use Rattle.hnsr_circuit.specs.Queue.{actionsScanned};
 use crate::inflight::action_unmarked;
+use crate::inflight::is_action;
 use crate::inflight::no_action;
+use crate::places::Places;
+use crate::places::asks_unused;
+use crate::places::held_action;
+use crate::places::or_else;
+use crate::places::spared;
 use crate::question::action_has;
 use crate::records::ActionQuestion;
 use crate::records::ActionScan;
@@ -18,28 +26,36 @@ use crate::scan::action_scanned;
 use crate::scan::no_scan;
 use crate::scan::one_more;
 use crate::scan::within;
+use hns_encoding::numbers::min_usize;
 
 // The lowest place whose record has what is asked, else the number of places.
-pub(crate) fn find_action(inflight: &[InflightAction], question: Question) -> usize
-    ensures { λ r. ⌜ r ≡ placeOf (actionHas question) (now (inflight .entry)) ⌝ }
+pub(crate) fn find_action(inflight: &[InflightAction], places: Places, question: Question) -> usize
+    ensures { λ r. ⌜ r ≡ placeOf (actionHas question) (heldActions places (now (inflight .entry))) ⌝ }
 {
+    let size = inflight.len();
+    let end = min_usize(places.actions, size);
+    let unused = asks_unused(question);
     let mut i: usize = 0;
-    while i < inflight.len() {
+    while i < end {
         let row = inflight[i];
         if action_has(row, question) {
             return i;
         }
         i += 1;
     }
-    i
+    or_else(unused, i, size)
 }
 
-pub(crate) fn count_action(inflight: &[InflightAction], question: Question) -> usize
-    ensures { λ r. ⌜ r ≡ count (actionHas question) (now (inflight .entry)) ⌝ }
+// Of a question that no unused record answers.
+pub(crate) fn count_action(inflight: &[InflightAction], places: Places, question: Question) -> usize
+    requires { ⌜ asksUnused (question .ask) ≡ false ⌝ }
+    ensures { λ r. ⌜ r ≡ count (actionHas question) (heldActions places (now (inflight .entry))) ⌝ }
 {
+    let size = inflight.len();
+    let end = min_usize(places.actions, size);
     let mut counted: usize = 0;
     let mut i: usize = 0;
-    while i < inflight.len() {
+    while i < end {
         let row = inflight[i];
         let has = action_has(row, question);
         counted = one_more(counted, has);
@@ -48,11 +64,12 @@ pub(crate) fn count_action(inflight: &[InflightAction], question: Question) -> u
     counted
 }
 
-pub(crate) fn action_at(inflight: &[InflightAction], place: usize) -> InflightAction
-    ensures { λ r. ⌜ r ≡ getD (now (inflight .entry)) place noAction ⌝ }
+pub(crate) fn action_at(inflight: &[InflightAction], places: Places, place: usize) -> InflightAction
+    ensures { λ r. ⌜ r ≡ getD (heldActions places (now (inflight .entry))) place noAction ⌝ }
 {
     if place < inflight.len() {
-        return inflight[place];
+        let row = inflight[place];
+        return held_action(row, place < places.actions);
     }
     no_action()
 }
@@ -82,11 +99,13 @@ pub(crate) fn unmark_action(inflight: &mut [InflightAction], go: bool, place: us
 }
 
 // The mark cleared of every record that has what is asked; no other record is stored.
-pub(crate) fn clear_action(inflight: &mut [InflightAction], question: Question)
-    ensures { λ _. ⌜ now (inflight .exit) ≡ clear clearAction (actionHas question) (now (inflight .entry)) ⌝ }
+pub(crate) fn clear_action(inflight: &mut [InflightAction], places: Places, question: Question)
+    ensures { λ _. ⌜ heldActions places (now (inflight .exit)) ≡ clear clearAction (actionHas question) (heldActions places (now (inflight .entry))) ⌝ }
 {
+    let size = inflight.len();
+    let end = min_usize(places.actions, size);
     let mut i: usize = 0;
-    while i < inflight.len() {
+    while i < end {
         let row = inflight[i];
         let has = action_has(row, question);
         unmark_action(inflight, has, i);
@@ -95,15 +114,34 @@ pub(crate) fn clear_action(inflight: &mut [InflightAction], question: Question)
 }
 
 // All that a message asks of the table, in one pass.
-pub(crate) fn scan_actions(inflight: &[InflightAction], question: ActionQuestion) -> ActionScan
-    ensures { λ r. ⌜ r ≡ actionsScanned question (now (inflight .entry)) ⌝ }
+pub(crate) fn scan_actions(inflight: &[InflightAction], places: Places, question: ActionQuestion) -> ActionScan
+    ensures { λ r. ⌜ r ≡ actionsScanned question (heldActions places (now (inflight .entry))) ⌝ }
 {
-    let mut scan = no_scan(inflight.len());
+    let size = inflight.len();
+    let end = min_usize(places.actions, size);
+    let mut scan = no_scan(size);
     let mut i: usize = 0;
-    while i < inflight.len() {
+    while i < end {
         let row = inflight[i];
         scan = action_scanned(scan, row, question, i);
         i += 1;
     }
-    scan
+    spared(scan, i, size)
+}
+
+// The number lowered past the unused places below it.
+pub(crate) fn trim_actions(inflight: &[InflightAction], places: Places) -> usize
+    ensures { λ r. ⌜ held clearAction r (now (inflight .entry)) ≡ heldActions places (now (inflight .entry)) ⌝ }
+{
+    let size = inflight.len();
+    let mut n = min_usize(places.actions, size);
+    while 0 < n {
+        let last = n - 1;
+        let row = inflight[last];
+        if is_action(row) {
+            return n;
+        }
+        n = last;
+    }
+    n
 }

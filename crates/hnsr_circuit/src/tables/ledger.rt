@@ -1,40 +1,55 @@
-// The table of ledger records: the only functions that index it. A place past its end has no record, and a store there stores nothing.
+// The table of ledger records: the only functions that index it. Only places below its number are in use, whatever the marks above; a place past the end
+// has no record, and a store there stores nothing.
 ghost use mathlib.Core.Path.{_≡_};
-ghost use mathlib.Core.Bool.{cond};
+ghost use mathlib.Core.Bool.{cond, false};
 ghost use lib.ListN.{getD, set};
 ghost use Rattle.hns_encoding.specs.Sums.{count};
+ghost use Rattle.hnsr_circuit.specs.Held.{held, heldLedger, asksUnused};
 ghost use Rattle.hnsr_circuit.specs.Table.{clear, placeOf};
 ghost use Rattle.hnsr_circuit.specs.Ledger.{noUsage, clearUsage};
 ghost use Rattle.hnsr_circuit.specs.Question.{usageHas};
+use crate::ledger::is_usage;
 use crate::ledger::no_usage;
 use crate::ledger::usage_unmarked;
+use crate::places::Places;
+use crate::places::asks_unused;
+use crate::places::held_usage;
+use crate::places::or_else;
 use crate::question::usage_has;
 use crate::records::Question;
 use crate::records::ReservationUsage;
 use crate::scan::one_more;
 use crate::scan::within;
+use hns_encoding::numbers::min_usize;
 
 // The lowest place whose record has what is asked, else the number of places.
-pub(crate) fn find_usage(ledger: &[ReservationUsage], question: Question) -> usize
-    ensures { λ r. ⌜ r ≡ placeOf (usageHas question) (now (ledger .entry)) ⌝ }
+pub(crate) fn find_usage(ledger: &[ReservationUsage], places: Places, question: Question) -> usize
+    ensures { λ r. ⌜ r ≡ placeOf (usageHas question) (heldLedger places (now (ledger .entry))) ⌝ }
 {
+    let size = ledger.len();
+    let end = min_usize(places.ledger, size);
+    let unused = asks_unused(question);
     let mut i: usize = 0;
-    while i < ledger.len() {
+    while i < end {
         let row = ledger[i];
         if usage_has(row, question) {
             return i;
         }
         i += 1;
     }
-    i
+    or_else(unused, i, size)
 }
 
-pub(crate) fn count_usage(ledger: &[ReservationUsage], question: Question) -> usize
-    ensures { λ r. ⌜ r ≡ count (usageHas question) (now (ledger .entry)) ⌝ }
+// Of a question that no unused record answers.
+pub(crate) fn count_usage(ledger: &[ReservationUsage], places: Places, question: Question) -> usize
+    requires { ⌜ asksUnused (question .ask) ≡ false ⌝ }
+    ensures { λ r. ⌜ r ≡ count (usageHas question) (heldLedger places (now (ledger .entry))) ⌝ }
 {
+    let size = ledger.len();
+    let end = min_usize(places.ledger, size);
     let mut counted: usize = 0;
     let mut i: usize = 0;
-    while i < ledger.len() {
+    while i < end {
         let row = ledger[i];
         let has = usage_has(row, question);
         counted = one_more(counted, has);
@@ -43,11 +58,12 @@ pub(crate) fn count_usage(ledger: &[ReservationUsage], question: Question) -> us
     counted
 }
 
-pub(crate) fn usage_at(ledger: &[ReservationUsage], place: usize) -> ReservationUsage
-    ensures { λ r. ⌜ r ≡ getD (now (ledger .entry)) place noUsage ⌝ }
+pub(crate) fn usage_at(ledger: &[ReservationUsage], places: Places, place: usize) -> ReservationUsage
+    ensures { λ r. ⌜ r ≡ getD (heldLedger places (now (ledger .entry))) place noUsage ⌝ }
 {
     if place < ledger.len() {
-        return ledger[place];
+        let row = ledger[place];
+        return held_usage(row, place < places.ledger);
     }
     no_usage()
 }
@@ -77,14 +93,33 @@ pub(crate) fn unmark_usage(ledger: &mut [ReservationUsage], go: bool, place: usi
 }
 
 // The mark cleared of every record that has what is asked; no other record is stored.
-pub(crate) fn clear_usage(ledger: &mut [ReservationUsage], question: Question)
-    ensures { λ _. ⌜ now (ledger .exit) ≡ clear clearUsage (usageHas question) (now (ledger .entry)) ⌝ }
+pub(crate) fn clear_usage(ledger: &mut [ReservationUsage], places: Places, question: Question)
+    ensures { λ _. ⌜ heldLedger places (now (ledger .exit)) ≡ clear clearUsage (usageHas question) (heldLedger places (now (ledger .entry))) ⌝ }
 {
+    let size = ledger.len();
+    let end = min_usize(places.ledger, size);
     let mut i: usize = 0;
-    while i < ledger.len() {
+    while i < end {
         let row = ledger[i];
         let has = usage_has(row, question);
         unmark_usage(ledger, has, i);
         i += 1;
     }
+}
+
+// The number lowered past the unused places below it.
+pub(crate) fn trim_ledger(ledger: &[ReservationUsage], places: Places) -> usize
+    ensures { λ r. ⌜ held clearUsage r (now (ledger .entry)) ≡ heldLedger places (now (ledger .entry)) ⌝ }
+{
+    let size = ledger.len();
+    let mut n = min_usize(places.ledger, size);
+    while 0 < n {
+        let last = n - 1;
+        let row = ledger[last];
+        if is_usage(row) {
+            return n;
+        }
+        n = last;
+    }
+    n
 }

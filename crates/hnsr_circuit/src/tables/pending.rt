@@ -1,14 +1,20 @@
-// The table of pending records: the only functions that index it. A place past its end has no record, and a store there stores nothing.
+// The table of pending records: the only functions that index it. Only places below its number are in use, whatever the marks above; a place past the end
+// has no record, and a store there stores nothing.
 ghost use mathlib.Core.Path.{_≡_};
-ghost use mathlib.Core.Bool.{cond};
+ghost use mathlib.Core.Bool.{cond, false};
 ghost use lib.ListN.{getD, set};
 ghost use Rattle.hns_encoding.specs.Sums.{count};
-ghost use Rattle.hnsr_circuit.specs.Table.{clear, placeOf, next};
+ghost use Rattle.hnsr_circuit.specs.Held.{held, heldPending, asksUnused};
+ghost use Rattle.hnsr_circuit.specs.Table.{placeOf, next};
 ghost use Rattle.hnsr_circuit.specs.Pending.{noPending, clearPending, pendingId};
 ghost use Rattle.hnsr_circuit.specs.Question.{pendingHas, pendingWork};
 ghost use Rattle.hnsr_circuit.specs.NextDue.{pendingDue};
+use crate::pending::is_pending;
 use crate::pending::no_pending;
-use crate::pending::pending_unmarked;
+use crate::places::Places;
+use crate::places::asks_unused;
+use crate::places::held_pending;
+use crate::places::or_else;
 use crate::question::pending_has;
 use crate::records::NextDue;
 use crate::records::Question;
@@ -23,28 +29,36 @@ use crate::scan::pending_due_turn;
 use crate::scan::pending_turn;
 use crate::scan::pending_worked;
 use crate::scan::within;
+use hns_encoding::numbers::min_usize;
 
 // The lowest place whose record has what is asked, else the number of places.
-pub(crate) fn find_pending(pending: &[RelayPending], question: Question) -> usize
-    ensures { λ r. ⌜ r ≡ placeOf (pendingHas question) (now (pending .entry)) ⌝ }
+pub(crate) fn find_pending(pending: &[RelayPending], places: Places, question: Question) -> usize
+    ensures { λ r. ⌜ r ≡ placeOf (pendingHas question) (heldPending places (now (pending .entry))) ⌝ }
 {
+    let size = pending.len();
+    let end = min_usize(places.pending, size);
+    let unused = asks_unused(question);
     let mut i: usize = 0;
-    while i < pending.len() {
+    while i < end {
         let row = pending[i];
         if pending_has(row, question) {
             return i;
         }
         i += 1;
     }
-    i
+    or_else(unused, i, size)
 }
 
-pub(crate) fn count_pending(pending: &[RelayPending], question: Question) -> usize
-    ensures { λ r. ⌜ r ≡ count (pendingHas question) (now (pending .entry)) ⌝ }
+// Of a question that no unused record answers.
+pub(crate) fn count_pending(pending: &[RelayPending], places: Places, question: Question) -> usize
+    requires { ⌜ asksUnused (question .ask) ≡ false ⌝ }
+    ensures { λ r. ⌜ r ≡ count (pendingHas question) (heldPending places (now (pending .entry))) ⌝ }
 {
+    let size = pending.len();
+    let end = min_usize(places.pending, size);
     let mut counted: usize = 0;
     let mut i: usize = 0;
-    while i < pending.len() {
+    while i < end {
         let row = pending[i];
         let has = pending_has(row, question);
         counted = one_more(counted, has);
@@ -53,11 +67,12 @@ pub(crate) fn count_pending(pending: &[RelayPending], question: Question) -> usi
     counted
 }
 
-pub(crate) fn pending_at(pending: &[RelayPending], place: usize) -> RelayPending
-    ensures { λ r. ⌜ r ≡ getD (now (pending .entry)) place noPending ⌝ }
+pub(crate) fn pending_at(pending: &[RelayPending], places: Places, place: usize) -> RelayPending
+    ensures { λ r. ⌜ r ≡ getD (heldPending places (now (pending .entry))) place noPending ⌝ }
 {
     if place < pending.len() {
-        return pending[place];
+        let row = pending[place];
+        return held_pending(row, place < places.pending);
     }
     no_pending()
 }
@@ -70,27 +85,16 @@ pub(crate) fn set_pending(pending: &mut [RelayPending], go: bool, place: usize, 
     }
 }
 
-// The mark cleared of every record that has what is asked; no other record is stored.
-pub(crate) fn clear_pending(pending: &mut [RelayPending], question: Question)
-    ensures { λ _. ⌜ now (pending .exit) ≡ clear clearPending (pendingHas question) (now (pending .entry)) ⌝ }
-{
-    let mut i: usize = 0;
-    while i < pending.len() {
-        let row = pending[i];
-        let has = pending_has(row, question);
-        let after = pending_unmarked(row);
-        set_pending(pending, has, i, after);
-        i += 1;
-    }
-}
-
 // Of the records that have what is asked, above the cursor, the one with the least id and place.
-pub(crate) fn next_pending(pending: &[RelayPending], question: Question, cursor: Walked) -> Walked
-    ensures { λ r. ⌜ r ≡ next pendingId (pendingHas question) cursor (now (pending .entry)) ⌝ }
+pub(crate) fn next_pending(pending: &[RelayPending], places: Places, question: Question, cursor: Walked) -> Walked
+    requires { ⌜ asksUnused (question .ask) ≡ false ⌝ }
+    ensures { λ r. ⌜ r ≡ next pendingId (pendingHas question) cursor (heldPending places (now (pending .entry))) ⌝ }
 {
+    let size = pending.len();
+    let end = min_usize(places.pending, size);
     let mut best = not_yet();
     let mut i: usize = 0;
-    while i < pending.len() {
+    while i < end {
         let row = pending[i];
         best = pending_turn(question, cursor, best, row, i);
         i += 1;
@@ -99,12 +103,14 @@ pub(crate) fn next_pending(pending: &[RelayPending], question: Question, cursor:
 }
 
 // All that OPEN and ACCEPT ask of the table, in one pass.
-pub(crate) fn pending_work(pending: &[RelayPending], question: WorkQuestion) -> Work
-    ensures { λ r. ⌜ r ≡ pendingWork question (now (pending .entry)) ⌝ }
+pub(crate) fn pending_work(pending: &[RelayPending], places: Places, question: WorkQuestion) -> Work
+    ensures { λ r. ⌜ r ≡ pendingWork question (heldPending places (now (pending .entry))) ⌝ }
 {
+    let size = pending.len();
+    let end = min_usize(places.pending, size);
     let mut work = no_work();
     let mut i: usize = 0;
-    while i < pending.len() {
+    while i < end {
         let row = pending[i];
         work = pending_worked(work, row, question);
         i += 1;
@@ -112,15 +118,34 @@ pub(crate) fn pending_work(pending: &[RelayPending], question: WorkQuestion) -> 
     work
 }
 
-pub(crate) fn pending_due(pending: &[RelayPending], due: NextDue) -> NextDue
-    ensures { λ r. ⌜ r ≡ pendingDue (now (pending .entry)) due ⌝ }
+pub(crate) fn pending_due(pending: &[RelayPending], places: Places, due: NextDue) -> NextDue
+    ensures { λ r. ⌜ r ≡ pendingDue (heldPending places (now (pending .entry))) due ⌝ }
 {
+    let size = pending.len();
+    let end = min_usize(places.pending, size);
     let mut earliest = due;
     let mut i: usize = 0;
-    while i < pending.len() {
+    while i < end {
         let row = pending[i];
         earliest = pending_due_turn(earliest, row);
         i += 1;
     }
     earliest
+}
+
+// The number lowered past the unused places below it.
+pub(crate) fn trim_pending(pending: &[RelayPending], places: Places) -> usize
+    ensures { λ r. ⌜ held clearPending r (now (pending .entry)) ≡ heldPending places (now (pending .entry)) ⌝ }
+{
+    let size = pending.len();
+    let mut n = min_usize(places.pending, size);
+    while 0 < n {
+        let last = n - 1;
+        let row = pending[last];
+        if is_pending(row) {
+            return n;
+        }
+        n = last;
+    }
+    n
 }

@@ -2,5 +2,6 @@ pub mod clear_usage
 pub mod count_usage
 pub mod find_usage
 pub mod set_usage
+pub mod trim_ledger
 pub mod unmark_usage
 pub mod usage_at

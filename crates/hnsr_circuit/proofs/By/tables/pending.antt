@@ -1,4 +1,3 @@
-pub mod clear_pending
 pub mod count_pending
 pub mod find_pending
 pub mod next_pending
@@ -6,3 +5,4 @@ pub mod pending_at
 pub mod pending_due
 pub mod pending_work
 pub mod set_pending
+pub mod trim_pending

@@ -1,22 +1,19 @@
 -- Turned away by its rows, or gone on with the action that is found.
 mod Tie
-use Prim.Native.Nat.{ℕ}
-use mathlib.Core.Path.{_≡_, refl, sym, ap, _∙_}
-use mathlib.Core.Bool.{Bool, cond, not, _&&_}
-use mathlib.Core.List.{List}
-use lib.ListN.{length, set, getD}
-use Rattle.hnsr_circuit.specs.declared.records.Question.{Question}
-use Prim.Native.Nat.{_<_, _≤_}
+use Prim.Native.Nat.{_<_}
+use mathlib.Core.Path.{sym, ap, _∙_}
 use mathlib.Core.Bool.{_||_}
+use lib.ListN.{length}
+use Rattle.hnsr_circuit.specs.declared.records.Question.{Question}
 use lib.Dec.{ltb}
 use Rattle.hnsr_circuit.specs.declared.answer.HnsrRuntimeError.the-variants.{Short}
 use Rattle.hnsr_circuit.specs.declared.records.ActionFound.{ActionFound}
 use Rattle.hnsr_circuit.specs.declared.records.InflightAction.{InflightAction}
 use Rattle.hnsr_circuit.specs.Answers.{check, _then_}
 use Rattle.hnsr_circuit.specs.World.{Outcome}
-use Rattle.hnsr_circuit.specs.Table.{any, pick}
+use Rattle.hnsr_circuit.specs.Table.{pick}
 use Rattle.hnsr_circuit.specs.Inflight.{noAction, actionAt}
-use Rattle.hnsr_circuit.specs.Question.{at, actionAsked}
+use Rattle.hnsr_circuit.specs.Question.{actionAsked}
 use Rattle.hnsr_circuit.specs.Lookup.{actionFound}
 use Rattle.hnsr_circuit.specs.Entry.{acknowledgeWords, roomAnswer, tablesShort}
 use Rattle.hnsr_circuit.specs.Progress.{worldOf, ending}
@@ -25,6 +22,8 @@ use Rattle.hnsr_circuit.specs.Call.{step, callAcknowledge}
 use Rattle.hnsr_circuit.specs.Laws.Calls.{turned-away, gone-on, whole}
 use borrow.Author.Needs.{needs}
 use native.Mathlib.Omega.{arith}
+use Rattle.hnsr_circuit.specs.Held.{heldPending, heldCircuits, heldLedger, heldActions}
+use Rattle.hnsr_circuit.specs.Laws.HeldTables.{places-kept, few-held}
 use Rattle.hnsr_circuit.proofs.acknowledge.acknowledge.Statement.{statement}
 use Rattle.hnsr_circuit.proofs.acknowledge.acknowledge.Proof.Tie as tie
 
@@ -63,18 +62,19 @@ same-length-4 c = search needs
 
 returns : tie.Need-returns
 unfolding step acknowledge acknowledgeTaken roomAnswer tablesShort actionAsked
-returns c = λ l.
+returns c = λ l₀.
     let s = c .before .before .before .before .before .before .before .before .before .before .before .before .before .before .before .before .before .before .before in
     let a = s .args in
-    let w = worldOf (a .runtime) (a .pending .now) (a .circuits .now) l (a .inflight .now) in
+    let l = heldLedger (a .places) l₀ in
+    let w = worldOf (a .runtime) (heldPending (a .places) (a .pending .now)) (heldCircuits (a .places) (a .circuits .now)) l (heldActions (a .places) (a .inflight .now)) in
     let call = callAcknowledge (a .generation) (a .sequence) (a .delivered) (length (a .out .now)) in
-    let ef = c .before .before .before .before .before .before .before .before .before .before .before .before .before .before .look-up-action .ensures ∙ ap (λ (q : Question). actionFound q (a .inflight .now)) (c .before .before .before .before .before .before .before .before .before .before .before .before .before .before .before .before .at .ensures) in
+    let ef = c .before .before .before .before .before .before .before .before .before .before .before .before .before .before .look-up-action .ensures ∙ ap (λ (q : Question). actionFound q (heldActions (a .places) (a .inflight .now))) (c .before .before .before .before .before .before .before .before .before .before .before .before .before .before .before .before .at .ensures) in
     let found = ap (λ (f : ActionFound). f .found) ef in
     let action = ap (λ (f : ActionFound). f .action) ef in
-    let answer = c .before .before .before .before .before .before .before .before .before .before .before .before .acknowledge-answer .ensures ∙ (λ x. check (ltb (length (a .out .now)) acknowledgeWords || c .before .before .before .before .before .before .before .before .before .before .before .before .before .too-few .ensures x) Short then generationAnswer (a .runtime .generation) (a .generation) then actionAnswer (found x)) in
+    let answer = c .before .before .before .before .before .before .before .before .before .before .before .before .acknowledge-answer .ensures ∙ (λ x. check (ltb (length (a .out .now)) acknowledgeWords || (c .before .before .before .before .before .before .before .before .before .before .before .before .before .too-few .ensures ∙ few-held (a .runtime .config) (a .places) (a .pending .now) (a .circuits .now) (a .inflight .now)) x) Short then generationAnswer (a .runtime .generation) (a .generation) then actionAnswer (found x)) in
     let small = bound s in
-    c .before .before .before .before .before .acknowledge-action .ensures l (a .generation) (a .sequence) ef
-    ∙ ap (λ (o : Outcome). ending (a .out .now) o) (ap (λ (x : InflightAction). acknowledgeAction w (a .generation) (a .sequence) (a .delivered) x) action ∙ sym (gone-on w (c .before .before .before .before .before .before .before .before .before .before .before .before .acknowledge-answer .result) _ (acknowledgeAction w (a .generation) (a .sequence) (a .delivered) (pick (actionAt (a .generation) (a .sequence)) noAction (a .inflight .now))) (sym (c .before .before .before .before .before .before .before .before .before .before .before .is-taken .ensures) ∙ c .before .before .before .before .before .before .before .before .before .before .if1 .taken) answer))
+    c .before .before .before .before .before .acknowledge-action .ensures l₀ (a .generation) (a .sequence) ef
+    ∙ ap (λ (o : Outcome). ending (a .out .now) o) (ap (λ (x : InflightAction). acknowledgeAction w (a .generation) (a .sequence) (a .delivered) x) action ∙ sym (gone-on w (c .before .before .before .before .before .before .before .before .before .before .before .before .acknowledge-answer .result) _ (acknowledgeAction w (a .generation) (a .sequence) (a .delivered) (pick (actionAt (a .generation) (a .sequence)) noAction (heldActions (a .places) (a .inflight .now)))) (sym (c .before .before .before .before .before .before .before .before .before .before .before .is-taken .ensures) ∙ c .before .before .before .before .before .before .before .before .before .before .if1 .taken) answer))
     ∙ whole (a .out .now) w call (omega arith) (omega arith)
 
 refused-requires : tie.Need-refused-requires
@@ -85,16 +85,18 @@ same-length-5 c = search needs
 
 returns-2 : tie.Need-returns-2
 unfolding step acknowledge acknowledgeTaken roomAnswer tablesShort actionAsked
-returns-2 c = λ l.
+returns-2 c = λ l₀.
     let s = c .before .before .before .before .before .before .before .before .before .before in
     let a = s .args in
-    let w = worldOf (a .runtime) (a .pending .now) (a .circuits .now) l (a .inflight .now) in
+    let l = heldLedger (a .places) l₀ in
+    let w = worldOf (a .runtime) (heldPending (a .places) (a .pending .now)) (heldCircuits (a .places) (a .circuits .now)) l (heldActions (a .places) (a .inflight .now)) in
     let call = callAcknowledge (a .generation) (a .sequence) (a .delivered) (length (a .out .now)) in
-    let ef = c .before .before .before .before .before .look-up-action .ensures ∙ ap (λ (q : Question). actionFound q (a .inflight .now)) (c .before .before .before .before .before .before .before .at .ensures) in
+    let ef = c .before .before .before .before .before .look-up-action .ensures ∙ ap (λ (q : Question). actionFound q (heldActions (a .places) (a .inflight .now))) (c .before .before .before .before .before .before .before .at .ensures) in
     let found = ap (λ (f : ActionFound). f .found) ef in
-    let answer = c .before .before .before .acknowledge-answer .ensures ∙ (λ x. check (ltb (length (a .out .now)) acknowledgeWords || c .before .before .before .before .too-few .ensures x) Short then generationAnswer (a .runtime .generation) (a .generation) then actionAnswer (found x)) in
+    let answer = c .before .before .before .acknowledge-answer .ensures ∙ (λ x. check (ltb (length (a .out .now)) acknowledgeWords || (c .before .before .before .before .too-few .ensures ∙ few-held (a .runtime .config) (a .places) (a .pending .now) (a .circuits .now) (a .inflight .now)) x) Short then generationAnswer (a .runtime .generation) (a .generation) then actionAnswer (found x)) in
     let small = bound s in
-    turned-away (a .runtime) (a .pending .now) (a .circuits .now) l (a .inflight .now) (a .out .now) (c .refused .result) (c .before .before .before .acknowledge-answer .result) _ (acknowledgeAction w (a .generation) (a .sequence) (a .delivered) (pick (actionAt (a .generation) (a .sequence)) noAction (a .inflight .now))) (c .refused .ensures) (sym (c .before .before .is-taken .ensures) ∙ c .before .if1 .left) answer
+    places-kept (c .refused .result) (a .pending .now) (a .circuits .now) l₀ (a .inflight .now) (a .out .now) (a .places) (c .refused .ensures .1)
+    ∙ turned-away (a .runtime) (heldPending (a .places) (a .pending .now)) (heldCircuits (a .places) (a .circuits .now)) l (heldActions (a .places) (a .inflight .now)) (a .out .now) (c .refused .result) (c .before .before .before .acknowledge-answer .result) _ (acknowledgeAction w (a .generation) (a .sequence) (a .delivered) (pick (actionAt (a .generation) (a .sequence)) noAction (heldActions (a .places) (a .inflight .now)))) (c .refused .ensures .0) (sym (c .before .before .is-taken .ensures) ∙ c .before .if1 .left) answer
     ∙ whole (a .out .now) w call (omega arith) (omega arith)
 
 pub acknowledge-spec : {M : Type 1} → statement M

@@ -1,18 +1,20 @@
 -- One store, at the place found; past the end, none.
 mod Tie
 use Prim.Native.Nat.{ℕ}
-use mathlib.Core.Path.{_≡_, refl, sym, ap, _∙_}
-use mathlib.Core.Bool.{Bool, cond, not, _&&_}
+use mathlib.Core.Path.{sym, ap, _∙_}
+use mathlib.Core.Bool.{cond}
 use mathlib.Core.List.{List}
-use lib.ListN.{length, set, getD}
+use lib.ListN.{set, getD}
 use Rattle.hnsr_circuit.specs.declared.records.Question.{Question}
 use Rattle.hnsr_circuit.specs.declared.records.RelayCircuit.{RelayCircuit}
 use Rattle.hnsr_circuit.specs.Table.{placeOf}
-use Rattle.hnsr_circuit.specs.Circuits.{noCircuit, circuitAt, lowered}
-use Rattle.hnsr_circuit.specs.Question.{circuitHas, circuitAsked}
+use Rattle.hnsr_circuit.specs.Circuits.{noCircuit, circuitAt, lowered, clearCircuit}
+use Rattle.hnsr_circuit.specs.Question.{circuitHas, circuitAsked, at}
 use Rattle.hnsr_circuit.specs.Laws.Edits.{edit-set}
 use borrow.Author.Needs.{needs}
-use native.Mathlib.Omega.{arith}
+use Rattle.hnsr_circuit.specs.Held.{heldCircuits}
+use Rattle.hnsr_circuit.specs.Laws.HeldTables.{circuit-unmarked}
+use Rattle.hnsr_circuit.specs.Laws.Held.{stored-held, place-below}
 use Rattle.hnsr_circuit.proofs.acknowledge.lower_circuit.Statement.{statement}
 use Rattle.hnsr_circuit.proofs.acknowledge.lower_circuit.Proof.Tie as tie
 
@@ -36,11 +38,16 @@ same-length c = search needs
 
 returns : tie.Need-returns
 unfolding circuitAsked
-returns c = let a = c .before .before .before .before .before .before .before .before .before .args in
-    let t = a .circuits .now in
-    let place = c .before .before .before .before .before .before .find-circuit .ensures ∙ ap (λ (q : Question). placeOf (circuitHas q) t) (c .before .before .before .before .before .before .before .before .at .ensures) in
-    let after = c .before .before .before .circuit-lowered .ensures ∙ ap (lowered (a .side) (a .n)) (c .before .before .before .before .circuit-at .ensures ∙ ap (λ (n : ℕ). getD t n noCircuit) place) in
-    c .before .set-circuit .ensures ∙ (λ x. cond (a .go) (set t (place x) (after x)) t)
+returns c =
+    let a = c .before .before .before .before .before .before .before .before .before .args in
+    let n = a .places .circuits in
+    let r = a .circuits .now in
+    let t = heldCircuits (a .places) r in
+    let q = at (a .id) 0 in
+    let place = c .before .before .before .before .before .before .find-circuit .ensures ∙ ap (λ (x : Question). placeOf (circuitHas x) t) (c .before .before .before .before .before .before .before .before .at .ensures) in
+    let after = c .before .before .before .circuit-lowered .ensures ∙ ap (lowered (a .side) (a .n)) (c .before .before .before .before .circuit-at .ensures ∙ ap (λ (m : ℕ). getD t m noCircuit) place) in
+    stored-held clearCircuit n r _ (a .go) (c .before .before .before .before .before .before .find-circuit .result) (c .before .before .before .circuit-lowered .result) (λ h. rw place (place-below clearCircuit (circuitHas q) (circuit-unmarked q) n r (rw place at h))) (c .before .set-circuit .ensures)
+    ∙ (λ x. cond (a .go) (set t (place x) (after x)) t)
     ∙ ap (λ (u : List RelayCircuit). cond (a .go) u t) (sym (edit-set (circuitAt (a .id)) (lowered (a .side) (a .n)) noCircuit t))
 
 pub lower-circuit-spec : {M : Type 1} → statement M

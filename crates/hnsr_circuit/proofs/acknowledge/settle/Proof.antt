@@ -1,8 +1,7 @@
 -- What is done is decided by the kind and by whether it was delivered.
 mod Tie
 use Prim.Native.Nat.{ℕ}
-use mathlib.Core.Path.{_≡_, refl, sym, ap, _∙_}
-use mathlib.Core.List.{List}
+use mathlib.Core.Path.{sym, ap, _∙_}
 use Rattle.hnsr_body.specs.declared.messages.Notice.the-variants.{OuterWriteFailed}
 use Rattle.hnsr_circuit.specs.World.{Outcome}
 use Rattle.hnsr_circuit.specs.Queue.{finished}
@@ -11,7 +10,8 @@ use Rattle.hnsr_circuit.specs.Revocation.{revokeCircuit}
 use Rattle.hnsr_circuit.specs.Acknowledge.{failIncoming}
 use Rattle.hnsr_circuit.specs.Laws.Acknowledging.{taken-is-done, settled-failed, settled-revoked, settled-done}
 use borrow.Author.Needs.{needs}
-use native.Mathlib.Omega.{arith}
+use Rattle.hnsr_circuit.specs.Held.{heldPending, heldCircuits, heldLedger, heldActions}
+use Rattle.hnsr_circuit.specs.Laws.HeldTables.{places-kept}
 use Rattle.hnsr_circuit.proofs.acknowledge.settle.Statement.{statement}
 use Rattle.hnsr_circuit.proofs.acknowledge.settle.Proof.Tie as tie
 
@@ -28,10 +28,11 @@ same-length-3 : tie.Need-same-length-3
 same-length-3 c = search needs
 
 returns : tie.Need-returns
-returns c = λ l x d s.
+returns c = λ l₀ x d s.
     let a = c .before .before .before .before .before .before .before .before .before .before .args in
-    let w = worldOf (a .runtime) (a .pending .now) (a .circuits .now) l (a .inflight .now) in
-    c .before .before .before .before .fail-incoming .ensures (a .circuits .now) l
+    let l = heldLedger (a .places) l₀ in
+    let w = worldOf (a .runtime) (heldPending (a .places) (a .pending .now)) (heldCircuits (a .places) (a .circuits .now)) l (heldActions (a .places) (a .inflight .now)) in
+    c .before .before .before .before .fail-incoming .ensures (a .circuits .now) l₀
     ∙ ap (λ (o : Outcome). ending (a .out .now) o) (ap (λ (n : ℕ). failIncoming w n) (s .id) ∙ settled-failed w x d (sym (s .fail) ∙ c .before .before .before .before .before .before .before .before .if1 .taken))
 
 revoke-one-requires : tie.Need-revoke-one-requires
@@ -47,20 +48,23 @@ same-length-6 : tie.Need-same-length-6
 same-length-6 c = search needs
 
 returns-2 : tie.Need-returns-2
-returns-2 c = λ l x d s.
+returns-2 c = λ l₀ x d s.
     let a = c .before .before .before .before .before .before .before .before .before .before .before .args in
-    let w = worldOf (a .runtime) (a .pending .now) (a .circuits .now) l (a .inflight .now) in
-    c .before .before .before .before .revoke-one .ensures (a .pending .now) l
+    let l = heldLedger (a .places) l₀ in
+    let w = worldOf (a .runtime) (heldPending (a .places) (a .pending .now)) (heldCircuits (a .places) (a .circuits .now)) l (heldActions (a .places) (a .inflight .now)) in
+    c .before .before .before .before .revoke-one .ensures (a .pending .now) l₀
     ∙ ap (λ (o : Outcome). ending (a .out .now) o) (ap (λ (n : ℕ). finished (revokeCircuit OuterWriteFailed w n)) (s .id) ∙ settled-revoked w x d (sym (s .revoke) ∙ c .before .before .before .before .before .before .before .before .if2 .taken))
 
 taken-with-requires : tie.Need-taken-with-requires
 taken-with-requires c = search needs
 
 returns-3 : tie.Need-returns-3
-returns-3 c = λ l x d s.
+returns-3 c = λ l₀ x d s.
     let a = c .before .before .before .before .args in
-    let w = worldOf (a .runtime) (a .pending .now) (a .circuits .now) l (a .inflight .now) in
-    taken-is-done (c .taken-with .result) (a .runtime) (a .pending .now) (a .circuits .now) l (a .inflight .now) (a .out .now) (c .taken-with .ensures)
+    let l = heldLedger (a .places) l₀ in
+    let w = worldOf (a .runtime) (heldPending (a .places) (a .pending .now)) (heldCircuits (a .places) (a .circuits .now)) l (heldActions (a .places) (a .inflight .now)) in
+    places-kept (c .taken-with .result) (a .pending .now) (a .circuits .now) l₀ (a .inflight .now) (a .out .now) (a .places) (c .taken-with .ensures .1)
+    ∙ taken-is-done (c .taken-with .result) (a .runtime) (heldPending (a .places) (a .pending .now)) (heldCircuits (a .places) (a .circuits .now)) l (heldActions (a .places) (a .inflight .now)) (a .out .now) (c .taken-with .ensures .0)
     ∙ ap (λ (o : Outcome). ending (a .out .now) o) (settled-done w x d (sym (s .fail) ∙ c .before .before .if1 .left) (sym (s .revoke) ∙ c .before .if2 .left))
 
 pub settle-spec : {M : Type 1} → statement M

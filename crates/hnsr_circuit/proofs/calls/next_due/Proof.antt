@@ -1,25 +1,19 @@
 -- The earliest of both tables, and a table that is too short tells nothing.
 mod Tie
-use Prim.Native.Nat.{ℕ}
-use mathlib.Core.Path.{_≡_, refl, sym, ap, _∙_}
-use mathlib.Core.Bool.{Bool, cond, _||_}
-use mathlib.Core.List.{List}
-use lib.Dec.{eqb}
-use lib.ListN.{length}
-use Rattle.hns_encoding.specs.Sums.{count}
-use Rattle.hnsr_circuit.specs.declared.records.Question.{Question}
+use mathlib.Core.Path.{ap, _∙_}
+use mathlib.Core.Bool.{cond}
 use Rattle.hnsr_circuit.specs.declared.answer.HnsrRuntimeError.the-variants.{Short}
-use Rattle.hnsr_circuit.specs.Answers.{check, _then_}
+use Rattle.hnsr_circuit.specs.Answers.{check}
 use Rattle.hnsr_circuit.specs.Entry.{tablesAnswer, tablesShort}
 use Rattle.hnsr_circuit.specs.Progress.{worldOf}
 use Rattle.hnsr_circuit.specs.declared.records.NextDue.{NextDue}
 use Rattle.hnsr_circuit.specs.declared.records.NextDue.the-variants.{Never}
-use Rattle.hnsr_circuit.specs.declared.runtime.DueTold.{DueTold}
 use Rattle.hnsr_circuit.specs.NextDue.{circuitDue, dueOf, nextDue}
 use Rattle.hnsr_circuit.specs.Call.{step}
 use Rattle.hnsr_circuit.specs.Laws.QuietCalls.{tells-due}
 use borrow.Author.Needs.{needs}
-use native.Mathlib.Omega.{arith}
+use Rattle.hnsr_circuit.specs.Held.{heldPending, heldCircuits, heldLedger, heldActions}
+use Rattle.hnsr_circuit.specs.Laws.HeldTables.{few-held}
 use Rattle.hnsr_circuit.proofs.calls.next_due.Statement.{statement}
 use Rattle.hnsr_circuit.proofs.calls.next_due.Proof.Tie as tie
 
@@ -37,11 +31,12 @@ due-told-requires c = search needs
 
 returns : tie.Need-returns
 unfolding step nextDue tablesAnswer tablesShort dueOf
-returns c = λ l.
+returns c = λ l₀.
     let a = c .before .before .before .before .before .args in
-    let w = worldOf (a .runtime) (a .pending .now) (a .circuits .now) l (a .inflight .now) in
-    let few = c .before .too-few .ensures in
-    let all = c .before .before .circuit-due .ensures ∙ ap (λ (d : NextDue). circuitDue (a .circuits .now) d) (c .before .before .before .pending-due .ensures) in
+    let l = heldLedger (a .places) l₀ in
+    let w = worldOf (a .runtime) (heldPending (a .places) (a .pending .now)) (heldCircuits (a .places) (a .circuits .now)) l (heldActions (a .places) (a .inflight .now)) in
+    let few = c .before .too-few .ensures ∙ few-held (a .runtime .config) (a .places) (a .pending .now) (a .circuits .now) (a .inflight .now) in
+    let all = c .before .before .circuit-due .ensures ∙ ap (λ (d : NextDue). circuitDue (heldCircuits (a .places) (a .circuits .now)) d) (c .before .before .before .pending-due .ensures) in
     let e = c .due-told .ensures in
     (λ x. record { answer = e .0 x; due = e .1 x })
     ∙ (λ x. record { answer = check (few x) Short; due = cond (few x) Never (all x) })

@@ -1,5 +1,7 @@
 -- The clock moves where the row passes.
 use mathlib.Core.Path.{_≡_, refl, sym, ap, _∙_}
+use Rattle.hnsr_circuit.specs.Held.{heldPending, heldCircuits, heldLedger, heldActions}
+use Rattle.hnsr_circuit.specs.Laws.HeldTables.{places-kept}
 use Rattle.hnsr_circuit.specs.New.{observeTime}
 use Rattle.hnsr_circuit.specs.Call.{step}
 use Rattle.hnsr_circuit.specs.Entry.{clockAnswer}
@@ -33,7 +35,8 @@ returns c = λ p cs l i out.
     let a = c .before .before .before .before .before .args in
     let e = c .taken-with .ensures in
     let t = sym (c .before .before .is-taken .ensures) ∙ c .before .if1 .taken in
-    observed p cs l i out (a .runtime) (a .time) (c .taken-with .result) (c .before .before .before .before .clock-answer .result) (clockAnswer (a .runtime .«trusted_time_high_water») (a .time)) t (c .before .before .before .before .clock-answer .ensures) (e .0 ∙ c .before .before .before .with-clock .ensures, e .1 ∙ sym (taken-is (c .before .before .before .before .clock-answer .result) t), e .2)
+    places-kept (c .taken-with .result) p cs l i out (a .places) (e .1)
+    ∙ observed (heldPending (a .places) p) (heldCircuits (a .places) cs) (heldLedger (a .places) l) (heldActions (a .places) i) out (a .runtime) (a .time) (c .taken-with .result) (c .before .before .before .before .clock-answer .result) (clockAnswer (a .runtime .«trusted_time_high_water») (a .time)) t (c .before .before .before .before .clock-answer .ensures) (e .0 .0 ∙ c .before .before .before .with-clock .ensures, e .0 .1 ∙ sym (taken-is (c .before .before .before .before .clock-answer .result) t), e .0 .2)
 
 refused-requires : tie.Need-refused-requires
 refused-requires c κs = search needs
@@ -42,7 +45,8 @@ returns-2 : tie.Need-returns-2
 unfolding step observeTime
 returns-2 c = λ p cs l i out.
     let a = c .before .before .before .before .before .args in
-    unobserved p cs l i out (a .runtime) (a .time) (c .refused .result) (c .before .before .before .before .clock-answer .result) (clockAnswer (a .runtime .«trusted_time_high_water») (a .time)) (sym (c .before .before .is-taken .ensures) ∙ c .before .if1 .left) (c .before .before .before .before .clock-answer .ensures) (c .refused .ensures)
+    places-kept (c .refused .result) p cs l i out (a .places) (c .refused .ensures .1)
+    ∙ unobserved (heldPending (a .places) p) (heldCircuits (a .places) cs) (heldLedger (a .places) l) (heldActions (a .places) i) out (a .runtime) (a .time) (c .refused .result) (c .before .before .before .before .clock-answer .result) (clockAnswer (a .runtime .«trusted_time_high_water») (a .time)) (sym (c .before .before .is-taken .ensures) ∙ c .before .if1 .left) (c .before .before .before .before .clock-answer .ensures) (c .refused .ensures .0)
 
 pub observe-time-spec : {M : Type 1} → statement M
 observe-time-spec =

@@ -8,6 +8,8 @@ use Rattle.hnsr_circuit.specs.Handle.{handlingOf, dispatch}
 use Rattle.hnsr_circuit.specs.Progress.{worldOf, packetOf, ending}
 use Rattle.hnsr_circuit.specs.Laws.HandleCall.{closes, at-nineteen, other-below, other-above, other-incoming, other-opened, left-alone}
 use borrow.Author.Needs.{needs}
+use Rattle.hnsr_circuit.specs.Held.{heldPending, heldCircuits, heldLedger, heldActions}
+use Rattle.hnsr_circuit.specs.Laws.HeldTables.{places-kept}
 use Rattle.hnsr_circuit.proofs.handle.dispatch.Statement.{statement}
 use Rattle.hnsr_circuit.proofs.handle.dispatch.Proof.Tie as tie
 
@@ -47,7 +49,7 @@ same-length-5 c = search needs
 returns : tie.Need-returns
 unfolding handlingOf dispatch
 returns c = let a = c .before .before .before .before .before .before .before .before .before .before .before .before .before .before .before .before .before .before .args in
-    let w = worldOf (a .relay) (a .pending .now) (a .circuits .now) (a .ledger .now) (a .inflight .now) in
+    let w = worldOf (a .relay) (heldPending (a .places) (a .pending .now)) (heldCircuits (a .places) (a .circuits .now)) (heldLedger (a .places) (a .ledger .now)) (heldActions (a .places) (a .inflight .now)) in
     let q = packetOf (a .packet) (a .peer .now) (a .body .now) (a .endpoint .now) (a .random .now) in
     c .before .before .before .before .before .before .handle-open .ensures ∙ ap (λ (n : ℕ). ending (a .out .now) (dispatch (handlingOf n) w q)) (sym (c .before .before .before .before .before .before .before .before .before .before .before .before .match .keys1))
 
@@ -66,7 +68,7 @@ same-length-9 c = search needs
 returns-2 : tie.Need-returns-2
 unfolding handlingOf dispatch
 returns-2 c = let a = c .before .before .before .before .before .before .before .before .before .before .before .before .before .before .before .before .args in
-    let w = worldOf (a .relay) (a .pending .now) (a .circuits .now) (a .ledger .now) (a .inflight .now) in
+    let w = worldOf (a .relay) (heldPending (a .places) (a .pending .now)) (heldCircuits (a .places) (a .circuits .now)) (heldLedger (a .places) (a .ledger .now)) (heldActions (a .places) (a .inflight .now)) in
     let q = packetOf (a .packet) (a .peer .now) (a .body .now) (a .endpoint .now) (a .random .now) in
     c .before .before .before .before .before .handle-accept .ensures (a .ledger .now) (a .endpoint .now) (a .random .now) ∙ ap (λ (n : ℕ). ending (a .out .now) (dispatch (handlingOf n) w q)) (sym (c .before .before .before .before .before .before .before .before .before .before .match .keys2))
 
@@ -85,7 +87,7 @@ same-length-13 c = search needs
 returns-3 : tie.Need-returns-3
 unfolding handlingOf dispatch
 returns-3 c = let a = c .before .before .before .before .before .before .before .before .before .before .before .before .before .before .before .before .args in
-    let w = worldOf (a .relay) (a .pending .now) (a .circuits .now) (a .ledger .now) (a .inflight .now) in
+    let w = worldOf (a .relay) (heldPending (a .places) (a .pending .now)) (heldCircuits (a .places) (a .circuits .now)) (heldLedger (a .places) (a .ledger .now)) (heldActions (a .places) (a .inflight .now)) in
     let q = packetOf (a .packet) (a .peer .now) (a .body .now) (a .endpoint .now) (a .random .now) in
     c .before .before .before .before .before .handle-data .ensures (a .pending .now) (a .endpoint .now) (a .random .now) ∙ ap (λ (n : ℕ). ending (a .out .now) (dispatch (handlingOf n) w q)) (sym (c .before .before .before .before .before .before .before .before .before .before .match .keys3))
 
@@ -101,7 +103,7 @@ same-length-16 c = search needs
 returns-4 : tie.Need-returns-4
 unfolding handlingOf dispatch
 returns-4 c = let a = c .before .before .before .before .before .before .before .before .before .before .before .before .before .before .args in
-    let w = worldOf (a .relay) (a .pending .now) (a .circuits .now) (a .ledger .now) (a .inflight .now) in
+    let w = worldOf (a .relay) (heldPending (a .places) (a .pending .now)) (heldCircuits (a .places) (a .circuits .now)) (heldLedger (a .places) (a .ledger .now)) (heldActions (a .places) (a .inflight .now)) in
     let q = packetOf (a .packet) (a .peer .now) (a .body .now) (a .endpoint .now) (a .random .now) in
     c .before .before .before .before .handle-window .ensures (a .pending .now) (a .ledger .now) (a .endpoint .now) (a .random .now) ∙ ap (λ (n : ℕ). ending (a .out .now) (dispatch (handlingOf n) w q)) (sym (c .before .before .before .before .before .before .before .before .match .keys4))
 
@@ -119,7 +121,7 @@ same-length-20 c = search needs
 
 returns-5 : tie.Need-returns-5
 returns-5 c = let a = c .before .before .before .before .before .before .before .before .before .before .before .before .before .before .before .before .before .before .args in
-    let w = worldOf (a .relay) (a .pending .now) (a .circuits .now) (a .ledger .now) (a .inflight .now) in
+    let w = worldOf (a .relay) (heldPending (a .places) (a .pending .now)) (heldCircuits (a .places) (a .circuits .now)) (heldLedger (a .places) (a .ledger .now)) (heldActions (a .places) (a .inflight .now)) in
     let q = packetOf (a .packet) (a .peer .now) (a .body .now) (a .endpoint .now) (a .random .now) in
     let rest = c .before .before .before .before .before .before .before .before .before .before .before .before .match .rest in
     let low = c .before .before .before .before .before .before .before .before .before .before .before .if1 .left in
@@ -131,7 +133,8 @@ returns-6 : tie.Need-returns-6
 returns-6 c = let a = c .before .before .before .before .before .before .before .args in
     let n = a .packet .opcode in
     let q = packetOf (a .packet) (a .peer .now) (a .body .now) (a .endpoint .now) (a .random .now) in
-    left-alone (a .relay) (a .pending .now) (a .circuits .now) (a .ledger .now) (a .inflight .now) (c .unexpected .result) n q (a .out .now) (c .unexpected .ensures)
+    places-kept (c .unexpected .result) (a .pending .now) (a .circuits .now) (a .ledger .now) (a .inflight .now) (a .out .now) (a .places) (c .unexpected .ensures .1)
+    ∙ left-alone (a .relay) (heldPending (a .places) (a .pending .now)) (heldCircuits (a .places) (a .circuits .now)) (heldLedger (a .places) (a .ledger .now)) (heldActions (a .places) (a .inflight .now)) (c .unexpected .result) n q (a .out .now) (c .unexpected .ensures .0)
     (⊎-elim (λ k. ⊎-elim (other-incoming n) (other-opened n) (k .keys5)) (⊎-elim (λ k. other-below n (k .1 .taken)) (λ k. other-above n (k .2 .left))) (c .before .match .came))
 
 pub dispatch-spec : {M : Type 1} → statement M

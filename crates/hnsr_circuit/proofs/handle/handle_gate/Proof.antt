@@ -6,6 +6,8 @@ use Rattle.hnsr_circuit.specs.Handle.{handlingOf, dispatch, gateAnswer, 
 use Rattle.hnsr_circuit.specs.Progress.{worldOf, packetOf, ending}
 use Rattle.hnsr_circuit.specs.Laws.Calls.{turned-away, gone-on}
 use borrow.Author.Needs.{needs}
+use Rattle.hnsr_circuit.specs.Held.{heldPending, heldCircuits, heldLedger, heldActions}
+use Rattle.hnsr_circuit.specs.Laws.HeldTables.{places-kept}
 use Rattle.hnsr_circuit.proofs.handle.handle_gate.Statement.{statement}
 use Rattle.hnsr_circuit.proofs.handle.handle_gate.Proof.Tie as tie
 
@@ -36,7 +38,7 @@ same-length-5 c = search needs
 returns : tie.Need-returns
 unfolding handleGate
 returns c = let a = c .before .before .before .before .before .before .before .before .before .before .before .before .before .before .before .before .before .before .before .before .args in
-    let w = worldOf (a .runtime) (a .pending .now) (a .circuits .now) (a .ledger .now) (a .inflight .now) in
+    let w = worldOf (a .runtime) (heldPending (a .places) (a .pending .now)) (heldCircuits (a .places) (a .circuits .now)) (heldLedger (a .places) (a .ledger .now)) (heldActions (a .places) (a .inflight .now)) in
     let q = packetOf (a .packet) (a .source .now) (a .body .now) (a .endpoint .now) (a .random .now) in
     let answer = c .before .before .before .before .before .before .before .before .before .before .before .before .before .before .gate-answer in
     c .before .before .before .before .before .before .dispatch .ensures
@@ -48,10 +50,11 @@ refused-requires c = search needs
 returns-2 : tie.Need-returns-2
 unfolding handleGate
 returns-2 c = let a = c .before .before .before .before .before .before .before .before .before .args in
-    let w = worldOf (a .runtime) (a .pending .now) (a .circuits .now) (a .ledger .now) (a .inflight .now) in
+    let w = worldOf (a .runtime) (heldPending (a .places) (a .pending .now)) (heldCircuits (a .places) (a .circuits .now)) (heldLedger (a .places) (a .ledger .now)) (heldActions (a .places) (a .inflight .now)) in
     let q = packetOf (a .packet) (a .source .now) (a .body .now) (a .endpoint .now) (a .random .now) in
     let answer = c .before .before .before .gate-answer in
-    turned-away (a .runtime) (a .pending .now) (a .circuits .now) (a .ledger .now) (a .inflight .now) (a .out .now) (c .refused .result) (answer .result) (gateAnswer (a .runtime .enabled)) (dispatch (handlingOf (q .opcode)) w q) (c .refused .ensures) (sym (c .before .before .is-taken .ensures) ∙ c .before .if1 .left) (answer .ensures)
+    places-kept (c .refused .result) (a .pending .now) (a .circuits .now) (a .ledger .now) (a .inflight .now) (a .out .now) (a .places) (c .refused .ensures .1)
+    ∙ turned-away (a .runtime) (heldPending (a .places) (a .pending .now)) (heldCircuits (a .places) (a .circuits .now)) (heldLedger (a .places) (a .ledger .now)) (heldActions (a .places) (a .inflight .now)) (a .out .now) (c .refused .result) (answer .result) (gateAnswer (a .runtime .enabled)) (dispatch (handlingOf (q .opcode)) w q) (c .refused .ensures .0) (sym (c .before .before .is-taken .ensures) ∙ c .before .if1 .left) (answer .ensures)
 
 pub handle-gate-spec : {M : Type 1} → statement M
 handle-gate-spec = tie.close (tie.spec gate-answer-requires is-taken-requires dispatch-requires same-length same-length-2 same-length-3 same-length-4 same-length-5 returns refused-requires returns-2)

@@ -7,7 +7,7 @@ use Rattle.hnsr_circuit.specs.Question.{pendingWork, circuitWork}
 use Rattle.hnsr_circuit.specs.Queue.{actionsScanned}
 use Rattle.hnsr_circuit.specs.Laws.Opening.{acceptRows}
 use borrow.Author.Needs.{needs}
-use native.Mathlib.Omega.{arith}
+use Rattle.hnsr_circuit.specs.Held.{heldPending, heldCircuits, heldActions}
 use Rattle.hnsr_circuit.proofs.handle_accept.accept_answered.Statement.{statement}
 use Rattle.hnsr_circuit.proofs.handle_accept.accept_answered.Proof.Tie as tie
 
@@ -36,9 +36,9 @@ returns : tie.Need-returns
 unfolding actionsScanned
 returns c = let a = c .before .before .before .before .before .before .before .before .before .args in
     let question = c .before .before .before .before .before .before .accept-work .ensures in
-    let waiting = c .before .before .before .before .before .pending-work .ensures ∙ ap (λ (q : WorkQuestion). pendingWork q (a .pending .now)) question in
-    let running = c .before .before .before .before .circuit-work .ensures ∙ ap (λ (q : WorkQuestion). circuitWork q (a .circuits .now)) question in
-    let scan = c .before .before .scan-actions .ensures ∙ ap (λ (q : ActionQuestion). actionsScanned q (a .inflight .now)) (c .before .before .before .replacing .ensures) in
+    let waiting = c .before .before .before .before .before .pending-work .ensures ∙ ap (λ (q : WorkQuestion). pendingWork q (heldPending (a .places) (a .pending .now))) question in
+    let running = c .before .before .before .before .circuit-work .ensures ∙ ap (λ (q : WorkQuestion). circuitWork q (heldCircuits (a .places) (a .circuits .now))) question in
+    let scan = c .before .before .scan-actions .ensures ∙ ap (λ (q : ActionQuestion). actionsScanned q (heldActions (a .places) (a .inflight .now))) (c .before .before .before .replacing .ensures) in
     let peer = c .before .before .before .before .before .before .before .peer-of .ensures in
     c .accept-rows .ensures ∙ (λ x. acceptRows (a .config) (a .found) (peer x) (a .packet .now) (a .read) (waiting x) (running x) (scan x .tally))
 

@@ -1,7 +1,8 @@
 -- One store or drop for each table.
 mod Tie
 use borrow.Author.Needs.{needs}
-use native.Mathlib.Omega.{arith}
+use Rattle.hnsr_circuit.specs.Pending.{clearPending}
+use Rattle.hnsr_circuit.specs.Laws.Held.{stored-seen}
 use Rattle.hnsr_circuit.proofs.handle_accept.accept_written.Statement.{statement}
 use Rattle.hnsr_circuit.proofs.handle_accept.accept_written.Proof.Tie as tie
 
@@ -24,7 +25,10 @@ same-length-3 : tie.Need-same-length-3
 same-length-3 c = search needs
 
 returns : tie.Need-returns
-returns c = (c .before .before .before .before .before .before .before .set-pending .ensures, c .before .before .before .before .put-circuit .ensures, c .before .drop-actions .ensures)
+returns c =
+    let s = c .before .before .before .before .before .before .before .before .before in
+    let a = s .args in
+    (stored-seen clearPending (a .places .pending) (a .pending .now) _ (a .plan .go) (a .plan .place) (a .unmarked) (λ h. s .pre) (c .before .before .before .before .before .before .before .set-pending .ensures), c .before .before .before .before .put-circuit .ensures, c .before .drop-actions .ensures)
 
 pub accept-written-spec : {M : Type 1} → statement M
 accept-written-spec = tie.close (tie.spec set-pending-requires put-circuit-requires drop-actions-requires same-length same-length-2 same-length-3 returns)

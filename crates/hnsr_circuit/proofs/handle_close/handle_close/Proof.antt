@@ -1,14 +1,11 @@
 -- The plan decides; what is ended, dropped and sent by it is what the definition leaves.
 mod Tie
 use mathlib.Core.Path.{ap, _∙_}
-use mathlib.Core.List.{List}
-use lib.ListN.{length, getD}
-use Rattle.hnsr_circuit.specs.declared.records.RelayPending.{RelayPending}
 use Rattle.hnsr_circuit.specs.declared.records.ActionQuestion.{ActionQuestion}
-use Rattle.hnsr_circuit.specs.Pending.{noPending, clearPending}
 use Rattle.hnsr_circuit.specs.Queue.{actionsScanned}
-use Rattle.hnsr_circuit.specs.Laws.Handlers.{length-stored, close-handled}
+use Rattle.hnsr_circuit.specs.Laws.Handlers.{close-handled}
 use borrow.Author.Needs.{needs}
+use Rattle.hnsr_circuit.specs.Held.{heldPending, heldCircuits, heldLedger, heldActions}
 use Rattle.hnsr_circuit.proofs.handle_close.handle_close.Statement.{statement}
 use Rattle.hnsr_circuit.proofs.handle_close.handle_close.Proof.Tie as tie
 
@@ -31,12 +28,10 @@ scan-actions-requires : tie.Need-scan-actions-requires
 scan-actions-requires c = search needs
 
 send-requires : tie.Need-send-requires
-send-requires c κs = (c .before .before .scan-actions .ensures ∙ ap (λ (q : ActionQuestion). actionsScanned q (c .before .before .before .before .before .before .drop-actions .last .0)) (c .before .before .before .before .asking .ensures), c .before .before .before .before .before .before .before .before .before .before .before .before .before .before .before .before .before .before .before .before .before .before .pre)
+send-requires c κs = (c .before .before .scan-actions .ensures ∙ ap (λ (q : ActionQuestion). actionsScanned q (heldActions (c .before .before .before .before .before .before .before .before .before .before .before .before .before .before .before .before .before .before .before .before .before .before .args .places) (c .before .before .before .before .before .before .drop-actions .last .0))) (c .before .before .before .before .asking .ensures), c .before .before .before .before .before .before .before .before .before .before .before .before .before .before .before .before .before .before .before .before .before .before .pre)
 
 same-length : tie.Need-same-length
-same-length c = let t = c .before .before .before .before .before .before .before .before .before .before .before .before .before .before .before .before .before .before .before .before .before .before .before .before .before .before .args .pending .now in
-    let plan = c .before .before .before .before .before .before .before .before .before .before .before .before .before .before .before .before .before .before .before .before .plan-close .result in
-    ap (λ (x : List RelayPending). length x) (c .before .before .before .before .before .before .before .before .before .before .before .before .before .before .before .before .unmark-pending .ensures) ∙ length-stored (plan .«ends_pending») t (plan .«pending_place») (clearPending (getD t (plan .«pending_place») noPending))
+same-length c = c .before .before .before .before .before .before .before .before .before .before .before .before .before .before .before .before .unmark-pending .kept .0
 
 same-length-2 : tie.Need-same-length-2
 same-length-2 c = search needs
@@ -48,10 +43,11 @@ same-length-4 : tie.Need-same-length-4
 same-length-4 c = search needs
 
 returns : tie.Need-returns
-returns c = λ l e rs.
+returns c = λ l₀ e rs.
     let a = c .before .before .before .before .before .before .before .before .before .before .before .before .before .before .before .before .before .before .before .before .before .before .before .before .before .before .args in
+    let l = heldLedger (a .places) l₀ in
     let plan = c .before .before .before .before .before .before .before .before .before .before .before .before .before .before .before .before .before .before .before .before .plan-close in
-    close-handled (a .runtime) (a .pending .now) (a .circuits .now) (a .inflight .now) (a .packet) (a .source .now) (a .body .now) (plan .result) (plan .ensures) (a .out .now) l e rs (c .before .before .before .send .result) _ _ _ _ _ (c .before .before .before .before .before .before .before .before .before .before .before .before .before .before .before .before .unmark-pending .ensures) (c .before .before .before .before .before .before .before .before .before .before .before .before .before .unmark-circuit .ensures) (c .before .before .before .before .before .before .before .before .before .before .drop-actions .ensures) (c .before .before .before .send .ensures _ _ l)
+    close-handled (a .runtime) (heldPending (a .places) (a .pending .now)) (heldCircuits (a .places) (a .circuits .now)) (heldActions (a .places) (a .inflight .now)) (a .packet) (a .source .now) (a .body .now) (plan .result) (plan .ensures) (a .out .now) l e rs _ _ _ _ (c .before .before .before .before .before .before .before .before .before .before .before .before .before .before .before .before .unmark-pending .ensures) (c .before .before .before .before .before .before .before .before .before .before .before .before .before .unmark-circuit .ensures) (c .before .before .before .before .before .before .before .before .before .before .drop-actions .ensures) (c .before .before .before .send .ensures (c .before .before .before .before .before .before .before .before .before .before .before .before .before .before .before .before .unmark-pending .last .0) (c .before .before .before .before .before .before .before .before .before .before .before .before .before .unmark-circuit .last .0) l₀)
 
 pub handle-close-spec : {M : Type 1} → statement M
 handle-close-spec = tie.close (tie.spec plan-close-requires unmark-pending-requires unmark-circuit-requires drop-actions-requires asking-requires scan-actions-requires send-requires same-length same-length-2 same-length-3 same-length-4 returns)

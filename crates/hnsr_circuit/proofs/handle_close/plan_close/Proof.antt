@@ -8,6 +8,7 @@ use Rattle.hnsr_circuit.specs.Question.{named, pendingHas}
 use Rattle.hnsr_circuit.specs.Lookup.{pendingFound, circuitFound}
 use Rattle.hnsr_circuit.specs.Plans.{closePlan}
 use borrow.Author.Needs.{needs}
+use Rattle.hnsr_circuit.specs.Held.{heldPending, heldCircuits, asksUnused}
 use Rattle.hnsr_circuit.proofs.handle_close.plan_close.Statement.{statement}
 use Rattle.hnsr_circuit.proofs.handle_close.plan_close.Proof.Tie as tie
 
@@ -21,7 +22,7 @@ named-requires : tie.Need-named-requires
 named-requires c = search needs
 
 count-pending-requires : tie.Need-count-pending-requires
-count-pending-requires c = search needs
+count-pending-requires c κs = ap (λ (q : Question). asksUnused (q .ask)) (c .named .ensures)
 
 look-up-pending-requires : tie.Need-look-up-pending-requires
 look-up-pending-requires c = search needs
@@ -40,9 +41,9 @@ returns c = let a = c .before .before .before .before .before .before .before .b
     let peer = c .before .before .before .before .before .before .before .peer-of .ensures in
     let read = c .before .before .before .before .before .before .decode .ensures in
     let naming = c .before .before .before .before .before .named .ensures ∙ ap (λ (x : HnsrPeerId). named x (a .packet .«context_id»)) peer in
-    let matches = c .before .before .before .before .count-pending .ensures ∙ ap (λ (q : Question). count (pendingHas q) (a .pending .now)) naming in
-    let waiting = c .before .before .before .look-up-pending .ensures ∙ ap (λ (q : Question). pendingFound q (a .pending .now)) naming in
-    let circuit = c .before .look-up-circuit .ensures ∙ ap (λ (q : Question). circuitFound q (a .circuits .now)) (c .before .before .at .ensures) in
+    let matches = c .before .before .before .before .count-pending .ensures ∙ ap (λ (q : Question). count (pendingHas q) (heldPending (a .places) (a .pending .now))) naming in
+    let waiting = c .before .before .before .look-up-pending .ensures ∙ ap (λ (q : Question). pendingFound q (heldPending (a .places) (a .pending .now))) naming in
+    let circuit = c .before .look-up-circuit .ensures ∙ ap (λ (q : Question). circuitFound q (heldCircuits (a .places) (a .circuits .now))) (c .before .before .at .ensures) in
     c .close-plan .ensures ∙ (λ x. closePlan (a .runtime) (a .packet) (read x) (matches x) (waiting x) (circuit x) (peer x))
 
 pub plan-close-spec : {M : Type 1} → statement M

@@ -12,6 +12,7 @@ use Rattle.hnsr_circuit.specs.Progress.{asking}
 use Rattle.hnsr_circuit.specs.Message.{dataOn}
 use Rattle.hnsr_circuit.specs.Plans.{dataPlan}
 use borrow.Author.Needs.{needs}
+use Rattle.hnsr_circuit.specs.Held.{heldCircuits, heldLedger, heldActions}
 use Rattle.hnsr_circuit.proofs.handle_data.plan_data.Statement.{statement}
 use Rattle.hnsr_circuit.proofs.handle_data.plan_data.Proof.Tie as tie
 
@@ -48,13 +49,13 @@ data-plan-requires c = search needs
 returns : tie.Need-returns
 returns c = let a = c .before .before .before .before .before .before .before .before .before .before .before .args in
     let peer = c .before .before .before .before .before .before .before .before .before .peer-of .ensures in
-    let named = c .before .before .before .before .before .before .before .look-up-circuit .ensures ∙ ap (λ (q : Question). circuitFound q (a .circuits .now)) (c .before .before .before .before .before .before .before .before .at .ensures) in
+    let named = c .before .before .before .before .before .before .before .look-up-circuit .ensures ∙ ap (λ (q : Question). circuitFound q (heldCircuits (a .places) (a .circuits .now))) (c .before .before .before .before .before .before .before .before .at .ensures) in
     let message = c .before .before .before .before .before .before .data-on .ensures ∙ (λ x. dataOn (a .packet) (named x .circuit) (peer x) (a .n)) in
     let asked = c .before .before .before .before .before .asking .ensures ∙ ap (λ (m : Outgoing). asking (a .runtime) m) message in
-    let scan = c .before .before .before .before .scan-actions .ensures ∙ ap (λ (q : ActionQuestion). actionsScanned q (a .inflight .now)) asked in
+    let scan = c .before .before .before .before .scan-actions .ensures ∙ ap (λ (q : ActionQuestion). actionsScanned q (heldActions (a .places) (a .inflight .now))) asked in
     let reservation = c .before .before .before .reservation-of .ensures ∙ ap (λ (f : CircuitFound). f .circuit .«reservation_id») named in
     let under = c .before .before .at-reservation .ensures ∙ ap atReservation reservation in
-    let booked = c .before .look-up-usage .ensures ∙ ap (λ (q : Question). usageFound q (a .ledger .now)) under in
+    let booked = c .before .look-up-usage .ensures ∙ ap (λ (q : Question). usageFound q (heldLedger (a .places) (a .ledger .now))) under in
     c .data-plan .ensures ∙ (λ x. dataPlan (a .runtime) (named x) (booked x) (scan x) (peer x) (message x) (a .n))
 
 pub plan-data-spec : {M : Type 1} → statement M

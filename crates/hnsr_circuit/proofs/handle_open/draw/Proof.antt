@@ -8,14 +8,15 @@ use Rattle.hnsr_circuit.specs.Draw.{undrawn, draws, drawAll}
 use Rattle.hnsr_circuit.specs.Laws.Opening.{isTaken, DrawSmall, draw-start, draw-on, draw-next, draw-stop, draw-over}
 use borrow.Author.Needs.{needs}
 use native.Mathlib.Omega.{arith}
+use Rattle.hnsr_circuit.specs.Held.{heldPending, heldCircuits}
 use Rattle.hnsr_circuit.proofs.handle_open.draw.Statement.{statement}
 use Rattle.hnsr_circuit.proofs.handle_open.draw.Proof.Tie as tie
 
 abbrev Inv-loop : tie.InvT-loop
-Inv-loop pending circuits random drawing₀ place₀ drawing place = (place ≤ length random) × DrawSmall drawing × (drawAll (isTaken pending circuits) drawing (draws (drop place random)) ≡ drawAll (isTaken pending circuits) undrawn (draws random))
+Inv-loop pending circuits places random drawing₀ place₀ drawing place = (place ≤ length random) × DrawSmall drawing × (drawAll (isTaken (heldPending places pending) (heldCircuits places circuits)) drawing (draws (drop place random)) ≡ drawAll (isTaken (heldPending places pending) (heldCircuits places circuits)) undrawn (draws random))
 
 abbrev μ-loop : tie.MeasureT-loop
-μ-loop pending circuits random drawing₀ place₀ drawing place = length random - place
+μ-loop pending circuits places random drawing₀ place₀ drawing place = length random - place
 
 undrawn-requires : tie.Need-undrawn-requires Inv-loop μ-loop
 undrawn-requires c = search needs
@@ -23,7 +24,7 @@ undrawn-requires c = search needs
 loop-holds : tie.Need-loop-holds Inv-loop μ-loop
 loop-holds c = let a = c .before .before .args in
     let e = c .undrawn .ensures in
-    (search needs, draw-start (c .undrawn .result) e, ap (λ (s : Drawing). drawAll (isTaken (a .pending .now) (a .circuits .now)) s (draws (a .random .now))) e)
+    (search needs, draw-start (c .undrawn .result) e, ap (λ (s : Drawing). drawAll (isTaken (heldPending (a .places) (a .pending .now)) (heldCircuits (a .places) (a .circuits .now))) s (draws (a .random .now))) e)
 
 sub-loop : tie.Need-sub-loop Inv-loop μ-loop
 sub-loop c = search needs
@@ -31,7 +32,7 @@ sub-loop c = search needs
 returns : tie.Need-returns Inv-loop μ-loop
 returns c = let l = c .before .before .loop in
     let a = c .before .before .before .before .before .args in
-    draw-stop (isTaken (a .pending .now) (a .circuits .now)) (a .random .now) (l .place) (l .drawing) _ (l .inv .2) (c .if1 .taken)
+    draw-stop (isTaken (heldPending (a .places) (a .pending .now)) (heldCircuits (a .places) (a .circuits .now))) (a .random .now) (l .place) (l .drawing) _ (l .inv .2) (c .if1 .taken)
 
 draw-at-requires : tie.Need-draw-at-requires Inv-loop μ-loop
 draw-at-requires c = search needs
@@ -54,13 +55,13 @@ loop-again c = let l = c .before .before .before .before .before .loop in
     let e = c .draw-turn .ensures in (
       search needs,
       draw-on (l .drawing) (c .draw-turn .result) (c .before .before .draw-at .result) (c .before .id-taken .result) (l .inv .1) (c .before .before .before .if1 .left) e,
-      draw-next (isTaken (a .pending .now) (a .circuits .now)) (a .random .now) (l .place) (l .drawing) _ (l .inv .2) (c .draw-turn .result) (c .before .before .draw-at .result) (c .before .id-taken .result) (omega arith) (c .before .before .draw-at .ensures) (c .before .id-taken .ensures) e,
+      draw-next (isTaken (heldPending (a .places) (a .pending .now)) (heldCircuits (a .places) (a .circuits .now))) (a .random .now) (l .place) (l .drawing) _ (l .inv .2) (c .draw-turn .result) (c .before .before .draw-at .result) (c .before .id-taken .result) (omega arith) (c .before .before .draw-at .ensures) (c .before .id-taken .ensures) e,
     )
 
 returns-2 : tie.Need-returns-2 Inv-loop μ-loop
 returns-2 c = let l = c .before .loop in
     let a = c .before .before .before .before .args in
-    draw-over (isTaken (a .pending .now) (a .circuits .now)) (a .random .now) (l .place) (l .drawing) _ (l .inv .2) (omega arith)
+    draw-over (isTaken (heldPending (a .places) (a .pending .now)) (heldCircuits (a .places) (a .circuits .now))) (a .random .now) (l .place) (l .drawing) _ (l .inv .2) (omega arith)
 
 pub draw-spec : {M : Type 1} → statement M
 draw-spec = tie.close (tie.spec Inv-loop μ-loop undrawn-requires loop-holds sub-loop returns draw-at-requires id-taken-requires draw-turn-requires add-place loop-less loop-again returns-2)

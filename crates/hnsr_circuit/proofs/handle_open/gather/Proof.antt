@@ -5,7 +5,7 @@ use lib.ListN.{length}
 use Rattle.hnsr_circuit.specs.Question.{pendingWork, circuitWork}
 use Rattle.hnsr_circuit.specs.Laws.Opening.{openWork, openGathering}
 use borrow.Author.Needs.{needs}
-use native.Mathlib.Omega.{arith}
+use Rattle.hnsr_circuit.specs.Held.{heldPending, heldCircuits}
 use Rattle.hnsr_circuit.proofs.handle_open.gather.Statement.{statement}
 use Rattle.hnsr_circuit.proofs.handle_open.gather.Proof.Tie as tie
 
@@ -36,8 +36,8 @@ returns c = let a = c .before .before .before .before .before .before .before .b
     let other = c .before .before .before .before .before .peer-of2 .ensures in
     let read = c .before .before .before .before .decode .ensures in
     let question = c .before .before .before .open-work .ensures ∙ (λ x. openWork (a .packet) (requester x) (other x) (read x)) in
-    let waiting = c .before .before .pending-work .ensures ∙ (λ x. pendingWork (question x) (a .pending .now)) in
-    let running = c .before .circuit-work .ensures ∙ (λ x. circuitWork (question x) (a .circuits .now)) in
+    let waiting = c .before .before .pending-work .ensures ∙ (λ x. pendingWork (question x) (heldPending (a .places) (a .pending .now))) in
+    let running = c .before .circuit-work .ensures ∙ (λ x. circuitWork (question x) (heldCircuits (a .places) (a .circuits .now))) in
     c .open-gathering .ensures ∙ (λ x. openGathering (a .packet) (requester x) (other x) (length (a .endpoint .now)) (read x) (waiting x) (running x))
 
 pub gather-spec : {M : Type 1} → statement M

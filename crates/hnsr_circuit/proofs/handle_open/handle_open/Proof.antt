@@ -5,7 +5,7 @@ use Rattle.hnsr_circuit.specs.World.{Outcome}
 use Rattle.hnsr_circuit.specs.Progress.{ending}
 use Rattle.hnsr_circuit.specs.Laws.Opening.{open-ends}
 use borrow.Author.Needs.{needs}
-use native.Mathlib.Omega.{arith}
+use Rattle.hnsr_circuit.specs.Held.{heldPending, heldCircuits, heldLedger, heldActions}
 use Rattle.hnsr_circuit.proofs.handle_open.handle_open.Statement.{statement}
 use Rattle.hnsr_circuit.proofs.handle_open.handle_open.Proof.Tie as tie
 
@@ -42,7 +42,7 @@ same-length-5 c = search needs
 returns : tie.Need-returns
 returns c = let a = c .before .before .before .before .before .before .before .before .before .before .before .before .before .before .before .before .before .before .before .before .before .before .before .before .before .args in
     c .before .before .before .before .before .open-lapsed .ensures (a .packet) (a .source .now) (a .body .now) (a .endpoint .now) (c .before .before .before .before .before .before .before .before .before .before .before .before .before .before .before .before .before .gather .ensures)
-    ∙ ap (λ (o : Outcome). ending (a .out .now) o) (open-ends (a .runtime) (a .pending .now) (a .circuits .now) (a .ledger .now) (a .inflight .now) (a .packet) (a .source .now) (a .body .now) (a .endpoint .now) (a .random .now)
+    ∙ ap (λ (o : Outcome). ending (a .out .now) o) (open-ends (a .runtime) (heldPending (a .places) (a .pending .now)) (heldCircuits (a .places) (a .circuits .now)) (heldLedger (a .places) (a .ledger .now)) (heldActions (a .places) (a .inflight .now)) (a .packet) (a .source .now) (a .body .now) (a .endpoint .now) (a .random .now)
     (c .before .before .before .before .before .before .before .before .before .before .before .before .before .before .before .before .before .gather .result) (c .before .before .before .before .before .before .before .before .before .before .before .before .before .before .before .open-rows .result) (c .before .before .before .before .before .before .before .before .before .before .before .before .before .before .is-taken .result) _ (c .before .before .before .before .before .before .before .before .before .before .before .before .before .before .before .before .before .gather .ensures) (c .before .before .before .before .before .before .before .before .before .before .before .before .before .before .before .open-rows .ensures) (c .before .before .before .before .before .before .before .before .before .before .before .before .before .before .is-taken .ensures) (c .before .before .before .before .before .before .before .before .before .before .before .before .drop-lapsed .ensures))
 
 pub handle-open-spec : {M : Type 1} → statement M

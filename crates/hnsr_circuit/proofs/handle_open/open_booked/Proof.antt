@@ -2,14 +2,15 @@
 mod Tie
 use mathlib.Core.Path.{sym, ap, _∙_}
 use Rattle.hnsr_circuit.specs.declared.records.Question.{Question}
-use Rattle.hnsr_circuit.specs.declared.records.ActionQuestion.{ActionQuestion}
-use Rattle.hnsr_circuit.specs.World.{Outcome}
+use Rattle.hnsr_circuit.specs.World.{Outcome, proceed}
 use Rattle.hnsr_circuit.specs.Lookup.{usageFound}
-use Rattle.hnsr_circuit.specs.Queue.{actionsScanned}
-use Rattle.hnsr_circuit.specs.Progress.{asking, ending}
+use Rattle.hnsr_circuit.specs.Queue.{actionsScanned, send}
+use Rattle.hnsr_circuit.specs.Progress.{asking, ending, messageOf}
 use Rattle.hnsr_circuit.specs.Laws.Opening.{incomingOut, asking-counted, booked-ends}
 use borrow.Author.Needs.{needs}
 use native.Mathlib.Omega.{arith}
+use Rattle.hnsr_circuit.specs.Held.{heldPending, heldCircuits, heldLedger, heldActions, worldSeen}
+use Rattle.hnsr_circuit.specs.declared.places.Places.{Places}
 use Rattle.hnsr_circuit.proofs.handle_open.open_booked.Statement.{statement}
 use Rattle.hnsr_circuit.proofs.handle_open.open_booked.Proof.Tie as tie
 
@@ -31,6 +32,9 @@ pending-for-requires c = search needs
 put-pending-requires : tie.Need-put-pending-requires
 put-pending-requires c = search needs
 
+with-pending-requires : tie.Need-with-pending-requires
+with-pending-requires c = search needs
+
 opened-requires : tie.Need-opened-requires
 opened-requires c = search needs
 
@@ -48,12 +52,12 @@ slice-aggregate-send c = search needs
 
 send-requires : tie.Need-send-requires
 send-requires c κs =
-    let s = c .before .before .before .before .before .before .before .before .before .before .before .before .before .before .before .before .before .before in
+    let s = c .before .before .before .before .before .before .before .before .before .before .before .before .before .before .before .before .before .before .before in
     let a = s .args in
     let counted = c .before .before .before .before .before .before .opened .ensures in
     let message = c .before .before .before .before .before .incoming-out .ensures in
-    let same = (λ x. asking (counted x) (message x)) ∙ asking-counted (c .before .before .before .before .before .before .before .before .before .before .before .is-taken .result) (a .runtime) (incomingOut (a .plan)) in
-    (s .pre ∙ ap (λ (q : ActionQuestion). actionsScanned q (a .inflight .now)) (sym same), omega arith)
+    let same = (λ x. asking (counted x) (message x)) ∙ asking-counted (c .before .before .before .before .before .before .before .before .before .before .before .before .is-taken .result) (a .runtime) (incomingOut (a .plan)) in
+    (s .pre ∙ (λ x. actionsScanned (sym same x) (heldActions (sym (c .before .before .before .before .before .before .before .with-pending .ensures) x) (a .inflight .now))), omega arith)
 
 same-length : tie.Need-same-length
 same-length c = search needs
@@ -65,13 +69,15 @@ same-length-3 : tie.Need-same-length-3
 same-length-3 c = search needs
 
 returns : tie.Need-returns
-returns c = λ cs.
-    let a = c .before .before .before .before .before .before .before .before .before .before .before .before .before .before .before .before .before .before .before .before .before .before .args in
-    let found = c .before .before .before .before .before .before .before .before .before .before .before .before .before .before .before .before .before .look-up-usage .ensures ∙ ap (λ (q : Question). usageFound q (a .ledger .now)) (c .before .before .before .before .before .before .before .before .before .before .before .before .before .before .before .before .before .before .at-reservation .ensures) in
-    c .before .before .before .send .ensures _ cs (a .ledger .now)
-    ∙ ap (λ (o : Outcome). ending (a .out .now) o) (booked-ends (a .runtime) (a .pending .now) cs (a .ledger .now) (a .inflight .now) (a .before) (a .plan)
-    (c .before .before .before .before .before .before .before .before .before .before .before .before .before .before .before .before .before .look-up-usage .result) (c .before .before .before .before .before .before .before .before .before .before .before .before .before .before .before .before .booked-answer .result) (c .before .before .before .before .before .before .before .before .before .before .before .before .before .before .before .is-taken .result) (c .before .before .before .before .before .before .before .before .before .before .before .before .before .before .pending-for .result) _ (c .before .before .before .before .before .before .before .before .before .before .opened .result) (c .before .before .before .before .before .before .before .before .before .incoming-out .result) (c .before .before .before .before .before .before .before .before .incoming-for .result) (c .before .before .before .before .before .before .before .to-bytes .result)
-    found (c .before .before .before .before .before .before .before .before .before .before .before .before .before .before .before .before .booked-answer .ensures) (c .before .before .before .before .before .before .before .before .before .before .before .before .before .before .before .is-taken .ensures) (c .before .before .before .before .before .before .before .before .before .before .before .before .before .before .pending-for .ensures) (c .before .before .before .before .before .before .before .before .before .before .before .before .put-pending .ensures) (c .before .before .before .before .before .before .before .before .before .before .opened .ensures) (c .before .before .before .before .before .before .before .before .before .incoming-out .ensures) (c .before .before .before .before .before .before .before .before .incoming-for .ensures) (c .before .before .before .before .before .before .before .to-bytes .ensures))
+returns c = λ cs₀.
+    let a = c .before .before .before .before .before .before .before .before .before .before .before .before .before .before .before .before .before .before .before .before .before .before .before .args in
+    let cs = heldCircuits (a .places) cs₀ in
+    let found = c .before .before .before .before .before .before .before .before .before .before .before .before .before .before .before .before .before .before .look-up-usage .ensures ∙ ap (λ (q : Question). usageFound q (heldLedger (a .places) (a .ledger .now))) (c .before .before .before .before .before .before .before .before .before .before .before .before .before .before .before .before .before .before .before .at-reservation .ensures) in
+    c .before .before .before .send .ensures (c .before .before .before .before .before .before .before .before .before .before .before .before .before .put-pending .last .0) cs₀ (a .ledger .now)
+    ∙ ap (λ (n : Places). ending (a .out .now) (let w = worldSeen (c .before .before .before .before .before .before .before .before .before .before .opened .result) n (c .before .before .before .before .before .before .before .before .before .before .before .before .before .put-pending .last .0) cs₀ (a .ledger .now) (a .inflight .now) in proceed w (c .before .before .before .before .before .before .before .before .before .before .before .before .before .before .before .before .before .booked-answer .result) (send w (messageOf (c .before .before .before .before .before .before .before .before .before .incoming-out .result) (c .before .before .before .before .before .before .before .to-bytes .result))))) (c .before .before .before .before .before .before .before .before .before .before .before .with-pending .ensures)
+    ∙ ap (λ (o : Outcome). ending (a .out .now) o) (booked-ends (a .runtime) (heldPending (a .places) (a .pending .now)) cs (heldLedger (a .places) (a .ledger .now)) (heldActions (a .places) (a .inflight .now)) (a .before) (a .plan)
+    (c .before .before .before .before .before .before .before .before .before .before .before .before .before .before .before .before .before .before .look-up-usage .result) (c .before .before .before .before .before .before .before .before .before .before .before .before .before .before .before .before .before .booked-answer .result) (c .before .before .before .before .before .before .before .before .before .before .before .before .before .before .before .before .is-taken .result) (c .before .before .before .before .before .before .before .before .before .before .before .before .before .before .before .pending-for .result) _ (c .before .before .before .before .before .before .before .before .before .before .opened .result) (c .before .before .before .before .before .before .before .before .before .incoming-out .result) (c .before .before .before .before .before .before .before .before .incoming-for .result) (c .before .before .before .before .before .before .before .to-bytes .result)
+    found (c .before .before .before .before .before .before .before .before .before .before .before .before .before .before .before .before .before .booked-answer .ensures) (c .before .before .before .before .before .before .before .before .before .before .before .before .before .before .before .before .is-taken .ensures) (c .before .before .before .before .before .before .before .before .before .before .before .before .before .before .before .pending-for .ensures) (c .before .before .before .before .before .before .before .before .before .before .before .before .before .put-pending .ensures) (c .before .before .before .before .before .before .before .before .before .before .opened .ensures) (c .before .before .before .before .before .before .before .before .before .incoming-out .ensures) (c .before .before .before .before .before .before .before .before .incoming-for .ensures) (c .before .before .before .before .before .before .before .to-bytes .ensures))
 
 pub open-booked-spec : {M : Type 1} → statement M
-open-booked-spec = tie.close (tie.spec at-reservation-requires look-up-usage-requires booked-answer-requires is-taken-requires pending-for-requires put-pending-requires opened-requires incoming-out-requires incoming-for-requires to-bytes-requires slice-aggregate-send send-requires same-length same-length-2 same-length-3 returns)
+open-booked-spec = tie.close (tie.spec at-reservation-requires look-up-usage-requires booked-answer-requires is-taken-requires pending-for-requires put-pending-requires with-pending-requires opened-requires incoming-out-requires incoming-for-requires to-bytes-requires slice-aggregate-send send-requires same-length same-length-2 same-length-3 returns)

@@ -2,6 +2,7 @@
 mod Tie
 use Rattle.hnsr_circuit.specs.Laws.Handlers.{window-scanned, window-fits, window-handled}
 use borrow.Author.Needs.{needs}
+use Rattle.hnsr_circuit.specs.Held.{heldPending, heldCircuits, heldLedger, heldActions}
 use Rattle.hnsr_circuit.proofs.handle_window.handle_window.Statement.{statement}
 use Rattle.hnsr_circuit.proofs.handle_window.handle_window.Proof.Tie as tie
 
@@ -12,14 +13,14 @@ raise-circuit-requires : tie.Need-raise-circuit-requires
 raise-circuit-requires c κs =
     let a = c .before .before .before .before .before .before .before .before .before .args in
     let plan = c .before .before .before .plan-window in
-    window-fits (a .runtime) (a .circuits .now) (a .inflight .now) (a .packet) (a .source .now) (a .body .now) (plan .result) (plan .ensures)
+    window-fits (a .runtime) (heldCircuits (a .places) (a .circuits .now)) (heldActions (a .places) (a .inflight .now)) (a .packet) (a .source .now) (a .body .now) (plan .result) (plan .ensures)
 
 send-requires : tie.Need-send-requires
 send-requires c κs =
     let s = c .before .before .before .before .before .before .before .before .before .before .before .before .before in
     let a = s .args in
     let plan = c .before .before .before .before .before .before .before .plan-window in
-    (window-scanned (a .runtime) (a .circuits .now) (a .inflight .now) (a .packet) (a .source .now) (a .body .now) (plan .result) (plan .ensures), s .pre)
+    (window-scanned (a .runtime) (heldCircuits (a .places) (a .circuits .now)) (heldActions (a .places) (a .inflight .now)) (a .packet) (a .source .now) (a .body .now) (plan .result) (plan .ensures), s .pre)
 
 same-length : tie.Need-same-length
 same-length c = search needs
@@ -31,10 +32,12 @@ same-length-3 : tie.Need-same-length-3
 same-length-3 c = search needs
 
 returns : tie.Need-returns
-returns c = λ p l e rs.
+returns c = λ p₀ l₀ e rs.
     let a = c .before .before .before .before .before .before .before .before .before .before .before .before .before .before .before .before .before .args in
+    let p = heldPending (a .places) p₀ in
+    let l = heldLedger (a .places) l₀ in
     let plan = c .before .before .before .before .before .before .before .before .before .before .before .plan-window in
-    window-handled (a .runtime) (a .circuits .now) (a .inflight .now) (a .packet) (a .source .now) (a .body .now) (plan .result) (plan .ensures) (a .out .now) p l e rs (c .before .before .before .send .result) _ _ _ (c .before .before .before .before .before .before .before .raise-circuit .ensures) (c .before .before .before .send .ensures p _ l)
+    window-handled (a .runtime) (heldCircuits (a .places) (a .circuits .now)) (heldActions (a .places) (a .inflight .now)) (a .packet) (a .source .now) (a .body .now) (plan .result) (plan .ensures) (a .out .now) p l e rs _ _ (c .before .before .before .before .before .before .before .raise-circuit .ensures) (c .before .before .before .send .ensures p₀ (c .before .before .before .before .before .before .before .raise-circuit .last .0) l₀)
 
 pub handle-window-spec : {M : Type 1} → statement M
 handle-window-spec = tie.close (tie.spec plan-window-requires raise-circuit-requires send-requires same-length same-length-2 same-length-3 returns)

@@ -11,6 +11,7 @@ use Rattle.hnsr_circuit.specs.Progress.{asking}
 use Rattle.hnsr_circuit.specs.Message.{passedOn}
 use Rattle.hnsr_circuit.specs.Plans.{windowPlan}
 use borrow.Author.Needs.{needs}
+use Rattle.hnsr_circuit.specs.Held.{heldCircuits, heldActions}
 use Rattle.hnsr_circuit.proofs.handle_window.plan_window.Statement.{statement}
 use Rattle.hnsr_circuit.proofs.handle_window.plan_window.Proof.Tie as tie
 
@@ -42,10 +43,10 @@ returns : tie.Need-returns
 returns c = let a = c .before .before .before .before .before .before .before .before .before .before .before .args in
     let peer = c .before .before .before .before .before .before .before .peer-of .ensures in
     let read = c .before .before .before .before .before .before .decode .ensures in
-    let named = c .before .before .before .before .look-up-circuit .ensures ∙ ap (λ (q : Question). circuitFound q (a .circuits .now)) (c .before .before .before .before .before .at .ensures) in
+    let named = c .before .before .before .before .look-up-circuit .ensures ∙ ap (λ (q : Question). circuitFound q (heldCircuits (a .places) (a .circuits .now))) (c .before .before .before .before .before .at .ensures) in
     let message = c .before .before .before .passed-on .ensures ∙ (λ x. passedOn (a .packet) (named x .circuit) (peer x) Control) in
     let asked = c .before .before .asking .ensures ∙ ap (λ (m : Outgoing). asking (a .runtime) m) message in
-    let scan = c .before .scan-actions .ensures ∙ ap (λ (q : ActionQuestion). actionsScanned q (a .inflight .now)) asked in
+    let scan = c .before .scan-actions .ensures ∙ ap (λ (q : ActionQuestion). actionsScanned q (heldActions (a .places) (a .inflight .now))) asked in
     c .window-plan .ensures ∙ (λ x. windowPlan (a .runtime .config) (read x) (named x) (scan x) (peer x) (message x))
 
 pub plan-window-spec : {M : Type 1} → statement M

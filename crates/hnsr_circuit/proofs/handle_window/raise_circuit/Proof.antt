@@ -1,13 +1,26 @@
 -- Where the record is stored its credit fits, so that it is the raised one.
 mod Tie
-use mathlib.Core.Path.{sym, ap, _∙_}
-use Rattle.hns_encoding.specs.Laws.Tests.{split, on-true, on-false}
+use mathlib.Core.Path.{sym, ap, _∙_, _≡_, refl}
+use Rattle.hns_encoding.specs.Laws.Tests.{split, on-false}
 use lib.ListN.{getD, set}
 use Rattle.hnsr_circuit.specs.declared.records.RelayCircuit.{RelayCircuit}
-use Rattle.hnsr_circuit.specs.Circuits.{noCircuit, raised}
+use Rattle.hnsr_circuit.specs.Circuits.{noCircuit, raised, isCircuit, clearCircuit}
 use borrow.Author.Needs.{needs}
+use Rattle.hnsr_circuit.specs.declared.records.RelaySide.{RelaySide}
+use Rattle.hnsr_circuit.specs.declared.records.RelaySide.the-variants.{Requester, Endpoint}
+use mathlib.Core.Bool.{cond}
+use Prim.Native.Nat.{ℕ}
+use Rattle.hnsr_circuit.specs.Held.{held, heldCircuits}
+use Rattle.hnsr_circuit.specs.Laws.HeldTables.{circuit-still}
+use Rattle.hnsr_circuit.specs.Laws.Held.{held-spare, stored-seen}
 use Rattle.hnsr_circuit.proofs.handle_window.raise_circuit.Statement.{statement}
 use Rattle.hnsr_circuit.proofs.handle_window.raise_circuit.Proof.Tie as tie
+
+-- a side's credit is no mark
+marks : (side : RelaySide) (n : ℕ) (c : RelayCircuit) → isCircuit (raised side n c) ≡ isCircuit c
+unfolding isCircuit
+marks Requester n c = refl
+marks Endpoint n c = refl
 
 circuit-at-requires : tie.Need-circuit-at-requires
 circuit-at-requires c = search needs
@@ -22,17 +35,19 @@ same-length : tie.Need-same-length
 same-length c = search needs
 
 returns : tie.Need-returns
-returns c = let s = c .before .before .before .before .before .before in
+unfolding isCircuit
+returns c =
+    let s = c .before .before .before .before .before .before in
     let a = s .args in
-    let t = a .circuits .now in
+    let n = a .places .circuits in
+    let r = a .circuits .now in
+    let t = heldCircuits (a .places) r in
     let there = c .before .before .before .before .circuit-at .ensures in
-    let row = raised (a .side) (a .delta) (getD t (a .place) noCircuit) in
-    let stored = c .before .set-circuit .ensures in
     split (a .go)
-    (λ g. stored ∙ on-true (a .go) _ t g
-    ∙ ap (λ (x : RelayCircuit). set t (a .place) x) (c .before .before .before .circuit-raised .ensures (rw there (s .pre g)) ∙ ap (raised (a .side) (a .delta)) there)
-    ∙ sym (on-true (a .go) (set t (a .place) row) t g))
-    (λ g. stored ∙ on-false (a .go) _ t g ∙ sym (on-false (a .go) (set t (a .place) row) t g))
+    (λ g. let e = c .before .before .before .circuit-raised .ensures (rw there (s .pre g)) ∙ ap (raised (a .side) (a .delta)) there in
+    stored-seen clearCircuit n r _ (a .go) (a .place) (c .before .before .before .circuit-raised .result) (λ h. circuit-still (c .before .before .before .circuit-raised .result) (ap isCircuit e ∙ marks (a .side) (a .delta) (getD t (a .place) noCircuit) ∙ held-spare clearCircuit isCircuit (λ u. refl) n r (a .place) noCircuit refl h)) (c .before .set-circuit .ensures)
+    ∙ ap (λ (x : RelayCircuit). cond (a .go) (set t (a .place) x) t) e)
+    (λ g. ap (held clearCircuit n) (c .before .set-circuit .ensures ∙ on-false (a .go) _ r g) ∙ sym (on-false (a .go) (set t (a .place) (raised (a .side) (a .delta) (getD t (a .place) noCircuit))) t g))
 
 pub raise-circuit-spec : {M : Type 1} → statement M
 raise-circuit-spec = tie.close (tie.spec circuit-at-requires circuit-raised-requires set-circuit-requires same-length returns)

@@ -1,14 +1,15 @@
 -- The place that was found, whether it is one, and the record there.
 mod Tie
-use mathlib.Core.Path.{_≡_, sym, ap, _∙_}
+use mathlib.Core.Path.{sym, ap, _∙_}
 use Prim.Native.Nat.{ℕ}
 use lib.Dec.{ltb}
-use lib.ListN.{length, getD}
-use Rattle.hnsr_circuit.specs.Inflight.{noAction}
+use lib.ListN.{getD}
+use Rattle.hnsr_circuit.specs.Inflight.{noAction, clearAction}
+use Rattle.hnsr_circuit.specs.Laws.Held.{length-held}
 use Rattle.hnsr_circuit.specs.Question.{actionHas}
 use Rattle.hnsr_circuit.specs.Laws.Lookups.{place-any, pick-at}
 use borrow.Author.Needs.{needs}
-use native.Mathlib.Omega.{arith}
+use Rattle.hnsr_circuit.specs.Held.{heldActions}
 use Rattle.hnsr_circuit.proofs.lookup.look_up_action.Statement.{statement}
 use Rattle.hnsr_circuit.proofs.lookup.look_up_action.Proof.Tie as tie
 
@@ -22,12 +23,13 @@ action-found-requires : tie.Need-action-found-requires
 action-found-requires c = search needs
 
 returns : tie.Need-returns
-returns c = let a = c .before .before .before .args in
-    let t = a .inflight .now in
+returns c =
+    let a = c .before .before .before .args in
+    let t = heldActions (a .places) (a .inflight .now) in
     let p = actionHas (a .question) in
     let place = c .before .before .find-action .ensures in
     let e = c .action-found .ensures in
-    let found = e .0 ∙ ap (λ (n : ℕ). ltb n (length t)) place ∙ place-any p t in
+    let found = e .0 ∙ (λ i. ltb (place i) (sym (length-held clearAction (a .places .actions) (a .inflight .now)) i)) ∙ place-any p t in
     let row = e .2 ∙ c .before .action-at .ensures ∙ ap (λ (n : ℕ). getD t n noAction) place ∙ pick-at p noAction t in
     let at = e .1 ∙ place in
     λ i. record { found = found i; place = at i; action = row i }

@@ -1,14 +1,15 @@
 -- The place that was found, whether it is one, and the record there.
 mod Tie
-use mathlib.Core.Path.{_≡_, sym, ap, _∙_}
+use mathlib.Core.Path.{sym, ap, _∙_}
 use Prim.Native.Nat.{ℕ}
 use lib.Dec.{ltb}
-use lib.ListN.{length, getD}
-use Rattle.hnsr_circuit.specs.Pending.{noPending}
+use lib.ListN.{getD}
+use Rattle.hnsr_circuit.specs.Pending.{noPending, clearPending}
 use Rattle.hnsr_circuit.specs.Question.{pendingHas}
 use Rattle.hnsr_circuit.specs.Laws.Lookups.{place-any, pick-at}
 use borrow.Author.Needs.{needs}
-use native.Mathlib.Omega.{arith}
+use Rattle.hnsr_circuit.specs.Held.{heldPending}
+use Rattle.hnsr_circuit.specs.Laws.Held.{length-held}
 use Rattle.hnsr_circuit.proofs.lookup.look_up_pending.Statement.{statement}
 use Rattle.hnsr_circuit.proofs.lookup.look_up_pending.Proof.Tie as tie
 
@@ -22,12 +23,13 @@ pending-found-requires : tie.Need-pending-found-requires
 pending-found-requires c = search needs
 
 returns : tie.Need-returns
-returns c = let a = c .before .before .before .args in
-    let t = a .pending .now in
+returns c =
+    let a = c .before .before .before .args in
+    let t = heldPending (a .places) (a .pending .now) in
     let p = pendingHas (a .question) in
     let place = c .before .before .find-pending .ensures in
     let e = c .pending-found .ensures in
-    let found = e .0 ∙ ap (λ (n : ℕ). ltb n (length t)) place ∙ place-any p t in
+    let found = e .0 ∙ (λ i. ltb (place i) (sym (length-held clearPending (a .places .pending) (a .pending .now)) i)) ∙ place-any p t in
     let row = e .2 ∙ c .before .pending-at .ensures ∙ ap (λ (n : ℕ). getD t n noPending) place ∙ pick-at p noPending t in
     let at = e .1 ∙ place in
     λ i. record { found = found i; place = at i; pending = row i }

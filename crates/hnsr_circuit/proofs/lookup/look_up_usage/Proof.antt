@@ -1,14 +1,15 @@
 -- The place that was found, whether it is one, and the record there.
 mod Tie
-use mathlib.Core.Path.{_≡_, sym, ap, _∙_}
+use mathlib.Core.Path.{sym, ap, _∙_}
 use Prim.Native.Nat.{ℕ}
 use lib.Dec.{ltb}
-use lib.ListN.{length, getD}
-use Rattle.hnsr_circuit.specs.Ledger.{noUsage}
+use lib.ListN.{getD}
+use Rattle.hnsr_circuit.specs.Ledger.{noUsage, clearUsage}
 use Rattle.hnsr_circuit.specs.Question.{usageHas}
 use Rattle.hnsr_circuit.specs.Laws.Lookups.{place-any, pick-at}
 use borrow.Author.Needs.{needs}
-use native.Mathlib.Omega.{arith}
+use Rattle.hnsr_circuit.specs.Held.{heldLedger}
+use Rattle.hnsr_circuit.specs.Laws.Held.{length-held}
 use Rattle.hnsr_circuit.proofs.lookup.look_up_usage.Statement.{statement}
 use Rattle.hnsr_circuit.proofs.lookup.look_up_usage.Proof.Tie as tie
 
@@ -22,12 +23,13 @@ usage-found-requires : tie.Need-usage-found-requires
 usage-found-requires c = search needs
 
 returns : tie.Need-returns
-returns c = let a = c .before .before .before .args in
-    let t = a .ledger .now in
+returns c =
+    let a = c .before .before .before .args in
+    let t = heldLedger (a .places) (a .ledger .now) in
     let p = usageHas (a .question) in
     let place = c .before .before .find-usage .ensures in
     let e = c .usage-found .ensures in
-    let found = e .0 ∙ ap (λ (n : ℕ). ltb n (length t)) place ∙ place-any p t in
+    let found = e .0 ∙ (λ i. ltb (place i) (sym (length-held clearUsage (a .places .ledger) (a .ledger .now)) i)) ∙ place-any p t in
     let row = e .2 ∙ c .before .usage-at .ensures ∙ ap (λ (n : ℕ). getD t n noUsage) place ∙ pick-at p noUsage t in
     let at = e .1 ∙ place in
     λ i. record { found = found i; place = at i; usage = row i }

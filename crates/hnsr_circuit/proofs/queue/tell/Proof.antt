@@ -1,9 +1,8 @@
--- The message is queued by what the scan and the rows say, or skipped.
+-- The message is queued by what the scan and the rows say, or skipped; the number of places in use rises with it.
 mod Tie
-use Prim.Native.Nat.{ℕ, _+_}
-use mathlib.Core.Path.{_≡_, refl, sym, ap, _∙_}
+use Prim.Native.Nat.{_+_}
+use mathlib.Core.Path.{ap, _∙_}
 use mathlib.Core.Bool.{Bool, cond}
-use mathlib.Core.List.{List}
 use lib.ListN.{length, set}
 use Rattle.hns_encoding.specs.Cursor.{written}
 use Rattle.hns_encoding.specs.Numbers.{saturatingAdd}
@@ -11,10 +10,13 @@ use Rattle.hns_encoding.specs.Words.{wordCount}
 use Rattle.hnsr_circuit.specs.declared.records.ActionQuestion.{ActionQuestion}
 use Rattle.hnsr_circuit.specs.Route.{headWords, routeWords}
 use Rattle.hnsr_circuit.specs.Queue.{routeFor, actionsScanned}
-use Rattle.hnsr_circuit.specs.Progress.{messageOf}
+use Rattle.hnsr_circuit.specs.Inflight.{clearAction}
+use Rattle.hnsr_circuit.specs.Progress.{messageOf, asking}
+use Rattle.hnsr_circuit.specs.Laws.Held.{put-held}
 use Rattle.hnsr_circuit.specs.Laws.Queueing.{told}
 use borrow.Author.Needs.{needs}
-use native.Mathlib.Omega.{arith}
+use Rattle.hnsr_circuit.specs.Held.{heldPending, heldCircuits, heldLedger, heldActions, withActions}
+use Rattle.hnsr_circuit.specs.Laws.HeldTables.{scan-upto, sending-kept}
 use Rattle.hnsr_circuit.proofs.queue.tell.Statement.{statement}
 use Rattle.hnsr_circuit.proofs.queue.tell.Proof.Tie as tie
 
@@ -39,14 +41,20 @@ queued-go-requires c = search needs
 queued-place-requires : tie.Need-queued-place-requires
 queued-place-requires c = search needs
 
+raised-requires : tie.Need-raised-requires
+raised-requires c = search needs
+
+with-actions-requires : tie.Need-with-actions-requires
+with-actions-requires c = search needs
+
 set-action-requires : tie.Need-set-action-requires
 set-action-requires c = search needs
 
 put-queued-requires : tie.Need-put-queued-requires
-put-queued-requires c = search needs
+put-queued-requires c κs = c .before .before .before .before .before .before .before .before .before .before .before .before .before .before .before .before .before .before .pre
 
 position-after-requires : tie.Need-position-after-requires
-position-after-requires c κs = c .before .before .before .before .before .before .before .before .before .before .before .before .before .before .before .before .before .before .pre
+position-after-requires c κs = c .before .before .before .before .before .before .before .before .before .before .before .before .before .before .before .before .before .before .before .before .before .pre
 
 sending-on-requires : tie.Need-sending-on-requires
 sending-on-requires c = search needs
@@ -58,20 +66,34 @@ same-length-2 : tie.Need-same-length-2
 same-length-2 c = search needs
 
 returns : tie.Need-returns
-returns c = λ p cs l.
-    let s = c .before .before .before .before .before .before .before .before .before .before .before .before .before .before .before .before .before .before .before .before in
+returns c = λ p₀ cs₀ l₀.
+    let s = c .before .before .before .before .before .before .before .before .before .before .before .before .before .before .before .before .before .before .before .before .before .before .before in
     let a = s .args in
+    let p = heldPending (a .sending .places) p₀ in
+    let cs = heldCircuits (a .sending .places) cs₀ in
+    let l = heldLedger (a .sending .places) l₀ in
+    let n = a .sending .places in
     let h = a .sending .runtime in
     let at = a .sending .position in
-    let q = c .before .before .before .before .before .before .before .before .before .before .before .before .queue .result in
-    let eg = c .before .before .before .before .before .before .before .before .before .before .queued-go .ensures in
-    let el = c .before .before .before .before .before .before .before .before .before .queued-place .ensures in
-    let ea = c .before .before .before .before .before .before .before .before .before .before .before .queued-action .ensures in
-    let es = c .before .before .before .before .before .before .before .before .before .before .before .before .before .before .scan-actions .ensures ∙ ap (λ (x : ActionQuestion). actionsScanned x (a .inflight .now)) (c .before .before .before .before .before .before .before .before .before .before .before .before .before .before .before .before .asking .ensures) in
-    let ei = c .before .before .before .before .before .before .before .set-action .ensures ∙ (λ x. cond (eg x) (set (a .inflight .now) (el x) (ea x)) (a .inflight .now)) in
+    let t = a .inflight .now in
+    let i = heldActions n t in
+    let k = c .before .before .before .before .before .before .before .before .before .before .before .before .before .before .queue in
+    let q = k .result in
+    let g = c .before .before .before .before .before .before .before .before .before .before .before .before .before .before .before .going in
+    let sc = c .before .before .before .before .before .before .before .before .before .before .before .before .before .before .before .before .scan-actions in
+    let eg = c .before .before .before .before .before .before .before .before .before .before .before .before .queued-go .ensures in
+    let el = c .before .before .before .before .before .before .before .before .before .before .before .queued-place .ensures in
+    let ea = c .before .before .before .before .before .before .before .before .before .before .before .before .before .queued-action .ensures in
+    let er = c .sending-on .ensures in
+    let es = sc .ensures ∙ ap (λ (x : ActionQuestion). actionsScanned x i) (c .before .before .before .before .before .before .before .before .before .before .before .before .before .before .before .before .before .before .asking .ensures) in
+    let z = el ∙ k .ensures .place in
+    let up = put-held clearAction (n .actions) t _ (c .before .before .before .before .before .before .before .before .before .before .before .before .queued-go .result) (c .before .before .before .before .before .before .before .before .before .before .before .queued-place .result) (c .before .before .before .before .before .before .before .before .before .before .before .before .before .queued-action .result) (c .before .before .before .before .before .before .before .before .before .before .raised .result)
+        (λ b. rw z (scan-upto (asking h (a .message)) n t (sc .result) es (rw z at b))) (c .before .before .before .before .before .before .before .set-action .ensures) (c .before .before .before .before .before .before .before .before .before .before .raised .ensures) in
+    let ei = up ∙ (λ x. cond (eg x) (set i (el x) (ea x)) i) in
     let eo = c .before .before .before .before .put-queued .ensures ∙ ap (λ (g : Bool). cond g (written (a .out .now) at (routeWords (routeFor (messageOf (a .message) (a .body .now)) (h .generation) (h .«next_action_sequence»)))) (a .out .now)) eg in
     let ep = c .before .position-after .ensures ∙ ap (λ (g : Bool). cond g (saturatingAdd 64 at (headWords + wordCount (length (a .body .now)))) at) eg in
-    told h p cs l (a .inflight .now) (a .out .now) (c .before .before .before .before .before .before .before .before .before .before .before .before .before .going .result) (a .message) (a .body .now) (c .before .before .before .before .before .before .before .before .before .before .before .before .before .before .scan-actions .result) q es (c .before .before .before .before .before .before .before .before .before .before .before .before .queue .ensures) at _ _ _ ei eo ep (c .sending-on .result) (c .sending-on .ensures) (a .go) (c .before .before .before .before .before .before .before .before .before .before .before .before .before .going .ensures)
+    sending-kept (c .sending-on .result) p₀ cs₀ l₀ (c .before .before .before .before .before .before .before .set-action .last .0) (c .before .before .before .before .put-queued .last .0) (withActions (c .before .before .before .before .before .before .before .before .before .before .raised .result) n) (er .1 ∙ c .before .before .before .before .before .before .before .before .before .with-actions .ensures)
+    ∙ told h p cs l i (a .out .now) (g .result) (a .message) (a .body .now) (sc .result) q es (k .ensures) at _ _ _ ei eo ep (c .sending-on .result) (er .0) (a .go) (g .ensures)
 
 pub tell-spec : {M : Type 1} → statement M
-tell-spec = tie.close (tie.spec asking-requires scan-actions-requires going-requires queue-requires queued-action-requires queued-go-requires queued-place-requires set-action-requires put-queued-requires position-after-requires sending-on-requires same-length same-length-2 returns)
+tell-spec = tie.close (tie.spec asking-requires scan-actions-requires going-requires queue-requires queued-action-requires queued-go-requires queued-place-requires raised-requires with-actions-requires set-action-requires put-queued-requires position-after-requires sending-on-requires same-length same-length-2 returns)

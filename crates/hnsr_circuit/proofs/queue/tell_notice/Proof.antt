@@ -1,16 +1,15 @@
 -- The body of a notice is the bytes in front of its array.
 mod Tie
-use mathlib.Core.Path.{_≡_, refl, sym, ap, _∙_}
+use mathlib.Core.Path.{sym, ap, _∙_}
 use mathlib.Core.List.{List}
 use Prim.Native.Nat.{ℕ}
-use Rattle.hnsr_body.specs.Messages.{noticeBody}
 use Rattle.hnsr_circuit.specs.Queue.{when, tell}
 use Rattle.hnsr_circuit.specs.Progress.{messageOf, underway, advance}
 use Rattle.hnsr_circuit.specs.Laws.Route.{notice-length, notice-bytes}
 use lib.Seq.{length-take-le}
 use native.Mathlib.Omega.{arith}
 use borrow.Author.Needs.{needs}
-use native.Mathlib.Omega.{arith}
+use Rattle.hnsr_circuit.specs.Held.{heldPending, heldCircuits, heldLedger, heldActions}
 use Rattle.hnsr_circuit.proofs.queue.tell_notice.Statement.{statement}
 use Rattle.hnsr_circuit.proofs.queue.tell_notice.Proof.Tie as tie
 
@@ -33,10 +32,13 @@ same-length-2 : tie.Need-same-length-2
 same-length-2 c = search needs
 
 returns : tie.Need-returns
-returns c = λ p cs l.
+returns c = λ p₀ cs₀ l₀.
     let a = c .before .before .before .before .before .before .before .before .before .before .args in
-    c .before .before .before .tell .ensures p cs l
-    ∙ ap (λ (b : List ℕ). advance (when (a .go) (tell (messageOf (a .message) b))) (underway (a .sending) p cs l (a .inflight .now) (a .out .now))) (notice-bytes (c .before .before .before .before .before .before .before .before .encode .result) (a .notice) (c .before .before .before .before .before .before .before .before .encode .ensures))
+    let p = heldPending (a .sending .places) p₀ in
+    let cs = heldCircuits (a .sending .places) cs₀ in
+    let l = heldLedger (a .sending .places) l₀ in
+    c .before .before .before .tell .ensures p₀ cs₀ l₀
+    ∙ ap (λ (b : List ℕ). advance (when (a .go) (tell (messageOf (a .message) b))) (underway (a .sending) p cs l (heldActions (a .sending .places) (a .inflight .now)) (a .out .now))) (notice-bytes (c .before .before .before .before .before .before .before .before .encode .result) (a .notice) (c .before .before .before .before .before .before .before .before .encode .ensures))
 
 pub tell-notice-spec : {M : Type 1} → statement M
 tell-notice-spec = tie.close (tie.spec encode-requires array-share-prefix-bytes slice-aggregate-tell tell-requires same-length same-length-2 returns)

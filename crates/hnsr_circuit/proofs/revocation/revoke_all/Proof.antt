@@ -1,8 +1,6 @@
 -- One walk after the other, and then the call is over.
 mod Tie
-use Prim.Native.Nat.{ℕ}
-use mathlib.Core.Path.{_≡_, refl, sym, ap, _∙_}
-use mathlib.Core.List.{List}
+use mathlib.Core.Path.{sym, ap, _∙_}
 use Rattle.hnsr_circuit.specs.Pending.{pendingId}
 use Rattle.hnsr_circuit.specs.Circuits.{circuitId}
 use Rattle.hnsr_circuit.specs.Question.{pendingHas, circuitHas}
@@ -13,7 +11,8 @@ use Rattle.hnsr_circuit.specs.Revoking.{endingPending}
 use Rattle.hnsr_circuit.specs.Laws.Progress.{advance-then}
 use Rattle.hnsr_circuit.specs.Laws.Calls.{begun, over}
 use borrow.Author.Needs.{needs}
-use native.Mathlib.Omega.{arith}
+use Rattle.hnsr_circuit.specs.Held.{heldPending, heldCircuits, heldLedger, heldActions}
+use Rattle.hnsr_circuit.specs.Laws.HeldTables.{places-kept, sending-kept}
 use Rattle.hnsr_circuit.proofs.revocation.revoke_all.Statement.{statement}
 use Rattle.hnsr_circuit.proofs.revocation.revoke_all.Proof.Tie as tie
 
@@ -21,10 +20,10 @@ started-requires : tie.Need-started-requires
 started-requires c = search needs
 
 walk-pending-requires : tie.Need-walk-pending-requires
-walk-pending-requires c = search needs
+walk-pending-requires c κs = c .before .before .before .before .before .pre
 
 walk-circuits-requires : tie.Need-walk-circuits-requires
-walk-circuits-requires c = search needs
+walk-circuits-requires c κs = c .before .before .before .before .before .before .before .before .before .before .before .before .before .pre
 
 finished-requires : tie.Need-finished-requires
 finished-requires c = search needs
@@ -43,18 +42,20 @@ same-length-4 c = search needs
 
 returns : tie.Need-returns
 unfolding revokeAll
-returns c = λ l.
+returns c = λ l₀.
     let a = c .before .before .before .before .before .before .before .before .before .before .before .before .before .before .before .before .before .before .before .args in
+    let l = heldLedger (a .places) l₀ in
     let v = a .revoking in
-    let cs = a .circuits .now in
-    let w = worldOf (a .runtime) (a .pending .now) cs l (a .inflight .now) in
+    let cs = heldCircuits (a .places) (a .circuits .now) in
+    let w = worldOf (a .runtime) (heldPending (a .places) (a .pending .now)) cs l (heldActions (a .places) (a .inflight .now)) in
     let p1 = c .before .before .before .before .before .before .before .before .before .before .before .before .before .walk-pending .last .0 in
     let first = walk pendingId pendingTable (pendingHas (v .question)) (endingPending v) in
     let second = walk circuitId circuitTable (circuitHas (v .question)) (revokeCircuit (v .«circuit_notice»)) in
-    let start = begun (a .runtime) (a .pending .now) cs l (a .inflight .now) (a .out .now) (c .before .before .before .before .before .before .before .before .before .before .before .before .before .before .before .before .before .started .result) (c .before .before .before .before .before .before .before .before .before .before .before .before .before .before .before .before .before .started .ensures) in
-    over (c .finished .result) (c .before .before .before .before .before .walk-circuits .result) _ _ l _ _ (advanced (progress w 0 (a .out .now)) (andThen (first w) second)) (c .finished .ensures)
-    (c .before .before .before .before .before .walk-circuits .ensures p1 l
-    ∙ ap (λ (s : Progress). advance second s) (c .before .before .before .before .before .before .before .before .before .before .before .before .before .walk-pending .ensures cs l ∙ ap (λ (s : Progress). advance first s) start)
+    let start = sending-kept (c .before .before .before .before .before .before .before .before .before .before .before .before .before .before .before .before .before .started .result) (a .pending .now) (a .circuits .now) l₀ (a .inflight .now) (a .out .now) (a .places) (c .before .before .before .before .before .before .before .before .before .before .before .before .before .before .before .before .before .started .ensures .1) ∙ begun (a .runtime) (heldPending (a .places) (a .pending .now)) cs l (heldActions (a .places) (a .inflight .now)) (a .out .now) (c .before .before .before .before .before .before .before .before .before .before .before .before .before .before .before .before .before .started .result) (c .before .before .before .before .before .before .before .before .before .before .before .before .before .before .before .before .before .started .ensures .0) in
+    places-kept (c .finished .result) p1 (c .before .before .before .before .before .walk-circuits .last .0) l₀ (c .before .before .before .before .before .walk-circuits .last .1 .0) (c .before .before .before .before .before .walk-circuits .last .1 .1 .0) (c .before .before .before .before .before .walk-circuits .result .places) (c .finished .ensures .1)
+    ∙ over (c .finished .result) (c .before .before .before .before .before .walk-circuits .result) _ _ _ _ _ (advanced (progress w 0 (a .out .now)) (andThen (first w) second)) (c .finished .ensures .0)
+    (c .before .before .before .before .before .walk-circuits .ensures p1 l₀
+    ∙ ap (λ (s : Progress). advance second s) (c .before .before .before .before .before .before .before .before .before .before .before .before .before .walk-pending .ensures (a .circuits .now) l₀ ∙ ap (λ (s : Progress). advance first s) start)
     ∙ sym (advance-then (progress w 0 (a .out .now)) (first w) second))
 
 pub revoke-all-spec : {M : Type 1} → statement M

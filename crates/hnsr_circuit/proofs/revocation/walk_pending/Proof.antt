@@ -2,29 +2,30 @@
 mod Tie
 use Prim.Native.Nat.{ℕ, suc, _+_, _-_, _≤_, _<_}
 use native.Mathlib.Nat.{sub-zero}
-use mathlib.Core.Path.{_≡_, refl, sym, ap, _∙_}
-use mathlib.Core.Bool.{Bool}
+use mathlib.Core.Path.{_≡_, sym, ap, _∙_}
 use mathlib.Core.List.{List}
 use lib.ListN.{length}
 use Rattle.hnsr_circuit.specs.declared.records.RelayCircuit.{RelayCircuit}
 use Rattle.hnsr_circuit.specs.declared.records.ReservationUsage.{ReservationUsage}
 use Rattle.hnsr_circuit.specs.declared.records.Walked.{Walked}
-use Rattle.hnsr_circuit.specs.Pending.{pendingId}
+use Rattle.hnsr_circuit.specs.Pending.{pendingId, clearPending}
 use Rattle.hnsr_circuit.specs.Question.{pendingHas}
-use Rattle.hnsr_circuit.specs.Progress.{Progress, underway, advance}
+use Rattle.hnsr_circuit.specs.Progress.{Progress, advance}
 use Rattle.hnsr_circuit.specs.Revocation.{walkFrom, walk, pendingTable}
 use Rattle.hnsr_circuit.specs.Revoking.{endingPending}
 use Rattle.hnsr_circuit.specs.Table.{notYet}
 use Rattle.hnsr_circuit.specs.Laws.Revocation.{not-true, not-false, walk-turn, walk-stops, walk-over}
 use borrow.Author.Needs.{needs}
 use native.Mathlib.Omega.{arith}
+use Rattle.hnsr_circuit.specs.Held.{underwaySeen}
+use Rattle.hnsr_circuit.specs.Laws.Held.{length-held}
 use Rattle.hnsr_circuit.proofs.revocation.walk_pending.Statement.{statement}
 use Rattle.hnsr_circuit.proofs.revocation.walk_pending.Proof.Tie as tie
 
 abbrev Inv-loop : tie.InvT-loop
 Inv-loop pending inflight out revoking question most told₀ cursor₀ turn₀ pending′ inflight′ out′ told cursor turn =
     (most ≡ length pending) × (turn ≤ most) × (length pending′ ≡ length pending) × (length inflight′ ≡ length inflight) × (length out′ ≡ length out)
-    × ((cs : List RelayCircuit) (l : List ReservationUsage) → advance (walkFrom pendingId pendingTable (pendingHas question) (endingPending revoking) (most - turn) cursor) (underway told pending′ cs l inflight′ out′) ≡ advance (walk pendingId pendingTable (pendingHas question) (endingPending revoking)) (underway told₀ pending cs l inflight out))
+    × ((cs : List RelayCircuit) (l : List ReservationUsage) → advance (walkFrom pendingId pendingTable (pendingHas question) (endingPending revoking) (most - turn) cursor) (underwaySeen told pending′ cs l inflight′ out′) ≡ advance (walk pendingId pendingTable (pendingHas question) (endingPending revoking)) (underwaySeen told₀ pending cs l inflight out))
 
 abbrev μ-loop : tie.MeasureT-loop
 μ-loop pending inflight out revoking question most told₀ cursor₀ turn₀ pending′ inflight′ out′ told cursor turn = most - turn
@@ -45,12 +46,12 @@ loop-holds c = let a = c .before .before .before .args in (
   search needs,
   search needs,
   λ cs l.
-      ap (λ (x : Walked). advance (walkFrom pendingId pendingTable (pendingHas (a .revoking .question)) (endingPending (a .revoking)) (length (a .pending .now) - 0) x) (underway (a .sending) (a .pending .now) cs l (a .inflight .now) (a .out .now))) (c .not-yet .ensures)
-      ∙ ap (λ (m : ℕ). advance (walkFrom pendingId pendingTable (pendingHas (a .revoking .question)) (endingPending (a .revoking)) m notYet) (underway (a .sending) (a .pending .now) cs l (a .inflight .now) (a .out .now))) (sub-zero (length (a .pending .now))),
+      ap (λ (x : Walked). advance (walkFrom pendingId pendingTable (pendingHas (a .revoking .question)) (endingPending (a .revoking)) (length (a .pending .now) - 0) x) (underwaySeen (a .sending) (a .pending .now) cs l (a .inflight .now) (a .out .now))) (c .not-yet .ensures)
+      ∙ ap (λ (m : ℕ). advance (walkFrom pendingId pendingTable (pendingHas (a .revoking .question)) (endingPending (a .revoking)) m notYet) (underwaySeen (a .sending) (a .pending .now) cs l (a .inflight .now) (a .out .now))) (sub-zero (length (a .pending .now)) ∙ sym (length-held clearPending (a .sending .places .pending) (a .pending .now))),
 )
 
 next-pending-requires : tie.Need-next-pending-requires Inv-loop μ-loop
-next-pending-requires c = search needs
+next-pending-requires c κs = c .before .before .before .before .before .before .pre
 
 no-requires : tie.Need-no-requires Inv-loop μ-loop
 no-requires c = search needs
@@ -73,8 +74,8 @@ returns c = λ cs l.
     let less = c .before .before .before .before .loop-test .taken in
     let left : suc k ≡ length (a .pending .now) - L .loop .turn = omega arith in
     let stopped = not-true (n .taken) (sym (c .before .no .ensures) ∙ c .if1 .taken) in
-    sym (walk-stops pendingId pendingTable (pendingHas (a .revoking .question)) (endingPending (a .revoking)) (underway (L .loop .told) (L .loop .pending) cs l (L .loop .inflight) (L .loop .out)) k (L .loop .cursor) n (c .before .before .next-pending .ensures) stopped)
-    ∙ ap (λ (m : ℕ). advance (walkFrom pendingId pendingTable (pendingHas (a .revoking .question)) (endingPending (a .revoking)) m (L .loop .cursor)) (underway (L .loop .told) (L .loop .pending) cs l (L .loop .inflight) (L .loop .out))) left
+    sym (walk-stops pendingId pendingTable (pendingHas (a .revoking .question)) (endingPending (a .revoking)) (underwaySeen (L .loop .told) (L .loop .pending) cs l (L .loop .inflight) (L .loop .out)) k (L .loop .cursor) n (c .before .before .next-pending .ensures) stopped)
+    ∙ ap (λ (m : ℕ). advance (walkFrom pendingId pendingTable (pendingHas (a .revoking .question)) (endingPending (a .revoking)) m (L .loop .cursor)) (underwaySeen (L .loop .told) (L .loop .pending) cs l (L .loop .inflight) (L .loop .out))) left
     ∙ L .loop .inv .5 cs l
 
 revoke-pending-requires : tie.Need-revoke-pending-requires Inv-loop μ-loop
@@ -101,8 +102,8 @@ loop-again c = let L = c .before .before .before .before .before .before .before
       search needs,
       λ cs l.
           ap (λ (s : Progress). advance (walkFrom pendingId pendingTable (pendingHas (a .revoking .question)) (endingPending (a .revoking)) k n) s) (c .before .before .before .before .revoke-pending .ensures cs l)
-          ∙ sym (walk-turn pendingId pendingTable (pendingHas (a .revoking .question)) (endingPending (a .revoking)) (underway (L .loop .told) (L .loop .pending) cs l (L .loop .inflight) (L .loop .out)) k (L .loop .cursor) n (c .before .before .before .before .before .before .before .before .before .before .next-pending .ensures) goes)
-          ∙ ap (λ (m : ℕ). advance (walkFrom pendingId pendingTable (pendingHas (a .revoking .question)) (endingPending (a .revoking)) m (L .loop .cursor)) (underway (L .loop .told) (L .loop .pending) cs l (L .loop .inflight) (L .loop .out))) left
+          ∙ sym (walk-turn pendingId pendingTable (pendingHas (a .revoking .question)) (endingPending (a .revoking)) (underwaySeen (L .loop .told) (L .loop .pending) cs l (L .loop .inflight) (L .loop .out)) k (L .loop .cursor) n (c .before .before .before .before .before .before .before .before .before .before .next-pending .ensures) goes)
+          ∙ ap (λ (m : ℕ). advance (walkFrom pendingId pendingTable (pendingHas (a .revoking .question)) (endingPending (a .revoking)) m (L .loop .cursor)) (underwaySeen (L .loop .told) (L .loop .pending) cs l (L .loop .inflight) (L .loop .out))) left
           ∙ L .loop .inv .5 cs l,
     )
 
@@ -121,8 +122,8 @@ returns-2 c = λ cs l.
     let a = c .before .before .before .before .before .args in
     let over = c .loop-test .left in
     let none : 0 ≡ length (a .pending .now) - L .loop .turn = omega arith in
-    sym (walk-over pendingId pendingTable (pendingHas (a .revoking .question)) (endingPending (a .revoking)) (underway (L .loop .told) (L .loop .pending) cs l (L .loop .inflight) (L .loop .out)) (L .loop .cursor))
-    ∙ ap (λ (m : ℕ). advance (walkFrom pendingId pendingTable (pendingHas (a .revoking .question)) (endingPending (a .revoking)) m (L .loop .cursor)) (underway (L .loop .told) (L .loop .pending) cs l (L .loop .inflight) (L .loop .out))) none
+    sym (walk-over pendingId pendingTable (pendingHas (a .revoking .question)) (endingPending (a .revoking)) (underwaySeen (L .loop .told) (L .loop .pending) cs l (L .loop .inflight) (L .loop .out)) (L .loop .cursor))
+    ∙ ap (λ (m : ℕ). advance (walkFrom pendingId pendingTable (pendingHas (a .revoking .question)) (endingPending (a .revoking)) m (L .loop .cursor)) (underwaySeen (L .loop .told) (L .loop .pending) cs l (L .loop .inflight) (L .loop .out))) none
     ∙ L .loop .inv .5 cs l
 
 pub walk-pending-spec : {M : Type 1} → statement M

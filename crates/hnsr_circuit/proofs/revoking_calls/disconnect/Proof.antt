@@ -1,14 +1,17 @@
 -- Turned away by its rows, or gone on: the actions toward the peer dropped, then its records revoked.
 mod Tie
-use Prim.Native.Nat.{ℕ, _≤_, _<_}
-use mathlib.Core.Path.{_≡_, refl, sym, ap, _∙_}
-use mathlib.Core.List.{List}
+use Prim.Native.Nat.{_<_, _*_, _+_}
+use mathlib.Core.Path.{sym, ap, _∙_}
 use lib.ListN.{length}
-use Rattle.hnsr_circuit.specs.declared.answer.HnsrAnswer.{HnsrAnswer}
-use Rattle.hnsr_circuit.specs.Answers.{taken, _then_}
+use lib.Dec.{ltb}
+use Rattle.hns_encoding.specs.Sums.{count}
+use Rattle.hnsr_circuit.specs.Pending.{isPending}
+use Rattle.hnsr_circuit.specs.Circuits.{isCircuit}
+use Rattle.hnsr_circuit.specs.declared.answer.HnsrRuntimeError.the-variants.{Short}
+use Rattle.hnsr_circuit.specs.Answers.{_then_}
 use Rattle.hnsr_circuit.specs.World.{Outcome}
 use Rattle.hnsr_circuit.specs.Counts.{pendingCount, circuitCount}
-use Rattle.hnsr_circuit.specs.Entry.{roomAnswer, tablesShort, peerAnswer}
+use Rattle.hnsr_circuit.specs.Entry.{roomAnswer, tablesShort, closingWords}
 use Rattle.hnsr_circuit.specs.Progress.{worldOf, ending}
 use Rattle.hnsr_circuit.specs.Peer.{peerOf}
 use Rattle.hnsr_circuit.specs.Call.{step, callDisconnect}
@@ -17,6 +20,9 @@ use Rattle.hnsr_circuit.specs.Laws.Calls.{turned-away, whole}
 use Rattle.hnsr_circuit.specs.Laws.RevokingCalls.{disconnected}
 use borrow.Author.Needs.{needs}
 use native.Mathlib.Omega.{arith}
+use Rattle.hnsr_circuit.specs.Held.{heldPending, heldCircuits, heldLedger, heldActions, asksUnused}
+use Rattle.hnsr_circuit.specs.Laws.HeldTables.{places-kept, entry-held}
+use Rattle.hnsr_circuit.specs.declared.revocation.Revoking.{Revoking}
 use Rattle.hnsr_circuit.proofs.revoking_calls.disconnect.Statement.{statement}
 use Rattle.hnsr_circuit.proofs.revoking_calls.disconnect.Proof.Tie as tie
 
@@ -48,7 +54,7 @@ clear-action-requires : tie.Need-clear-action-requires
 clear-action-requires c = search needs
 
 revoke-all-requires : tie.Need-revoke-all-requires
-revoke-all-requires c = search needs
+revoke-all-requires c κs = ap (λ (v : Revoking). asksUnused (v .question .ask)) (c .before .before .before .before .before .before .before .disconnecting .ensures)
 
 same-length : tie.Need-same-length
 same-length c = search needs
@@ -64,15 +70,16 @@ same-length-4 c = search needs
 
 returns : tie.Need-returns
 unfolding roomAnswer tablesShort pendingCount circuitCount
-returns c = λ l.
+returns c = λ l₀.
     let s = c .before .before .before .before .before .before .before .before .before .before .before .before .before .before .before .before .before .before .before .before .before .before .before .before .before .before in
     let a = s .args in
-    let w = worldOf (a .runtime) (a .pending .now) (a .circuits .now) l (a .inflight .now) in
+    let l = heldLedger (a .places) l₀ in
+    let w = worldOf (a .runtime) (heldPending (a .places) (a .pending .now)) (heldCircuits (a .places) (a .circuits .now)) l (heldActions (a .places) (a .inflight .now)) in
     let call = callDisconnect (a .peer .now) (length (a .out .now)) in
-    let answer = c .before .before .before .before .before .before .before .before .before .before .before .before .before .before .before .before .before .before .first-refusal .ensures ∙ (λ x. c .before .before .before .before .before .before .before .before .before .before .before .before .before .before .before .before .before .before .before .before .entry-answer .ensures x then c .before .before .before .before .before .before .before .before .before .before .before .before .before .before .before .before .before .before .before .peer-answer .ensures x) in
+    let answer = c .before .before .before .before .before .before .before .before .before .before .before .before .before .before .before .before .before .before .first-refusal .ensures ∙ (λ x. (c .before .before .before .before .before .before .before .before .before .before .before .before .before .before .before .before .before .before .before .before .entry-answer .ensures ∙ entry-held (ltb (length (a .out .now)) (closingWords * (count isPending (heldPending (a .places) (a .pending .now)) + count isCircuit (heldCircuits (a .places) (a .circuits .now))))) Short (a .runtime .config) (length (heldPending (a .places) (a .pending .now))) (length (heldCircuits (a .places) (a .circuits .now))) (a .places) (a .inflight .now)) x then c .before .before .before .before .before .before .before .before .before .before .before .before .before .before .before .before .before .before .before .peer-answer .ensures x) in
     let small = bound s in
-    c .before .before .before .before .before .revoke-all .ensures l
-    ∙ ap (λ (o : Outcome). ending (a .out .now) o) (disconnected (a .runtime) (a .pending .now) (a .circuits .now) l (a .inflight .now) (a .peer .now) (length (a .out .now)) (c .before .before .before .before .before .before .before .before .before .before .before .before .before .before .before .before .before .before .first-refusal .result) (c .before .before .before .before .before .before .before .before .before .before .before .before .before .before .before .peer-of .result) (c .before .before .before .before .before .before .before .before .before .before .before .before .before .disconnecting .result) (c .before .before .before .before .before .before .before .before .before .before .before .before .before .before .of-peer .result) (c .before .before .before .before .before .before .before .before .before .before .before .clear-action .last .0) (sym (c .before .before .before .before .before .before .before .before .before .before .before .before .before .before .before .before .before .is-taken .ensures) ∙ c .before .before .before .before .before .before .before .before .before .before .before .before .before .before .before .before .if1 .taken) answer (c .before .before .before .before .before .before .before .before .before .before .before .before .before .before .before .peer-of .ensures) (c .before .before .before .before .before .before .before .before .before .before .before .before .before .disconnecting .ensures) (c .before .before .before .before .before .before .before .before .before .before .before .before .before .before .of-peer .ensures) (c .before .before .before .before .before .before .before .before .before .before .before .clear-action .ensures))
+    c .before .before .before .before .before .revoke-all .ensures l₀
+    ∙ ap (λ (o : Outcome). ending (a .out .now) o) (disconnected (a .runtime) (heldPending (a .places) (a .pending .now)) (heldCircuits (a .places) (a .circuits .now)) l (heldActions (a .places) (a .inflight .now)) (a .peer .now) (length (a .out .now)) (c .before .before .before .before .before .before .before .before .before .before .before .before .before .before .before .before .before .before .first-refusal .result) (c .before .before .before .before .before .before .before .before .before .before .before .before .before .before .before .peer-of .result) (c .before .before .before .before .before .before .before .before .before .before .before .before .before .disconnecting .result) (c .before .before .before .before .before .before .before .before .before .before .before .before .before .before .of-peer .result) (heldActions (a .places) (c .before .before .before .before .before .before .before .before .before .before .before .clear-action .last .0)) (sym (c .before .before .before .before .before .before .before .before .before .before .before .before .before .before .before .before .before .is-taken .ensures) ∙ c .before .before .before .before .before .before .before .before .before .before .before .before .before .before .before .before .if1 .taken) answer (c .before .before .before .before .before .before .before .before .before .before .before .before .before .before .before .peer-of .ensures) (c .before .before .before .before .before .before .before .before .before .before .before .before .before .disconnecting .ensures) (c .before .before .before .before .before .before .before .before .before .before .before .before .before .before .of-peer .ensures) (c .before .before .before .before .before .before .before .before .before .before .before .clear-action .ensures))
     ∙ whole (a .out .now) w call (omega arith) (omega arith)
 
 refused-requires : tie.Need-refused-requires
@@ -86,14 +93,16 @@ same-length-6 c = search needs
 
 returns-2 : tie.Need-returns-2
 unfolding roomAnswer tablesShort pendingCount circuitCount step disconnect
-returns-2 c = λ l.
+returns-2 c = λ l₀.
     let s = c .before .before .before .before .before .before .before .before .before .before .before in
     let a = s .args in
-    let w = worldOf (a .runtime) (a .pending .now) (a .circuits .now) l (a .inflight .now) in
+    let l = heldLedger (a .places) l₀ in
+    let w = worldOf (a .runtime) (heldPending (a .places) (a .pending .now)) (heldCircuits (a .places) (a .circuits .now)) l (heldActions (a .places) (a .inflight .now)) in
     let call = callDisconnect (a .peer .now) (length (a .out .now)) in
-    let answer = c .before .before .before .first-refusal .ensures ∙ (λ x. c .before .before .before .before .before .entry-answer .ensures x then c .before .before .before .before .peer-answer .ensures x) in
+    let answer = c .before .before .before .first-refusal .ensures ∙ (λ x. (c .before .before .before .before .before .entry-answer .ensures ∙ entry-held (ltb (length (a .out .now)) (closingWords * (count isPending (heldPending (a .places) (a .pending .now)) + count isCircuit (heldCircuits (a .places) (a .circuits .now))))) Short (a .runtime .config) (length (heldPending (a .places) (a .pending .now))) (length (heldCircuits (a .places) (a .circuits .now))) (a .places) (a .inflight .now)) x then c .before .before .before .before .peer-answer .ensures x) in
     let small = bound s in
-    turned-away (a .runtime) (a .pending .now) (a .circuits .now) l (a .inflight .now) (a .out .now) (c .refused .result) (c .before .before .before .first-refusal .result) _ (disconnectPeer w (peerOf (a .peer .now))) (c .refused .ensures) (sym (c .before .before .is-taken .ensures) ∙ c .before .if1 .left) answer
+    places-kept (c .refused .result) (a .pending .now) (a .circuits .now) l₀ (a .inflight .now) (a .out .now) (a .places) (c .refused .ensures .1)
+    ∙ turned-away (a .runtime) (heldPending (a .places) (a .pending .now)) (heldCircuits (a .places) (a .circuits .now)) l (heldActions (a .places) (a .inflight .now)) (a .out .now) (c .refused .result) (c .before .before .before .first-refusal .result) _ (disconnectPeer w (peerOf (a .peer .now))) (c .refused .ensures .0) (sym (c .before .before .is-taken .ensures) ∙ c .before .if1 .left) answer
     ∙ whole (a .out .now) w call (omega arith) (omega arith)
 
 pub disconnect-spec : {M : Type 1} → statement M

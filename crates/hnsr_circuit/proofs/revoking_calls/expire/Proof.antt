@@ -1,26 +1,27 @@
 -- Turned away by its rows, or gone on: the clock moved, ledger records dropped, then what is over revoked.
 mod Tie
-use Prim.Native.Nat.{ℕ, _≤_, _<_}
-use mathlib.Core.Path.{_≡_, refl, sym, ap, _∙_}
-use mathlib.Core.Bool.{Bool, not, Bool·beq}
-use mathlib.Core.List.{List, []}
+use Prim.Native.Nat.{_<_, _*_, _+_}
+use mathlib.Core.Path.{sym, ap, _∙_}
 use lib.ListN.{length}
-use Rattle.hns_encoding.specs.Laws.Tests.{on-true}
-use Rattle.hnsr_circuit.specs.declared.answer.HnsrAnswer.{HnsrAnswer}
-use Rattle.hnsr_circuit.specs.Answers.{taken, _then_}
-use Rattle.hnsr_circuit.specs.World.{Outcome, done}
+use lib.Dec.{ltb}
+use Rattle.hns_encoding.specs.Sums.{count}
+use Rattle.hnsr_circuit.specs.Pending.{isPending}
+use Rattle.hnsr_circuit.specs.Circuits.{isCircuit}
+use Rattle.hnsr_circuit.specs.declared.answer.HnsrRuntimeError.the-variants.{Short}
+use Rattle.hnsr_circuit.specs.Answers.{_then_}
+use Rattle.hnsr_circuit.specs.World.{Outcome}
 use Rattle.hnsr_circuit.specs.Counts.{pendingCount, circuitCount}
-use Rattle.hnsr_circuit.specs.Entry.{roomAnswer, tablesShort, clockAnswer}
+use Rattle.hnsr_circuit.specs.Entry.{roomAnswer, tablesShort, closingWords}
 use Rattle.hnsr_circuit.specs.Progress.{worldOf, ending}
 use Rattle.hnsr_circuit.specs.declared.records.Question.{Question}
 use Rattle.hnsr_circuit.specs.Laws.Calls.{turned-away, whole}
-use Rattle.hnsr_body.specs.declared.messages.Notice.the-variants.{AcceptanceExpired, TicketExpired}
-use Rattle.hnsr_circuit.specs.declared.revocation.Revoking.{Revoking}
 use Rattle.hnsr_circuit.specs.Call.{step, callExpire}
 use Rattle.hnsr_circuit.specs.RevokingCalls.{expire, expireAt}
-use Rattle.hnsr_circuit.specs.Laws.RevokingCalls.{revokes, expired}
+use Rattle.hnsr_circuit.specs.Laws.RevokingCalls.{expired}
 use borrow.Author.Needs.{needs}
 use native.Mathlib.Omega.{arith}
+use Rattle.hnsr_circuit.specs.Held.{heldPending, heldCircuits, heldLedger, heldActions, asksUnused}
+use Rattle.hnsr_circuit.specs.Laws.HeldTables.{places-kept, entry-held}
 use Rattle.hnsr_circuit.proofs.revoking_calls.expire.Statement.{statement}
 use Rattle.hnsr_circuit.proofs.revoking_calls.expire.Proof.Tie as tie
 
@@ -52,7 +53,7 @@ drop-lapsed-requires : tie.Need-drop-lapsed-requires
 drop-lapsed-requires c = search needs
 
 revoke-all-requires : tie.Need-revoke-all-requires
-revoke-all-requires c = search needs
+revoke-all-requires c κs = ap (λ (q : Question). asksUnused (q .ask)) (c .before .before .before .before .before .before .before .before .revoking .ensures .0 ∙ c .before .before .before .before .before .before .before .before .before .over .ensures)
 
 same-length : tie.Need-same-length
 same-length c = search needs
@@ -73,14 +74,14 @@ returns : tie.Need-returns
 unfolding roomAnswer tablesShort pendingCount circuitCount
 returns c = let s = c .before .before .before .before .before .before .before .before .before .before .before .before .before .before .before .before .before .before .before .before .before .before .before .before .before in
     let a = s .args in
-    let w = worldOf (a .runtime) (a .pending .now) (a .circuits .now) (a .ledger .now) (a .inflight .now) in
+    let w = worldOf (a .runtime) (heldPending (a .places) (a .pending .now)) (heldCircuits (a .places) (a .circuits .now)) (heldLedger (a .places) (a .ledger .now)) (heldActions (a .places) (a .inflight .now)) in
     let call = callExpire (a .time) (length (a .out .now)) in
-    let answer = c .before .before .before .before .before .before .before .before .before .before .before .before .before .before .before .before .before .before .first-refusal .ensures ∙ (λ x. c .before .before .before .before .before .before .before .before .before .before .before .before .before .before .before .before .before .before .before .before .entry-answer .ensures x then c .before .before .before .before .before .before .before .before .before .before .before .before .before .before .before .before .before .before .before .clock-answer .ensures x) in
+    let answer = c .before .before .before .before .before .before .before .before .before .before .before .before .before .before .before .before .before .before .first-refusal .ensures ∙ (λ x. (c .before .before .before .before .before .before .before .before .before .before .before .before .before .before .before .before .before .before .before .before .entry-answer .ensures ∙ entry-held (ltb (length (a .out .now)) (closingWords * (count isPending (heldPending (a .places) (a .pending .now)) + count isCircuit (heldCircuits (a .places) (a .circuits .now))))) Short (a .runtime .config) (length (heldPending (a .places) (a .pending .now))) (length (heldCircuits (a .places) (a .circuits .now))) (a .places) (a .inflight .now)) x then c .before .before .before .before .before .before .before .before .before .before .before .before .before .before .before .before .before .before .before .clock-answer .ensures x) in
     let v = c .before .before .before .before .before .before .before .before .before .before .before .before .before .before .revoking .ensures in
     let q = v .0 ∙ c .before .before .before .before .before .before .before .before .before .before .before .before .before .before .before .over .ensures in
     let small = bound s in
     c .before .before .before .before .before .revoke-all .ensures (c .before .before .before .before .before .before .before .before .before .before .before .drop-lapsed .last .0)
-    ∙ ap (λ (o : Outcome). ending (a .out .now) o) (expired (a .runtime) (a .pending .now) (a .circuits .now) (a .ledger .now) (a .inflight .now) (a .time) (length (a .out .now)) (c .before .before .before .before .before .before .before .before .before .before .before .before .before .before .before .before .before .before .first-refusal .result) (c .before .before .before .before .before .before .before .before .before .before .before .before .before .before .revoking .result) (c .before .before .before .before .before .before .before .before .before .before .before .before .before .with-clock .result) (c .before .before .before .before .before .before .before .before .before .before .before .drop-lapsed .last .0) (sym (c .before .before .before .before .before .before .before .before .before .before .before .before .before .before .before .before .before .is-taken .ensures) ∙ c .before .before .before .before .before .before .before .before .before .before .before .before .before .before .before .before .if1 .taken) answer (λ x. record { question = q x; notice = v .1 x; «circuit_notice» = v .2 x; disconnecting = v .3 x }) (c .before .before .before .before .before .before .before .before .before .before .before .before .before .with-clock .ensures) (c .before .before .before .before .before .before .before .before .before .before .before .drop-lapsed .ensures))
+    ∙ ap (λ (o : Outcome). ending (a .out .now) o) (expired (a .runtime) (heldPending (a .places) (a .pending .now)) (heldCircuits (a .places) (a .circuits .now)) (heldLedger (a .places) (a .ledger .now)) (heldActions (a .places) (a .inflight .now)) (a .time) (length (a .out .now)) (c .before .before .before .before .before .before .before .before .before .before .before .before .before .before .before .before .before .before .first-refusal .result) (c .before .before .before .before .before .before .before .before .before .before .before .before .before .before .revoking .result) (c .before .before .before .before .before .before .before .before .before .before .before .before .before .with-clock .result) (heldLedger (a .places) (c .before .before .before .before .before .before .before .before .before .before .before .drop-lapsed .last .0)) (sym (c .before .before .before .before .before .before .before .before .before .before .before .before .before .before .before .before .before .is-taken .ensures) ∙ c .before .before .before .before .before .before .before .before .before .before .before .before .before .before .before .before .if1 .taken) answer (λ x. record { question = q x; notice = v .1 x; «circuit_notice» = v .2 x; disconnecting = v .3 x }) (c .before .before .before .before .before .before .before .before .before .before .before .before .before .with-clock .ensures) (c .before .before .before .before .before .before .before .before .before .before .before .drop-lapsed .ensures))
     ∙ whole (a .out .now) w call (omega arith) (omega arith)
 
 refused-requires : tie.Need-refused-requires
@@ -96,11 +97,12 @@ returns-2 : tie.Need-returns-2
 unfolding roomAnswer tablesShort pendingCount circuitCount step expire
 returns-2 c = let s = c .before .before .before .before .before .before .before .before .before .before in
     let a = s .args in
-    let w = worldOf (a .runtime) (a .pending .now) (a .circuits .now) (a .ledger .now) (a .inflight .now) in
+    let w = worldOf (a .runtime) (heldPending (a .places) (a .pending .now)) (heldCircuits (a .places) (a .circuits .now)) (heldLedger (a .places) (a .ledger .now)) (heldActions (a .places) (a .inflight .now)) in
     let call = callExpire (a .time) (length (a .out .now)) in
-    let answer = c .before .before .before .first-refusal .ensures ∙ (λ x. c .before .before .before .before .before .entry-answer .ensures x then c .before .before .before .before .clock-answer .ensures x) in
+    let answer = c .before .before .before .first-refusal .ensures ∙ (λ x. (c .before .before .before .before .before .entry-answer .ensures ∙ entry-held (ltb (length (a .out .now)) (closingWords * (count isPending (heldPending (a .places) (a .pending .now)) + count isCircuit (heldCircuits (a .places) (a .circuits .now))))) Short (a .runtime .config) (length (heldPending (a .places) (a .pending .now))) (length (heldCircuits (a .places) (a .circuits .now))) (a .places) (a .inflight .now)) x then c .before .before .before .before .clock-answer .ensures x) in
     let small = bound s in
-    turned-away (a .runtime) (a .pending .now) (a .circuits .now) (a .ledger .now) (a .inflight .now) (a .out .now) (c .refused .result) (c .before .before .before .first-refusal .result) _ (expireAt w (a .time)) (c .refused .ensures) (sym (c .before .before .is-taken .ensures) ∙ c .before .if1 .left) answer
+    places-kept (c .refused .result) (a .pending .now) (a .circuits .now) (a .ledger .now) (a .inflight .now) (a .out .now) (a .places) (c .refused .ensures .1)
+    ∙ turned-away (a .runtime) (heldPending (a .places) (a .pending .now)) (heldCircuits (a .places) (a .circuits .now)) (heldLedger (a .places) (a .ledger .now)) (heldActions (a .places) (a .inflight .now)) (a .out .now) (c .refused .result) (c .before .before .before .first-refusal .result) _ (expireAt w (a .time)) (c .refused .ensures .0) (sym (c .before .before .is-taken .ensures) ∙ c .before .if1 .left) answer
     ∙ whole (a .out .now) w call (omega arith) (omega arith)
 
 pub expire-spec : {M : Type 1} → statement M

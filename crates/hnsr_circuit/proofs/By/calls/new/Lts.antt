@@ -8,8 +8,8 @@ use Rattle.hnsr_circuit.proofs.answer.HnsrAnswer
 use Rattle.hnsr_circuit.proofs.answer.HnsrAnswer.Laws
 use Rattle.hnsr_circuit.proofs.config.OpaqueRelayConfig
 use Rattle.hnsr_circuit.proofs.config.OpaqueRelayConfig.Laws as Laws'
-use Rattle.hnsr_circuit.proofs.records.Question
-use Rattle.hnsr_circuit.proofs.records.Question.Laws as Laws''
+use Rattle.hnsr_circuit.proofs.places.Places
+use Rattle.hnsr_circuit.proofs.places.Places.Laws as Laws''
 use Rattle.hnsr_circuit.proofs.runtime.OpaqueRelayRuntime
 use Rattle.hnsr_circuit.proofs.runtime.OpaqueRelayRuntime.Laws as Laws'''
 use Rattle.hnsr_circuit.proofs.runtime.Relayed
@@ -24,17 +24,13 @@ use borrow.Fn.Kinds
 use borrow.Fn.Plain
 use borrow.Kind.Array
 use borrow.Kind.Bool
-use borrow.Kind.MutSlice
 use borrow.Kind.Num
-use borrow.Kind.Unit
+use borrow.Kind.ShrSlice
 use borrow.Kind.Value
 use borrow.Rule.Array.Init
 use borrow.Rule.Array.Rows
-use borrow.Rule.Lifetime
 use borrow.Rule.Local
 use borrow.Rule.Scalar
-use borrow.Rule.Slice.Mut
-use borrow.Rule.Slice.Relend
 use borrow.Rule.Slice.Shared
 use borrow.Rule.Yields
 use borrow.Table.Copies
@@ -64,23 +60,15 @@ use types.Kit
 use mathlib.Core.List.{_∷_}
 
 abbrev ref0 : Syntax.Ty
-ref0 = Syntax.tyRef Syntax.erased Syntax.mut RelayPending.to
+ref0 = Syntax.tyRef (Syntax.named 0) Syntax.imm RelayPending.to
 abbrev ref1 : Syntax.Ty
-ref1 = Syntax.tyRef Syntax.erased Syntax.mut RelayCircuit.to
+ref1 = Syntax.tyRef (Syntax.named 1) Syntax.imm RelayCircuit.to
 abbrev ref2 : Syntax.Ty
-ref2 = Syntax.tyRef Syntax.erased Syntax.mut ReservationUsage.to
+ref2 = Syntax.tyRef (Syntax.named 2) Syntax.imm ReservationUsage.to
 abbrev ref3 : Syntax.Ty
-ref3 = Syntax.tyRef Syntax.erased Syntax.mut InflightAction.to
-abbrev ref4 : Syntax.Ty
-ref4 = Syntax.tyRef (Syntax.named 0) Syntax.mut RelayPending.to
-abbrev ref5 : Syntax.Ty
-ref5 = Syntax.tyRef (Syntax.named 1) Syntax.mut RelayCircuit.to
-abbrev ref6 : Syntax.Ty
-ref6 = Syntax.tyRef (Syntax.named 2) Syntax.mut ReservationUsage.to
-abbrev ref7 : Syntax.Ty
-ref7 = Syntax.tyRef (Syntax.named 3) Syntax.mut InflightAction.to
+ref3 = Syntax.tyRef (Syntax.named 3) Syntax.imm InflightAction.to
 abbrev pub ps : List.List (Kinds.PK 4)
-ps = (MutSlice.pMutS RelayPending.row 0 tt) ∷ (MutSlice.pMutS RelayCircuit.row 1 tt) ∷ (MutSlice.pMutS ReservationUsage.row 2 tt) ∷ (MutSlice.pMutS
+ps = (ShrSlice.pShrS RelayPending.row 0 tt) ∷ (ShrSlice.pShrS RelayCircuit.row 1 tt) ∷ (ShrSlice.pShrS ReservationUsage.row 2 tt) ∷ (ShrSlice.pShrS
     InflightAction.row 3 tt) ∷ (Array.pArr (Array.eInt Syntax.w8) (Array.eInt-laws Syntax.w8) 16) ∷ (Num.pNum Syntax.w64) ∷ (Value.pVal record { ty =
     Declared'.row OpaqueRelayConfig.the-type; one = Path.refl; val = Laws''''''.val OpaqueRelayConfig.the-type Laws'.the-laws; tells =
     Laws''''''.tells OpaqueRelayConfig.the-type Laws'.the-laws; still = Laws''''''.still OpaqueRelayConfig.the-type Laws'.the-copy Exit.yes; row =
@@ -95,13 +83,10 @@ r = Value.rVal record { ty = Declared'.row Relayed.the-type; one = Path.refl; va
     H A W; lawful = Laws''''''.lawful Relayed.the-type Laws''''.the-laws 𝓤 H A W; makes = Laws''''''.makes Relayed.the-type Laws''''.the-plain 𝓤 H A;
     in-mem = Local.mem-whole 𝓤 H A W (Declared'.row Relayed.the-type); of-mem = Local.whole-mem 𝓤 H A W (Declared'.row Relayed.the-type); }
 abbrev pub xs : List.List Syntax.Ty
-xs = Syntax.tyBool ∷ Laws.mir ∷ Laws'''.mir ∷ Laws''.mir ∷ (Syntax.tyInt Syntax.w64) ∷ (Syntax.tyInt Syntax.w64) ∷ (Syntax.tyInt Syntax.w64) ∷
-    Syntax.tyBool ∷ Syntax.tyUnit ∷ ref0 ∷ (Syntax.tyStruct (38 ∷ 91 ∷ 93 ∷ List.[]) (Syntax.tcons ref0 (Syntax.tcons (Syntax.tyInt Syntax.w64)
-    Syntax.tnil))) ∷ ref1 ∷ (Syntax.tyStruct (38 ∷ 91 ∷ 93 ∷ List.[]) (Syntax.tcons ref1 (Syntax.tcons (Syntax.tyInt Syntax.w64) Syntax.tnil))) ∷ ref2
-    ∷ (Syntax.tyStruct (38 ∷ 91 ∷ 93 ∷ List.[]) (Syntax.tcons ref2 (Syntax.tcons (Syntax.tyInt Syntax.w64) Syntax.tnil))) ∷ ref3 ∷ (Syntax.tyStruct
-    (38 ∷ 91 ∷ 93 ∷ List.[]) (Syntax.tcons ref3 (Syntax.tcons (Syntax.tyInt Syntax.w64) Syntax.tnil))) ∷ List.[]
+xs = Syntax.tyBool ∷ Laws.mir ∷ Laws'''.mir ∷ Laws''.mir ∷ Laws'''.mir ∷ Laws''.mir ∷ (Syntax.tyInt Syntax.w64) ∷ (Syntax.tyInt Syntax.w64) ∷
+    (Syntax.tyInt Syntax.w64) ∷ Syntax.tyBool ∷ List.[]
 abbrev pub m : Nat.ℕ
-m = 4
+m = 0
 abbrev pub ps·0 : List.List (Kinds.PK 0)
 ps·0 = (Value.pVal record { ty = Declared'.row OpaqueRelayConfig.the-type; one = Path.refl; val = Laws''''''.val OpaqueRelayConfig.the-type
     Laws'.the-laws; tells = Laws''''''.tells OpaqueRelayConfig.the-type Laws'.the-laws; still = Laws''''''.still OpaqueRelayConfig.the-type
@@ -142,85 +127,76 @@ r·2 = Value.rVal record { ty = Declared'.row OpaqueRelayRuntime.the-type; one =
     H A W; makes = Laws''''''.makes OpaqueRelayRuntime.the-type Laws'''.the-plain 𝓤 H A; in-mem = Local.mem-whole 𝓤 H A W (Declared'.row
     OpaqueRelayRuntime.the-type); of-mem = Local.whole-mem 𝓤 H A W (Declared'.row OpaqueRelayRuntime.the-type); }
 abbrev pub ps·3 : List.List (Kinds.PK 0)
-ps·3 = List.[]
-abbrev pub r·3 : Kinds.RK 0
-r·3 = Value.rVal record { ty = Declared'.row Question.the-type; one = Path.refl; val = Laws''''''.val Question.the-type Laws''.the-laws; tells =
-    Laws''''''.tells Question.the-type Laws''.the-laws; still = Laws''''''.still Question.the-type Laws''.the-copy Exit.yes; row = Rows'.whole
-    (Declared'.row Question.the-type); rd = λ x. x; mk = λ x. x; } λ M 𝓤 H A W. record { copies = Laws''''''.copy Question.the-type Laws''.the-copy 𝓤
-    H A W; lawful = Laws''''''.lawful Question.the-type Laws''.the-laws 𝓤 H A W; makes = Laws''''''.makes Question.the-type Laws''.the-plain 𝓤 H A;
-    in-mem = Local.mem-whole 𝓤 H A W (Declared'.row Question.the-type); of-mem = Local.whole-mem 𝓤 H A W (Declared'.row Question.the-type); }
-abbrev pub ps·4 : List.List (Kinds.PK 0)
-ps·4 = (Value.pVal record { ty = Declared.row HnsrAnswer.the-type; one = Path.refl; val = Laws'''''.val HnsrAnswer.the-type Laws.the-laws; tells =
+ps·3 = (Value.pVal record { ty = Declared.row HnsrAnswer.the-type; one = Path.refl; val = Laws'''''.val HnsrAnswer.the-type Laws.the-laws; tells =
     Laws'''''.tells HnsrAnswer.the-type Laws.the-laws; still = Laws'''''.still HnsrAnswer.the-type Laws.the-copy Exit.yes; row = Rows'.whole
     (Declared.row HnsrAnswer.the-type); rd = λ x. x; mk = λ x. x; } λ M 𝓤 H A W. record { copies = Laws'''''.copy HnsrAnswer.the-type Laws.the-copy 𝓤
     H A W; lawful = Laws'''''.lawful HnsrAnswer.the-type Laws.the-laws 𝓤 H A W tt; makes = Laws'''''.makes HnsrAnswer.the-type Laws.the-plain 𝓤 H A;
     in-mem = Local.mem-whole 𝓤 H A W (Declared.row HnsrAnswer.the-type); of-mem = Local.whole-mem 𝓤 H A W (Declared.row HnsrAnswer.the-type); }) ∷
     List.[]
+abbrev pub r·3 : Kinds.RK 0
+r·3 = Bool.rBool
+abbrev pub ps·4 : List.List (Kinds.PK 0)
+ps·4 = List.[]
 abbrev pub r·4 : Kinds.RK 0
-r·4 = Bool.rBool
-abbrev pub ps·5 : List.List (Kinds.PK 1)
-ps·5 = (MutSlice.pMutS RelayPending.row 0 tt) ∷ (Value.pVal record { ty = Declared'.row Question.the-type; one = Path.refl; val = Laws''''''.val
-    Question.the-type Laws''.the-laws; tells = Laws''''''.tells Question.the-type Laws''.the-laws; still = Laws''''''.still Question.the-type
-    Laws''.the-copy Exit.yes; row = Rows'.whole (Declared'.row Question.the-type); rd = λ x. x; mk = λ x. x; } λ M 𝓤 H A W. record { copies =
-    Laws''''''.copy Question.the-type Laws''.the-copy 𝓤 H A W; lawful = Laws''''''.lawful Question.the-type Laws''.the-laws 𝓤 H A W; makes =
-    Laws''''''.makes Question.the-type Laws''.the-plain 𝓤 H A; in-mem = Local.mem-whole 𝓤 H A W (Declared'.row Question.the-type); of-mem =
-    Local.whole-mem 𝓤 H A W (Declared'.row Question.the-type); }) ∷ List.[]
-abbrev pub r·5 : Kinds.RK 1
-r·5 = Unit.rUnit
-abbrev pub ps·6 : List.List (Kinds.PK 1)
-ps·6 = (MutSlice.pMutS RelayCircuit.row 0 tt) ∷ (Value.pVal record { ty = Declared'.row Question.the-type; one = Path.refl; val = Laws''''''.val
-    Question.the-type Laws''.the-laws; tells = Laws''''''.tells Question.the-type Laws''.the-laws; still = Laws''''''.still Question.the-type
-    Laws''.the-copy Exit.yes; row = Rows'.whole (Declared'.row Question.the-type); rd = λ x. x; mk = λ x. x; } λ M 𝓤 H A W. record { copies =
-    Laws''''''.copy Question.the-type Laws''.the-copy 𝓤 H A W; lawful = Laws''''''.lawful Question.the-type Laws''.the-laws 𝓤 H A W; makes =
-    Laws''''''.makes Question.the-type Laws''.the-plain 𝓤 H A; in-mem = Local.mem-whole 𝓤 H A W (Declared'.row Question.the-type); of-mem =
-    Local.whole-mem 𝓤 H A W (Declared'.row Question.the-type); }) ∷ List.[]
-abbrev pub r·6 : Kinds.RK 1
-r·6 = Unit.rUnit
-abbrev pub ps·7 : List.List (Kinds.PK 1)
-ps·7 = (MutSlice.pMutS ReservationUsage.row 0 tt) ∷ (Value.pVal record { ty = Declared'.row Question.the-type; one = Path.refl; val = Laws''''''.val
-    Question.the-type Laws''.the-laws; tells = Laws''''''.tells Question.the-type Laws''.the-laws; still = Laws''''''.still Question.the-type
-    Laws''.the-copy Exit.yes; row = Rows'.whole (Declared'.row Question.the-type); rd = λ x. x; mk = λ x. x; } λ M 𝓤 H A W. record { copies =
-    Laws''''''.copy Question.the-type Laws''.the-copy 𝓤 H A W; lawful = Laws''''''.lawful Question.the-type Laws''.the-laws 𝓤 H A W; makes =
-    Laws''''''.makes Question.the-type Laws''.the-plain 𝓤 H A; in-mem = Local.mem-whole 𝓤 H A W (Declared'.row Question.the-type); of-mem =
-    Local.whole-mem 𝓤 H A W (Declared'.row Question.the-type); }) ∷ List.[]
-abbrev pub r·7 : Kinds.RK 1
-r·7 = Unit.rUnit
-abbrev pub ps·8 : List.List (Kinds.PK 1)
-ps·8 = (MutSlice.pMutS InflightAction.row 0 tt) ∷ (Value.pVal record { ty = Declared'.row Question.the-type; one = Path.refl; val = Laws''''''.val
-    Question.the-type Laws''.the-laws; tells = Laws''''''.tells Question.the-type Laws''.the-laws; still = Laws''''''.still Question.the-type
-    Laws''.the-copy Exit.yes; row = Rows'.whole (Declared'.row Question.the-type); rd = λ x. x; mk = λ x. x; } λ M 𝓤 H A W. record { copies =
-    Laws''''''.copy Question.the-type Laws''.the-copy 𝓤 H A W; lawful = Laws''''''.lawful Question.the-type Laws''.the-laws 𝓤 H A W; makes =
-    Laws''''''.makes Question.the-type Laws''.the-plain 𝓤 H A; in-mem = Local.mem-whole 𝓤 H A W (Declared'.row Question.the-type); of-mem =
-    Local.whole-mem 𝓤 H A W (Declared'.row Question.the-type); }) ∷ List.[]
-abbrev pub r·8 : Kinds.RK 1
-r·8 = Unit.rUnit
-abbrev pub ps·9 : List.List (Kinds.PK 0)
-ps·9 = (Value.pVal record { ty = Declared'.row OpaqueRelayRuntime.the-type; one = Path.refl; val = Laws''''''.val OpaqueRelayRuntime.the-type
-    Laws'''.the-laws; tells = Laws''''''.tells OpaqueRelayRuntime.the-type Laws'''.the-laws; still = Laws''''''.still OpaqueRelayRuntime.the-type
-    Laws'''.the-copy Exit.yes; row = Rows'.whole (Declared'.row OpaqueRelayRuntime.the-type); rd = λ x. x; mk = λ x. x; } λ M 𝓤 H A W. record { copies
-    = Laws''''''.copy OpaqueRelayRuntime.the-type Laws'''.the-copy 𝓤 H A W; lawful = Laws''''''.lawful OpaqueRelayRuntime.the-type Laws'''.the-laws 𝓤
-    H A W; makes = Laws''''''.makes OpaqueRelayRuntime.the-type Laws'''.the-plain 𝓤 H A; in-mem = Local.mem-whole 𝓤 H A W (Declared'.row
-    OpaqueRelayRuntime.the-type); of-mem = Local.whole-mem 𝓤 H A W (Declared'.row OpaqueRelayRuntime.the-type); }) ∷ List.[]
-abbrev pub r·9 : Kinds.RK 0
-r·9 = Value.rVal record { ty = Declared'.row Relayed.the-type; one = Path.refl; val = Laws''''''.val Relayed.the-type Laws''''.the-laws; tells =
-    Laws''''''.tells Relayed.the-type Laws''''.the-laws; still = Laws''''''.still Relayed.the-type Laws''''.the-copy Exit.yes; row = Rows'.whole
-    (Declared'.row Relayed.the-type); rd = λ x. x; mk = λ x. x; } λ M 𝓤 H A W. record { copies = Laws''''''.copy Relayed.the-type Laws''''.the-copy 𝓤
-    H A W; lawful = Laws''''''.lawful Relayed.the-type Laws''''.the-laws 𝓤 H A W; makes = Laws''''''.makes Relayed.the-type Laws''''.the-plain 𝓤 H A;
-    in-mem = Local.mem-whole 𝓤 H A W (Declared'.row Relayed.the-type); of-mem = Local.whole-mem 𝓤 H A W (Declared'.row Relayed.the-type); }
-abbrev pub ps·10 : List.List (Kinds.PK 0)
-ps·10 = (Value.pVal record { ty = Declared'.row OpaqueRelayRuntime.the-type; one = Path.refl; val = Laws''''''.val OpaqueRelayRuntime.the-type
+r·4 = Value.rVal record { ty = Declared'.row Places.the-type; one = Path.refl; val = Laws''''''.val Places.the-type Laws''.the-laws; tells =
+    Laws''''''.tells Places.the-type Laws''.the-laws; still = Laws''''''.still Places.the-type Laws''.the-copy Exit.yes; row = Rows'.whole
+    (Declared'.row Places.the-type); rd = λ x. x; mk = λ x. x; } λ M 𝓤 H A W. record { copies = Laws''''''.copy Places.the-type Laws''.the-copy 𝓤 H A
+    W; lawful = Laws''''''.lawful Places.the-type Laws''.the-laws 𝓤 H A W; makes = Laws''''''.makes Places.the-type Laws''.the-plain 𝓤 H A; in-mem =
+    Local.mem-whole 𝓤 H A W (Declared'.row Places.the-type); of-mem = Local.whole-mem 𝓤 H A W (Declared'.row Places.the-type); }
+abbrev pub ps·5 : List.List (Kinds.PK 0)
+ps·5 = (Value.pVal record { ty = Declared'.row OpaqueRelayRuntime.the-type; one = Path.refl; val = Laws''''''.val OpaqueRelayRuntime.the-type
     Laws'''.the-laws; tells = Laws''''''.tells OpaqueRelayRuntime.the-type Laws'''.the-laws; still = Laws''''''.still OpaqueRelayRuntime.the-type
     Laws'''.the-copy Exit.yes; row = Rows'.whole (Declared'.row OpaqueRelayRuntime.the-type); rd = λ x. x; mk = λ x. x; } λ M 𝓤 H A W. record { copies
     = Laws''''''.copy OpaqueRelayRuntime.the-type Laws'''.the-copy 𝓤 H A W; lawful = Laws''''''.lawful OpaqueRelayRuntime.the-type Laws'''.the-laws 𝓤
     H A W; makes = Laws''''''.makes OpaqueRelayRuntime.the-type Laws'''.the-plain 𝓤 H A; in-mem = Local.mem-whole 𝓤 H A W (Declared'.row
     OpaqueRelayRuntime.the-type); of-mem = Local.whole-mem 𝓤 H A W (Declared'.row OpaqueRelayRuntime.the-type); }) ∷ (Value.pVal record { ty =
-    Declared.row HnsrAnswer.the-type; one = Path.refl; val = Laws'''''.val HnsrAnswer.the-type Laws.the-laws; tells = Laws'''''.tells
-    HnsrAnswer.the-type Laws.the-laws; still = Laws'''''.still HnsrAnswer.the-type Laws.the-copy Exit.yes; row = Rows'.whole (Declared.row
-    HnsrAnswer.the-type); rd = λ x. x; mk = λ x. x; } λ M 𝓤 H A W. record { copies = Laws'''''.copy HnsrAnswer.the-type Laws.the-copy 𝓤 H A W; lawful
-    = Laws'''''.lawful HnsrAnswer.the-type Laws.the-laws 𝓤 H A W tt; makes = Laws'''''.makes HnsrAnswer.the-type Laws.the-plain 𝓤 H A; in-mem =
-    Local.mem-whole 𝓤 H A W (Declared.row HnsrAnswer.the-type); of-mem = Local.whole-mem 𝓤 H A W (Declared.row HnsrAnswer.the-type); }) ∷ List.[]
-abbrev pub r·10 : Kinds.RK 0
-r·10 = Value.rVal record { ty = Declared'.row Relayed.the-type; one = Path.refl; val = Laws''''''.val Relayed.the-type Laws''''.the-laws; tells =
+    Declared'.row Places.the-type; one = Path.refl; val = Laws''''''.val Places.the-type Laws''.the-laws; tells = Laws''''''.tells Places.the-type
+    Laws''.the-laws; still = Laws''''''.still Places.the-type Laws''.the-copy Exit.yes; row = Rows'.whole (Declared'.row Places.the-type); rd = λ x.
+    x; mk = λ x. x; } λ M 𝓤 H A W. record { copies = Laws''''''.copy Places.the-type Laws''.the-copy 𝓤 H A W; lawful = Laws''''''.lawful
+    Places.the-type Laws''.the-laws 𝓤 H A W; makes = Laws''''''.makes Places.the-type Laws''.the-plain 𝓤 H A; in-mem = Local.mem-whole 𝓤 H A W
+    (Declared'.row Places.the-type); of-mem = Local.whole-mem 𝓤 H A W (Declared'.row Places.the-type); }) ∷ List.[]
+abbrev pub r·5 : Kinds.RK 0
+r·5 = Value.rVal record { ty = Declared'.row Relayed.the-type; one = Path.refl; val = Laws''''''.val Relayed.the-type Laws''''.the-laws; tells =
+    Laws''''''.tells Relayed.the-type Laws''''.the-laws; still = Laws''''''.still Relayed.the-type Laws''''.the-copy Exit.yes; row = Rows'.whole
+    (Declared'.row Relayed.the-type); rd = λ x. x; mk = λ x. x; } λ M 𝓤 H A W. record { copies = Laws''''''.copy Relayed.the-type Laws''''.the-copy 𝓤
+    H A W; lawful = Laws''''''.lawful Relayed.the-type Laws''''.the-laws 𝓤 H A W; makes = Laws''''''.makes Relayed.the-type Laws''''.the-plain 𝓤 H A;
+    in-mem = Local.mem-whole 𝓤 H A W (Declared'.row Relayed.the-type); of-mem = Local.whole-mem 𝓤 H A W (Declared'.row Relayed.the-type); }
+abbrev pub ps·6 : List.List (Kinds.PK 0)
+ps·6 = List.[]
+abbrev pub r·6 : Kinds.RK 0
+r·6 = Value.rVal record { ty = Declared'.row OpaqueRelayRuntime.the-type; one = Path.refl; val = Laws''''''.val OpaqueRelayRuntime.the-type
+    Laws'''.the-laws; tells = Laws''''''.tells OpaqueRelayRuntime.the-type Laws'''.the-laws; still = Laws''''''.still OpaqueRelayRuntime.the-type
+    Laws'''.the-copy Exit.yes; row = Rows'.whole (Declared'.row OpaqueRelayRuntime.the-type); rd = λ x. x; mk = λ x. x; } λ M 𝓤 H A W. record { copies
+    = Laws''''''.copy OpaqueRelayRuntime.the-type Laws'''.the-copy 𝓤 H A W; lawful = Laws''''''.lawful OpaqueRelayRuntime.the-type Laws'''.the-laws 𝓤
+    H A W; makes = Laws''''''.makes OpaqueRelayRuntime.the-type Laws'''.the-plain 𝓤 H A; in-mem = Local.mem-whole 𝓤 H A W (Declared'.row
+    OpaqueRelayRuntime.the-type); of-mem = Local.whole-mem 𝓤 H A W (Declared'.row OpaqueRelayRuntime.the-type); }
+abbrev pub ps·7 : List.List (Kinds.PK 0)
+ps·7 = List.[]
+abbrev pub r·7 : Kinds.RK 0
+r·7 = Value.rVal record { ty = Declared'.row Places.the-type; one = Path.refl; val = Laws''''''.val Places.the-type Laws''.the-laws; tells =
+    Laws''''''.tells Places.the-type Laws''.the-laws; still = Laws''''''.still Places.the-type Laws''.the-copy Exit.yes; row = Rows'.whole
+    (Declared'.row Places.the-type); rd = λ x. x; mk = λ x. x; } λ M 𝓤 H A W. record { copies = Laws''''''.copy Places.the-type Laws''.the-copy 𝓤 H A
+    W; lawful = Laws''''''.lawful Places.the-type Laws''.the-laws 𝓤 H A W; makes = Laws''''''.makes Places.the-type Laws''.the-plain 𝓤 H A; in-mem =
+    Local.mem-whole 𝓤 H A W (Declared'.row Places.the-type); of-mem = Local.whole-mem 𝓤 H A W (Declared'.row Places.the-type); }
+abbrev pub ps·8 : List.List (Kinds.PK 0)
+ps·8 = (Value.pVal record { ty = Declared'.row OpaqueRelayRuntime.the-type; one = Path.refl; val = Laws''''''.val OpaqueRelayRuntime.the-type
+    Laws'''.the-laws; tells = Laws''''''.tells OpaqueRelayRuntime.the-type Laws'''.the-laws; still = Laws''''''.still OpaqueRelayRuntime.the-type
+    Laws'''.the-copy Exit.yes; row = Rows'.whole (Declared'.row OpaqueRelayRuntime.the-type); rd = λ x. x; mk = λ x. x; } λ M 𝓤 H A W. record { copies
+    = Laws''''''.copy OpaqueRelayRuntime.the-type Laws'''.the-copy 𝓤 H A W; lawful = Laws''''''.lawful OpaqueRelayRuntime.the-type Laws'''.the-laws 𝓤
+    H A W; makes = Laws''''''.makes OpaqueRelayRuntime.the-type Laws'''.the-plain 𝓤 H A; in-mem = Local.mem-whole 𝓤 H A W (Declared'.row
+    OpaqueRelayRuntime.the-type); of-mem = Local.whole-mem 𝓤 H A W (Declared'.row OpaqueRelayRuntime.the-type); }) ∷ (Value.pVal record { ty =
+    Declared'.row Places.the-type; one = Path.refl; val = Laws''''''.val Places.the-type Laws''.the-laws; tells = Laws''''''.tells Places.the-type
+    Laws''.the-laws; still = Laws''''''.still Places.the-type Laws''.the-copy Exit.yes; row = Rows'.whole (Declared'.row Places.the-type); rd = λ x.
+    x; mk = λ x. x; } λ M 𝓤 H A W. record { copies = Laws''''''.copy Places.the-type Laws''.the-copy 𝓤 H A W; lawful = Laws''''''.lawful
+    Places.the-type Laws''.the-laws 𝓤 H A W; makes = Laws''''''.makes Places.the-type Laws''.the-plain 𝓤 H A; in-mem = Local.mem-whole 𝓤 H A W
+    (Declared'.row Places.the-type); of-mem = Local.whole-mem 𝓤 H A W (Declared'.row Places.the-type); }) ∷ (Value.pVal record { ty = Declared.row
+    HnsrAnswer.the-type; one = Path.refl; val = Laws'''''.val HnsrAnswer.the-type Laws.the-laws; tells = Laws'''''.tells HnsrAnswer.the-type
+    Laws.the-laws; still = Laws'''''.still HnsrAnswer.the-type Laws.the-copy Exit.yes; row = Rows'.whole (Declared.row HnsrAnswer.the-type); rd = λ x.
+    x; mk = λ x. x; } λ M 𝓤 H A W. record { copies = Laws'''''.copy HnsrAnswer.the-type Laws.the-copy 𝓤 H A W; lawful = Laws'''''.lawful
+    HnsrAnswer.the-type Laws.the-laws 𝓤 H A W tt; makes = Laws'''''.makes HnsrAnswer.the-type Laws.the-plain 𝓤 H A; in-mem = Local.mem-whole 𝓤 H A W
+    (Declared.row HnsrAnswer.the-type); of-mem = Local.whole-mem 𝓤 H A W (Declared.row HnsrAnswer.the-type); }) ∷ List.[]
+abbrev pub r·8 : Kinds.RK 0
+r·8 = Value.rVal record { ty = Declared'.row Relayed.the-type; one = Path.refl; val = Laws''''''.val Relayed.the-type Laws''''.the-laws; tells =
     Laws''''''.tells Relayed.the-type Laws''''.the-laws; still = Laws''''''.still Relayed.the-type Laws''''.the-copy Exit.yes; row = Rows'.whole
     (Declared'.row Relayed.the-type); rd = λ x. x; mk = λ x. x; } λ M 𝓤 H A W. record { copies = Laws''''''.copy Relayed.the-type Laws''''.the-copy 𝓤
     H A W; lawful = Laws''''''.lawful Relayed.the-type Laws''''.the-laws 𝓤 H A W; makes = Laws''''''.makes Relayed.the-type Laws''''.the-plain 𝓤 H A;
@@ -228,139 +204,90 @@ r·10 = Value.rVal record { ty = Declared'.row Relayed.the-type; one = Path.refl
 abbrev pub hs : List.List Syntax.Home
 hs = Syntax.valueLocal ∷ Syntax.valueLocal ∷ Syntax.valueLocal ∷ Syntax.valueLocal ∷ Syntax.valueLocal ∷ Syntax.valueLocal ∷ Syntax.valueLocal ∷
     Syntax.valueLocal ∷ Syntax.valueLocal ∷ Syntax.valueLocal ∷ Syntax.valueLocal ∷ Syntax.valueLocal ∷ Syntax.valueLocal ∷ Syntax.valueLocal ∷
-    Syntax.valueLocal ∷ Syntax.valueLocal ∷ Syntax.valueLocal ∷ Syntax.valueLocal ∷ Syntax.valueLocal ∷ Syntax.valueLocal ∷ Syntax.valueLocal ∷
     Syntax.valueLocal ∷ Syntax.valueLocal ∷ Syntax.valueLocal ∷ Syntax.valueLocal ∷ Syntax.valueLocal ∷ List.[]
 abbrev b0 : Syntax.Body
-b0 = Syntax.assign (Syntax.place 13 List.[]) (Syntax.rvOpd (Syntax.copy (Syntax.place 1 ((Syntax.field 1) ∷ List.[]))))
+b0 = Syntax.assign (Syntax.place 15 List.[]) (Syntax.rvOpd (Syntax.copy (Syntax.place 1 ((Syntax.field 1) ∷ List.[]))))
 abbrev b1 : Syntax.Body
-b1 = Syntax.assign (Syntax.place 14 List.[]) (Syntax.rvOpd (Syntax.copy (Syntax.place 2 ((Syntax.field 1) ∷ List.[]))))
+b1 = Syntax.assign (Syntax.place 16 List.[]) (Syntax.rvOpd (Syntax.copy (Syntax.place 2 ((Syntax.field 1) ∷ List.[]))))
 abbrev b2 : Syntax.Body
-b2 = Syntax.assign (Syntax.place 15 List.[]) (Syntax.rvOpd (Syntax.copy (Syntax.place 4 ((Syntax.field 1) ∷ List.[]))))
+b2 = Syntax.assign (Syntax.place 17 List.[]) (Syntax.rvOpd (Syntax.copy (Syntax.place 4 ((Syntax.field 1) ∷ List.[]))))
 abbrev b3 : Syntax.Body
-b3 = Syntax.call "hnsr_circuit::entry::too_few" ((Syntax.copy (Syntax.place 7 List.[])) ∷ (Syntax.copy (Syntax.place 13 List.[])) ∷ (Syntax.copy
-    (Syntax.place 14 List.[])) ∷ (Syntax.copy (Syntax.place 15 List.[])) ∷ List.[]) (Syntax.place 9 List.[])
+b3 = Syntax.call "hnsr_circuit::entry::too_few" ((Syntax.copy (Syntax.place 7 List.[])) ∷ (Syntax.copy (Syntax.place 15 List.[])) ∷ (Syntax.copy
+    (Syntax.place 16 List.[])) ∷ (Syntax.copy (Syntax.place 17 List.[])) ∷ List.[]) (Syntax.place 9 List.[])
 abbrev b4 : Syntax.Body
-b4 = Syntax.assign (Syntax.place 13 List.[]) (Syntax.rvOpd (Syntax.copy (Syntax.place 3 ((Syntax.field 1) ∷ List.[]))))
+b4 = Syntax.assign (Syntax.place 15 List.[]) (Syntax.rvOpd (Syntax.copy (Syntax.place 3 ((Syntax.field 1) ∷ List.[]))))
 abbrev b5 : Syntax.Body
 b5 = Syntax.call "hnsr_circuit::calls::new_answer" ((Syntax.copy (Syntax.place 5 List.[])) ∷ (Syntax.copy (Syntax.place 6 List.[])) ∷ (Syntax.copy
-    (Syntax.place 7 List.[])) ∷ (Syntax.copy (Syntax.place 9 List.[])) ∷ (Syntax.copy (Syntax.place 13 List.[])) ∷ List.[]) (Syntax.place 10 List.[])
+    (Syntax.place 7 List.[])) ∷ (Syntax.copy (Syntax.place 9 List.[])) ∷ (Syntax.copy (Syntax.place 15 List.[])) ∷ List.[]) (Syntax.place 10 List.[])
 abbrev b6 : Syntax.Body
 b6 = Syntax.call "hnsr_circuit::header::new_header" ((Syntax.copy (Syntax.place 5 List.[])) ∷ (Syntax.copy (Syntax.place 6 List.[])) ∷ (Syntax.copy
     (Syntax.place 7 List.[])) ∷ (Syntax.copy (Syntax.place 8 List.[])) ∷ List.[]) (Syntax.place 11 List.[])
 abbrev b7 : Syntax.Body
-b7 = Syntax.call "hnsr_circuit::question::used" List.[] (Syntax.place 12 List.[])
+b7 = Syntax.call "hnsr_circuit::answer::is_taken" ((Syntax.copy (Syntax.place 10 List.[])) ∷ List.[]) (Syntax.place 18 List.[])
 abbrev b8 : Syntax.Body
-b8 = Syntax.call "hnsr_circuit::answer::is_taken" ((Syntax.copy (Syntax.place 10 List.[])) ∷ List.[]) (Syntax.place 16 List.[])
+b8 = Syntax.call "hnsr_circuit::places::no_place" List.[] (Syntax.place 12 List.[])
 abbrev b9 : Syntax.Body
-b9 = Syntax.assign (Syntax.place 18 List.[]) (Syntax.addrOf (Syntax.place 1 ((Syntax.field 0) ∷ (Syntax.deref RelayPending.ty) ∷ List.[])))
-abbrev b10 : Syntax.Body
-b10 = Syntax.assign (Syntax.place 19 List.[]) (Syntax.aggregate ((Syntax.copy (Syntax.place 18 List.[])) ∷ (Syntax.copy (Syntax.place 1 ((Syntax.field
-    1) ∷ List.[]))) ∷ List.[]))
-abbrev b11 : Syntax.Body
-b11 = Syntax.call "hnsr_circuit::tables::pending::clear_pending" ((Syntax.copy (Syntax.place 19 List.[])) ∷ (Syntax.copy (Syntax.place 12 List.[])) ∷
-    List.[]) (Syntax.place 17 List.[])
-abbrev b12 : Syntax.Body
-b12 = Syntax.assign (Syntax.place 20 List.[]) (Syntax.addrOf (Syntax.place 2 ((Syntax.field 0) ∷ (Syntax.deref RelayCircuit.ty) ∷ List.[])))
-abbrev b13 : Syntax.Body
-b13 = Syntax.assign (Syntax.place 21 List.[]) (Syntax.aggregate ((Syntax.copy (Syntax.place 20 List.[])) ∷ (Syntax.copy (Syntax.place 2 ((Syntax.field
-    1) ∷ List.[]))) ∷ List.[]))
-abbrev b14 : Syntax.Body
-b14 = Syntax.call "hnsr_circuit::tables::circuits::clear_circuit" ((Syntax.copy (Syntax.place 21 List.[])) ∷ (Syntax.copy (Syntax.place 12 List.[])) ∷
-    List.[]) (Syntax.place 17 List.[])
-abbrev b15 : Syntax.Body
-b15 = Syntax.assign (Syntax.place 22 List.[]) (Syntax.addrOf (Syntax.place 3 ((Syntax.field 0) ∷ (Syntax.deref ReservationUsage.ty) ∷ List.[])))
-abbrev b16 : Syntax.Body
-b16 = Syntax.assign (Syntax.place 23 List.[]) (Syntax.aggregate ((Syntax.copy (Syntax.place 22 List.[])) ∷ (Syntax.copy (Syntax.place 3 ((Syntax.field
-    1) ∷ List.[]))) ∷ List.[]))
-abbrev b17 : Syntax.Body
-b17 = Syntax.call "hnsr_circuit::tables::ledger::clear_usage" ((Syntax.copy (Syntax.place 23 List.[])) ∷ (Syntax.copy (Syntax.place 12 List.[])) ∷
-    List.[]) (Syntax.place 17 List.[])
-abbrev b18 : Syntax.Body
-b18 = Syntax.assign (Syntax.place 24 List.[]) (Syntax.addrOf (Syntax.place 4 ((Syntax.field 0) ∷ (Syntax.deref InflightAction.ty) ∷ List.[])))
-abbrev b19 : Syntax.Body
-b19 = Syntax.assign (Syntax.place 25 List.[]) (Syntax.aggregate ((Syntax.copy (Syntax.place 24 List.[])) ∷ (Syntax.copy (Syntax.place 4 ((Syntax.field
-    1) ∷ List.[]))) ∷ List.[]))
-abbrev b20 : Syntax.Body
-b20 = Syntax.call "hnsr_circuit::tables::inflight::clear_action" ((Syntax.copy (Syntax.place 25 List.[])) ∷ (Syntax.copy (Syntax.place 12 List.[])) ∷
-    List.[]) (Syntax.place 17 List.[])
-abbrev b21 : Syntax.Body
-b21 = Syntax.call "hnsr_circuit::revoking_calls::taken_with" ((Syntax.copy (Syntax.place 11 List.[])) ∷ List.[]) (Syntax.place 0 List.[])
-abbrev b22 : Syntax.Body
-b22 = Syntax.return
-abbrev b23 : Syntax.Body
-b23 = Syntax.seq b21 b22
-abbrev b24 : Syntax.Body
-b24 = Syntax.seq b20 b23
-abbrev b25 : Syntax.Body
-b25 = Syntax.seq b19 b24
-abbrev b26 : Syntax.Body
-b26 = Syntax.seq b18 b25
-abbrev b27 : Syntax.Body
-b27 = Syntax.seq b17 b26
-abbrev b28 : Syntax.Body
-b28 = Syntax.seq b16 b27
-abbrev b29 : Syntax.Body
-b29 = Syntax.seq b15 b28
-abbrev b30 : Syntax.Body
-b30 = Syntax.seq b14 b29
-abbrev b31 : Syntax.Body
-b31 = Syntax.seq b13 b30
-abbrev b32 : Syntax.Body
-b32 = Syntax.seq b12 b31
-abbrev b33 : Syntax.Body
-b33 = Syntax.seq b11 b32
-abbrev b34 : Syntax.Body
-b34 = Syntax.seq b10 b33
-abbrev b35 : Syntax.Body
-b35 = Syntax.seq b9 b34
-abbrev b36 : Syntax.Body
-b36 = Syntax.skip
-abbrev b37 : Syntax.Body
-b37 = Syntax.cond (Syntax.copy (Syntax.place 16 List.[])) b35 b36
-abbrev b38 : Syntax.Body
-b38 = Syntax.call "hnsr_circuit::revoking_calls::refused" ((Syntax.copy (Syntax.place 11 List.[])) ∷ (Syntax.copy (Syntax.place 10 List.[])) ∷
+b9 = Syntax.call "hnsr_circuit::revoking_calls::taken_with" ((Syntax.copy (Syntax.place 11 List.[])) ∷ (Syntax.copy (Syntax.place 12 List.[])) ∷
     List.[]) (Syntax.place 0 List.[])
-abbrev b39 : Syntax.Body
-b39 = Syntax.return
-abbrev b40 : Syntax.Body
-b40 = Syntax.seq b38 b39
-abbrev b41 : Syntax.Body
-b41 = Syntax.seq b37 b40
-abbrev b42 : Syntax.Body
-b42 = Syntax.seq b8 b41
-abbrev b43 : Syntax.Body
-b43 = Syntax.seq b7 b42
-abbrev b44 : Syntax.Body
-b44 = Syntax.seq b6 b43
-abbrev b45 : Syntax.Body
-b45 = Syntax.seq b5 b44
-abbrev b46 : Syntax.Body
-b46 = Syntax.seq b4 b45
-abbrev b47 : Syntax.Body
-b47 = Syntax.seq b3 b46
-abbrev b48 : Syntax.Body
-b48 = Syntax.seq b2 b47
-abbrev b49 : Syntax.Body
-b49 = Syntax.seq b1 b48
-abbrev b50 : Syntax.Body
-b50 = Syntax.seq b0 b49
+abbrev b10 : Syntax.Body
+b10 = Syntax.return
+abbrev b11 : Syntax.Body
+b11 = Syntax.seq b9 b10
+abbrev b12 : Syntax.Body
+b12 = Syntax.seq b8 b11
+abbrev b13 : Syntax.Body
+b13 = Syntax.skip
+abbrev b14 : Syntax.Body
+b14 = Syntax.cond (Syntax.copy (Syntax.place 18 List.[])) b12 b13
+abbrev b15 : Syntax.Body
+b15 = Syntax.call "hnsr_circuit::header::no_runtime" List.[] (Syntax.place 13 List.[])
+abbrev b16 : Syntax.Body
+b16 = Syntax.call "hnsr_circuit::places::every_place" List.[] (Syntax.place 14 List.[])
+abbrev b17 : Syntax.Body
+b17 = Syntax.call "hnsr_circuit::revoking_calls::refused" ((Syntax.copy (Syntax.place 13 List.[])) ∷ (Syntax.copy (Syntax.place 14 List.[])) ∷
+    (Syntax.copy (Syntax.place 10 List.[])) ∷ List.[]) (Syntax.place 0 List.[])
+abbrev b18 : Syntax.Body
+b18 = Syntax.return
+abbrev b19 : Syntax.Body
+b19 = Syntax.seq b17 b18
+abbrev b20 : Syntax.Body
+b20 = Syntax.seq b16 b19
+abbrev b21 : Syntax.Body
+b21 = Syntax.seq b15 b20
+abbrev b22 : Syntax.Body
+b22 = Syntax.seq b14 b21
+abbrev b23 : Syntax.Body
+b23 = Syntax.seq b7 b22
+abbrev b24 : Syntax.Body
+b24 = Syntax.seq b6 b23
+abbrev b25 : Syntax.Body
+b25 = Syntax.seq b5 b24
+abbrev b26 : Syntax.Body
+b26 = Syntax.seq b4 b25
+abbrev b27 : Syntax.Body
+b27 = Syntax.seq b3 b26
+abbrev b28 : Syntax.Body
+b28 = Syntax.seq b2 b27
+abbrev b29 : Syntax.Body
+b29 = Syntax.seq b1 b28
+abbrev b30 : Syntax.Body
+b30 = Syntax.seq b0 b29
 abbrev pub body : Syntax.Body
-body = b50
+body = b30
 abbrev pub Claims : Type 1
 Claims = Kinds.In 0 ps·0 × Kinds.Out 0 ps·0 r·0 × Kinds.In 0 ps·1 × Kinds.Out 0 ps·1 r·1 × Kinds.In 0 ps·2 × Kinds.Out 0 ps·2 r·2 × Kinds.In 0 ps·3 ×
-    Kinds.Out 0 ps·3 r·3 × Kinds.In 0 ps·4 × Kinds.Out 0 ps·4 r·4 × Kinds.In 1 ps·5 × Kinds.Out 1 ps·5 r·5 × Kinds.In 1 ps·6 × Kinds.Out 1 ps·6 r·6 ×
-    Kinds.In 1 ps·7 × Kinds.Out 1 ps·7 r·7 × Kinds.In 1 ps·8 × Kinds.Out 1 ps·8 r·8 × Kinds.In 0 ps·9 × Kinds.Out 0 ps·9 r·9 × Kinds.In 0 ps·10 ×
-    Kinds.Out 0 ps·10 r·10
+    Kinds.Out 0 ps·3 r·3 × Kinds.In 0 ps·4 × Kinds.Out 0 ps·4 r·4 × Kinds.In 0 ps·5 × Kinds.Out 0 ps·5 r·5 × Kinds.In 0 ps·6 × Kinds.Out 0 ps·6 r·6 ×
+    Kinds.In 0 ps·7 × Kinds.Out 0 ps·7 r·7 × Kinds.In 0 ps·8 × Kinds.Out 0 ps·8 r·8
 abbrev e0 : Row.Entry
 e0 = (0, Rows'.any-gone Laws''''.mir)
 abbrev e1 : Row.Entry
-e1 = (1, Mut.mslice RelayPending.row ref4 0)
+e1 = (1, Rows'.sslice RelayPending.row ref0 0)
 abbrev e2 : Row.Entry
-e2 = (2, Mut.mslice RelayCircuit.row ref5 1)
+e2 = (2, Rows'.sslice RelayCircuit.row ref1 1)
 abbrev e3 : Row.Entry
-e3 = (3, Mut.mslice ReservationUsage.row ref6 2)
+e3 = (3, Rows'.sslice ReservationUsage.row ref2 2)
 abbrev e4 : Row.Entry
-e4 = (4, Mut.mslice InflightAction.row ref7 3)
+e4 = (4, Rows'.sslice InflightAction.row ref3 3)
 abbrev e5 : Row.Entry
 e5 = (5, Rows.arrF (Referent.rtF (Referent.fInt Syntax.w8)) 16 0)
 abbrev e6 : Row.Entry
@@ -378,31 +305,17 @@ e11 = (11, Rows'.any-gone Laws'''.mir)
 abbrev e12 : Row.Entry
 e12 = (12, Rows'.any-gone Laws''.mir)
 abbrev e13 : Row.Entry
-e13 = (13, Rows'.any-gone (Syntax.tyInt Syntax.w64))
+e13 = (13, Rows'.any-gone Laws'''.mir)
 abbrev e14 : Row.Entry
-e14 = (14, Rows'.any-gone (Syntax.tyInt Syntax.w64))
+e14 = (14, Rows'.any-gone Laws''.mir)
 abbrev e15 : Row.Entry
 e15 = (15, Rows'.any-gone (Syntax.tyInt Syntax.w64))
 abbrev e16 : Row.Entry
-e16 = (16, Rows'.any-gone Syntax.tyBool)
+e16 = (16, Rows'.any-gone (Syntax.tyInt Syntax.w64))
 abbrev e17 : Row.Entry
-e17 = (17, Rows'.any-gone Syntax.tyUnit)
+e17 = (17, Rows'.any-gone (Syntax.tyInt Syntax.w64))
 abbrev e18 : Row.Entry
-e18 = (18, Rows'.any-gone ref0)
-abbrev e19 : Row.Entry
-e19 = (19, Rows'.any-gone (Syntax.tyStruct (38 ∷ 91 ∷ 93 ∷ List.[]) (Syntax.tcons ref0 (Syntax.tcons (Syntax.tyInt Syntax.w64) Syntax.tnil))))
-abbrev e20 : Row.Entry
-e20 = (20, Rows'.any-gone ref1)
-abbrev e21 : Row.Entry
-e21 = (21, Rows'.any-gone (Syntax.tyStruct (38 ∷ 91 ∷ 93 ∷ List.[]) (Syntax.tcons ref1 (Syntax.tcons (Syntax.tyInt Syntax.w64) Syntax.tnil))))
-abbrev e22 : Row.Entry
-e22 = (22, Rows'.any-gone ref2)
-abbrev e23 : Row.Entry
-e23 = (23, Rows'.any-gone (Syntax.tyStruct (38 ∷ 91 ∷ 93 ∷ List.[]) (Syntax.tcons ref2 (Syntax.tcons (Syntax.tyInt Syntax.w64) Syntax.tnil))))
-abbrev e24 : Row.Entry
-e24 = (24, Rows'.any-gone ref3)
-abbrev e25 : Row.Entry
-e25 = (25, Rows'.any-gone (Syntax.tyStruct (38 ∷ 91 ∷ 93 ∷ List.[]) (Syntax.tcons ref3 (Syntax.tcons (Syntax.tyInt Syntax.w64) Syntax.tnil))))
+e18 = (18, Rows'.any-gone Syntax.tyBool)
 abbrev e0·1 : Row.Entry
 e0·1 = (0, Rows'.whole (Declared'.row Relayed.the-type))
 abbrev e5·1 : Row.Entry
@@ -413,156 +326,88 @@ abbrev e7·1 : Row.Entry
 e7·1 = (7, Rows'.any-gone Laws'.mir)
 abbrev e8·1 : Row.Entry
 e8·1 = (8, Rows'.any-gone (Syntax.tyInt Syntax.w64))
-abbrev e13·1 : Row.Entry
-e13·1 = (13, Rows'.sc-here (Row.sInt Syntax.w64))
-abbrev e14·1 : Row.Entry
-e14·1 = (14, Rows'.sc-here (Row.sInt Syntax.w64))
 abbrev e15·1 : Row.Entry
 e15·1 = (15, Rows'.sc-here (Row.sInt Syntax.w64))
+abbrev e16·1 : Row.Entry
+e16·1 = (16, Rows'.sc-here (Row.sInt Syntax.w64))
+abbrev e17·1 : Row.Entry
+e17·1 = (17, Rows'.sc-here (Row.sInt Syntax.w64))
 abbrev e9·1 : Row.Entry
 e9·1 = (9, Rows'.sc-here Row.sBool)
 abbrev e10·1 : Row.Entry
 e10·1 = (10, Rows'.whole (Declared.row HnsrAnswer.the-type))
 abbrev e11·1 : Row.Entry
 e11·1 = (11, Rows'.whole (Declared'.row OpaqueRelayRuntime.the-type))
-abbrev e12·1 : Row.Entry
-e12·1 = (12, Rows'.whole (Declared'.row Question.the-type))
-abbrev e16·1 : Row.Entry
-e16·1 = (16, Rows'.sc-here Row.sBool)
-abbrev e1·1 : Row.Entry
-e1·1 = (1, Relend.mslice-owed RelayPending.row ref4 0 4 Row.off)
 abbrev e18·1 : Row.Entry
-e18·1 = (18, Relend.msptr RelayPending.row ref0 4)
-abbrev e19·1 : Row.Entry
-e19·1 = (19, Mut.mslice RelayPending.row ref0 4)
-abbrev e17·1 : Row.Entry
-e17·1 = (17, Rows'.sc-here Row.sUnit)
-abbrev e19·2 : Row.Entry
-e19·2 = (19, Mut.msleft RelayPending.row ref0)
-abbrev e2·1 : Row.Entry
-e2·1 = (2, Relend.mslice-owed RelayCircuit.row ref5 1 5 Row.off)
-abbrev e20·1 : Row.Entry
-e20·1 = (20, Relend.msptr RelayCircuit.row ref1 5)
-abbrev e21·1 : Row.Entry
-e21·1 = (21, Mut.mslice RelayCircuit.row ref1 5)
-abbrev e21·2 : Row.Entry
-e21·2 = (21, Mut.msleft RelayCircuit.row ref1)
-abbrev e3·1 : Row.Entry
-e3·1 = (3, Relend.mslice-owed ReservationUsage.row ref6 2 6 Row.off)
-abbrev e22·1 : Row.Entry
-e22·1 = (22, Relend.msptr ReservationUsage.row ref2 6)
-abbrev e23·1 : Row.Entry
-e23·1 = (23, Mut.mslice ReservationUsage.row ref2 6)
-abbrev e23·2 : Row.Entry
-e23·2 = (23, Mut.msleft ReservationUsage.row ref2)
-abbrev e4·1 : Row.Entry
-e4·1 = (4, Relend.mslice-owed InflightAction.row ref7 3 7 Row.off)
-abbrev e24·1 : Row.Entry
-e24·1 = (24, Relend.msptr InflightAction.row ref3 7)
-abbrev e25·1 : Row.Entry
-e25·1 = (25, Mut.mslice InflightAction.row ref3 7)
-abbrev e25·2 : Row.Entry
-e25·2 = (25, Mut.msleft InflightAction.row ref3)
+e18·1 = (18, Rows'.sc-here Row.sBool)
+abbrev e12·1 : Row.Entry
+e12·1 = (12, Rows'.whole (Declared'.row Places.the-type))
+abbrev e13·1 : Row.Entry
+e13·1 = (13, Rows'.whole (Declared'.row OpaqueRelayRuntime.the-type))
+abbrev e14·1 : Row.Entry
+e14·1 = (14, Rows'.whole (Declared'.row Places.the-type))
 abbrev pub t0 : List.List Row.Entry
 t0 = e0 ∷ e1 ∷ e2 ∷ e3 ∷ e4 ∷ e5 ∷ e6 ∷ e7 ∷ e8 ∷ e9 ∷ e10 ∷ e11 ∷ e12 ∷ e13 ∷ e14 ∷ e15 ∷ List.[]
 abbrev pub t1 : List.List Row.Entry
-t1 = e16 ∷ e17 ∷ e18 ∷ e19 ∷ e20 ∷ e21 ∷ e22 ∷ e23 ∷ e24 ∷ e25 ∷ List.[]
+t1 = e16 ∷ e17 ∷ e18 ∷ List.[]
 abbrev pub t2 : List.List Row.Entry
 t2 = e0·1 ∷ e1 ∷ e2 ∷ e3 ∷ e4 ∷ e5·1 ∷ e6·1 ∷ e7·1 ∷ e8·1 ∷ e9 ∷ e10 ∷ e11 ∷ e12 ∷ e13 ∷ e14 ∷ e15 ∷ List.[]
 abbrev pub t3 : List.List Row.Entry
-t3 = e0 ∷ e1 ∷ e2 ∷ e3 ∷ e4 ∷ e5 ∷ e6 ∷ e7 ∷ e8 ∷ e9 ∷ e10 ∷ e11 ∷ e12 ∷ e13·1 ∷ e14 ∷ e15 ∷ List.[]
+t3 = e0 ∷ e1 ∷ e2 ∷ e3 ∷ e4 ∷ e5 ∷ e6 ∷ e7 ∷ e8 ∷ e9 ∷ e10 ∷ e11 ∷ e12 ∷ e13 ∷ e14 ∷ e15·1 ∷ List.[]
 abbrev pub t4 : List.List Row.Entry
-t4 = e0 ∷ e1 ∷ e2 ∷ e3 ∷ e4 ∷ e5 ∷ e6 ∷ e7 ∷ e8 ∷ e9 ∷ e10 ∷ e11 ∷ e12 ∷ e13·1 ∷ e14·1 ∷ e15 ∷ List.[]
+t4 = e16·1 ∷ e17 ∷ e18 ∷ List.[]
 abbrev pub t5 : List.List Row.Entry
-t5 = e0 ∷ e1 ∷ e2 ∷ e3 ∷ e4 ∷ e5 ∷ e6 ∷ e7 ∷ e8 ∷ e9 ∷ e10 ∷ e11 ∷ e12 ∷ e13·1 ∷ e14·1 ∷ e15·1 ∷ List.[]
+t5 = e16·1 ∷ e17·1 ∷ e18 ∷ List.[]
 abbrev pub t6 : List.List Row.Entry
-t6 = e0 ∷ e1 ∷ e2 ∷ e3 ∷ e4 ∷ e5 ∷ e6 ∷ e7 ∷ e8 ∷ e9·1 ∷ e10 ∷ e11 ∷ e12 ∷ e13·1 ∷ e14·1 ∷ e15·1 ∷ List.[]
+t6 = e0 ∷ e1 ∷ e2 ∷ e3 ∷ e4 ∷ e5 ∷ e6 ∷ e7 ∷ e8 ∷ e9·1 ∷ e10 ∷ e11 ∷ e12 ∷ e13 ∷ e14 ∷ e15·1 ∷ List.[]
 abbrev pub t7 : List.List Row.Entry
-t7 = e0 ∷ e1 ∷ e2 ∷ e3 ∷ e4 ∷ e5 ∷ e6 ∷ e7 ∷ e8 ∷ e9·1 ∷ e10 ∷ e11 ∷ e12 ∷ e13 ∷ e14·1 ∷ e15·1 ∷ List.[]
+t7 = e0 ∷ e1 ∷ e2 ∷ e3 ∷ e4 ∷ e5 ∷ e6 ∷ e7 ∷ e8 ∷ e9·1 ∷ e10 ∷ e11 ∷ e12 ∷ e13 ∷ e14 ∷ e15 ∷ List.[]
 abbrev pub t8 : List.List Row.Entry
-t8 = e0 ∷ e1 ∷ e2 ∷ e3 ∷ e4 ∷ e5 ∷ e6 ∷ e7 ∷ e8 ∷ e9·1 ∷ e10 ∷ e11 ∷ e12 ∷ e13 ∷ e14 ∷ e15·1 ∷ List.[]
+t8 = e16 ∷ e17·1 ∷ e18 ∷ List.[]
 abbrev pub t9 : List.List Row.Entry
-t9 = e0 ∷ e1 ∷ e2 ∷ e3 ∷ e4 ∷ e5 ∷ e6 ∷ e7 ∷ e8 ∷ e9·1 ∷ e10 ∷ e11 ∷ e12 ∷ e13 ∷ e14 ∷ e15 ∷ List.[]
+t9 = e0 ∷ e1 ∷ e2 ∷ e3 ∷ e4 ∷ e5 ∷ e6 ∷ e7 ∷ e8 ∷ e9·1 ∷ e10·1 ∷ e11 ∷ e12 ∷ e13 ∷ e14 ∷ e15·1 ∷ List.[]
 abbrev pub t10 : List.List Row.Entry
-t10 = e0 ∷ e1 ∷ e2 ∷ e3 ∷ e4 ∷ e5 ∷ e6 ∷ e7 ∷ e8 ∷ e9·1 ∷ e10 ∷ e11 ∷ e12 ∷ e13·1 ∷ e14 ∷ e15 ∷ List.[]
+t10 = e0 ∷ e1 ∷ e2 ∷ e3 ∷ e4 ∷ e5 ∷ e6 ∷ e7 ∷ e8 ∷ e9·1 ∷ e10·1 ∷ e11 ∷ e12 ∷ e13 ∷ e14 ∷ e15 ∷ List.[]
 abbrev pub t11 : List.List Row.Entry
-t11 = e0 ∷ e1 ∷ e2 ∷ e3 ∷ e4 ∷ e5 ∷ e6 ∷ e7 ∷ e8 ∷ e9·1 ∷ e10·1 ∷ e11 ∷ e12 ∷ e13·1 ∷ e14 ∷ e15 ∷ List.[]
+t11 = e0 ∷ e1 ∷ e2 ∷ e3 ∷ e4 ∷ e5 ∷ e6 ∷ e7 ∷ e8 ∷ e9·1 ∷ e10·1 ∷ e11·1 ∷ e12 ∷ e13 ∷ e14 ∷ e15 ∷ List.[]
 abbrev pub t12 : List.List Row.Entry
-t12 = e0 ∷ e1 ∷ e2 ∷ e3 ∷ e4 ∷ e5 ∷ e6 ∷ e7 ∷ e8 ∷ e9·1 ∷ e10·1 ∷ e11 ∷ e12 ∷ e13 ∷ e14 ∷ e15 ∷ List.[]
+t12 = e0 ∷ e1 ∷ e2 ∷ e3 ∷ e4 ∷ e5·1 ∷ e6 ∷ e7 ∷ e8 ∷ e9·1 ∷ e10·1 ∷ e11·1 ∷ e12 ∷ e13 ∷ e14 ∷ e15 ∷ List.[]
 abbrev pub t13 : List.List Row.Entry
-t13 = e0 ∷ e1 ∷ e2 ∷ e3 ∷ e4 ∷ e5 ∷ e6 ∷ e7 ∷ e8 ∷ e9·1 ∷ e10·1 ∷ e11·1 ∷ e12 ∷ e13 ∷ e14 ∷ e15 ∷ List.[]
+t13 = e0 ∷ e1 ∷ e2 ∷ e3 ∷ e4 ∷ e5·1 ∷ e6 ∷ e7·1 ∷ e8 ∷ e9·1 ∷ e10·1 ∷ e11·1 ∷ e12 ∷ e13 ∷ e14 ∷ e15 ∷ List.[]
 abbrev pub t14 : List.List Row.Entry
-t14 = e0 ∷ e1 ∷ e2 ∷ e3 ∷ e4 ∷ e5·1 ∷ e6 ∷ e7 ∷ e8 ∷ e9·1 ∷ e10·1 ∷ e11·1 ∷ e12 ∷ e13 ∷ e14 ∷ e15 ∷ List.[]
+t14 = e16 ∷ e17 ∷ e18·1 ∷ List.[]
 abbrev pub t15 : List.List Row.Entry
-t15 = e0 ∷ e1 ∷ e2 ∷ e3 ∷ e4 ∷ e5·1 ∷ e6 ∷ e7·1 ∷ e8 ∷ e9·1 ∷ e10·1 ∷ e11·1 ∷ e12 ∷ e13 ∷ e14 ∷ e15 ∷ List.[]
+t15 = e0 ∷ e1 ∷ e2 ∷ e3 ∷ e4 ∷ e5·1 ∷ e6 ∷ e7·1 ∷ e8 ∷ e9·1 ∷ e10·1 ∷ e11 ∷ e12 ∷ e13 ∷ e14 ∷ e15 ∷ List.[]
 abbrev pub t16 : List.List Row.Entry
-t16 = e0 ∷ e1 ∷ e2 ∷ e3 ∷ e4 ∷ e5·1 ∷ e6 ∷ e7·1 ∷ e8 ∷ e9·1 ∷ e10·1 ∷ e11·1 ∷ e12·1 ∷ e13 ∷ e14 ∷ e15 ∷ List.[]
+t16 = e0 ∷ e1 ∷ e2 ∷ e3 ∷ e4 ∷ e5·1 ∷ e6 ∷ e7·1 ∷ e8 ∷ e9·1 ∷ e10 ∷ e11·1 ∷ e12 ∷ e13 ∷ e14 ∷ e15 ∷ List.[]
 abbrev pub t17 : List.List Row.Entry
-t17 = e16·1 ∷ e17 ∷ e18 ∷ e19 ∷ e20 ∷ e21 ∷ e22 ∷ e23 ∷ e24 ∷ e25 ∷ List.[]
+t17 = e0 ∷ e1 ∷ e2 ∷ e3 ∷ e4 ∷ e5·1 ∷ e6 ∷ e7·1 ∷ e8 ∷ e9·1 ∷ e10 ∷ e11·1 ∷ e12·1 ∷ e13 ∷ e14 ∷ e15 ∷ List.[]
 abbrev pub t18 : List.List Row.Entry
-t18 = e0 ∷ e1 ∷ e2 ∷ e3 ∷ e4 ∷ e5·1 ∷ e6 ∷ e7·1 ∷ e8 ∷ e9·1 ∷ e10 ∷ e11·1 ∷ e12·1 ∷ e13 ∷ e14 ∷ e15 ∷ List.[]
+t18 = e0·1 ∷ e1 ∷ e2 ∷ e3 ∷ e4 ∷ e5·1 ∷ e6 ∷ e7·1 ∷ e8 ∷ e9·1 ∷ e10 ∷ e11·1 ∷ e12·1 ∷ e13 ∷ e14 ∷ e15 ∷ List.[]
 abbrev pub t19 : List.List Row.Entry
-t19 = e0 ∷ e1·1 ∷ e2 ∷ e3 ∷ e4 ∷ e5·1 ∷ e6 ∷ e7·1 ∷ e8 ∷ e9·1 ∷ e10 ∷ e11·1 ∷ e12·1 ∷ e13 ∷ e14 ∷ e15 ∷ List.[]
+t19 = e0·1 ∷ e1 ∷ e2 ∷ e3 ∷ e4 ∷ e5·1 ∷ e6 ∷ e7·1 ∷ e8 ∷ e9·1 ∷ e10 ∷ e11 ∷ e12·1 ∷ e13 ∷ e14 ∷ e15 ∷ List.[]
 abbrev pub t20 : List.List Row.Entry
-t20 = e16 ∷ e17 ∷ e18·1 ∷ e19 ∷ e20 ∷ e21 ∷ e22 ∷ e23 ∷ e24 ∷ e25 ∷ List.[]
+t20 = e0·1 ∷ e1 ∷ e2 ∷ e3 ∷ e4 ∷ e5·1 ∷ e6 ∷ e7·1 ∷ e8 ∷ e9·1 ∷ e10 ∷ e11 ∷ e12 ∷ e13 ∷ e14 ∷ e15 ∷ List.[]
 abbrev pub t21 : List.List Row.Entry
-t21 = e16 ∷ e17 ∷ e18 ∷ e19·1 ∷ e20 ∷ e21 ∷ e22 ∷ e23 ∷ e24 ∷ e25 ∷ List.[]
+t21 = e0·1 ∷ e1 ∷ e2 ∷ e3 ∷ e4 ∷ e5·1 ∷ e6·1 ∷ e7·1 ∷ e8 ∷ e9·1 ∷ e10 ∷ e11 ∷ e12 ∷ e13 ∷ e14 ∷ e15 ∷ List.[]
 abbrev pub t22 : List.List Row.Entry
-t22 = e16 ∷ e17·1 ∷ e18 ∷ e19·2 ∷ e20 ∷ e21 ∷ e22 ∷ e23 ∷ e24 ∷ e25 ∷ List.[]
+t22 = e0·1 ∷ e1 ∷ e2 ∷ e3 ∷ e4 ∷ e5·1 ∷ e6·1 ∷ e7·1 ∷ e8·1 ∷ e9·1 ∷ e10 ∷ e11 ∷ e12 ∷ e13 ∷ e14 ∷ e15 ∷ List.[]
 abbrev pub t23 : List.List Row.Entry
-t23 = e16 ∷ e17 ∷ e18 ∷ e19·2 ∷ e20 ∷ e21 ∷ e22 ∷ e23 ∷ e24 ∷ e25 ∷ List.[]
+t23 = e0 ∷ e1 ∷ e2 ∷ e3 ∷ e4 ∷ e5·1 ∷ e6 ∷ e7·1 ∷ e8 ∷ e9·1 ∷ e10·1 ∷ e11 ∷ e12 ∷ e13·1 ∷ e14 ∷ e15 ∷ List.[]
 abbrev pub t24 : List.List Row.Entry
-t24 = e0 ∷ e1 ∷ e2·1 ∷ e3 ∷ e4 ∷ e5·1 ∷ e6 ∷ e7·1 ∷ e8 ∷ e9·1 ∷ e10 ∷ e11·1 ∷ e12·1 ∷ e13 ∷ e14 ∷ e15 ∷ List.[]
+t24 = e0 ∷ e1 ∷ e2 ∷ e3 ∷ e4 ∷ e5·1 ∷ e6 ∷ e7·1 ∷ e8 ∷ e9·1 ∷ e10·1 ∷ e11 ∷ e12 ∷ e13·1 ∷ e14·1 ∷ e15 ∷ List.[]
 abbrev pub t25 : List.List Row.Entry
-t25 = e16 ∷ e17 ∷ e18 ∷ e19 ∷ e20·1 ∷ e21 ∷ e22 ∷ e23 ∷ e24 ∷ e25 ∷ List.[]
+t25 = e0·1 ∷ e1 ∷ e2 ∷ e3 ∷ e4 ∷ e5·1 ∷ e6 ∷ e7·1 ∷ e8 ∷ e9·1 ∷ e10·1 ∷ e11 ∷ e12 ∷ e13·1 ∷ e14·1 ∷ e15 ∷ List.[]
 abbrev pub t26 : List.List Row.Entry
-t26 = e16 ∷ e17 ∷ e18 ∷ e19 ∷ e20 ∷ e21·1 ∷ e22 ∷ e23 ∷ e24 ∷ e25 ∷ List.[]
+t26 = e0·1 ∷ e1 ∷ e2 ∷ e3 ∷ e4 ∷ e5·1 ∷ e6 ∷ e7·1 ∷ e8 ∷ e9 ∷ e10·1 ∷ e11 ∷ e12 ∷ e13·1 ∷ e14·1 ∷ e15 ∷ List.[]
 abbrev pub t27 : List.List Row.Entry
-t27 = e16 ∷ e17·1 ∷ e18 ∷ e19 ∷ e20 ∷ e21·2 ∷ e22 ∷ e23 ∷ e24 ∷ e25 ∷ List.[]
+t27 = e0·1 ∷ e1 ∷ e2 ∷ e3 ∷ e4 ∷ e5·1 ∷ e6 ∷ e7·1 ∷ e8 ∷ e9 ∷ e10 ∷ e11 ∷ e12 ∷ e13·1 ∷ e14·1 ∷ e15 ∷ List.[]
 abbrev pub t28 : List.List Row.Entry
-t28 = e16 ∷ e17 ∷ e18 ∷ e19 ∷ e20 ∷ e21·2 ∷ e22 ∷ e23 ∷ e24 ∷ e25 ∷ List.[]
+t28 = e0·1 ∷ e1 ∷ e2 ∷ e3 ∷ e4 ∷ e5·1 ∷ e6 ∷ e7·1 ∷ e8 ∷ e9 ∷ e10 ∷ e11 ∷ e12 ∷ e13 ∷ e14·1 ∷ e15 ∷ List.[]
 abbrev pub t29 : List.List Row.Entry
-t29 = e0 ∷ e1 ∷ e2 ∷ e3·1 ∷ e4 ∷ e5·1 ∷ e6 ∷ e7·1 ∷ e8 ∷ e9·1 ∷ e10 ∷ e11·1 ∷ e12·1 ∷ e13 ∷ e14 ∷ e15 ∷ List.[]
+t29 = e0·1 ∷ e1 ∷ e2 ∷ e3 ∷ e4 ∷ e5·1 ∷ e6 ∷ e7·1 ∷ e8 ∷ e9 ∷ e10 ∷ e11 ∷ e12 ∷ e13 ∷ e14 ∷ e15 ∷ List.[]
 abbrev pub t30 : List.List Row.Entry
-t30 = e16 ∷ e17 ∷ e18 ∷ e19 ∷ e20 ∷ e21 ∷ e22·1 ∷ e23 ∷ e24 ∷ e25 ∷ List.[]
-abbrev pub t31 : List.List Row.Entry
-t31 = e16 ∷ e17 ∷ e18 ∷ e19 ∷ e20 ∷ e21 ∷ e22 ∷ e23·1 ∷ e24 ∷ e25 ∷ List.[]
-abbrev pub t32 : List.List Row.Entry
-t32 = e16 ∷ e17·1 ∷ e18 ∷ e19 ∷ e20 ∷ e21 ∷ e22 ∷ e23·2 ∷ e24 ∷ e25 ∷ List.[]
-abbrev pub t33 : List.List Row.Entry
-t33 = e16 ∷ e17 ∷ e18 ∷ e19 ∷ e20 ∷ e21 ∷ e22 ∷ e23·2 ∷ e24 ∷ e25 ∷ List.[]
-abbrev pub t34 : List.List Row.Entry
-t34 = e0 ∷ e1 ∷ e2 ∷ e3 ∷ e4·1 ∷ e5·1 ∷ e6 ∷ e7·1 ∷ e8 ∷ e9·1 ∷ e10 ∷ e11·1 ∷ e12·1 ∷ e13 ∷ e14 ∷ e15 ∷ List.[]
-abbrev pub t35 : List.List Row.Entry
-t35 = e16 ∷ e17 ∷ e18 ∷ e19 ∷ e20 ∷ e21 ∷ e22 ∷ e23 ∷ e24·1 ∷ e25 ∷ List.[]
-abbrev pub t36 : List.List Row.Entry
-t36 = e16 ∷ e17 ∷ e18 ∷ e19 ∷ e20 ∷ e21 ∷ e22 ∷ e23 ∷ e24 ∷ e25·1 ∷ List.[]
-abbrev pub t37 : List.List Row.Entry
-t37 = e16 ∷ e17·1 ∷ e18 ∷ e19 ∷ e20 ∷ e21 ∷ e22 ∷ e23 ∷ e24 ∷ e25·2 ∷ List.[]
-abbrev pub t38 : List.List Row.Entry
-t38 = e0 ∷ e1 ∷ e2 ∷ e3 ∷ e4·1 ∷ e5·1 ∷ e6 ∷ e7·1 ∷ e8 ∷ e9·1 ∷ e10 ∷ e11·1 ∷ e12 ∷ e13 ∷ e14 ∷ e15 ∷ List.[]
-abbrev pub t39 : List.List Row.Entry
-t39 = e16 ∷ e17 ∷ e18 ∷ e19 ∷ e20 ∷ e21 ∷ e22 ∷ e23 ∷ e24 ∷ e25·2 ∷ List.[]
-abbrev pub t40 : List.List Row.Entry
-t40 = e0 ∷ e1 ∷ e2 ∷ e3 ∷ e4 ∷ e5·1 ∷ e6 ∷ e7·1 ∷ e8 ∷ e9·1 ∷ e10 ∷ e11·1 ∷ e12 ∷ e13 ∷ e14 ∷ e15 ∷ List.[]
-abbrev pub t41 : List.List Row.Entry
-t41 = e0·1 ∷ e1 ∷ e2 ∷ e3 ∷ e4 ∷ e5·1 ∷ e6 ∷ e7·1 ∷ e8 ∷ e9·1 ∷ e10 ∷ e11·1 ∷ e12 ∷ e13 ∷ e14 ∷ e15 ∷ List.[]
-abbrev pub t42 : List.List Row.Entry
-t42 = e0·1 ∷ e1 ∷ e2 ∷ e3 ∷ e4 ∷ e5·1 ∷ e6 ∷ e7·1 ∷ e8 ∷ e9·1 ∷ e10 ∷ e11 ∷ e12 ∷ e13 ∷ e14 ∷ e15 ∷ List.[]
-abbrev pub t43 : List.List Row.Entry
-t43 = e0·1 ∷ e1 ∷ e2 ∷ e3 ∷ e4 ∷ e5·1 ∷ e6·1 ∷ e7·1 ∷ e8 ∷ e9·1 ∷ e10 ∷ e11 ∷ e12 ∷ e13 ∷ e14 ∷ e15 ∷ List.[]
-abbrev pub t44 : List.List Row.Entry
-t44 = e0·1 ∷ e1 ∷ e2 ∷ e3 ∷ e4 ∷ e5·1 ∷ e6·1 ∷ e7·1 ∷ e8·1 ∷ e9·1 ∷ e10 ∷ e11 ∷ e12 ∷ e13 ∷ e14 ∷ e15 ∷ List.[]
-abbrev pub t45 : List.List Row.Entry
-t45 = e0·1 ∷ e1 ∷ e2 ∷ e3 ∷ e4 ∷ e5·1 ∷ e6 ∷ e7·1 ∷ e8 ∷ e9·1 ∷ e10·1 ∷ e11·1 ∷ e12 ∷ e13 ∷ e14 ∷ e15 ∷ List.[]
-abbrev pub t46 : List.List Row.Entry
-t46 = e0·1 ∷ e1 ∷ e2 ∷ e3 ∷ e4 ∷ e5·1 ∷ e6 ∷ e7·1 ∷ e8 ∷ e9 ∷ e10·1 ∷ e11·1 ∷ e12 ∷ e13 ∷ e14 ∷ e15 ∷ List.[]
-abbrev pub t47 : List.List Row.Entry
-t47 = e0·1 ∷ e1 ∷ e2 ∷ e3 ∷ e4 ∷ e5·1 ∷ e6 ∷ e7·1 ∷ e8 ∷ e9 ∷ e10 ∷ e11·1 ∷ e12 ∷ e13 ∷ e14 ∷ e15 ∷ List.[]
-abbrev pub t48 : List.List Row.Entry
-t48 = e0·1 ∷ e1 ∷ e2 ∷ e3 ∷ e4 ∷ e5·1 ∷ e6 ∷ e7·1 ∷ e8 ∷ e9 ∷ e10 ∷ e11 ∷ e12 ∷ e13 ∷ e14 ∷ e15 ∷ List.[]
-abbrev pub t49 : List.List Row.Entry
-t49 = e0·1 ∷ e1 ∷ e2 ∷ e3 ∷ e4 ∷ e5·1 ∷ e6·1 ∷ e7·1 ∷ e8 ∷ e9 ∷ e10 ∷ e11 ∷ e12 ∷ e13 ∷ e14 ∷ e15 ∷ List.[]
+t30 = e0·1 ∷ e1 ∷ e2 ∷ e3 ∷ e4 ∷ e5·1 ∷ e6·1 ∷ e7·1 ∷ e8 ∷ e9 ∷ e10 ∷ e11 ∷ e12 ∷ e13 ∷ e14 ∷ e15 ∷ List.[]
 abbrev pub T0 : Row.Cx
 T0 = record { locals = List._++_ t0 t1; slots = List.[] }
 abbrev pub T1 : Row.Cx
@@ -570,138 +415,104 @@ T1 = record { locals = List._++_ t2 t1; slots = List.[] }
 abbrev pub T2 : Row.Cx
 T2 = record { locals = List._++_ t3 t1; slots = List.[] }
 abbrev pub T3 : Row.Cx
-T3 = record { locals = List._++_ t4 t1; slots = List.[] }
+T3 = record { locals = List._++_ t3 t4; slots = List.[] }
 abbrev pub T4 : Row.Cx
-T4 = record { locals = List._++_ t5 t1; slots = List.[] }
+T4 = record { locals = List._++_ t3 t5; slots = List.[] }
 abbrev pub T5 : Row.Cx
-T5 = record { locals = List._++_ t6 t1; slots = List.[] }
+T5 = record { locals = List._++_ t6 t5; slots = List.[] }
 abbrev pub T6 : Row.Cx
-T6 = record { locals = List._++_ t7 t1; slots = List.[] }
+T6 = record { locals = List._++_ t7 t5; slots = List.[] }
 abbrev pub T7 : Row.Cx
-T7 = record { locals = List._++_ t8 t1; slots = List.[] }
+T7 = record { locals = List._++_ t7 t8; slots = List.[] }
 abbrev pub T8 : Row.Cx
-T8 = record { locals = List._++_ t9 t1; slots = List.[] }
+T8 = record { locals = List._++_ t7 t1; slots = List.[] }
 abbrev pub T9 : Row.Cx
-T9 = record { locals = List._++_ t10 t1; slots = List.[] }
+T9 = record { locals = List._++_ t6 t1; slots = List.[] }
 abbrev pub T10 : Row.Cx
-T10 = record { locals = List._++_ t11 t1; slots = List.[] }
+T10 = record { locals = List._++_ t9 t1; slots = List.[] }
 abbrev pub T11 : Row.Cx
-T11 = record { locals = List._++_ t12 t1; slots = List.[] }
+T11 = record { locals = List._++_ t10 t1; slots = List.[] }
 abbrev pub T12 : Row.Cx
-T12 = record { locals = List._++_ t13 t1; slots = List.[] }
+T12 = record { locals = List._++_ t11 t1; slots = List.[] }
 abbrev pub T13 : Row.Cx
-T13 = record { locals = List._++_ t14 t1; slots = List.[] }
+T13 = record { locals = List._++_ t12 t1; slots = List.[] }
 abbrev pub T14 : Row.Cx
-T14 = record { locals = List._++_ t15 t1; slots = List.[] }
+T14 = record { locals = List._++_ t13 t1; slots = List.[] }
 abbrev pub T15 : Row.Cx
-T15 = record { locals = List._++_ t16 t1; slots = List.[] }
+T15 = record { locals = List._++_ t13 t14; slots = List.[] }
 abbrev pub T16 : Row.Cx
-T16 = record { locals = List._++_ t16 t17; slots = List.[] }
+T16 = record { locals = List._++_ t15 t1; slots = List.[] }
 abbrev pub T17 : Row.Cx
-T17 = record { locals = List._++_ t15 t1; slots = List.[] }
+T17 = record { locals = List._++_ t16 t14; slots = List.[] }
 abbrev pub T18 : Row.Cx
-T18 = record { locals = List._++_ t18 t17; slots = List.[] }
+T18 = record { locals = List._++_ t16 t1; slots = List.[] }
 abbrev pub T19 : Row.Cx
-T19 = record { locals = List._++_ t18 t1; slots = List.[] }
+T19 = record { locals = List._++_ t17 t1; slots = List.[] }
+abbrev pub T20 : Row.Cx
+T20 = record { locals = List._++_ t18 t1; slots = List.[] }
 abbrev pub T21 : Row.Cx
-T21 = record { locals = List._++_ t19 t20; slots = List.[] }
+T21 = record { locals = List._++_ t19 t1; slots = List.[] }
 abbrev pub T22 : Row.Cx
-T22 = record { locals = List._++_ t19 t21; slots = List.[] }
+T22 = record { locals = List._++_ t20 t1; slots = List.[] }
 abbrev pub T23 : Row.Cx
-T23 = record { locals = List._++_ t19 t22; slots = List.[] }
+T23 = record { locals = List._++_ t21 t1; slots = List.[] }
 abbrev pub T24 : Row.Cx
-T24 = record { locals = List._++_ t19 t23; slots = List.[] }
+T24 = record { locals = List._++_ t22 t1; slots = List.[] }
+abbrev pub T25 : Row.Cx
+T25 = record { locals = List._++_ t2 t1; slots = List.[] }
 abbrev pub T26 : Row.Cx
-T26 = record { locals = List._++_ t18 t1; slots = List.[] }
+T26 = record { locals = List._++_ t15 t14; slots = List.[] }
+abbrev pub T27 : Row.Cx
+T27 = record { locals = List._++_ t15 t1; slots = List.[] }
+abbrev pub T28 : Row.Cx
+T28 = record { locals = List._++_ t23 t1; slots = List.[] }
 abbrev pub T29 : Row.Cx
-T29 = record { locals = List._++_ t24 t25; slots = List.[] }
+T29 = record { locals = List._++_ t24 t1; slots = List.[] }
 abbrev pub T30 : Row.Cx
-T30 = record { locals = List._++_ t24 t26; slots = List.[] }
+T30 = record { locals = List._++_ t25 t1; slots = List.[] }
 abbrev pub T31 : Row.Cx
-T31 = record { locals = List._++_ t24 t27; slots = List.[] }
+T31 = record { locals = List._++_ t26 t1; slots = List.[] }
 abbrev pub T32 : Row.Cx
-T32 = record { locals = List._++_ t24 t28; slots = List.[] }
+T32 = record { locals = List._++_ t27 t1; slots = List.[] }
+abbrev pub T33 : Row.Cx
+T33 = record { locals = List._++_ t28 t1; slots = List.[] }
 abbrev pub T34 : Row.Cx
-T34 = record { locals = List._++_ t18 t1; slots = List.[] }
-abbrev pub T37 : Row.Cx
-T37 = record { locals = List._++_ t29 t30; slots = List.[] }
-abbrev pub T38 : Row.Cx
-T38 = record { locals = List._++_ t29 t31; slots = List.[] }
-abbrev pub T39 : Row.Cx
-T39 = record { locals = List._++_ t29 t32; slots = List.[] }
-abbrev pub T40 : Row.Cx
-T40 = record { locals = List._++_ t29 t33; slots = List.[] }
-abbrev pub T42 : Row.Cx
-T42 = record { locals = List._++_ t18 t1; slots = List.[] }
-abbrev pub T45 : Row.Cx
-T45 = record { locals = List._++_ t34 t35; slots = List.[] }
-abbrev pub T46 : Row.Cx
-T46 = record { locals = List._++_ t34 t36; slots = List.[] }
-abbrev pub T47 : Row.Cx
-T47 = record { locals = List._++_ t34 t37; slots = List.[] }
-abbrev pub T48 : Row.Cx
-T48 = record { locals = List._++_ t38 t37; slots = List.[] }
-abbrev pub T49 : Row.Cx
-T49 = record { locals = List._++_ t38 t39; slots = List.[] }
-abbrev pub T51 : Row.Cx
-T51 = record { locals = List._++_ t40 t1; slots = List.[] }
-abbrev pub T53 : Row.Cx
-T53 = record { locals = List._++_ t41 t1; slots = List.[] }
-abbrev pub T54 : Row.Cx
-T54 = record { locals = List._++_ t42 t1; slots = List.[] }
-abbrev pub T55 : Row.Cx
-T55 = record { locals = List._++_ t43 t1; slots = List.[] }
-abbrev pub T56 : Row.Cx
-T56 = record { locals = List._++_ t44 t1; slots = List.[] }
-abbrev pub T57 : Row.Cx
-T57 = record { locals = List._++_ t2 t1; slots = List.[] }
-abbrev pub T58 : Row.Cx
-T58 = record { locals = List._++_ t15 t17; slots = List.[] }
-abbrev pub T59 : Row.Cx
-T59 = record { locals = List._++_ t15 t1; slots = List.[] }
-abbrev pub T60 : Row.Cx
-T60 = record { locals = List._++_ t45 t1; slots = List.[] }
-abbrev pub T61 : Row.Cx
-T61 = record { locals = List._++_ t46 t1; slots = List.[] }
-abbrev pub T62 : Row.Cx
-T62 = record { locals = List._++_ t47 t1; slots = List.[] }
-abbrev pub T63 : Row.Cx
-T63 = record { locals = List._++_ t48 t1; slots = List.[] }
-abbrev pub T64 : Row.Cx
-T64 = record { locals = List._++_ t49 t1; slots = List.[] }
-abbrev pub T65 : Row.Cx
-T65 = record { locals = List._++_ t2 t1; slots = List.[] }
+T34 = record { locals = List._++_ t29 t1; slots = List.[] }
+abbrev pub T35 : Row.Cx
+T35 = record { locals = List._++_ t30 t1; slots = List.[] }
+abbrev pub T36 : Row.Cx
+T36 = record { locals = List._++_ t2 t1; slots = List.[] }
 abbrev pub O0 : Typed.Outs
 O0 = record { next = Option.none; exits = List.[]; returns = Option.some T1 }
 abbrev pub O1 : Typed.Outs
-O1 = Typed.withNext (Option.some T17) O0
+O1 = Typed.withNext (Option.some T16) O0
 module _ (claims· : Claims) where
   abbrev s0 : Typed.Mo T0 → Typed.Mo T2
-  s0 = Scalar.n-use T0 (Scalar.oFld 1 ((Syntax.field 1) ∷ List.[]) (Syntax.tyInt Syntax.w64) 8 Shared.lenV) 13 (Rows'.sc-here (Row.sInt Syntax.w64))
+  s0 = Scalar.n-use T0 (Scalar.oFld 1 ((Syntax.field 1) ∷ List.[]) (Syntax.tyInt Syntax.w64) 8 Shared.lenV) 15 (Rows'.sc-here (Row.sInt Syntax.w64))
       (Row.sInt Syntax.w64 .of)
   abbrev s1 : Typed.Mo T2 → Typed.Mo T3
-  s1 = Scalar.n-use T2 (Scalar.oFld 2 ((Syntax.field 1) ∷ List.[]) (Syntax.tyInt Syntax.w64) 8 Shared.lenV) 14 (Rows'.sc-here (Row.sInt Syntax.w64))
+  s1 = Scalar.n-use T2 (Scalar.oFld 2 ((Syntax.field 1) ∷ List.[]) (Syntax.tyInt Syntax.w64) 8 Shared.lenV) 16 (Rows'.sc-here (Row.sInt Syntax.w64))
       (Row.sInt Syntax.w64 .of)
   abbrev s2 : Typed.Mo T3 → Typed.Mo T4
-  s2 = Scalar.n-use T3 (Scalar.oFld 4 ((Syntax.field 1) ∷ List.[]) (Syntax.tyInt Syntax.w64) 8 Shared.lenV) 15 (Rows'.sc-here (Row.sInt Syntax.w64))
+  s2 = Scalar.n-use T3 (Scalar.oFld 4 ((Syntax.field 1) ∷ List.[]) (Syntax.tyInt Syntax.w64) 8 Shared.lenV) 17 (Rows'.sc-here (Row.sInt Syntax.w64))
       (Row.sInt Syntax.w64 .of)
   abbrev s3 : Typed.Both T4 T5
-  s3 = Call.callB ps·0 r·0 (claims· .0) (claims· .1) T4 (record { pos = 7; st = List.[]; d = 0; at = λ x. x }, (Num.vAt 13 λ x. x, (Num.vAt 14 λ x. x,
-      (Num.vAt 15 λ x. x, tt))),) 9 List.[] Syntax.tyBool
+  s3 = Call.callB ps·0 r·0 (claims· .0) (claims· .1) T4 (record { pos = 7; st = List.[]; d = 0; at = λ x. x }, (Num.vAt 15 λ x. x, (Num.vAt 16 λ x. x,
+      (Num.vAt 17 λ x. x, tt))),) 9 List.[] Syntax.tyBool
   abbrev s4 : Typed.Mo T5 → Typed.Mo T6
-  s4 = Scalar.n-room T5 13 (Syntax.tyInt Syntax.w64)
+  s4 = Scalar.n-room T5 15 (Syntax.tyInt Syntax.w64)
   abbrev s5 : Typed.Mo T6 → Typed.Mo T7
-  s5 = Scalar.n-room T6 14 (Syntax.tyInt Syntax.w64)
+  s5 = Scalar.n-room T6 16 (Syntax.tyInt Syntax.w64)
   abbrev s6 : Typed.Mo T7 → Typed.Mo T8
-  s6 = Scalar.n-room T7 15 (Syntax.tyInt Syntax.w64)
+  s6 = Scalar.n-room T7 17 (Syntax.tyInt Syntax.w64)
   abbrev s7 : Typed.Mo T8 → Typed.Mo T9
-  s7 = Scalar.n-use T8 (Scalar.oFld 3 ((Syntax.field 1) ∷ List.[]) (Syntax.tyInt Syntax.w64) 8 Shared.lenV) 13 (Rows'.sc-here (Row.sInt Syntax.w64))
+  s7 = Scalar.n-use T8 (Scalar.oFld 3 ((Syntax.field 1) ∷ List.[]) (Syntax.tyInt Syntax.w64) 8 Shared.lenV) 15 (Rows'.sc-here (Row.sInt Syntax.w64))
       (Row.sInt Syntax.w64 .of)
   abbrev s8 : Typed.Both T9 T10
   s8 = Call.callB ps·1 r·1 (claims· .2) (claims· .3) T9 (record { pos = 5; st = List.[]; d = 0; at = λ x. x }, (Num.vAt 6 λ x. x, (record { pos = 7;
-      st = List.[]; d = 0; at = λ x. x }, (Bool.bAt 9 λ x. x, (Num.vAt 13 λ x. x, tt)),),),) 10 List.[] Laws.mir
+      st = List.[]; d = 0; at = λ x. x }, (Bool.bAt 9 λ x. x, (Num.vAt 15 λ x. x, tt)),),),) 10 List.[] Laws.mir
   abbrev s9 : Typed.Mo T10 → Typed.Mo T11
-  s9 = Scalar.n-room T10 13 (Syntax.tyInt Syntax.w64)
+  s9 = Scalar.n-room T10 15 (Syntax.tyInt Syntax.w64)
   abbrev s10 : Typed.Both T11 T12
   s10 = Call.callB ps·2 r·2 (claims· .4) (claims· .5) T11 (record { pos = 5; st = List.[]; d = 0; at = λ x. x }, (Num.vAt 6 λ x. x, (record { pos = 7;
       st = List.[]; d = 0; at = λ x. x }, (Num.vAt 8 λ x. x, tt)),),) 11 List.[] Laws'''.mir
@@ -710,90 +521,49 @@ module _ (claims· : Claims) where
   abbrev s12 : Typed.Mo T13 → Typed.Mo T14
   s12 = Scalar.n-room T13 7 Laws'.mir
   abbrev s13 : Typed.Both T14 T15
-  s13 = Call.callB ps·3 r·3 (claims· .6) (claims· .7) T14 tt 12 List.[] Laws''.mir
-  abbrev s14 : Typed.Both T15 T16
-  s14 = Call.callB ps·4 r·4 (claims· .8) (claims· .9) T15 (record { pos = 10; st = List.[]; d = 0; at = λ x. x }, tt,) 16 List.[] Syntax.tyBool
-  abbrev s15 : Typed.Mo T16 → Typed.Mo T18
-  s15 = Scalar.n-room T16 10 Laws.mir
-  abbrev s16 : Typed.Mo T18 → Typed.Mo T19
-  s16 = Scalar.n-room T18 16 Syntax.tyBool
-  abbrev s18 : Typed.Gives T19 T21
-  s18 = Relend.k-sl-relend RelayPending.row T19 1 18 0 4 ref4 ref0 Row.off λ x. x
-  abbrev s19 : Typed.Asks T21 T22
-  s19 = Relend.k-sl-aggregate RelayPending.row (Relend.asMut RelayPending.row) T21 18 19 4 ref0 ref0 (λ x. x) (Scalar.oFld 1 ((Syntax.field 1) ∷
-      List.[]) (Syntax.tyInt Syntax.w64) 8 λ v. Shared.lenV (v .0))
-  abbrev s20 : Typed.Both T22 T23
-  s20 = Call.callB ps·5 r·5 (claims· .10) (claims· .11) T22 (record { pos = 19; ty = Syntax.tyRef Syntax.erased Syntax.mut RelayPending.to; ref = λ x.
-      x; }, (record { pos = 12; st = List.[]; d = 0; at = λ x. x }, tt),) 17 (4 ∷ List.[]) Syntax.tyUnit
+  s13 = Call.callB ps·3 r·3 (claims· .6) (claims· .7) T14 (record { pos = 10; st = List.[]; d = 0; at = λ x. x }, tt,) 18 List.[] Syntax.tyBool
+  abbrev s14 : Typed.Mo T15 → Typed.Mo T17
+  s14 = Scalar.n-room T15 10 Laws.mir
+  abbrev s15 : Typed.Mo T17 → Typed.Mo T18
+  s15 = Scalar.n-room T17 18 Syntax.tyBool
+  abbrev s16 : Typed.Both T18 T19
+  s16 = Call.callB ps·4 r·4 (claims· .8) (claims· .9) T18 tt 12 List.[] Laws''.mir
+  abbrev s17 : Typed.Both T19 T20
+  s17 = Call.callB ps·5 r·5 (claims· .10) (claims· .11) T19 (record { pos = 11; st = List.[]; d = 0; at = λ x. x }, (record { pos = 12; st = List.[];
+      d = 0; at = λ x. x }, tt),) 0 List.[] Laws''''.mir
+  abbrev s18 : Typed.Mo T20 → Typed.Mo T21
+  s18 = Scalar.n-room T20 11 Laws'''.mir
+  abbrev s19 : Typed.Mo T21 → Typed.Mo T22
+  s19 = Scalar.n-room T21 12 Laws''.mir
+  abbrev s20 : Typed.Mo T22 → Typed.Mo T23
+  s20 = Scalar.n-room T22 6 (Syntax.tyInt Syntax.w64)
   abbrev s21 : Typed.Mo T23 → Typed.Mo T24
-  s21 = Scalar.n-room T23 17 Syntax.tyUnit
-  abbrev s23 : Typed.Both T24 T26
-  s23 = Relend.k-back-sl RelayPending.row T24 19 1 0 4 ref4 ref0 Row.off (λ x. x) λ x. x
-  abbrev s26 : Typed.Gives T26 T29
-  s26 = Relend.k-sl-relend RelayCircuit.row T26 2 20 1 5 ref5 ref1 Row.off λ x. x
-  abbrev s27 : Typed.Asks T29 T30
-  s27 = Relend.k-sl-aggregate RelayCircuit.row (Relend.asMut RelayCircuit.row) T29 20 21 5 ref1 ref1 (λ x. x) (Scalar.oFld 2 ((Syntax.field 1) ∷
-      List.[]) (Syntax.tyInt Syntax.w64) 8 λ v. Shared.lenV (v .0))
-  abbrev s28 : Typed.Both T30 T31
-  s28 = Call.callB ps·6 r·6 (claims· .12) (claims· .13) T30 (record { pos = 21; ty = Syntax.tyRef Syntax.erased Syntax.mut RelayCircuit.to; ref = λ x.
-      x; }, (record { pos = 12; st = List.[]; d = 0; at = λ x. x }, tt),) 17 (5 ∷ List.[]) Syntax.tyUnit
+  s21 = Scalar.n-room T23 8 (Syntax.tyInt Syntax.w64)
+  abbrev s22 : Typed.Mo T24 → Typed.Mo T25
+  s22 = Scalar.n-room T24 9 Syntax.tyBool
+  abbrev s23 : Typed.Mo T15 → Typed.Mo T26
+  s23 = Scalar.n-room T15 11 Laws'''.mir
+  abbrev s24 : Typed.Mo T26 → Typed.Mo T27
+  s24 = Scalar.n-room T26 18 Syntax.tyBool
+  abbrev s25 : Typed.Both T16 T28
+  s25 = Call.callB ps·6 r·6 (claims· .12) (claims· .13) T16 tt 13 List.[] Laws'''.mir
+  abbrev s26 : Typed.Both T28 T29
+  s26 = Call.callB ps·7 r·7 (claims· .14) (claims· .15) T28 tt 14 List.[] Laws''.mir
+  abbrev s27 : Typed.Both T29 T30
+  s27 = Call.callB ps·8 r·8 (claims· .16) (claims· .17) T29 (record { pos = 13; st = List.[]; d = 0; at = λ x. x }, (record { pos = 14; st = List.[];
+      d = 0; at = λ x. x }, (record { pos = 10; st = List.[]; d = 0; at = λ x. x }, tt),),) 0 List.[] Laws''''.mir
+  abbrev s28 : Typed.Mo T30 → Typed.Mo T31
+  s28 = Scalar.n-room T30 9 Syntax.tyBool
   abbrev s29 : Typed.Mo T31 → Typed.Mo T32
-  s29 = Scalar.n-room T31 17 Syntax.tyUnit
-  abbrev s31 : Typed.Both T32 T34
-  s31 = Relend.k-back-sl RelayCircuit.row T32 21 2 1 5 ref5 ref1 Row.off (λ x. x) λ x. x
-  abbrev s34 : Typed.Gives T34 T37
-  s34 = Relend.k-sl-relend ReservationUsage.row T34 3 22 2 6 ref6 ref2 Row.off λ x. x
-  abbrev s35 : Typed.Asks T37 T38
-  s35 = Relend.k-sl-aggregate ReservationUsage.row (Relend.asMut ReservationUsage.row) T37 22 23 6 ref2 ref2 (λ x. x) (Scalar.oFld 3 ((Syntax.field 1)
-      ∷ List.[]) (Syntax.tyInt Syntax.w64) 8 λ v. Shared.lenV (v .0))
-  abbrev s36 : Typed.Both T38 T39
-  s36 = Call.callB ps·7 r·7 (claims· .14) (claims· .15) T38 (record { pos = 23; ty = Syntax.tyRef Syntax.erased Syntax.mut ReservationUsage.to; ref =
-      λ x. x; }, (record { pos = 12; st = List.[]; d = 0; at = λ x. x }, tt),) 17 (6 ∷ List.[]) Syntax.tyUnit
-  abbrev s37 : Typed.Mo T39 → Typed.Mo T40
-  s37 = Scalar.n-room T39 17 Syntax.tyUnit
-  abbrev s39 : Typed.Both T40 T42
-  s39 = Relend.k-back-sl ReservationUsage.row T40 23 3 2 6 ref6 ref2 Row.off (λ x. x) λ x. x
-  abbrev s42 : Typed.Gives T42 T45
-  s42 = Relend.k-sl-relend InflightAction.row T42 4 24 3 7 ref7 ref3 Row.off λ x. x
-  abbrev s43 : Typed.Asks T45 T46
-  s43 = Relend.k-sl-aggregate InflightAction.row (Relend.asMut InflightAction.row) T45 24 25 7 ref3 ref3 (λ x. x) (Scalar.oFld 4 ((Syntax.field 1) ∷
-      List.[]) (Syntax.tyInt Syntax.w64) 8 λ v. Shared.lenV (v .0))
-  abbrev s44 : Typed.Both T46 T47
-  s44 = Call.callB ps·8 r·8 (claims· .16) (claims· .17) T46 (record { pos = 25; ty = Syntax.tyRef Syntax.erased Syntax.mut InflightAction.to; ref = λ
-      x. x; }, (record { pos = 12; st = List.[]; d = 0; at = λ x. x }, tt),) 17 (7 ∷ List.[]) Syntax.tyUnit
-  abbrev s45 : Typed.Mo T47 → Typed.Mo T48
-  s45 = Scalar.n-room T47 12 Laws''.mir
-  abbrev s46 : Typed.Mo T48 → Typed.Mo T49
-  s46 = Scalar.n-room T48 17 Syntax.tyUnit
-  abbrev s48 : Typed.Both T49 T51
-  s48 = Relend.k-back-sl InflightAction.row T49 25 4 3 7 ref7 ref3 Row.off (λ x. x) λ x. x
-  abbrev s50 : Typed.Both T51 T53
-  s50 = Call.callB ps·9 r·9 (claims· .18) (claims· .19) T51 (record { pos = 11; st = List.[]; d = 0; at = λ x. x }, tt,) 0 List.[] Laws''''.mir
-  abbrev s51 : Typed.Mo T53 → Typed.Mo T54
-  s51 = Scalar.n-room T53 11 Laws'''.mir
-  abbrev s52 : Typed.Mo T54 → Typed.Mo T55
-  s52 = Scalar.n-room T54 6 (Syntax.tyInt Syntax.w64)
-  abbrev s53 : Typed.Mo T55 → Typed.Mo T56
-  s53 = Scalar.n-room T55 8 (Syntax.tyInt Syntax.w64)
-  abbrev s54 : Typed.Mo T56 → Typed.Mo T57
-  s54 = Scalar.n-room T56 9 Syntax.tyBool
-  abbrev s55 : Typed.Mo T16 → Typed.Mo T58
-  s55 = Scalar.n-room T16 12 Laws''.mir
-  abbrev s56 : Typed.Mo T58 → Typed.Mo T59
-  s56 = Scalar.n-room T58 16 Syntax.tyBool
-  abbrev s57 : Typed.Both T17 T60
-  s57 = Call.callB ps·10 r·10 (claims· .20) (claims· .21) T17 (record { pos = 11; st = List.[]; d = 0; at = λ x. x }, (record { pos = 10; st =
-      List.[]; d = 0; at = λ x. x }, tt),) 0 List.[] Laws''''.mir
-  abbrev s58 : Typed.Mo T60 → Typed.Mo T61
-  s58 = Scalar.n-room T60 9 Syntax.tyBool
-  abbrev s59 : Typed.Mo T61 → Typed.Mo T62
-  s59 = Scalar.n-room T61 10 Laws.mir
-  abbrev s60 : Typed.Mo T62 → Typed.Mo T63
-  s60 = Scalar.n-room T62 11 Laws'''.mir
-  abbrev s61 : Typed.Mo T63 → Typed.Mo T64
-  s61 = Scalar.n-room T63 6 (Syntax.tyInt Syntax.w64)
-  abbrev s62 : Typed.Mo T64 → Typed.Mo T65
-  s62 = Scalar.n-room T64 8 (Syntax.tyInt Syntax.w64)
+  s29 = Scalar.n-room T31 10 Laws.mir
+  abbrev s30 : Typed.Mo T32 → Typed.Mo T33
+  s30 = Scalar.n-room T32 13 Laws'''.mir
+  abbrev s31 : Typed.Mo T33 → Typed.Mo T34
+  s31 = Scalar.n-room T33 14 Laws''.mir
+  abbrev s32 : Typed.Mo T34 → Typed.Mo T35
+  s32 = Scalar.n-room T34 6 (Syntax.tyInt Syntax.w64)
+  abbrev s33 : Typed.Mo T35 → Typed.Mo T36
+  s33 = Scalar.n-room T35 8 (Syntax.tyInt Syntax.w64)
   module _ (Pre· : (κs : Lifetimes.Lfts 4) → Kinds.Dens κs ps → Type 0) (Post· : (κs : Lifetimes.Lfts 4) → (a : Kinds.Dens κs ps) → Kinds.Plain 4 ps r
       κs) where
     module _ (M : Type 1) where
@@ -801,166 +571,103 @@ module _ (claims· : Claims) where
       Closed = (𝓤 : URA.URA M) (H : Wp.Heap 𝓤) (A : Atoms.Atoms 𝓤) (W : Kit.Given 𝓤 H A) (𝓣 : Wp.Tables 𝓤 H) (known0 : Plain.Known 𝓤 H A W 𝓣 0 ps·0
           r·0 (claims· .0) (claims· .1) "hnsr_circuit::entry::too_few") (known1 : Plain.Known 𝓤 H A W 𝓣 0 ps·1 r·1 (claims· .2) (claims· .3)
           "hnsr_circuit::calls::new_answer") (known2 : Plain.Known 𝓤 H A W 𝓣 0 ps·2 r·2 (claims· .4) (claims· .5) "hnsr_circuit::header::new_header")
-          (known3 : Plain.Known 𝓤 H A W 𝓣 0 ps·3 r·3 (claims· .6) (claims· .7) "hnsr_circuit::question::used") (known4 : Plain.Known 𝓤 H A W 𝓣 0 ps·4
-          r·4 (claims· .8) (claims· .9) "hnsr_circuit::answer::is_taken") (known5 : Plain.Known 𝓤 H A W 𝓣 1 ps·5 r·5 (claims· .10) (claims· .11)
-          "hnsr_circuit::tables::pending::clear_pending") (known6 : Plain.Known 𝓤 H A W 𝓣 1 ps·6 r·6 (claims· .12) (claims· .13)
-          "hnsr_circuit::tables::circuits::clear_circuit") (known7 : Plain.Known 𝓤 H A W 𝓣 1 ps·7 r·7 (claims· .14) (claims· .15)
-          "hnsr_circuit::tables::ledger::clear_usage") (known8 : Plain.Known 𝓤 H A W 𝓣 1 ps·8 r·8 (claims· .16) (claims· .17)
-          "hnsr_circuit::tables::inflight::clear_action") (known9 : Plain.Known 𝓤 H A W 𝓣 0 ps·9 r·9 (claims· .18) (claims· .19)
-          "hnsr_circuit::revoking_calls::taken_with") (known10 : Plain.Known 𝓤 H A W 𝓣 0 ps·10 r·10 (claims· .20) (claims· .21)
+          (known3 : Plain.Known 𝓤 H A W 𝓣 0 ps·3 r·3 (claims· .6) (claims· .7) "hnsr_circuit::answer::is_taken") (known4 : Plain.Known 𝓤 H A W 𝓣 0
+          ps·4 r·4 (claims· .8) (claims· .9) "hnsr_circuit::places::no_place") (known5 : Plain.Known 𝓤 H A W 𝓣 0 ps·5 r·5 (claims· .10) (claims· .11)
+          "hnsr_circuit::revoking_calls::taken_with") (known6 : Plain.Known 𝓤 H A W 𝓣 0 ps·6 r·6 (claims· .12) (claims· .13)
+          "hnsr_circuit::header::no_runtime") (known7 : Plain.Known 𝓤 H A W 𝓣 0 ps·7 r·7 (claims· .14) (claims· .15)
+          "hnsr_circuit::places::every_place") (known8 : Plain.Known 𝓤 H A W 𝓣 0 ps·8 r·8 (claims· .16) (claims· .17)
           "hnsr_circuit::revoking_calls::refused") → Statement.Triple 𝓤 (Wp.WpFn 𝓤 H (𝓣 .C) (𝓣 .Λ) (Function.fnOf 4 ps r xs m hs body))
           (Function.plainOf 𝓤 H A 4 ps r Pre· Post·)
     module _ where
-      abbrev at0 : Typed.TF T57 O1
+      abbrev at0 : Typed.TF T25 O1
       at0 = Typed.atRet O1
-      abbrev at1 : Typed.TF T56 O1
-      at1 = λ Ψ. Typed.pass T56 T57 s54 (at0 Ψ)
-      abbrev at2 : Typed.TF T55 O1
-      at2 = λ Ψ. Typed.pass T55 T56 s53 (at1 Ψ)
-      abbrev at3 : Typed.TF T54 O1
-      at3 = λ Ψ. Typed.pass T54 T55 s52 (at2 Ψ)
-      abbrev at4 : Typed.TF T53 O1
-      at4 = λ Ψ. Typed.pass T53 T54 s51 (at3 Ψ)
-      abbrev at5 : Typed.TF T51 O1
-      at5 = λ Ψ. Typed.both s50 (at4 Ψ)
-      abbrev at6 : Typed.TF T51 O1
-      at6 = λ Ψ. at5 Ψ
-      abbrev at7 : Typed.TF T49 O1
-      at7 = λ Ψ. Typed.both s48 (at6 Ψ)
-      abbrev at8 : Typed.TF T49 O1
-      at8 = λ Ψ. at7 Ψ
-      abbrev at9 : Typed.TF T48 O1
-      at9 = λ Ψ. Typed.pass T48 T49 s46 (at8 Ψ)
-      abbrev at10 : Typed.TF T47 O1
-      at10 = λ Ψ. Typed.pass T47 T48 s45 (at9 Ψ)
-      abbrev at11 : Typed.TF T46 O1
-      at11 = λ Ψ. Typed.both s44 (at10 Ψ)
-      abbrev at12 : Typed.TF T45 O1
-      at12 = λ Ψ. Typed.ask s43 (at11 Ψ)
-      abbrev at13 : Typed.TF T42 O1
-      at13 = λ Ψ. Typed.give s42 (at12 Ψ)
-      abbrev at14 : Typed.TF T42 O1
-      at14 = λ Ψ. at13 Ψ
-      abbrev at15 : Typed.TF T42 O1
-      at15 = λ Ψ. at14 Ψ
-      abbrev at16 : Typed.TF T40 O1
-      at16 = λ Ψ. Typed.both s39 (at15 Ψ)
-      abbrev at17 : Typed.TF T40 O1
-      at17 = λ Ψ. at16 Ψ
-      abbrev at18 : Typed.TF T39 O1
-      at18 = λ Ψ. Typed.pass T39 T40 s37 (at17 Ψ)
-      abbrev at19 : Typed.TF T38 O1
-      at19 = λ Ψ. Typed.both s36 (at18 Ψ)
-      abbrev at20 : Typed.TF T37 O1
-      at20 = λ Ψ. Typed.ask s35 (at19 Ψ)
-      abbrev at21 : Typed.TF T34 O1
-      at21 = λ Ψ. Typed.give s34 (at20 Ψ)
-      abbrev at22 : Typed.TF T34 O1
-      at22 = λ Ψ. at21 Ψ
-      abbrev at23 : Typed.TF T34 O1
-      at23 = λ Ψ. at22 Ψ
-      abbrev at24 : Typed.TF T32 O1
-      at24 = λ Ψ. Typed.both s31 (at23 Ψ)
-      abbrev at25 : Typed.TF T32 O1
-      at25 = λ Ψ. at24 Ψ
-      abbrev at26 : Typed.TF T31 O1
-      at26 = λ Ψ. Typed.pass T31 T32 s29 (at25 Ψ)
-      abbrev at27 : Typed.TF T30 O1
-      at27 = λ Ψ. Typed.both s28 (at26 Ψ)
-      abbrev at28 : Typed.TF T29 O1
-      at28 = λ Ψ. Typed.ask s27 (at27 Ψ)
-      abbrev at29 : Typed.TF T26 O1
-      at29 = λ Ψ. Typed.give s26 (at28 Ψ)
-      abbrev at30 : Typed.TF T26 O1
-      at30 = λ Ψ. at29 Ψ
-      abbrev at31 : Typed.TF T26 O1
-      at31 = λ Ψ. at30 Ψ
-      abbrev at32 : Typed.TF T24 O1
-      at32 = λ Ψ. Typed.both s23 (at31 Ψ)
-      abbrev at33 : Typed.TF T24 O1
-      at33 = λ Ψ. at32 Ψ
-      abbrev at34 : Typed.TF T23 O1
-      at34 = λ Ψ. Typed.pass T23 T24 s21 (at33 Ψ)
-      abbrev at35 : Typed.TF T22 O1
-      at35 = λ Ψ. Typed.both s20 (at34 Ψ)
-      abbrev at36 : Typed.TF T21 O1
-      at36 = λ Ψ. Typed.ask s19 (at35 Ψ)
-      abbrev at37 : Typed.TF T19 O1
-      at37 = λ Ψ. Typed.give s18 (at36 Ψ)
-      abbrev at38 : Typed.TF T19 O1
-      at38 = λ Ψ. at37 Ψ
-      abbrev at39 : Typed.TF T18 O1
-      at39 = λ Ψ. Typed.pass T18 T19 s16 (at38 Ψ)
-      abbrev at40 : Typed.TF T16 O1
-      at40 = λ Ψ. Typed.pass T16 T18 s15 (at39 Ψ)
-      abbrev at41 : Typed.TF T59 O1
-      at41 = Typed.atNext O1
-      abbrev at42 : Typed.TF T58 O1
-      at42 = λ Ψ. Typed.pass T58 T59 s56 (at41 Ψ)
-      abbrev at43 : Typed.TF T16 O1
-      at43 = λ Ψ. Typed.pass T16 T58 s55 (at42 Ψ)
-      abbrev at44 : Typed.TF T16 O1
-      at44 = Scalar.Φcond T16 O1 16 (λ x. x) at40 at43
-      abbrev at45 : Typed.TF T65 O0
-      at45 = Typed.atRet O0
-      abbrev at46 : Typed.TF T64 O0
-      at46 = λ Ψ. Typed.pass T64 T65 s62 (at45 Ψ)
-      abbrev at47 : Typed.TF T63 O0
-      at47 = λ Ψ. Typed.pass T63 T64 s61 (at46 Ψ)
-      abbrev at48 : Typed.TF T62 O0
-      at48 = λ Ψ. Typed.pass T62 T63 s60 (at47 Ψ)
-      abbrev at49 : Typed.TF T61 O0
-      at49 = λ Ψ. Typed.pass T61 T62 s59 (at48 Ψ)
-      abbrev at50 : Typed.TF T60 O0
-      at50 = λ Ψ. Typed.pass T60 T61 s58 (at49 Ψ)
-      abbrev at51 : Typed.TF T17 O0
-      at51 = λ Ψ. Typed.both s57 (at50 Ψ)
-      abbrev at52 : Typed.TF T16 O0
-      at52 = λ Ψ. at44 (Typed.wantNext T17 O0 (at51 Ψ) Ψ)
-      abbrev at53 : Typed.TF T15 O0
-      at53 = λ Ψ. Typed.both s14 (at52 Ψ)
-      abbrev at54 : Typed.TF T14 O0
-      at54 = λ Ψ. Typed.both s13 (at53 Ψ)
-      abbrev at55 : Typed.TF T13 O0
-      at55 = λ Ψ. Typed.pass T13 T14 s12 (at54 Ψ)
-      abbrev at56 : Typed.TF T12 O0
-      at56 = λ Ψ. Typed.pass T12 T13 s11 (at55 Ψ)
-      abbrev at57 : Typed.TF T11 O0
-      at57 = λ Ψ. Typed.both s10 (at56 Ψ)
-      abbrev at58 : Typed.TF T10 O0
-      at58 = λ Ψ. Typed.pass T10 T11 s9 (at57 Ψ)
-      abbrev at59 : Typed.TF T9 O0
-      at59 = λ Ψ. Typed.both s8 (at58 Ψ)
-      abbrev at60 : Typed.TF T8 O0
-      at60 = λ Ψ. Typed.pass T8 T9 s7 (at59 Ψ)
-      abbrev at61 : Typed.TF T7 O0
-      at61 = λ Ψ. Typed.pass T7 T8 s6 (at60 Ψ)
-      abbrev at62 : Typed.TF T6 O0
-      at62 = λ Ψ. Typed.pass T6 T7 s5 (at61 Ψ)
-      abbrev at63 : Typed.TF T5 O0
-      at63 = λ Ψ. Typed.pass T5 T6 s4 (at62 Ψ)
-      abbrev at64 : Typed.TF T4 O0
-      at64 = λ Ψ. Typed.both s3 (at63 Ψ)
-      abbrev at65 : Typed.TF T3 O0
-      at65 = λ Ψ. Typed.pass T3 T4 s2 (at64 Ψ)
-      abbrev at66 : Typed.TF T2 O0
-      at66 = λ Ψ. Typed.pass T2 T3 s1 (at65 Ψ)
-      abbrev at67 : Typed.TF T0 O0
-      at67 = λ Ψ. Typed.pass T0 T2 s0 (at66 Ψ)
+      abbrev at1 : Typed.TF T24 O1
+      at1 = λ Ψ. Typed.pass T24 T25 s22 (at0 Ψ)
+      abbrev at2 : Typed.TF T23 O1
+      at2 = λ Ψ. Typed.pass T23 T24 s21 (at1 Ψ)
+      abbrev at3 : Typed.TF T22 O1
+      at3 = λ Ψ. Typed.pass T22 T23 s20 (at2 Ψ)
+      abbrev at4 : Typed.TF T21 O1
+      at4 = λ Ψ. Typed.pass T21 T22 s19 (at3 Ψ)
+      abbrev at5 : Typed.TF T20 O1
+      at5 = λ Ψ. Typed.pass T20 T21 s18 (at4 Ψ)
+      abbrev at6 : Typed.TF T19 O1
+      at6 = λ Ψ. Typed.both s17 (at5 Ψ)
+      abbrev at7 : Typed.TF T18 O1
+      at7 = λ Ψ. Typed.both s16 (at6 Ψ)
+      abbrev at8 : Typed.TF T17 O1
+      at8 = λ Ψ. Typed.pass T17 T18 s15 (at7 Ψ)
+      abbrev at9 : Typed.TF T15 O1
+      at9 = λ Ψ. Typed.pass T15 T17 s14 (at8 Ψ)
+      abbrev at10 : Typed.TF T27 O1
+      at10 = Typed.atNext O1
+      abbrev at11 : Typed.TF T26 O1
+      at11 = λ Ψ. Typed.pass T26 T27 s24 (at10 Ψ)
+      abbrev at12 : Typed.TF T15 O1
+      at12 = λ Ψ. Typed.pass T15 T26 s23 (at11 Ψ)
+      abbrev at13 : Typed.TF T15 O1
+      at13 = Scalar.Φcond T15 O1 18 (λ x. x) at9 at12
+      abbrev at14 : Typed.TF T36 O0
+      at14 = Typed.atRet O0
+      abbrev at15 : Typed.TF T35 O0
+      at15 = λ Ψ. Typed.pass T35 T36 s33 (at14 Ψ)
+      abbrev at16 : Typed.TF T34 O0
+      at16 = λ Ψ. Typed.pass T34 T35 s32 (at15 Ψ)
+      abbrev at17 : Typed.TF T33 O0
+      at17 = λ Ψ. Typed.pass T33 T34 s31 (at16 Ψ)
+      abbrev at18 : Typed.TF T32 O0
+      at18 = λ Ψ. Typed.pass T32 T33 s30 (at17 Ψ)
+      abbrev at19 : Typed.TF T31 O0
+      at19 = λ Ψ. Typed.pass T31 T32 s29 (at18 Ψ)
+      abbrev at20 : Typed.TF T30 O0
+      at20 = λ Ψ. Typed.pass T30 T31 s28 (at19 Ψ)
+      abbrev at21 : Typed.TF T29 O0
+      at21 = λ Ψ. Typed.both s27 (at20 Ψ)
+      abbrev at22 : Typed.TF T28 O0
+      at22 = λ Ψ. Typed.both s26 (at21 Ψ)
+      abbrev at23 : Typed.TF T16 O0
+      at23 = λ Ψ. Typed.both s25 (at22 Ψ)
+      abbrev at24 : Typed.TF T15 O0
+      at24 = λ Ψ. at13 (Typed.wantNext T16 O0 (at23 Ψ) Ψ)
+      abbrev at25 : Typed.TF T14 O0
+      at25 = λ Ψ. Typed.both s13 (at24 Ψ)
+      abbrev at26 : Typed.TF T13 O0
+      at26 = λ Ψ. Typed.pass T13 T14 s12 (at25 Ψ)
+      abbrev at27 : Typed.TF T12 O0
+      at27 = λ Ψ. Typed.pass T12 T13 s11 (at26 Ψ)
+      abbrev at28 : Typed.TF T11 O0
+      at28 = λ Ψ. Typed.both s10 (at27 Ψ)
+      abbrev at29 : Typed.TF T10 O0
+      at29 = λ Ψ. Typed.pass T10 T11 s9 (at28 Ψ)
+      abbrev at30 : Typed.TF T9 O0
+      at30 = λ Ψ. Typed.both s8 (at29 Ψ)
+      abbrev at31 : Typed.TF T8 O0
+      at31 = λ Ψ. Typed.pass T8 T9 s7 (at30 Ψ)
+      abbrev at32 : Typed.TF T7 O0
+      at32 = λ Ψ. Typed.pass T7 T8 s6 (at31 Ψ)
+      abbrev at33 : Typed.TF T6 O0
+      at33 = λ Ψ. Typed.pass T6 T7 s5 (at32 Ψ)
+      abbrev at34 : Typed.TF T5 O0
+      at34 = λ Ψ. Typed.pass T5 T6 s4 (at33 Ψ)
+      abbrev at35 : Typed.TF T4 O0
+      at35 = λ Ψ. Typed.both s3 (at34 Ψ)
+      abbrev at36 : Typed.TF T3 O0
+      at36 = λ Ψ. Typed.pass T3 T4 s2 (at35 Ψ)
+      abbrev at37 : Typed.TF T2 O0
+      at37 = λ Ψ. Typed.pass T2 T3 s1 (at36 Ψ)
+      abbrev at38 : Typed.TF T0 O0
+      at38 = λ Ψ. Typed.pass T0 T2 s0 (at37 Ψ)
       abbrev pub Φ : Typed.TF T0 O0
-      Φ = at67
+      Φ = at38
       module _ { M : Type 1 } (𝓤 : URA.URA M) (H : Wp.Heap 𝓤) (A : Atoms.Atoms 𝓤) (W : Kit.Given 𝓤 H A) (𝓣 : Wp.Tables 𝓤 H) where
         abbrev Knowns : Type 1
         Knowns = Plain.Known 𝓤 H A W 𝓣 0 ps·0 r·0 (claims· .0) (claims· .1) "hnsr_circuit::entry::too_few" × Plain.Known 𝓤 H A W 𝓣 0 ps·1 r·1 (claims·
             .2) (claims· .3) "hnsr_circuit::calls::new_answer" × Plain.Known 𝓤 H A W 𝓣 0 ps·2 r·2 (claims· .4) (claims· .5)
-            "hnsr_circuit::header::new_header" × Plain.Known 𝓤 H A W 𝓣 0 ps·3 r·3 (claims· .6) (claims· .7) "hnsr_circuit::question::used" ×
-            Plain.Known 𝓤 H A W 𝓣 0 ps·4 r·4 (claims· .8) (claims· .9) "hnsr_circuit::answer::is_taken" × Plain.Known 𝓤 H A W 𝓣 1 ps·5 r·5 (claims·
-            .10) (claims· .11) "hnsr_circuit::tables::pending::clear_pending" × Plain.Known 𝓤 H A W 𝓣 1 ps·6 r·6 (claims· .12) (claims· .13)
-            "hnsr_circuit::tables::circuits::clear_circuit" × Plain.Known 𝓤 H A W 𝓣 1 ps·7 r·7 (claims· .14) (claims· .15)
-            "hnsr_circuit::tables::ledger::clear_usage" × Plain.Known 𝓤 H A W 𝓣 1 ps·8 r·8 (claims· .16) (claims· .17)
-            "hnsr_circuit::tables::inflight::clear_action" × Plain.Known 𝓤 H A W 𝓣 0 ps·9 r·9 (claims· .18) (claims· .19)
-            "hnsr_circuit::revoking_calls::taken_with" × Plain.Known 𝓤 H A W 𝓣 0 ps·10 r·10 (claims· .20) (claims· .21)
-            "hnsr_circuit::revoking_calls::refused"
+            "hnsr_circuit::header::new_header" × Plain.Known 𝓤 H A W 𝓣 0 ps·3 r·3 (claims· .6) (claims· .7) "hnsr_circuit::answer::is_taken" ×
+            Plain.Known 𝓤 H A W 𝓣 0 ps·4 r·4 (claims· .8) (claims· .9) "hnsr_circuit::places::no_place" × Plain.Known 𝓤 H A W 𝓣 0 ps·5 r·5 (claims·
+            .10) (claims· .11) "hnsr_circuit::revoking_calls::taken_with" × Plain.Known 𝓤 H A W 𝓣 0 ps·6 r·6 (claims· .12) (claims· .13)
+            "hnsr_circuit::header::no_runtime" × Plain.Known 𝓤 H A W 𝓣 0 ps·7 r·7 (claims· .14) (claims· .15) "hnsr_circuit::places::every_place" ×
+            Plain.Known 𝓤 H A W 𝓣 0 ps·8 r·8 (claims· .16) (claims· .17) "hnsr_circuit::revoking_calls::refused"
       module _ (κs : Lifetimes.Lfts 4) (qs : Lifetimes.Shares 4) where
         abbrev life0 : Row.Life
         life0 = Row.lease (κs .0) (qs .0)
@@ -970,407 +677,195 @@ module _ (claims· : Claims) where
         life2 = Row.lease (κs .1 .1 .0) (qs .1 .1 .0)
         abbrev life3 : Row.Life
         life3 = Row.lease (κs .1 .1 .1 .0) (qs .1 .1 .1 .0)
-        abbrev g19 : List.List Row.Entry
-        g19 = (0, Rows'.any-gone Laws''''.mir,) ∷ (1, Relend.mslice-owed RelayPending.row ref4 0 4 life0,) ∷ (2, Mut.mslice RelayCircuit.row ref5 1,)
-            ∷ (3, Mut.mslice ReservationUsage.row ref6 2,) ∷ (4, Mut.mslice InflightAction.row ref7 3,) ∷ (5, Rows'.any-gone (Syntax.tyArray
-            (Syntax.tyInt Syntax.w8) 16)) ∷ (6, Rows'.sc-here (Row.sInt Syntax.w64),) ∷ (7, Rows'.any-gone Laws'.mir,) ∷ (8, Rows'.sc-here (Row.sInt
-            Syntax.w64)) ∷ (9, Rows'.sc-here Row.sBool,) ∷ (10, Rows'.any-gone Laws.mir,) ∷ (11, Rows'.whole (Declared'.row
-            OpaqueRelayRuntime.the-type)) ∷ (12, Rows'.whole (Declared'.row Question.the-type),) ∷ (13, Rows'.any-gone (Syntax.tyInt Syntax.w64)) ∷
-            (14, Rows'.any-gone (Syntax.tyInt Syntax.w64),) ∷ (15, Rows'.any-gone (Syntax.tyInt Syntax.w64)) ∷ List.[]
-        abbrev g24 : List.List Row.Entry
-        g24 = (0, Rows'.any-gone Laws''''.mir,) ∷ (1, Mut.mslice RelayPending.row ref4 0,) ∷ (2, Relend.mslice-owed RelayCircuit.row ref5 1 5 life1,)
-            ∷ (3, Mut.mslice ReservationUsage.row ref6 2,) ∷ (4, Mut.mslice InflightAction.row ref7 3,) ∷ (5, Rows'.any-gone (Syntax.tyArray
-            (Syntax.tyInt Syntax.w8) 16)) ∷ (6, Rows'.sc-here (Row.sInt Syntax.w64),) ∷ (7, Rows'.any-gone Laws'.mir,) ∷ (8, Rows'.sc-here (Row.sInt
-            Syntax.w64)) ∷ (9, Rows'.sc-here Row.sBool,) ∷ (10, Rows'.any-gone Laws.mir,) ∷ (11, Rows'.whole (Declared'.row
-            OpaqueRelayRuntime.the-type)) ∷ (12, Rows'.whole (Declared'.row Question.the-type),) ∷ (13, Rows'.any-gone (Syntax.tyInt Syntax.w64)) ∷
-            (14, Rows'.any-gone (Syntax.tyInt Syntax.w64),) ∷ (15, Rows'.any-gone (Syntax.tyInt Syntax.w64)) ∷ List.[]
-        abbrev g29 : List.List Row.Entry
-        g29 = (0, Rows'.any-gone Laws''''.mir,) ∷ (1, Mut.mslice RelayPending.row ref4 0,) ∷ (2, Mut.mslice RelayCircuit.row ref5 1,) ∷ (3,
-            Relend.mslice-owed ReservationUsage.row ref6 2 6 life2,) ∷ (4, Mut.mslice InflightAction.row ref7 3,) ∷ (5, Rows'.any-gone (Syntax.tyArray
-            (Syntax.tyInt Syntax.w8) 16)) ∷ (6, Rows'.sc-here (Row.sInt Syntax.w64),) ∷ (7, Rows'.any-gone Laws'.mir,) ∷ (8, Rows'.sc-here (Row.sInt
-            Syntax.w64)) ∷ (9, Rows'.sc-here Row.sBool,) ∷ (10, Rows'.any-gone Laws.mir,) ∷ (11, Rows'.whole (Declared'.row
-            OpaqueRelayRuntime.the-type)) ∷ (12, Rows'.whole (Declared'.row Question.the-type),) ∷ (13, Rows'.any-gone (Syntax.tyInt Syntax.w64)) ∷
-            (14, Rows'.any-gone (Syntax.tyInt Syntax.w64),) ∷ (15, Rows'.any-gone (Syntax.tyInt Syntax.w64)) ∷ List.[]
-        abbrev g34 : List.List Row.Entry
-        g34 = (0, Rows'.any-gone Laws''''.mir,) ∷ (1, Mut.mslice RelayPending.row ref4 0,) ∷ (2, Mut.mslice RelayCircuit.row ref5 1,) ∷ (3, Mut.mslice
-            ReservationUsage.row ref6 2,) ∷ (4, Relend.mslice-owed InflightAction.row ref7 3 7 life3,) ∷ (5, Rows'.any-gone (Syntax.tyArray
-            (Syntax.tyInt Syntax.w8) 16)) ∷ (6, Rows'.sc-here (Row.sInt Syntax.w64),) ∷ (7, Rows'.any-gone Laws'.mir,) ∷ (8, Rows'.sc-here (Row.sInt
-            Syntax.w64)) ∷ (9, Rows'.sc-here Row.sBool,) ∷ (10, Rows'.any-gone Laws.mir,) ∷ (11, Rows'.whole (Declared'.row
-            OpaqueRelayRuntime.the-type)) ∷ (12, Rows'.whole (Declared'.row Question.the-type),) ∷ (13, Rows'.any-gone (Syntax.tyInt Syntax.w64)) ∷
-            (14, Rows'.any-gone (Syntax.tyInt Syntax.w64),) ∷ (15, Rows'.any-gone (Syntax.tyInt Syntax.w64)) ∷ List.[]
-        abbrev g38 : List.List Row.Entry
-        g38 = (0, Rows'.any-gone Laws''''.mir,) ∷ (1, Mut.mslice RelayPending.row ref4 0,) ∷ (2, Mut.mslice RelayCircuit.row ref5 1,) ∷ (3, Mut.mslice
-            ReservationUsage.row ref6 2,) ∷ (4, Relend.mslice-owed InflightAction.row ref7 3 7 life3,) ∷ (5, Rows'.any-gone (Syntax.tyArray
-            (Syntax.tyInt Syntax.w8) 16)) ∷ (6, Rows'.sc-here (Row.sInt Syntax.w64),) ∷ (7, Rows'.any-gone Laws'.mir,) ∷ (8, Rows'.sc-here (Row.sInt
-            Syntax.w64)) ∷ (9, Rows'.sc-here Row.sBool,) ∷ (10, Rows'.any-gone Laws.mir,) ∷ (11, Rows'.whole (Declared'.row
-            OpaqueRelayRuntime.the-type)) ∷ (12, Rows'.any-gone Laws''.mir,) ∷ (13, Rows'.any-gone (Syntax.tyInt Syntax.w64)) ∷ (14, Rows'.any-gone
-            (Syntax.tyInt Syntax.w64),) ∷ (15, Rows'.any-gone (Syntax.tyInt Syntax.w64)) ∷ List.[]
         abbrev G0 : Row.Cx
-        G0 = record { locals = List._++_ t0 t1; slots = life0 ∷ life1 ∷ life2 ∷ life3 ∷ Row.off ∷ Row.off ∷ Row.off ∷ Row.off ∷ List.[]; }
+        G0 = record { locals = List._++_ t0 t1; slots = life0 ∷ life1 ∷ life2 ∷ life3 ∷ List.[]; }
         abbrev G1 : Row.Cx
-        G1 = record { locals = List._++_ t2 t1; slots = life0 ∷ life1 ∷ life2 ∷ life3 ∷ Row.off ∷ Row.off ∷ Row.off ∷ Row.off ∷ List.[]; }
+        G1 = record { locals = List._++_ t2 t1; slots = life0 ∷ life1 ∷ life2 ∷ life3 ∷ List.[]; }
         abbrev G2 : Row.Cx
-        G2 = record { locals = List._++_ t3 t1; slots = life0 ∷ life1 ∷ life2 ∷ life3 ∷ Row.off ∷ Row.off ∷ Row.off ∷ Row.off ∷ List.[]; }
+        G2 = record { locals = List._++_ t3 t1; slots = life0 ∷ life1 ∷ life2 ∷ life3 ∷ List.[]; }
         abbrev G3 : Row.Cx
-        G3 = record { locals = List._++_ t4 t1; slots = life0 ∷ life1 ∷ life2 ∷ life3 ∷ Row.off ∷ Row.off ∷ Row.off ∷ Row.off ∷ List.[]; }
+        G3 = record { locals = List._++_ t3 t4; slots = life0 ∷ life1 ∷ life2 ∷ life3 ∷ List.[]; }
         abbrev G4 : Row.Cx
-        G4 = record { locals = List._++_ t5 t1; slots = life0 ∷ life1 ∷ life2 ∷ life3 ∷ Row.off ∷ Row.off ∷ Row.off ∷ Row.off ∷ List.[]; }
+        G4 = record { locals = List._++_ t3 t5; slots = life0 ∷ life1 ∷ life2 ∷ life3 ∷ List.[]; }
         abbrev G5 : Row.Cx
-        G5 = record { locals = List._++_ t6 t1; slots = life0 ∷ life1 ∷ life2 ∷ life3 ∷ Row.off ∷ Row.off ∷ Row.off ∷ Row.off ∷ List.[]; }
+        G5 = record { locals = List._++_ t6 t5; slots = life0 ∷ life1 ∷ life2 ∷ life3 ∷ List.[]; }
         abbrev G6 : Row.Cx
-        G6 = record { locals = List._++_ t7 t1; slots = life0 ∷ life1 ∷ life2 ∷ life3 ∷ Row.off ∷ Row.off ∷ Row.off ∷ Row.off ∷ List.[]; }
+        G6 = record { locals = List._++_ t7 t5; slots = life0 ∷ life1 ∷ life2 ∷ life3 ∷ List.[]; }
         abbrev G7 : Row.Cx
-        G7 = record { locals = List._++_ t8 t1; slots = life0 ∷ life1 ∷ life2 ∷ life3 ∷ Row.off ∷ Row.off ∷ Row.off ∷ Row.off ∷ List.[]; }
+        G7 = record { locals = List._++_ t7 t8; slots = life0 ∷ life1 ∷ life2 ∷ life3 ∷ List.[]; }
         abbrev G8 : Row.Cx
-        G8 = record { locals = List._++_ t9 t1; slots = life0 ∷ life1 ∷ life2 ∷ life3 ∷ Row.off ∷ Row.off ∷ Row.off ∷ Row.off ∷ List.[]; }
+        G8 = record { locals = List._++_ t7 t1; slots = life0 ∷ life1 ∷ life2 ∷ life3 ∷ List.[]; }
         abbrev G9 : Row.Cx
-        G9 = record { locals = List._++_ t10 t1; slots = life0 ∷ life1 ∷ life2 ∷ life3 ∷ Row.off ∷ Row.off ∷ Row.off ∷ Row.off ∷ List.[]; }
+        G9 = record { locals = List._++_ t6 t1; slots = life0 ∷ life1 ∷ life2 ∷ life3 ∷ List.[]; }
         abbrev G10 : Row.Cx
-        G10 = record { locals = List._++_ t11 t1; slots = life0 ∷ life1 ∷ life2 ∷ life3 ∷ Row.off ∷ Row.off ∷ Row.off ∷ Row.off ∷ List.[]; }
+        G10 = record { locals = List._++_ t9 t1; slots = life0 ∷ life1 ∷ life2 ∷ life3 ∷ List.[]; }
         abbrev G11 : Row.Cx
-        G11 = record { locals = List._++_ t12 t1; slots = life0 ∷ life1 ∷ life2 ∷ life3 ∷ Row.off ∷ Row.off ∷ Row.off ∷ Row.off ∷ List.[]; }
+        G11 = record { locals = List._++_ t10 t1; slots = life0 ∷ life1 ∷ life2 ∷ life3 ∷ List.[]; }
         abbrev G12 : Row.Cx
-        G12 = record { locals = List._++_ t13 t1; slots = life0 ∷ life1 ∷ life2 ∷ life3 ∷ Row.off ∷ Row.off ∷ Row.off ∷ Row.off ∷ List.[]; }
+        G12 = record { locals = List._++_ t11 t1; slots = life0 ∷ life1 ∷ life2 ∷ life3 ∷ List.[]; }
         abbrev G13 : Row.Cx
-        G13 = record { locals = List._++_ t14 t1; slots = life0 ∷ life1 ∷ life2 ∷ life3 ∷ Row.off ∷ Row.off ∷ Row.off ∷ Row.off ∷ List.[]; }
+        G13 = record { locals = List._++_ t12 t1; slots = life0 ∷ life1 ∷ life2 ∷ life3 ∷ List.[]; }
         abbrev G14 : Row.Cx
-        G14 = record { locals = List._++_ t15 t1; slots = life0 ∷ life1 ∷ life2 ∷ life3 ∷ Row.off ∷ Row.off ∷ Row.off ∷ Row.off ∷ List.[]; }
+        G14 = record { locals = List._++_ t13 t1; slots = life0 ∷ life1 ∷ life2 ∷ life3 ∷ List.[]; }
         abbrev G15 : Row.Cx
-        G15 = record { locals = List._++_ t16 t1; slots = life0 ∷ life1 ∷ life2 ∷ life3 ∷ Row.off ∷ Row.off ∷ Row.off ∷ Row.off ∷ List.[]; }
+        G15 = record { locals = List._++_ t13 t14; slots = life0 ∷ life1 ∷ life2 ∷ life3 ∷ List.[]; }
         abbrev G16 : Row.Cx
-        G16 = record { locals = List._++_ t16 t17; slots = life0 ∷ life1 ∷ life2 ∷ life3 ∷ Row.off ∷ Row.off ∷ Row.off ∷ Row.off ∷ List.[]; }
+        G16 = record { locals = List._++_ t15 t1; slots = life0 ∷ life1 ∷ life2 ∷ life3 ∷ List.[]; }
         abbrev G17 : Row.Cx
-        G17 = record { locals = List._++_ t15 t1; slots = life0 ∷ life1 ∷ life2 ∷ life3 ∷ Row.off ∷ Row.off ∷ Row.off ∷ Row.off ∷ List.[]; }
+        G17 = record { locals = List._++_ t16 t14; slots = life0 ∷ life1 ∷ life2 ∷ life3 ∷ List.[]; }
         abbrev G18 : Row.Cx
-        G18 = record { locals = List._++_ t18 t17; slots = life0 ∷ life1 ∷ life2 ∷ life3 ∷ Row.off ∷ Row.off ∷ Row.off ∷ Row.off ∷ List.[]; }
+        G18 = record { locals = List._++_ t16 t1; slots = life0 ∷ life1 ∷ life2 ∷ life3 ∷ List.[]; }
         abbrev G19 : Row.Cx
-        G19 = record { locals = List._++_ t18 t1; slots = life0 ∷ life1 ∷ life2 ∷ life3 ∷ Row.off ∷ Row.off ∷ Row.off ∷ Row.off ∷ List.[]; }
+        G19 = record { locals = List._++_ t17 t1; slots = life0 ∷ life1 ∷ life2 ∷ life3 ∷ List.[]; }
         abbrev G20 : Row.Cx
-        G20 = record { locals = List._++_ t18 t1; slots = life0 ∷ life1 ∷ life2 ∷ life3 ∷ Row.alive ∷ Row.off ∷ Row.off ∷ Row.off ∷ List.[]; }
+        G20 = record { locals = List._++_ t18 t1; slots = life0 ∷ life1 ∷ life2 ∷ life3 ∷ List.[]; }
         abbrev G21 : Row.Cx
-        G21 = record { locals = List._++_ g19 t20; slots = Row.off ∷ life1 ∷ life2 ∷ life3 ∷ Row.alive ∷ Row.off ∷ Row.off ∷ Row.off ∷ List.[]; }
+        G21 = record { locals = List._++_ t19 t1; slots = life0 ∷ life1 ∷ life2 ∷ life3 ∷ List.[]; }
         abbrev G22 : Row.Cx
-        G22 = record { locals = List._++_ g19 t21; slots = Row.off ∷ life1 ∷ life2 ∷ life3 ∷ Row.alive ∷ Row.off ∷ Row.off ∷ Row.off ∷ List.[]; }
+        G22 = record { locals = List._++_ t20 t1; slots = life0 ∷ life1 ∷ life2 ∷ life3 ∷ List.[]; }
         abbrev G23 : Row.Cx
-        G23 = record { locals = List._++_ g19 t22; slots = Row.off ∷ life1 ∷ life2 ∷ life3 ∷ Row.alive ∷ Row.off ∷ Row.off ∷ Row.off ∷ List.[]; }
+        G23 = record { locals = List._++_ t21 t1; slots = life0 ∷ life1 ∷ life2 ∷ life3 ∷ List.[]; }
         abbrev G24 : Row.Cx
-        G24 = record { locals = List._++_ g19 t23; slots = Row.off ∷ life1 ∷ life2 ∷ life3 ∷ Row.alive ∷ Row.off ∷ Row.off ∷ Row.off ∷ List.[]; }
+        G24 = record { locals = List._++_ t22 t1; slots = life0 ∷ life1 ∷ life2 ∷ life3 ∷ List.[]; }
         abbrev G25 : Row.Cx
-        G25 = record { locals = List._++_ g19 t23; slots = Row.off ∷ life1 ∷ life2 ∷ life3 ∷ Row.dead ∷ Row.off ∷ Row.off ∷ Row.off ∷ List.[]; }
+        G25 = record { locals = List._++_ t2 t1; slots = life0 ∷ life1 ∷ life2 ∷ life3 ∷ List.[]; }
         abbrev G26 : Row.Cx
-        G26 = record { locals = List._++_ t18 t1; slots = life0 ∷ life1 ∷ life2 ∷ life3 ∷ Row.dead ∷ Row.off ∷ Row.off ∷ Row.off ∷ List.[]; }
+        G26 = record { locals = List._++_ t15 t14; slots = life0 ∷ life1 ∷ life2 ∷ life3 ∷ List.[]; }
         abbrev G27 : Row.Cx
-        G27 = record { locals = List._++_ t18 t1; slots = life0 ∷ life1 ∷ life2 ∷ life3 ∷ Row.off ∷ Row.off ∷ Row.off ∷ Row.off ∷ List.[]; }
+        G27 = record { locals = List._++_ t15 t1; slots = life0 ∷ life1 ∷ life2 ∷ life3 ∷ List.[]; }
         abbrev G28 : Row.Cx
-        G28 = record { locals = List._++_ t18 t1; slots = life0 ∷ life1 ∷ life2 ∷ life3 ∷ Row.off ∷ Row.alive ∷ Row.off ∷ Row.off ∷ List.[]; }
+        G28 = record { locals = List._++_ t23 t1; slots = life0 ∷ life1 ∷ life2 ∷ life3 ∷ List.[]; }
         abbrev G29 : Row.Cx
-        G29 = record { locals = List._++_ g24 t25; slots = life0 ∷ Row.off ∷ life2 ∷ life3 ∷ Row.off ∷ Row.alive ∷ Row.off ∷ Row.off ∷ List.[]; }
+        G29 = record { locals = List._++_ t24 t1; slots = life0 ∷ life1 ∷ life2 ∷ life3 ∷ List.[]; }
         abbrev G30 : Row.Cx
-        G30 = record { locals = List._++_ g24 t26; slots = life0 ∷ Row.off ∷ life2 ∷ life3 ∷ Row.off ∷ Row.alive ∷ Row.off ∷ Row.off ∷ List.[]; }
+        G30 = record { locals = List._++_ t25 t1; slots = life0 ∷ life1 ∷ life2 ∷ life3 ∷ List.[]; }
         abbrev G31 : Row.Cx
-        G31 = record { locals = List._++_ g24 t27; slots = life0 ∷ Row.off ∷ life2 ∷ life3 ∷ Row.off ∷ Row.alive ∷ Row.off ∷ Row.off ∷ List.[]; }
+        G31 = record { locals = List._++_ t26 t1; slots = life0 ∷ life1 ∷ life2 ∷ life3 ∷ List.[]; }
         abbrev G32 : Row.Cx
-        G32 = record { locals = List._++_ g24 t28; slots = life0 ∷ Row.off ∷ life2 ∷ life3 ∷ Row.off ∷ Row.alive ∷ Row.off ∷ Row.off ∷ List.[]; }
+        G32 = record { locals = List._++_ t27 t1; slots = life0 ∷ life1 ∷ life2 ∷ life3 ∷ List.[]; }
         abbrev G33 : Row.Cx
-        G33 = record { locals = List._++_ g24 t28; slots = life0 ∷ Row.off ∷ life2 ∷ life3 ∷ Row.off ∷ Row.dead ∷ Row.off ∷ Row.off ∷ List.[]; }
+        G33 = record { locals = List._++_ t28 t1; slots = life0 ∷ life1 ∷ life2 ∷ life3 ∷ List.[]; }
         abbrev G34 : Row.Cx
-        G34 = record { locals = List._++_ t18 t1; slots = life0 ∷ life1 ∷ life2 ∷ life3 ∷ Row.off ∷ Row.dead ∷ Row.off ∷ Row.off ∷ List.[]; }
+        G34 = record { locals = List._++_ t29 t1; slots = life0 ∷ life1 ∷ life2 ∷ life3 ∷ List.[]; }
         abbrev G35 : Row.Cx
-        G35 = record { locals = List._++_ t18 t1; slots = life0 ∷ life1 ∷ life2 ∷ life3 ∷ Row.off ∷ Row.off ∷ Row.off ∷ Row.off ∷ List.[]; }
+        G35 = record { locals = List._++_ t30 t1; slots = life0 ∷ life1 ∷ life2 ∷ life3 ∷ List.[]; }
         abbrev G36 : Row.Cx
-        G36 = record { locals = List._++_ t18 t1; slots = life0 ∷ life1 ∷ life2 ∷ life3 ∷ Row.off ∷ Row.off ∷ Row.alive ∷ Row.off ∷ List.[]; }
-        abbrev G37 : Row.Cx
-        G37 = record { locals = List._++_ g29 t30; slots = life0 ∷ life1 ∷ Row.off ∷ life3 ∷ Row.off ∷ Row.off ∷ Row.alive ∷ Row.off ∷ List.[]; }
-        abbrev G38 : Row.Cx
-        G38 = record { locals = List._++_ g29 t31; slots = life0 ∷ life1 ∷ Row.off ∷ life3 ∷ Row.off ∷ Row.off ∷ Row.alive ∷ Row.off ∷ List.[]; }
-        abbrev G39 : Row.Cx
-        G39 = record { locals = List._++_ g29 t32; slots = life0 ∷ life1 ∷ Row.off ∷ life3 ∷ Row.off ∷ Row.off ∷ Row.alive ∷ Row.off ∷ List.[]; }
-        abbrev G40 : Row.Cx
-        G40 = record { locals = List._++_ g29 t33; slots = life0 ∷ life1 ∷ Row.off ∷ life3 ∷ Row.off ∷ Row.off ∷ Row.alive ∷ Row.off ∷ List.[]; }
-        abbrev G41 : Row.Cx
-        G41 = record { locals = List._++_ g29 t33; slots = life0 ∷ life1 ∷ Row.off ∷ life3 ∷ Row.off ∷ Row.off ∷ Row.dead ∷ Row.off ∷ List.[]; }
-        abbrev G42 : Row.Cx
-        G42 = record { locals = List._++_ t18 t1; slots = life0 ∷ life1 ∷ life2 ∷ life3 ∷ Row.off ∷ Row.off ∷ Row.dead ∷ Row.off ∷ List.[]; }
-        abbrev G43 : Row.Cx
-        G43 = record { locals = List._++_ t18 t1; slots = life0 ∷ life1 ∷ life2 ∷ life3 ∷ Row.off ∷ Row.off ∷ Row.off ∷ Row.off ∷ List.[]; }
-        abbrev G44 : Row.Cx
-        G44 = record { locals = List._++_ t18 t1; slots = life0 ∷ life1 ∷ life2 ∷ life3 ∷ Row.off ∷ Row.off ∷ Row.off ∷ Row.alive ∷ List.[]; }
-        abbrev G45 : Row.Cx
-        G45 = record { locals = List._++_ g34 t35; slots = life0 ∷ life1 ∷ life2 ∷ Row.off ∷ Row.off ∷ Row.off ∷ Row.off ∷ Row.alive ∷ List.[]; }
-        abbrev G46 : Row.Cx
-        G46 = record { locals = List._++_ g34 t36; slots = life0 ∷ life1 ∷ life2 ∷ Row.off ∷ Row.off ∷ Row.off ∷ Row.off ∷ Row.alive ∷ List.[]; }
-        abbrev G47 : Row.Cx
-        G47 = record { locals = List._++_ g34 t37; slots = life0 ∷ life1 ∷ life2 ∷ Row.off ∷ Row.off ∷ Row.off ∷ Row.off ∷ Row.alive ∷ List.[]; }
-        abbrev G48 : Row.Cx
-        G48 = record { locals = List._++_ g38 t37; slots = life0 ∷ life1 ∷ life2 ∷ Row.off ∷ Row.off ∷ Row.off ∷ Row.off ∷ Row.alive ∷ List.[]; }
-        abbrev G49 : Row.Cx
-        G49 = record { locals = List._++_ g38 t39; slots = life0 ∷ life1 ∷ life2 ∷ Row.off ∷ Row.off ∷ Row.off ∷ Row.off ∷ Row.alive ∷ List.[]; }
-        abbrev G50 : Row.Cx
-        G50 = record { locals = List._++_ g38 t39; slots = life0 ∷ life1 ∷ life2 ∷ Row.off ∷ Row.off ∷ Row.off ∷ Row.off ∷ Row.dead ∷ List.[]; }
-        abbrev G51 : Row.Cx
-        G51 = record { locals = List._++_ t40 t1; slots = life0 ∷ life1 ∷ life2 ∷ life3 ∷ Row.off ∷ Row.off ∷ Row.off ∷ Row.dead ∷ List.[]; }
-        abbrev G52 : Row.Cx
-        G52 = record { locals = List._++_ t40 t1; slots = life0 ∷ life1 ∷ life2 ∷ life3 ∷ Row.off ∷ Row.off ∷ Row.off ∷ Row.off ∷ List.[]; }
-        abbrev G53 : Row.Cx
-        G53 = record { locals = List._++_ t41 t1; slots = life0 ∷ life1 ∷ life2 ∷ life3 ∷ Row.off ∷ Row.off ∷ Row.off ∷ Row.off ∷ List.[]; }
-        abbrev G54 : Row.Cx
-        G54 = record { locals = List._++_ t42 t1; slots = life0 ∷ life1 ∷ life2 ∷ life3 ∷ Row.off ∷ Row.off ∷ Row.off ∷ Row.off ∷ List.[]; }
-        abbrev G55 : Row.Cx
-        G55 = record { locals = List._++_ t43 t1; slots = life0 ∷ life1 ∷ life2 ∷ life3 ∷ Row.off ∷ Row.off ∷ Row.off ∷ Row.off ∷ List.[]; }
-        abbrev G56 : Row.Cx
-        G56 = record { locals = List._++_ t44 t1; slots = life0 ∷ life1 ∷ life2 ∷ life3 ∷ Row.off ∷ Row.off ∷ Row.off ∷ Row.off ∷ List.[]; }
-        abbrev G57 : Row.Cx
-        G57 = record { locals = List._++_ t2 t1; slots = life0 ∷ life1 ∷ life2 ∷ life3 ∷ Row.off ∷ Row.off ∷ Row.off ∷ Row.off ∷ List.[]; }
-        abbrev G58 : Row.Cx
-        G58 = record { locals = List._++_ t15 t17; slots = life0 ∷ life1 ∷ life2 ∷ life3 ∷ Row.off ∷ Row.off ∷ Row.off ∷ Row.off ∷ List.[]; }
-        abbrev G59 : Row.Cx
-        G59 = record { locals = List._++_ t15 t1; slots = life0 ∷ life1 ∷ life2 ∷ life3 ∷ Row.off ∷ Row.off ∷ Row.off ∷ Row.off ∷ List.[]; }
-        abbrev G60 : Row.Cx
-        G60 = record { locals = List._++_ t45 t1; slots = life0 ∷ life1 ∷ life2 ∷ life3 ∷ Row.off ∷ Row.off ∷ Row.off ∷ Row.off ∷ List.[]; }
-        abbrev G61 : Row.Cx
-        G61 = record { locals = List._++_ t46 t1; slots = life0 ∷ life1 ∷ life2 ∷ life3 ∷ Row.off ∷ Row.off ∷ Row.off ∷ Row.off ∷ List.[]; }
-        abbrev G62 : Row.Cx
-        G62 = record { locals = List._++_ t47 t1; slots = life0 ∷ life1 ∷ life2 ∷ life3 ∷ Row.off ∷ Row.off ∷ Row.off ∷ Row.off ∷ List.[]; }
-        abbrev G63 : Row.Cx
-        G63 = record { locals = List._++_ t48 t1; slots = life0 ∷ life1 ∷ life2 ∷ life3 ∷ Row.off ∷ Row.off ∷ Row.off ∷ Row.off ∷ List.[]; }
-        abbrev G64 : Row.Cx
-        G64 = record { locals = List._++_ t49 t1; slots = life0 ∷ life1 ∷ life2 ∷ life3 ∷ Row.off ∷ Row.off ∷ Row.off ∷ Row.off ∷ List.[]; }
-        abbrev G65 : Row.Cx
-        G65 = record { locals = List._++_ t2 t1; slots = life0 ∷ life1 ∷ life2 ∷ life3 ∷ Row.off ∷ Row.off ∷ Row.off ∷ Row.off ∷ List.[]; }
+        G36 = record { locals = List._++_ t2 t1; slots = life0 ∷ life1 ∷ life2 ∷ life3 ∷ List.[]; }
         abbrev Δ0 : Typed.Outs
         Δ0 = record { next = Option.none; exits = List.[]; returns = Option.some G1 }
         abbrev Δ1 : Typed.Outs
-        Δ1 = Typed.withNext (Option.some G17) Δ0
+        Δ1 = Typed.withNext (Option.some G16) Δ0
         module _ { M : Type 1 } (𝓤 : URA.URA M) (H : Wp.Heap 𝓤) (A : Atoms.Atoms 𝓤) (W : Kit.Given 𝓤 H A) (𝓣 : Wp.Tables 𝓤 H) (known : Knowns 𝓤 H A W
             𝓣) (bs : List.List Nat.ℕ) (bd : Lifetimes.AllOutlive 4 (Kinds.osR r) κs) where
           abbrev E : Wp.Env 𝓤 H
           E = Frame.EnvOf 𝓤 H ((Kinds.tyR r) ∷ (Enter.tysP ps xs)) bs
-          d0 : Typed.Typed 𝓤 H A 𝓣 E G57 b22 Δ1 at0
+          d0 : Typed.Typed 𝓤 H A 𝓣 E G25 b10 Δ1 at0
           d0 = Typed.t-return 𝓤 H A W 𝓣 E Δ1 tt
-          d1 : Typed.Typed 𝓤 H A 𝓣 E G56 b22 Δ1 at1
-          d1 = Typed.g-pre 𝓤 H A W 𝓣 E G56 G57 b22 Δ1 (Typed.pass T56 T57 s54) at0 (Scalar.g-room 𝓤 H A W E G56 9 Syntax.tyBool (Scalar.room-sc 𝓤 H A
+          d1 : Typed.Typed 𝓤 H A 𝓣 E G24 b10 Δ1 at1
+          d1 = Typed.g-pre 𝓤 H A W 𝓣 E G24 G25 b10 Δ1 (Typed.pass T24 T25 s22) at0 (Scalar.g-room 𝓤 H A W E G24 9 Syntax.tyBool (Scalar.room-sc 𝓤 H A
               W Row.sBool)) d0
-          d2 : Typed.Typed 𝓤 H A 𝓣 E G55 b22 Δ1 at2
-          d2 = Typed.g-pre 𝓤 H A W 𝓣 E G55 G56 b22 Δ1 (Typed.pass T55 T56 s53) at1 (Scalar.g-room 𝓤 H A W E G55 8 (Syntax.tyInt Syntax.w64)
+          d2 : Typed.Typed 𝓤 H A 𝓣 E G23 b10 Δ1 at2
+          d2 = Typed.g-pre 𝓤 H A W 𝓣 E G23 G24 b10 Δ1 (Typed.pass T23 T24 s21) at1 (Scalar.g-room 𝓤 H A W E G23 8 (Syntax.tyInt Syntax.w64)
               (Scalar.room-sc 𝓤 H A W (Row.sInt Syntax.w64))) d1
-          d3 : Typed.Typed 𝓤 H A 𝓣 E G54 b22 Δ1 at3
-          d3 = Typed.g-pre 𝓤 H A W 𝓣 E G54 G55 b22 Δ1 (Typed.pass T54 T55 s52) at2 (Scalar.g-room 𝓤 H A W E G54 6 (Syntax.tyInt Syntax.w64)
+          d3 : Typed.Typed 𝓤 H A 𝓣 E G22 b10 Δ1 at3
+          d3 = Typed.g-pre 𝓤 H A W 𝓣 E G22 G23 b10 Δ1 (Typed.pass T22 T23 s20) at2 (Scalar.g-room 𝓤 H A W E G22 6 (Syntax.tyInt Syntax.w64)
               (Scalar.room-sc 𝓤 H A W (Row.sInt Syntax.w64))) d2
-          d4 : Typed.Typed 𝓤 H A 𝓣 E G53 b22 Δ1 at4
-          d4 = Typed.g-pre 𝓤 H A W 𝓣 E G53 G54 b22 Δ1 (Typed.pass T53 T54 s51) at3 (Scalar.g-room 𝓤 H A W E G53 11 Laws'''.mir (Local.room-whole 𝓤 H A
-              W (Declared'.row OpaqueRelayRuntime.the-type) Laws'''.mir Path.refl)) d3
-          d5 : Typed.Typed 𝓤 H A 𝓣 E G52 b23 Δ1 at5
-          d5 = Typed.s-seq 𝓤 H A W 𝓣 E G52 G53 b21 b22 Δ1 (Typed.both s50) at4 (Plain.t-call-plain 𝓤 H A W 𝓣 0 ps·9 r·9 (claims· .18) (claims· .19)
-              "hnsr_circuit::revoking_calls::taken_with" (known .9) E (λ pos β. β) G52 (record { pos = 11; st = List.[]; d = 0; at = λ x. x }, tt) 0
-              List.[] (Call.sub-id 𝓤 H A W (G52 .slots)) ((Yields.yields-copy 𝓤 H A W (λ ρ. Unit) (Declared'.row OpaqueRelayRuntime.the-type)
-              Path.refl (Copies.cStruct OpaqueRelayRuntime.the-type Laws'''.the-laws Laws'''.the-copy .copy 𝓤 H A W) (Rows'.whole (Declared'.row
-              OpaqueRelayRuntime.the-type)) (λ x. x) (λ x. x) (λ ρ told. Local.mem-whole 𝓤 H A W (Declared'.row OpaqueRelayRuntime.the-type) ρ) λ ρ
-              told. Local.whole-mem 𝓤 H A W (Declared'.row OpaqueRelayRuntime.the-type) ρ, Path.refl,), tt,) (Reads.room-gone 𝓤 H A Laws''''.mir) tt
-              Path.refl) d4
-          d6 : Typed.Typed 𝓤 H A 𝓣 E G51 b23 Δ1 at6
-          d6 = Typed.g-pre 𝓤 H A W 𝓣 E G51 G52 b23 Δ1 (λ Ψ. Ψ) at5 (Lifetime.g-forget 𝓤 H A W E G51 7 Row.dead Path.refl) d5
-          d7 : Typed.Typed 𝓤 H A 𝓣 E G50 b23 Δ1 at7
-          d7 = Typed.g-pre 𝓤 H A W 𝓣 E G50 G51 b23 Δ1 (Typed.both s48) at6 (Relend.g-back-sl 𝓤 H A W E InflightAction.row G50 25 4 3 7 ref7 ref3 life3
-              (λ x. x) (λ x. x) (Reads.as-is 𝓤 H A (Mut.msleft InflightAction.row ref3)) (Reads.as-is 𝓤 H A (Relend.mslice-owed InflightAction.row
-              ref7 3 7 life3)) Path.refl Path.refl) d6
-          d8 : Typed.Typed 𝓤 H A 𝓣 E G49 b23 Δ1 at8
-          d8 = Typed.g-pre 𝓤 H A W 𝓣 E G49 G50 b23 Δ1 (λ Ψ. Ψ) at7 (Lifetime.g-end 𝓤 H A W E G49 7 Path.refl) d7
-          d9 : Typed.Typed 𝓤 H A 𝓣 E G48 b23 Δ1 at9
-          d9 = Typed.g-pre 𝓤 H A W 𝓣 E G48 G49 b23 Δ1 (Typed.pass T48 T49 s46) at8 (Scalar.g-room 𝓤 H A W E G48 17 Syntax.tyUnit (Scalar.room-sc 𝓤 H A
-              W Row.sUnit)) d8
-          d10 : Typed.Typed 𝓤 H A 𝓣 E G47 b23 Δ1 at10
-          d10 = Typed.g-pre 𝓤 H A W 𝓣 E G47 G48 b23 Δ1 (Typed.pass T47 T48 s45) at9 (Scalar.g-room 𝓤 H A W E G47 12 Laws''.mir (Local.room-whole 𝓤 H A
-              W (Declared'.row Question.the-type) Laws''.mir Path.refl)) d9
-          d11 : Typed.Typed 𝓤 H A 𝓣 E G46 b24 Δ1 at11
-          d11 = Typed.s-seq 𝓤 H A W 𝓣 E G46 G47 b20 b23 Δ1 (Typed.both s44) at10 (Plain.t-call-plain 𝓤 H A W 𝓣 1 ps·8 r·8 (claims· .16) (claims· .17)
-              "hnsr_circuit::tables::inflight::clear_action" (known .8) E (λ pos β. β) G46 (record { pos = 25; ty = Syntax.tyRef Syntax.erased
-              Syntax.mut InflightAction.to; ref = λ x. x; }, (record { pos = 12; st = List.[]; d = 0; at = λ x. x }, tt),) 17 (7 ∷ List.[])
-              (Call.sub-id 𝓤 H A W (G46 .slots)) (Reads.as-is 𝓤 H A (Mut.mslice InflightAction.row ref3 7), Mut.reads-mslice 𝓤 H A W
-              InflightAction.row ref3 7, Path.refl, ((Yields.yields-copy 𝓤 H A W (λ ρ. Unit) (Declared'.row Question.the-type) Path.refl
-              (Copies.cStruct Question.the-type Laws''.the-laws Laws''.the-copy .copy 𝓤 H A W) (Rows'.whole (Declared'.row Question.the-type)) (λ x.
-              x) (λ x. x) (λ ρ told. Local.mem-whole 𝓤 H A W (Declared'.row Question.the-type) ρ) λ ρ told. Local.whole-mem 𝓤 H A W (Declared'.row
-              Question.the-type) ρ, Path.refl,), tt,),) (Reads.room-gone 𝓤 H A Syntax.tyUnit) (tt, tt) Path.refl) d10
-          d12 : Typed.Typed 𝓤 H A 𝓣 E G45 b25 Δ1 at12
-          d12 = Typed.s-seq 𝓤 H A W 𝓣 E G45 G46 b19 b24 Δ1 (Typed.ask s43) at11 (Relend.t-sl-aggregate 𝓤 H A W E InflightAction.row 𝓣 (Relend.asMut
-              InflightAction.row) G45 24 25 7 ref3 ref3 (λ x. x) (Scalar.oFld 4 ((Syntax.field 1) ∷ List.[]) (Syntax.tyInt Syntax.w64) 8 λ v.
-              Shared.lenV (v .0)) (Reads.as-is 𝓤 H A (Relend.msptr InflightAction.row ref3 7)) (Reads.room-gone 𝓤 H A (Syntax.tyStruct (38 ∷ 91 ∷ 93 ∷
-              List.[]) (Syntax.tcons ref3 (Syntax.tcons (Syntax.tyInt Syntax.w64) Syntax.tnil)))) (Relend.reads-owed-len 𝓤 H A W InflightAction.row
-              ref7 3 7 life3 8 Path.refl, Path.refl,) Path.refl Path.refl λ b o k. tt) d11
-          d13 : Typed.Typed 𝓤 H A 𝓣 E G44 b26 Δ1 at13
-          d13 = Typed.s-seq 𝓤 H A W 𝓣 E G44 G45 b18 b25 Δ1 (Typed.give s42) at12 (Relend.t-sl-relend 𝓤 H A W E InflightAction.row 𝓣 G44 4 24 3 7 ref7
-              ref3 life3 0 (λ x. x) (Reads.as-is 𝓤 H A (Mut.mslice InflightAction.row ref7 3)) (Reads.room-gone 𝓤 H A ref3) Path.refl tt Path.refl
-              Path.refl Path.refl λ b o. tt) d12
-          d14 : Typed.Typed 𝓤 H A 𝓣 E G43 b26 Δ1 at14
-          d14 = Typed.g-pre 𝓤 H A W 𝓣 E G43 G44 b26 Δ1 (λ Ψ. Ψ) at13 (Lifetime.g-begin 𝓤 H A W E G43 7 (tt, (tt, (tt, (tt, (tt, (tt, (tt, (tt, (tt,
-              (tt, (tt, (tt, (tt, (tt, (tt, (tt, (tt, (tt, (tt, (tt, (tt, (tt, (tt, (tt, (tt, (tt, tt)))))),),),),),),),),),),),),),),),),),),),),))
-              d13
-          d15 : Typed.Typed 𝓤 H A 𝓣 E G42 b26 Δ1 at15
-          d15 = Typed.g-pre 𝓤 H A W 𝓣 E G42 G43 b26 Δ1 (λ Ψ. Ψ) at14 (Lifetime.g-forget 𝓤 H A W E G42 6 Row.dead Path.refl) d14
-          d16 : Typed.Typed 𝓤 H A 𝓣 E G41 b26 Δ1 at16
-          d16 = Typed.g-pre 𝓤 H A W 𝓣 E G41 G42 b26 Δ1 (Typed.both s39) at15 (Relend.g-back-sl 𝓤 H A W E ReservationUsage.row G41 23 3 2 6 ref6 ref2
-              life2 (λ x. x) (λ x. x) (Reads.as-is 𝓤 H A (Mut.msleft ReservationUsage.row ref2)) (Reads.as-is 𝓤 H A (Relend.mslice-owed
-              ReservationUsage.row ref6 2 6 life2)) Path.refl Path.refl) d15
-          d17 : Typed.Typed 𝓤 H A 𝓣 E G40 b26 Δ1 at17
-          d17 = Typed.g-pre 𝓤 H A W 𝓣 E G40 G41 b26 Δ1 (λ Ψ. Ψ) at16 (Lifetime.g-end 𝓤 H A W E G40 6 Path.refl) d16
-          d18 : Typed.Typed 𝓤 H A 𝓣 E G39 b26 Δ1 at18
-          d18 = Typed.g-pre 𝓤 H A W 𝓣 E G39 G40 b26 Δ1 (Typed.pass T39 T40 s37) at17 (Scalar.g-room 𝓤 H A W E G39 17 Syntax.tyUnit (Scalar.room-sc 𝓤 H
-              A W Row.sUnit)) d17
-          d19 : Typed.Typed 𝓤 H A 𝓣 E G38 b27 Δ1 at19
-          d19 = Typed.s-seq 𝓤 H A W 𝓣 E G38 G39 b17 b26 Δ1 (Typed.both s36) at18 (Plain.t-call-plain 𝓤 H A W 𝓣 1 ps·7 r·7 (claims· .14) (claims· .15)
-              "hnsr_circuit::tables::ledger::clear_usage" (known .7) E (λ pos β. β) G38 (record { pos = 23; ty = Syntax.tyRef Syntax.erased Syntax.mut
-              ReservationUsage.to; ref = λ x. x; }, (record { pos = 12; st = List.[]; d = 0; at = λ x. x }, tt),) 17 (6 ∷ List.[]) (Call.sub-id 𝓤 H A
-              W (G38 .slots)) (Reads.as-is 𝓤 H A (Mut.mslice ReservationUsage.row ref2 6), Mut.reads-mslice 𝓤 H A W ReservationUsage.row ref2 6,
-              Path.refl, ((Yields.yields-copy 𝓤 H A W (λ ρ. Unit) (Declared'.row Question.the-type) Path.refl (Copies.cStruct Question.the-type
-              Laws''.the-laws Laws''.the-copy .copy 𝓤 H A W) (Rows'.whole (Declared'.row Question.the-type)) (λ x. x) (λ x. x) (λ ρ told.
-              Local.mem-whole 𝓤 H A W (Declared'.row Question.the-type) ρ) λ ρ told. Local.whole-mem 𝓤 H A W (Declared'.row Question.the-type) ρ,
-              Path.refl,), tt,),) (Reads.room-gone 𝓤 H A Syntax.tyUnit) (tt, tt) Path.refl) d18
-          d20 : Typed.Typed 𝓤 H A 𝓣 E G37 b28 Δ1 at20
-          d20 = Typed.s-seq 𝓤 H A W 𝓣 E G37 G38 b16 b27 Δ1 (Typed.ask s35) at19 (Relend.t-sl-aggregate 𝓤 H A W E ReservationUsage.row 𝓣 (Relend.asMut
-              ReservationUsage.row) G37 22 23 6 ref2 ref2 (λ x. x) (Scalar.oFld 3 ((Syntax.field 1) ∷ List.[]) (Syntax.tyInt Syntax.w64) 8 λ v.
-              Shared.lenV (v .0)) (Reads.as-is 𝓤 H A (Relend.msptr ReservationUsage.row ref2 6)) (Reads.room-gone 𝓤 H A (Syntax.tyStruct (38 ∷ 91 ∷ 93
-              ∷ List.[]) (Syntax.tcons ref2 (Syntax.tcons (Syntax.tyInt Syntax.w64) Syntax.tnil)))) (Relend.reads-owed-len 𝓤 H A W
-              ReservationUsage.row ref6 2 6 life2 8 Path.refl, Path.refl,) Path.refl Path.refl λ b o k. tt) d19
-          d21 : Typed.Typed 𝓤 H A 𝓣 E G36 b29 Δ1 at21
-          d21 = Typed.s-seq 𝓤 H A W 𝓣 E G36 G37 b15 b28 Δ1 (Typed.give s34) at20 (Relend.t-sl-relend 𝓤 H A W E ReservationUsage.row 𝓣 G36 3 22 2 6
-              ref6 ref2 life2 0 (λ x. x) (Reads.as-is 𝓤 H A (Mut.mslice ReservationUsage.row ref6 2)) (Reads.room-gone 𝓤 H A ref2) Path.refl tt
-              Path.refl Path.refl Path.refl λ b o. tt) d20
-          d22 : Typed.Typed 𝓤 H A 𝓣 E G35 b29 Δ1 at22
-          d22 = Typed.g-pre 𝓤 H A W 𝓣 E G35 G36 b29 Δ1 (λ Ψ. Ψ) at21 (Lifetime.g-begin 𝓤 H A W E G35 6 (tt, (tt, (tt, (tt, (tt, (tt, (tt, (tt, (tt,
-              (tt, (tt, (tt, (tt, (tt, (tt, (tt, (tt, (tt, (tt, (tt, (tt, (tt, (tt, (tt, (tt, (tt, tt)))))),),),),),),),),),),),),),),),),),),),),))
-              d21
-          d23 : Typed.Typed 𝓤 H A 𝓣 E G34 b29 Δ1 at23
-          d23 = Typed.g-pre 𝓤 H A W 𝓣 E G34 G35 b29 Δ1 (λ Ψ. Ψ) at22 (Lifetime.g-forget 𝓤 H A W E G34 5 Row.dead Path.refl) d22
-          d24 : Typed.Typed 𝓤 H A 𝓣 E G33 b29 Δ1 at24
-          d24 = Typed.g-pre 𝓤 H A W 𝓣 E G33 G34 b29 Δ1 (Typed.both s31) at23 (Relend.g-back-sl 𝓤 H A W E RelayCircuit.row G33 21 2 1 5 ref5 ref1 life1
-              (λ x. x) (λ x. x) (Reads.as-is 𝓤 H A (Mut.msleft RelayCircuit.row ref1)) (Reads.as-is 𝓤 H A (Relend.mslice-owed RelayCircuit.row ref5 1
-              5 life1)) Path.refl Path.refl) d23
-          d25 : Typed.Typed 𝓤 H A 𝓣 E G32 b29 Δ1 at25
-          d25 = Typed.g-pre 𝓤 H A W 𝓣 E G32 G33 b29 Δ1 (λ Ψ. Ψ) at24 (Lifetime.g-end 𝓤 H A W E G32 5 Path.refl) d24
-          d26 : Typed.Typed 𝓤 H A 𝓣 E G31 b29 Δ1 at26
-          d26 = Typed.g-pre 𝓤 H A W 𝓣 E G31 G32 b29 Δ1 (Typed.pass T31 T32 s29) at25 (Scalar.g-room 𝓤 H A W E G31 17 Syntax.tyUnit (Scalar.room-sc 𝓤 H
-              A W Row.sUnit)) d25
-          d27 : Typed.Typed 𝓤 H A 𝓣 E G30 b30 Δ1 at27
-          d27 = Typed.s-seq 𝓤 H A W 𝓣 E G30 G31 b14 b29 Δ1 (Typed.both s28) at26 (Plain.t-call-plain 𝓤 H A W 𝓣 1 ps·6 r·6 (claims· .12) (claims· .13)
-              "hnsr_circuit::tables::circuits::clear_circuit" (known .6) E (λ pos β. β) G30 (record { pos = 21; ty = Syntax.tyRef Syntax.erased
-              Syntax.mut RelayCircuit.to; ref = λ x. x; }, (record { pos = 12; st = List.[]; d = 0; at = λ x. x }, tt),) 17 (5 ∷ List.[]) (Call.sub-id
-              𝓤 H A W (G30 .slots)) (Reads.as-is 𝓤 H A (Mut.mslice RelayCircuit.row ref1 5), Mut.reads-mslice 𝓤 H A W RelayCircuit.row ref1 5,
-              Path.refl, ((Yields.yields-copy 𝓤 H A W (λ ρ. Unit) (Declared'.row Question.the-type) Path.refl (Copies.cStruct Question.the-type
-              Laws''.the-laws Laws''.the-copy .copy 𝓤 H A W) (Rows'.whole (Declared'.row Question.the-type)) (λ x. x) (λ x. x) (λ ρ told.
-              Local.mem-whole 𝓤 H A W (Declared'.row Question.the-type) ρ) λ ρ told. Local.whole-mem 𝓤 H A W (Declared'.row Question.the-type) ρ,
-              Path.refl,), tt,),) (Reads.room-gone 𝓤 H A Syntax.tyUnit) (tt, tt) Path.refl) d26
-          d28 : Typed.Typed 𝓤 H A 𝓣 E G29 b31 Δ1 at28
-          d28 = Typed.s-seq 𝓤 H A W 𝓣 E G29 G30 b13 b30 Δ1 (Typed.ask s27) at27 (Relend.t-sl-aggregate 𝓤 H A W E RelayCircuit.row 𝓣 (Relend.asMut
-              RelayCircuit.row) G29 20 21 5 ref1 ref1 (λ x. x) (Scalar.oFld 2 ((Syntax.field 1) ∷ List.[]) (Syntax.tyInt Syntax.w64) 8 λ v.
-              Shared.lenV (v .0)) (Reads.as-is 𝓤 H A (Relend.msptr RelayCircuit.row ref1 5)) (Reads.room-gone 𝓤 H A (Syntax.tyStruct (38 ∷ 91 ∷ 93 ∷
-              List.[]) (Syntax.tcons ref1 (Syntax.tcons (Syntax.tyInt Syntax.w64) Syntax.tnil)))) (Relend.reads-owed-len 𝓤 H A W RelayCircuit.row ref5
-              1 5 life1 8 Path.refl, Path.refl,) Path.refl Path.refl λ b o k. tt) d27
-          d29 : Typed.Typed 𝓤 H A 𝓣 E G28 b32 Δ1 at29
-          d29 = Typed.s-seq 𝓤 H A W 𝓣 E G28 G29 b12 b31 Δ1 (Typed.give s26) at28 (Relend.t-sl-relend 𝓤 H A W E RelayCircuit.row 𝓣 G28 2 20 1 5 ref5
-              ref1 life1 0 (λ x. x) (Reads.as-is 𝓤 H A (Mut.mslice RelayCircuit.row ref5 1)) (Reads.room-gone 𝓤 H A ref1) Path.refl tt Path.refl
-              Path.refl Path.refl λ b o. tt) d28
-          d30 : Typed.Typed 𝓤 H A 𝓣 E G27 b32 Δ1 at30
-          d30 = Typed.g-pre 𝓤 H A W 𝓣 E G27 G28 b32 Δ1 (λ Ψ. Ψ) at29 (Lifetime.g-begin 𝓤 H A W E G27 5 (tt, (tt, (tt, (tt, (tt, (tt, (tt, (tt, (tt,
-              (tt, (tt, (tt, (tt, (tt, (tt, (tt, (tt, (tt, (tt, (tt, (tt, (tt, (tt, (tt, (tt, (tt, tt)))))),),),),),),),),),),),),),),),),),),),),))
-              d29
-          d31 : Typed.Typed 𝓤 H A 𝓣 E G26 b32 Δ1 at31
-          d31 = Typed.g-pre 𝓤 H A W 𝓣 E G26 G27 b32 Δ1 (λ Ψ. Ψ) at30 (Lifetime.g-forget 𝓤 H A W E G26 4 Row.dead Path.refl) d30
-          d32 : Typed.Typed 𝓤 H A 𝓣 E G25 b32 Δ1 at32
-          d32 = Typed.g-pre 𝓤 H A W 𝓣 E G25 G26 b32 Δ1 (Typed.both s23) at31 (Relend.g-back-sl 𝓤 H A W E RelayPending.row G25 19 1 0 4 ref4 ref0 life0
-              (λ x. x) (λ x. x) (Reads.as-is 𝓤 H A (Mut.msleft RelayPending.row ref0)) (Reads.as-is 𝓤 H A (Relend.mslice-owed RelayPending.row ref4 0
-              4 life0)) Path.refl Path.refl) d31
-          d33 : Typed.Typed 𝓤 H A 𝓣 E G24 b32 Δ1 at33
-          d33 = Typed.g-pre 𝓤 H A W 𝓣 E G24 G25 b32 Δ1 (λ Ψ. Ψ) at32 (Lifetime.g-end 𝓤 H A W E G24 4 Path.refl) d32
-          d34 : Typed.Typed 𝓤 H A 𝓣 E G23 b32 Δ1 at34
-          d34 = Typed.g-pre 𝓤 H A W 𝓣 E G23 G24 b32 Δ1 (Typed.pass T23 T24 s21) at33 (Scalar.g-room 𝓤 H A W E G23 17 Syntax.tyUnit (Scalar.room-sc 𝓤 H
-              A W Row.sUnit)) d33
-          d35 : Typed.Typed 𝓤 H A 𝓣 E G22 b33 Δ1 at35
-          d35 = Typed.s-seq 𝓤 H A W 𝓣 E G22 G23 b11 b32 Δ1 (Typed.both s20) at34 (Plain.t-call-plain 𝓤 H A W 𝓣 1 ps·5 r·5 (claims· .10) (claims· .11)
-              "hnsr_circuit::tables::pending::clear_pending" (known .5) E (λ pos β. β) G22 (record { pos = 19; ty = Syntax.tyRef Syntax.erased
-              Syntax.mut RelayPending.to; ref = λ x. x; }, (record { pos = 12; st = List.[]; d = 0; at = λ x. x }, tt),) 17 (4 ∷ List.[]) (Call.sub-id
-              𝓤 H A W (G22 .slots)) (Reads.as-is 𝓤 H A (Mut.mslice RelayPending.row ref0 4), Mut.reads-mslice 𝓤 H A W RelayPending.row ref0 4,
-              Path.refl, ((Yields.yields-copy 𝓤 H A W (λ ρ. Unit) (Declared'.row Question.the-type) Path.refl (Copies.cStruct Question.the-type
-              Laws''.the-laws Laws''.the-copy .copy 𝓤 H A W) (Rows'.whole (Declared'.row Question.the-type)) (λ x. x) (λ x. x) (λ ρ told.
-              Local.mem-whole 𝓤 H A W (Declared'.row Question.the-type) ρ) λ ρ told. Local.whole-mem 𝓤 H A W (Declared'.row Question.the-type) ρ,
-              Path.refl,), tt,),) (Reads.room-gone 𝓤 H A Syntax.tyUnit) (tt, tt) Path.refl) d34
-          d36 : Typed.Typed 𝓤 H A 𝓣 E G21 b34 Δ1 at36
-          d36 = Typed.s-seq 𝓤 H A W 𝓣 E G21 G22 b10 b33 Δ1 (Typed.ask s19) at35 (Relend.t-sl-aggregate 𝓤 H A W E RelayPending.row 𝓣 (Relend.asMut
-              RelayPending.row) G21 18 19 4 ref0 ref0 (λ x. x) (Scalar.oFld 1 ((Syntax.field 1) ∷ List.[]) (Syntax.tyInt Syntax.w64) 8 λ v.
-              Shared.lenV (v .0)) (Reads.as-is 𝓤 H A (Relend.msptr RelayPending.row ref0 4)) (Reads.room-gone 𝓤 H A (Syntax.tyStruct (38 ∷ 91 ∷ 93 ∷
-              List.[]) (Syntax.tcons ref0 (Syntax.tcons (Syntax.tyInt Syntax.w64) Syntax.tnil)))) (Relend.reads-owed-len 𝓤 H A W RelayPending.row ref4
-              0 4 life0 8 Path.refl, Path.refl,) Path.refl Path.refl λ b o k. tt) d35
-          d37 : Typed.Typed 𝓤 H A 𝓣 E G20 b35 Δ1 at37
-          d37 = Typed.s-seq 𝓤 H A W 𝓣 E G20 G21 b9 b34 Δ1 (Typed.give s18) at36 (Relend.t-sl-relend 𝓤 H A W E RelayPending.row 𝓣 G20 1 18 0 4 ref4
-              ref0 life0 0 (λ x. x) (Reads.as-is 𝓤 H A (Mut.mslice RelayPending.row ref4 0)) (Reads.room-gone 𝓤 H A ref0) Path.refl tt Path.refl
-              Path.refl Path.refl λ b o. tt) d36
-          d38 : Typed.Typed 𝓤 H A 𝓣 E G19 b35 Δ1 at38
-          d38 = Typed.g-pre 𝓤 H A W 𝓣 E G19 G20 b35 Δ1 (λ Ψ. Ψ) at37 (Lifetime.g-begin 𝓤 H A W E G19 4 (tt, (tt, (tt, (tt, (tt, (tt, (tt, (tt, (tt,
-              (tt, (tt, (tt, (tt, (tt, (tt, (tt, (tt, (tt, (tt, (tt, (tt, (tt, (tt, (tt, (tt, (tt, tt)))))),),),),),),),),),),),),),),),),),),),),))
-              d37
-          d39 : Typed.Typed 𝓤 H A 𝓣 E G18 b35 Δ1 at39
-          d39 = Typed.g-pre 𝓤 H A W 𝓣 E G18 G19 b35 Δ1 (Typed.pass T18 T19 s16) at38 (Scalar.g-room 𝓤 H A W E G18 16 Syntax.tyBool (Scalar.room-sc 𝓤 H
-              A W Row.sBool)) d38
-          d40 : Typed.Typed 𝓤 H A 𝓣 E G16 b35 Δ1 at40
-          d40 = Typed.g-pre 𝓤 H A W 𝓣 E G16 G18 b35 Δ1 (Typed.pass T16 T18 s15) at39 (Scalar.g-room 𝓤 H A W E G16 10 Laws.mir (Local.room-whole 𝓤 H A
-              W (Declared.row HnsrAnswer.the-type) Laws.mir Path.refl)) d39
-          d41 : Typed.Typed 𝓤 H A 𝓣 E G59 b36 Δ1 at41
-          d41 = Typed.t-skip 𝓤 H A W 𝓣 E Δ1 tt
-          d42 : Typed.Typed 𝓤 H A 𝓣 E G58 b36 Δ1 at42
-          d42 = Typed.g-pre 𝓤 H A W 𝓣 E G58 G59 b36 Δ1 (Typed.pass T58 T59 s56) at41 (Scalar.g-room 𝓤 H A W E G58 16 Syntax.tyBool (Scalar.room-sc 𝓤 H
-              A W Row.sBool)) d41
-          d43 : Typed.Typed 𝓤 H A 𝓣 E G16 b36 Δ1 at43
-          d43 = Typed.g-pre 𝓤 H A W 𝓣 E G16 G58 b36 Δ1 (Typed.pass T16 T58 s55) at42 (Scalar.g-room 𝓤 H A W E G16 12 Laws''.mir (Local.room-whole 𝓤 H
-              A W (Declared'.row Question.the-type) Laws''.mir Path.refl)) d42
-          d44 : Typed.Typed 𝓤 H A 𝓣 E G16 b37 Δ1 at44
-          d44 = Scalar.t-cond 𝓤 H A W E 𝓣 G16 16 (λ x. x) b35 b36 Δ1 at40 at43 (Scalar.reads-sc 𝓤 H A W Row.sBool) Path.refl d40 d43
-          d45 : Typed.Typed 𝓤 H A 𝓣 E G65 b39 Δ0 at45
-          d45 = Typed.t-return 𝓤 H A W 𝓣 E Δ0 tt
-          d46 : Typed.Typed 𝓤 H A 𝓣 E G64 b39 Δ0 at46
-          d46 = Typed.g-pre 𝓤 H A W 𝓣 E G64 G65 b39 Δ0 (Typed.pass T64 T65 s62) at45 (Scalar.g-room 𝓤 H A W E G64 8 (Syntax.tyInt Syntax.w64)
-              (Scalar.room-sc 𝓤 H A W (Row.sInt Syntax.w64))) d45
-          d47 : Typed.Typed 𝓤 H A 𝓣 E G63 b39 Δ0 at47
-          d47 = Typed.g-pre 𝓤 H A W 𝓣 E G63 G64 b39 Δ0 (Typed.pass T63 T64 s61) at46 (Scalar.g-room 𝓤 H A W E G63 6 (Syntax.tyInt Syntax.w64)
-              (Scalar.room-sc 𝓤 H A W (Row.sInt Syntax.w64))) d46
-          d48 : Typed.Typed 𝓤 H A 𝓣 E G62 b39 Δ0 at48
-          d48 = Typed.g-pre 𝓤 H A W 𝓣 E G62 G63 b39 Δ0 (Typed.pass T62 T63 s60) at47 (Scalar.g-room 𝓤 H A W E G62 11 Laws'''.mir (Local.room-whole 𝓤 H
-              A W (Declared'.row OpaqueRelayRuntime.the-type) Laws'''.mir Path.refl)) d47
-          d49 : Typed.Typed 𝓤 H A 𝓣 E G61 b39 Δ0 at49
-          d49 = Typed.g-pre 𝓤 H A W 𝓣 E G61 G62 b39 Δ0 (Typed.pass T61 T62 s59) at48 (Scalar.g-room 𝓤 H A W E G61 10 Laws.mir (Local.room-whole 𝓤 H A
-              W (Declared.row HnsrAnswer.the-type) Laws.mir Path.refl)) d48
-          d50 : Typed.Typed 𝓤 H A 𝓣 E G60 b39 Δ0 at50
-          d50 = Typed.g-pre 𝓤 H A W 𝓣 E G60 G61 b39 Δ0 (Typed.pass T60 T61 s58) at49 (Scalar.g-room 𝓤 H A W E G60 9 Syntax.tyBool (Scalar.room-sc 𝓤 H
-              A W Row.sBool)) d49
-          d51 : Typed.Typed 𝓤 H A 𝓣 E G17 b40 Δ0 at51
-          d51 = Typed.s-seq 𝓤 H A W 𝓣 E G17 G60 b38 b39 Δ0 (Typed.both s57) at50 (Plain.t-call-plain 𝓤 H A W 𝓣 0 ps·10 r·10 (claims· .20) (claims·
-              .21) "hnsr_circuit::revoking_calls::refused" (known .10) E (λ pos β. β) G17 (record { pos = 11; st = List.[]; d = 0; at = λ x. x },
-              (record { pos = 10; st = List.[]; d = 0; at = λ x. x }, tt),) 0 List.[] (Call.sub-id 𝓤 H A W (G17 .slots)) ((Yields.yields-copy 𝓤 H A W
-              (λ ρ. Unit) (Declared'.row OpaqueRelayRuntime.the-type) Path.refl (Copies.cStruct OpaqueRelayRuntime.the-type Laws'''.the-laws
+          d4 : Typed.Typed 𝓤 H A 𝓣 E G21 b10 Δ1 at4
+          d4 = Typed.g-pre 𝓤 H A W 𝓣 E G21 G22 b10 Δ1 (Typed.pass T21 T22 s19) at3 (Scalar.g-room 𝓤 H A W E G21 12 Laws''.mir (Local.room-whole 𝓤 H A
+              W (Declared'.row Places.the-type) Laws''.mir Path.refl)) d3
+          d5 : Typed.Typed 𝓤 H A 𝓣 E G20 b10 Δ1 at5
+          d5 = Typed.g-pre 𝓤 H A W 𝓣 E G20 G21 b10 Δ1 (Typed.pass T20 T21 s18) at4 (Scalar.g-room 𝓤 H A W E G20 11 Laws'''.mir (Local.room-whole 𝓤 H A
+              W (Declared'.row OpaqueRelayRuntime.the-type) Laws'''.mir Path.refl)) d4
+          d6 : Typed.Typed 𝓤 H A 𝓣 E G19 b11 Δ1 at6
+          d6 = Typed.s-seq 𝓤 H A W 𝓣 E G19 G20 b9 b10 Δ1 (Typed.both s17) at5 (Plain.t-call-plain 𝓤 H A W 𝓣 0 ps·5 r·5 (claims· .10) (claims· .11)
+              "hnsr_circuit::revoking_calls::taken_with" (known .5) E (λ pos β. β) G19 (record { pos = 11; st = List.[]; d = 0; at = λ x. x }, (record
+              { pos = 12; st = List.[]; d = 0; at = λ x. x }, tt),) 0 List.[] (Call.sub-id 𝓤 H A W (G19 .slots)) ((Yields.yields-copy 𝓤 H A W (λ ρ.
+              Unit) (Declared'.row OpaqueRelayRuntime.the-type) Path.refl (Copies.cStruct OpaqueRelayRuntime.the-type Laws'''.the-laws
               Laws'''.the-copy .copy 𝓤 H A W) (Rows'.whole (Declared'.row OpaqueRelayRuntime.the-type)) (λ x. x) (λ x. x) (λ ρ told. Local.mem-whole 𝓤
               H A W (Declared'.row OpaqueRelayRuntime.the-type) ρ) λ ρ told. Local.whole-mem 𝓤 H A W (Declared'.row OpaqueRelayRuntime.the-type) ρ,
-              Path.refl,), ((Yields.yields-copy 𝓤 H A W (λ ρ. Unit) (Declared.row HnsrAnswer.the-type) Path.refl (Copies.cEnum HnsrAnswer.the-type
-              Laws.the-laws Laws.the-copy .copy 𝓤 H A W) (Rows'.whole (Declared.row HnsrAnswer.the-type)) (λ x. x) (λ x. x) (λ ρ told. Local.mem-whole
-              𝓤 H A W (Declared.row HnsrAnswer.the-type) ρ) λ ρ told. Local.whole-mem 𝓤 H A W (Declared.row HnsrAnswer.the-type) ρ, Path.refl,),
-              tt,),) (Reads.room-gone 𝓤 H A Laws''''.mir) tt Path.refl) d50
-          d52 : Typed.Typed 𝓤 H A 𝓣 E G16 b41 Δ0 at52
-          d52 = Typed.t-seq 𝓤 H A W 𝓣 E G16 G17 b37 b40 Δ0 at44 at51 d44 d51
-          d53 : Typed.Typed 𝓤 H A 𝓣 E G15 b42 Δ0 at53
-          d53 = Typed.s-seq 𝓤 H A W 𝓣 E G15 G16 b8 b41 Δ0 (Typed.both s14) at52 (Plain.t-call-plain 𝓤 H A W 𝓣 0 ps·4 r·4 (claims· .8) (claims· .9)
-              "hnsr_circuit::answer::is_taken" (known .4) E (λ pos β. β) G15 (record { pos = 10; st = List.[]; d = 0; at = λ x. x }, tt) 16 List.[]
-              (Call.sub-id 𝓤 H A W (G15 .slots)) ((Yields.yields-copy 𝓤 H A W (λ ρ. Unit) (Declared.row HnsrAnswer.the-type) Path.refl (Copies.cEnum
+              Path.refl,), ((Yields.yields-copy 𝓤 H A W (λ ρ. Unit) (Declared'.row Places.the-type) Path.refl (Copies.cStruct Places.the-type
+              Laws''.the-laws Laws''.the-copy .copy 𝓤 H A W) (Rows'.whole (Declared'.row Places.the-type)) (λ x. x) (λ x. x) (λ ρ told.
+              Local.mem-whole 𝓤 H A W (Declared'.row Places.the-type) ρ) λ ρ told. Local.whole-mem 𝓤 H A W (Declared'.row Places.the-type) ρ,
+              Path.refl,), tt,),) (Reads.room-gone 𝓤 H A Laws''''.mir) tt Path.refl) d5
+          d7 : Typed.Typed 𝓤 H A 𝓣 E G18 b12 Δ1 at7
+          d7 = Typed.s-seq 𝓤 H A W 𝓣 E G18 G19 b8 b11 Δ1 (Typed.both s16) at6 (Plain.t-call-plain 𝓤 H A W 𝓣 0 ps·4 r·4 (claims· .8) (claims· .9)
+              "hnsr_circuit::places::no_place" (known .4) E (λ pos β. β) G18 tt 12 List.[] (Call.sub-id 𝓤 H A W (G18 .slots)) tt (Reads.room-gone 𝓤 H
+              A Laws''.mir) tt Path.refl) d6
+          d8 : Typed.Typed 𝓤 H A 𝓣 E G17 b12 Δ1 at8
+          d8 = Typed.g-pre 𝓤 H A W 𝓣 E G17 G18 b12 Δ1 (Typed.pass T17 T18 s15) at7 (Scalar.g-room 𝓤 H A W E G17 18 Syntax.tyBool (Scalar.room-sc 𝓤 H A
+              W Row.sBool)) d7
+          d9 : Typed.Typed 𝓤 H A 𝓣 E G15 b12 Δ1 at9
+          d9 = Typed.g-pre 𝓤 H A W 𝓣 E G15 G17 b12 Δ1 (Typed.pass T15 T17 s14) at8 (Scalar.g-room 𝓤 H A W E G15 10 Laws.mir (Local.room-whole 𝓤 H A W
+              (Declared.row HnsrAnswer.the-type) Laws.mir Path.refl)) d8
+          d10 : Typed.Typed 𝓤 H A 𝓣 E G27 b13 Δ1 at10
+          d10 = Typed.t-skip 𝓤 H A W 𝓣 E Δ1 tt
+          d11 : Typed.Typed 𝓤 H A 𝓣 E G26 b13 Δ1 at11
+          d11 = Typed.g-pre 𝓤 H A W 𝓣 E G26 G27 b13 Δ1 (Typed.pass T26 T27 s24) at10 (Scalar.g-room 𝓤 H A W E G26 18 Syntax.tyBool (Scalar.room-sc 𝓤 H
+              A W Row.sBool)) d10
+          d12 : Typed.Typed 𝓤 H A 𝓣 E G15 b13 Δ1 at12
+          d12 = Typed.g-pre 𝓤 H A W 𝓣 E G15 G26 b13 Δ1 (Typed.pass T15 T26 s23) at11 (Scalar.g-room 𝓤 H A W E G15 11 Laws'''.mir (Local.room-whole 𝓤 H
+              A W (Declared'.row OpaqueRelayRuntime.the-type) Laws'''.mir Path.refl)) d11
+          d13 : Typed.Typed 𝓤 H A 𝓣 E G15 b14 Δ1 at13
+          d13 = Scalar.t-cond 𝓤 H A W E 𝓣 G15 18 (λ x. x) b12 b13 Δ1 at9 at12 (Scalar.reads-sc 𝓤 H A W Row.sBool) Path.refl d9 d12
+          d14 : Typed.Typed 𝓤 H A 𝓣 E G36 b18 Δ0 at14
+          d14 = Typed.t-return 𝓤 H A W 𝓣 E Δ0 tt
+          d15 : Typed.Typed 𝓤 H A 𝓣 E G35 b18 Δ0 at15
+          d15 = Typed.g-pre 𝓤 H A W 𝓣 E G35 G36 b18 Δ0 (Typed.pass T35 T36 s33) at14 (Scalar.g-room 𝓤 H A W E G35 8 (Syntax.tyInt Syntax.w64)
+              (Scalar.room-sc 𝓤 H A W (Row.sInt Syntax.w64))) d14
+          d16 : Typed.Typed 𝓤 H A 𝓣 E G34 b18 Δ0 at16
+          d16 = Typed.g-pre 𝓤 H A W 𝓣 E G34 G35 b18 Δ0 (Typed.pass T34 T35 s32) at15 (Scalar.g-room 𝓤 H A W E G34 6 (Syntax.tyInt Syntax.w64)
+              (Scalar.room-sc 𝓤 H A W (Row.sInt Syntax.w64))) d15
+          d17 : Typed.Typed 𝓤 H A 𝓣 E G33 b18 Δ0 at17
+          d17 = Typed.g-pre 𝓤 H A W 𝓣 E G33 G34 b18 Δ0 (Typed.pass T33 T34 s31) at16 (Scalar.g-room 𝓤 H A W E G33 14 Laws''.mir (Local.room-whole 𝓤 H
+              A W (Declared'.row Places.the-type) Laws''.mir Path.refl)) d16
+          d18 : Typed.Typed 𝓤 H A 𝓣 E G32 b18 Δ0 at18
+          d18 = Typed.g-pre 𝓤 H A W 𝓣 E G32 G33 b18 Δ0 (Typed.pass T32 T33 s30) at17 (Scalar.g-room 𝓤 H A W E G32 13 Laws'''.mir (Local.room-whole 𝓤 H
+              A W (Declared'.row OpaqueRelayRuntime.the-type) Laws'''.mir Path.refl)) d17
+          d19 : Typed.Typed 𝓤 H A 𝓣 E G31 b18 Δ0 at19
+          d19 = Typed.g-pre 𝓤 H A W 𝓣 E G31 G32 b18 Δ0 (Typed.pass T31 T32 s29) at18 (Scalar.g-room 𝓤 H A W E G31 10 Laws.mir (Local.room-whole 𝓤 H A
+              W (Declared.row HnsrAnswer.the-type) Laws.mir Path.refl)) d18
+          d20 : Typed.Typed 𝓤 H A 𝓣 E G30 b18 Δ0 at20
+          d20 = Typed.g-pre 𝓤 H A W 𝓣 E G30 G31 b18 Δ0 (Typed.pass T30 T31 s28) at19 (Scalar.g-room 𝓤 H A W E G30 9 Syntax.tyBool (Scalar.room-sc 𝓤 H
+              A W Row.sBool)) d19
+          d21 : Typed.Typed 𝓤 H A 𝓣 E G29 b19 Δ0 at21
+          d21 = Typed.s-seq 𝓤 H A W 𝓣 E G29 G30 b17 b18 Δ0 (Typed.both s27) at20 (Plain.t-call-plain 𝓤 H A W 𝓣 0 ps·8 r·8 (claims· .16) (claims· .17)
+              "hnsr_circuit::revoking_calls::refused" (known .8) E (λ pos β. β) G29 (record { pos = 13; st = List.[]; d = 0; at = λ x. x }, (record {
+              pos = 14; st = List.[]; d = 0; at = λ x. x }, (record { pos = 10; st = List.[]; d = 0; at = λ x. x }, tt),),) 0 List.[] (Call.sub-id 𝓤 H
+              A W (G29 .slots)) ((Yields.yields-copy 𝓤 H A W (λ ρ. Unit) (Declared'.row OpaqueRelayRuntime.the-type) Path.refl (Copies.cStruct
+              OpaqueRelayRuntime.the-type Laws'''.the-laws Laws'''.the-copy .copy 𝓤 H A W) (Rows'.whole (Declared'.row OpaqueRelayRuntime.the-type))
+              (λ x. x) (λ x. x) (λ ρ told. Local.mem-whole 𝓤 H A W (Declared'.row OpaqueRelayRuntime.the-type) ρ) λ ρ told. Local.whole-mem 𝓤 H A W
+              (Declared'.row OpaqueRelayRuntime.the-type) ρ, Path.refl,), ((Yields.yields-copy 𝓤 H A W (λ ρ. Unit) (Declared'.row Places.the-type)
+              Path.refl (Copies.cStruct Places.the-type Laws''.the-laws Laws''.the-copy .copy 𝓤 H A W) (Rows'.whole (Declared'.row Places.the-type))
+              (λ x. x) (λ x. x) (λ ρ told. Local.mem-whole 𝓤 H A W (Declared'.row Places.the-type) ρ) λ ρ told. Local.whole-mem 𝓤 H A W (Declared'.row
+              Places.the-type) ρ, Path.refl,), ((Yields.yields-copy 𝓤 H A W (λ ρ. Unit) (Declared.row HnsrAnswer.the-type) Path.refl (Copies.cEnum
               HnsrAnswer.the-type Laws.the-laws Laws.the-copy .copy 𝓤 H A W) (Rows'.whole (Declared.row HnsrAnswer.the-type)) (λ x. x) (λ x. x) (λ ρ
               told. Local.mem-whole 𝓤 H A W (Declared.row HnsrAnswer.the-type) ρ) λ ρ told. Local.whole-mem 𝓤 H A W (Declared.row HnsrAnswer.the-type)
-              ρ, Path.refl,), tt,) (Reads.room-gone 𝓤 H A Syntax.tyBool) tt Path.refl) d52
-          d54 : Typed.Typed 𝓤 H A 𝓣 E G14 b43 Δ0 at54
-          d54 = Typed.s-seq 𝓤 H A W 𝓣 E G14 G15 b7 b42 Δ0 (Typed.both s13) at53 (Plain.t-call-plain 𝓤 H A W 𝓣 0 ps·3 r·3 (claims· .6) (claims· .7)
-              "hnsr_circuit::question::used" (known .3) E (λ pos β. β) G14 tt 12 List.[] (Call.sub-id 𝓤 H A W (G14 .slots)) tt (Reads.room-gone 𝓤 H A
-              Laws''.mir) tt Path.refl) d53
-          d55 : Typed.Typed 𝓤 H A 𝓣 E G13 b43 Δ0 at55
-          d55 = Typed.g-pre 𝓤 H A W 𝓣 E G13 G14 b43 Δ0 (Typed.pass T13 T14 s12) at54 (Scalar.g-room 𝓤 H A W E G13 7 Laws'.mir (Local.room-whole 𝓤 H A
-              W (Declared'.row OpaqueRelayConfig.the-type) Laws'.mir Path.refl)) d54
-          d56 : Typed.Typed 𝓤 H A 𝓣 E G12 b43 Δ0 at56
-          d56 = Typed.g-pre 𝓤 H A W 𝓣 E G12 G13 b43 Δ0 (Typed.pass T12 T13 s11) at55 (Scalar.g-room 𝓤 H A W E G12 5 (Syntax.tyArray (Syntax.tyInt
-              Syntax.w8) 16) (Init.room-arr 𝓤 H A W (Referent.rtF (Referent.fInt Syntax.w8)) 16 0 16 Path.refl)) d55
-          d57 : Typed.Typed 𝓤 H A 𝓣 E G11 b44 Δ0 at57
-          d57 = Typed.s-seq 𝓤 H A W 𝓣 E G11 G12 b6 b43 Δ0 (Typed.both s10) at56 (Plain.t-call-plain 𝓤 H A W 𝓣 0 ps·2 r·2 (claims· .4) (claims· .5)
+              ρ, Path.refl,), tt,),),) (Reads.room-gone 𝓤 H A Laws''''.mir) tt Path.refl) d20
+          d22 : Typed.Typed 𝓤 H A 𝓣 E G28 b20 Δ0 at22
+          d22 = Typed.s-seq 𝓤 H A W 𝓣 E G28 G29 b16 b19 Δ0 (Typed.both s26) at21 (Plain.t-call-plain 𝓤 H A W 𝓣 0 ps·7 r·7 (claims· .14) (claims· .15)
+              "hnsr_circuit::places::every_place" (known .7) E (λ pos β. β) G28 tt 14 List.[] (Call.sub-id 𝓤 H A W (G28 .slots)) tt (Reads.room-gone 𝓤
+              H A Laws''.mir) tt Path.refl) d21
+          d23 : Typed.Typed 𝓤 H A 𝓣 E G16 b21 Δ0 at23
+          d23 = Typed.s-seq 𝓤 H A W 𝓣 E G16 G28 b15 b20 Δ0 (Typed.both s25) at22 (Plain.t-call-plain 𝓤 H A W 𝓣 0 ps·6 r·6 (claims· .12) (claims· .13)
+              "hnsr_circuit::header::no_runtime" (known .6) E (λ pos β. β) G16 tt 13 List.[] (Call.sub-id 𝓤 H A W (G16 .slots)) tt (Reads.room-gone 𝓤
+              H A Laws'''.mir) tt Path.refl) d22
+          d24 : Typed.Typed 𝓤 H A 𝓣 E G15 b22 Δ0 at24
+          d24 = Typed.t-seq 𝓤 H A W 𝓣 E G15 G16 b14 b21 Δ0 at13 at23 d13 d23
+          d25 : Typed.Typed 𝓤 H A 𝓣 E G14 b23 Δ0 at25
+          d25 = Typed.s-seq 𝓤 H A W 𝓣 E G14 G15 b7 b22 Δ0 (Typed.both s13) at24 (Plain.t-call-plain 𝓤 H A W 𝓣 0 ps·3 r·3 (claims· .6) (claims· .7)
+              "hnsr_circuit::answer::is_taken" (known .3) E (λ pos β. β) G14 (record { pos = 10; st = List.[]; d = 0; at = λ x. x }, tt) 18 List.[]
+              (Call.sub-id 𝓤 H A W (G14 .slots)) ((Yields.yields-copy 𝓤 H A W (λ ρ. Unit) (Declared.row HnsrAnswer.the-type) Path.refl (Copies.cEnum
+              HnsrAnswer.the-type Laws.the-laws Laws.the-copy .copy 𝓤 H A W) (Rows'.whole (Declared.row HnsrAnswer.the-type)) (λ x. x) (λ x. x) (λ ρ
+              told. Local.mem-whole 𝓤 H A W (Declared.row HnsrAnswer.the-type) ρ) λ ρ told. Local.whole-mem 𝓤 H A W (Declared.row HnsrAnswer.the-type)
+              ρ, Path.refl,), tt,) (Reads.room-gone 𝓤 H A Syntax.tyBool) tt Path.refl) d24
+          d26 : Typed.Typed 𝓤 H A 𝓣 E G13 b23 Δ0 at26
+          d26 = Typed.g-pre 𝓤 H A W 𝓣 E G13 G14 b23 Δ0 (Typed.pass T13 T14 s12) at25 (Scalar.g-room 𝓤 H A W E G13 7 Laws'.mir (Local.room-whole 𝓤 H A
+              W (Declared'.row OpaqueRelayConfig.the-type) Laws'.mir Path.refl)) d25
+          d27 : Typed.Typed 𝓤 H A 𝓣 E G12 b23 Δ0 at27
+          d27 = Typed.g-pre 𝓤 H A W 𝓣 E G12 G13 b23 Δ0 (Typed.pass T12 T13 s11) at26 (Scalar.g-room 𝓤 H A W E G12 5 (Syntax.tyArray (Syntax.tyInt
+              Syntax.w8) 16) (Init.room-arr 𝓤 H A W (Referent.rtF (Referent.fInt Syntax.w8)) 16 0 16 Path.refl)) d26
+          d28 : Typed.Typed 𝓤 H A 𝓣 E G11 b24 Δ0 at28
+          d28 = Typed.s-seq 𝓤 H A W 𝓣 E G11 G12 b6 b23 Δ0 (Typed.both s10) at27 (Plain.t-call-plain 𝓤 H A W 𝓣 0 ps·2 r·2 (claims· .4) (claims· .5)
               "hnsr_circuit::header::new_header" (known .2) E (λ pos β. β) G11 (record { pos = 5; st = List.[]; d = 0; at = λ x. x }, (Num.vAt 6 λ x.
               x, (record { pos = 7; st = List.[]; d = 0; at = λ x. x }, (Num.vAt 8 λ x. x, tt)),),) 11 List.[] (Call.sub-id 𝓤 H A W (G11 .slots))
               ((Array.arr-yields 𝓤 H A W (Array.eInt Syntax.w8) (Array.eInt-laws Syntax.w8) 16, Path.refl,), ((Scalar.reads-sc 𝓤 H A W (Row.sInt
@@ -1378,67 +873,70 @@ module _ (claims· : Claims) where
               OpaqueRelayConfig.the-type Laws'.the-laws Laws'.the-copy .copy 𝓤 H A W) (Rows'.whole (Declared'.row OpaqueRelayConfig.the-type)) (λ x.
               x) (λ x. x) (λ ρ told. Local.mem-whole 𝓤 H A W (Declared'.row OpaqueRelayConfig.the-type) ρ) λ ρ told. Local.whole-mem 𝓤 H A W
               (Declared'.row OpaqueRelayConfig.the-type) ρ, Path.refl,), ((Scalar.reads-sc 𝓤 H A W (Row.sInt Syntax.w64), Path.refl), tt),),),)
-              (Reads.room-gone 𝓤 H A Laws'''.mir) tt Path.refl) d56
-          d58 : Typed.Typed 𝓤 H A 𝓣 E G10 b44 Δ0 at58
-          d58 = Typed.g-pre 𝓤 H A W 𝓣 E G10 G11 b44 Δ0 (Typed.pass T10 T11 s9) at57 (Scalar.g-room 𝓤 H A W E G10 13 (Syntax.tyInt Syntax.w64)
-              (Scalar.room-sc 𝓤 H A W (Row.sInt Syntax.w64))) d57
-          d59 : Typed.Typed 𝓤 H A 𝓣 E G9 b45 Δ0 at59
-          d59 = Typed.s-seq 𝓤 H A W 𝓣 E G9 G10 b5 b44 Δ0 (Typed.both s8) at58 (Plain.t-call-plain 𝓤 H A W 𝓣 0 ps·1 r·1 (claims· .2) (claims· .3)
+              (Reads.room-gone 𝓤 H A Laws'''.mir) tt Path.refl) d27
+          d29 : Typed.Typed 𝓤 H A 𝓣 E G10 b24 Δ0 at29
+          d29 = Typed.g-pre 𝓤 H A W 𝓣 E G10 G11 b24 Δ0 (Typed.pass T10 T11 s9) at28 (Scalar.g-room 𝓤 H A W E G10 15 (Syntax.tyInt Syntax.w64)
+              (Scalar.room-sc 𝓤 H A W (Row.sInt Syntax.w64))) d28
+          d30 : Typed.Typed 𝓤 H A 𝓣 E G9 b25 Δ0 at30
+          d30 = Typed.s-seq 𝓤 H A W 𝓣 E G9 G10 b5 b24 Δ0 (Typed.both s8) at29 (Plain.t-call-plain 𝓤 H A W 𝓣 0 ps·1 r·1 (claims· .2) (claims· .3)
               "hnsr_circuit::calls::new_answer" (known .1) E (λ pos β. β) G9 (record { pos = 5; st = List.[]; d = 0; at = λ x. x }, (Num.vAt 6 λ x. x,
-              (record { pos = 7; st = List.[]; d = 0; at = λ x. x }, (Bool.bAt 9 λ x. x, (Num.vAt 13 λ x. x, tt)),),),) 10 List.[] (Call.sub-id 𝓤 H A
+              (record { pos = 7; st = List.[]; d = 0; at = λ x. x }, (Bool.bAt 9 λ x. x, (Num.vAt 15 λ x. x, tt)),),),) 10 List.[] (Call.sub-id 𝓤 H A
               W (G9 .slots)) ((Array.arr-yields 𝓤 H A W (Array.eInt Syntax.w8) (Array.eInt-laws Syntax.w8) 16, Path.refl,), ((Scalar.reads-sc 𝓤 H A W
               (Row.sInt Syntax.w64), Path.refl), ((Yields.yields-copy 𝓤 H A W (λ ρ. Unit) (Declared'.row OpaqueRelayConfig.the-type) Path.refl
               (Copies.cStruct OpaqueRelayConfig.the-type Laws'.the-laws Laws'.the-copy .copy 𝓤 H A W) (Rows'.whole (Declared'.row
               OpaqueRelayConfig.the-type)) (λ x. x) (λ x. x) (λ ρ told. Local.mem-whole 𝓤 H A W (Declared'.row OpaqueRelayConfig.the-type) ρ) λ ρ
               told. Local.whole-mem 𝓤 H A W (Declared'.row OpaqueRelayConfig.the-type) ρ, Path.refl,), ((Scalar.reads-sc 𝓤 H A W Row.sBool,
-              Path.refl), ((Scalar.reads-sc 𝓤 H A W (Row.sInt Syntax.w64), Path.refl), tt),),),),) (Reads.room-gone 𝓤 H A Laws.mir) tt Path.refl) d58
-          d60 : Typed.Typed 𝓤 H A 𝓣 E G8 b46 Δ0 at60
-          d60 = Typed.s-seq 𝓤 H A W 𝓣 E G8 G9 b4 b45 Δ0 (Typed.pass T8 T9 s7) at59 (Scalar.t-use 𝓤 H A W E 𝓣 G8 (Scalar.oFld 3 ((Syntax.field 1) ∷
-              List.[]) (Syntax.tyInt Syntax.w64) 8 Shared.lenV) 13 (Rows'.sc-here (Row.sInt Syntax.w64)) (Syntax.tyInt Syntax.w64) (Row.valS (Row.sInt
-              Syntax.w64)) (Row.sInt Syntax.w64 .of) (Mut.reads-mslice-len 𝓤 H A W ReservationUsage.row ref6 2 8 Path.refl, Path.refl,)
+              Path.refl), ((Scalar.reads-sc 𝓤 H A W (Row.sInt Syntax.w64), Path.refl), tt),),),),) (Reads.room-gone 𝓤 H A Laws.mir) tt Path.refl) d29
+          d31 : Typed.Typed 𝓤 H A 𝓣 E G8 b26 Δ0 at31
+          d31 = Typed.s-seq 𝓤 H A W 𝓣 E G8 G9 b4 b25 Δ0 (Typed.pass T8 T9 s7) at30 (Scalar.t-use 𝓤 H A W E 𝓣 G8 (Scalar.oFld 3 ((Syntax.field 1) ∷
+              List.[]) (Syntax.tyInt Syntax.w64) 8 Shared.lenV) 15 (Rows'.sc-here (Row.sInt Syntax.w64)) (Syntax.tyInt Syntax.w64) (Row.valS (Row.sInt
+              Syntax.w64)) (Row.sInt Syntax.w64 .of) (Shared.reads-sslice-len 𝓤 H A W ReservationUsage.row ref2 2 8 Path.refl, Path.refl,)
               (Reads.room-gone 𝓤 H A (Syntax.tyInt Syntax.w64)) (Scalar.holds-sc 𝓤 H A W (Row.sInt Syntax.w64)) Path.refl (λ u. Path.refl) λ u. tt)
-              d59
-          d61 : Typed.Typed 𝓤 H A 𝓣 E G7 b46 Δ0 at61
-          d61 = Typed.g-pre 𝓤 H A W 𝓣 E G7 G8 b46 Δ0 (Typed.pass T7 T8 s6) at60 (Scalar.g-room 𝓤 H A W E G7 15 (Syntax.tyInt Syntax.w64)
-              (Scalar.room-sc 𝓤 H A W (Row.sInt Syntax.w64))) d60
-          d62 : Typed.Typed 𝓤 H A 𝓣 E G6 b46 Δ0 at62
-          d62 = Typed.g-pre 𝓤 H A W 𝓣 E G6 G7 b46 Δ0 (Typed.pass T6 T7 s5) at61 (Scalar.g-room 𝓤 H A W E G6 14 (Syntax.tyInt Syntax.w64)
-              (Scalar.room-sc 𝓤 H A W (Row.sInt Syntax.w64))) d61
-          d63 : Typed.Typed 𝓤 H A 𝓣 E G5 b46 Δ0 at63
-          d63 = Typed.g-pre 𝓤 H A W 𝓣 E G5 G6 b46 Δ0 (Typed.pass T5 T6 s4) at62 (Scalar.g-room 𝓤 H A W E G5 13 (Syntax.tyInt Syntax.w64)
-              (Scalar.room-sc 𝓤 H A W (Row.sInt Syntax.w64))) d62
-          d64 : Typed.Typed 𝓤 H A 𝓣 E G4 b47 Δ0 at64
-          d64 = Typed.s-seq 𝓤 H A W 𝓣 E G4 G5 b3 b46 Δ0 (Typed.both s3) at63 (Plain.t-call-plain 𝓤 H A W 𝓣 0 ps·0 r·0 (claims· .0) (claims· .1)
-              "hnsr_circuit::entry::too_few" (known .0) E (λ pos β. β) G4 (record { pos = 7; st = List.[]; d = 0; at = λ x. x }, (Num.vAt 13 λ x. x,
-              (Num.vAt 14 λ x. x, (Num.vAt 15 λ x. x, tt))),) 9 List.[] (Call.sub-id 𝓤 H A W (G4 .slots)) ((Yields.yields-copy 𝓤 H A W (λ ρ. Unit)
+              d30
+          d32 : Typed.Typed 𝓤 H A 𝓣 E G7 b26 Δ0 at32
+          d32 = Typed.g-pre 𝓤 H A W 𝓣 E G7 G8 b26 Δ0 (Typed.pass T7 T8 s6) at31 (Scalar.g-room 𝓤 H A W E G7 17 (Syntax.tyInt Syntax.w64)
+              (Scalar.room-sc 𝓤 H A W (Row.sInt Syntax.w64))) d31
+          d33 : Typed.Typed 𝓤 H A 𝓣 E G6 b26 Δ0 at33
+          d33 = Typed.g-pre 𝓤 H A W 𝓣 E G6 G7 b26 Δ0 (Typed.pass T6 T7 s5) at32 (Scalar.g-room 𝓤 H A W E G6 16 (Syntax.tyInt Syntax.w64)
+              (Scalar.room-sc 𝓤 H A W (Row.sInt Syntax.w64))) d32
+          d34 : Typed.Typed 𝓤 H A 𝓣 E G5 b26 Δ0 at34
+          d34 = Typed.g-pre 𝓤 H A W 𝓣 E G5 G6 b26 Δ0 (Typed.pass T5 T6 s4) at33 (Scalar.g-room 𝓤 H A W E G5 15 (Syntax.tyInt Syntax.w64)
+              (Scalar.room-sc 𝓤 H A W (Row.sInt Syntax.w64))) d33
+          d35 : Typed.Typed 𝓤 H A 𝓣 E G4 b27 Δ0 at35
+          d35 = Typed.s-seq 𝓤 H A W 𝓣 E G4 G5 b3 b26 Δ0 (Typed.both s3) at34 (Plain.t-call-plain 𝓤 H A W 𝓣 0 ps·0 r·0 (claims· .0) (claims· .1)
+              "hnsr_circuit::entry::too_few" (known .0) E (λ pos β. β) G4 (record { pos = 7; st = List.[]; d = 0; at = λ x. x }, (Num.vAt 15 λ x. x,
+              (Num.vAt 16 λ x. x, (Num.vAt 17 λ x. x, tt))),) 9 List.[] (Call.sub-id 𝓤 H A W (G4 .slots)) ((Yields.yields-copy 𝓤 H A W (λ ρ. Unit)
               (Declared'.row OpaqueRelayConfig.the-type) Path.refl (Copies.cStruct OpaqueRelayConfig.the-type Laws'.the-laws Laws'.the-copy .copy 𝓤 H
               A W) (Rows'.whole (Declared'.row OpaqueRelayConfig.the-type)) (λ x. x) (λ x. x) (λ ρ told. Local.mem-whole 𝓤 H A W (Declared'.row
               OpaqueRelayConfig.the-type) ρ) λ ρ told. Local.whole-mem 𝓤 H A W (Declared'.row OpaqueRelayConfig.the-type) ρ, Path.refl,),
               ((Scalar.reads-sc 𝓤 H A W (Row.sInt Syntax.w64), Path.refl), ((Scalar.reads-sc 𝓤 H A W (Row.sInt Syntax.w64), Path.refl),
-              ((Scalar.reads-sc 𝓤 H A W (Row.sInt Syntax.w64), Path.refl), tt),),),) (Reads.room-gone 𝓤 H A Syntax.tyBool) tt Path.refl) d63
-          d65 : Typed.Typed 𝓤 H A 𝓣 E G3 b48 Δ0 at65
-          d65 = Typed.s-seq 𝓤 H A W 𝓣 E G3 G4 b2 b47 Δ0 (Typed.pass T3 T4 s2) at64 (Scalar.t-use 𝓤 H A W E 𝓣 G3 (Scalar.oFld 4 ((Syntax.field 1) ∷
+              ((Scalar.reads-sc 𝓤 H A W (Row.sInt Syntax.w64), Path.refl), tt),),),) (Reads.room-gone 𝓤 H A Syntax.tyBool) tt Path.refl) d34
+          d36 : Typed.Typed 𝓤 H A 𝓣 E G3 b28 Δ0 at36
+          d36 = Typed.s-seq 𝓤 H A W 𝓣 E G3 G4 b2 b27 Δ0 (Typed.pass T3 T4 s2) at35 (Scalar.t-use 𝓤 H A W E 𝓣 G3 (Scalar.oFld 4 ((Syntax.field 1) ∷
+              List.[]) (Syntax.tyInt Syntax.w64) 8 Shared.lenV) 17 (Rows'.sc-here (Row.sInt Syntax.w64)) (Syntax.tyInt Syntax.w64) (Row.valS (Row.sInt
+              Syntax.w64)) (Row.sInt Syntax.w64 .of) (Shared.reads-sslice-len 𝓤 H A W InflightAction.row ref3 3 8 Path.refl, Path.refl,)
+              (Reads.room-gone 𝓤 H A (Syntax.tyInt Syntax.w64)) (Scalar.holds-sc 𝓤 H A W (Row.sInt Syntax.w64)) Path.refl (λ u. Path.refl) λ u. tt)
+              d35
+          d37 : Typed.Typed 𝓤 H A 𝓣 E G2 b29 Δ0 at37
+          d37 = Typed.s-seq 𝓤 H A W 𝓣 E G2 G3 b1 b28 Δ0 (Typed.pass T2 T3 s1) at36 (Scalar.t-use 𝓤 H A W E 𝓣 G2 (Scalar.oFld 2 ((Syntax.field 1) ∷
+              List.[]) (Syntax.tyInt Syntax.w64) 8 Shared.lenV) 16 (Rows'.sc-here (Row.sInt Syntax.w64)) (Syntax.tyInt Syntax.w64) (Row.valS (Row.sInt
+              Syntax.w64)) (Row.sInt Syntax.w64 .of) (Shared.reads-sslice-len 𝓤 H A W RelayCircuit.row ref1 1 8 Path.refl, Path.refl,)
+              (Reads.room-gone 𝓤 H A (Syntax.tyInt Syntax.w64)) (Scalar.holds-sc 𝓤 H A W (Row.sInt Syntax.w64)) Path.refl (λ u. Path.refl) λ u. tt)
+              d36
+          d38 : Typed.Typed 𝓤 H A 𝓣 E G0 b30 Δ0 at38
+          d38 = Typed.s-seq 𝓤 H A W 𝓣 E G0 G2 b0 b29 Δ0 (Typed.pass T0 T2 s0) at37 (Scalar.t-use 𝓤 H A W E 𝓣 G0 (Scalar.oFld 1 ((Syntax.field 1) ∷
               List.[]) (Syntax.tyInt Syntax.w64) 8 Shared.lenV) 15 (Rows'.sc-here (Row.sInt Syntax.w64)) (Syntax.tyInt Syntax.w64) (Row.valS (Row.sInt
-              Syntax.w64)) (Row.sInt Syntax.w64 .of) (Mut.reads-mslice-len 𝓤 H A W InflightAction.row ref7 3 8 Path.refl, Path.refl,) (Reads.room-gone
-              𝓤 H A (Syntax.tyInt Syntax.w64)) (Scalar.holds-sc 𝓤 H A W (Row.sInt Syntax.w64)) Path.refl (λ u. Path.refl) λ u. tt) d64
-          d66 : Typed.Typed 𝓤 H A 𝓣 E G2 b49 Δ0 at66
-          d66 = Typed.s-seq 𝓤 H A W 𝓣 E G2 G3 b1 b48 Δ0 (Typed.pass T2 T3 s1) at65 (Scalar.t-use 𝓤 H A W E 𝓣 G2 (Scalar.oFld 2 ((Syntax.field 1) ∷
-              List.[]) (Syntax.tyInt Syntax.w64) 8 Shared.lenV) 14 (Rows'.sc-here (Row.sInt Syntax.w64)) (Syntax.tyInt Syntax.w64) (Row.valS (Row.sInt
-              Syntax.w64)) (Row.sInt Syntax.w64 .of) (Mut.reads-mslice-len 𝓤 H A W RelayCircuit.row ref5 1 8 Path.refl, Path.refl,) (Reads.room-gone 𝓤
-              H A (Syntax.tyInt Syntax.w64)) (Scalar.holds-sc 𝓤 H A W (Row.sInt Syntax.w64)) Path.refl (λ u. Path.refl) λ u. tt) d65
-          d67 : Typed.Typed 𝓤 H A 𝓣 E G0 b50 Δ0 at67
-          d67 = Typed.s-seq 𝓤 H A W 𝓣 E G0 G2 b0 b49 Δ0 (Typed.pass T0 T2 s0) at66 (Scalar.t-use 𝓤 H A W E 𝓣 G0 (Scalar.oFld 1 ((Syntax.field 1) ∷
-              List.[]) (Syntax.tyInt Syntax.w64) 8 Shared.lenV) 13 (Rows'.sc-here (Row.sInt Syntax.w64)) (Syntax.tyInt Syntax.w64) (Row.valS (Row.sInt
-              Syntax.w64)) (Row.sInt Syntax.w64 .of) (Mut.reads-mslice-len 𝓤 H A W RelayPending.row ref4 0 8 Path.refl, Path.refl,) (Reads.room-gone 𝓤
-              H A (Syntax.tyInt Syntax.w64)) (Scalar.holds-sc 𝓤 H A W (Row.sInt Syntax.w64)) Path.refl (λ u. Path.refl) λ u. tt) d66
-          pub typed : Typed.Typed 𝓤 H A 𝓣 E (Function.Γin 4 ps r xs m κs qs) b50 (Function.Δret 4 ps r xs m κs qs) Φ
-          typed = d67
+              Syntax.w64)) (Row.sInt Syntax.w64 .of) (Shared.reads-sslice-len 𝓤 H A W RelayPending.row ref0 0 8 Path.refl, Path.refl,)
+              (Reads.room-gone 𝓤 H A (Syntax.tyInt Syntax.w64)) (Scalar.holds-sc 𝓤 H A W (Row.sInt Syntax.w64)) Path.refl (λ u. Path.refl) λ u. tt)
+              d37
+          pub typed : Typed.Typed 𝓤 H A 𝓣 E (Function.Γin 4 ps r xs m κs qs) b30 (Function.Δret 4 ps r xs m κs qs) Φ
+          typed = d38
       module _ (κs : Lifetimes.Lfts 4) where
         pub record Args : Type 0 where
-          pub pending : Kinds.Den { n = 4 } κs (MutSlice.pMutS RelayPending.row 0 tt)
-          pub circuits : Kinds.Den { n = 4 } κs (MutSlice.pMutS RelayCircuit.row 1 tt)
-          pub ledger : Kinds.Den { n = 4 } κs (MutSlice.pMutS ReservationUsage.row 2 tt)
-          pub inflight : Kinds.Den { n = 4 } κs (MutSlice.pMutS InflightAction.row 3 tt)
+          pub pending : Kinds.Den { n = 4 } κs (ShrSlice.pShrS RelayPending.row 0 tt)
+          pub circuits : Kinds.Den { n = 4 } κs (ShrSlice.pShrS RelayCircuit.row 1 tt)
+          pub ledger : Kinds.Den { n = 4 } κs (ShrSlice.pShrS ReservationUsage.row 2 tt)
+          pub inflight : Kinds.Den { n = 4 } κs (ShrSlice.pShrS InflightAction.row 3 tt)
           pub session : Kinds.Den { n = 4 } κs (Array.pArr (Array.eInt Syntax.w8) (Array.eInt-laws Syntax.w8) 16)
           pub generation : Kinds.Den { n = 4 } κs (Num.pNum Syntax.w64)
           pub config : Kinds.Den { n = 4 } κs (Value.pVal record { ty = Declared'.row OpaqueRelayConfig.the-type; one = Path.refl; val =
@@ -1478,14 +976,14 @@ module _ (claims· : Claims) where
       m4 = λ before given. s3 .next (m3 (before .κs) (before .args)) given
       module _ (before· : Start) where
         abbrev pub After-too-few·own : Type 0
-        After-too-few·own = Called.Called ps·0 r·0 (claims· .1) T4 (record { pos = 7; st = List.[]; d = 0; at = λ x. x }, (Num.vAt 13 λ x. x, (Num.vAt
-            14 λ x. x, (Num.vAt 15 λ x. x, tt))),) (m3 (before· .κs) (before· .args))
+        After-too-few·own = Called.Called ps·0 r·0 (claims· .1) T4 (record { pos = 7; st = List.[]; d = 0; at = λ x. x }, (Num.vAt 15 λ x. x, (Num.vAt
+            16 λ x. x, (Num.vAt 17 λ x. x, tt))),) (m3 (before· .κs) (before· .args))
       pub record After-too-few : Type 0 where
         pub before : Start
         pub too-few : After-too-few·own before
       abbrev pub After-too-few·gave : (c : After-too-few) → s3 .gives (m3 (c .before .κs) (c .before .args))
-      After-too-few·gave = λ c. Called.given ps·0 r·0 (claims· .1) T4 (record { pos = 7; st = List.[]; d = 0; at = λ x. x }, (Num.vAt 13 λ x. x,
-          (Num.vAt 14 λ x. x, (Num.vAt 15 λ x. x, tt))),) (m3 (c .before .κs) (c .before .args)) (c .too-few)
+      After-too-few·gave = λ c. Called.given ps·0 r·0 (claims· .1) T4 (record { pos = 7; st = List.[]; d = 0; at = λ x. x }, (Num.vAt 15 λ x. x,
+          (Num.vAt 16 λ x. x, (Num.vAt 17 λ x. x, tt))),) (m3 (c .before .κs) (c .before .args)) (c .too-few)
       abbrev pub m5 : (before : Start) → (given : s3 .gives (m3 (before .κs) (before .args))) → Typed.Mo T6
       m5 = λ before given. s4 (m4 before given)
       abbrev pub m6 : (before : Start) → (given : s3 .gives (m3 (before .κs) (before .args))) → Typed.Mo T7
@@ -1501,14 +999,14 @@ module _ (claims· : Claims) where
       module _ (before· : After-too-few) where
         abbrev pub After-new-answer·own : Type 0
         After-new-answer·own = Called.Called ps·1 r·1 (claims· .3) T9 (record { pos = 5; st = List.[]; d = 0; at = λ x. x }, (Num.vAt 6 λ x. x,
-            (record { pos = 7; st = List.[]; d = 0; at = λ x. x }, (Bool.bAt 9 λ x. x, (Num.vAt 13 λ x. x, tt)),),),) (m8 (before· .before)
+            (record { pos = 7; st = List.[]; d = 0; at = λ x. x }, (Bool.bAt 9 λ x. x, (Num.vAt 15 λ x. x, tt)),),),) (m8 (before· .before)
             (After-too-few·gave before·))
       pub record After-new-answer : Type 0 where
         pub before : After-too-few
         pub new-answer : After-new-answer·own before
       abbrev pub After-new-answer·gave : (c : After-new-answer) → s8 .gives (m8 (c .before .before) (After-too-few·gave (c .before)))
       After-new-answer·gave = λ c. Called.given ps·1 r·1 (claims· .3) T9 (record { pos = 5; st = List.[]; d = 0; at = λ x. x }, (Num.vAt 6 λ x. x,
-          (record { pos = 7; st = List.[]; d = 0; at = λ x. x }, (Bool.bAt 9 λ x. x, (Num.vAt 13 λ x. x, tt)),),),) (m8 (c .before .before)
+          (record { pos = 7; st = List.[]; d = 0; at = λ x. x }, (Bool.bAt 9 λ x. x, (Num.vAt 15 λ x. x, tt)),),),) (m8 (c .before .before)
           (After-too-few·gave (c .before))) (c .new-answer)
       abbrev pub m10 : (before : After-too-few) → (given : s8 .gives (m8 (before .before) (After-too-few·gave before))) → Typed.Mo T11
       m10 = λ before given. s9 (m9 before given)
@@ -1531,400 +1029,205 @@ module _ (claims· : Claims) where
       m12 = λ before given. s11 (m11 before given)
       abbrev pub m13 : (before : After-new-answer) → (given : s10 .gives (m10 (before .before) (After-new-answer·gave before))) → Typed.Mo T14
       m13 = λ before given. s12 (m12 before given)
-      abbrev pub Need-used-requires : Type 0
-      Need-used-requires = (c : After-new-header) → s13 .asks (m13 (c .before) (After-new-header·gave c))
+      abbrev pub Need-is-taken-requires : Type 0
+      Need-is-taken-requires = (c : After-new-header) → s13 .asks (m13 (c .before) (After-new-header·gave c))
       abbrev pub m14 : (before : After-new-header) → (given : s13 .gives (m13 (before .before) (After-new-header·gave before))) → Typed.Mo T15
       m14 = λ before given. s13 .next (m13 (before .before) (After-new-header·gave before)) given
       module _ (before· : After-new-header) where
-        abbrev pub After-used·own : Type 0
-        After-used·own = Called.Called ps·3 r·3 (claims· .7) T14 tt (m13 (before· .before) (After-new-header·gave before·))
-      pub record After-used : Type 0 where
-        pub before : After-new-header
-        pub used : After-used·own before
-      abbrev pub After-used·gave : (c : After-used) → s13 .gives (m13 (c .before .before) (After-new-header·gave (c .before)))
-      After-used·gave = λ c. Called.given ps·3 r·3 (claims· .7) T14 tt (m13 (c .before .before) (After-new-header·gave (c .before))) (c .used)
-      abbrev pub Need-is-taken-requires : Type 0
-      Need-is-taken-requires = (c : After-used) → s14 .asks (m14 (c .before) (After-used·gave c))
-      abbrev pub m15 : (before : After-used) → (given : s14 .gives (m14 (before .before) (After-used·gave before))) → Typed.Mo T16
-      m15 = λ before given. s14 .next (m14 (before .before) (After-used·gave before)) given
-      module _ (before· : After-used) where
         abbrev pub After-is-taken·own : Type 0
-        After-is-taken·own = Called.Called ps·4 r·4 (claims· .9) T15 (record { pos = 10; st = List.[]; d = 0; at = λ x. x }, tt,) (m14 (before·
-            .before) (After-used·gave before·))
+        After-is-taken·own = Called.Called ps·3 r·3 (claims· .7) T14 (record { pos = 10; st = List.[]; d = 0; at = λ x. x }, tt,) (m13 (before·
+            .before) (After-new-header·gave before·))
       pub record After-is-taken : Type 0 where
-        pub before : After-used
+        pub before : After-new-header
         pub is-taken : After-is-taken·own before
-      abbrev pub After-is-taken·gave : (c : After-is-taken) → s14 .gives (m14 (c .before .before) (After-used·gave (c .before)))
-      After-is-taken·gave = λ c. Called.given ps·4 r·4 (claims· .9) T15 (record { pos = 10; st = List.[]; d = 0; at = λ x. x }, tt,) (m14 (c .before
-          .before) (After-used·gave (c .before))) (c .is-taken)
-      abbrev W1 : (before : After-used) → (given : s14 .gives (m14 (before .before) (After-used·gave before))) → Typed.Want O1
-      W1 = λ before given. Typed.wantNext T17 O0 (at51 (W0 (before .before .before .before .before .κs) (before .before .before .before .before
-          .args))) (W0 (before .before .before .before .before .κs) (before .before .before .before .before .args))
+      abbrev pub After-is-taken·gave : (c : After-is-taken) → s13 .gives (m13 (c .before .before) (After-new-header·gave (c .before)))
+      After-is-taken·gave = λ c. Called.given ps·3 r·3 (claims· .7) T14 (record { pos = 10; st = List.[]; d = 0; at = λ x. x }, tt,) (m13 (c .before
+          .before) (After-new-header·gave (c .before))) (c .is-taken)
+      abbrev W1 : (before : After-new-header) → (given : s13 .gives (m13 (before .before) (After-new-header·gave before))) → Typed.Want O1
+      W1 = λ before given. Typed.wantNext T16 O0 (at23 (W0 (before .before .before .before .κs) (before .before .before .before .args))) (W0 (before
+          .before .before .before .κs) (before .before .before .before .args))
+      abbrev pub m15 : (before : After-is-taken) → Typed.Mo T17
+      m15 = λ before. s14 (m14 (before .before) (After-is-taken·gave before))
       abbrev pub m16 : (before : After-is-taken) → Typed.Mo T18
-      m16 = λ before. s15 (m15 (before .before) (After-is-taken·gave before))
-      abbrev pub m17 : (before : After-is-taken) → Typed.Mo T19
-      m17 = λ before. s16 (m16 before)
+      m16 = λ before. s15 (m15 before)
       module _ (before· : After-is-taken) where
         pub record Then1·own : Type 0 where
-          pub taken : Path._≡_ (Row.get 16 (T16 .locals) (m15 (before· .before) (After-is-taken·gave before·))) Bool'.true
+          pub taken : Path._≡_ (Row.get 18 (T15 .locals) (m14 (before· .before) (After-is-taken·gave before·))) Bool'.true
       pub record Then1 : Type 0 where
         pub before : After-is-taken
         pub if1 : Then1·own before
-      abbrev pub m18 : (before : Then1) → (given : s18 .gives (m17 (before .before))) → Typed.Mo T21
-      m18 = λ before given. s18 .next (m17 (before .before)) given
-      abbrev pub m19 : (before : Then1) → (given : s18 .gives (m17 (before .before))) → Typed.Mo T22
-      m19 = λ before given. s19 .next (m18 before given)
+      abbrev pub Need-no-place-requires : Type 0
+      Need-no-place-requires = (c : Then1) → s16 .asks (m16 (c .before))
+      abbrev pub m17 : (before : Then1) → (given : s16 .gives (m16 (before .before))) → Typed.Mo T19
+      m17 = λ before given. s16 .next (m16 (before .before)) given
       module _ (before· : Then1) where
-        pub record After-clear-pending-arg·own : Type 0 where
-          pub given : s18 .gives (m17 (before· .before))
-      pub record After-clear-pending-arg : Type 0 where
+        abbrev pub After-no-place·own : Type 0
+        After-no-place·own = Called.Called ps·4 r·4 (claims· .9) T18 tt (m16 (before· .before))
+      pub record After-no-place : Type 0 where
         pub before : Then1
-        pub clear-pending-arg : After-clear-pending-arg·own before
-      abbrev pub Need-clear-pending-requires : Type 0
-      Need-clear-pending-requires = (c : After-clear-pending-arg) → s20 .asks (m19 (c .before) (c .clear-pending-arg .given))
-      abbrev pub m20 : (before : After-clear-pending-arg) → (given : s20 .gives (m19 (before .before) (before .clear-pending-arg .given))) → Typed.Mo
-          T23
-      m20 = λ before given. s20 .next (m19 (before .before) (before .clear-pending-arg .given)) given
-      module _ (before· : After-clear-pending-arg) where
-        abbrev pub After-clear-pending·own : Type 0
-        After-clear-pending·own = Called.Called ps·5 r·5 (claims· .11) T22 (record { pos = 19; ty = Syntax.tyRef Syntax.erased Syntax.mut
-            RelayPending.to; ref = λ x. x; }, (record { pos = 12; st = List.[]; d = 0; at = λ x. x }, tt),) (m19 (before· .before) (before·
-            .clear-pending-arg .given))
-      pub record After-clear-pending : Type 0 where
-        pub before : After-clear-pending-arg
-        pub clear-pending : After-clear-pending·own before
-      abbrev pub After-clear-pending·gave : (c : After-clear-pending) → s20 .gives (m19 (c .before .before) (c .before .clear-pending-arg .given))
-      After-clear-pending·gave = λ c. Called.given ps·5 r·5 (claims· .11) T22 (record { pos = 19; ty = Syntax.tyRef Syntax.erased Syntax.mut
-          RelayPending.to; ref = λ x. x; }, (record { pos = 12; st = List.[]; d = 0; at = λ x. x }, tt),) (m19 (c .before .before) (c .before
-          .clear-pending-arg .given)) (c .clear-pending)
-      abbrev pub m21 : (before : After-clear-pending-arg) → (given : s20 .gives (m19 (before .before) (before .clear-pending-arg .given))) → Typed.Mo
-          T24
-      m21 = λ before given. s21 (m20 before given)
-      abbrev pub m22 : (before : After-clear-pending) → (given : s23 .gives (m21 (before .before) (After-clear-pending·gave before))) → Typed.Mo T26
-      m22 = λ before given. s23 .next (m21 (before .before) (After-clear-pending·gave before)) given
-      module _ (before· : After-clear-pending) where
-        pub record After-pending·own : Type 0 where
-          pub given : s23 .gives (m21 (before· .before) (After-clear-pending·gave before·))
-      pub record After-pending : Type 0 where
-        pub before : After-clear-pending
-        pub pending : After-pending·own before
-      abbrev pub m23 : (before : After-pending) → (given : s26 .gives (m22 (before .before) (before .pending .given))) → Typed.Mo T29
-      m23 = λ before given. s26 .next (m22 (before .before) (before .pending .given)) given
-      abbrev pub m24 : (before : After-pending) → (given : s26 .gives (m22 (before .before) (before .pending .given))) → Typed.Mo T30
-      m24 = λ before given. s27 .next (m23 before given)
-      module _ (before· : After-pending) where
-        pub record After-clear-circuit-arg·own : Type 0 where
-          pub given : s26 .gives (m22 (before· .before) (before· .pending .given))
-      pub record After-clear-circuit-arg : Type 0 where
-        pub before : After-pending
-        pub clear-circuit-arg : After-clear-circuit-arg·own before
-      abbrev pub Need-clear-circuit-requires : Type 0
-      Need-clear-circuit-requires = (c : After-clear-circuit-arg) → s28 .asks (m24 (c .before) (c .clear-circuit-arg .given))
-      abbrev pub m25 : (before : After-clear-circuit-arg) → (given : s28 .gives (m24 (before .before) (before .clear-circuit-arg .given))) → Typed.Mo
-          T31
-      m25 = λ before given. s28 .next (m24 (before .before) (before .clear-circuit-arg .given)) given
-      module _ (before· : After-clear-circuit-arg) where
-        abbrev pub After-clear-circuit·own : Type 0
-        After-clear-circuit·own = Called.Called ps·6 r·6 (claims· .13) T30 (record { pos = 21; ty = Syntax.tyRef Syntax.erased Syntax.mut
-            RelayCircuit.to; ref = λ x. x; }, (record { pos = 12; st = List.[]; d = 0; at = λ x. x }, tt),) (m24 (before· .before) (before·
-            .clear-circuit-arg .given))
-      pub record After-clear-circuit : Type 0 where
-        pub before : After-clear-circuit-arg
-        pub clear-circuit : After-clear-circuit·own before
-      abbrev pub After-clear-circuit·gave : (c : After-clear-circuit) → s28 .gives (m24 (c .before .before) (c .before .clear-circuit-arg .given))
-      After-clear-circuit·gave = λ c. Called.given ps·6 r·6 (claims· .13) T30 (record { pos = 21; ty = Syntax.tyRef Syntax.erased Syntax.mut
-          RelayCircuit.to; ref = λ x. x; }, (record { pos = 12; st = List.[]; d = 0; at = λ x. x }, tt),) (m24 (c .before .before) (c .before
-          .clear-circuit-arg .given)) (c .clear-circuit)
-      abbrev pub m26 : (before : After-clear-circuit-arg) → (given : s28 .gives (m24 (before .before) (before .clear-circuit-arg .given))) → Typed.Mo
-          T32
-      m26 = λ before given. s29 (m25 before given)
-      abbrev pub m27 : (before : After-clear-circuit) → (given : s31 .gives (m26 (before .before) (After-clear-circuit·gave before))) → Typed.Mo T34
-      m27 = λ before given. s31 .next (m26 (before .before) (After-clear-circuit·gave before)) given
-      module _ (before· : After-clear-circuit) where
-        pub record After-circuits·own : Type 0 where
-          pub given : s31 .gives (m26 (before· .before) (After-clear-circuit·gave before·))
-      pub record After-circuits : Type 0 where
-        pub before : After-clear-circuit
-        pub circuits : After-circuits·own before
-      abbrev pub m28 : (before : After-circuits) → (given : s34 .gives (m27 (before .before) (before .circuits .given))) → Typed.Mo T37
-      m28 = λ before given. s34 .next (m27 (before .before) (before .circuits .given)) given
-      abbrev pub m29 : (before : After-circuits) → (given : s34 .gives (m27 (before .before) (before .circuits .given))) → Typed.Mo T38
-      m29 = λ before given. s35 .next (m28 before given)
-      module _ (before· : After-circuits) where
-        pub record After-clear-usage-arg·own : Type 0 where
-          pub given : s34 .gives (m27 (before· .before) (before· .circuits .given))
-      pub record After-clear-usage-arg : Type 0 where
-        pub before : After-circuits
-        pub clear-usage-arg : After-clear-usage-arg·own before
-      abbrev pub Need-clear-usage-requires : Type 0
-      Need-clear-usage-requires = (c : After-clear-usage-arg) → s36 .asks (m29 (c .before) (c .clear-usage-arg .given))
-      abbrev pub m30 : (before : After-clear-usage-arg) → (given : s36 .gives (m29 (before .before) (before .clear-usage-arg .given))) → Typed.Mo T39
-      m30 = λ before given. s36 .next (m29 (before .before) (before .clear-usage-arg .given)) given
-      module _ (before· : After-clear-usage-arg) where
-        abbrev pub After-clear-usage·own : Type 0
-        After-clear-usage·own = Called.Called ps·7 r·7 (claims· .15) T38 (record { pos = 23; ty = Syntax.tyRef Syntax.erased Syntax.mut
-            ReservationUsage.to; ref = λ x. x; }, (record { pos = 12; st = List.[]; d = 0; at = λ x. x }, tt),) (m29 (before· .before) (before·
-            .clear-usage-arg .given))
-      pub record After-clear-usage : Type 0 where
-        pub before : After-clear-usage-arg
-        pub clear-usage : After-clear-usage·own before
-      abbrev pub After-clear-usage·gave : (c : After-clear-usage) → s36 .gives (m29 (c .before .before) (c .before .clear-usage-arg .given))
-      After-clear-usage·gave = λ c. Called.given ps·7 r·7 (claims· .15) T38 (record { pos = 23; ty = Syntax.tyRef Syntax.erased Syntax.mut
-          ReservationUsage.to; ref = λ x. x; }, (record { pos = 12; st = List.[]; d = 0; at = λ x. x }, tt),) (m29 (c .before .before) (c .before
-          .clear-usage-arg .given)) (c .clear-usage)
-      abbrev pub m31 : (before : After-clear-usage-arg) → (given : s36 .gives (m29 (before .before) (before .clear-usage-arg .given))) → Typed.Mo T40
-      m31 = λ before given. s37 (m30 before given)
-      abbrev pub m32 : (before : After-clear-usage) → (given : s39 .gives (m31 (before .before) (After-clear-usage·gave before))) → Typed.Mo T42
-      m32 = λ before given. s39 .next (m31 (before .before) (After-clear-usage·gave before)) given
-      module _ (before· : After-clear-usage) where
-        pub record After-ledger·own : Type 0 where
-          pub given : s39 .gives (m31 (before· .before) (After-clear-usage·gave before·))
-      pub record After-ledger : Type 0 where
-        pub before : After-clear-usage
-        pub ledger : After-ledger·own before
-      abbrev pub m33 : (before : After-ledger) → (given : s42 .gives (m32 (before .before) (before .ledger .given))) → Typed.Mo T45
-      m33 = λ before given. s42 .next (m32 (before .before) (before .ledger .given)) given
-      abbrev pub m34 : (before : After-ledger) → (given : s42 .gives (m32 (before .before) (before .ledger .given))) → Typed.Mo T46
-      m34 = λ before given. s43 .next (m33 before given)
-      module _ (before· : After-ledger) where
-        pub record After-clear-action-arg·own : Type 0 where
-          pub given : s42 .gives (m32 (before· .before) (before· .ledger .given))
-      pub record After-clear-action-arg : Type 0 where
-        pub before : After-ledger
-        pub clear-action-arg : After-clear-action-arg·own before
-      abbrev pub Need-clear-action-requires : Type 0
-      Need-clear-action-requires = (c : After-clear-action-arg) → s44 .asks (m34 (c .before) (c .clear-action-arg .given))
-      abbrev pub m35 : (before : After-clear-action-arg) → (given : s44 .gives (m34 (before .before) (before .clear-action-arg .given))) → Typed.Mo
-          T47
-      m35 = λ before given. s44 .next (m34 (before .before) (before .clear-action-arg .given)) given
-      module _ (before· : After-clear-action-arg) where
-        abbrev pub After-clear-action·own : Type 0
-        After-clear-action·own = Called.Called ps·8 r·8 (claims· .17) T46 (record { pos = 25; ty = Syntax.tyRef Syntax.erased Syntax.mut
-            InflightAction.to; ref = λ x. x; }, (record { pos = 12; st = List.[]; d = 0; at = λ x. x }, tt),) (m34 (before· .before) (before·
-            .clear-action-arg .given))
-      pub record After-clear-action : Type 0 where
-        pub before : After-clear-action-arg
-        pub clear-action : After-clear-action·own before
-      abbrev pub After-clear-action·gave : (c : After-clear-action) → s44 .gives (m34 (c .before .before) (c .before .clear-action-arg .given))
-      After-clear-action·gave = λ c. Called.given ps·8 r·8 (claims· .17) T46 (record { pos = 25; ty = Syntax.tyRef Syntax.erased Syntax.mut
-          InflightAction.to; ref = λ x. x; }, (record { pos = 12; st = List.[]; d = 0; at = λ x. x }, tt),) (m34 (c .before .before) (c .before
-          .clear-action-arg .given)) (c .clear-action)
-      abbrev pub m36 : (before : After-clear-action-arg) → (given : s44 .gives (m34 (before .before) (before .clear-action-arg .given))) → Typed.Mo
-          T48
-      m36 = λ before given. s45 (m35 before given)
-      abbrev pub m37 : (before : After-clear-action-arg) → (given : s44 .gives (m34 (before .before) (before .clear-action-arg .given))) → Typed.Mo
-          T49
-      m37 = λ before given. s46 (m36 before given)
-      abbrev pub m38 : (before : After-clear-action) → (given : s48 .gives (m37 (before .before) (After-clear-action·gave before))) → Typed.Mo T51
-      m38 = λ before given. s48 .next (m37 (before .before) (After-clear-action·gave before)) given
-      module _ (before· : After-clear-action) where
-        pub record After-inflight·own : Type 0 where
-          pub given : s48 .gives (m37 (before· .before) (After-clear-action·gave before·))
-      pub record After-inflight : Type 0 where
-        pub before : After-clear-action
-        pub inflight : After-inflight·own before
+        pub no-place : After-no-place·own before
+      abbrev pub After-no-place·gave : (c : After-no-place) → s16 .gives (m16 (c .before .before))
+      After-no-place·gave = λ c. Called.given ps·4 r·4 (claims· .9) T18 tt (m16 (c .before .before)) (c .no-place)
       abbrev pub Need-taken-with-requires : Type 0
-      Need-taken-with-requires = (c : After-inflight) → s50 .asks (m38 (c .before) (c .inflight .given))
-      abbrev pub m39 : (before : After-inflight) → (given : s50 .gives (m38 (before .before) (before .inflight .given))) → Typed.Mo T53
-      m39 = λ before given. s50 .next (m38 (before .before) (before .inflight .given)) given
-      module _ (before· : After-inflight) where
+      Need-taken-with-requires = (c : After-no-place) → s17 .asks (m17 (c .before) (After-no-place·gave c))
+      abbrev pub m18 : (before : After-no-place) → (given : s17 .gives (m17 (before .before) (After-no-place·gave before))) → Typed.Mo T20
+      m18 = λ before given. s17 .next (m17 (before .before) (After-no-place·gave before)) given
+      module _ (before· : After-no-place) where
         abbrev pub After-taken-with·own : Type 0
-        After-taken-with·own = Called.Called ps·9 r·9 (claims· .19) T51 (record { pos = 11; st = List.[]; d = 0; at = λ x. x }, tt,) (m38 (before·
-            .before) (before· .inflight .given))
+        After-taken-with·own = Called.Called ps·5 r·5 (claims· .11) T19 (record { pos = 11; st = List.[]; d = 0; at = λ x. x }, (record { pos = 12; st
+            = List.[]; d = 0; at = λ x. x }, tt),) (m17 (before· .before) (After-no-place·gave before·))
       pub record After-taken-with : Type 0 where
-        pub before : After-inflight
+        pub before : After-no-place
         pub taken-with : After-taken-with·own before
-      abbrev pub After-taken-with·gave : (c : After-taken-with) → s50 .gives (m38 (c .before .before) (c .before .inflight .given))
-      After-taken-with·gave = λ c. Called.given ps·9 r·9 (claims· .19) T51 (record { pos = 11; st = List.[]; d = 0; at = λ x. x }, tt,) (m38 (c
-          .before .before) (c .before .inflight .given)) (c .taken-with)
-      abbrev pub m40 : (before : After-inflight) → (given : s50 .gives (m38 (before .before) (before .inflight .given))) → Typed.Mo T54
-      m40 = λ before given. s51 (m39 before given)
-      abbrev pub m41 : (before : After-inflight) → (given : s50 .gives (m38 (before .before) (before .inflight .given))) → Typed.Mo T55
-      m41 = λ before given. s52 (m40 before given)
-      abbrev pub m42 : (before : After-inflight) → (given : s50 .gives (m38 (before .before) (before .inflight .given))) → Typed.Mo T56
-      m42 = λ before given. s53 (m41 before given)
-      abbrev pub m43 : (before : After-inflight) → (given : s50 .gives (m38 (before .before) (before .inflight .given))) → Typed.Mo T57
-      m43 = λ before given. s54 (m42 before given)
-      abbrev pub Need-same-length : Type 0
-      Need-same-length = (c : After-taken-with) → MutSlice.SameLen (Row.get 1 (T57 .locals) (m43 (c .before) (After-taken-with·gave c))) (dens (c
-          .before .before .before .before .before .before .before .before .before .before .before .before .before .before .before .before .before
-          .before .before .κs) (c .before .before .before .before .before .before .before .before .before .before .before .before .before .before
-          .before .before .before .before .before .args) .0)
-      abbrev pub Need-same-length-2 : Type 0
-      Need-same-length-2 = (c : After-taken-with) → MutSlice.SameLen (Row.get 2 (T57 .locals) (m43 (c .before) (After-taken-with·gave c))) (dens (c
-          .before .before .before .before .before .before .before .before .before .before .before .before .before .before .before .before .before
-          .before .before .κs) (c .before .before .before .before .before .before .before .before .before .before .before .before .before .before
-          .before .before .before .before .before .args) .1 .0)
-      abbrev pub Need-same-length-3 : Type 0
-      Need-same-length-3 = (c : After-taken-with) → MutSlice.SameLen (Row.get 3 (T57 .locals) (m43 (c .before) (After-taken-with·gave c))) (dens (c
-          .before .before .before .before .before .before .before .before .before .before .before .before .before .before .before .before .before
-          .before .before .κs) (c .before .before .before .before .before .before .before .before .before .before .before .before .before .before
-          .before .before .before .before .before .args) .1 .1 .0)
-      abbrev pub Need-same-length-4 : Type 0
-      Need-same-length-4 = (c : After-taken-with) → MutSlice.SameLen (Row.get 4 (T57 .locals) (m43 (c .before) (After-taken-with·gave c))) (dens (c
-          .before .before .before .before .before .before .before .before .before .before .before .before .before .before .before .before .before
-          .before .before .κs) (c .before .before .before .before .before .before .before .before .before .before .before .before .before .before
-          .before .before .before .before .before .args) .1 .1 .1 .0)
+      abbrev pub After-taken-with·gave : (c : After-taken-with) → s17 .gives (m17 (c .before .before) (After-no-place·gave (c .before)))
+      After-taken-with·gave = λ c. Called.given ps·5 r·5 (claims· .11) T19 (record { pos = 11; st = List.[]; d = 0; at = λ x. x }, (record { pos = 12;
+          st = List.[]; d = 0; at = λ x. x }, tt),) (m17 (c .before .before) (After-no-place·gave (c .before))) (c .taken-with)
+      abbrev pub m19 : (before : After-no-place) → (given : s17 .gives (m17 (before .before) (After-no-place·gave before))) → Typed.Mo T21
+      m19 = λ before given. s18 (m18 before given)
+      abbrev pub m20 : (before : After-no-place) → (given : s17 .gives (m17 (before .before) (After-no-place·gave before))) → Typed.Mo T22
+      m20 = λ before given. s19 (m19 before given)
+      abbrev pub m21 : (before : After-no-place) → (given : s17 .gives (m17 (before .before) (After-no-place·gave before))) → Typed.Mo T23
+      m21 = λ before given. s20 (m20 before given)
+      abbrev pub m22 : (before : After-no-place) → (given : s17 .gives (m17 (before .before) (After-no-place·gave before))) → Typed.Mo T24
+      m22 = λ before given. s21 (m21 before given)
+      abbrev pub m23 : (before : After-no-place) → (given : s17 .gives (m17 (before .before) (After-no-place·gave before))) → Typed.Mo T25
+      m23 = λ before given. s22 (m22 before given)
       abbrev pub Need-returns : Type 0
-      Need-returns = (c : After-taken-with) → Post· (c .before .before .before .before .before .before .before .before .before .before .before .before
-          .before .before .before .before .before .before .before .κs) (dens (c .before .before .before .before .before .before .before .before
-          .before .before .before .before .before .before .before .before .before .before .before .κs) (c .before .before .before .before .before
-          .before .before .before .before .before .before .before .before .before .before .before .before .before .before .args)) (Function.resV r (c
-          .before .before .before .before .before .before .before .before .before .before .before .before .before .before .before .before .before
-          .before .before .κs) (m43 (c .before) (After-taken-with·gave c) .0)) (Clauses.atExit (Kinds.endedOf 4 ps r) (c .before .before .before
-          .before .before .before .before .before .before .before .before .before .before .before .before .before .before .before .before .κs) (dens
-          (c .before .before .before .before .before .before .before .before .before .before .before .before .before .before .before .before .before
-          .before .before .κs) (c .before .before .before .before .before .before .before .before .before .before .before .before .before .before
-          .before .before .before .before .before .args)) (Enter.lastsP (c .before .before .before .before .before .before .before .before .before
-          .before .before .before .before .before .before .before .before .before .before .κs) 1 ps xs (dens (c .before .before .before .before
-          .before .before .before .before .before .before .before .before .before .before .before .before .before .before .before .κs) (c .before
-          .before .before .before .before .before .before .before .before .before .before .before .before .before .before .before .before .before
-          .before .args)) (m43 (c .before) (After-taken-with·gave c) .1)))
-      abbrev pub m44 : (before : After-is-taken) → Typed.Mo T58
-      m44 = λ before. s55 (m15 (before .before) (After-is-taken·gave before))
-      abbrev pub m45 : (before : After-is-taken) → Typed.Mo T59
-      m45 = λ before. s56 (m44 before)
+      Need-returns = (c : After-taken-with) → Post· (c .before .before .before .before .before .before .before .κs) (dens (c .before .before .before
+          .before .before .before .before .κs) (c .before .before .before .before .before .before .before .args)) (Function.resV r (c .before .before
+          .before .before .before .before .before .κs) (m23 (c .before) (After-taken-with·gave c) .0)) (Clauses.atExit (Kinds.endedOf 4 ps r) (c
+          .before .before .before .before .before .before .before .κs) (dens (c .before .before .before .before .before .before .before .κs) (c
+          .before .before .before .before .before .before .before .args)) (Enter.lastsP (c .before .before .before .before .before .before .before
+          .κs) 1 ps xs (dens (c .before .before .before .before .before .before .before .κs) (c .before .before .before .before .before .before
+          .before .args)) (m23 (c .before) (After-taken-with·gave c) .1)))
+      abbrev pub m24 : (before : After-is-taken) → Typed.Mo T26
+      m24 = λ before. s23 (m14 (before .before) (After-is-taken·gave before))
+      abbrev pub m25 : (before : After-is-taken) → Typed.Mo T27
+      m25 = λ before. s24 (m24 before)
       module _ (before· : After-is-taken) where
         pub record Else1·own : Type 0 where
-          pub left : Path._≡_ (Row.get 16 (T16 .locals) (m15 (before· .before) (After-is-taken·gave before·))) Bool'.false
+          pub left : Path._≡_ (Row.get 18 (T15 .locals) (m14 (before· .before) (After-is-taken·gave before·))) Bool'.false
       pub record Else1 : Type 0 where
         pub before : After-is-taken
         pub if1 : Else1·own before
-      abbrev pub Need-refused-requires : Type 0
-      Need-refused-requires = (c : Else1) → s57 .asks (m45 (c .before))
-      abbrev pub m46 : (before : Else1) → (given : s57 .gives (m45 (before .before))) → Typed.Mo T60
-      m46 = λ before given. s57 .next (m45 (before .before)) given
+      abbrev pub Need-no-runtime-requires : Type 0
+      Need-no-runtime-requires = (c : Else1) → s25 .asks (m25 (c .before))
+      abbrev pub m26 : (before : Else1) → (given : s25 .gives (m25 (before .before))) → Typed.Mo T28
+      m26 = λ before given. s25 .next (m25 (before .before)) given
       module _ (before· : Else1) where
-        abbrev pub After-refused·own : Type 0
-        After-refused·own = Called.Called ps·10 r·10 (claims· .21) T17 (record { pos = 11; st = List.[]; d = 0; at = λ x. x }, (record { pos = 10; st
-            = List.[]; d = 0; at = λ x. x }, tt),) (m45 (before· .before))
-      pub record After-refused : Type 0 where
+        abbrev pub After-no-runtime·own : Type 0
+        After-no-runtime·own = Called.Called ps·6 r·6 (claims· .13) T16 tt (m25 (before· .before))
+      pub record After-no-runtime : Type 0 where
         pub before : Else1
+        pub no-runtime : After-no-runtime·own before
+      abbrev pub After-no-runtime·gave : (c : After-no-runtime) → s25 .gives (m25 (c .before .before))
+      After-no-runtime·gave = λ c. Called.given ps·6 r·6 (claims· .13) T16 tt (m25 (c .before .before)) (c .no-runtime)
+      abbrev pub Need-every-place-requires : Type 0
+      Need-every-place-requires = (c : After-no-runtime) → s26 .asks (m26 (c .before) (After-no-runtime·gave c))
+      abbrev pub m27 : (before : After-no-runtime) → (given : s26 .gives (m26 (before .before) (After-no-runtime·gave before))) → Typed.Mo T29
+      m27 = λ before given. s26 .next (m26 (before .before) (After-no-runtime·gave before)) given
+      module _ (before· : After-no-runtime) where
+        abbrev pub After-every-place·own : Type 0
+        After-every-place·own = Called.Called ps·7 r·7 (claims· .15) T28 tt (m26 (before· .before) (After-no-runtime·gave before·))
+      pub record After-every-place : Type 0 where
+        pub before : After-no-runtime
+        pub every-place : After-every-place·own before
+      abbrev pub After-every-place·gave : (c : After-every-place) → s26 .gives (m26 (c .before .before) (After-no-runtime·gave (c .before)))
+      After-every-place·gave = λ c. Called.given ps·7 r·7 (claims· .15) T28 tt (m26 (c .before .before) (After-no-runtime·gave (c .before))) (c
+          .every-place)
+      abbrev pub Need-refused-requires : Type 0
+      Need-refused-requires = (c : After-every-place) → s27 .asks (m27 (c .before) (After-every-place·gave c))
+      abbrev pub m28 : (before : After-every-place) → (given : s27 .gives (m27 (before .before) (After-every-place·gave before))) → Typed.Mo T30
+      m28 = λ before given. s27 .next (m27 (before .before) (After-every-place·gave before)) given
+      module _ (before· : After-every-place) where
+        abbrev pub After-refused·own : Type 0
+        After-refused·own = Called.Called ps·8 r·8 (claims· .17) T29 (record { pos = 13; st = List.[]; d = 0; at = λ x. x }, (record { pos = 14; st =
+            List.[]; d = 0; at = λ x. x }, (record { pos = 10; st = List.[]; d = 0; at = λ x. x }, tt),),) (m27 (before· .before)
+            (After-every-place·gave before·))
+      pub record After-refused : Type 0 where
+        pub before : After-every-place
         pub refused : After-refused·own before
-      abbrev pub After-refused·gave : (c : After-refused) → s57 .gives (m45 (c .before .before))
-      After-refused·gave = λ c. Called.given ps·10 r·10 (claims· .21) T17 (record { pos = 11; st = List.[]; d = 0; at = λ x. x }, (record { pos = 10;
-          st = List.[]; d = 0; at = λ x. x }, tt),) (m45 (c .before .before)) (c .refused)
-      abbrev pub m47 : (before : Else1) → (given : s57 .gives (m45 (before .before))) → Typed.Mo T61
-      m47 = λ before given. s58 (m46 before given)
-      abbrev pub m48 : (before : Else1) → (given : s57 .gives (m45 (before .before))) → Typed.Mo T62
-      m48 = λ before given. s59 (m47 before given)
-      abbrev pub m49 : (before : Else1) → (given : s57 .gives (m45 (before .before))) → Typed.Mo T63
-      m49 = λ before given. s60 (m48 before given)
-      abbrev pub m50 : (before : Else1) → (given : s57 .gives (m45 (before .before))) → Typed.Mo T64
-      m50 = λ before given. s61 (m49 before given)
-      abbrev pub m51 : (before : Else1) → (given : s57 .gives (m45 (before .before))) → Typed.Mo T65
-      m51 = λ before given. s62 (m50 before given)
+      abbrev pub After-refused·gave : (c : After-refused) → s27 .gives (m27 (c .before .before) (After-every-place·gave (c .before)))
+      After-refused·gave = λ c. Called.given ps·8 r·8 (claims· .17) T29 (record { pos = 13; st = List.[]; d = 0; at = λ x. x }, (record { pos = 14; st
+          = List.[]; d = 0; at = λ x. x }, (record { pos = 10; st = List.[]; d = 0; at = λ x. x }, tt),),) (m27 (c .before .before)
+          (After-every-place·gave (c .before))) (c .refused)
+      abbrev pub m29 : (before : After-every-place) → (given : s27 .gives (m27 (before .before) (After-every-place·gave before))) → Typed.Mo T31
+      m29 = λ before given. s28 (m28 before given)
+      abbrev pub m30 : (before : After-every-place) → (given : s27 .gives (m27 (before .before) (After-every-place·gave before))) → Typed.Mo T32
+      m30 = λ before given. s29 (m29 before given)
+      abbrev pub m31 : (before : After-every-place) → (given : s27 .gives (m27 (before .before) (After-every-place·gave before))) → Typed.Mo T33
+      m31 = λ before given. s30 (m30 before given)
+      abbrev pub m32 : (before : After-every-place) → (given : s27 .gives (m27 (before .before) (After-every-place·gave before))) → Typed.Mo T34
+      m32 = λ before given. s31 (m31 before given)
+      abbrev pub m33 : (before : After-every-place) → (given : s27 .gives (m27 (before .before) (After-every-place·gave before))) → Typed.Mo T35
+      m33 = λ before given. s32 (m32 before given)
+      abbrev pub m34 : (before : After-every-place) → (given : s27 .gives (m27 (before .before) (After-every-place·gave before))) → Typed.Mo T36
+      m34 = λ before given. s33 (m33 before given)
       abbrev pub Need-returns-2 : Type 0
-      Need-returns-2 = (c : After-refused) → Post· (c .before .before .before .before .before .before .before .κs) (dens (c .before .before .before
-          .before .before .before .before .κs) (c .before .before .before .before .before .before .before .args)) (Function.resV r (c .before .before
-          .before .before .before .before .before .κs) (m51 (c .before) (After-refused·gave c) .0)) (Clauses.atExit (Kinds.endedOf 4 ps r) (c .before
-          .before .before .before .before .before .before .κs) (dens (c .before .before .before .before .before .before .before .κs) (c .before
-          .before .before .before .before .before .before .args)) (Enter.lastsP (c .before .before .before .before .before .before .before .κs) 1 ps
-          xs (dens (c .before .before .before .before .before .before .before .κs) (c .before .before .before .before .before .before .before .args))
-          (m51 (c .before) (After-refused·gave c) .1)))
+      Need-returns-2 = (c : After-refused) → Post· (c .before .before .before .before .before .before .before .before .κs) (dens (c .before .before
+          .before .before .before .before .before .before .κs) (c .before .before .before .before .before .before .before .before .args))
+          (Function.resV r (c .before .before .before .before .before .before .before .before .κs) (m34 (c .before) (After-refused·gave c) .0))
+          (Clauses.atExit (Kinds.endedOf 4 ps r) (c .before .before .before .before .before .before .before .before .κs) (dens (c .before .before
+          .before .before .before .before .before .before .κs) (c .before .before .before .before .before .before .before .before .args))
+          (Enter.lastsP (c .before .before .before .before .before .before .before .before .κs) 1 ps xs (dens (c .before .before .before .before
+          .before .before .before .before .κs) (c .before .before .before .before .before .before .before .before .args)) (m34 (c .before)
+          (After-refused·gave c) .1)))
       module _ (too-few-requires : Need-too-few-requires) (new-answer-requires : Need-new-answer-requires) (new-header-requires :
-          Need-new-header-requires) (used-requires : Need-used-requires) (is-taken-requires : Need-is-taken-requires) (clear-pending-requires :
-          Need-clear-pending-requires) (clear-circuit-requires : Need-clear-circuit-requires) (clear-usage-requires : Need-clear-usage-requires)
-          (clear-action-requires : Need-clear-action-requires) (taken-with-requires : Need-taken-with-requires) (same-length : Need-same-length)
-          (same-length-2 : Need-same-length-2) (same-length-3 : Need-same-length-3) (same-length-4 : Need-same-length-4) (returns : Need-returns)
-          (refused-requires : Need-refused-requires) (returns-2 : Need-returns-2) where
-        lay12 : (c : After-refused) → at50 (W0 (c .before .before .before .before .before .before .before .κs) (c .before .before .before .before
-            .before .before .before .args)) (m46 (c .before) (After-refused·gave c))
-        lay12 = λ c. ((Path.refl, (Path.refl, (Path.refl, (Path.refl, (tt, (tt, (tt, (tt, tt))))))),), returns-2 record { before = c .before; refused
+          Need-new-header-requires) (is-taken-requires : Need-is-taken-requires) (no-place-requires : Need-no-place-requires) (taken-with-requires :
+          Need-taken-with-requires) (returns : Need-returns) (no-runtime-requires : Need-no-runtime-requires) (every-place-requires :
+          Need-every-place-requires) (refused-requires : Need-refused-requires) (returns-2 : Need-returns-2) where
+        lay10 : (c : After-refused) → at20 (W0 (c .before .before .before .before .before .before .before .before .κs) (c .before .before .before
+            .before .before .before .before .before .args)) (m28 (c .before) (After-refused·gave c))
+        lay10 = λ c. ((Path.refl, (Path.refl, (Path.refl, (Path.refl, (tt, (tt, (tt, (tt, tt))))))),), returns-2 record { before = c .before; refused
             = c .refused },)
-        lay11 : (c : Else1) → at51 (W0 (c .before .before .before .before .before .before .κs) (c .before .before .before .before .before .before
-            .args)) (m45 (c .before))
-        lay11 = λ c. (refused-requires record { before = c .before; if1 = c .if1 }, λ g. lay12 record { before = record { before = c .before; if1 = c
-            .if1 }; refused = Called.called ps·10 r·10 (claims· .21) T17 (record { pos = 11; st = List.[]; d = 0; at = λ x. x }, (record { pos = 10;
-            st = List.[]; d = 0; at = λ x. x }, tt),) (m45 (c .before)) g; },)
-        lay10 : (c : After-taken-with) → at4 (W1 (c .before .before .before .before .before .before .before .before .before .before .before .before
-            .before .before .before) (After-is-taken·gave (c .before .before .before .before .before .before .before .before .before .before .before
-            .before .before .before))) (m39 (c .before) (After-taken-with·gave c))
-        lay10 = λ c. ((MutSlice.fix-len (Row.get 1 (T57 .locals) (m43 (c .before) (After-taken-with·gave c)) .ptr) (Row.get 1 (T57 .locals) (m43 (c
-            .before) (After-taken-with·gave c)) .name) (Row.get 1 (T57 .locals) (m43 (c .before) (After-taken-with·gave c)) .now) (dens (c .before
-            .before .before .before .before .before .before .before .before .before .before .before .before .before .before .before .before .before
-            .before .κs) (c .before .before .before .before .before .before .before .before .before .before .before .before .before .before .before
-            .before .before .before .before .args) .0 .now) (same-length record { before = c .before; taken-with = c .taken-with }), (MutSlice.fix-len
-            (Row.get 2 (T57 .locals) (m43 (c .before) (After-taken-with·gave c)) .ptr) (Row.get 2 (T57 .locals) (m43 (c .before)
-            (After-taken-with·gave c)) .name) (Row.get 2 (T57 .locals) (m43 (c .before) (After-taken-with·gave c)) .now) (dens (c .before .before
-            .before .before .before .before .before .before .before .before .before .before .before .before .before .before .before .before .before
-            .κs) (c .before .before .before .before .before .before .before .before .before .before .before .before .before .before .before .before
-            .before .before .before .args) .1 .0 .now) (same-length-2 record { before = c .before; taken-with = c .taken-with }), (MutSlice.fix-len
-            (Row.get 3 (T57 .locals) (m43 (c .before) (After-taken-with·gave c)) .ptr) (Row.get 3 (T57 .locals) (m43 (c .before)
-            (After-taken-with·gave c)) .name) (Row.get 3 (T57 .locals) (m43 (c .before) (After-taken-with·gave c)) .now) (dens (c .before .before
-            .before .before .before .before .before .before .before .before .before .before .before .before .before .before .before .before .before
-            .κs) (c .before .before .before .before .before .before .before .before .before .before .before .before .before .before .before .before
-            .before .before .before .args) .1 .1 .0 .now) (same-length-3 record { before = c .before; taken-with = c .taken-with }), (MutSlice.fix-len
-            (Row.get 4 (T57 .locals) (m43 (c .before) (After-taken-with·gave c)) .ptr) (Row.get 4 (T57 .locals) (m43 (c .before)
-            (After-taken-with·gave c)) .name) (Row.get 4 (T57 .locals) (m43 (c .before) (After-taken-with·gave c)) .now) (dens (c .before .before
-            .before .before .before .before .before .before .before .before .before .before .before .before .before .before .before .before .before
-            .κs) (c .before .before .before .before .before .before .before .before .before .before .before .before .before .before .before .before
-            .before .before .before .args) .1 .1 .1 .0 .now) (same-length-4 record { before = c .before; taken-with = c .taken-with }), (tt, (tt, (tt,
-            (tt, tt)))),),),),), returns record { before = c .before; taken-with = c .taken-with },)
-        lay9 : (c : After-clear-action) → at10 (W1 (c .before .before .before .before .before .before .before .before .before .before .before .before
-            .before) (After-is-taken·gave (c .before .before .before .before .before .before .before .before .before .before .before .before))) (m35
-            (c .before) (After-clear-action·gave c))
-        lay9 = λ c. (Path.refl, λ g. (taken-with-requires record { before = record { before = c .before; clear-action = c .clear-action }; inflight =
-            record { given = g }; }, λ g'. lay10 record { before = record { before = record { before = c .before; clear-action = c .clear-action };
-            inflight = record { given = g }; }; taken-with = Called.called ps·9 r·9 (claims· .19) T51 (record { pos = 11; st = List.[]; d = 0; at = λ
-            x. x }, tt,) (m38 record { before = c .before; clear-action = c .clear-action } g) g'; },),)
-        lay8 : (c : After-clear-usage) → at18 (W1 (c .before .before .before .before .before .before .before .before .before .before)
-            (After-is-taken·gave (c .before .before .before .before .before .before .before .before .before))) (m30 (c .before)
-            (After-clear-usage·gave c))
-        lay8 = λ c. (Path.refl, λ g. λ g'. (Path.refl, (clear-action-requires record { before = record { before = record { before = c .before;
-            clear-usage = c .clear-usage }; ledger = record { given = g }; }; clear-action-arg = record { given = g' }; }, λ g''. lay9 record { before
-            = record { before = record { before = record { before = c .before; clear-usage = c .clear-usage }; ledger = record { given = g }; };
-            clear-action-arg = record { given = g' }; }; clear-action = Called.called ps·8 r·8 (claims· .17) T46 (record { pos = 25; ty = Syntax.tyRef
-            Syntax.erased Syntax.mut InflightAction.to; ref = λ x. x; }, (record { pos = 12; st = List.[]; d = 0; at = λ x. x }, tt),) (m34 record {
-            before = record { before = c .before; clear-usage = c .clear-usage }; ledger = record { given = g }; } g') g''; },),),)
-        lay7 : (c : After-clear-circuit) → at26 (W1 (c .before .before .before .before .before .before .before) (After-is-taken·gave (c .before
-            .before .before .before .before .before))) (m25 (c .before) (After-clear-circuit·gave c))
-        lay7 = λ c. (Path.refl, λ g. λ g'. (Path.refl, (clear-usage-requires record { before = record { before = record { before = c .before;
-            clear-circuit = c .clear-circuit }; circuits = record { given = g }; }; clear-usage-arg = record { given = g' }; }, λ g''. lay8 record {
-            before = record { before = record { before = record { before = c .before; clear-circuit = c .clear-circuit }; circuits = record { given =
-            g }; }; clear-usage-arg = record { given = g' }; }; clear-usage = Called.called ps·7 r·7 (claims· .15) T38 (record { pos = 23; ty =
-            Syntax.tyRef Syntax.erased Syntax.mut ReservationUsage.to; ref = λ x. x; }, (record { pos = 12; st = List.[]; d = 0; at = λ x. x }, tt),)
-            (m29 record { before = record { before = c .before; clear-circuit = c .clear-circuit }; circuits = record { given = g }; } g') g'';
-            },),),)
-        lay6 : (c : After-clear-pending) → at34 (W1 (c .before .before .before .before) (After-is-taken·gave (c .before .before .before))) (m20 (c
-            .before) (After-clear-pending·gave c))
-        lay6 = λ c. (Path.refl, λ g. λ g'. (Path.refl, (clear-circuit-requires record { before = record { before = record { before = c .before;
-            clear-pending = c .clear-pending }; pending = record { given = g }; }; clear-circuit-arg = record { given = g' }; }, λ g''. lay7 record {
-            before = record { before = record { before = record { before = c .before; clear-pending = c .clear-pending }; pending = record { given = g
-            }; }; clear-circuit-arg = record { given = g' }; }; clear-circuit = Called.called ps·6 r·6 (claims· .13) T30 (record { pos = 21; ty =
-            Syntax.tyRef Syntax.erased Syntax.mut RelayCircuit.to; ref = λ x. x; }, (record { pos = 12; st = List.[]; d = 0; at = λ x. x }, tt),) (m24
-            record { before = record { before = c .before; clear-pending = c .clear-pending }; pending = record { given = g }; } g') g''; },),),)
-        lay5 : (c : After-is-taken) → at52 (W0 (c .before .before .before .before .before .κs) (c .before .before .before .before .before .args)) (m15
-            (c .before) (After-is-taken·gave c))
-        lay5 = λ c. (λ taken. λ g. (Path.refl, (clear-pending-requires record { before = record { before = record { before = c .before; is-taken = c
-            .is-taken }; if1 = record { taken = taken }; }; clear-pending-arg = record { given = g }; }, λ g'. lay6 record { before = record { before
-            = record { before = record { before = c .before; is-taken = c .is-taken }; if1 = record { taken = taken }; }; clear-pending-arg = record {
-            given = g }; }; clear-pending = Called.called ps·5 r·5 (claims· .11) T22 (record { pos = 19; ty = Syntax.tyRef Syntax.erased Syntax.mut
-            RelayPending.to; ref = λ x. x; }, (record { pos = 12; st = List.[]; d = 0; at = λ x. x }, tt),) (m19 record { before = record { before = c
-            .before; is-taken = c .is-taken }; if1 = record { taken = taken }; } g) g'; },),), λ left. lay11 record { before = record { before = c
-            .before; is-taken = c .is-taken }; if1 = record { left = left }; },)
-        lay4 : (c : After-used) → at53 (W0 (c .before .before .before .before .κs) (c .before .before .before .before .args)) (m14 (c .before)
-            (After-used·gave c))
-        lay4 = λ c. (is-taken-requires record { before = c .before; used = c .used }, λ g. lay5 record { before = record { before = c .before; used =
-            c .used }; is-taken = Called.called ps·4 r·4 (claims· .9) T15 (record { pos = 10; st = List.[]; d = 0; at = λ x. x }, tt,) (m14 (c
-            .before) (After-used·gave c)) g; },)
-        lay3 : (c : After-new-header) → at56 (W0 (c .before .before .before .κs) (c .before .before .before .args)) (m11 (c .before)
+        lay9 : (c : After-every-place) → at21 (W0 (c .before .before .before .before .before .before .before .κs) (c .before .before .before .before
+            .before .before .before .args)) (m27 (c .before) (After-every-place·gave c))
+        lay9 = λ c. (refused-requires record { before = c .before; every-place = c .every-place }, λ g. lay10 record { before = record { before = c
+            .before; every-place = c .every-place }; refused = Called.called ps·8 r·8 (claims· .17) T29 (record { pos = 13; st = List.[]; d = 0; at =
+            λ x. x }, (record { pos = 14; st = List.[]; d = 0; at = λ x. x }, (record { pos = 10; st = List.[]; d = 0; at = λ x. x }, tt),),) (m27 (c
+            .before) (After-every-place·gave c)) g; },)
+        lay8 : (c : After-no-runtime) → at22 (W0 (c .before .before .before .before .before .before .κs) (c .before .before .before .before .before
+            .before .args)) (m26 (c .before) (After-no-runtime·gave c))
+        lay8 = λ c. (every-place-requires record { before = c .before; no-runtime = c .no-runtime }, λ g. lay9 record { before = record { before = c
+            .before; no-runtime = c .no-runtime }; every-place = Called.called ps·7 r·7 (claims· .15) T28 tt (m26 (c .before) (After-no-runtime·gave
+            c)) g; },)
+        lay7 : (c : Else1) → at23 (W0 (c .before .before .before .before .before .κs) (c .before .before .before .before .before .args)) (m25 (c
+            .before))
+        lay7 = λ c. (no-runtime-requires record { before = c .before; if1 = c .if1 }, λ g. lay8 record { before = record { before = c .before; if1 = c
+            .if1 }; no-runtime = Called.called ps·6 r·6 (claims· .13) T16 tt (m25 (c .before)) g; },)
+        lay6 : (c : After-taken-with) → at5 (W1 (c .before .before .before .before) (After-is-taken·gave (c .before .before .before))) (m18 (c
+            .before) (After-taken-with·gave c))
+        lay6 = λ c. ((Path.refl, (Path.refl, (Path.refl, (Path.refl, (tt, (tt, (tt, (tt, tt))))))),), returns record { before = c .before; taken-with
+            = c .taken-with },)
+        lay5 : (c : After-no-place) → at6 (W1 (c .before .before .before) (After-is-taken·gave (c .before .before))) (m17 (c .before)
+            (After-no-place·gave c))
+        lay5 = λ c. (taken-with-requires record { before = c .before; no-place = c .no-place }, λ g. lay6 record { before = record { before = c
+            .before; no-place = c .no-place }; taken-with = Called.called ps·5 r·5 (claims· .11) T19 (record { pos = 11; st = List.[]; d = 0; at = λ
+            x. x }, (record { pos = 12; st = List.[]; d = 0; at = λ x. x }, tt),) (m17 (c .before) (After-no-place·gave c)) g; },)
+        lay4 : (c : After-is-taken) → at24 (W0 (c .before .before .before .before .κs) (c .before .before .before .before .args)) (m14 (c .before)
+            (After-is-taken·gave c))
+        lay4 = λ c. (λ taken. (no-place-requires record { before = record { before = c .before; is-taken = c .is-taken }; if1 = record { taken = taken
+            }; }, λ g. lay5 record { before = record { before = record { before = c .before; is-taken = c .is-taken }; if1 = record { taken = taken };
+            }; no-place = Called.called ps·4 r·4 (claims· .9) T18 tt (m16 record { before = c .before; is-taken = c .is-taken; }) g; },), λ left. lay7
+            record { before = record { before = c .before; is-taken = c .is-taken }; if1 = record { left = left }; },)
+        lay3 : (c : After-new-header) → at27 (W0 (c .before .before .before .κs) (c .before .before .before .args)) (m11 (c .before)
             (After-new-header·gave c))
-        lay3 = λ c. (used-requires record { before = c .before; new-header = c .new-header }, λ g. lay4 record { before = record { before = c .before;
-            new-header = c .new-header }; used = Called.called ps·3 r·3 (claims· .7) T14 tt (m13 (c .before) (After-new-header·gave c)) g; },)
-        lay2 : (c : After-new-answer) → at58 (W0 (c .before .before .κs) (c .before .before .args)) (m9 (c .before) (After-new-answer·gave c))
+        lay3 = λ c. (is-taken-requires record { before = c .before; new-header = c .new-header }, λ g. lay4 record { before = record { before = c
+            .before; new-header = c .new-header }; is-taken = Called.called ps·3 r·3 (claims· .7) T14 (record { pos = 10; st = List.[]; d = 0; at = λ
+            x. x }, tt,) (m13 (c .before) (After-new-header·gave c)) g; },)
+        lay2 : (c : After-new-answer) → at29 (W0 (c .before .before .κs) (c .before .before .args)) (m9 (c .before) (After-new-answer·gave c))
         lay2 = λ c. (new-header-requires record { before = c .before; new-answer = c .new-answer }, λ g. lay3 record { before = record { before = c
             .before; new-answer = c .new-answer }; new-header = Called.called ps·2 r·2 (claims· .5) T11 (record { pos = 5; st = List.[]; d = 0; at = λ
             x. x }, (Num.vAt 6 λ x. x, (record { pos = 7; st = List.[]; d = 0; at = λ x. x }, (Num.vAt 8 λ x. x, tt)),),) (m10 (c .before)
             (After-new-answer·gave c)) g; },)
-        lay1 : (c : After-too-few) → at63 (W0 (c .before .κs) (c .before .args)) (m4 (c .before) (After-too-few·gave c))
+        lay1 : (c : After-too-few) → at34 (W0 (c .before .κs) (c .before .args)) (m4 (c .before) (After-too-few·gave c))
         lay1 = λ c. (new-answer-requires record { before = c .before; too-few = c .too-few }, λ g. lay2 record { before = record { before = c .before;
             too-few = c .too-few }; new-answer = Called.called ps·1 r·1 (claims· .3) T9 (record { pos = 5; st = List.[]; d = 0; at = λ x. x },
-            (Num.vAt 6 λ x. x, (record { pos = 7; st = List.[]; d = 0; at = λ x. x }, (Bool.bAt 9 λ x. x, (Num.vAt 13 λ x. x, tt)),),),) (m8 (c
+            (Num.vAt 6 λ x. x, (record { pos = 7; st = List.[]; d = 0; at = λ x. x }, (Bool.bAt 9 λ x. x, (Num.vAt 15 λ x. x, tt)),),),) (m8 (c
             .before) (After-too-few·gave c)) g; },)
-        pub laid : (c : Start) → at67 (W0 (c .κs) (c .args)) (m0 (c .κs) (c .args))
+        pub laid : (c : Start) → at38 (W0 (c .κs) (c .args)) (m0 (c .κs) (c .args))
         laid = λ c. (too-few-requires c, λ g. lay1 record { before = c; too-few = Called.called ps·0 r·0 (claims· .1) T4 (record { pos = 7; st =
-            List.[]; d = 0; at = λ x. x }, (Num.vAt 13 λ x. x, (Num.vAt 14 λ x. x, (Num.vAt 15 λ x. x, tt))),) (m3 (c .κs) (c .args)) g; },)
+            List.[]; d = 0; at = λ x. x }, (Num.vAt 15 λ x. x, (Num.vAt 16 λ x. x, (Num.vAt 17 λ x. x, tt))),) (m3 (c .κs) (c .args)) g; },)
         module _ (κs : Lifetimes.Lfts 4) (qs : Lifetimes.Shares 4) where
           pub asked : (a : Kinds.Dens κs ps) → (good : Kinds.GoodsP κs ps a) → (pre : Pre· κs a) → (bs : List.List Nat.ℕ) → Φ (Any.wantQ 4 ps r xs m
               κs qs a (Post· κs a)) (Function.init 4 ps r xs m κs qs a)
@@ -1935,14 +1238,12 @@ module _ (claims· : Claims) where
         module _ { M : Type 1 } (𝓤 : URA.URA M) (H : Wp.Heap 𝓤) (A : Atoms.Atoms 𝓤) (W : Kit.Given 𝓤 H A) (𝓣 : Wp.Tables 𝓤 H) (known0 : Plain.Known 𝓤
             H A W 𝓣 0 ps·0 r·0 (claims· .0) (claims· .1) "hnsr_circuit::entry::too_few") (known1 : Plain.Known 𝓤 H A W 𝓣 0 ps·1 r·1 (claims· .2)
             (claims· .3) "hnsr_circuit::calls::new_answer") (known2 : Plain.Known 𝓤 H A W 𝓣 0 ps·2 r·2 (claims· .4) (claims· .5)
-            "hnsr_circuit::header::new_header") (known3 : Plain.Known 𝓤 H A W 𝓣 0 ps·3 r·3 (claims· .6) (claims· .7) "hnsr_circuit::question::used")
-            (known4 : Plain.Known 𝓤 H A W 𝓣 0 ps·4 r·4 (claims· .8) (claims· .9) "hnsr_circuit::answer::is_taken") (known5 : Plain.Known 𝓤 H A W 𝓣 1
-            ps·5 r·5 (claims· .10) (claims· .11) "hnsr_circuit::tables::pending::clear_pending") (known6 : Plain.Known 𝓤 H A W 𝓣 1 ps·6 r·6 (claims·
-            .12) (claims· .13) "hnsr_circuit::tables::circuits::clear_circuit") (known7 : Plain.Known 𝓤 H A W 𝓣 1 ps·7 r·7 (claims· .14) (claims· .15)
-            "hnsr_circuit::tables::ledger::clear_usage") (known8 : Plain.Known 𝓤 H A W 𝓣 1 ps·8 r·8 (claims· .16) (claims· .17)
-            "hnsr_circuit::tables::inflight::clear_action") (known9 : Plain.Known 𝓤 H A W 𝓣 0 ps·9 r·9 (claims· .18) (claims· .19)
-            "hnsr_circuit::revoking_calls::taken_with") (known10 : Plain.Known 𝓤 H A W 𝓣 0 ps·10 r·10 (claims· .20) (claims· .21)
+            "hnsr_circuit::header::new_header") (known3 : Plain.Known 𝓤 H A W 𝓣 0 ps·3 r·3 (claims· .6) (claims· .7) "hnsr_circuit::answer::is_taken")
+            (known4 : Plain.Known 𝓤 H A W 𝓣 0 ps·4 r·4 (claims· .8) (claims· .9) "hnsr_circuit::places::no_place") (known5 : Plain.Known 𝓤 H A W 𝓣 0
+            ps·5 r·5 (claims· .10) (claims· .11) "hnsr_circuit::revoking_calls::taken_with") (known6 : Plain.Known 𝓤 H A W 𝓣 0 ps·6 r·6 (claims· .12)
+            (claims· .13) "hnsr_circuit::header::no_runtime") (known7 : Plain.Known 𝓤 H A W 𝓣 0 ps·7 r·7 (claims· .14) (claims· .15)
+            "hnsr_circuit::places::every_place") (known8 : Plain.Known 𝓤 H A W 𝓣 0 ps·8 r·8 (claims· .16) (claims· .17)
             "hnsr_circuit::revoking_calls::refused") where
           pub spec : Statement.Triple 𝓤 (Wp.WpFn 𝓤 H (𝓣 .C) (𝓣 .Λ) (Function.fnOf 4 ps r xs m hs body)) (Function.plainOf 𝓤 H A 4 ps r Pre· Post·)
           spec = Plain.t-fn-plain 𝓤 H A W 𝓣 4 ps r xs m hs body (λ κs qs bs. Φ) (λ κs qs bs bd. typed κs qs 𝓤 H A W 𝓣 (known0, known1, known2, known3,
-              known4, known5, known6, known7, known8, known9, known10,) bs bd) Pre· Post· asked
+              known4, known5, known6, known7, known8,) bs bd) Pre· Post· asked

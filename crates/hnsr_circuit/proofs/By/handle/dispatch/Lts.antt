@@ -4,12 +4,14 @@ use Rattle.hnsr_circuit.proofs.By.InflightAction
 use Rattle.hnsr_circuit.proofs.By.RelayCircuit
 use Rattle.hnsr_circuit.proofs.By.RelayPending
 use Rattle.hnsr_circuit.proofs.By.ReservationUsage
+use Rattle.hnsr_circuit.proofs.places.Places
+use Rattle.hnsr_circuit.proofs.places.Places.Laws
 use Rattle.hnsr_circuit.proofs.records.RelayPacket
-use Rattle.hnsr_circuit.proofs.records.RelayPacket.Laws
+use Rattle.hnsr_circuit.proofs.records.RelayPacket.Laws as Laws'
 use Rattle.hnsr_circuit.proofs.runtime.OpaqueRelayRuntime
-use Rattle.hnsr_circuit.proofs.runtime.OpaqueRelayRuntime.Laws as Laws'
+use Rattle.hnsr_circuit.proofs.runtime.OpaqueRelayRuntime.Laws as Laws''
 use Rattle.hnsr_circuit.proofs.runtime.Relayed
-use Rattle.hnsr_circuit.proofs.runtime.Relayed.Laws as Laws''
+use Rattle.hnsr_circuit.proofs.runtime.Relayed.Laws as Laws'''
 use borrow.Author.Called
 use borrow.Author.Tests
 use borrow.Fn.Any
@@ -43,7 +45,7 @@ use borrow.Table.Typed
 use contract.Lifetimes
 use denote.Exit
 use denote.Struct.Declared
-use denote.Struct.Laws as Laws'''
+use denote.Struct.Laws as Laws''''
 use denote.Triple.Clauses
 use denote.Triple.Statement
 use ghost.Atoms
@@ -90,27 +92,32 @@ ref13 = Syntax.tyRef (Syntax.named 8) Syntax.imm (Syntax.tyInt Syntax.w8)
 abbrev pub ps : List.List (Kinds.PK 9)
 ps = (MutSlice.pMutS RelayPending.row 0 tt) ∷ (MutSlice.pMutS RelayCircuit.row 1 tt) ∷ (MutSlice.pMutS ReservationUsage.row 2 tt) ∷ (MutSlice.pMutS
     InflightAction.row 3 tt) ∷ (MutSlice.pMutS (Referent.rtF (Referent.fInt Syntax.w32)) 4 tt) ∷ (Value.pVal record { ty = Declared.row
-    OpaqueRelayRuntime.the-type; one = Path.refl; val = Laws'''.val OpaqueRelayRuntime.the-type Laws'.the-laws; tells = Laws'''.tells
-    OpaqueRelayRuntime.the-type Laws'.the-laws; still = Laws'''.still OpaqueRelayRuntime.the-type Laws'.the-copy Exit.yes; row = Rows.whole
-    (Declared.row OpaqueRelayRuntime.the-type); rd = λ x. x; mk = λ x. x; } λ M 𝓤 H A W. record { copies = Laws'''.copy OpaqueRelayRuntime.the-type
-    Laws'.the-copy 𝓤 H A W; lawful = Laws'''.lawful OpaqueRelayRuntime.the-type Laws'.the-laws 𝓤 H A W; makes = Laws'''.makes
-    OpaqueRelayRuntime.the-type Laws'.the-plain 𝓤 H A; in-mem = Local.mem-whole 𝓤 H A W (Declared.row OpaqueRelayRuntime.the-type); of-mem =
-    Local.whole-mem 𝓤 H A W (Declared.row OpaqueRelayRuntime.the-type); }) ∷ (Value.pVal record { ty = Declared.row RelayPacket.the-type; one =
-    Path.refl; val = Laws'''.val RelayPacket.the-type Laws.the-laws; tells = Laws'''.tells RelayPacket.the-type Laws.the-laws; still = Laws'''.still
-    RelayPacket.the-type Laws.the-copy Exit.yes; row = Rows.whole (Declared.row RelayPacket.the-type); rd = λ x. x; mk = λ x. x; } λ M 𝓤 H A W. record
-    { copies = Laws'''.copy RelayPacket.the-type Laws.the-copy 𝓤 H A W; lawful = Laws'''.lawful RelayPacket.the-type Laws.the-laws 𝓤 H A W; makes =
-    Laws'''.makes RelayPacket.the-type Laws.the-plain 𝓤 H A; in-mem = Local.mem-whole 𝓤 H A W (Declared.row RelayPacket.the-type); of-mem =
-    Local.whole-mem 𝓤 H A W (Declared.row RelayPacket.the-type); }) ∷ (ShrSlice.pShrS (Referent.rtF (Referent.fInt Syntax.w8)) 5 tt) ∷ (ShrSlice.pShrS
-    (Referent.rtF (Referent.fInt Syntax.w8)) 6 tt) ∷ (ShrSlice.pShrS (Referent.rtF (Referent.fInt Syntax.w8)) 7 tt) ∷ (ShrSlice.pShrS (Referent.rtF
-    (Referent.fInt Syntax.w8)) 8 tt) ∷ List.[]
+    OpaqueRelayRuntime.the-type; one = Path.refl; val = Laws''''.val OpaqueRelayRuntime.the-type Laws''.the-laws; tells = Laws''''.tells
+    OpaqueRelayRuntime.the-type Laws''.the-laws; still = Laws''''.still OpaqueRelayRuntime.the-type Laws''.the-copy Exit.yes; row = Rows.whole
+    (Declared.row OpaqueRelayRuntime.the-type); rd = λ x. x; mk = λ x. x; } λ M 𝓤 H A W. record { copies = Laws''''.copy OpaqueRelayRuntime.the-type
+    Laws''.the-copy 𝓤 H A W; lawful = Laws''''.lawful OpaqueRelayRuntime.the-type Laws''.the-laws 𝓤 H A W; makes = Laws''''.makes
+    OpaqueRelayRuntime.the-type Laws''.the-plain 𝓤 H A; in-mem = Local.mem-whole 𝓤 H A W (Declared.row OpaqueRelayRuntime.the-type); of-mem =
+    Local.whole-mem 𝓤 H A W (Declared.row OpaqueRelayRuntime.the-type); }) ∷ (Value.pVal record { ty = Declared.row Places.the-type; one = Path.refl;
+    val = Laws''''.val Places.the-type Laws.the-laws; tells = Laws''''.tells Places.the-type Laws.the-laws; still = Laws''''.still Places.the-type
+    Laws.the-copy Exit.yes; row = Rows.whole (Declared.row Places.the-type); rd = λ x. x; mk = λ x. x; } λ M 𝓤 H A W. record { copies = Laws''''.copy
+    Places.the-type Laws.the-copy 𝓤 H A W; lawful = Laws''''.lawful Places.the-type Laws.the-laws 𝓤 H A W; makes = Laws''''.makes Places.the-type
+    Laws.the-plain 𝓤 H A; in-mem = Local.mem-whole 𝓤 H A W (Declared.row Places.the-type); of-mem = Local.whole-mem 𝓤 H A W (Declared.row
+    Places.the-type); }) ∷ (Value.pVal record { ty = Declared.row RelayPacket.the-type; one = Path.refl; val = Laws''''.val RelayPacket.the-type
+    Laws'.the-laws; tells = Laws''''.tells RelayPacket.the-type Laws'.the-laws; still = Laws''''.still RelayPacket.the-type Laws'.the-copy Exit.yes;
+    row = Rows.whole (Declared.row RelayPacket.the-type); rd = λ x. x; mk = λ x. x; } λ M 𝓤 H A W. record { copies = Laws''''.copy
+    RelayPacket.the-type Laws'.the-copy 𝓤 H A W; lawful = Laws''''.lawful RelayPacket.the-type Laws'.the-laws 𝓤 H A W; makes = Laws''''.makes
+    RelayPacket.the-type Laws'.the-plain 𝓤 H A; in-mem = Local.mem-whole 𝓤 H A W (Declared.row RelayPacket.the-type); of-mem = Local.whole-mem 𝓤 H A W
+    (Declared.row RelayPacket.the-type); }) ∷ (ShrSlice.pShrS (Referent.rtF (Referent.fInt Syntax.w8)) 5 tt) ∷ (ShrSlice.pShrS (Referent.rtF
+    (Referent.fInt Syntax.w8)) 6 tt) ∷ (ShrSlice.pShrS (Referent.rtF (Referent.fInt Syntax.w8)) 7 tt) ∷ (ShrSlice.pShrS (Referent.rtF (Referent.fInt
+    Syntax.w8)) 8 tt) ∷ List.[]
 abbrev pub r : Kinds.RK 9
-r = Value.rVal record { ty = Declared.row Relayed.the-type; one = Path.refl; val = Laws'''.val Relayed.the-type Laws''.the-laws; tells = Laws'''.tells
-    Relayed.the-type Laws''.the-laws; still = Laws'''.still Relayed.the-type Laws''.the-copy Exit.yes; row = Rows.whole (Declared.row
-    Relayed.the-type); rd = λ x. x; mk = λ x. x; } λ M 𝓤 H A W. record { copies = Laws'''.copy Relayed.the-type Laws''.the-copy 𝓤 H A W; lawful =
-    Laws'''.lawful Relayed.the-type Laws''.the-laws 𝓤 H A W; makes = Laws'''.makes Relayed.the-type Laws''.the-plain 𝓤 H A; in-mem = Local.mem-whole 𝓤
-    H A W (Declared.row Relayed.the-type); of-mem = Local.whole-mem 𝓤 H A W (Declared.row Relayed.the-type); }
+r = Value.rVal record { ty = Declared.row Relayed.the-type; one = Path.refl; val = Laws''''.val Relayed.the-type Laws'''.the-laws; tells =
+    Laws''''.tells Relayed.the-type Laws'''.the-laws; still = Laws''''.still Relayed.the-type Laws'''.the-copy Exit.yes; row = Rows.whole
+    (Declared.row Relayed.the-type); rd = λ x. x; mk = λ x. x; } λ M 𝓤 H A W. record { copies = Laws''''.copy Relayed.the-type Laws'''.the-copy 𝓤 H A
+    W; lawful = Laws''''.lawful Relayed.the-type Laws'''.the-laws 𝓤 H A W; makes = Laws''''.makes Relayed.the-type Laws'''.the-plain 𝓤 H A; in-mem =
+    Local.mem-whole 𝓤 H A W (Declared.row Relayed.the-type); of-mem = Local.whole-mem 𝓤 H A W (Declared.row Relayed.the-type); }
 abbrev pub xs : List.List Syntax.Ty
-xs = (Syntax.tyInt Syntax.w8) ∷ Laws''.mir ∷ ref0 ∷ (Syntax.tyStruct (38 ∷ 91 ∷ 93 ∷ List.[]) (Syntax.tcons ref0 (Syntax.tcons (Syntax.tyInt
+xs = (Syntax.tyInt Syntax.w8) ∷ Laws'''.mir ∷ ref0 ∷ (Syntax.tyStruct (38 ∷ 91 ∷ 93 ∷ List.[]) (Syntax.tcons ref0 (Syntax.tcons (Syntax.tyInt
     Syntax.w64) Syntax.tnil))) ∷ ref1 ∷ (Syntax.tyStruct (38 ∷ 91 ∷ 93 ∷ List.[]) (Syntax.tcons ref1 (Syntax.tcons (Syntax.tyInt Syntax.w64)
     Syntax.tnil))) ∷ ref2 ∷ (Syntax.tyStruct (38 ∷ 91 ∷ 93 ∷ List.[]) (Syntax.tcons ref2 (Syntax.tcons (Syntax.tyInt Syntax.w64) Syntax.tnil))) ∷ ref3
     ∷ (Syntax.tyStruct (38 ∷ 91 ∷ 93 ∷ List.[]) (Syntax.tcons ref3 (Syntax.tcons (Syntax.tyInt Syntax.w64) Syntax.tnil))) ∷ ref4 ∷ (Syntax.tyStruct
@@ -134,118 +141,148 @@ m = 20
 abbrev pub ps·0 : List.List (Kinds.PK 9)
 ps·0 = (MutSlice.pMutS RelayPending.row 0 tt) ∷ (MutSlice.pMutS RelayCircuit.row 1 tt) ∷ (MutSlice.pMutS ReservationUsage.row 2 tt) ∷ (MutSlice.pMutS
     InflightAction.row 3 tt) ∷ (MutSlice.pMutS (Referent.rtF (Referent.fInt Syntax.w32)) 4 tt) ∷ (Value.pVal record { ty = Declared.row
-    OpaqueRelayRuntime.the-type; one = Path.refl; val = Laws'''.val OpaqueRelayRuntime.the-type Laws'.the-laws; tells = Laws'''.tells
-    OpaqueRelayRuntime.the-type Laws'.the-laws; still = Laws'''.still OpaqueRelayRuntime.the-type Laws'.the-copy Exit.yes; row = Rows.whole
-    (Declared.row OpaqueRelayRuntime.the-type); rd = λ x. x; mk = λ x. x; } λ M 𝓤 H A W. record { copies = Laws'''.copy OpaqueRelayRuntime.the-type
-    Laws'.the-copy 𝓤 H A W; lawful = Laws'''.lawful OpaqueRelayRuntime.the-type Laws'.the-laws 𝓤 H A W; makes = Laws'''.makes
-    OpaqueRelayRuntime.the-type Laws'.the-plain 𝓤 H A; in-mem = Local.mem-whole 𝓤 H A W (Declared.row OpaqueRelayRuntime.the-type); of-mem =
-    Local.whole-mem 𝓤 H A W (Declared.row OpaqueRelayRuntime.the-type); }) ∷ (Value.pVal record { ty = Declared.row RelayPacket.the-type; one =
-    Path.refl; val = Laws'''.val RelayPacket.the-type Laws.the-laws; tells = Laws'''.tells RelayPacket.the-type Laws.the-laws; still = Laws'''.still
-    RelayPacket.the-type Laws.the-copy Exit.yes; row = Rows.whole (Declared.row RelayPacket.the-type); rd = λ x. x; mk = λ x. x; } λ M 𝓤 H A W. record
-    { copies = Laws'''.copy RelayPacket.the-type Laws.the-copy 𝓤 H A W; lawful = Laws'''.lawful RelayPacket.the-type Laws.the-laws 𝓤 H A W; makes =
-    Laws'''.makes RelayPacket.the-type Laws.the-plain 𝓤 H A; in-mem = Local.mem-whole 𝓤 H A W (Declared.row RelayPacket.the-type); of-mem =
-    Local.whole-mem 𝓤 H A W (Declared.row RelayPacket.the-type); }) ∷ (ShrSlice.pShrS (Referent.rtF (Referent.fInt Syntax.w8)) 5 tt) ∷ (ShrSlice.pShrS
-    (Referent.rtF (Referent.fInt Syntax.w8)) 6 tt) ∷ (ShrSlice.pShrS (Referent.rtF (Referent.fInt Syntax.w8)) 7 tt) ∷ (ShrSlice.pShrS (Referent.rtF
-    (Referent.fInt Syntax.w8)) 8 tt) ∷ List.[]
+    OpaqueRelayRuntime.the-type; one = Path.refl; val = Laws''''.val OpaqueRelayRuntime.the-type Laws''.the-laws; tells = Laws''''.tells
+    OpaqueRelayRuntime.the-type Laws''.the-laws; still = Laws''''.still OpaqueRelayRuntime.the-type Laws''.the-copy Exit.yes; row = Rows.whole
+    (Declared.row OpaqueRelayRuntime.the-type); rd = λ x. x; mk = λ x. x; } λ M 𝓤 H A W. record { copies = Laws''''.copy OpaqueRelayRuntime.the-type
+    Laws''.the-copy 𝓤 H A W; lawful = Laws''''.lawful OpaqueRelayRuntime.the-type Laws''.the-laws 𝓤 H A W; makes = Laws''''.makes
+    OpaqueRelayRuntime.the-type Laws''.the-plain 𝓤 H A; in-mem = Local.mem-whole 𝓤 H A W (Declared.row OpaqueRelayRuntime.the-type); of-mem =
+    Local.whole-mem 𝓤 H A W (Declared.row OpaqueRelayRuntime.the-type); }) ∷ (Value.pVal record { ty = Declared.row Places.the-type; one = Path.refl;
+    val = Laws''''.val Places.the-type Laws.the-laws; tells = Laws''''.tells Places.the-type Laws.the-laws; still = Laws''''.still Places.the-type
+    Laws.the-copy Exit.yes; row = Rows.whole (Declared.row Places.the-type); rd = λ x. x; mk = λ x. x; } λ M 𝓤 H A W. record { copies = Laws''''.copy
+    Places.the-type Laws.the-copy 𝓤 H A W; lawful = Laws''''.lawful Places.the-type Laws.the-laws 𝓤 H A W; makes = Laws''''.makes Places.the-type
+    Laws.the-plain 𝓤 H A; in-mem = Local.mem-whole 𝓤 H A W (Declared.row Places.the-type); of-mem = Local.whole-mem 𝓤 H A W (Declared.row
+    Places.the-type); }) ∷ (Value.pVal record { ty = Declared.row RelayPacket.the-type; one = Path.refl; val = Laws''''.val RelayPacket.the-type
+    Laws'.the-laws; tells = Laws''''.tells RelayPacket.the-type Laws'.the-laws; still = Laws''''.still RelayPacket.the-type Laws'.the-copy Exit.yes;
+    row = Rows.whole (Declared.row RelayPacket.the-type); rd = λ x. x; mk = λ x. x; } λ M 𝓤 H A W. record { copies = Laws''''.copy
+    RelayPacket.the-type Laws'.the-copy 𝓤 H A W; lawful = Laws''''.lawful RelayPacket.the-type Laws'.the-laws 𝓤 H A W; makes = Laws''''.makes
+    RelayPacket.the-type Laws'.the-plain 𝓤 H A; in-mem = Local.mem-whole 𝓤 H A W (Declared.row RelayPacket.the-type); of-mem = Local.whole-mem 𝓤 H A W
+    (Declared.row RelayPacket.the-type); }) ∷ (ShrSlice.pShrS (Referent.rtF (Referent.fInt Syntax.w8)) 5 tt) ∷ (ShrSlice.pShrS (Referent.rtF
+    (Referent.fInt Syntax.w8)) 6 tt) ∷ (ShrSlice.pShrS (Referent.rtF (Referent.fInt Syntax.w8)) 7 tt) ∷ (ShrSlice.pShrS (Referent.rtF (Referent.fInt
+    Syntax.w8)) 8 tt) ∷ List.[]
 abbrev pub r·0 : Kinds.RK 9
-r·0 = Value.rVal record { ty = Declared.row Relayed.the-type; one = Path.refl; val = Laws'''.val Relayed.the-type Laws''.the-laws; tells =
-    Laws'''.tells Relayed.the-type Laws''.the-laws; still = Laws'''.still Relayed.the-type Laws''.the-copy Exit.yes; row = Rows.whole (Declared.row
-    Relayed.the-type); rd = λ x. x; mk = λ x. x; } λ M 𝓤 H A W. record { copies = Laws'''.copy Relayed.the-type Laws''.the-copy 𝓤 H A W; lawful =
-    Laws'''.lawful Relayed.the-type Laws''.the-laws 𝓤 H A W; makes = Laws'''.makes Relayed.the-type Laws''.the-plain 𝓤 H A; in-mem = Local.mem-whole 𝓤
-    H A W (Declared.row Relayed.the-type); of-mem = Local.whole-mem 𝓤 H A W (Declared.row Relayed.the-type); }
+r·0 = Value.rVal record { ty = Declared.row Relayed.the-type; one = Path.refl; val = Laws''''.val Relayed.the-type Laws'''.the-laws; tells =
+    Laws''''.tells Relayed.the-type Laws'''.the-laws; still = Laws''''.still Relayed.the-type Laws'''.the-copy Exit.yes; row = Rows.whole
+    (Declared.row Relayed.the-type); rd = λ x. x; mk = λ x. x; } λ M 𝓤 H A W. record { copies = Laws''''.copy Relayed.the-type Laws'''.the-copy 𝓤 H A
+    W; lawful = Laws''''.lawful Relayed.the-type Laws'''.the-laws 𝓤 H A W; makes = Laws''''.makes Relayed.the-type Laws'''.the-plain 𝓤 H A; in-mem =
+    Local.mem-whole 𝓤 H A W (Declared.row Relayed.the-type); of-mem = Local.whole-mem 𝓤 H A W (Declared.row Relayed.the-type); }
 abbrev pub ps·1 : List.List (Kinds.PK 6)
 ps·1 = (MutSlice.pMutS RelayPending.row 0 tt) ∷ (MutSlice.pMutS RelayCircuit.row 1 tt) ∷ (MutSlice.pMutS InflightAction.row 2 tt) ∷ (MutSlice.pMutS
     (Referent.rtF (Referent.fInt Syntax.w32)) 3 tt) ∷ (Value.pVal record { ty = Declared.row OpaqueRelayRuntime.the-type; one = Path.refl; val =
-    Laws'''.val OpaqueRelayRuntime.the-type Laws'.the-laws; tells = Laws'''.tells OpaqueRelayRuntime.the-type Laws'.the-laws; still = Laws'''.still
-    OpaqueRelayRuntime.the-type Laws'.the-copy Exit.yes; row = Rows.whole (Declared.row OpaqueRelayRuntime.the-type); rd = λ x. x; mk = λ x. x; } λ M
-    𝓤 H A W. record { copies = Laws'''.copy OpaqueRelayRuntime.the-type Laws'.the-copy 𝓤 H A W; lawful = Laws'''.lawful OpaqueRelayRuntime.the-type
-    Laws'.the-laws 𝓤 H A W; makes = Laws'''.makes OpaqueRelayRuntime.the-type Laws'.the-plain 𝓤 H A; in-mem = Local.mem-whole 𝓤 H A W (Declared.row
-    OpaqueRelayRuntime.the-type); of-mem = Local.whole-mem 𝓤 H A W (Declared.row OpaqueRelayRuntime.the-type); }) ∷ (Value.pVal record { ty =
-    Declared.row RelayPacket.the-type; one = Path.refl; val = Laws'''.val RelayPacket.the-type Laws.the-laws; tells = Laws'''.tells
-    RelayPacket.the-type Laws.the-laws; still = Laws'''.still RelayPacket.the-type Laws.the-copy Exit.yes; row = Rows.whole (Declared.row
-    RelayPacket.the-type); rd = λ x. x; mk = λ x. x; } λ M 𝓤 H A W. record { copies = Laws'''.copy RelayPacket.the-type Laws.the-copy 𝓤 H A W; lawful
-    = Laws'''.lawful RelayPacket.the-type Laws.the-laws 𝓤 H A W; makes = Laws'''.makes RelayPacket.the-type Laws.the-plain 𝓤 H A; in-mem =
-    Local.mem-whole 𝓤 H A W (Declared.row RelayPacket.the-type); of-mem = Local.whole-mem 𝓤 H A W (Declared.row RelayPacket.the-type); }) ∷
-    (ShrSlice.pShrS (Referent.rtF (Referent.fInt Syntax.w8)) 4 tt) ∷ (ShrSlice.pShrS (Referent.rtF (Referent.fInt Syntax.w8)) 5 tt) ∷ List.[]
+    Laws''''.val OpaqueRelayRuntime.the-type Laws''.the-laws; tells = Laws''''.tells OpaqueRelayRuntime.the-type Laws''.the-laws; still =
+    Laws''''.still OpaqueRelayRuntime.the-type Laws''.the-copy Exit.yes; row = Rows.whole (Declared.row OpaqueRelayRuntime.the-type); rd = λ x. x; mk
+    = λ x. x; } λ M 𝓤 H A W. record { copies = Laws''''.copy OpaqueRelayRuntime.the-type Laws''.the-copy 𝓤 H A W; lawful = Laws''''.lawful
+    OpaqueRelayRuntime.the-type Laws''.the-laws 𝓤 H A W; makes = Laws''''.makes OpaqueRelayRuntime.the-type Laws''.the-plain 𝓤 H A; in-mem =
+    Local.mem-whole 𝓤 H A W (Declared.row OpaqueRelayRuntime.the-type); of-mem = Local.whole-mem 𝓤 H A W (Declared.row OpaqueRelayRuntime.the-type);
+    }) ∷ (Value.pVal record { ty = Declared.row Places.the-type; one = Path.refl; val = Laws''''.val Places.the-type Laws.the-laws; tells =
+    Laws''''.tells Places.the-type Laws.the-laws; still = Laws''''.still Places.the-type Laws.the-copy Exit.yes; row = Rows.whole (Declared.row
+    Places.the-type); rd = λ x. x; mk = λ x. x; } λ M 𝓤 H A W. record { copies = Laws''''.copy Places.the-type Laws.the-copy 𝓤 H A W; lawful =
+    Laws''''.lawful Places.the-type Laws.the-laws 𝓤 H A W; makes = Laws''''.makes Places.the-type Laws.the-plain 𝓤 H A; in-mem = Local.mem-whole 𝓤 H A
+    W (Declared.row Places.the-type); of-mem = Local.whole-mem 𝓤 H A W (Declared.row Places.the-type); }) ∷ (Value.pVal record { ty = Declared.row
+    RelayPacket.the-type; one = Path.refl; val = Laws''''.val RelayPacket.the-type Laws'.the-laws; tells = Laws''''.tells RelayPacket.the-type
+    Laws'.the-laws; still = Laws''''.still RelayPacket.the-type Laws'.the-copy Exit.yes; row = Rows.whole (Declared.row RelayPacket.the-type); rd = λ
+    x. x; mk = λ x. x; } λ M 𝓤 H A W. record { copies = Laws''''.copy RelayPacket.the-type Laws'.the-copy 𝓤 H A W; lawful = Laws''''.lawful
+    RelayPacket.the-type Laws'.the-laws 𝓤 H A W; makes = Laws''''.makes RelayPacket.the-type Laws'.the-plain 𝓤 H A; in-mem = Local.mem-whole 𝓤 H A W
+    (Declared.row RelayPacket.the-type); of-mem = Local.whole-mem 𝓤 H A W (Declared.row RelayPacket.the-type); }) ∷ (ShrSlice.pShrS (Referent.rtF
+    (Referent.fInt Syntax.w8)) 4 tt) ∷ (ShrSlice.pShrS (Referent.rtF (Referent.fInt Syntax.w8)) 5 tt) ∷ List.[]
 abbrev pub r·1 : Kinds.RK 6
-r·1 = Value.rVal record { ty = Declared.row Relayed.the-type; one = Path.refl; val = Laws'''.val Relayed.the-type Laws''.the-laws; tells =
-    Laws'''.tells Relayed.the-type Laws''.the-laws; still = Laws'''.still Relayed.the-type Laws''.the-copy Exit.yes; row = Rows.whole (Declared.row
-    Relayed.the-type); rd = λ x. x; mk = λ x. x; } λ M 𝓤 H A W. record { copies = Laws'''.copy Relayed.the-type Laws''.the-copy 𝓤 H A W; lawful =
-    Laws'''.lawful Relayed.the-type Laws''.the-laws 𝓤 H A W; makes = Laws'''.makes Relayed.the-type Laws''.the-plain 𝓤 H A; in-mem = Local.mem-whole 𝓤
-    H A W (Declared.row Relayed.the-type); of-mem = Local.whole-mem 𝓤 H A W (Declared.row Relayed.the-type); }
+r·1 = Value.rVal record { ty = Declared.row Relayed.the-type; one = Path.refl; val = Laws''''.val Relayed.the-type Laws'''.the-laws; tells =
+    Laws''''.tells Relayed.the-type Laws'''.the-laws; still = Laws''''.still Relayed.the-type Laws'''.the-copy Exit.yes; row = Rows.whole
+    (Declared.row Relayed.the-type); rd = λ x. x; mk = λ x. x; } λ M 𝓤 H A W. record { copies = Laws''''.copy Relayed.the-type Laws'''.the-copy 𝓤 H A
+    W; lawful = Laws''''.lawful Relayed.the-type Laws'''.the-laws 𝓤 H A W; makes = Laws''''.makes Relayed.the-type Laws'''.the-plain 𝓤 H A; in-mem =
+    Local.mem-whole 𝓤 H A W (Declared.row Relayed.the-type); of-mem = Local.whole-mem 𝓤 H A W (Declared.row Relayed.the-type); }
 abbrev pub ps·2 : List.List (Kinds.PK 6)
 ps·2 = (MutSlice.pMutS RelayCircuit.row 0 tt) ∷ (MutSlice.pMutS ReservationUsage.row 1 tt) ∷ (MutSlice.pMutS InflightAction.row 2 tt) ∷
     (MutSlice.pMutS (Referent.rtF (Referent.fInt Syntax.w32)) 3 tt) ∷ (Value.pVal record { ty = Declared.row OpaqueRelayRuntime.the-type; one =
-    Path.refl; val = Laws'''.val OpaqueRelayRuntime.the-type Laws'.the-laws; tells = Laws'''.tells OpaqueRelayRuntime.the-type Laws'.the-laws; still =
-    Laws'''.still OpaqueRelayRuntime.the-type Laws'.the-copy Exit.yes; row = Rows.whole (Declared.row OpaqueRelayRuntime.the-type); rd = λ x. x; mk =
-    λ x. x; } λ M 𝓤 H A W. record { copies = Laws'''.copy OpaqueRelayRuntime.the-type Laws'.the-copy 𝓤 H A W; lawful = Laws'''.lawful
-    OpaqueRelayRuntime.the-type Laws'.the-laws 𝓤 H A W; makes = Laws'''.makes OpaqueRelayRuntime.the-type Laws'.the-plain 𝓤 H A; in-mem =
+    Path.refl; val = Laws''''.val OpaqueRelayRuntime.the-type Laws''.the-laws; tells = Laws''''.tells OpaqueRelayRuntime.the-type Laws''.the-laws;
+    still = Laws''''.still OpaqueRelayRuntime.the-type Laws''.the-copy Exit.yes; row = Rows.whole (Declared.row OpaqueRelayRuntime.the-type); rd = λ
+    x. x; mk = λ x. x; } λ M 𝓤 H A W. record { copies = Laws''''.copy OpaqueRelayRuntime.the-type Laws''.the-copy 𝓤 H A W; lawful = Laws''''.lawful
+    OpaqueRelayRuntime.the-type Laws''.the-laws 𝓤 H A W; makes = Laws''''.makes OpaqueRelayRuntime.the-type Laws''.the-plain 𝓤 H A; in-mem =
     Local.mem-whole 𝓤 H A W (Declared.row OpaqueRelayRuntime.the-type); of-mem = Local.whole-mem 𝓤 H A W (Declared.row OpaqueRelayRuntime.the-type);
-    }) ∷ (Value.pVal record { ty = Declared.row RelayPacket.the-type; one = Path.refl; val = Laws'''.val RelayPacket.the-type Laws.the-laws; tells =
-    Laws'''.tells RelayPacket.the-type Laws.the-laws; still = Laws'''.still RelayPacket.the-type Laws.the-copy Exit.yes; row = Rows.whole
-    (Declared.row RelayPacket.the-type); rd = λ x. x; mk = λ x. x; } λ M 𝓤 H A W. record { copies = Laws'''.copy RelayPacket.the-type Laws.the-copy 𝓤
-    H A W; lawful = Laws'''.lawful RelayPacket.the-type Laws.the-laws 𝓤 H A W; makes = Laws'''.makes RelayPacket.the-type Laws.the-plain 𝓤 H A; in-mem
-    = Local.mem-whole 𝓤 H A W (Declared.row RelayPacket.the-type); of-mem = Local.whole-mem 𝓤 H A W (Declared.row RelayPacket.the-type); }) ∷
-    (ShrSlice.pShrS (Referent.rtF (Referent.fInt Syntax.w8)) 4 tt) ∷ (ShrSlice.pShrS (Referent.rtF (Referent.fInt Syntax.w8)) 5 tt) ∷ List.[]
+    }) ∷ (Value.pVal record { ty = Declared.row Places.the-type; one = Path.refl; val = Laws''''.val Places.the-type Laws.the-laws; tells =
+    Laws''''.tells Places.the-type Laws.the-laws; still = Laws''''.still Places.the-type Laws.the-copy Exit.yes; row = Rows.whole (Declared.row
+    Places.the-type); rd = λ x. x; mk = λ x. x; } λ M 𝓤 H A W. record { copies = Laws''''.copy Places.the-type Laws.the-copy 𝓤 H A W; lawful =
+    Laws''''.lawful Places.the-type Laws.the-laws 𝓤 H A W; makes = Laws''''.makes Places.the-type Laws.the-plain 𝓤 H A; in-mem = Local.mem-whole 𝓤 H A
+    W (Declared.row Places.the-type); of-mem = Local.whole-mem 𝓤 H A W (Declared.row Places.the-type); }) ∷ (Value.pVal record { ty = Declared.row
+    RelayPacket.the-type; one = Path.refl; val = Laws''''.val RelayPacket.the-type Laws'.the-laws; tells = Laws''''.tells RelayPacket.the-type
+    Laws'.the-laws; still = Laws''''.still RelayPacket.the-type Laws'.the-copy Exit.yes; row = Rows.whole (Declared.row RelayPacket.the-type); rd = λ
+    x. x; mk = λ x. x; } λ M 𝓤 H A W. record { copies = Laws''''.copy RelayPacket.the-type Laws'.the-copy 𝓤 H A W; lawful = Laws''''.lawful
+    RelayPacket.the-type Laws'.the-laws 𝓤 H A W; makes = Laws''''.makes RelayPacket.the-type Laws'.the-plain 𝓤 H A; in-mem = Local.mem-whole 𝓤 H A W
+    (Declared.row RelayPacket.the-type); of-mem = Local.whole-mem 𝓤 H A W (Declared.row RelayPacket.the-type); }) ∷ (ShrSlice.pShrS (Referent.rtF
+    (Referent.fInt Syntax.w8)) 4 tt) ∷ (ShrSlice.pShrS (Referent.rtF (Referent.fInt Syntax.w8)) 5 tt) ∷ List.[]
 abbrev pub r·2 : Kinds.RK 6
-r·2 = Value.rVal record { ty = Declared.row Relayed.the-type; one = Path.refl; val = Laws'''.val Relayed.the-type Laws''.the-laws; tells =
-    Laws'''.tells Relayed.the-type Laws''.the-laws; still = Laws'''.still Relayed.the-type Laws''.the-copy Exit.yes; row = Rows.whole (Declared.row
-    Relayed.the-type); rd = λ x. x; mk = λ x. x; } λ M 𝓤 H A W. record { copies = Laws'''.copy Relayed.the-type Laws''.the-copy 𝓤 H A W; lawful =
-    Laws'''.lawful Relayed.the-type Laws''.the-laws 𝓤 H A W; makes = Laws'''.makes Relayed.the-type Laws''.the-plain 𝓤 H A; in-mem = Local.mem-whole 𝓤
-    H A W (Declared.row Relayed.the-type); of-mem = Local.whole-mem 𝓤 H A W (Declared.row Relayed.the-type); }
+r·2 = Value.rVal record { ty = Declared.row Relayed.the-type; one = Path.refl; val = Laws''''.val Relayed.the-type Laws'''.the-laws; tells =
+    Laws''''.tells Relayed.the-type Laws'''.the-laws; still = Laws''''.still Relayed.the-type Laws'''.the-copy Exit.yes; row = Rows.whole
+    (Declared.row Relayed.the-type); rd = λ x. x; mk = λ x. x; } λ M 𝓤 H A W. record { copies = Laws''''.copy Relayed.the-type Laws'''.the-copy 𝓤 H A
+    W; lawful = Laws''''.lawful Relayed.the-type Laws'''.the-laws 𝓤 H A W; makes = Laws''''.makes Relayed.the-type Laws'''.the-plain 𝓤 H A; in-mem =
+    Local.mem-whole 𝓤 H A W (Declared.row Relayed.the-type); of-mem = Local.whole-mem 𝓤 H A W (Declared.row Relayed.the-type); }
 abbrev pub ps·3 : List.List (Kinds.PK 5)
 ps·3 = (MutSlice.pMutS RelayCircuit.row 0 tt) ∷ (MutSlice.pMutS InflightAction.row 1 tt) ∷ (MutSlice.pMutS (Referent.rtF (Referent.fInt Syntax.w32)) 2
-    tt) ∷ (Value.pVal record { ty = Declared.row OpaqueRelayRuntime.the-type; one = Path.refl; val = Laws'''.val OpaqueRelayRuntime.the-type
-    Laws'.the-laws; tells = Laws'''.tells OpaqueRelayRuntime.the-type Laws'.the-laws; still = Laws'''.still OpaqueRelayRuntime.the-type Laws'.the-copy
-    Exit.yes; row = Rows.whole (Declared.row OpaqueRelayRuntime.the-type); rd = λ x. x; mk = λ x. x; } λ M 𝓤 H A W. record { copies = Laws'''.copy
-    OpaqueRelayRuntime.the-type Laws'.the-copy 𝓤 H A W; lawful = Laws'''.lawful OpaqueRelayRuntime.the-type Laws'.the-laws 𝓤 H A W; makes =
-    Laws'''.makes OpaqueRelayRuntime.the-type Laws'.the-plain 𝓤 H A; in-mem = Local.mem-whole 𝓤 H A W (Declared.row OpaqueRelayRuntime.the-type);
-    of-mem = Local.whole-mem 𝓤 H A W (Declared.row OpaqueRelayRuntime.the-type); }) ∷ (Value.pVal record { ty = Declared.row RelayPacket.the-type; one
-    = Path.refl; val = Laws'''.val RelayPacket.the-type Laws.the-laws; tells = Laws'''.tells RelayPacket.the-type Laws.the-laws; still = Laws'''.still
-    RelayPacket.the-type Laws.the-copy Exit.yes; row = Rows.whole (Declared.row RelayPacket.the-type); rd = λ x. x; mk = λ x. x; } λ M 𝓤 H A W. record
-    { copies = Laws'''.copy RelayPacket.the-type Laws.the-copy 𝓤 H A W; lawful = Laws'''.lawful RelayPacket.the-type Laws.the-laws 𝓤 H A W; makes =
-    Laws'''.makes RelayPacket.the-type Laws.the-plain 𝓤 H A; in-mem = Local.mem-whole 𝓤 H A W (Declared.row RelayPacket.the-type); of-mem =
+    tt) ∷ (Value.pVal record { ty = Declared.row OpaqueRelayRuntime.the-type; one = Path.refl; val = Laws''''.val OpaqueRelayRuntime.the-type
+    Laws''.the-laws; tells = Laws''''.tells OpaqueRelayRuntime.the-type Laws''.the-laws; still = Laws''''.still OpaqueRelayRuntime.the-type
+    Laws''.the-copy Exit.yes; row = Rows.whole (Declared.row OpaqueRelayRuntime.the-type); rd = λ x. x; mk = λ x. x; } λ M 𝓤 H A W. record { copies =
+    Laws''''.copy OpaqueRelayRuntime.the-type Laws''.the-copy 𝓤 H A W; lawful = Laws''''.lawful OpaqueRelayRuntime.the-type Laws''.the-laws 𝓤 H A W;
+    makes = Laws''''.makes OpaqueRelayRuntime.the-type Laws''.the-plain 𝓤 H A; in-mem = Local.mem-whole 𝓤 H A W (Declared.row
+    OpaqueRelayRuntime.the-type); of-mem = Local.whole-mem 𝓤 H A W (Declared.row OpaqueRelayRuntime.the-type); }) ∷ (Value.pVal record { ty =
+    Declared.row Places.the-type; one = Path.refl; val = Laws''''.val Places.the-type Laws.the-laws; tells = Laws''''.tells Places.the-type
+    Laws.the-laws; still = Laws''''.still Places.the-type Laws.the-copy Exit.yes; row = Rows.whole (Declared.row Places.the-type); rd = λ x. x; mk = λ
+    x. x; } λ M 𝓤 H A W. record { copies = Laws''''.copy Places.the-type Laws.the-copy 𝓤 H A W; lawful = Laws''''.lawful Places.the-type Laws.the-laws
+    𝓤 H A W; makes = Laws''''.makes Places.the-type Laws.the-plain 𝓤 H A; in-mem = Local.mem-whole 𝓤 H A W (Declared.row Places.the-type); of-mem =
+    Local.whole-mem 𝓤 H A W (Declared.row Places.the-type); }) ∷ (Value.pVal record { ty = Declared.row RelayPacket.the-type; one = Path.refl; val =
+    Laws''''.val RelayPacket.the-type Laws'.the-laws; tells = Laws''''.tells RelayPacket.the-type Laws'.the-laws; still = Laws''''.still
+    RelayPacket.the-type Laws'.the-copy Exit.yes; row = Rows.whole (Declared.row RelayPacket.the-type); rd = λ x. x; mk = λ x. x; } λ M 𝓤 H A W.
+    record { copies = Laws''''.copy RelayPacket.the-type Laws'.the-copy 𝓤 H A W; lawful = Laws''''.lawful RelayPacket.the-type Laws'.the-laws 𝓤 H A W;
+    makes = Laws''''.makes RelayPacket.the-type Laws'.the-plain 𝓤 H A; in-mem = Local.mem-whole 𝓤 H A W (Declared.row RelayPacket.the-type); of-mem =
     Local.whole-mem 𝓤 H A W (Declared.row RelayPacket.the-type); }) ∷ (ShrSlice.pShrS (Referent.rtF (Referent.fInt Syntax.w8)) 3 tt) ∷ (ShrSlice.pShrS
     (Referent.rtF (Referent.fInt Syntax.w8)) 4 tt) ∷ List.[]
 abbrev pub r·3 : Kinds.RK 5
-r·3 = Value.rVal record { ty = Declared.row Relayed.the-type; one = Path.refl; val = Laws'''.val Relayed.the-type Laws''.the-laws; tells =
-    Laws'''.tells Relayed.the-type Laws''.the-laws; still = Laws'''.still Relayed.the-type Laws''.the-copy Exit.yes; row = Rows.whole (Declared.row
-    Relayed.the-type); rd = λ x. x; mk = λ x. x; } λ M 𝓤 H A W. record { copies = Laws'''.copy Relayed.the-type Laws''.the-copy 𝓤 H A W; lawful =
-    Laws'''.lawful Relayed.the-type Laws''.the-laws 𝓤 H A W; makes = Laws'''.makes Relayed.the-type Laws''.the-plain 𝓤 H A; in-mem = Local.mem-whole 𝓤
-    H A W (Declared.row Relayed.the-type); of-mem = Local.whole-mem 𝓤 H A W (Declared.row Relayed.the-type); }
+r·3 = Value.rVal record { ty = Declared.row Relayed.the-type; one = Path.refl; val = Laws''''.val Relayed.the-type Laws'''.the-laws; tells =
+    Laws''''.tells Relayed.the-type Laws'''.the-laws; still = Laws''''.still Relayed.the-type Laws'''.the-copy Exit.yes; row = Rows.whole
+    (Declared.row Relayed.the-type); rd = λ x. x; mk = λ x. x; } λ M 𝓤 H A W. record { copies = Laws''''.copy Relayed.the-type Laws'''.the-copy 𝓤 H A
+    W; lawful = Laws''''.lawful Relayed.the-type Laws'''.the-laws 𝓤 H A W; makes = Laws''''.makes Relayed.the-type Laws'''.the-plain 𝓤 H A; in-mem =
+    Local.mem-whole 𝓤 H A W (Declared.row Relayed.the-type); of-mem = Local.whole-mem 𝓤 H A W (Declared.row Relayed.the-type); }
 abbrev pub ps·4 : List.List (Kinds.PK 6)
 ps·4 = (MutSlice.pMutS RelayPending.row 0 tt) ∷ (MutSlice.pMutS RelayCircuit.row 1 tt) ∷ (MutSlice.pMutS InflightAction.row 2 tt) ∷ (MutSlice.pMutS
     (Referent.rtF (Referent.fInt Syntax.w32)) 3 tt) ∷ (Value.pVal record { ty = Declared.row OpaqueRelayRuntime.the-type; one = Path.refl; val =
-    Laws'''.val OpaqueRelayRuntime.the-type Laws'.the-laws; tells = Laws'''.tells OpaqueRelayRuntime.the-type Laws'.the-laws; still = Laws'''.still
-    OpaqueRelayRuntime.the-type Laws'.the-copy Exit.yes; row = Rows.whole (Declared.row OpaqueRelayRuntime.the-type); rd = λ x. x; mk = λ x. x; } λ M
-    𝓤 H A W. record { copies = Laws'''.copy OpaqueRelayRuntime.the-type Laws'.the-copy 𝓤 H A W; lawful = Laws'''.lawful OpaqueRelayRuntime.the-type
-    Laws'.the-laws 𝓤 H A W; makes = Laws'''.makes OpaqueRelayRuntime.the-type Laws'.the-plain 𝓤 H A; in-mem = Local.mem-whole 𝓤 H A W (Declared.row
-    OpaqueRelayRuntime.the-type); of-mem = Local.whole-mem 𝓤 H A W (Declared.row OpaqueRelayRuntime.the-type); }) ∷ (Value.pVal record { ty =
-    Declared.row RelayPacket.the-type; one = Path.refl; val = Laws'''.val RelayPacket.the-type Laws.the-laws; tells = Laws'''.tells
-    RelayPacket.the-type Laws.the-laws; still = Laws'''.still RelayPacket.the-type Laws.the-copy Exit.yes; row = Rows.whole (Declared.row
-    RelayPacket.the-type); rd = λ x. x; mk = λ x. x; } λ M 𝓤 H A W. record { copies = Laws'''.copy RelayPacket.the-type Laws.the-copy 𝓤 H A W; lawful
-    = Laws'''.lawful RelayPacket.the-type Laws.the-laws 𝓤 H A W; makes = Laws'''.makes RelayPacket.the-type Laws.the-plain 𝓤 H A; in-mem =
-    Local.mem-whole 𝓤 H A W (Declared.row RelayPacket.the-type); of-mem = Local.whole-mem 𝓤 H A W (Declared.row RelayPacket.the-type); }) ∷
-    (ShrSlice.pShrS (Referent.rtF (Referent.fInt Syntax.w8)) 4 tt) ∷ (ShrSlice.pShrS (Referent.rtF (Referent.fInt Syntax.w8)) 5 tt) ∷ List.[]
+    Laws''''.val OpaqueRelayRuntime.the-type Laws''.the-laws; tells = Laws''''.tells OpaqueRelayRuntime.the-type Laws''.the-laws; still =
+    Laws''''.still OpaqueRelayRuntime.the-type Laws''.the-copy Exit.yes; row = Rows.whole (Declared.row OpaqueRelayRuntime.the-type); rd = λ x. x; mk
+    = λ x. x; } λ M 𝓤 H A W. record { copies = Laws''''.copy OpaqueRelayRuntime.the-type Laws''.the-copy 𝓤 H A W; lawful = Laws''''.lawful
+    OpaqueRelayRuntime.the-type Laws''.the-laws 𝓤 H A W; makes = Laws''''.makes OpaqueRelayRuntime.the-type Laws''.the-plain 𝓤 H A; in-mem =
+    Local.mem-whole 𝓤 H A W (Declared.row OpaqueRelayRuntime.the-type); of-mem = Local.whole-mem 𝓤 H A W (Declared.row OpaqueRelayRuntime.the-type);
+    }) ∷ (Value.pVal record { ty = Declared.row Places.the-type; one = Path.refl; val = Laws''''.val Places.the-type Laws.the-laws; tells =
+    Laws''''.tells Places.the-type Laws.the-laws; still = Laws''''.still Places.the-type Laws.the-copy Exit.yes; row = Rows.whole (Declared.row
+    Places.the-type); rd = λ x. x; mk = λ x. x; } λ M 𝓤 H A W. record { copies = Laws''''.copy Places.the-type Laws.the-copy 𝓤 H A W; lawful =
+    Laws''''.lawful Places.the-type Laws.the-laws 𝓤 H A W; makes = Laws''''.makes Places.the-type Laws.the-plain 𝓤 H A; in-mem = Local.mem-whole 𝓤 H A
+    W (Declared.row Places.the-type); of-mem = Local.whole-mem 𝓤 H A W (Declared.row Places.the-type); }) ∷ (Value.pVal record { ty = Declared.row
+    RelayPacket.the-type; one = Path.refl; val = Laws''''.val RelayPacket.the-type Laws'.the-laws; tells = Laws''''.tells RelayPacket.the-type
+    Laws'.the-laws; still = Laws''''.still RelayPacket.the-type Laws'.the-copy Exit.yes; row = Rows.whole (Declared.row RelayPacket.the-type); rd = λ
+    x. x; mk = λ x. x; } λ M 𝓤 H A W. record { copies = Laws''''.copy RelayPacket.the-type Laws'.the-copy 𝓤 H A W; lawful = Laws''''.lawful
+    RelayPacket.the-type Laws'.the-laws 𝓤 H A W; makes = Laws''''.makes RelayPacket.the-type Laws'.the-plain 𝓤 H A; in-mem = Local.mem-whole 𝓤 H A W
+    (Declared.row RelayPacket.the-type); of-mem = Local.whole-mem 𝓤 H A W (Declared.row RelayPacket.the-type); }) ∷ (ShrSlice.pShrS (Referent.rtF
+    (Referent.fInt Syntax.w8)) 4 tt) ∷ (ShrSlice.pShrS (Referent.rtF (Referent.fInt Syntax.w8)) 5 tt) ∷ List.[]
 abbrev pub r·4 : Kinds.RK 6
-r·4 = Value.rVal record { ty = Declared.row Relayed.the-type; one = Path.refl; val = Laws'''.val Relayed.the-type Laws''.the-laws; tells =
-    Laws'''.tells Relayed.the-type Laws''.the-laws; still = Laws'''.still Relayed.the-type Laws''.the-copy Exit.yes; row = Rows.whole (Declared.row
-    Relayed.the-type); rd = λ x. x; mk = λ x. x; } λ M 𝓤 H A W. record { copies = Laws'''.copy Relayed.the-type Laws''.the-copy 𝓤 H A W; lawful =
-    Laws'''.lawful Relayed.the-type Laws''.the-laws 𝓤 H A W; makes = Laws'''.makes Relayed.the-type Laws''.the-plain 𝓤 H A; in-mem = Local.mem-whole 𝓤
-    H A W (Declared.row Relayed.the-type); of-mem = Local.whole-mem 𝓤 H A W (Declared.row Relayed.the-type); }
+r·4 = Value.rVal record { ty = Declared.row Relayed.the-type; one = Path.refl; val = Laws''''.val Relayed.the-type Laws'''.the-laws; tells =
+    Laws''''.tells Relayed.the-type Laws'''.the-laws; still = Laws''''.still Relayed.the-type Laws'''.the-copy Exit.yes; row = Rows.whole
+    (Declared.row Relayed.the-type); rd = λ x. x; mk = λ x. x; } λ M 𝓤 H A W. record { copies = Laws''''.copy Relayed.the-type Laws'''.the-copy 𝓤 H A
+    W; lawful = Laws''''.lawful Relayed.the-type Laws'''.the-laws 𝓤 H A W; makes = Laws''''.makes Relayed.the-type Laws'''.the-plain 𝓤 H A; in-mem =
+    Local.mem-whole 𝓤 H A W (Declared.row Relayed.the-type); of-mem = Local.whole-mem 𝓤 H A W (Declared.row Relayed.the-type); }
 abbrev pub ps·5 : List.List (Kinds.PK 0)
-ps·5 = (Value.pVal record { ty = Declared.row OpaqueRelayRuntime.the-type; one = Path.refl; val = Laws'''.val OpaqueRelayRuntime.the-type
-    Laws'.the-laws; tells = Laws'''.tells OpaqueRelayRuntime.the-type Laws'.the-laws; still = Laws'''.still OpaqueRelayRuntime.the-type Laws'.the-copy
-    Exit.yes; row = Rows.whole (Declared.row OpaqueRelayRuntime.the-type); rd = λ x. x; mk = λ x. x; } λ M 𝓤 H A W. record { copies = Laws'''.copy
-    OpaqueRelayRuntime.the-type Laws'.the-copy 𝓤 H A W; lawful = Laws'''.lawful OpaqueRelayRuntime.the-type Laws'.the-laws 𝓤 H A W; makes =
-    Laws'''.makes OpaqueRelayRuntime.the-type Laws'.the-plain 𝓤 H A; in-mem = Local.mem-whole 𝓤 H A W (Declared.row OpaqueRelayRuntime.the-type);
-    of-mem = Local.whole-mem 𝓤 H A W (Declared.row OpaqueRelayRuntime.the-type); }) ∷ List.[]
+ps·5 = (Value.pVal record { ty = Declared.row OpaqueRelayRuntime.the-type; one = Path.refl; val = Laws''''.val OpaqueRelayRuntime.the-type
+    Laws''.the-laws; tells = Laws''''.tells OpaqueRelayRuntime.the-type Laws''.the-laws; still = Laws''''.still OpaqueRelayRuntime.the-type
+    Laws''.the-copy Exit.yes; row = Rows.whole (Declared.row OpaqueRelayRuntime.the-type); rd = λ x. x; mk = λ x. x; } λ M 𝓤 H A W. record { copies =
+    Laws''''.copy OpaqueRelayRuntime.the-type Laws''.the-copy 𝓤 H A W; lawful = Laws''''.lawful OpaqueRelayRuntime.the-type Laws''.the-laws 𝓤 H A W;
+    makes = Laws''''.makes OpaqueRelayRuntime.the-type Laws''.the-plain 𝓤 H A; in-mem = Local.mem-whole 𝓤 H A W (Declared.row
+    OpaqueRelayRuntime.the-type); of-mem = Local.whole-mem 𝓤 H A W (Declared.row OpaqueRelayRuntime.the-type); }) ∷ (Value.pVal record { ty =
+    Declared.row Places.the-type; one = Path.refl; val = Laws''''.val Places.the-type Laws.the-laws; tells = Laws''''.tells Places.the-type
+    Laws.the-laws; still = Laws''''.still Places.the-type Laws.the-copy Exit.yes; row = Rows.whole (Declared.row Places.the-type); rd = λ x. x; mk = λ
+    x. x; } λ M 𝓤 H A W. record { copies = Laws''''.copy Places.the-type Laws.the-copy 𝓤 H A W; lawful = Laws''''.lawful Places.the-type Laws.the-laws
+    𝓤 H A W; makes = Laws''''.makes Places.the-type Laws.the-plain 𝓤 H A; in-mem = Local.mem-whole 𝓤 H A W (Declared.row Places.the-type); of-mem =
+    Local.whole-mem 𝓤 H A W (Declared.row Places.the-type); }) ∷ List.[]
 abbrev pub r·5 : Kinds.RK 0
-r·5 = Value.rVal record { ty = Declared.row Relayed.the-type; one = Path.refl; val = Laws'''.val Relayed.the-type Laws''.the-laws; tells =
-    Laws'''.tells Relayed.the-type Laws''.the-laws; still = Laws'''.still Relayed.the-type Laws''.the-copy Exit.yes; row = Rows.whole (Declared.row
-    Relayed.the-type); rd = λ x. x; mk = λ x. x; } λ M 𝓤 H A W. record { copies = Laws'''.copy Relayed.the-type Laws''.the-copy 𝓤 H A W; lawful =
-    Laws'''.lawful Relayed.the-type Laws''.the-laws 𝓤 H A W; makes = Laws'''.makes Relayed.the-type Laws''.the-plain 𝓤 H A; in-mem = Local.mem-whole 𝓤
-    H A W (Declared.row Relayed.the-type); of-mem = Local.whole-mem 𝓤 H A W (Declared.row Relayed.the-type); }
+r·5 = Value.rVal record { ty = Declared.row Relayed.the-type; one = Path.refl; val = Laws''''.val Relayed.the-type Laws'''.the-laws; tells =
+    Laws''''.tells Relayed.the-type Laws'''.the-laws; still = Laws''''.still Relayed.the-type Laws'''.the-copy Exit.yes; row = Rows.whole
+    (Declared.row Relayed.the-type); rd = λ x. x; mk = λ x. x; } λ M 𝓤 H A W. record { copies = Laws''''.copy Relayed.the-type Laws'''.the-copy 𝓤 H A
+    W; lawful = Laws''''.lawful Relayed.the-type Laws'''.the-laws 𝓤 H A W; makes = Laws''''.makes Relayed.the-type Laws'''.the-plain 𝓤 H A; in-mem =
+    Local.mem-whole 𝓤 H A W (Declared.row Relayed.the-type); of-mem = Local.whole-mem 𝓤 H A W (Declared.row Relayed.the-type); }
 abbrev pub hs : List.List Syntax.Home
 hs = Syntax.valueLocal ∷ Syntax.valueLocal ∷ Syntax.valueLocal ∷ Syntax.valueLocal ∷ Syntax.valueLocal ∷ Syntax.valueLocal ∷ Syntax.valueLocal ∷
     Syntax.valueLocal ∷ Syntax.valueLocal ∷ Syntax.valueLocal ∷ Syntax.valueLocal ∷ Syntax.valueLocal ∷ Syntax.valueLocal ∷ Syntax.valueLocal ∷
@@ -254,39 +291,41 @@ hs = Syntax.valueLocal ∷ Syntax.valueLocal ∷ Syntax.valueLocal ∷ Syntax.va
     Syntax.valueLocal ∷ Syntax.valueLocal ∷ Syntax.valueLocal ∷ Syntax.valueLocal ∷ Syntax.valueLocal ∷ Syntax.valueLocal ∷ Syntax.valueLocal ∷
     Syntax.valueLocal ∷ Syntax.valueLocal ∷ Syntax.valueLocal ∷ Syntax.valueLocal ∷ Syntax.valueLocal ∷ Syntax.valueLocal ∷ Syntax.valueLocal ∷
     Syntax.valueLocal ∷ Syntax.valueLocal ∷ Syntax.valueLocal ∷ Syntax.valueLocal ∷ Syntax.valueLocal ∷ Syntax.valueLocal ∷ Syntax.valueLocal ∷
-    Syntax.valueLocal ∷ Syntax.valueLocal ∷ Syntax.valueLocal ∷ Syntax.valueLocal ∷ Syntax.valueLocal ∷ Syntax.valueLocal ∷ List.[]
+    Syntax.valueLocal ∷ Syntax.valueLocal ∷ Syntax.valueLocal ∷ Syntax.valueLocal ∷ Syntax.valueLocal ∷ Syntax.valueLocal ∷ Syntax.valueLocal ∷
+    List.[]
 abbrev b0 : Syntax.Body
-b0 = Syntax.assign (Syntax.place 12 List.[]) (Syntax.rvOpd (Syntax.copy (Syntax.place 7 ((Syntax.field 0) ∷ List.[]))))
+b0 = Syntax.assign (Syntax.place 13 List.[]) (Syntax.rvOpd (Syntax.copy (Syntax.place 8 ((Syntax.field 0) ∷ List.[]))))
 abbrev b1 : Syntax.Body
-b1 = Syntax.assign (Syntax.place 14 List.[]) (Syntax.addrOf (Syntax.place 1 ((Syntax.field 0) ∷ (Syntax.deref RelayPending.ty) ∷ List.[])))
+b1 = Syntax.assign (Syntax.place 15 List.[]) (Syntax.addrOf (Syntax.place 1 ((Syntax.field 0) ∷ (Syntax.deref RelayPending.ty) ∷ List.[])))
 abbrev b2 : Syntax.Body
-b2 = Syntax.assign (Syntax.place 15 List.[]) (Syntax.aggregate ((Syntax.copy (Syntax.place 14 List.[])) ∷ (Syntax.copy (Syntax.place 1 ((Syntax.field
+b2 = Syntax.assign (Syntax.place 16 List.[]) (Syntax.aggregate ((Syntax.copy (Syntax.place 15 List.[])) ∷ (Syntax.copy (Syntax.place 1 ((Syntax.field
     1) ∷ List.[]))) ∷ List.[]))
 abbrev b3 : Syntax.Body
-b3 = Syntax.assign (Syntax.place 16 List.[]) (Syntax.addrOf (Syntax.place 2 ((Syntax.field 0) ∷ (Syntax.deref RelayCircuit.ty) ∷ List.[])))
+b3 = Syntax.assign (Syntax.place 17 List.[]) (Syntax.addrOf (Syntax.place 2 ((Syntax.field 0) ∷ (Syntax.deref RelayCircuit.ty) ∷ List.[])))
 abbrev b4 : Syntax.Body
-b4 = Syntax.assign (Syntax.place 17 List.[]) (Syntax.aggregate ((Syntax.copy (Syntax.place 16 List.[])) ∷ (Syntax.copy (Syntax.place 2 ((Syntax.field
+b4 = Syntax.assign (Syntax.place 18 List.[]) (Syntax.aggregate ((Syntax.copy (Syntax.place 17 List.[])) ∷ (Syntax.copy (Syntax.place 2 ((Syntax.field
     1) ∷ List.[]))) ∷ List.[]))
 abbrev b5 : Syntax.Body
-b5 = Syntax.assign (Syntax.place 18 List.[]) (Syntax.addrOf (Syntax.place 3 ((Syntax.field 0) ∷ (Syntax.deref ReservationUsage.ty) ∷ List.[])))
+b5 = Syntax.assign (Syntax.place 19 List.[]) (Syntax.addrOf (Syntax.place 3 ((Syntax.field 0) ∷ (Syntax.deref ReservationUsage.ty) ∷ List.[])))
 abbrev b6 : Syntax.Body
-b6 = Syntax.assign (Syntax.place 19 List.[]) (Syntax.aggregate ((Syntax.copy (Syntax.place 18 List.[])) ∷ (Syntax.copy (Syntax.place 3 ((Syntax.field
+b6 = Syntax.assign (Syntax.place 20 List.[]) (Syntax.aggregate ((Syntax.copy (Syntax.place 19 List.[])) ∷ (Syntax.copy (Syntax.place 3 ((Syntax.field
     1) ∷ List.[]))) ∷ List.[]))
 abbrev b7 : Syntax.Body
-b7 = Syntax.assign (Syntax.place 20 List.[]) (Syntax.addrOf (Syntax.place 4 ((Syntax.field 0) ∷ (Syntax.deref InflightAction.ty) ∷ List.[])))
+b7 = Syntax.assign (Syntax.place 21 List.[]) (Syntax.addrOf (Syntax.place 4 ((Syntax.field 0) ∷ (Syntax.deref InflightAction.ty) ∷ List.[])))
 abbrev b8 : Syntax.Body
-b8 = Syntax.assign (Syntax.place 21 List.[]) (Syntax.aggregate ((Syntax.copy (Syntax.place 20 List.[])) ∷ (Syntax.copy (Syntax.place 4 ((Syntax.field
+b8 = Syntax.assign (Syntax.place 22 List.[]) (Syntax.aggregate ((Syntax.copy (Syntax.place 21 List.[])) ∷ (Syntax.copy (Syntax.place 4 ((Syntax.field
     1) ∷ List.[]))) ∷ List.[]))
 abbrev b9 : Syntax.Body
-b9 = Syntax.assign (Syntax.place 22 List.[]) (Syntax.addrOf (Syntax.place 5 ((Syntax.field 0) ∷ (Syntax.deref (Syntax.tyInt Syntax.w32)) ∷ List.[])))
+b9 = Syntax.assign (Syntax.place 23 List.[]) (Syntax.addrOf (Syntax.place 5 ((Syntax.field 0) ∷ (Syntax.deref (Syntax.tyInt Syntax.w32)) ∷ List.[])))
 abbrev b10 : Syntax.Body
-b10 = Syntax.assign (Syntax.place 23 List.[]) (Syntax.aggregate ((Syntax.copy (Syntax.place 22 List.[])) ∷ (Syntax.copy (Syntax.place 5 ((Syntax.field
+b10 = Syntax.assign (Syntax.place 24 List.[]) (Syntax.aggregate ((Syntax.copy (Syntax.place 23 List.[])) ∷ (Syntax.copy (Syntax.place 5 ((Syntax.field
     1) ∷ List.[]))) ∷ List.[]))
 abbrev b11 : Syntax.Body
-b11 = Syntax.call "hnsr_circuit::handle_open::handle_open" ((Syntax.copy (Syntax.place 15 List.[])) ∷ (Syntax.copy (Syntax.place 17 List.[])) ∷
-    (Syntax.copy (Syntax.place 19 List.[])) ∷ (Syntax.copy (Syntax.place 21 List.[])) ∷ (Syntax.copy (Syntax.place 23 List.[])) ∷ (Syntax.copy
+b11 = Syntax.call "hnsr_circuit::handle_open::handle_open" ((Syntax.copy (Syntax.place 16 List.[])) ∷ (Syntax.copy (Syntax.place 18 List.[])) ∷
+    (Syntax.copy (Syntax.place 20 List.[])) ∷ (Syntax.copy (Syntax.place 22 List.[])) ∷ (Syntax.copy (Syntax.place 24 List.[])) ∷ (Syntax.copy
     (Syntax.place 6 List.[])) ∷ (Syntax.copy (Syntax.place 7 List.[])) ∷ (Syntax.copy (Syntax.place 8 List.[])) ∷ (Syntax.copy (Syntax.place 9
-    List.[])) ∷ (Syntax.copy (Syntax.place 10 List.[])) ∷ (Syntax.copy (Syntax.place 11 List.[])) ∷ List.[]) (Syntax.place 13 List.[])
+    List.[])) ∷ (Syntax.copy (Syntax.place 10 List.[])) ∷ (Syntax.copy (Syntax.place 11 List.[])) ∷ (Syntax.copy (Syntax.place 12 List.[])) ∷ List.[])
+    (Syntax.place 14 List.[])
 abbrev b12 : Syntax.Body
 b12 = Syntax.exit 1
 abbrev b13 : Syntax.Body
@@ -312,29 +351,30 @@ b22 = Syntax.seq b2 b21
 abbrev b23 : Syntax.Body
 b23 = Syntax.seq b1 b22
 abbrev b24 : Syntax.Body
-b24 = Syntax.assign (Syntax.place 24 List.[]) (Syntax.addrOf (Syntax.place 1 ((Syntax.field 0) ∷ (Syntax.deref RelayPending.ty) ∷ List.[])))
+b24 = Syntax.assign (Syntax.place 25 List.[]) (Syntax.addrOf (Syntax.place 1 ((Syntax.field 0) ∷ (Syntax.deref RelayPending.ty) ∷ List.[])))
 abbrev b25 : Syntax.Body
-b25 = Syntax.assign (Syntax.place 25 List.[]) (Syntax.aggregate ((Syntax.copy (Syntax.place 24 List.[])) ∷ (Syntax.copy (Syntax.place 1 ((Syntax.field
+b25 = Syntax.assign (Syntax.place 26 List.[]) (Syntax.aggregate ((Syntax.copy (Syntax.place 25 List.[])) ∷ (Syntax.copy (Syntax.place 1 ((Syntax.field
     1) ∷ List.[]))) ∷ List.[]))
 abbrev b26 : Syntax.Body
-b26 = Syntax.assign (Syntax.place 26 List.[]) (Syntax.addrOf (Syntax.place 2 ((Syntax.field 0) ∷ (Syntax.deref RelayCircuit.ty) ∷ List.[])))
+b26 = Syntax.assign (Syntax.place 27 List.[]) (Syntax.addrOf (Syntax.place 2 ((Syntax.field 0) ∷ (Syntax.deref RelayCircuit.ty) ∷ List.[])))
 abbrev b27 : Syntax.Body
-b27 = Syntax.assign (Syntax.place 27 List.[]) (Syntax.aggregate ((Syntax.copy (Syntax.place 26 List.[])) ∷ (Syntax.copy (Syntax.place 2 ((Syntax.field
+b27 = Syntax.assign (Syntax.place 28 List.[]) (Syntax.aggregate ((Syntax.copy (Syntax.place 27 List.[])) ∷ (Syntax.copy (Syntax.place 2 ((Syntax.field
     1) ∷ List.[]))) ∷ List.[]))
 abbrev b28 : Syntax.Body
-b28 = Syntax.assign (Syntax.place 28 List.[]) (Syntax.addrOf (Syntax.place 4 ((Syntax.field 0) ∷ (Syntax.deref InflightAction.ty) ∷ List.[])))
+b28 = Syntax.assign (Syntax.place 29 List.[]) (Syntax.addrOf (Syntax.place 4 ((Syntax.field 0) ∷ (Syntax.deref InflightAction.ty) ∷ List.[])))
 abbrev b29 : Syntax.Body
-b29 = Syntax.assign (Syntax.place 29 List.[]) (Syntax.aggregate ((Syntax.copy (Syntax.place 28 List.[])) ∷ (Syntax.copy (Syntax.place 4 ((Syntax.field
+b29 = Syntax.assign (Syntax.place 30 List.[]) (Syntax.aggregate ((Syntax.copy (Syntax.place 29 List.[])) ∷ (Syntax.copy (Syntax.place 4 ((Syntax.field
     1) ∷ List.[]))) ∷ List.[]))
 abbrev b30 : Syntax.Body
-b30 = Syntax.assign (Syntax.place 30 List.[]) (Syntax.addrOf (Syntax.place 5 ((Syntax.field 0) ∷ (Syntax.deref (Syntax.tyInt Syntax.w32)) ∷ List.[])))
+b30 = Syntax.assign (Syntax.place 31 List.[]) (Syntax.addrOf (Syntax.place 5 ((Syntax.field 0) ∷ (Syntax.deref (Syntax.tyInt Syntax.w32)) ∷ List.[])))
 abbrev b31 : Syntax.Body
-b31 = Syntax.assign (Syntax.place 31 List.[]) (Syntax.aggregate ((Syntax.copy (Syntax.place 30 List.[])) ∷ (Syntax.copy (Syntax.place 5 ((Syntax.field
+b31 = Syntax.assign (Syntax.place 32 List.[]) (Syntax.aggregate ((Syntax.copy (Syntax.place 31 List.[])) ∷ (Syntax.copy (Syntax.place 5 ((Syntax.field
     1) ∷ List.[]))) ∷ List.[]))
 abbrev b32 : Syntax.Body
-b32 = Syntax.call "hnsr_circuit::handle_accept::handle_accept" ((Syntax.copy (Syntax.place 25 List.[])) ∷ (Syntax.copy (Syntax.place 27 List.[])) ∷
-    (Syntax.copy (Syntax.place 29 List.[])) ∷ (Syntax.copy (Syntax.place 31 List.[])) ∷ (Syntax.copy (Syntax.place 6 List.[])) ∷ (Syntax.copy
-    (Syntax.place 7 List.[])) ∷ (Syntax.copy (Syntax.place 8 List.[])) ∷ (Syntax.copy (Syntax.place 9 List.[])) ∷ List.[]) (Syntax.place 13 List.[])
+b32 = Syntax.call "hnsr_circuit::handle_accept::handle_accept" ((Syntax.copy (Syntax.place 26 List.[])) ∷ (Syntax.copy (Syntax.place 28 List.[])) ∷
+    (Syntax.copy (Syntax.place 30 List.[])) ∷ (Syntax.copy (Syntax.place 32 List.[])) ∷ (Syntax.copy (Syntax.place 6 List.[])) ∷ (Syntax.copy
+    (Syntax.place 7 List.[])) ∷ (Syntax.copy (Syntax.place 8 List.[])) ∷ (Syntax.copy (Syntax.place 9 List.[])) ∷ (Syntax.copy (Syntax.place 10
+    List.[])) ∷ List.[]) (Syntax.place 14 List.[])
 abbrev b33 : Syntax.Body
 b33 = Syntax.exit 1
 abbrev b34 : Syntax.Body
@@ -356,29 +396,30 @@ b41 = Syntax.seq b25 b40
 abbrev b42 : Syntax.Body
 b42 = Syntax.seq b24 b41
 abbrev b43 : Syntax.Body
-b43 = Syntax.assign (Syntax.place 32 List.[]) (Syntax.addrOf (Syntax.place 2 ((Syntax.field 0) ∷ (Syntax.deref RelayCircuit.ty) ∷ List.[])))
+b43 = Syntax.assign (Syntax.place 33 List.[]) (Syntax.addrOf (Syntax.place 2 ((Syntax.field 0) ∷ (Syntax.deref RelayCircuit.ty) ∷ List.[])))
 abbrev b44 : Syntax.Body
-b44 = Syntax.assign (Syntax.place 33 List.[]) (Syntax.aggregate ((Syntax.copy (Syntax.place 32 List.[])) ∷ (Syntax.copy (Syntax.place 2 ((Syntax.field
+b44 = Syntax.assign (Syntax.place 34 List.[]) (Syntax.aggregate ((Syntax.copy (Syntax.place 33 List.[])) ∷ (Syntax.copy (Syntax.place 2 ((Syntax.field
     1) ∷ List.[]))) ∷ List.[]))
 abbrev b45 : Syntax.Body
-b45 = Syntax.assign (Syntax.place 34 List.[]) (Syntax.addrOf (Syntax.place 3 ((Syntax.field 0) ∷ (Syntax.deref ReservationUsage.ty) ∷ List.[])))
+b45 = Syntax.assign (Syntax.place 35 List.[]) (Syntax.addrOf (Syntax.place 3 ((Syntax.field 0) ∷ (Syntax.deref ReservationUsage.ty) ∷ List.[])))
 abbrev b46 : Syntax.Body
-b46 = Syntax.assign (Syntax.place 35 List.[]) (Syntax.aggregate ((Syntax.copy (Syntax.place 34 List.[])) ∷ (Syntax.copy (Syntax.place 3 ((Syntax.field
+b46 = Syntax.assign (Syntax.place 36 List.[]) (Syntax.aggregate ((Syntax.copy (Syntax.place 35 List.[])) ∷ (Syntax.copy (Syntax.place 3 ((Syntax.field
     1) ∷ List.[]))) ∷ List.[]))
 abbrev b47 : Syntax.Body
-b47 = Syntax.assign (Syntax.place 36 List.[]) (Syntax.addrOf (Syntax.place 4 ((Syntax.field 0) ∷ (Syntax.deref InflightAction.ty) ∷ List.[])))
+b47 = Syntax.assign (Syntax.place 37 List.[]) (Syntax.addrOf (Syntax.place 4 ((Syntax.field 0) ∷ (Syntax.deref InflightAction.ty) ∷ List.[])))
 abbrev b48 : Syntax.Body
-b48 = Syntax.assign (Syntax.place 37 List.[]) (Syntax.aggregate ((Syntax.copy (Syntax.place 36 List.[])) ∷ (Syntax.copy (Syntax.place 4 ((Syntax.field
+b48 = Syntax.assign (Syntax.place 38 List.[]) (Syntax.aggregate ((Syntax.copy (Syntax.place 37 List.[])) ∷ (Syntax.copy (Syntax.place 4 ((Syntax.field
     1) ∷ List.[]))) ∷ List.[]))
 abbrev b49 : Syntax.Body
-b49 = Syntax.assign (Syntax.place 38 List.[]) (Syntax.addrOf (Syntax.place 5 ((Syntax.field 0) ∷ (Syntax.deref (Syntax.tyInt Syntax.w32)) ∷ List.[])))
+b49 = Syntax.assign (Syntax.place 39 List.[]) (Syntax.addrOf (Syntax.place 5 ((Syntax.field 0) ∷ (Syntax.deref (Syntax.tyInt Syntax.w32)) ∷ List.[])))
 abbrev b50 : Syntax.Body
-b50 = Syntax.assign (Syntax.place 39 List.[]) (Syntax.aggregate ((Syntax.copy (Syntax.place 38 List.[])) ∷ (Syntax.copy (Syntax.place 5 ((Syntax.field
+b50 = Syntax.assign (Syntax.place 40 List.[]) (Syntax.aggregate ((Syntax.copy (Syntax.place 39 List.[])) ∷ (Syntax.copy (Syntax.place 5 ((Syntax.field
     1) ∷ List.[]))) ∷ List.[]))
 abbrev b51 : Syntax.Body
-b51 = Syntax.call "hnsr_circuit::handle_data::handle_data" ((Syntax.copy (Syntax.place 33 List.[])) ∷ (Syntax.copy (Syntax.place 35 List.[])) ∷
-    (Syntax.copy (Syntax.place 37 List.[])) ∷ (Syntax.copy (Syntax.place 39 List.[])) ∷ (Syntax.copy (Syntax.place 6 List.[])) ∷ (Syntax.copy
-    (Syntax.place 7 List.[])) ∷ (Syntax.copy (Syntax.place 8 List.[])) ∷ (Syntax.copy (Syntax.place 9 List.[])) ∷ List.[]) (Syntax.place 13 List.[])
+b51 = Syntax.call "hnsr_circuit::handle_data::handle_data" ((Syntax.copy (Syntax.place 34 List.[])) ∷ (Syntax.copy (Syntax.place 36 List.[])) ∷
+    (Syntax.copy (Syntax.place 38 List.[])) ∷ (Syntax.copy (Syntax.place 40 List.[])) ∷ (Syntax.copy (Syntax.place 6 List.[])) ∷ (Syntax.copy
+    (Syntax.place 7 List.[])) ∷ (Syntax.copy (Syntax.place 8 List.[])) ∷ (Syntax.copy (Syntax.place 9 List.[])) ∷ (Syntax.copy (Syntax.place 10
+    List.[])) ∷ List.[]) (Syntax.place 14 List.[])
 abbrev b52 : Syntax.Body
 b52 = Syntax.exit 1
 abbrev b53 : Syntax.Body
@@ -400,24 +441,24 @@ b60 = Syntax.seq b44 b59
 abbrev b61 : Syntax.Body
 b61 = Syntax.seq b43 b60
 abbrev b62 : Syntax.Body
-b62 = Syntax.assign (Syntax.place 40 List.[]) (Syntax.addrOf (Syntax.place 2 ((Syntax.field 0) ∷ (Syntax.deref RelayCircuit.ty) ∷ List.[])))
+b62 = Syntax.assign (Syntax.place 41 List.[]) (Syntax.addrOf (Syntax.place 2 ((Syntax.field 0) ∷ (Syntax.deref RelayCircuit.ty) ∷ List.[])))
 abbrev b63 : Syntax.Body
-b63 = Syntax.assign (Syntax.place 41 List.[]) (Syntax.aggregate ((Syntax.copy (Syntax.place 40 List.[])) ∷ (Syntax.copy (Syntax.place 2 ((Syntax.field
+b63 = Syntax.assign (Syntax.place 42 List.[]) (Syntax.aggregate ((Syntax.copy (Syntax.place 41 List.[])) ∷ (Syntax.copy (Syntax.place 2 ((Syntax.field
     1) ∷ List.[]))) ∷ List.[]))
 abbrev b64 : Syntax.Body
-b64 = Syntax.assign (Syntax.place 42 List.[]) (Syntax.addrOf (Syntax.place 4 ((Syntax.field 0) ∷ (Syntax.deref InflightAction.ty) ∷ List.[])))
+b64 = Syntax.assign (Syntax.place 43 List.[]) (Syntax.addrOf (Syntax.place 4 ((Syntax.field 0) ∷ (Syntax.deref InflightAction.ty) ∷ List.[])))
 abbrev b65 : Syntax.Body
-b65 = Syntax.assign (Syntax.place 43 List.[]) (Syntax.aggregate ((Syntax.copy (Syntax.place 42 List.[])) ∷ (Syntax.copy (Syntax.place 4 ((Syntax.field
+b65 = Syntax.assign (Syntax.place 44 List.[]) (Syntax.aggregate ((Syntax.copy (Syntax.place 43 List.[])) ∷ (Syntax.copy (Syntax.place 4 ((Syntax.field
     1) ∷ List.[]))) ∷ List.[]))
 abbrev b66 : Syntax.Body
-b66 = Syntax.assign (Syntax.place 44 List.[]) (Syntax.addrOf (Syntax.place 5 ((Syntax.field 0) ∷ (Syntax.deref (Syntax.tyInt Syntax.w32)) ∷ List.[])))
+b66 = Syntax.assign (Syntax.place 45 List.[]) (Syntax.addrOf (Syntax.place 5 ((Syntax.field 0) ∷ (Syntax.deref (Syntax.tyInt Syntax.w32)) ∷ List.[])))
 abbrev b67 : Syntax.Body
-b67 = Syntax.assign (Syntax.place 45 List.[]) (Syntax.aggregate ((Syntax.copy (Syntax.place 44 List.[])) ∷ (Syntax.copy (Syntax.place 5 ((Syntax.field
+b67 = Syntax.assign (Syntax.place 46 List.[]) (Syntax.aggregate ((Syntax.copy (Syntax.place 45 List.[])) ∷ (Syntax.copy (Syntax.place 5 ((Syntax.field
     1) ∷ List.[]))) ∷ List.[]))
 abbrev b68 : Syntax.Body
-b68 = Syntax.call "hnsr_circuit::handle_window::handle_window" ((Syntax.copy (Syntax.place 41 List.[])) ∷ (Syntax.copy (Syntax.place 43 List.[])) ∷
-    (Syntax.copy (Syntax.place 45 List.[])) ∷ (Syntax.copy (Syntax.place 6 List.[])) ∷ (Syntax.copy (Syntax.place 7 List.[])) ∷ (Syntax.copy
-    (Syntax.place 8 List.[])) ∷ (Syntax.copy (Syntax.place 9 List.[])) ∷ List.[]) (Syntax.place 13 List.[])
+b68 = Syntax.call "hnsr_circuit::handle_window::handle_window" ((Syntax.copy (Syntax.place 42 List.[])) ∷ (Syntax.copy (Syntax.place 44 List.[])) ∷
+    (Syntax.copy (Syntax.place 46 List.[])) ∷ (Syntax.copy (Syntax.place 6 List.[])) ∷ (Syntax.copy (Syntax.place 7 List.[])) ∷ (Syntax.copy
+    (Syntax.place 8 List.[])) ∷ (Syntax.copy (Syntax.place 9 List.[])) ∷ (Syntax.copy (Syntax.place 10 List.[])) ∷ List.[]) (Syntax.place 14 List.[])
 abbrev b69 : Syntax.Body
 b69 = Syntax.exit 1
 abbrev b70 : Syntax.Body
@@ -437,41 +478,42 @@ b76 = Syntax.seq b62 b75
 abbrev b77 : Syntax.Body
 b77 = Syntax.exit 0
 abbrev b78 : Syntax.Body
-b78 = Syntax.assign (Syntax.place 46 List.[]) (Syntax.op2 (Syntax.lt Syntax.unsigned) (Syntax.copy (Syntax.place 12 List.[])) (Syntax.int Syntax.w8
+b78 = Syntax.assign (Syntax.place 47 List.[]) (Syntax.op2 (Syntax.lt Syntax.unsigned) (Syntax.copy (Syntax.place 13 List.[])) (Syntax.int Syntax.w8
     13))
 abbrev b79 : Syntax.Body
 b79 = Syntax.exit 0
 abbrev b80 : Syntax.Body
 b80 = Syntax.skip
 abbrev b81 : Syntax.Body
-b81 = Syntax.cond (Syntax.copy (Syntax.place 46 List.[])) b79 b80
+b81 = Syntax.cond (Syntax.copy (Syntax.place 47 List.[])) b79 b80
 abbrev b82 : Syntax.Body
-b82 = Syntax.assign (Syntax.place 46 List.[]) (Syntax.op2 (Syntax.lt Syntax.unsigned) (Syntax.copy (Syntax.place 12 List.[])) (Syntax.int Syntax.w8
+b82 = Syntax.assign (Syntax.place 47 List.[]) (Syntax.op2 (Syntax.lt Syntax.unsigned) (Syntax.copy (Syntax.place 13 List.[])) (Syntax.int Syntax.w8
     21))
 abbrev b83 : Syntax.Body
-b83 = Syntax.assign (Syntax.place 47 List.[]) (Syntax.addrOf (Syntax.place 1 ((Syntax.field 0) ∷ (Syntax.deref RelayPending.ty) ∷ List.[])))
+b83 = Syntax.assign (Syntax.place 48 List.[]) (Syntax.addrOf (Syntax.place 1 ((Syntax.field 0) ∷ (Syntax.deref RelayPending.ty) ∷ List.[])))
 abbrev b84 : Syntax.Body
-b84 = Syntax.assign (Syntax.place 48 List.[]) (Syntax.aggregate ((Syntax.copy (Syntax.place 47 List.[])) ∷ (Syntax.copy (Syntax.place 1 ((Syntax.field
+b84 = Syntax.assign (Syntax.place 49 List.[]) (Syntax.aggregate ((Syntax.copy (Syntax.place 48 List.[])) ∷ (Syntax.copy (Syntax.place 1 ((Syntax.field
     1) ∷ List.[]))) ∷ List.[]))
 abbrev b85 : Syntax.Body
-b85 = Syntax.assign (Syntax.place 49 List.[]) (Syntax.addrOf (Syntax.place 2 ((Syntax.field 0) ∷ (Syntax.deref RelayCircuit.ty) ∷ List.[])))
+b85 = Syntax.assign (Syntax.place 50 List.[]) (Syntax.addrOf (Syntax.place 2 ((Syntax.field 0) ∷ (Syntax.deref RelayCircuit.ty) ∷ List.[])))
 abbrev b86 : Syntax.Body
-b86 = Syntax.assign (Syntax.place 50 List.[]) (Syntax.aggregate ((Syntax.copy (Syntax.place 49 List.[])) ∷ (Syntax.copy (Syntax.place 2 ((Syntax.field
+b86 = Syntax.assign (Syntax.place 51 List.[]) (Syntax.aggregate ((Syntax.copy (Syntax.place 50 List.[])) ∷ (Syntax.copy (Syntax.place 2 ((Syntax.field
     1) ∷ List.[]))) ∷ List.[]))
 abbrev b87 : Syntax.Body
-b87 = Syntax.assign (Syntax.place 51 List.[]) (Syntax.addrOf (Syntax.place 4 ((Syntax.field 0) ∷ (Syntax.deref InflightAction.ty) ∷ List.[])))
+b87 = Syntax.assign (Syntax.place 52 List.[]) (Syntax.addrOf (Syntax.place 4 ((Syntax.field 0) ∷ (Syntax.deref InflightAction.ty) ∷ List.[])))
 abbrev b88 : Syntax.Body
-b88 = Syntax.assign (Syntax.place 52 List.[]) (Syntax.aggregate ((Syntax.copy (Syntax.place 51 List.[])) ∷ (Syntax.copy (Syntax.place 4 ((Syntax.field
+b88 = Syntax.assign (Syntax.place 53 List.[]) (Syntax.aggregate ((Syntax.copy (Syntax.place 52 List.[])) ∷ (Syntax.copy (Syntax.place 4 ((Syntax.field
     1) ∷ List.[]))) ∷ List.[]))
 abbrev b89 : Syntax.Body
-b89 = Syntax.assign (Syntax.place 53 List.[]) (Syntax.addrOf (Syntax.place 5 ((Syntax.field 0) ∷ (Syntax.deref (Syntax.tyInt Syntax.w32)) ∷ List.[])))
+b89 = Syntax.assign (Syntax.place 54 List.[]) (Syntax.addrOf (Syntax.place 5 ((Syntax.field 0) ∷ (Syntax.deref (Syntax.tyInt Syntax.w32)) ∷ List.[])))
 abbrev b90 : Syntax.Body
-b90 = Syntax.assign (Syntax.place 54 List.[]) (Syntax.aggregate ((Syntax.copy (Syntax.place 53 List.[])) ∷ (Syntax.copy (Syntax.place 5 ((Syntax.field
+b90 = Syntax.assign (Syntax.place 55 List.[]) (Syntax.aggregate ((Syntax.copy (Syntax.place 54 List.[])) ∷ (Syntax.copy (Syntax.place 5 ((Syntax.field
     1) ∷ List.[]))) ∷ List.[]))
 abbrev b91 : Syntax.Body
-b91 = Syntax.call "hnsr_circuit::handle_close::handle_close" ((Syntax.copy (Syntax.place 48 List.[])) ∷ (Syntax.copy (Syntax.place 50 List.[])) ∷
-    (Syntax.copy (Syntax.place 52 List.[])) ∷ (Syntax.copy (Syntax.place 54 List.[])) ∷ (Syntax.copy (Syntax.place 6 List.[])) ∷ (Syntax.copy
-    (Syntax.place 7 List.[])) ∷ (Syntax.copy (Syntax.place 8 List.[])) ∷ (Syntax.copy (Syntax.place 9 List.[])) ∷ List.[]) (Syntax.place 13 List.[])
+b91 = Syntax.call "hnsr_circuit::handle_close::handle_close" ((Syntax.copy (Syntax.place 49 List.[])) ∷ (Syntax.copy (Syntax.place 51 List.[])) ∷
+    (Syntax.copy (Syntax.place 53 List.[])) ∷ (Syntax.copy (Syntax.place 55 List.[])) ∷ (Syntax.copy (Syntax.place 6 List.[])) ∷ (Syntax.copy
+    (Syntax.place 7 List.[])) ∷ (Syntax.copy (Syntax.place 8 List.[])) ∷ (Syntax.copy (Syntax.place 9 List.[])) ∷ (Syntax.copy (Syntax.place 10
+    List.[])) ∷ List.[]) (Syntax.place 14 List.[])
 abbrev b92 : Syntax.Body
 b92 = Syntax.exit 1
 abbrev b93 : Syntax.Body
@@ -495,7 +537,7 @@ b101 = Syntax.seq b83 b100
 abbrev b102 : Syntax.Body
 b102 = Syntax.skip
 abbrev b103 : Syntax.Body
-b103 = Syntax.cond (Syntax.copy (Syntax.place 46 List.[])) b101 b102
+b103 = Syntax.cond (Syntax.copy (Syntax.place 47 List.[])) b101 b102
 abbrev b104 : Syntax.Body
 b104 = Syntax.exit 0
 abbrev b105 : Syntax.Body
@@ -507,18 +549,19 @@ b107 = Syntax.seq b81 b106
 abbrev b108 : Syntax.Body
 b108 = Syntax.seq b78 b107
 abbrev b109 : Syntax.Body
-b109 = Syntax.switch (Syntax.copy (Syntax.place 12 List.[])) (Syntax.arm (13 ∷ List.[]) b23 (Syntax.arm (15 ∷ List.[]) b42 (Syntax.arm (17 ∷ List.[])
+b109 = Syntax.switch (Syntax.copy (Syntax.place 13 List.[])) (Syntax.arm (13 ∷ List.[]) b23 (Syntax.arm (15 ∷ List.[]) b42 (Syntax.arm (17 ∷ List.[])
     b61 (Syntax.arm (18 ∷ List.[]) b76 (Syntax.arm (14 ∷ 16 ∷ List.[]) b77 (Syntax.default b108))))))
 abbrev b110 : Syntax.Body
 b110 = Syntax.block b109
 abbrev b111 : Syntax.Body
-b111 = Syntax.call "hnsr_circuit::handle::unexpected" ((Syntax.copy (Syntax.place 6 List.[])) ∷ List.[]) (Syntax.place 13 List.[])
+b111 = Syntax.call "hnsr_circuit::handle::unexpected" ((Syntax.copy (Syntax.place 6 List.[])) ∷ (Syntax.copy (Syntax.place 7 List.[])) ∷ List.[])
+    (Syntax.place 14 List.[])
 abbrev b112 : Syntax.Body
 b112 = Syntax.seq b110 b111
 abbrev b113 : Syntax.Body
 b113 = Syntax.block b112
 abbrev b114 : Syntax.Body
-b114 = Syntax.assign (Syntax.place 0 List.[]) (Syntax.rvOpd (Syntax.copy (Syntax.place 13 List.[])))
+b114 = Syntax.assign (Syntax.place 0 List.[]) (Syntax.rvOpd (Syntax.copy (Syntax.place 14 List.[])))
 abbrev b115 : Syntax.Body
 b115 = Syntax.return
 abbrev b116 : Syntax.Body
@@ -533,7 +576,7 @@ abbrev pub Claims : Type 1
 Claims = Kinds.In 9 ps·0 × Kinds.Out 9 ps·0 r·0 × Kinds.In 6 ps·1 × Kinds.Out 6 ps·1 r·1 × Kinds.In 6 ps·2 × Kinds.Out 6 ps·2 r·2 × Kinds.In 5 ps·3 ×
     Kinds.Out 5 ps·3 r·3 × Kinds.In 6 ps·4 × Kinds.Out 6 ps·4 r·4 × Kinds.In 0 ps·5 × Kinds.Out 0 ps·5 r·5
 abbrev e0 : Row.Entry
-e0 = (0, Rows.any-gone Laws''.mir)
+e0 = (0, Rows.any-gone Laws'''.mir)
 abbrev e1 : Row.Entry
 e1 = (1, Mut.mslice RelayPending.row ref5 0)
 abbrev e2 : Row.Entry
@@ -547,273 +590,277 @@ e5 = (5, Mut.mslice (Referent.rtF (Referent.fInt Syntax.w32)) ref9 4)
 abbrev e6 : Row.Entry
 e6 = (6, Rows.whole (Declared.row OpaqueRelayRuntime.the-type))
 abbrev e7 : Row.Entry
-e7 = (7, Rows.whole (Declared.row RelayPacket.the-type))
+e7 = (7, Rows.whole (Declared.row Places.the-type))
 abbrev e8 : Row.Entry
-e8 = (8, Rows.sslice (Referent.rtF (Referent.fInt Syntax.w8)) ref10 5)
+e8 = (8, Rows.whole (Declared.row RelayPacket.the-type))
 abbrev e9 : Row.Entry
-e9 = (9, Rows.sslice (Referent.rtF (Referent.fInt Syntax.w8)) ref11 6)
+e9 = (9, Rows.sslice (Referent.rtF (Referent.fInt Syntax.w8)) ref10 5)
 abbrev e10 : Row.Entry
-e10 = (10, Rows.sslice (Referent.rtF (Referent.fInt Syntax.w8)) ref12 7)
+e10 = (10, Rows.sslice (Referent.rtF (Referent.fInt Syntax.w8)) ref11 6)
 abbrev e11 : Row.Entry
-e11 = (11, Rows.sslice (Referent.rtF (Referent.fInt Syntax.w8)) ref13 8)
+e11 = (11, Rows.sslice (Referent.rtF (Referent.fInt Syntax.w8)) ref12 7)
 abbrev e12 : Row.Entry
-e12 = (12, Rows.any-gone (Syntax.tyInt Syntax.w8))
+e12 = (12, Rows.sslice (Referent.rtF (Referent.fInt Syntax.w8)) ref13 8)
 abbrev e13 : Row.Entry
-e13 = (13, Rows.any-gone Laws''.mir)
+e13 = (13, Rows.any-gone (Syntax.tyInt Syntax.w8))
 abbrev e14 : Row.Entry
-e14 = (14, Rows.any-gone ref0)
+e14 = (14, Rows.any-gone Laws'''.mir)
 abbrev e15 : Row.Entry
-e15 = (15, Rows.any-gone (Syntax.tyStruct (38 ∷ 91 ∷ 93 ∷ List.[]) (Syntax.tcons ref0 (Syntax.tcons (Syntax.tyInt Syntax.w64) Syntax.tnil))))
+e15 = (15, Rows.any-gone ref0)
 abbrev e16 : Row.Entry
-e16 = (16, Rows.any-gone ref1)
+e16 = (16, Rows.any-gone (Syntax.tyStruct (38 ∷ 91 ∷ 93 ∷ List.[]) (Syntax.tcons ref0 (Syntax.tcons (Syntax.tyInt Syntax.w64) Syntax.tnil))))
 abbrev e17 : Row.Entry
-e17 = (17, Rows.any-gone (Syntax.tyStruct (38 ∷ 91 ∷ 93 ∷ List.[]) (Syntax.tcons ref1 (Syntax.tcons (Syntax.tyInt Syntax.w64) Syntax.tnil))))
+e17 = (17, Rows.any-gone ref1)
 abbrev e18 : Row.Entry
-e18 = (18, Rows.any-gone ref2)
+e18 = (18, Rows.any-gone (Syntax.tyStruct (38 ∷ 91 ∷ 93 ∷ List.[]) (Syntax.tcons ref1 (Syntax.tcons (Syntax.tyInt Syntax.w64) Syntax.tnil))))
 abbrev e19 : Row.Entry
-e19 = (19, Rows.any-gone (Syntax.tyStruct (38 ∷ 91 ∷ 93 ∷ List.[]) (Syntax.tcons ref2 (Syntax.tcons (Syntax.tyInt Syntax.w64) Syntax.tnil))))
+e19 = (19, Rows.any-gone ref2)
 abbrev e20 : Row.Entry
-e20 = (20, Rows.any-gone ref3)
+e20 = (20, Rows.any-gone (Syntax.tyStruct (38 ∷ 91 ∷ 93 ∷ List.[]) (Syntax.tcons ref2 (Syntax.tcons (Syntax.tyInt Syntax.w64) Syntax.tnil))))
 abbrev e21 : Row.Entry
-e21 = (21, Rows.any-gone (Syntax.tyStruct (38 ∷ 91 ∷ 93 ∷ List.[]) (Syntax.tcons ref3 (Syntax.tcons (Syntax.tyInt Syntax.w64) Syntax.tnil))))
+e21 = (21, Rows.any-gone ref3)
 abbrev e22 : Row.Entry
-e22 = (22, Rows.any-gone ref4)
+e22 = (22, Rows.any-gone (Syntax.tyStruct (38 ∷ 91 ∷ 93 ∷ List.[]) (Syntax.tcons ref3 (Syntax.tcons (Syntax.tyInt Syntax.w64) Syntax.tnil))))
 abbrev e23 : Row.Entry
-e23 = (23, Rows.any-gone (Syntax.tyStruct (38 ∷ 91 ∷ 93 ∷ List.[]) (Syntax.tcons ref4 (Syntax.tcons (Syntax.tyInt Syntax.w64) Syntax.tnil))))
+e23 = (23, Rows.any-gone ref4)
 abbrev e24 : Row.Entry
-e24 = (24, Rows.any-gone ref0)
+e24 = (24, Rows.any-gone (Syntax.tyStruct (38 ∷ 91 ∷ 93 ∷ List.[]) (Syntax.tcons ref4 (Syntax.tcons (Syntax.tyInt Syntax.w64) Syntax.tnil))))
 abbrev e25 : Row.Entry
-e25 = (25, Rows.any-gone (Syntax.tyStruct (38 ∷ 91 ∷ 93 ∷ List.[]) (Syntax.tcons ref0 (Syntax.tcons (Syntax.tyInt Syntax.w64) Syntax.tnil))))
+e25 = (25, Rows.any-gone ref0)
 abbrev e26 : Row.Entry
-e26 = (26, Rows.any-gone ref1)
+e26 = (26, Rows.any-gone (Syntax.tyStruct (38 ∷ 91 ∷ 93 ∷ List.[]) (Syntax.tcons ref0 (Syntax.tcons (Syntax.tyInt Syntax.w64) Syntax.tnil))))
 abbrev e27 : Row.Entry
-e27 = (27, Rows.any-gone (Syntax.tyStruct (38 ∷ 91 ∷ 93 ∷ List.[]) (Syntax.tcons ref1 (Syntax.tcons (Syntax.tyInt Syntax.w64) Syntax.tnil))))
+e27 = (27, Rows.any-gone ref1)
 abbrev e28 : Row.Entry
-e28 = (28, Rows.any-gone ref3)
+e28 = (28, Rows.any-gone (Syntax.tyStruct (38 ∷ 91 ∷ 93 ∷ List.[]) (Syntax.tcons ref1 (Syntax.tcons (Syntax.tyInt Syntax.w64) Syntax.tnil))))
 abbrev e29 : Row.Entry
-e29 = (29, Rows.any-gone (Syntax.tyStruct (38 ∷ 91 ∷ 93 ∷ List.[]) (Syntax.tcons ref3 (Syntax.tcons (Syntax.tyInt Syntax.w64) Syntax.tnil))))
+e29 = (29, Rows.any-gone ref3)
 abbrev e30 : Row.Entry
-e30 = (30, Rows.any-gone ref4)
+e30 = (30, Rows.any-gone (Syntax.tyStruct (38 ∷ 91 ∷ 93 ∷ List.[]) (Syntax.tcons ref3 (Syntax.tcons (Syntax.tyInt Syntax.w64) Syntax.tnil))))
 abbrev e31 : Row.Entry
-e31 = (31, Rows.any-gone (Syntax.tyStruct (38 ∷ 91 ∷ 93 ∷ List.[]) (Syntax.tcons ref4 (Syntax.tcons (Syntax.tyInt Syntax.w64) Syntax.tnil))))
+e31 = (31, Rows.any-gone ref4)
 abbrev e32 : Row.Entry
-e32 = (32, Rows.any-gone ref1)
+e32 = (32, Rows.any-gone (Syntax.tyStruct (38 ∷ 91 ∷ 93 ∷ List.[]) (Syntax.tcons ref4 (Syntax.tcons (Syntax.tyInt Syntax.w64) Syntax.tnil))))
 abbrev e33 : Row.Entry
-e33 = (33, Rows.any-gone (Syntax.tyStruct (38 ∷ 91 ∷ 93 ∷ List.[]) (Syntax.tcons ref1 (Syntax.tcons (Syntax.tyInt Syntax.w64) Syntax.tnil))))
+e33 = (33, Rows.any-gone ref1)
 abbrev e34 : Row.Entry
-e34 = (34, Rows.any-gone ref2)
+e34 = (34, Rows.any-gone (Syntax.tyStruct (38 ∷ 91 ∷ 93 ∷ List.[]) (Syntax.tcons ref1 (Syntax.tcons (Syntax.tyInt Syntax.w64) Syntax.tnil))))
 abbrev e35 : Row.Entry
-e35 = (35, Rows.any-gone (Syntax.tyStruct (38 ∷ 91 ∷ 93 ∷ List.[]) (Syntax.tcons ref2 (Syntax.tcons (Syntax.tyInt Syntax.w64) Syntax.tnil))))
+e35 = (35, Rows.any-gone ref2)
 abbrev e36 : Row.Entry
-e36 = (36, Rows.any-gone ref3)
+e36 = (36, Rows.any-gone (Syntax.tyStruct (38 ∷ 91 ∷ 93 ∷ List.[]) (Syntax.tcons ref2 (Syntax.tcons (Syntax.tyInt Syntax.w64) Syntax.tnil))))
 abbrev e37 : Row.Entry
-e37 = (37, Rows.any-gone (Syntax.tyStruct (38 ∷ 91 ∷ 93 ∷ List.[]) (Syntax.tcons ref3 (Syntax.tcons (Syntax.tyInt Syntax.w64) Syntax.tnil))))
+e37 = (37, Rows.any-gone ref3)
 abbrev e38 : Row.Entry
-e38 = (38, Rows.any-gone ref4)
+e38 = (38, Rows.any-gone (Syntax.tyStruct (38 ∷ 91 ∷ 93 ∷ List.[]) (Syntax.tcons ref3 (Syntax.tcons (Syntax.tyInt Syntax.w64) Syntax.tnil))))
 abbrev e39 : Row.Entry
-e39 = (39, Rows.any-gone (Syntax.tyStruct (38 ∷ 91 ∷ 93 ∷ List.[]) (Syntax.tcons ref4 (Syntax.tcons (Syntax.tyInt Syntax.w64) Syntax.tnil))))
+e39 = (39, Rows.any-gone ref4)
 abbrev e40 : Row.Entry
-e40 = (40, Rows.any-gone ref1)
+e40 = (40, Rows.any-gone (Syntax.tyStruct (38 ∷ 91 ∷ 93 ∷ List.[]) (Syntax.tcons ref4 (Syntax.tcons (Syntax.tyInt Syntax.w64) Syntax.tnil))))
 abbrev e41 : Row.Entry
-e41 = (41, Rows.any-gone (Syntax.tyStruct (38 ∷ 91 ∷ 93 ∷ List.[]) (Syntax.tcons ref1 (Syntax.tcons (Syntax.tyInt Syntax.w64) Syntax.tnil))))
+e41 = (41, Rows.any-gone ref1)
 abbrev e42 : Row.Entry
-e42 = (42, Rows.any-gone ref3)
+e42 = (42, Rows.any-gone (Syntax.tyStruct (38 ∷ 91 ∷ 93 ∷ List.[]) (Syntax.tcons ref1 (Syntax.tcons (Syntax.tyInt Syntax.w64) Syntax.tnil))))
 abbrev e43 : Row.Entry
-e43 = (43, Rows.any-gone (Syntax.tyStruct (38 ∷ 91 ∷ 93 ∷ List.[]) (Syntax.tcons ref3 (Syntax.tcons (Syntax.tyInt Syntax.w64) Syntax.tnil))))
+e43 = (43, Rows.any-gone ref3)
 abbrev e44 : Row.Entry
-e44 = (44, Rows.any-gone ref4)
+e44 = (44, Rows.any-gone (Syntax.tyStruct (38 ∷ 91 ∷ 93 ∷ List.[]) (Syntax.tcons ref3 (Syntax.tcons (Syntax.tyInt Syntax.w64) Syntax.tnil))))
 abbrev e45 : Row.Entry
-e45 = (45, Rows.any-gone (Syntax.tyStruct (38 ∷ 91 ∷ 93 ∷ List.[]) (Syntax.tcons ref4 (Syntax.tcons (Syntax.tyInt Syntax.w64) Syntax.tnil))))
+e45 = (45, Rows.any-gone ref4)
 abbrev e46 : Row.Entry
-e46 = (46, Rows.any-gone Syntax.tyBool)
+e46 = (46, Rows.any-gone (Syntax.tyStruct (38 ∷ 91 ∷ 93 ∷ List.[]) (Syntax.tcons ref4 (Syntax.tcons (Syntax.tyInt Syntax.w64) Syntax.tnil))))
 abbrev e47 : Row.Entry
-e47 = (47, Rows.any-gone ref0)
+e47 = (47, Rows.any-gone Syntax.tyBool)
 abbrev e48 : Row.Entry
-e48 = (48, Rows.any-gone (Syntax.tyStruct (38 ∷ 91 ∷ 93 ∷ List.[]) (Syntax.tcons ref0 (Syntax.tcons (Syntax.tyInt Syntax.w64) Syntax.tnil))))
+e48 = (48, Rows.any-gone ref0)
 abbrev e49 : Row.Entry
-e49 = (49, Rows.any-gone ref1)
+e49 = (49, Rows.any-gone (Syntax.tyStruct (38 ∷ 91 ∷ 93 ∷ List.[]) (Syntax.tcons ref0 (Syntax.tcons (Syntax.tyInt Syntax.w64) Syntax.tnil))))
 abbrev e50 : Row.Entry
-e50 = (50, Rows.any-gone (Syntax.tyStruct (38 ∷ 91 ∷ 93 ∷ List.[]) (Syntax.tcons ref1 (Syntax.tcons (Syntax.tyInt Syntax.w64) Syntax.tnil))))
+e50 = (50, Rows.any-gone ref1)
 abbrev e51 : Row.Entry
-e51 = (51, Rows.any-gone ref3)
+e51 = (51, Rows.any-gone (Syntax.tyStruct (38 ∷ 91 ∷ 93 ∷ List.[]) (Syntax.tcons ref1 (Syntax.tcons (Syntax.tyInt Syntax.w64) Syntax.tnil))))
 abbrev e52 : Row.Entry
-e52 = (52, Rows.any-gone (Syntax.tyStruct (38 ∷ 91 ∷ 93 ∷ List.[]) (Syntax.tcons ref3 (Syntax.tcons (Syntax.tyInt Syntax.w64) Syntax.tnil))))
+e52 = (52, Rows.any-gone ref3)
 abbrev e53 : Row.Entry
-e53 = (53, Rows.any-gone ref4)
+e53 = (53, Rows.any-gone (Syntax.tyStruct (38 ∷ 91 ∷ 93 ∷ List.[]) (Syntax.tcons ref3 (Syntax.tcons (Syntax.tyInt Syntax.w64) Syntax.tnil))))
 abbrev e54 : Row.Entry
-e54 = (54, Rows.any-gone (Syntax.tyStruct (38 ∷ 91 ∷ 93 ∷ List.[]) (Syntax.tcons ref4 (Syntax.tcons (Syntax.tyInt Syntax.w64) Syntax.tnil))))
+e54 = (54, Rows.any-gone ref4)
+abbrev e55 : Row.Entry
+e55 = (55, Rows.any-gone (Syntax.tyStruct (38 ∷ 91 ∷ 93 ∷ List.[]) (Syntax.tcons ref4 (Syntax.tcons (Syntax.tyInt Syntax.w64) Syntax.tnil))))
 abbrev e0·1 : Row.Entry
 e0·1 = (0, Rows.whole (Declared.row Relayed.the-type))
 abbrev e6·1 : Row.Entry
-e6·1 = (6, Rows.any-gone Laws'.mir)
+e6·1 = (6, Rows.any-gone Laws''.mir)
 abbrev e7·1 : Row.Entry
 e7·1 = (7, Rows.any-gone Laws.mir)
-abbrev e12·1 : Row.Entry
-e12·1 = (12, Rows.sc-here (Row.sInt Syntax.w8))
+abbrev e8·1 : Row.Entry
+e8·1 = (8, Rows.any-gone Laws'.mir)
 abbrev e13·1 : Row.Entry
-e13·1 = (13, Rows.whole (Declared.row Relayed.the-type))
+e13·1 = (13, Rows.sc-here (Row.sInt Syntax.w8))
+abbrev e14·1 : Row.Entry
+e14·1 = (14, Rows.whole (Declared.row Relayed.the-type))
 abbrev e1·1 : Row.Entry
 e1·1 = (1, Relend.mslice-owed RelayPending.row ref5 0 9 Row.off)
-abbrev e14·1 : Row.Entry
-e14·1 = (14, Relend.msptr RelayPending.row ref0 9)
 abbrev e15·1 : Row.Entry
-e15·1 = (15, Mut.mslice RelayPending.row ref0 9)
+e15·1 = (15, Relend.msptr RelayPending.row ref0 9)
+abbrev e16·1 : Row.Entry
+e16·1 = (16, Mut.mslice RelayPending.row ref0 9)
 abbrev e2·1 : Row.Entry
 e2·1 = (2, Relend.mslice-owed RelayCircuit.row ref6 1 10 Row.off)
-abbrev e16·1 : Row.Entry
-e16·1 = (16, Relend.msptr RelayCircuit.row ref1 10)
 abbrev e17·1 : Row.Entry
-e17·1 = (17, Mut.mslice RelayCircuit.row ref1 10)
+e17·1 = (17, Relend.msptr RelayCircuit.row ref1 10)
+abbrev e18·1 : Row.Entry
+e18·1 = (18, Mut.mslice RelayCircuit.row ref1 10)
 abbrev e3·1 : Row.Entry
 e3·1 = (3, Relend.mslice-owed ReservationUsage.row ref7 2 11 Row.off)
-abbrev e18·1 : Row.Entry
-e18·1 = (18, Relend.msptr ReservationUsage.row ref2 11)
 abbrev e19·1 : Row.Entry
-e19·1 = (19, Mut.mslice ReservationUsage.row ref2 11)
+e19·1 = (19, Relend.msptr ReservationUsage.row ref2 11)
+abbrev e20·1 : Row.Entry
+e20·1 = (20, Mut.mslice ReservationUsage.row ref2 11)
 abbrev e4·1 : Row.Entry
 e4·1 = (4, Relend.mslice-owed InflightAction.row ref8 3 12 Row.off)
-abbrev e20·1 : Row.Entry
-e20·1 = (20, Relend.msptr InflightAction.row ref3 12)
 abbrev e21·1 : Row.Entry
-e21·1 = (21, Mut.mslice InflightAction.row ref3 12)
+e21·1 = (21, Relend.msptr InflightAction.row ref3 12)
+abbrev e22·1 : Row.Entry
+e22·1 = (22, Mut.mslice InflightAction.row ref3 12)
 abbrev e5·1 : Row.Entry
 e5·1 = (5, Relend.mslice-owed (Referent.rtF (Referent.fInt Syntax.w32)) ref9 4 13 Row.off)
-abbrev e22·1 : Row.Entry
-e22·1 = (22, Relend.msptr (Referent.rtF (Referent.fInt Syntax.w32)) ref4 13)
 abbrev e23·1 : Row.Entry
-e23·1 = (23, Mut.mslice (Referent.rtF (Referent.fInt Syntax.w32)) ref4 13)
-abbrev e15·2 : Row.Entry
-e15·2 = (15, Mut.msleft RelayPending.row ref0)
-abbrev e17·2 : Row.Entry
-e17·2 = (17, Mut.msleft RelayCircuit.row ref1)
-abbrev e19·2 : Row.Entry
-e19·2 = (19, Mut.msleft ReservationUsage.row ref2)
-abbrev e21·2 : Row.Entry
-e21·2 = (21, Mut.msleft InflightAction.row ref3)
-abbrev e23·2 : Row.Entry
-e23·2 = (23, Mut.msleft (Referent.rtF (Referent.fInt Syntax.w32)) ref4)
+e23·1 = (23, Relend.msptr (Referent.rtF (Referent.fInt Syntax.w32)) ref4 13)
+abbrev e24·1 : Row.Entry
+e24·1 = (24, Mut.mslice (Referent.rtF (Referent.fInt Syntax.w32)) ref4 13)
+abbrev e16·2 : Row.Entry
+e16·2 = (16, Mut.msleft RelayPending.row ref0)
+abbrev e18·2 : Row.Entry
+e18·2 = (18, Mut.msleft RelayCircuit.row ref1)
+abbrev e20·2 : Row.Entry
+e20·2 = (20, Mut.msleft ReservationUsage.row ref2)
+abbrev e22·2 : Row.Entry
+e22·2 = (22, Mut.msleft InflightAction.row ref3)
+abbrev e24·2 : Row.Entry
+e24·2 = (24, Mut.msleft (Referent.rtF (Referent.fInt Syntax.w32)) ref4)
 abbrev e1·2 : Row.Entry
 e1·2 = (1, Relend.mslice-owed RelayPending.row ref5 0 14 Row.off)
-abbrev e24·1 : Row.Entry
-e24·1 = (24, Relend.msptr RelayPending.row ref0 14)
 abbrev e25·1 : Row.Entry
-e25·1 = (25, Mut.mslice RelayPending.row ref0 14)
+e25·1 = (25, Relend.msptr RelayPending.row ref0 14)
+abbrev e26·1 : Row.Entry
+e26·1 = (26, Mut.mslice RelayPending.row ref0 14)
 abbrev e2·2 : Row.Entry
 e2·2 = (2, Relend.mslice-owed RelayCircuit.row ref6 1 15 Row.off)
-abbrev e26·1 : Row.Entry
-e26·1 = (26, Relend.msptr RelayCircuit.row ref1 15)
 abbrev e27·1 : Row.Entry
-e27·1 = (27, Mut.mslice RelayCircuit.row ref1 15)
+e27·1 = (27, Relend.msptr RelayCircuit.row ref1 15)
+abbrev e28·1 : Row.Entry
+e28·1 = (28, Mut.mslice RelayCircuit.row ref1 15)
 abbrev e4·2 : Row.Entry
 e4·2 = (4, Relend.mslice-owed InflightAction.row ref8 3 16 Row.off)
-abbrev e28·1 : Row.Entry
-e28·1 = (28, Relend.msptr InflightAction.row ref3 16)
 abbrev e29·1 : Row.Entry
-e29·1 = (29, Mut.mslice InflightAction.row ref3 16)
+e29·1 = (29, Relend.msptr InflightAction.row ref3 16)
+abbrev e30·1 : Row.Entry
+e30·1 = (30, Mut.mslice InflightAction.row ref3 16)
 abbrev e5·2 : Row.Entry
 e5·2 = (5, Relend.mslice-owed (Referent.rtF (Referent.fInt Syntax.w32)) ref9 4 17 Row.off)
-abbrev e30·1 : Row.Entry
-e30·1 = (30, Relend.msptr (Referent.rtF (Referent.fInt Syntax.w32)) ref4 17)
 abbrev e31·1 : Row.Entry
-e31·1 = (31, Mut.mslice (Referent.rtF (Referent.fInt Syntax.w32)) ref4 17)
-abbrev e25·2 : Row.Entry
-e25·2 = (25, Mut.msleft RelayPending.row ref0)
-abbrev e27·2 : Row.Entry
-e27·2 = (27, Mut.msleft RelayCircuit.row ref1)
-abbrev e29·2 : Row.Entry
-e29·2 = (29, Mut.msleft InflightAction.row ref3)
-abbrev e31·2 : Row.Entry
-e31·2 = (31, Mut.msleft (Referent.rtF (Referent.fInt Syntax.w32)) ref4)
+e31·1 = (31, Relend.msptr (Referent.rtF (Referent.fInt Syntax.w32)) ref4 17)
+abbrev e32·1 : Row.Entry
+e32·1 = (32, Mut.mslice (Referent.rtF (Referent.fInt Syntax.w32)) ref4 17)
+abbrev e26·2 : Row.Entry
+e26·2 = (26, Mut.msleft RelayPending.row ref0)
+abbrev e28·2 : Row.Entry
+e28·2 = (28, Mut.msleft RelayCircuit.row ref1)
+abbrev e30·2 : Row.Entry
+e30·2 = (30, Mut.msleft InflightAction.row ref3)
+abbrev e32·2 : Row.Entry
+e32·2 = (32, Mut.msleft (Referent.rtF (Referent.fInt Syntax.w32)) ref4)
 abbrev e2·3 : Row.Entry
 e2·3 = (2, Relend.mslice-owed RelayCircuit.row ref6 1 18 Row.off)
-abbrev e32·1 : Row.Entry
-e32·1 = (32, Relend.msptr RelayCircuit.row ref1 18)
 abbrev e33·1 : Row.Entry
-e33·1 = (33, Mut.mslice RelayCircuit.row ref1 18)
+e33·1 = (33, Relend.msptr RelayCircuit.row ref1 18)
+abbrev e34·1 : Row.Entry
+e34·1 = (34, Mut.mslice RelayCircuit.row ref1 18)
 abbrev e3·2 : Row.Entry
 e3·2 = (3, Relend.mslice-owed ReservationUsage.row ref7 2 19 Row.off)
-abbrev e34·1 : Row.Entry
-e34·1 = (34, Relend.msptr ReservationUsage.row ref2 19)
 abbrev e35·1 : Row.Entry
-e35·1 = (35, Mut.mslice ReservationUsage.row ref2 19)
+e35·1 = (35, Relend.msptr ReservationUsage.row ref2 19)
+abbrev e36·1 : Row.Entry
+e36·1 = (36, Mut.mslice ReservationUsage.row ref2 19)
 abbrev e4·3 : Row.Entry
 e4·3 = (4, Relend.mslice-owed InflightAction.row ref8 3 20 Row.off)
-abbrev e36·1 : Row.Entry
-e36·1 = (36, Relend.msptr InflightAction.row ref3 20)
 abbrev e37·1 : Row.Entry
-e37·1 = (37, Mut.mslice InflightAction.row ref3 20)
+e37·1 = (37, Relend.msptr InflightAction.row ref3 20)
+abbrev e38·1 : Row.Entry
+e38·1 = (38, Mut.mslice InflightAction.row ref3 20)
 abbrev e5·3 : Row.Entry
 e5·3 = (5, Relend.mslice-owed (Referent.rtF (Referent.fInt Syntax.w32)) ref9 4 21 Row.off)
-abbrev e38·1 : Row.Entry
-e38·1 = (38, Relend.msptr (Referent.rtF (Referent.fInt Syntax.w32)) ref4 21)
 abbrev e39·1 : Row.Entry
-e39·1 = (39, Mut.mslice (Referent.rtF (Referent.fInt Syntax.w32)) ref4 21)
-abbrev e33·2 : Row.Entry
-e33·2 = (33, Mut.msleft RelayCircuit.row ref1)
-abbrev e35·2 : Row.Entry
-e35·2 = (35, Mut.msleft ReservationUsage.row ref2)
-abbrev e37·2 : Row.Entry
-e37·2 = (37, Mut.msleft InflightAction.row ref3)
-abbrev e39·2 : Row.Entry
-e39·2 = (39, Mut.msleft (Referent.rtF (Referent.fInt Syntax.w32)) ref4)
+e39·1 = (39, Relend.msptr (Referent.rtF (Referent.fInt Syntax.w32)) ref4 21)
+abbrev e40·1 : Row.Entry
+e40·1 = (40, Mut.mslice (Referent.rtF (Referent.fInt Syntax.w32)) ref4 21)
+abbrev e34·2 : Row.Entry
+e34·2 = (34, Mut.msleft RelayCircuit.row ref1)
+abbrev e36·2 : Row.Entry
+e36·2 = (36, Mut.msleft ReservationUsage.row ref2)
+abbrev e38·2 : Row.Entry
+e38·2 = (38, Mut.msleft InflightAction.row ref3)
+abbrev e40·2 : Row.Entry
+e40·2 = (40, Mut.msleft (Referent.rtF (Referent.fInt Syntax.w32)) ref4)
 abbrev e2·4 : Row.Entry
 e2·4 = (2, Relend.mslice-owed RelayCircuit.row ref6 1 22 Row.off)
-abbrev e40·1 : Row.Entry
-e40·1 = (40, Relend.msptr RelayCircuit.row ref1 22)
 abbrev e41·1 : Row.Entry
-e41·1 = (41, Mut.mslice RelayCircuit.row ref1 22)
+e41·1 = (41, Relend.msptr RelayCircuit.row ref1 22)
+abbrev e42·1 : Row.Entry
+e42·1 = (42, Mut.mslice RelayCircuit.row ref1 22)
 abbrev e4·4 : Row.Entry
 e4·4 = (4, Relend.mslice-owed InflightAction.row ref8 3 23 Row.off)
-abbrev e42·1 : Row.Entry
-e42·1 = (42, Relend.msptr InflightAction.row ref3 23)
 abbrev e43·1 : Row.Entry
-e43·1 = (43, Mut.mslice InflightAction.row ref3 23)
+e43·1 = (43, Relend.msptr InflightAction.row ref3 23)
+abbrev e44·1 : Row.Entry
+e44·1 = (44, Mut.mslice InflightAction.row ref3 23)
 abbrev e5·4 : Row.Entry
 e5·4 = (5, Relend.mslice-owed (Referent.rtF (Referent.fInt Syntax.w32)) ref9 4 24 Row.off)
-abbrev e44·1 : Row.Entry
-e44·1 = (44, Relend.msptr (Referent.rtF (Referent.fInt Syntax.w32)) ref4 24)
 abbrev e45·1 : Row.Entry
-e45·1 = (45, Mut.mslice (Referent.rtF (Referent.fInt Syntax.w32)) ref4 24)
-abbrev e41·2 : Row.Entry
-e41·2 = (41, Mut.msleft RelayCircuit.row ref1)
-abbrev e43·2 : Row.Entry
-e43·2 = (43, Mut.msleft InflightAction.row ref3)
-abbrev e45·2 : Row.Entry
-e45·2 = (45, Mut.msleft (Referent.rtF (Referent.fInt Syntax.w32)) ref4)
+e45·1 = (45, Relend.msptr (Referent.rtF (Referent.fInt Syntax.w32)) ref4 24)
 abbrev e46·1 : Row.Entry
-e46·1 = (46, Rows.sc-here Row.sBool)
+e46·1 = (46, Mut.mslice (Referent.rtF (Referent.fInt Syntax.w32)) ref4 24)
+abbrev e42·2 : Row.Entry
+e42·2 = (42, Mut.msleft RelayCircuit.row ref1)
+abbrev e44·2 : Row.Entry
+e44·2 = (44, Mut.msleft InflightAction.row ref3)
+abbrev e46·2 : Row.Entry
+e46·2 = (46, Mut.msleft (Referent.rtF (Referent.fInt Syntax.w32)) ref4)
+abbrev e47·1 : Row.Entry
+e47·1 = (47, Rows.sc-here Row.sBool)
 abbrev e1·3 : Row.Entry
 e1·3 = (1, Relend.mslice-owed RelayPending.row ref5 0 25 Row.off)
-abbrev e47·1 : Row.Entry
-e47·1 = (47, Relend.msptr RelayPending.row ref0 25)
 abbrev e48·1 : Row.Entry
-e48·1 = (48, Mut.mslice RelayPending.row ref0 25)
+e48·1 = (48, Relend.msptr RelayPending.row ref0 25)
+abbrev e49·1 : Row.Entry
+e49·1 = (49, Mut.mslice RelayPending.row ref0 25)
 abbrev e2·5 : Row.Entry
 e2·5 = (2, Relend.mslice-owed RelayCircuit.row ref6 1 26 Row.off)
-abbrev e49·1 : Row.Entry
-e49·1 = (49, Relend.msptr RelayCircuit.row ref1 26)
 abbrev e50·1 : Row.Entry
-e50·1 = (50, Mut.mslice RelayCircuit.row ref1 26)
+e50·1 = (50, Relend.msptr RelayCircuit.row ref1 26)
+abbrev e51·1 : Row.Entry
+e51·1 = (51, Mut.mslice RelayCircuit.row ref1 26)
 abbrev e4·5 : Row.Entry
 e4·5 = (4, Relend.mslice-owed InflightAction.row ref8 3 27 Row.off)
-abbrev e51·1 : Row.Entry
-e51·1 = (51, Relend.msptr InflightAction.row ref3 27)
 abbrev e52·1 : Row.Entry
-e52·1 = (52, Mut.mslice InflightAction.row ref3 27)
+e52·1 = (52, Relend.msptr InflightAction.row ref3 27)
+abbrev e53·1 : Row.Entry
+e53·1 = (53, Mut.mslice InflightAction.row ref3 27)
 abbrev e5·5 : Row.Entry
 e5·5 = (5, Relend.mslice-owed (Referent.rtF (Referent.fInt Syntax.w32)) ref9 4 28 Row.off)
-abbrev e53·1 : Row.Entry
-e53·1 = (53, Relend.msptr (Referent.rtF (Referent.fInt Syntax.w32)) ref4 28)
 abbrev e54·1 : Row.Entry
-e54·1 = (54, Mut.mslice (Referent.rtF (Referent.fInt Syntax.w32)) ref4 28)
-abbrev e48·2 : Row.Entry
-e48·2 = (48, Mut.msleft RelayPending.row ref0)
-abbrev e50·2 : Row.Entry
-e50·2 = (50, Mut.msleft RelayCircuit.row ref1)
-abbrev e52·2 : Row.Entry
-e52·2 = (52, Mut.msleft InflightAction.row ref3)
-abbrev e54·2 : Row.Entry
-e54·2 = (54, Mut.msleft (Referent.rtF (Referent.fInt Syntax.w32)) ref4)
+e54·1 = (54, Relend.msptr (Referent.rtF (Referent.fInt Syntax.w32)) ref4 28)
+abbrev e55·1 : Row.Entry
+e55·1 = (55, Mut.mslice (Referent.rtF (Referent.fInt Syntax.w32)) ref4 28)
+abbrev e49·2 : Row.Entry
+e49·2 = (49, Mut.msleft RelayPending.row ref0)
+abbrev e51·2 : Row.Entry
+e51·2 = (51, Mut.msleft RelayCircuit.row ref1)
+abbrev e53·2 : Row.Entry
+e53·2 = (53, Mut.msleft InflightAction.row ref3)
+abbrev e55·2 : Row.Entry
+e55·2 = (55, Mut.msleft (Referent.rtF (Referent.fInt Syntax.w32)) ref4)
 abbrev pub t0 : List.List Row.Entry
 t0 = e0 ∷ e1 ∷ e2 ∷ e3 ∷ e4 ∷ e5 ∷ e6 ∷ e7 ∷ e8 ∷ e9 ∷ e10 ∷ e11 ∷ e12 ∷ e13 ∷ e14 ∷ e15 ∷ List.[]
 abbrev pub t1 : List.List Row.Entry
@@ -821,239 +868,255 @@ t1 = e16 ∷ e17 ∷ e18 ∷ e19 ∷ e20 ∷ e21 ∷ e22 ∷ e23 ∷ e24 ∷ e25
 abbrev pub t2 : List.List Row.Entry
 t2 = e32 ∷ e33 ∷ e34 ∷ e35 ∷ e36 ∷ e37 ∷ e38 ∷ e39 ∷ e40 ∷ e41 ∷ e42 ∷ e43 ∷ e44 ∷ e45 ∷ e46 ∷ e47 ∷ List.[]
 abbrev pub t3 : List.List Row.Entry
-t3 = e48 ∷ e49 ∷ e50 ∷ e51 ∷ e52 ∷ e53 ∷ e54 ∷ List.[]
+t3 = e48 ∷ e49 ∷ e50 ∷ e51 ∷ e52 ∷ e53 ∷ e54 ∷ e55 ∷ List.[]
 abbrev pub t4 : List.List Row.Entry
-t4 = e0·1 ∷ e1 ∷ e2 ∷ e3 ∷ e4 ∷ e5 ∷ e6·1 ∷ e7·1 ∷ e8 ∷ e9 ∷ e10 ∷ e11 ∷ e12 ∷ e13 ∷ e14 ∷ e15 ∷ List.[]
+t4 = e0·1 ∷ e1 ∷ e2 ∷ e3 ∷ e4 ∷ e5 ∷ e6·1 ∷ e7·1 ∷ e8·1 ∷ e9 ∷ e10 ∷ e11 ∷ e12 ∷ e13 ∷ e14 ∷ e15 ∷ List.[]
 abbrev pub t5 : List.List Row.Entry
-t5 = e0 ∷ e1 ∷ e2 ∷ e3 ∷ e4 ∷ e5 ∷ e6 ∷ e7 ∷ e8 ∷ e9 ∷ e10 ∷ e11 ∷ e12·1 ∷ e13 ∷ e14 ∷ e15 ∷ List.[]
+t5 = e0 ∷ e1 ∷ e2 ∷ e3 ∷ e4 ∷ e5 ∷ e6 ∷ e7 ∷ e8 ∷ e9 ∷ e10 ∷ e11 ∷ e12 ∷ e13·1 ∷ e14 ∷ e15 ∷ List.[]
 abbrev pub t6 : List.List Row.Entry
-t6 = e0 ∷ e1 ∷ e2 ∷ e3 ∷ e4 ∷ e5 ∷ e6·1 ∷ e7·1 ∷ e8 ∷ e9 ∷ e10 ∷ e11 ∷ e12·1 ∷ e13·1 ∷ e14 ∷ e15 ∷ List.[]
+t6 = e0 ∷ e1 ∷ e2 ∷ e3 ∷ e4 ∷ e5 ∷ e6·1 ∷ e7·1 ∷ e8·1 ∷ e9 ∷ e10 ∷ e11 ∷ e12 ∷ e13·1 ∷ e14·1 ∷ e15 ∷ List.[]
 abbrev pub t7 : List.List Row.Entry
-t7 = e0 ∷ e1 ∷ e2 ∷ e3 ∷ e4 ∷ e5 ∷ e6 ∷ e7·1 ∷ e8 ∷ e9 ∷ e10 ∷ e11 ∷ e12·1 ∷ e13 ∷ e14 ∷ e15 ∷ List.[]
+t7 = e0 ∷ e1 ∷ e2 ∷ e3 ∷ e4 ∷ e5 ∷ e6 ∷ e7 ∷ e8·1 ∷ e9 ∷ e10 ∷ e11 ∷ e12 ∷ e13·1 ∷ e14 ∷ e15 ∷ List.[]
 abbrev pub t8 : List.List Row.Entry
-t8 = e0 ∷ e1·1 ∷ e2 ∷ e3 ∷ e4 ∷ e5 ∷ e6 ∷ e7 ∷ e8 ∷ e9 ∷ e10 ∷ e11 ∷ e12·1 ∷ e13 ∷ e14·1 ∷ e15 ∷ List.[]
+t8 = e0 ∷ e1·1 ∷ e2 ∷ e3 ∷ e4 ∷ e5 ∷ e6 ∷ e7 ∷ e8 ∷ e9 ∷ e10 ∷ e11 ∷ e12 ∷ e13·1 ∷ e14 ∷ e15·1 ∷ List.[]
 abbrev pub t9 : List.List Row.Entry
-t9 = e0 ∷ e1·1 ∷ e2 ∷ e3 ∷ e4 ∷ e5 ∷ e6 ∷ e7 ∷ e8 ∷ e9 ∷ e10 ∷ e11 ∷ e12·1 ∷ e13 ∷ e14 ∷ e15·1 ∷ List.[]
+t9 = e0 ∷ e1·1 ∷ e2 ∷ e3 ∷ e4 ∷ e5 ∷ e6 ∷ e7 ∷ e8 ∷ e9 ∷ e10 ∷ e11 ∷ e12 ∷ e13·1 ∷ e14 ∷ e15 ∷ List.[]
 abbrev pub t10 : List.List Row.Entry
-t10 = e0 ∷ e1·1 ∷ e2·1 ∷ e3 ∷ e4 ∷ e5 ∷ e6 ∷ e7 ∷ e8 ∷ e9 ∷ e10 ∷ e11 ∷ e12·1 ∷ e13 ∷ e14 ∷ e15·1 ∷ List.[]
+t10 = e16·1 ∷ e17 ∷ e18 ∷ e19 ∷ e20 ∷ e21 ∷ e22 ∷ e23 ∷ e24 ∷ e25 ∷ e26 ∷ e27 ∷ e28 ∷ e29 ∷ e30 ∷ e31 ∷ List.[]
 abbrev pub t11 : List.List Row.Entry
-t11 = e16·1 ∷ e17 ∷ e18 ∷ e19 ∷ e20 ∷ e21 ∷ e22 ∷ e23 ∷ e24 ∷ e25 ∷ e26 ∷ e27 ∷ e28 ∷ e29 ∷ e30 ∷ e31 ∷ List.[]
+t11 = e0 ∷ e1·1 ∷ e2·1 ∷ e3 ∷ e4 ∷ e5 ∷ e6 ∷ e7 ∷ e8 ∷ e9 ∷ e10 ∷ e11 ∷ e12 ∷ e13·1 ∷ e14 ∷ e15 ∷ List.[]
 abbrev pub t12 : List.List Row.Entry
-t12 = e16 ∷ e17·1 ∷ e18 ∷ e19 ∷ e20 ∷ e21 ∷ e22 ∷ e23 ∷ e24 ∷ e25 ∷ e26 ∷ e27 ∷ e28 ∷ e29 ∷ e30 ∷ e31 ∷ List.[]
+t12 = e16·1 ∷ e17·1 ∷ e18 ∷ e19 ∷ e20 ∷ e21 ∷ e22 ∷ e23 ∷ e24 ∷ e25 ∷ e26 ∷ e27 ∷ e28 ∷ e29 ∷ e30 ∷ e31 ∷ List.[]
 abbrev pub t13 : List.List Row.Entry
-t13 = e0 ∷ e1·1 ∷ e2·1 ∷ e3·1 ∷ e4 ∷ e5 ∷ e6 ∷ e7 ∷ e8 ∷ e9 ∷ e10 ∷ e11 ∷ e12·1 ∷ e13 ∷ e14 ∷ e15·1 ∷ List.[]
+t13 = e16·1 ∷ e17 ∷ e18·1 ∷ e19 ∷ e20 ∷ e21 ∷ e22 ∷ e23 ∷ e24 ∷ e25 ∷ e26 ∷ e27 ∷ e28 ∷ e29 ∷ e30 ∷ e31 ∷ List.[]
 abbrev pub t14 : List.List Row.Entry
-t14 = e16 ∷ e17·1 ∷ e18·1 ∷ e19 ∷ e20 ∷ e21 ∷ e22 ∷ e23 ∷ e24 ∷ e25 ∷ e26 ∷ e27 ∷ e28 ∷ e29 ∷ e30 ∷ e31 ∷ List.[]
+t14 = e0 ∷ e1·1 ∷ e2·1 ∷ e3·1 ∷ e4 ∷ e5 ∷ e6 ∷ e7 ∷ e8 ∷ e9 ∷ e10 ∷ e11 ∷ e12 ∷ e13·1 ∷ e14 ∷ e15 ∷ List.[]
 abbrev pub t15 : List.List Row.Entry
-t15 = e16 ∷ e17·1 ∷ e18 ∷ e19·1 ∷ e20 ∷ e21 ∷ e22 ∷ e23 ∷ e24 ∷ e25 ∷ e26 ∷ e27 ∷ e28 ∷ e29 ∷ e30 ∷ e31 ∷ List.[]
+t15 = e16·1 ∷ e17 ∷ e18·1 ∷ e19·1 ∷ e20 ∷ e21 ∷ e22 ∷ e23 ∷ e24 ∷ e25 ∷ e26 ∷ e27 ∷ e28 ∷ e29 ∷ e30 ∷ e31 ∷ List.[]
 abbrev pub t16 : List.List Row.Entry
-t16 = e0 ∷ e1·1 ∷ e2·1 ∷ e3·1 ∷ e4·1 ∷ e5 ∷ e6 ∷ e7 ∷ e8 ∷ e9 ∷ e10 ∷ e11 ∷ e12·1 ∷ e13 ∷ e14 ∷ e15·1 ∷ List.[]
+t16 = e16·1 ∷ e17 ∷ e18·1 ∷ e19 ∷ e20·1 ∷ e21 ∷ e22 ∷ e23 ∷ e24 ∷ e25 ∷ e26 ∷ e27 ∷ e28 ∷ e29 ∷ e30 ∷ e31 ∷ List.[]
 abbrev pub t17 : List.List Row.Entry
-t17 = e16 ∷ e17·1 ∷ e18 ∷ e19·1 ∷ e20·1 ∷ e21 ∷ e22 ∷ e23 ∷ e24 ∷ e25 ∷ e26 ∷ e27 ∷ e28 ∷ e29 ∷ e30 ∷ e31 ∷ List.[]
+t17 = e0 ∷ e1·1 ∷ e2·1 ∷ e3·1 ∷ e4·1 ∷ e5 ∷ e6 ∷ e7 ∷ e8 ∷ e9 ∷ e10 ∷ e11 ∷ e12 ∷ e13·1 ∷ e14 ∷ e15 ∷ List.[]
 abbrev pub t18 : List.List Row.Entry
-t18 = e16 ∷ e17·1 ∷ e18 ∷ e19·1 ∷ e20 ∷ e21·1 ∷ e22 ∷ e23 ∷ e24 ∷ e25 ∷ e26 ∷ e27 ∷ e28 ∷ e29 ∷ e30 ∷ e31 ∷ List.[]
+t18 = e16·1 ∷ e17 ∷ e18·1 ∷ e19 ∷ e20·1 ∷ e21·1 ∷ e22 ∷ e23 ∷ e24 ∷ e25 ∷ e26 ∷ e27 ∷ e28 ∷ e29 ∷ e30 ∷ e31 ∷ List.[]
 abbrev pub t19 : List.List Row.Entry
-t19 = e0 ∷ e1·1 ∷ e2·1 ∷ e3·1 ∷ e4·1 ∷ e5·1 ∷ e6 ∷ e7 ∷ e8 ∷ e9 ∷ e10 ∷ e11 ∷ e12·1 ∷ e13 ∷ e14 ∷ e15·1 ∷ List.[]
+t19 = e16·1 ∷ e17 ∷ e18·1 ∷ e19 ∷ e20·1 ∷ e21 ∷ e22·1 ∷ e23 ∷ e24 ∷ e25 ∷ e26 ∷ e27 ∷ e28 ∷ e29 ∷ e30 ∷ e31 ∷ List.[]
 abbrev pub t20 : List.List Row.Entry
-t20 = e16 ∷ e17·1 ∷ e18 ∷ e19·1 ∷ e20 ∷ e21·1 ∷ e22·1 ∷ e23 ∷ e24 ∷ e25 ∷ e26 ∷ e27 ∷ e28 ∷ e29 ∷ e30 ∷ e31 ∷ List.[]
+t20 = e0 ∷ e1·1 ∷ e2·1 ∷ e3·1 ∷ e4·1 ∷ e5·1 ∷ e6 ∷ e7 ∷ e8 ∷ e9 ∷ e10 ∷ e11 ∷ e12 ∷ e13·1 ∷ e14 ∷ e15 ∷ List.[]
 abbrev pub t21 : List.List Row.Entry
-t21 = e16 ∷ e17·1 ∷ e18 ∷ e19·1 ∷ e20 ∷ e21·1 ∷ e22 ∷ e23·1 ∷ e24 ∷ e25 ∷ e26 ∷ e27 ∷ e28 ∷ e29 ∷ e30 ∷ e31 ∷ List.[]
+t21 = e16·1 ∷ e17 ∷ e18·1 ∷ e19 ∷ e20·1 ∷ e21 ∷ e22·1 ∷ e23·1 ∷ e24 ∷ e25 ∷ e26 ∷ e27 ∷ e28 ∷ e29 ∷ e30 ∷ e31 ∷ List.[]
 abbrev pub t22 : List.List Row.Entry
-t22 = e0 ∷ e1·1 ∷ e2·1 ∷ e3·1 ∷ e4·1 ∷ e5·1 ∷ e6 ∷ e7 ∷ e8 ∷ e9 ∷ e10 ∷ e11 ∷ e12·1 ∷ e13·1 ∷ e14 ∷ e15·2 ∷ List.[]
+t22 = e16·1 ∷ e17 ∷ e18·1 ∷ e19 ∷ e20·1 ∷ e21 ∷ e22·1 ∷ e23 ∷ e24·1 ∷ e25 ∷ e26 ∷ e27 ∷ e28 ∷ e29 ∷ e30 ∷ e31 ∷ List.[]
 abbrev pub t23 : List.List Row.Entry
-t23 = e16 ∷ e17·2 ∷ e18 ∷ e19·2 ∷ e20 ∷ e21·2 ∷ e22 ∷ e23·2 ∷ e24 ∷ e25 ∷ e26 ∷ e27 ∷ e28 ∷ e29 ∷ e30 ∷ e31 ∷ List.[]
+t23 = e0 ∷ e1·1 ∷ e2·1 ∷ e3·1 ∷ e4·1 ∷ e5·1 ∷ e6 ∷ e7 ∷ e8 ∷ e9 ∷ e10 ∷ e11 ∷ e12 ∷ e13·1 ∷ e14·1 ∷ e15 ∷ List.[]
 abbrev pub t24 : List.List Row.Entry
-t24 = e0 ∷ e1·1 ∷ e2·1 ∷ e3·1 ∷ e4·1 ∷ e5·1 ∷ e6·1 ∷ e7 ∷ e8 ∷ e9 ∷ e10 ∷ e11 ∷ e12·1 ∷ e13·1 ∷ e14 ∷ e15·2 ∷ List.[]
+t24 = e16·2 ∷ e17 ∷ e18·2 ∷ e19 ∷ e20·2 ∷ e21 ∷ e22·2 ∷ e23 ∷ e24·2 ∷ e25 ∷ e26 ∷ e27 ∷ e28 ∷ e29 ∷ e30 ∷ e31 ∷ List.[]
 abbrev pub t25 : List.List Row.Entry
-t25 = e0 ∷ e1·1 ∷ e2·1 ∷ e3·1 ∷ e4·1 ∷ e5·1 ∷ e6·1 ∷ e7·1 ∷ e8 ∷ e9 ∷ e10 ∷ e11 ∷ e12·1 ∷ e13·1 ∷ e14 ∷ e15·2 ∷ List.[]
+t25 = e0 ∷ e1·1 ∷ e2·1 ∷ e3·1 ∷ e4·1 ∷ e5·1 ∷ e6·1 ∷ e7 ∷ e8 ∷ e9 ∷ e10 ∷ e11 ∷ e12 ∷ e13·1 ∷ e14·1 ∷ e15 ∷ List.[]
 abbrev pub t26 : List.List Row.Entry
-t26 = e0 ∷ e1 ∷ e2·1 ∷ e3·1 ∷ e4·1 ∷ e5·1 ∷ e6·1 ∷ e7·1 ∷ e8 ∷ e9 ∷ e10 ∷ e11 ∷ e12·1 ∷ e13·1 ∷ e14 ∷ e15 ∷ List.[]
+t26 = e0 ∷ e1·1 ∷ e2·1 ∷ e3·1 ∷ e4·1 ∷ e5·1 ∷ e6·1 ∷ e7·1 ∷ e8 ∷ e9 ∷ e10 ∷ e11 ∷ e12 ∷ e13·1 ∷ e14·1 ∷ e15 ∷ List.[]
 abbrev pub t27 : List.List Row.Entry
-t27 = e0 ∷ e1 ∷ e2 ∷ e3·1 ∷ e4·1 ∷ e5·1 ∷ e6·1 ∷ e7·1 ∷ e8 ∷ e9 ∷ e10 ∷ e11 ∷ e12·1 ∷ e13·1 ∷ e14 ∷ e15 ∷ List.[]
+t27 = e0 ∷ e1·1 ∷ e2·1 ∷ e3·1 ∷ e4·1 ∷ e5·1 ∷ e6·1 ∷ e7·1 ∷ e8·1 ∷ e9 ∷ e10 ∷ e11 ∷ e12 ∷ e13·1 ∷ e14·1 ∷ e15 ∷ List.[]
 abbrev pub t28 : List.List Row.Entry
-t28 = e16 ∷ e17 ∷ e18 ∷ e19·2 ∷ e20 ∷ e21·2 ∷ e22 ∷ e23·2 ∷ e24 ∷ e25 ∷ e26 ∷ e27 ∷ e28 ∷ e29 ∷ e30 ∷ e31 ∷ List.[]
+t28 = e0 ∷ e1 ∷ e2·1 ∷ e3·1 ∷ e4·1 ∷ e5·1 ∷ e6·1 ∷ e7·1 ∷ e8·1 ∷ e9 ∷ e10 ∷ e11 ∷ e12 ∷ e13·1 ∷ e14·1 ∷ e15 ∷ List.[]
 abbrev pub t29 : List.List Row.Entry
-t29 = e0 ∷ e1 ∷ e2 ∷ e3 ∷ e4·1 ∷ e5·1 ∷ e6·1 ∷ e7·1 ∷ e8 ∷ e9 ∷ e10 ∷ e11 ∷ e12·1 ∷ e13·1 ∷ e14 ∷ e15 ∷ List.[]
+t29 = e16 ∷ e17 ∷ e18·2 ∷ e19 ∷ e20·2 ∷ e21 ∷ e22·2 ∷ e23 ∷ e24·2 ∷ e25 ∷ e26 ∷ e27 ∷ e28 ∷ e29 ∷ e30 ∷ e31 ∷ List.[]
 abbrev pub t30 : List.List Row.Entry
-t30 = e16 ∷ e17 ∷ e18 ∷ e19 ∷ e20 ∷ e21·2 ∷ e22 ∷ e23·2 ∷ e24 ∷ e25 ∷ e26 ∷ e27 ∷ e28 ∷ e29 ∷ e30 ∷ e31 ∷ List.[]
+t30 = e0 ∷ e1 ∷ e2 ∷ e3·1 ∷ e4·1 ∷ e5·1 ∷ e6·1 ∷ e7·1 ∷ e8·1 ∷ e9 ∷ e10 ∷ e11 ∷ e12 ∷ e13·1 ∷ e14·1 ∷ e15 ∷ List.[]
 abbrev pub t31 : List.List Row.Entry
-t31 = e0 ∷ e1 ∷ e2 ∷ e3 ∷ e4 ∷ e5·1 ∷ e6·1 ∷ e7·1 ∷ e8 ∷ e9 ∷ e10 ∷ e11 ∷ e12·1 ∷ e13·1 ∷ e14 ∷ e15 ∷ List.[]
+t31 = e16 ∷ e17 ∷ e18 ∷ e19 ∷ e20·2 ∷ e21 ∷ e22·2 ∷ e23 ∷ e24·2 ∷ e25 ∷ e26 ∷ e27 ∷ e28 ∷ e29 ∷ e30 ∷ e31 ∷ List.[]
 abbrev pub t32 : List.List Row.Entry
-t32 = e16 ∷ e17 ∷ e18 ∷ e19 ∷ e20 ∷ e21 ∷ e22 ∷ e23·2 ∷ e24 ∷ e25 ∷ e26 ∷ e27 ∷ e28 ∷ e29 ∷ e30 ∷ e31 ∷ List.[]
+t32 = e0 ∷ e1 ∷ e2 ∷ e3 ∷ e4·1 ∷ e5·1 ∷ e6·1 ∷ e7·1 ∷ e8·1 ∷ e9 ∷ e10 ∷ e11 ∷ e12 ∷ e13·1 ∷ e14·1 ∷ e15 ∷ List.[]
 abbrev pub t33 : List.List Row.Entry
-t33 = e0 ∷ e1·2 ∷ e2 ∷ e3 ∷ e4 ∷ e5 ∷ e6 ∷ e7 ∷ e8 ∷ e9 ∷ e10 ∷ e11 ∷ e12·1 ∷ e13 ∷ e14 ∷ e15 ∷ List.[]
+t33 = e16 ∷ e17 ∷ e18 ∷ e19 ∷ e20 ∷ e21 ∷ e22·2 ∷ e23 ∷ e24·2 ∷ e25 ∷ e26 ∷ e27 ∷ e28 ∷ e29 ∷ e30 ∷ e31 ∷ List.[]
 abbrev pub t34 : List.List Row.Entry
-t34 = e16 ∷ e17 ∷ e18 ∷ e19 ∷ e20 ∷ e21 ∷ e22 ∷ e23 ∷ e24·1 ∷ e25 ∷ e26 ∷ e27 ∷ e28 ∷ e29 ∷ e30 ∷ e31 ∷ List.[]
+t34 = e0 ∷ e1 ∷ e2 ∷ e3 ∷ e4 ∷ e5·1 ∷ e6·1 ∷ e7·1 ∷ e8·1 ∷ e9 ∷ e10 ∷ e11 ∷ e12 ∷ e13·1 ∷ e14·1 ∷ e15 ∷ List.[]
 abbrev pub t35 : List.List Row.Entry
-t35 = e16 ∷ e17 ∷ e18 ∷ e19 ∷ e20 ∷ e21 ∷ e22 ∷ e23 ∷ e24 ∷ e25·1 ∷ e26 ∷ e27 ∷ e28 ∷ e29 ∷ e30 ∷ e31 ∷ List.[]
+t35 = e16 ∷ e17 ∷ e18 ∷ e19 ∷ e20 ∷ e21 ∷ e22 ∷ e23 ∷ e24·2 ∷ e25 ∷ e26 ∷ e27 ∷ e28 ∷ e29 ∷ e30 ∷ e31 ∷ List.[]
 abbrev pub t36 : List.List Row.Entry
-t36 = e0 ∷ e1·2 ∷ e2·2 ∷ e3 ∷ e4 ∷ e5 ∷ e6 ∷ e7 ∷ e8 ∷ e9 ∷ e10 ∷ e11 ∷ e12·1 ∷ e13 ∷ e14 ∷ e15 ∷ List.[]
+t36 = e0 ∷ e1·2 ∷ e2 ∷ e3 ∷ e4 ∷ e5 ∷ e6 ∷ e7 ∷ e8 ∷ e9 ∷ e10 ∷ e11 ∷ e12 ∷ e13·1 ∷ e14 ∷ e15 ∷ List.[]
 abbrev pub t37 : List.List Row.Entry
-t37 = e16 ∷ e17 ∷ e18 ∷ e19 ∷ e20 ∷ e21 ∷ e22 ∷ e23 ∷ e24 ∷ e25·1 ∷ e26·1 ∷ e27 ∷ e28 ∷ e29 ∷ e30 ∷ e31 ∷ List.[]
+t37 = e16 ∷ e17 ∷ e18 ∷ e19 ∷ e20 ∷ e21 ∷ e22 ∷ e23 ∷ e24 ∷ e25·1 ∷ e26 ∷ e27 ∷ e28 ∷ e29 ∷ e30 ∷ e31 ∷ List.[]
 abbrev pub t38 : List.List Row.Entry
-t38 = e16 ∷ e17 ∷ e18 ∷ e19 ∷ e20 ∷ e21 ∷ e22 ∷ e23 ∷ e24 ∷ e25·1 ∷ e26 ∷ e27·1 ∷ e28 ∷ e29 ∷ e30 ∷ e31 ∷ List.[]
+t38 = e16 ∷ e17 ∷ e18 ∷ e19 ∷ e20 ∷ e21 ∷ e22 ∷ e23 ∷ e24 ∷ e25 ∷ e26·1 ∷ e27 ∷ e28 ∷ e29 ∷ e30 ∷ e31 ∷ List.[]
 abbrev pub t39 : List.List Row.Entry
-t39 = e0 ∷ e1·2 ∷ e2·2 ∷ e3 ∷ e4·2 ∷ e5 ∷ e6 ∷ e7 ∷ e8 ∷ e9 ∷ e10 ∷ e11 ∷ e12·1 ∷ e13 ∷ e14 ∷ e15 ∷ List.[]
+t39 = e0 ∷ e1·2 ∷ e2·2 ∷ e3 ∷ e4 ∷ e5 ∷ e6 ∷ e7 ∷ e8 ∷ e9 ∷ e10 ∷ e11 ∷ e12 ∷ e13·1 ∷ e14 ∷ e15 ∷ List.[]
 abbrev pub t40 : List.List Row.Entry
-t40 = e16 ∷ e17 ∷ e18 ∷ e19 ∷ e20 ∷ e21 ∷ e22 ∷ e23 ∷ e24 ∷ e25·1 ∷ e26 ∷ e27·1 ∷ e28·1 ∷ e29 ∷ e30 ∷ e31 ∷ List.[]
+t40 = e16 ∷ e17 ∷ e18 ∷ e19 ∷ e20 ∷ e21 ∷ e22 ∷ e23 ∷ e24 ∷ e25 ∷ e26·1 ∷ e27·1 ∷ e28 ∷ e29 ∷ e30 ∷ e31 ∷ List.[]
 abbrev pub t41 : List.List Row.Entry
-t41 = e16 ∷ e17 ∷ e18 ∷ e19 ∷ e20 ∷ e21 ∷ e22 ∷ e23 ∷ e24 ∷ e25·1 ∷ e26 ∷ e27·1 ∷ e28 ∷ e29·1 ∷ e30 ∷ e31 ∷ List.[]
+t41 = e16 ∷ e17 ∷ e18 ∷ e19 ∷ e20 ∷ e21 ∷ e22 ∷ e23 ∷ e24 ∷ e25 ∷ e26·1 ∷ e27 ∷ e28·1 ∷ e29 ∷ e30 ∷ e31 ∷ List.[]
 abbrev pub t42 : List.List Row.Entry
-t42 = e0 ∷ e1·2 ∷ e2·2 ∷ e3 ∷ e4·2 ∷ e5·2 ∷ e6 ∷ e7 ∷ e8 ∷ e9 ∷ e10 ∷ e11 ∷ e12·1 ∷ e13 ∷ e14 ∷ e15 ∷ List.[]
+t42 = e0 ∷ e1·2 ∷ e2·2 ∷ e3 ∷ e4·2 ∷ e5 ∷ e6 ∷ e7 ∷ e8 ∷ e9 ∷ e10 ∷ e11 ∷ e12 ∷ e13·1 ∷ e14 ∷ e15 ∷ List.[]
 abbrev pub t43 : List.List Row.Entry
-t43 = e16 ∷ e17 ∷ e18 ∷ e19 ∷ e20 ∷ e21 ∷ e22 ∷ e23 ∷ e24 ∷ e25·1 ∷ e26 ∷ e27·1 ∷ e28 ∷ e29·1 ∷ e30·1 ∷ e31 ∷ List.[]
+t43 = e16 ∷ e17 ∷ e18 ∷ e19 ∷ e20 ∷ e21 ∷ e22 ∷ e23 ∷ e24 ∷ e25 ∷ e26·1 ∷ e27 ∷ e28·1 ∷ e29·1 ∷ e30 ∷ e31 ∷ List.[]
 abbrev pub t44 : List.List Row.Entry
-t44 = e16 ∷ e17 ∷ e18 ∷ e19 ∷ e20 ∷ e21 ∷ e22 ∷ e23 ∷ e24 ∷ e25·1 ∷ e26 ∷ e27·1 ∷ e28 ∷ e29·1 ∷ e30 ∷ e31·1 ∷ List.[]
+t44 = e16 ∷ e17 ∷ e18 ∷ e19 ∷ e20 ∷ e21 ∷ e22 ∷ e23 ∷ e24 ∷ e25 ∷ e26·1 ∷ e27 ∷ e28·1 ∷ e29 ∷ e30·1 ∷ e31 ∷ List.[]
 abbrev pub t45 : List.List Row.Entry
-t45 = e0 ∷ e1·2 ∷ e2·2 ∷ e3 ∷ e4·2 ∷ e5·2 ∷ e6 ∷ e7 ∷ e8 ∷ e9 ∷ e10 ∷ e11 ∷ e12·1 ∷ e13·1 ∷ e14 ∷ e15 ∷ List.[]
+t45 = e0 ∷ e1·2 ∷ e2·2 ∷ e3 ∷ e4·2 ∷ e5·2 ∷ e6 ∷ e7 ∷ e8 ∷ e9 ∷ e10 ∷ e11 ∷ e12 ∷ e13·1 ∷ e14 ∷ e15 ∷ List.[]
 abbrev pub t46 : List.List Row.Entry
-t46 = e16 ∷ e17 ∷ e18 ∷ e19 ∷ e20 ∷ e21 ∷ e22 ∷ e23 ∷ e24 ∷ e25·2 ∷ e26 ∷ e27·2 ∷ e28 ∷ e29·2 ∷ e30 ∷ e31·2 ∷ List.[]
+t46 = e16 ∷ e17 ∷ e18 ∷ e19 ∷ e20 ∷ e21 ∷ e22 ∷ e23 ∷ e24 ∷ e25 ∷ e26·1 ∷ e27 ∷ e28·1 ∷ e29 ∷ e30·1 ∷ e31·1 ∷ List.[]
 abbrev pub t47 : List.List Row.Entry
-t47 = e0 ∷ e1·2 ∷ e2·2 ∷ e3 ∷ e4·2 ∷ e5·2 ∷ e6·1 ∷ e7 ∷ e8 ∷ e9 ∷ e10 ∷ e11 ∷ e12·1 ∷ e13·1 ∷ e14 ∷ e15 ∷ List.[]
+t47 = e32·1 ∷ e33 ∷ e34 ∷ e35 ∷ e36 ∷ e37 ∷ e38 ∷ e39 ∷ e40 ∷ e41 ∷ e42 ∷ e43 ∷ e44 ∷ e45 ∷ e46 ∷ e47 ∷ List.[]
 abbrev pub t48 : List.List Row.Entry
-t48 = e0 ∷ e1·2 ∷ e2·2 ∷ e3 ∷ e4·2 ∷ e5·2 ∷ e6·1 ∷ e7·1 ∷ e8 ∷ e9 ∷ e10 ∷ e11 ∷ e12·1 ∷ e13·1 ∷ e14 ∷ e15 ∷ List.[]
+t48 = e0 ∷ e1·2 ∷ e2·2 ∷ e3 ∷ e4·2 ∷ e5·2 ∷ e6 ∷ e7 ∷ e8 ∷ e9 ∷ e10 ∷ e11 ∷ e12 ∷ e13·1 ∷ e14·1 ∷ e15 ∷ List.[]
 abbrev pub t49 : List.List Row.Entry
-t49 = e0 ∷ e1 ∷ e2·2 ∷ e3 ∷ e4·2 ∷ e5·2 ∷ e6·1 ∷ e7·1 ∷ e8 ∷ e9 ∷ e10 ∷ e11 ∷ e12·1 ∷ e13·1 ∷ e14 ∷ e15 ∷ List.[]
+t49 = e16 ∷ e17 ∷ e18 ∷ e19 ∷ e20 ∷ e21 ∷ e22 ∷ e23 ∷ e24 ∷ e25 ∷ e26·2 ∷ e27 ∷ e28·2 ∷ e29 ∷ e30·2 ∷ e31 ∷ List.[]
 abbrev pub t50 : List.List Row.Entry
-t50 = e16 ∷ e17 ∷ e18 ∷ e19 ∷ e20 ∷ e21 ∷ e22 ∷ e23 ∷ e24 ∷ e25 ∷ e26 ∷ e27·2 ∷ e28 ∷ e29·2 ∷ e30 ∷ e31·2 ∷ List.[]
+t50 = e32·2 ∷ e33 ∷ e34 ∷ e35 ∷ e36 ∷ e37 ∷ e38 ∷ e39 ∷ e40 ∷ e41 ∷ e42 ∷ e43 ∷ e44 ∷ e45 ∷ e46 ∷ e47 ∷ List.[]
 abbrev pub t51 : List.List Row.Entry
-t51 = e0 ∷ e1 ∷ e2 ∷ e3 ∷ e4·2 ∷ e5·2 ∷ e6·1 ∷ e7·1 ∷ e8 ∷ e9 ∷ e10 ∷ e11 ∷ e12·1 ∷ e13·1 ∷ e14 ∷ e15 ∷ List.[]
+t51 = e0 ∷ e1·2 ∷ e2·2 ∷ e3 ∷ e4·2 ∷ e5·2 ∷ e6·1 ∷ e7 ∷ e8 ∷ e9 ∷ e10 ∷ e11 ∷ e12 ∷ e13·1 ∷ e14·1 ∷ e15 ∷ List.[]
 abbrev pub t52 : List.List Row.Entry
-t52 = e16 ∷ e17 ∷ e18 ∷ e19 ∷ e20 ∷ e21 ∷ e22 ∷ e23 ∷ e24 ∷ e25 ∷ e26 ∷ e27 ∷ e28 ∷ e29·2 ∷ e30 ∷ e31·2 ∷ List.[]
+t52 = e0 ∷ e1·2 ∷ e2·2 ∷ e3 ∷ e4·2 ∷ e5·2 ∷ e6·1 ∷ e7·1 ∷ e8 ∷ e9 ∷ e10 ∷ e11 ∷ e12 ∷ e13·1 ∷ e14·1 ∷ e15 ∷ List.[]
 abbrev pub t53 : List.List Row.Entry
-t53 = e0 ∷ e1 ∷ e2 ∷ e3 ∷ e4 ∷ e5·2 ∷ e6·1 ∷ e7·1 ∷ e8 ∷ e9 ∷ e10 ∷ e11 ∷ e12·1 ∷ e13·1 ∷ e14 ∷ e15 ∷ List.[]
+t53 = e0 ∷ e1·2 ∷ e2·2 ∷ e3 ∷ e4·2 ∷ e5·2 ∷ e6·1 ∷ e7·1 ∷ e8·1 ∷ e9 ∷ e10 ∷ e11 ∷ e12 ∷ e13·1 ∷ e14·1 ∷ e15 ∷ List.[]
 abbrev pub t54 : List.List Row.Entry
-t54 = e16 ∷ e17 ∷ e18 ∷ e19 ∷ e20 ∷ e21 ∷ e22 ∷ e23 ∷ e24 ∷ e25 ∷ e26 ∷ e27 ∷ e28 ∷ e29 ∷ e30 ∷ e31·2 ∷ List.[]
+t54 = e0 ∷ e1 ∷ e2·2 ∷ e3 ∷ e4·2 ∷ e5·2 ∷ e6·1 ∷ e7·1 ∷ e8·1 ∷ e9 ∷ e10 ∷ e11 ∷ e12 ∷ e13·1 ∷ e14·1 ∷ e15 ∷ List.[]
 abbrev pub t55 : List.List Row.Entry
-t55 = e0 ∷ e1 ∷ e2·3 ∷ e3 ∷ e4 ∷ e5 ∷ e6 ∷ e7 ∷ e8 ∷ e9 ∷ e10 ∷ e11 ∷ e12·1 ∷ e13 ∷ e14 ∷ e15 ∷ List.[]
+t55 = e16 ∷ e17 ∷ e18 ∷ e19 ∷ e20 ∷ e21 ∷ e22 ∷ e23 ∷ e24 ∷ e25 ∷ e26 ∷ e27 ∷ e28·2 ∷ e29 ∷ e30·2 ∷ e31 ∷ List.[]
 abbrev pub t56 : List.List Row.Entry
-t56 = e32·1 ∷ e33 ∷ e34 ∷ e35 ∷ e36 ∷ e37 ∷ e38 ∷ e39 ∷ e40 ∷ e41 ∷ e42 ∷ e43 ∷ e44 ∷ e45 ∷ e46 ∷ e47 ∷ List.[]
+t56 = e0 ∷ e1 ∷ e2 ∷ e3 ∷ e4·2 ∷ e5·2 ∷ e6·1 ∷ e7·1 ∷ e8·1 ∷ e9 ∷ e10 ∷ e11 ∷ e12 ∷ e13·1 ∷ e14·1 ∷ e15 ∷ List.[]
 abbrev pub t57 : List.List Row.Entry
-t57 = e32 ∷ e33·1 ∷ e34 ∷ e35 ∷ e36 ∷ e37 ∷ e38 ∷ e39 ∷ e40 ∷ e41 ∷ e42 ∷ e43 ∷ e44 ∷ e45 ∷ e46 ∷ e47 ∷ List.[]
+t57 = e16 ∷ e17 ∷ e18 ∷ e19 ∷ e20 ∷ e21 ∷ e22 ∷ e23 ∷ e24 ∷ e25 ∷ e26 ∷ e27 ∷ e28 ∷ e29 ∷ e30·2 ∷ e31 ∷ List.[]
 abbrev pub t58 : List.List Row.Entry
-t58 = e0 ∷ e1 ∷ e2·3 ∷ e3·2 ∷ e4 ∷ e5 ∷ e6 ∷ e7 ∷ e8 ∷ e9 ∷ e10 ∷ e11 ∷ e12·1 ∷ e13 ∷ e14 ∷ e15 ∷ List.[]
+t58 = e0 ∷ e1 ∷ e2 ∷ e3 ∷ e4 ∷ e5·2 ∷ e6·1 ∷ e7·1 ∷ e8·1 ∷ e9 ∷ e10 ∷ e11 ∷ e12 ∷ e13·1 ∷ e14·1 ∷ e15 ∷ List.[]
 abbrev pub t59 : List.List Row.Entry
-t59 = e32 ∷ e33·1 ∷ e34·1 ∷ e35 ∷ e36 ∷ e37 ∷ e38 ∷ e39 ∷ e40 ∷ e41 ∷ e42 ∷ e43 ∷ e44 ∷ e45 ∷ e46 ∷ e47 ∷ List.[]
+t59 = e0 ∷ e1 ∷ e2·3 ∷ e3 ∷ e4 ∷ e5 ∷ e6 ∷ e7 ∷ e8 ∷ e9 ∷ e10 ∷ e11 ∷ e12 ∷ e13·1 ∷ e14 ∷ e15 ∷ List.[]
 abbrev pub t60 : List.List Row.Entry
-t60 = e32 ∷ e33·1 ∷ e34 ∷ e35·1 ∷ e36 ∷ e37 ∷ e38 ∷ e39 ∷ e40 ∷ e41 ∷ e42 ∷ e43 ∷ e44 ∷ e45 ∷ e46 ∷ e47 ∷ List.[]
+t60 = e32 ∷ e33·1 ∷ e34 ∷ e35 ∷ e36 ∷ e37 ∷ e38 ∷ e39 ∷ e40 ∷ e41 ∷ e42 ∷ e43 ∷ e44 ∷ e45 ∷ e46 ∷ e47 ∷ List.[]
 abbrev pub t61 : List.List Row.Entry
-t61 = e0 ∷ e1 ∷ e2·3 ∷ e3·2 ∷ e4·3 ∷ e5 ∷ e6 ∷ e7 ∷ e8 ∷ e9 ∷ e10 ∷ e11 ∷ e12·1 ∷ e13 ∷ e14 ∷ e15 ∷ List.[]
+t61 = e32 ∷ e33 ∷ e34·1 ∷ e35 ∷ e36 ∷ e37 ∷ e38 ∷ e39 ∷ e40 ∷ e41 ∷ e42 ∷ e43 ∷ e44 ∷ e45 ∷ e46 ∷ e47 ∷ List.[]
 abbrev pub t62 : List.List Row.Entry
-t62 = e32 ∷ e33·1 ∷ e34 ∷ e35·1 ∷ e36·1 ∷ e37 ∷ e38 ∷ e39 ∷ e40 ∷ e41 ∷ e42 ∷ e43 ∷ e44 ∷ e45 ∷ e46 ∷ e47 ∷ List.[]
+t62 = e0 ∷ e1 ∷ e2·3 ∷ e3·2 ∷ e4 ∷ e5 ∷ e6 ∷ e7 ∷ e8 ∷ e9 ∷ e10 ∷ e11 ∷ e12 ∷ e13·1 ∷ e14 ∷ e15 ∷ List.[]
 abbrev pub t63 : List.List Row.Entry
-t63 = e32 ∷ e33·1 ∷ e34 ∷ e35·1 ∷ e36 ∷ e37·1 ∷ e38 ∷ e39 ∷ e40 ∷ e41 ∷ e42 ∷ e43 ∷ e44 ∷ e45 ∷ e46 ∷ e47 ∷ List.[]
+t63 = e32 ∷ e33 ∷ e34·1 ∷ e35·1 ∷ e36 ∷ e37 ∷ e38 ∷ e39 ∷ e40 ∷ e41 ∷ e42 ∷ e43 ∷ e44 ∷ e45 ∷ e46 ∷ e47 ∷ List.[]
 abbrev pub t64 : List.List Row.Entry
-t64 = e0 ∷ e1 ∷ e2·3 ∷ e3·2 ∷ e4·3 ∷ e5·3 ∷ e6 ∷ e7 ∷ e8 ∷ e9 ∷ e10 ∷ e11 ∷ e12·1 ∷ e13 ∷ e14 ∷ e15 ∷ List.[]
+t64 = e32 ∷ e33 ∷ e34·1 ∷ e35 ∷ e36·1 ∷ e37 ∷ e38 ∷ e39 ∷ e40 ∷ e41 ∷ e42 ∷ e43 ∷ e44 ∷ e45 ∷ e46 ∷ e47 ∷ List.[]
 abbrev pub t65 : List.List Row.Entry
-t65 = e32 ∷ e33·1 ∷ e34 ∷ e35·1 ∷ e36 ∷ e37·1 ∷ e38·1 ∷ e39 ∷ e40 ∷ e41 ∷ e42 ∷ e43 ∷ e44 ∷ e45 ∷ e46 ∷ e47 ∷ List.[]
+t65 = e0 ∷ e1 ∷ e2·3 ∷ e3·2 ∷ e4·3 ∷ e5 ∷ e6 ∷ e7 ∷ e8 ∷ e9 ∷ e10 ∷ e11 ∷ e12 ∷ e13·1 ∷ e14 ∷ e15 ∷ List.[]
 abbrev pub t66 : List.List Row.Entry
-t66 = e32 ∷ e33·1 ∷ e34 ∷ e35·1 ∷ e36 ∷ e37·1 ∷ e38 ∷ e39·1 ∷ e40 ∷ e41 ∷ e42 ∷ e43 ∷ e44 ∷ e45 ∷ e46 ∷ e47 ∷ List.[]
+t66 = e32 ∷ e33 ∷ e34·1 ∷ e35 ∷ e36·1 ∷ e37·1 ∷ e38 ∷ e39 ∷ e40 ∷ e41 ∷ e42 ∷ e43 ∷ e44 ∷ e45 ∷ e46 ∷ e47 ∷ List.[]
 abbrev pub t67 : List.List Row.Entry
-t67 = e0 ∷ e1 ∷ e2·3 ∷ e3·2 ∷ e4·3 ∷ e5·3 ∷ e6 ∷ e7 ∷ e8 ∷ e9 ∷ e10 ∷ e11 ∷ e12·1 ∷ e13·1 ∷ e14 ∷ e15 ∷ List.[]
+t67 = e32 ∷ e33 ∷ e34·1 ∷ e35 ∷ e36·1 ∷ e37 ∷ e38·1 ∷ e39 ∷ e40 ∷ e41 ∷ e42 ∷ e43 ∷ e44 ∷ e45 ∷ e46 ∷ e47 ∷ List.[]
 abbrev pub t68 : List.List Row.Entry
-t68 = e32 ∷ e33·2 ∷ e34 ∷ e35·2 ∷ e36 ∷ e37·2 ∷ e38 ∷ e39·2 ∷ e40 ∷ e41 ∷ e42 ∷ e43 ∷ e44 ∷ e45 ∷ e46 ∷ e47 ∷ List.[]
+t68 = e0 ∷ e1 ∷ e2·3 ∷ e3·2 ∷ e4·3 ∷ e5·3 ∷ e6 ∷ e7 ∷ e8 ∷ e9 ∷ e10 ∷ e11 ∷ e12 ∷ e13·1 ∷ e14 ∷ e15 ∷ List.[]
 abbrev pub t69 : List.List Row.Entry
-t69 = e0 ∷ e1 ∷ e2·3 ∷ e3·2 ∷ e4·3 ∷ e5·3 ∷ e6·1 ∷ e7 ∷ e8 ∷ e9 ∷ e10 ∷ e11 ∷ e12·1 ∷ e13·1 ∷ e14 ∷ e15 ∷ List.[]
+t69 = e32 ∷ e33 ∷ e34·1 ∷ e35 ∷ e36·1 ∷ e37 ∷ e38·1 ∷ e39·1 ∷ e40 ∷ e41 ∷ e42 ∷ e43 ∷ e44 ∷ e45 ∷ e46 ∷ e47 ∷ List.[]
 abbrev pub t70 : List.List Row.Entry
-t70 = e0 ∷ e1 ∷ e2·3 ∷ e3·2 ∷ e4·3 ∷ e5·3 ∷ e6·1 ∷ e7·1 ∷ e8 ∷ e9 ∷ e10 ∷ e11 ∷ e12·1 ∷ e13·1 ∷ e14 ∷ e15 ∷ List.[]
+t70 = e32 ∷ e33 ∷ e34·1 ∷ e35 ∷ e36·1 ∷ e37 ∷ e38·1 ∷ e39 ∷ e40·1 ∷ e41 ∷ e42 ∷ e43 ∷ e44 ∷ e45 ∷ e46 ∷ e47 ∷ List.[]
 abbrev pub t71 : List.List Row.Entry
-t71 = e0 ∷ e1 ∷ e2 ∷ e3·2 ∷ e4·3 ∷ e5·3 ∷ e6·1 ∷ e7·1 ∷ e8 ∷ e9 ∷ e10 ∷ e11 ∷ e12·1 ∷ e13·1 ∷ e14 ∷ e15 ∷ List.[]
+t71 = e0 ∷ e1 ∷ e2·3 ∷ e3·2 ∷ e4·3 ∷ e5·3 ∷ e6 ∷ e7 ∷ e8 ∷ e9 ∷ e10 ∷ e11 ∷ e12 ∷ e13·1 ∷ e14·1 ∷ e15 ∷ List.[]
 abbrev pub t72 : List.List Row.Entry
-t72 = e32 ∷ e33 ∷ e34 ∷ e35·2 ∷ e36 ∷ e37·2 ∷ e38 ∷ e39·2 ∷ e40 ∷ e41 ∷ e42 ∷ e43 ∷ e44 ∷ e45 ∷ e46 ∷ e47 ∷ List.[]
+t72 = e32 ∷ e33 ∷ e34·2 ∷ e35 ∷ e36·2 ∷ e37 ∷ e38·2 ∷ e39 ∷ e40·2 ∷ e41 ∷ e42 ∷ e43 ∷ e44 ∷ e45 ∷ e46 ∷ e47 ∷ List.[]
 abbrev pub t73 : List.List Row.Entry
-t73 = e0 ∷ e1 ∷ e2 ∷ e3 ∷ e4·3 ∷ e5·3 ∷ e6·1 ∷ e7·1 ∷ e8 ∷ e9 ∷ e10 ∷ e11 ∷ e12·1 ∷ e13·1 ∷ e14 ∷ e15 ∷ List.[]
+t73 = e0 ∷ e1 ∷ e2·3 ∷ e3·2 ∷ e4·3 ∷ e5·3 ∷ e6·1 ∷ e7 ∷ e8 ∷ e9 ∷ e10 ∷ e11 ∷ e12 ∷ e13·1 ∷ e14·1 ∷ e15 ∷ List.[]
 abbrev pub t74 : List.List Row.Entry
-t74 = e32 ∷ e33 ∷ e34 ∷ e35 ∷ e36 ∷ e37·2 ∷ e38 ∷ e39·2 ∷ e40 ∷ e41 ∷ e42 ∷ e43 ∷ e44 ∷ e45 ∷ e46 ∷ e47 ∷ List.[]
+t74 = e0 ∷ e1 ∷ e2·3 ∷ e3·2 ∷ e4·3 ∷ e5·3 ∷ e6·1 ∷ e7·1 ∷ e8 ∷ e9 ∷ e10 ∷ e11 ∷ e12 ∷ e13·1 ∷ e14·1 ∷ e15 ∷ List.[]
 abbrev pub t75 : List.List Row.Entry
-t75 = e0 ∷ e1 ∷ e2 ∷ e3 ∷ e4 ∷ e5·3 ∷ e6·1 ∷ e7·1 ∷ e8 ∷ e9 ∷ e10 ∷ e11 ∷ e12·1 ∷ e13·1 ∷ e14 ∷ e15 ∷ List.[]
+t75 = e0 ∷ e1 ∷ e2·3 ∷ e3·2 ∷ e4·3 ∷ e5·3 ∷ e6·1 ∷ e7·1 ∷ e8·1 ∷ e9 ∷ e10 ∷ e11 ∷ e12 ∷ e13·1 ∷ e14·1 ∷ e15 ∷ List.[]
 abbrev pub t76 : List.List Row.Entry
-t76 = e32 ∷ e33 ∷ e34 ∷ e35 ∷ e36 ∷ e37 ∷ e38 ∷ e39·2 ∷ e40 ∷ e41 ∷ e42 ∷ e43 ∷ e44 ∷ e45 ∷ e46 ∷ e47 ∷ List.[]
+t76 = e0 ∷ e1 ∷ e2 ∷ e3·2 ∷ e4·3 ∷ e5·3 ∷ e6·1 ∷ e7·1 ∷ e8·1 ∷ e9 ∷ e10 ∷ e11 ∷ e12 ∷ e13·1 ∷ e14·1 ∷ e15 ∷ List.[]
 abbrev pub t77 : List.List Row.Entry
-t77 = e0 ∷ e1 ∷ e2·4 ∷ e3 ∷ e4 ∷ e5 ∷ e6 ∷ e7 ∷ e8 ∷ e9 ∷ e10 ∷ e11 ∷ e12·1 ∷ e13 ∷ e14 ∷ e15 ∷ List.[]
+t77 = e32 ∷ e33 ∷ e34 ∷ e35 ∷ e36·2 ∷ e37 ∷ e38·2 ∷ e39 ∷ e40·2 ∷ e41 ∷ e42 ∷ e43 ∷ e44 ∷ e45 ∷ e46 ∷ e47 ∷ List.[]
 abbrev pub t78 : List.List Row.Entry
-t78 = e32 ∷ e33 ∷ e34 ∷ e35 ∷ e36 ∷ e37 ∷ e38 ∷ e39 ∷ e40·1 ∷ e41 ∷ e42 ∷ e43 ∷ e44 ∷ e45 ∷ e46 ∷ e47 ∷ List.[]
+t78 = e0 ∷ e1 ∷ e2 ∷ e3 ∷ e4·3 ∷ e5·3 ∷ e6·1 ∷ e7·1 ∷ e8·1 ∷ e9 ∷ e10 ∷ e11 ∷ e12 ∷ e13·1 ∷ e14·1 ∷ e15 ∷ List.[]
 abbrev pub t79 : List.List Row.Entry
-t79 = e32 ∷ e33 ∷ e34 ∷ e35 ∷ e36 ∷ e37 ∷ e38 ∷ e39 ∷ e40 ∷ e41·1 ∷ e42 ∷ e43 ∷ e44 ∷ e45 ∷ e46 ∷ e47 ∷ List.[]
+t79 = e32 ∷ e33 ∷ e34 ∷ e35 ∷ e36 ∷ e37 ∷ e38·2 ∷ e39 ∷ e40·2 ∷ e41 ∷ e42 ∷ e43 ∷ e44 ∷ e45 ∷ e46 ∷ e47 ∷ List.[]
 abbrev pub t80 : List.List Row.Entry
-t80 = e0 ∷ e1 ∷ e2·4 ∷ e3 ∷ e4·4 ∷ e5 ∷ e6 ∷ e7 ∷ e8 ∷ e9 ∷ e10 ∷ e11 ∷ e12·1 ∷ e13 ∷ e14 ∷ e15 ∷ List.[]
+t80 = e0 ∷ e1 ∷ e2 ∷ e3 ∷ e4 ∷ e5·3 ∷ e6·1 ∷ e7·1 ∷ e8·1 ∷ e9 ∷ e10 ∷ e11 ∷ e12 ∷ e13·1 ∷ e14·1 ∷ e15 ∷ List.[]
 abbrev pub t81 : List.List Row.Entry
-t81 = e32 ∷ e33 ∷ e34 ∷ e35 ∷ e36 ∷ e37 ∷ e38 ∷ e39 ∷ e40 ∷ e41·1 ∷ e42·1 ∷ e43 ∷ e44 ∷ e45 ∷ e46 ∷ e47 ∷ List.[]
+t81 = e32 ∷ e33 ∷ e34 ∷ e35 ∷ e36 ∷ e37 ∷ e38 ∷ e39 ∷ e40·2 ∷ e41 ∷ e42 ∷ e43 ∷ e44 ∷ e45 ∷ e46 ∷ e47 ∷ List.[]
 abbrev pub t82 : List.List Row.Entry
-t82 = e32 ∷ e33 ∷ e34 ∷ e35 ∷ e36 ∷ e37 ∷ e38 ∷ e39 ∷ e40 ∷ e41·1 ∷ e42 ∷ e43·1 ∷ e44 ∷ e45 ∷ e46 ∷ e47 ∷ List.[]
+t82 = e0 ∷ e1 ∷ e2·4 ∷ e3 ∷ e4 ∷ e5 ∷ e6 ∷ e7 ∷ e8 ∷ e9 ∷ e10 ∷ e11 ∷ e12 ∷ e13·1 ∷ e14 ∷ e15 ∷ List.[]
 abbrev pub t83 : List.List Row.Entry
-t83 = e0 ∷ e1 ∷ e2·4 ∷ e3 ∷ e4·4 ∷ e5·4 ∷ e6 ∷ e7 ∷ e8 ∷ e9 ∷ e10 ∷ e11 ∷ e12·1 ∷ e13 ∷ e14 ∷ e15 ∷ List.[]
+t83 = e32 ∷ e33 ∷ e34 ∷ e35 ∷ e36 ∷ e37 ∷ e38 ∷ e39 ∷ e40 ∷ e41·1 ∷ e42 ∷ e43 ∷ e44 ∷ e45 ∷ e46 ∷ e47 ∷ List.[]
 abbrev pub t84 : List.List Row.Entry
-t84 = e32 ∷ e33 ∷ e34 ∷ e35 ∷ e36 ∷ e37 ∷ e38 ∷ e39 ∷ e40 ∷ e41·1 ∷ e42 ∷ e43·1 ∷ e44·1 ∷ e45 ∷ e46 ∷ e47 ∷ List.[]
+t84 = e32 ∷ e33 ∷ e34 ∷ e35 ∷ e36 ∷ e37 ∷ e38 ∷ e39 ∷ e40 ∷ e41 ∷ e42·1 ∷ e43 ∷ e44 ∷ e45 ∷ e46 ∷ e47 ∷ List.[]
 abbrev pub t85 : List.List Row.Entry
-t85 = e32 ∷ e33 ∷ e34 ∷ e35 ∷ e36 ∷ e37 ∷ e38 ∷ e39 ∷ e40 ∷ e41·1 ∷ e42 ∷ e43·1 ∷ e44 ∷ e45·1 ∷ e46 ∷ e47 ∷ List.[]
+t85 = e0 ∷ e1 ∷ e2·4 ∷ e3 ∷ e4·4 ∷ e5 ∷ e6 ∷ e7 ∷ e8 ∷ e9 ∷ e10 ∷ e11 ∷ e12 ∷ e13·1 ∷ e14 ∷ e15 ∷ List.[]
 abbrev pub t86 : List.List Row.Entry
-t86 = e0 ∷ e1 ∷ e2·4 ∷ e3 ∷ e4·4 ∷ e5·4 ∷ e6 ∷ e7 ∷ e8 ∷ e9 ∷ e10 ∷ e11 ∷ e12·1 ∷ e13·1 ∷ e14 ∷ e15 ∷ List.[]
+t86 = e32 ∷ e33 ∷ e34 ∷ e35 ∷ e36 ∷ e37 ∷ e38 ∷ e39 ∷ e40 ∷ e41 ∷ e42·1 ∷ e43·1 ∷ e44 ∷ e45 ∷ e46 ∷ e47 ∷ List.[]
 abbrev pub t87 : List.List Row.Entry
-t87 = e32 ∷ e33 ∷ e34 ∷ e35 ∷ e36 ∷ e37 ∷ e38 ∷ e39 ∷ e40 ∷ e41·2 ∷ e42 ∷ e43·2 ∷ e44 ∷ e45·2 ∷ e46 ∷ e47 ∷ List.[]
+t87 = e32 ∷ e33 ∷ e34 ∷ e35 ∷ e36 ∷ e37 ∷ e38 ∷ e39 ∷ e40 ∷ e41 ∷ e42·1 ∷ e43 ∷ e44·1 ∷ e45 ∷ e46 ∷ e47 ∷ List.[]
 abbrev pub t88 : List.List Row.Entry
-t88 = e0 ∷ e1 ∷ e2·4 ∷ e3 ∷ e4·4 ∷ e5·4 ∷ e6·1 ∷ e7 ∷ e8 ∷ e9 ∷ e10 ∷ e11 ∷ e12·1 ∷ e13·1 ∷ e14 ∷ e15 ∷ List.[]
+t88 = e0 ∷ e1 ∷ e2·4 ∷ e3 ∷ e4·4 ∷ e5·4 ∷ e6 ∷ e7 ∷ e8 ∷ e9 ∷ e10 ∷ e11 ∷ e12 ∷ e13·1 ∷ e14 ∷ e15 ∷ List.[]
 abbrev pub t89 : List.List Row.Entry
-t89 = e0 ∷ e1 ∷ e2·4 ∷ e3 ∷ e4·4 ∷ e5·4 ∷ e6·1 ∷ e7·1 ∷ e8 ∷ e9 ∷ e10 ∷ e11 ∷ e12·1 ∷ e13·1 ∷ e14 ∷ e15 ∷ List.[]
+t89 = e32 ∷ e33 ∷ e34 ∷ e35 ∷ e36 ∷ e37 ∷ e38 ∷ e39 ∷ e40 ∷ e41 ∷ e42·1 ∷ e43 ∷ e44·1 ∷ e45·1 ∷ e46 ∷ e47 ∷ List.[]
 abbrev pub t90 : List.List Row.Entry
-t90 = e0 ∷ e1 ∷ e2 ∷ e3 ∷ e4·4 ∷ e5·4 ∷ e6·1 ∷ e7·1 ∷ e8 ∷ e9 ∷ e10 ∷ e11 ∷ e12·1 ∷ e13·1 ∷ e14 ∷ e15 ∷ List.[]
+t90 = e32 ∷ e33 ∷ e34 ∷ e35 ∷ e36 ∷ e37 ∷ e38 ∷ e39 ∷ e40 ∷ e41 ∷ e42·1 ∷ e43 ∷ e44·1 ∷ e45 ∷ e46·1 ∷ e47 ∷ List.[]
 abbrev pub t91 : List.List Row.Entry
-t91 = e32 ∷ e33 ∷ e34 ∷ e35 ∷ e36 ∷ e37 ∷ e38 ∷ e39 ∷ e40 ∷ e41 ∷ e42 ∷ e43·2 ∷ e44 ∷ e45·2 ∷ e46 ∷ e47 ∷ List.[]
+t91 = e0 ∷ e1 ∷ e2·4 ∷ e3 ∷ e4·4 ∷ e5·4 ∷ e6 ∷ e7 ∷ e8 ∷ e9 ∷ e10 ∷ e11 ∷ e12 ∷ e13·1 ∷ e14·1 ∷ e15 ∷ List.[]
 abbrev pub t92 : List.List Row.Entry
-t92 = e0 ∷ e1 ∷ e2 ∷ e3 ∷ e4 ∷ e5·4 ∷ e6·1 ∷ e7·1 ∷ e8 ∷ e9 ∷ e10 ∷ e11 ∷ e12·1 ∷ e13·1 ∷ e14 ∷ e15 ∷ List.[]
+t92 = e32 ∷ e33 ∷ e34 ∷ e35 ∷ e36 ∷ e37 ∷ e38 ∷ e39 ∷ e40 ∷ e41 ∷ e42·2 ∷ e43 ∷ e44·2 ∷ e45 ∷ e46·2 ∷ e47 ∷ List.[]
 abbrev pub t93 : List.List Row.Entry
-t93 = e32 ∷ e33 ∷ e34 ∷ e35 ∷ e36 ∷ e37 ∷ e38 ∷ e39 ∷ e40 ∷ e41 ∷ e42 ∷ e43 ∷ e44 ∷ e45·2 ∷ e46 ∷ e47 ∷ List.[]
+t93 = e0 ∷ e1 ∷ e2·4 ∷ e3 ∷ e4·4 ∷ e5·4 ∷ e6·1 ∷ e7 ∷ e8 ∷ e9 ∷ e10 ∷ e11 ∷ e12 ∷ e13·1 ∷ e14·1 ∷ e15 ∷ List.[]
 abbrev pub t94 : List.List Row.Entry
-t94 = e32 ∷ e33 ∷ e34 ∷ e35 ∷ e36 ∷ e37 ∷ e38 ∷ e39 ∷ e40 ∷ e41 ∷ e42 ∷ e43 ∷ e44 ∷ e45 ∷ e46·1 ∷ e47 ∷ List.[]
+t94 = e0 ∷ e1 ∷ e2·4 ∷ e3 ∷ e4·4 ∷ e5·4 ∷ e6·1 ∷ e7·1 ∷ e8 ∷ e9 ∷ e10 ∷ e11 ∷ e12 ∷ e13·1 ∷ e14·1 ∷ e15 ∷ List.[]
 abbrev pub t95 : List.List Row.Entry
-t95 = e0 ∷ e1·3 ∷ e2 ∷ e3 ∷ e4 ∷ e5 ∷ e6 ∷ e7 ∷ e8 ∷ e9 ∷ e10 ∷ e11 ∷ e12·1 ∷ e13 ∷ e14 ∷ e15 ∷ List.[]
+t95 = e0 ∷ e1 ∷ e2·4 ∷ e3 ∷ e4·4 ∷ e5·4 ∷ e6·1 ∷ e7·1 ∷ e8·1 ∷ e9 ∷ e10 ∷ e11 ∷ e12 ∷ e13·1 ∷ e14·1 ∷ e15 ∷ List.[]
 abbrev pub t96 : List.List Row.Entry
-t96 = e32 ∷ e33 ∷ e34 ∷ e35 ∷ e36 ∷ e37 ∷ e38 ∷ e39 ∷ e40 ∷ e41 ∷ e42 ∷ e43 ∷ e44 ∷ e45 ∷ e46 ∷ e47·1 ∷ List.[]
+t96 = e0 ∷ e1 ∷ e2 ∷ e3 ∷ e4·4 ∷ e5·4 ∷ e6·1 ∷ e7·1 ∷ e8·1 ∷ e9 ∷ e10 ∷ e11 ∷ e12 ∷ e13·1 ∷ e14·1 ∷ e15 ∷ List.[]
 abbrev pub t97 : List.List Row.Entry
-t97 = e48·1 ∷ e49 ∷ e50 ∷ e51 ∷ e52 ∷ e53 ∷ e54 ∷ List.[]
+t97 = e32 ∷ e33 ∷ e34 ∷ e35 ∷ e36 ∷ e37 ∷ e38 ∷ e39 ∷ e40 ∷ e41 ∷ e42 ∷ e43 ∷ e44·2 ∷ e45 ∷ e46·2 ∷ e47 ∷ List.[]
 abbrev pub t98 : List.List Row.Entry
-t98 = e0 ∷ e1·3 ∷ e2·5 ∷ e3 ∷ e4 ∷ e5 ∷ e6 ∷ e7 ∷ e8 ∷ e9 ∷ e10 ∷ e11 ∷ e12·1 ∷ e13 ∷ e14 ∷ e15 ∷ List.[]
+t98 = e0 ∷ e1 ∷ e2 ∷ e3 ∷ e4 ∷ e5·4 ∷ e6·1 ∷ e7·1 ∷ e8·1 ∷ e9 ∷ e10 ∷ e11 ∷ e12 ∷ e13·1 ∷ e14·1 ∷ e15 ∷ List.[]
 abbrev pub t99 : List.List Row.Entry
-t99 = e48·1 ∷ e49·1 ∷ e50 ∷ e51 ∷ e52 ∷ e53 ∷ e54 ∷ List.[]
+t99 = e32 ∷ e33 ∷ e34 ∷ e35 ∷ e36 ∷ e37 ∷ e38 ∷ e39 ∷ e40 ∷ e41 ∷ e42 ∷ e43 ∷ e44 ∷ e45 ∷ e46·2 ∷ e47 ∷ List.[]
 abbrev pub t100 : List.List Row.Entry
-t100 = e48·1 ∷ e49 ∷ e50·1 ∷ e51 ∷ e52 ∷ e53 ∷ e54 ∷ List.[]
+t100 = e32 ∷ e33 ∷ e34 ∷ e35 ∷ e36 ∷ e37 ∷ e38 ∷ e39 ∷ e40 ∷ e41 ∷ e42 ∷ e43 ∷ e44 ∷ e45 ∷ e46 ∷ e47·1 ∷ List.[]
 abbrev pub t101 : List.List Row.Entry
-t101 = e0 ∷ e1·3 ∷ e2·5 ∷ e3 ∷ e4·5 ∷ e5 ∷ e6 ∷ e7 ∷ e8 ∷ e9 ∷ e10 ∷ e11 ∷ e12·1 ∷ e13 ∷ e14 ∷ e15 ∷ List.[]
+t101 = e0 ∷ e1·3 ∷ e2 ∷ e3 ∷ e4 ∷ e5 ∷ e6 ∷ e7 ∷ e8 ∷ e9 ∷ e10 ∷ e11 ∷ e12 ∷ e13·1 ∷ e14 ∷ e15 ∷ List.[]
 abbrev pub t102 : List.List Row.Entry
-t102 = e48·1 ∷ e49 ∷ e50·1 ∷ e51·1 ∷ e52 ∷ e53 ∷ e54 ∷ List.[]
+t102 = e48·1 ∷ e49 ∷ e50 ∷ e51 ∷ e52 ∷ e53 ∷ e54 ∷ e55 ∷ List.[]
 abbrev pub t103 : List.List Row.Entry
-t103 = e48·1 ∷ e49 ∷ e50·1 ∷ e51 ∷ e52·1 ∷ e53 ∷ e54 ∷ List.[]
+t103 = e48 ∷ e49·1 ∷ e50 ∷ e51 ∷ e52 ∷ e53 ∷ e54 ∷ e55 ∷ List.[]
 abbrev pub t104 : List.List Row.Entry
-t104 = e0 ∷ e1·3 ∷ e2·5 ∷ e3 ∷ e4·5 ∷ e5·5 ∷ e6 ∷ e7 ∷ e8 ∷ e9 ∷ e10 ∷ e11 ∷ e12·1 ∷ e13 ∷ e14 ∷ e15 ∷ List.[]
+t104 = e0 ∷ e1·3 ∷ e2·5 ∷ e3 ∷ e4 ∷ e5 ∷ e6 ∷ e7 ∷ e8 ∷ e9 ∷ e10 ∷ e11 ∷ e12 ∷ e13·1 ∷ e14 ∷ e15 ∷ List.[]
 abbrev pub t105 : List.List Row.Entry
-t105 = e48·1 ∷ e49 ∷ e50·1 ∷ e51 ∷ e52·1 ∷ e53·1 ∷ e54 ∷ List.[]
+t105 = e48 ∷ e49·1 ∷ e50·1 ∷ e51 ∷ e52 ∷ e53 ∷ e54 ∷ e55 ∷ List.[]
 abbrev pub t106 : List.List Row.Entry
-t106 = e48·1 ∷ e49 ∷ e50·1 ∷ e51 ∷ e52·1 ∷ e53 ∷ e54·1 ∷ List.[]
+t106 = e48 ∷ e49·1 ∷ e50 ∷ e51·1 ∷ e52 ∷ e53 ∷ e54 ∷ e55 ∷ List.[]
 abbrev pub t107 : List.List Row.Entry
-t107 = e0 ∷ e1·3 ∷ e2·5 ∷ e3 ∷ e4·5 ∷ e5·5 ∷ e6 ∷ e7 ∷ e8 ∷ e9 ∷ e10 ∷ e11 ∷ e12·1 ∷ e13·1 ∷ e14 ∷ e15 ∷ List.[]
+t107 = e0 ∷ e1·3 ∷ e2·5 ∷ e3 ∷ e4·5 ∷ e5 ∷ e6 ∷ e7 ∷ e8 ∷ e9 ∷ e10 ∷ e11 ∷ e12 ∷ e13·1 ∷ e14 ∷ e15 ∷ List.[]
 abbrev pub t108 : List.List Row.Entry
-t108 = e48·2 ∷ e49 ∷ e50·2 ∷ e51 ∷ e52·2 ∷ e53 ∷ e54·2 ∷ List.[]
+t108 = e48 ∷ e49·1 ∷ e50 ∷ e51·1 ∷ e52·1 ∷ e53 ∷ e54 ∷ e55 ∷ List.[]
 abbrev pub t109 : List.List Row.Entry
-t109 = e0 ∷ e1·3 ∷ e2·5 ∷ e3 ∷ e4·5 ∷ e5·5 ∷ e6·1 ∷ e7 ∷ e8 ∷ e9 ∷ e10 ∷ e11 ∷ e12·1 ∷ e13·1 ∷ e14 ∷ e15 ∷ List.[]
+t109 = e48 ∷ e49·1 ∷ e50 ∷ e51·1 ∷ e52 ∷ e53·1 ∷ e54 ∷ e55 ∷ List.[]
 abbrev pub t110 : List.List Row.Entry
-t110 = e0 ∷ e1·3 ∷ e2·5 ∷ e3 ∷ e4·5 ∷ e5·5 ∷ e6·1 ∷ e7·1 ∷ e8 ∷ e9 ∷ e10 ∷ e11 ∷ e12·1 ∷ e13·1 ∷ e14 ∷ e15 ∷ List.[]
+t110 = e0 ∷ e1·3 ∷ e2·5 ∷ e3 ∷ e4·5 ∷ e5·5 ∷ e6 ∷ e7 ∷ e8 ∷ e9 ∷ e10 ∷ e11 ∷ e12 ∷ e13·1 ∷ e14 ∷ e15 ∷ List.[]
 abbrev pub t111 : List.List Row.Entry
-t111 = e0 ∷ e1 ∷ e2·5 ∷ e3 ∷ e4·5 ∷ e5·5 ∷ e6·1 ∷ e7·1 ∷ e8 ∷ e9 ∷ e10 ∷ e11 ∷ e12·1 ∷ e13·1 ∷ e14 ∷ e15 ∷ List.[]
+t111 = e48 ∷ e49·1 ∷ e50 ∷ e51·1 ∷ e52 ∷ e53·1 ∷ e54·1 ∷ e55 ∷ List.[]
 abbrev pub t112 : List.List Row.Entry
-t112 = e48 ∷ e49 ∷ e50·2 ∷ e51 ∷ e52·2 ∷ e53 ∷ e54·2 ∷ List.[]
+t112 = e48 ∷ e49·1 ∷ e50 ∷ e51·1 ∷ e52 ∷ e53·1 ∷ e54 ∷ e55·1 ∷ List.[]
 abbrev pub t113 : List.List Row.Entry
-t113 = e0 ∷ e1 ∷ e2 ∷ e3 ∷ e4·5 ∷ e5·5 ∷ e6·1 ∷ e7·1 ∷ e8 ∷ e9 ∷ e10 ∷ e11 ∷ e12·1 ∷ e13·1 ∷ e14 ∷ e15 ∷ List.[]
+t113 = e0 ∷ e1·3 ∷ e2·5 ∷ e3 ∷ e4·5 ∷ e5·5 ∷ e6 ∷ e7 ∷ e8 ∷ e9 ∷ e10 ∷ e11 ∷ e12 ∷ e13·1 ∷ e14·1 ∷ e15 ∷ List.[]
 abbrev pub t114 : List.List Row.Entry
-t114 = e48 ∷ e49 ∷ e50 ∷ e51 ∷ e52·2 ∷ e53 ∷ e54·2 ∷ List.[]
+t114 = e48 ∷ e49·2 ∷ e50 ∷ e51·2 ∷ e52 ∷ e53·2 ∷ e54 ∷ e55·2 ∷ List.[]
 abbrev pub t115 : List.List Row.Entry
-t115 = e0 ∷ e1 ∷ e2 ∷ e3 ∷ e4 ∷ e5·5 ∷ e6·1 ∷ e7·1 ∷ e8 ∷ e9 ∷ e10 ∷ e11 ∷ e12·1 ∷ e13·1 ∷ e14 ∷ e15 ∷ List.[]
+t115 = e0 ∷ e1·3 ∷ e2·5 ∷ e3 ∷ e4·5 ∷ e5·5 ∷ e6·1 ∷ e7 ∷ e8 ∷ e9 ∷ e10 ∷ e11 ∷ e12 ∷ e13·1 ∷ e14·1 ∷ e15 ∷ List.[]
 abbrev pub t116 : List.List Row.Entry
-t116 = e48 ∷ e49 ∷ e50 ∷ e51 ∷ e52 ∷ e53 ∷ e54·2 ∷ List.[]
+t116 = e0 ∷ e1·3 ∷ e2·5 ∷ e3 ∷ e4·5 ∷ e5·5 ∷ e6·1 ∷ e7·1 ∷ e8 ∷ e9 ∷ e10 ∷ e11 ∷ e12 ∷ e13·1 ∷ e14·1 ∷ e15 ∷ List.[]
 abbrev pub t117 : List.List Row.Entry
-t117 = e0 ∷ e1 ∷ e2 ∷ e3 ∷ e4 ∷ e5 ∷ e6 ∷ e7·1 ∷ e8 ∷ e9 ∷ e10 ∷ e11 ∷ e12·1 ∷ e13·1 ∷ e14 ∷ e15 ∷ List.[]
+t117 = e0 ∷ e1·3 ∷ e2·5 ∷ e3 ∷ e4·5 ∷ e5·5 ∷ e6·1 ∷ e7·1 ∷ e8·1 ∷ e9 ∷ e10 ∷ e11 ∷ e12 ∷ e13·1 ∷ e14·1 ∷ e15 ∷ List.[]
 abbrev pub t118 : List.List Row.Entry
-t118 = e0·1 ∷ e1 ∷ e2 ∷ e3 ∷ e4 ∷ e5 ∷ e6·1 ∷ e7·1 ∷ e8 ∷ e9 ∷ e10 ∷ e11 ∷ e12·1 ∷ e13·1 ∷ e14 ∷ e15 ∷ List.[]
+t118 = e0 ∷ e1 ∷ e2·5 ∷ e3 ∷ e4·5 ∷ e5·5 ∷ e6·1 ∷ e7·1 ∷ e8·1 ∷ e9 ∷ e10 ∷ e11 ∷ e12 ∷ e13·1 ∷ e14·1 ∷ e15 ∷ List.[]
 abbrev pub t119 : List.List Row.Entry
-t119 = e0·1 ∷ e1 ∷ e2 ∷ e3 ∷ e4 ∷ e5 ∷ e6·1 ∷ e7·1 ∷ e8 ∷ e9 ∷ e10 ∷ e11 ∷ e12 ∷ e13·1 ∷ e14 ∷ e15 ∷ List.[]
+t119 = e48 ∷ e49 ∷ e50 ∷ e51·2 ∷ e52 ∷ e53·2 ∷ e54 ∷ e55·2 ∷ List.[]
+abbrev pub t120 : List.List Row.Entry
+t120 = e0 ∷ e1 ∷ e2 ∷ e3 ∷ e4·5 ∷ e5·5 ∷ e6·1 ∷ e7·1 ∷ e8·1 ∷ e9 ∷ e10 ∷ e11 ∷ e12 ∷ e13·1 ∷ e14·1 ∷ e15 ∷ List.[]
+abbrev pub t121 : List.List Row.Entry
+t121 = e48 ∷ e49 ∷ e50 ∷ e51 ∷ e52 ∷ e53·2 ∷ e54 ∷ e55·2 ∷ List.[]
+abbrev pub t122 : List.List Row.Entry
+t122 = e0 ∷ e1 ∷ e2 ∷ e3 ∷ e4 ∷ e5·5 ∷ e6·1 ∷ e7·1 ∷ e8·1 ∷ e9 ∷ e10 ∷ e11 ∷ e12 ∷ e13·1 ∷ e14·1 ∷ e15 ∷ List.[]
+abbrev pub t123 : List.List Row.Entry
+t123 = e48 ∷ e49 ∷ e50 ∷ e51 ∷ e52 ∷ e53 ∷ e54 ∷ e55·2 ∷ List.[]
+abbrev pub t124 : List.List Row.Entry
+t124 = e0 ∷ e1 ∷ e2 ∷ e3 ∷ e4 ∷ e5 ∷ e6 ∷ e7 ∷ e8·1 ∷ e9 ∷ e10 ∷ e11 ∷ e12 ∷ e13·1 ∷ e14·1 ∷ e15 ∷ List.[]
+abbrev pub t125 : List.List Row.Entry
+t125 = e0 ∷ e1 ∷ e2 ∷ e3 ∷ e4 ∷ e5 ∷ e6·1 ∷ e7 ∷ e8·1 ∷ e9 ∷ e10 ∷ e11 ∷ e12 ∷ e13·1 ∷ e14·1 ∷ e15 ∷ List.[]
+abbrev pub t126 : List.List Row.Entry
+t126 = e0·1 ∷ e1 ∷ e2 ∷ e3 ∷ e4 ∷ e5 ∷ e6·1 ∷ e7·1 ∷ e8·1 ∷ e9 ∷ e10 ∷ e11 ∷ e12 ∷ e13·1 ∷ e14·1 ∷ e15 ∷ List.[]
+abbrev pub t127 : List.List Row.Entry
+t127 = e0·1 ∷ e1 ∷ e2 ∷ e3 ∷ e4 ∷ e5 ∷ e6·1 ∷ e7·1 ∷ e8·1 ∷ e9 ∷ e10 ∷ e11 ∷ e12 ∷ e13 ∷ e14·1 ∷ e15 ∷ List.[]
 abbrev pub T0 : Row.Cx
 T0 = record { locals = List._++_ t0 (List._++_ t1 (List._++_ t2 t3)); slots = List.[] }
 abbrev pub T1 : Row.Cx
@@ -1077,195 +1140,207 @@ T9 = record { locals = List._++_ t7 (List._++_ t1 (List._++_ t2 t3)); slots = Li
 abbrev pub T11 : Row.Cx
 T11 = record { locals = List._++_ t8 (List._++_ t1 (List._++_ t2 t3)); slots = List.[] }
 abbrev pub T12 : Row.Cx
-T12 = record { locals = List._++_ t9 (List._++_ t1 (List._++_ t2 t3)); slots = List.[] }
+T12 = record { locals = List._++_ t9 (List._++_ t10 (List._++_ t2 t3)); slots = List.[] }
 abbrev pub T14 : Row.Cx
-T14 = record { locals = List._++_ t10 (List._++_ t11 (List._++_ t2 t3)); slots = List.[] }
+T14 = record { locals = List._++_ t11 (List._++_ t12 (List._++_ t2 t3)); slots = List.[] }
 abbrev pub T15 : Row.Cx
-T15 = record { locals = List._++_ t10 (List._++_ t12 (List._++_ t2 t3)); slots = List.[] }
+T15 = record { locals = List._++_ t11 (List._++_ t13 (List._++_ t2 t3)); slots = List.[] }
 abbrev pub T17 : Row.Cx
-T17 = record { locals = List._++_ t13 (List._++_ t14 (List._++_ t2 t3)); slots = List.[] }
+T17 = record { locals = List._++_ t14 (List._++_ t15 (List._++_ t2 t3)); slots = List.[] }
 abbrev pub T18 : Row.Cx
-T18 = record { locals = List._++_ t13 (List._++_ t15 (List._++_ t2 t3)); slots = List.[] }
+T18 = record { locals = List._++_ t14 (List._++_ t16 (List._++_ t2 t3)); slots = List.[] }
 abbrev pub T20 : Row.Cx
-T20 = record { locals = List._++_ t16 (List._++_ t17 (List._++_ t2 t3)); slots = List.[] }
+T20 = record { locals = List._++_ t17 (List._++_ t18 (List._++_ t2 t3)); slots = List.[] }
 abbrev pub T21 : Row.Cx
-T21 = record { locals = List._++_ t16 (List._++_ t18 (List._++_ t2 t3)); slots = List.[] }
+T21 = record { locals = List._++_ t17 (List._++_ t19 (List._++_ t2 t3)); slots = List.[] }
 abbrev pub T23 : Row.Cx
-T23 = record { locals = List._++_ t19 (List._++_ t20 (List._++_ t2 t3)); slots = List.[] }
+T23 = record { locals = List._++_ t20 (List._++_ t21 (List._++_ t2 t3)); slots = List.[] }
 abbrev pub T24 : Row.Cx
-T24 = record { locals = List._++_ t19 (List._++_ t21 (List._++_ t2 t3)); slots = List.[] }
+T24 = record { locals = List._++_ t20 (List._++_ t22 (List._++_ t2 t3)); slots = List.[] }
 abbrev pub T25 : Row.Cx
-T25 = record { locals = List._++_ t22 (List._++_ t23 (List._++_ t2 t3)); slots = List.[] }
+T25 = record { locals = List._++_ t23 (List._++_ t24 (List._++_ t2 t3)); slots = List.[] }
 abbrev pub T26 : Row.Cx
-T26 = record { locals = List._++_ t24 (List._++_ t23 (List._++_ t2 t3)); slots = List.[] }
+T26 = record { locals = List._++_ t25 (List._++_ t24 (List._++_ t2 t3)); slots = List.[] }
 abbrev pub T27 : Row.Cx
-T27 = record { locals = List._++_ t25 (List._++_ t23 (List._++_ t2 t3)); slots = List.[] }
-abbrev pub T29 : Row.Cx
-T29 = record { locals = List._++_ t26 (List._++_ t23 (List._++_ t2 t3)); slots = List.[] }
-abbrev pub T32 : Row.Cx
-T32 = record { locals = List._++_ t27 (List._++_ t28 (List._++_ t2 t3)); slots = List.[] }
-abbrev pub T35 : Row.Cx
-T35 = record { locals = List._++_ t29 (List._++_ t30 (List._++_ t2 t3)); slots = List.[] }
-abbrev pub T38 : Row.Cx
-T38 = record { locals = List._++_ t31 (List._++_ t32 (List._++_ t2 t3)); slots = List.[] }
-abbrev pub T41 : Row.Cx
-T41 = record { locals = List._++_ t6 (List._++_ t1 (List._++_ t2 t3)); slots = List.[] }
+T27 = record { locals = List._++_ t26 (List._++_ t24 (List._++_ t2 t3)); slots = List.[] }
+abbrev pub T28 : Row.Cx
+T28 = record { locals = List._++_ t27 (List._++_ t24 (List._++_ t2 t3)); slots = List.[] }
+abbrev pub T30 : Row.Cx
+T30 = record { locals = List._++_ t28 (List._++_ t29 (List._++_ t2 t3)); slots = List.[] }
+abbrev pub T33 : Row.Cx
+T33 = record { locals = List._++_ t30 (List._++_ t31 (List._++_ t2 t3)); slots = List.[] }
+abbrev pub T36 : Row.Cx
+T36 = record { locals = List._++_ t32 (List._++_ t33 (List._++_ t2 t3)); slots = List.[] }
+abbrev pub T39 : Row.Cx
+T39 = record { locals = List._++_ t34 (List._++_ t35 (List._++_ t2 t3)); slots = List.[] }
 abbrev pub T42 : Row.Cx
 T42 = record { locals = List._++_ t6 (List._++_ t1 (List._++_ t2 t3)); slots = List.[] }
-abbrev pub T45 : Row.Cx
-T45 = record { locals = List._++_ t33 (List._++_ t34 (List._++_ t2 t3)); slots = List.[] }
+abbrev pub T43 : Row.Cx
+T43 = record { locals = List._++_ t6 (List._++_ t1 (List._++_ t2 t3)); slots = List.[] }
 abbrev pub T46 : Row.Cx
-T46 = record { locals = List._++_ t33 (List._++_ t35 (List._++_ t2 t3)); slots = List.[] }
-abbrev pub T48 : Row.Cx
-T48 = record { locals = List._++_ t36 (List._++_ t37 (List._++_ t2 t3)); slots = List.[] }
+T46 = record { locals = List._++_ t36 (List._++_ t37 (List._++_ t2 t3)); slots = List.[] }
+abbrev pub T47 : Row.Cx
+T47 = record { locals = List._++_ t36 (List._++_ t38 (List._++_ t2 t3)); slots = List.[] }
 abbrev pub T49 : Row.Cx
-T49 = record { locals = List._++_ t36 (List._++_ t38 (List._++_ t2 t3)); slots = List.[] }
-abbrev pub T51 : Row.Cx
-T51 = record { locals = List._++_ t39 (List._++_ t40 (List._++_ t2 t3)); slots = List.[] }
+T49 = record { locals = List._++_ t39 (List._++_ t40 (List._++_ t2 t3)); slots = List.[] }
+abbrev pub T50 : Row.Cx
+T50 = record { locals = List._++_ t39 (List._++_ t41 (List._++_ t2 t3)); slots = List.[] }
 abbrev pub T52 : Row.Cx
-T52 = record { locals = List._++_ t39 (List._++_ t41 (List._++_ t2 t3)); slots = List.[] }
-abbrev pub T54 : Row.Cx
-T54 = record { locals = List._++_ t42 (List._++_ t43 (List._++_ t2 t3)); slots = List.[] }
+T52 = record { locals = List._++_ t42 (List._++_ t43 (List._++_ t2 t3)); slots = List.[] }
+abbrev pub T53 : Row.Cx
+T53 = record { locals = List._++_ t42 (List._++_ t44 (List._++_ t2 t3)); slots = List.[] }
 abbrev pub T55 : Row.Cx
-T55 = record { locals = List._++_ t42 (List._++_ t44 (List._++_ t2 t3)); slots = List.[] }
+T55 = record { locals = List._++_ t45 (List._++_ t46 (List._++_ t2 t3)); slots = List.[] }
 abbrev pub T56 : Row.Cx
-T56 = record { locals = List._++_ t45 (List._++_ t46 (List._++_ t2 t3)); slots = List.[] }
+T56 = record { locals = List._++_ t45 (List._++_ t44 (List._++_ t47 t3)); slots = List.[] }
 abbrev pub T57 : Row.Cx
-T57 = record { locals = List._++_ t47 (List._++_ t46 (List._++_ t2 t3)); slots = List.[] }
+T57 = record { locals = List._++_ t48 (List._++_ t49 (List._++_ t50 t3)); slots = List.[] }
 abbrev pub T58 : Row.Cx
-T58 = record { locals = List._++_ t48 (List._++_ t46 (List._++_ t2 t3)); slots = List.[] }
+T58 = record { locals = List._++_ t51 (List._++_ t49 (List._++_ t50 t3)); slots = List.[] }
+abbrev pub T59 : Row.Cx
+T59 = record { locals = List._++_ t52 (List._++_ t49 (List._++_ t50 t3)); slots = List.[] }
 abbrev pub T60 : Row.Cx
-T60 = record { locals = List._++_ t49 (List._++_ t50 (List._++_ t2 t3)); slots = List.[] }
-abbrev pub T63 : Row.Cx
-T63 = record { locals = List._++_ t51 (List._++_ t52 (List._++_ t2 t3)); slots = List.[] }
-abbrev pub T66 : Row.Cx
-T66 = record { locals = List._++_ t53 (List._++_ t54 (List._++_ t2 t3)); slots = List.[] }
-abbrev pub T69 : Row.Cx
-T69 = record { locals = List._++_ t6 (List._++_ t1 (List._++_ t2 t3)); slots = List.[] }
-abbrev pub T70 : Row.Cx
-T70 = record { locals = List._++_ t6 (List._++_ t1 (List._++_ t2 t3)); slots = List.[] }
-abbrev pub T73 : Row.Cx
-T73 = record { locals = List._++_ t55 (List._++_ t1 (List._++_ t56 t3)); slots = List.[] }
-abbrev pub T74 : Row.Cx
-T74 = record { locals = List._++_ t55 (List._++_ t1 (List._++_ t57 t3)); slots = List.[] }
+T60 = record { locals = List._++_ t53 (List._++_ t49 (List._++_ t50 t3)); slots = List.[] }
+abbrev pub T62 : Row.Cx
+T62 = record { locals = List._++_ t54 (List._++_ t55 (List._++_ t50 t3)); slots = List.[] }
+abbrev pub T65 : Row.Cx
+T65 = record { locals = List._++_ t56 (List._++_ t57 (List._++_ t50 t3)); slots = List.[] }
+abbrev pub T68 : Row.Cx
+T68 = record { locals = List._++_ t58 (List._++_ t1 (List._++_ t50 t3)); slots = List.[] }
+abbrev pub T71 : Row.Cx
+T71 = record { locals = List._++_ t6 (List._++_ t1 (List._++_ t2 t3)); slots = List.[] }
+abbrev pub T72 : Row.Cx
+T72 = record { locals = List._++_ t6 (List._++_ t1 (List._++_ t2 t3)); slots = List.[] }
+abbrev pub T75 : Row.Cx
+T75 = record { locals = List._++_ t59 (List._++_ t1 (List._++_ t60 t3)); slots = List.[] }
 abbrev pub T76 : Row.Cx
-T76 = record { locals = List._++_ t58 (List._++_ t1 (List._++_ t59 t3)); slots = List.[] }
-abbrev pub T77 : Row.Cx
-T77 = record { locals = List._++_ t58 (List._++_ t1 (List._++_ t60 t3)); slots = List.[] }
+T76 = record { locals = List._++_ t59 (List._++_ t1 (List._++_ t61 t3)); slots = List.[] }
+abbrev pub T78 : Row.Cx
+T78 = record { locals = List._++_ t62 (List._++_ t1 (List._++_ t63 t3)); slots = List.[] }
 abbrev pub T79 : Row.Cx
-T79 = record { locals = List._++_ t61 (List._++_ t1 (List._++_ t62 t3)); slots = List.[] }
-abbrev pub T80 : Row.Cx
-T80 = record { locals = List._++_ t61 (List._++_ t1 (List._++_ t63 t3)); slots = List.[] }
+T79 = record { locals = List._++_ t62 (List._++_ t1 (List._++_ t64 t3)); slots = List.[] }
+abbrev pub T81 : Row.Cx
+T81 = record { locals = List._++_ t65 (List._++_ t1 (List._++_ t66 t3)); slots = List.[] }
 abbrev pub T82 : Row.Cx
-T82 = record { locals = List._++_ t64 (List._++_ t1 (List._++_ t65 t3)); slots = List.[] }
-abbrev pub T83 : Row.Cx
-T83 = record { locals = List._++_ t64 (List._++_ t1 (List._++_ t66 t3)); slots = List.[] }
+T82 = record { locals = List._++_ t65 (List._++_ t1 (List._++_ t67 t3)); slots = List.[] }
 abbrev pub T84 : Row.Cx
-T84 = record { locals = List._++_ t67 (List._++_ t1 (List._++_ t68 t3)); slots = List.[] }
+T84 = record { locals = List._++_ t68 (List._++_ t1 (List._++_ t69 t3)); slots = List.[] }
 abbrev pub T85 : Row.Cx
-T85 = record { locals = List._++_ t69 (List._++_ t1 (List._++_ t68 t3)); slots = List.[] }
+T85 = record { locals = List._++_ t68 (List._++_ t1 (List._++_ t70 t3)); slots = List.[] }
 abbrev pub T86 : Row.Cx
-T86 = record { locals = List._++_ t70 (List._++_ t1 (List._++_ t68 t3)); slots = List.[] }
+T86 = record { locals = List._++_ t71 (List._++_ t1 (List._++_ t72 t3)); slots = List.[] }
+abbrev pub T87 : Row.Cx
+T87 = record { locals = List._++_ t73 (List._++_ t1 (List._++_ t72 t3)); slots = List.[] }
 abbrev pub T88 : Row.Cx
-T88 = record { locals = List._++_ t71 (List._++_ t1 (List._++_ t72 t3)); slots = List.[] }
+T88 = record { locals = List._++_ t74 (List._++_ t1 (List._++_ t72 t3)); slots = List.[] }
+abbrev pub T89 : Row.Cx
+T89 = record { locals = List._++_ t75 (List._++_ t1 (List._++_ t72 t3)); slots = List.[] }
 abbrev pub T91 : Row.Cx
-T91 = record { locals = List._++_ t73 (List._++_ t1 (List._++_ t74 t3)); slots = List.[] }
+T91 = record { locals = List._++_ t76 (List._++_ t1 (List._++_ t77 t3)); slots = List.[] }
 abbrev pub T94 : Row.Cx
-T94 = record { locals = List._++_ t75 (List._++_ t1 (List._++_ t76 t3)); slots = List.[] }
+T94 = record { locals = List._++_ t78 (List._++_ t1 (List._++_ t79 t3)); slots = List.[] }
 abbrev pub T97 : Row.Cx
-T97 = record { locals = List._++_ t6 (List._++_ t1 (List._++_ t2 t3)); slots = List.[] }
-abbrev pub T98 : Row.Cx
-T98 = record { locals = List._++_ t6 (List._++_ t1 (List._++_ t2 t3)); slots = List.[] }
+T97 = record { locals = List._++_ t80 (List._++_ t1 (List._++_ t81 t3)); slots = List.[] }
+abbrev pub T100 : Row.Cx
+T100 = record { locals = List._++_ t6 (List._++_ t1 (List._++_ t2 t3)); slots = List.[] }
 abbrev pub T101 : Row.Cx
-T101 = record { locals = List._++_ t77 (List._++_ t1 (List._++_ t78 t3)); slots = List.[] }
-abbrev pub T102 : Row.Cx
-T102 = record { locals = List._++_ t77 (List._++_ t1 (List._++_ t79 t3)); slots = List.[] }
+T101 = record { locals = List._++_ t6 (List._++_ t1 (List._++_ t2 t3)); slots = List.[] }
 abbrev pub T104 : Row.Cx
-T104 = record { locals = List._++_ t80 (List._++_ t1 (List._++_ t81 t3)); slots = List.[] }
+T104 = record { locals = List._++_ t82 (List._++_ t1 (List._++_ t83 t3)); slots = List.[] }
 abbrev pub T105 : Row.Cx
-T105 = record { locals = List._++_ t80 (List._++_ t1 (List._++_ t82 t3)); slots = List.[] }
+T105 = record { locals = List._++_ t82 (List._++_ t1 (List._++_ t84 t3)); slots = List.[] }
 abbrev pub T107 : Row.Cx
-T107 = record { locals = List._++_ t83 (List._++_ t1 (List._++_ t84 t3)); slots = List.[] }
+T107 = record { locals = List._++_ t85 (List._++_ t1 (List._++_ t86 t3)); slots = List.[] }
 abbrev pub T108 : Row.Cx
-T108 = record { locals = List._++_ t83 (List._++_ t1 (List._++_ t85 t3)); slots = List.[] }
-abbrev pub T109 : Row.Cx
-T109 = record { locals = List._++_ t86 (List._++_ t1 (List._++_ t87 t3)); slots = List.[] }
+T108 = record { locals = List._++_ t85 (List._++_ t1 (List._++_ t87 t3)); slots = List.[] }
 abbrev pub T110 : Row.Cx
-T110 = record { locals = List._++_ t88 (List._++_ t1 (List._++_ t87 t3)); slots = List.[] }
+T110 = record { locals = List._++_ t88 (List._++_ t1 (List._++_ t89 t3)); slots = List.[] }
 abbrev pub T111 : Row.Cx
-T111 = record { locals = List._++_ t89 (List._++_ t1 (List._++_ t87 t3)); slots = List.[] }
+T111 = record { locals = List._++_ t88 (List._++_ t1 (List._++_ t90 t3)); slots = List.[] }
+abbrev pub T112 : Row.Cx
+T112 = record { locals = List._++_ t91 (List._++_ t1 (List._++_ t92 t3)); slots = List.[] }
 abbrev pub T113 : Row.Cx
-T113 = record { locals = List._++_ t90 (List._++_ t1 (List._++_ t91 t3)); slots = List.[] }
-abbrev pub T116 : Row.Cx
-T116 = record { locals = List._++_ t92 (List._++_ t1 (List._++_ t93 t3)); slots = List.[] }
-abbrev pub T119 : Row.Cx
-T119 = record { locals = List._++_ t6 (List._++_ t1 (List._++_ t2 t3)); slots = List.[] }
+T113 = record { locals = List._++_ t93 (List._++_ t1 (List._++_ t92 t3)); slots = List.[] }
+abbrev pub T114 : Row.Cx
+T114 = record { locals = List._++_ t94 (List._++_ t1 (List._++_ t92 t3)); slots = List.[] }
+abbrev pub T115 : Row.Cx
+T115 = record { locals = List._++_ t95 (List._++_ t1 (List._++_ t92 t3)); slots = List.[] }
+abbrev pub T117 : Row.Cx
+T117 = record { locals = List._++_ t96 (List._++_ t1 (List._++_ t97 t3)); slots = List.[] }
 abbrev pub T120 : Row.Cx
-T120 = record { locals = List._++_ t6 (List._++_ t1 (List._++_ t2 t3)); slots = List.[] }
-abbrev pub T122 : Row.Cx
-T122 = record { locals = List._++_ t7 (List._++_ t1 (List._++_ t2 t3)); slots = List.[] }
+T120 = record { locals = List._++_ t98 (List._++_ t1 (List._++_ t99 t3)); slots = List.[] }
 abbrev pub T123 : Row.Cx
-T123 = record { locals = List._++_ t5 (List._++_ t1 (List._++_ t94 t3)); slots = List.[] }
+T123 = record { locals = List._++_ t6 (List._++_ t1 (List._++_ t2 t3)); slots = List.[] }
 abbrev pub T124 : Row.Cx
-T124 = record { locals = List._++_ t5 (List._++_ t1 (List._++_ t2 t3)); slots = List.[] }
-abbrev pub T125 : Row.Cx
-T125 = record { locals = List._++_ t7 (List._++_ t1 (List._++_ t94 t3)); slots = List.[] }
+T124 = record { locals = List._++_ t6 (List._++_ t1 (List._++_ t2 t3)); slots = List.[] }
 abbrev pub T126 : Row.Cx
 T126 = record { locals = List._++_ t7 (List._++_ t1 (List._++_ t2 t3)); slots = List.[] }
 abbrev pub T127 : Row.Cx
-T127 = record { locals = List._++_ t5 (List._++_ t1 (List._++_ t2 t3)); slots = List.[] }
+T127 = record { locals = List._++_ t5 (List._++_ t1 (List._++_ t100 t3)); slots = List.[] }
 abbrev pub T128 : Row.Cx
-T128 = record { locals = List._++_ t5 (List._++_ t1 (List._++_ t94 t3)); slots = List.[] }
+T128 = record { locals = List._++_ t5 (List._++_ t1 (List._++_ t2 t3)); slots = List.[] }
 abbrev pub T129 : Row.Cx
-T129 = record { locals = List._++_ t7 (List._++_ t1 (List._++_ t2 t3)); slots = List.[] }
+T129 = record { locals = List._++_ t7 (List._++_ t1 (List._++_ t100 t3)); slots = List.[] }
 abbrev pub T130 : Row.Cx
-T130 = record { locals = List._++_ t5 (List._++_ t1 (List._++_ t2 t3)); slots = List.[] }
+T130 = record { locals = List._++_ t7 (List._++_ t1 (List._++_ t2 t3)); slots = List.[] }
+abbrev pub T131 : Row.Cx
+T131 = record { locals = List._++_ t5 (List._++_ t1 (List._++_ t2 t3)); slots = List.[] }
 abbrev pub T132 : Row.Cx
-T132 = record { locals = List._++_ t95 (List._++_ t1 (List._++_ t96 t3)); slots = List.[] }
+T132 = record { locals = List._++_ t5 (List._++_ t1 (List._++_ t100 t3)); slots = List.[] }
 abbrev pub T133 : Row.Cx
-T133 = record { locals = List._++_ t95 (List._++_ t1 (List._++_ t2 t97)); slots = List.[] }
-abbrev pub T135 : Row.Cx
-T135 = record { locals = List._++_ t98 (List._++_ t1 (List._++_ t2 t99)); slots = List.[] }
+T133 = record { locals = List._++_ t7 (List._++_ t1 (List._++_ t2 t3)); slots = List.[] }
+abbrev pub T134 : Row.Cx
+T134 = record { locals = List._++_ t5 (List._++_ t1 (List._++_ t2 t3)); slots = List.[] }
 abbrev pub T136 : Row.Cx
-T136 = record { locals = List._++_ t98 (List._++_ t1 (List._++_ t2 t100)); slots = List.[] }
-abbrev pub T138 : Row.Cx
-T138 = record { locals = List._++_ t101 (List._++_ t1 (List._++_ t2 t102)); slots = List.[] }
+T136 = record { locals = List._++_ t101 (List._++_ t1 (List._++_ t2 t102)); slots = List.[] }
+abbrev pub T137 : Row.Cx
+T137 = record { locals = List._++_ t101 (List._++_ t1 (List._++_ t2 t103)); slots = List.[] }
 abbrev pub T139 : Row.Cx
-T139 = record { locals = List._++_ t101 (List._++_ t1 (List._++_ t2 t103)); slots = List.[] }
-abbrev pub T141 : Row.Cx
-T141 = record { locals = List._++_ t104 (List._++_ t1 (List._++_ t2 t105)); slots = List.[] }
+T139 = record { locals = List._++_ t104 (List._++_ t1 (List._++_ t2 t105)); slots = List.[] }
+abbrev pub T140 : Row.Cx
+T140 = record { locals = List._++_ t104 (List._++_ t1 (List._++_ t2 t106)); slots = List.[] }
 abbrev pub T142 : Row.Cx
-T142 = record { locals = List._++_ t104 (List._++_ t1 (List._++_ t2 t106)); slots = List.[] }
+T142 = record { locals = List._++_ t107 (List._++_ t1 (List._++_ t2 t108)); slots = List.[] }
 abbrev pub T143 : Row.Cx
-T143 = record { locals = List._++_ t107 (List._++_ t1 (List._++_ t2 t108)); slots = List.[] }
-abbrev pub T144 : Row.Cx
-T144 = record { locals = List._++_ t109 (List._++_ t1 (List._++_ t2 t108)); slots = List.[] }
+T143 = record { locals = List._++_ t107 (List._++_ t1 (List._++_ t2 t109)); slots = List.[] }
 abbrev pub T145 : Row.Cx
-T145 = record { locals = List._++_ t110 (List._++_ t1 (List._++_ t2 t108)); slots = List.[] }
+T145 = record { locals = List._++_ t110 (List._++_ t1 (List._++_ t2 t111)); slots = List.[] }
+abbrev pub T146 : Row.Cx
+T146 = record { locals = List._++_ t110 (List._++_ t1 (List._++_ t2 t112)); slots = List.[] }
 abbrev pub T147 : Row.Cx
-T147 = record { locals = List._++_ t111 (List._++_ t1 (List._++_ t2 t112)); slots = List.[] }
+T147 = record { locals = List._++_ t113 (List._++_ t1 (List._++_ t2 t114)); slots = List.[] }
+abbrev pub T148 : Row.Cx
+T148 = record { locals = List._++_ t115 (List._++_ t1 (List._++_ t2 t114)); slots = List.[] }
+abbrev pub T149 : Row.Cx
+T149 = record { locals = List._++_ t116 (List._++_ t1 (List._++_ t2 t114)); slots = List.[] }
 abbrev pub T150 : Row.Cx
-T150 = record { locals = List._++_ t113 (List._++_ t1 (List._++_ t2 t114)); slots = List.[] }
-abbrev pub T153 : Row.Cx
-T153 = record { locals = List._++_ t115 (List._++_ t1 (List._++_ t2 t116)); slots = List.[] }
-abbrev pub T156 : Row.Cx
-T156 = record { locals = List._++_ t6 (List._++_ t1 (List._++_ t2 t3)); slots = List.[] }
-abbrev pub T157 : Row.Cx
-T157 = record { locals = List._++_ t6 (List._++_ t1 (List._++_ t2 t3)); slots = List.[] }
-abbrev pub T159 : Row.Cx
-T159 = record { locals = List._++_ t7 (List._++_ t1 (List._++_ t94 t3)); slots = List.[] }
-abbrev pub T160 : Row.Cx
-T160 = record { locals = List._++_ t7 (List._++_ t1 (List._++_ t2 t3)); slots = List.[] }
+T150 = record { locals = List._++_ t117 (List._++_ t1 (List._++_ t2 t114)); slots = List.[] }
+abbrev pub T152 : Row.Cx
+T152 = record { locals = List._++_ t118 (List._++_ t1 (List._++_ t2 t119)); slots = List.[] }
+abbrev pub T155 : Row.Cx
+T155 = record { locals = List._++_ t120 (List._++_ t1 (List._++_ t2 t121)); slots = List.[] }
+abbrev pub T158 : Row.Cx
+T158 = record { locals = List._++_ t122 (List._++_ t1 (List._++_ t2 t123)); slots = List.[] }
 abbrev pub T161 : Row.Cx
-T161 = record { locals = List._++_ t117 (List._++_ t1 (List._++_ t2 t3)); slots = List.[] }
+T161 = record { locals = List._++_ t6 (List._++_ t1 (List._++_ t2 t3)); slots = List.[] }
 abbrev pub T162 : Row.Cx
 T162 = record { locals = List._++_ t6 (List._++_ t1 (List._++_ t2 t3)); slots = List.[] }
-abbrev pub T163 : Row.Cx
-T163 = record { locals = List._++_ t118 (List._++_ t1 (List._++_ t2 t3)); slots = List.[] }
 abbrev pub T164 : Row.Cx
-T164 = record { locals = List._++_ t119 (List._++_ t1 (List._++_ t2 t3)); slots = List.[] }
+T164 = record { locals = List._++_ t7 (List._++_ t1 (List._++_ t100 t3)); slots = List.[] }
 abbrev pub T165 : Row.Cx
-T165 = record { locals = List._++_ t4 (List._++_ t1 (List._++_ t2 t3)); slots = List.[] }
+T165 = record { locals = List._++_ t7 (List._++_ t1 (List._++_ t2 t3)); slots = List.[] }
+abbrev pub T166 : Row.Cx
+T166 = record { locals = List._++_ t124 (List._++_ t1 (List._++_ t2 t3)); slots = List.[] }
+abbrev pub T167 : Row.Cx
+T167 = record { locals = List._++_ t125 (List._++_ t1 (List._++_ t2 t3)); slots = List.[] }
+abbrev pub T168 : Row.Cx
+T168 = record { locals = List._++_ t6 (List._++_ t1 (List._++_ t2 t3)); slots = List.[] }
+abbrev pub T169 : Row.Cx
+T169 = record { locals = List._++_ t126 (List._++_ t1 (List._++_ t2 t3)); slots = List.[] }
+abbrev pub T170 : Row.Cx
+T170 = record { locals = List._++_ t127 (List._++_ t1 (List._++_ t2 t3)); slots = List.[] }
+abbrev pub T171 : Row.Cx
+T171 = record { locals = List._++_ t4 (List._++_ t1 (List._++_ t2 t3)); slots = List.[] }
 abbrev pub O0 : Typed.Outs
 O0 = record { next = Option.none; exits = List.[]; returns = Option.some T1 }
 abbrev pub O1 : Typed.Outs
@@ -1277,262 +1352,278 @@ O3 = Typed.withNext (Option.some T9) O2
 abbrev pub O4 : Typed.Outs
 O4 = Typed.inBlock₀ O3
 abbrev pub O5 : Typed.Outs
-O5 = Typed.withNext (Option.some T124) O4
+O5 = Typed.withNext (Option.some T128) O4
 abbrev pub O6 : Typed.Outs
-O6 = Typed.withNext (Option.some T129) O4
+O6 = Typed.withNext (Option.some T133) O4
 module _ (claims· : Claims) where
   abbrev s0 : Typed.Gives T0 T2
   s0 = Know.k-sl-known (Referent.fInt Syntax.w32) T0 5 4 ref9 Row.off 0 λ x. x
   abbrev s1 : Typed.Gives T2 T3
-  s1 = Know.k-shs-known (Referent.fInt Syntax.w8) T2 8 5 ref10 Row.off 0 λ x. x
+  s1 = Know.k-shs-known (Referent.fInt Syntax.w8) T2 9 5 ref10 Row.off 0 λ x. x
   abbrev s2 : Typed.Gives T3 T4
-  s2 = Know.k-shs-known (Referent.fInt Syntax.w8) T3 9 6 ref11 Row.off 0 λ x. x
+  s2 = Know.k-shs-known (Referent.fInt Syntax.w8) T3 10 6 ref11 Row.off 0 λ x. x
   abbrev s3 : Typed.Gives T4 T5
-  s3 = Know.k-shs-known (Referent.fInt Syntax.w8) T4 10 7 ref12 Row.off 0 λ x. x
+  s3 = Know.k-shs-known (Referent.fInt Syntax.w8) T4 11 7 ref12 Row.off 0 λ x. x
   abbrev s4 : Typed.Gives T5 T6
-  s4 = Know.k-shs-known (Referent.fInt Syntax.w8) T5 11 8 ref13 Row.off 0 λ x. x
+  s4 = Know.k-shs-known (Referent.fInt Syntax.w8) T5 12 8 ref13 Row.off 0 λ x. x
   abbrev s5 : Typed.Mo T6 → Typed.Mo T7
-  s5 = Scalar.n-use T6 (Scalar.oFld 7 ((Syntax.field 0) ∷ List.[]) (Syntax.tyInt Syntax.w8) 0 (Reads.fieldV RelayPacket.the-type Laws.the-laws 0)) 12
+  s5 = Scalar.n-use T6 (Scalar.oFld 8 ((Syntax.field 0) ∷ List.[]) (Syntax.tyInt Syntax.w8) 0 (Reads.fieldV RelayPacket.the-type Laws'.the-laws 0)) 13
       (Rows.sc-here (Row.sInt Syntax.w8)) (Row.sInt Syntax.w8 .of)
   abbrev s7 : Typed.Gives T7 T11
-  s7 = Relend.k-sl-relend RelayPending.row T7 1 14 0 9 ref5 ref0 Row.off λ x. x
+  s7 = Relend.k-sl-relend RelayPending.row T7 1 15 0 9 ref5 ref0 Row.off λ x. x
   abbrev s8 : Typed.Asks T11 T12
-  s8 = Relend.k-sl-aggregate RelayPending.row (Relend.asMut RelayPending.row) T11 14 15 9 ref0 ref0 (λ x. x) (Scalar.oFld 1 ((Syntax.field 1) ∷
+  s8 = Relend.k-sl-aggregate RelayPending.row (Relend.asMut RelayPending.row) T11 15 16 9 ref0 ref0 (λ x. x) (Scalar.oFld 1 ((Syntax.field 1) ∷
       List.[]) (Syntax.tyInt Syntax.w64) 8 λ v. Shared.lenV (v .0))
   abbrev s10 : Typed.Gives T12 T14
-  s10 = Relend.k-sl-relend RelayCircuit.row T12 2 16 1 10 ref6 ref1 Row.off λ x. x
+  s10 = Relend.k-sl-relend RelayCircuit.row T12 2 17 1 10 ref6 ref1 Row.off λ x. x
   abbrev s11 : Typed.Asks T14 T15
-  s11 = Relend.k-sl-aggregate RelayCircuit.row (Relend.asMut RelayCircuit.row) T14 16 17 10 ref1 ref1 (λ x. x) (Scalar.oFld 2 ((Syntax.field 1) ∷
+  s11 = Relend.k-sl-aggregate RelayCircuit.row (Relend.asMut RelayCircuit.row) T14 17 18 10 ref1 ref1 (λ x. x) (Scalar.oFld 2 ((Syntax.field 1) ∷
       List.[]) (Syntax.tyInt Syntax.w64) 8 λ v. Shared.lenV (v .0))
   abbrev s13 : Typed.Gives T15 T17
-  s13 = Relend.k-sl-relend ReservationUsage.row T15 3 18 2 11 ref7 ref2 Row.off λ x. x
+  s13 = Relend.k-sl-relend ReservationUsage.row T15 3 19 2 11 ref7 ref2 Row.off λ x. x
   abbrev s14 : Typed.Asks T17 T18
-  s14 = Relend.k-sl-aggregate ReservationUsage.row (Relend.asMut ReservationUsage.row) T17 18 19 11 ref2 ref2 (λ x. x) (Scalar.oFld 3 ((Syntax.field
+  s14 = Relend.k-sl-aggregate ReservationUsage.row (Relend.asMut ReservationUsage.row) T17 19 20 11 ref2 ref2 (λ x. x) (Scalar.oFld 3 ((Syntax.field
       1) ∷ List.[]) (Syntax.tyInt Syntax.w64) 8 λ v. Shared.lenV (v .0))
   abbrev s16 : Typed.Gives T18 T20
-  s16 = Relend.k-sl-relend InflightAction.row T18 4 20 3 12 ref8 ref3 Row.off λ x. x
+  s16 = Relend.k-sl-relend InflightAction.row T18 4 21 3 12 ref8 ref3 Row.off λ x. x
   abbrev s17 : Typed.Asks T20 T21
-  s17 = Relend.k-sl-aggregate InflightAction.row (Relend.asMut InflightAction.row) T20 20 21 12 ref3 ref3 (λ x. x) (Scalar.oFld 4 ((Syntax.field 1) ∷
+  s17 = Relend.k-sl-aggregate InflightAction.row (Relend.asMut InflightAction.row) T20 21 22 12 ref3 ref3 (λ x. x) (Scalar.oFld 4 ((Syntax.field 1) ∷
       List.[]) (Syntax.tyInt Syntax.w64) 8 λ v. Shared.lenV (v .0))
   abbrev s19 : Typed.Gives T21 T23
-  s19 = Relend.k-sl-relend (Referent.rtF (Referent.fInt Syntax.w32)) T21 5 22 4 13 ref9 ref4 Row.off λ x. x
+  s19 = Relend.k-sl-relend (Referent.rtF (Referent.fInt Syntax.w32)) T21 5 23 4 13 ref9 ref4 Row.off λ x. x
   abbrev s20 : Typed.Asks T23 T24
-  s20 = Relend.k-sl-aggregate (Referent.rtF (Referent.fInt Syntax.w32)) (Relend.asMut (Referent.rtF (Referent.fInt Syntax.w32))) T23 22 23 13 ref4
+  s20 = Relend.k-sl-aggregate (Referent.rtF (Referent.fInt Syntax.w32)) (Relend.asMut (Referent.rtF (Referent.fInt Syntax.w32))) T23 23 24 13 ref4
       ref4 (λ x. x) (Scalar.oFld 5 ((Syntax.field 1) ∷ List.[]) (Syntax.tyInt Syntax.w64) 8 λ v. Shared.lenV (v .0))
   abbrev s21 : Typed.Both T24 T25
-  s21 = Call.callB ps·0 r·0 (claims· .0) (claims· .1) T24 (record { pos = 15; ty = Syntax.tyRef Syntax.erased Syntax.mut RelayPending.to; ref = λ x.
-      x; }, (record { pos = 17; ty = Syntax.tyRef Syntax.erased Syntax.mut RelayCircuit.to; ref = λ x. x; }, (record { pos = 19; ty = Syntax.tyRef
-      Syntax.erased Syntax.mut ReservationUsage.to; ref = λ x. x; }, (record { pos = 21; ty = Syntax.tyRef Syntax.erased Syntax.mut InflightAction.to;
-      ref = λ x. x; }, (record { pos = 23; ty = Syntax.tyRef Syntax.erased Syntax.mut (Syntax.tyInt Syntax.w32); ref = λ x. x; }, (record { pos = 6;
-      st = List.[]; d = 0; at = λ x. x }, (record { pos = 7; st = List.[]; d = 0; at = λ x. x }, (record { pos = 8; ty = Syntax.tyRef (Syntax.named 5)
-      Syntax.imm (Syntax.tyInt Syntax.w8); ref = λ x. x; }, (record { pos = 9; ty = Syntax.tyRef (Syntax.named 6) Syntax.imm (Syntax.tyInt Syntax.w8);
-      ref = λ x. x; }, (record { pos = 10; ty = Syntax.tyRef (Syntax.named 7) Syntax.imm (Syntax.tyInt Syntax.w8); ref = λ x. x; }, (record { pos =
-      11; ty = Syntax.tyRef (Syntax.named 8) Syntax.imm (Syntax.tyInt Syntax.w8); ref = λ x. x; }, tt,),),),),),),),),),),) 13 (9 ∷ 10 ∷ 11 ∷ 12 ∷ 13
-      ∷ 5 ∷ 6 ∷ 7 ∷ 8 ∷ List.[]) Laws''.mir
+  s21 = Call.callB ps·0 r·0 (claims· .0) (claims· .1) T24 (record { pos = 16; ty = Syntax.tyRef Syntax.erased Syntax.mut RelayPending.to; ref = λ x.
+      x; }, (record { pos = 18; ty = Syntax.tyRef Syntax.erased Syntax.mut RelayCircuit.to; ref = λ x. x; }, (record { pos = 20; ty = Syntax.tyRef
+      Syntax.erased Syntax.mut ReservationUsage.to; ref = λ x. x; }, (record { pos = 22; ty = Syntax.tyRef Syntax.erased Syntax.mut InflightAction.to;
+      ref = λ x. x; }, (record { pos = 24; ty = Syntax.tyRef Syntax.erased Syntax.mut (Syntax.tyInt Syntax.w32); ref = λ x. x; }, (record { pos = 6;
+      st = List.[]; d = 0; at = λ x. x }, (record { pos = 7; st = List.[]; d = 0; at = λ x. x }, (record { pos = 8; st = List.[]; d = 0; at = λ x. x
+      }, (record { pos = 9; ty = Syntax.tyRef (Syntax.named 5) Syntax.imm (Syntax.tyInt Syntax.w8); ref = λ x. x; }, (record { pos = 10; ty =
+      Syntax.tyRef (Syntax.named 6) Syntax.imm (Syntax.tyInt Syntax.w8); ref = λ x. x; }, (record { pos = 11; ty = Syntax.tyRef (Syntax.named 7)
+      Syntax.imm (Syntax.tyInt Syntax.w8); ref = λ x. x; }, (record { pos = 12; ty = Syntax.tyRef (Syntax.named 8) Syntax.imm (Syntax.tyInt
+      Syntax.w8); ref = λ x. x; }, tt,),),),),),),),),),),),) 14 (9 ∷ 10 ∷ 11 ∷ 12 ∷ 13 ∷ 5 ∷ 6 ∷ 7 ∷ 8 ∷ List.[]) Laws'''.mir
   abbrev s22 : Typed.Mo T25 → Typed.Mo T26
-  s22 = Scalar.n-room T25 6 Laws'.mir
+  s22 = Scalar.n-room T25 6 Laws''.mir
   abbrev s23 : Typed.Mo T26 → Typed.Mo T27
   s23 = Scalar.n-room T26 7 Laws.mir
-  abbrev s25 : Typed.Both T27 T29
-  s25 = Relend.k-back-sl RelayPending.row T27 15 1 0 9 ref5 ref0 Row.off (λ x. x) λ x. x
-  abbrev s28 : Typed.Both T29 T32
-  s28 = Relend.k-back-sl RelayCircuit.row T29 17 2 1 10 ref6 ref1 Row.off (λ x. x) λ x. x
-  abbrev s31 : Typed.Both T32 T35
-  s31 = Relend.k-back-sl ReservationUsage.row T32 19 3 2 11 ref7 ref2 Row.off (λ x. x) λ x. x
-  abbrev s34 : Typed.Both T35 T38
-  s34 = Relend.k-back-sl InflightAction.row T35 21 4 3 12 ref8 ref3 Row.off (λ x. x) λ x. x
-  abbrev s37 : Typed.Both T38 T41
-  s37 = Relend.k-back-sl (Referent.rtF (Referent.fInt Syntax.w32)) T38 23 5 4 13 ref9 ref4 Row.off (λ x. x) λ x. x
-  abbrev s38 : Typed.Gives T41 T42
-  s38 = Know.k-sl-known (Referent.fInt Syntax.w32) T41 5 4 ref9 Row.off 0 λ x. x
-  abbrev s41 : Typed.Gives T7 T45
-  s41 = Relend.k-sl-relend RelayPending.row T7 1 24 0 14 ref5 ref0 Row.off λ x. x
-  abbrev s42 : Typed.Asks T45 T46
-  s42 = Relend.k-sl-aggregate RelayPending.row (Relend.asMut RelayPending.row) T45 24 25 14 ref0 ref0 (λ x. x) (Scalar.oFld 1 ((Syntax.field 1) ∷
+  abbrev s24 : Typed.Mo T27 → Typed.Mo T28
+  s24 = Scalar.n-room T27 8 Laws'.mir
+  abbrev s26 : Typed.Both T28 T30
+  s26 = Relend.k-back-sl RelayPending.row T28 16 1 0 9 ref5 ref0 Row.off (λ x. x) λ x. x
+  abbrev s29 : Typed.Both T30 T33
+  s29 = Relend.k-back-sl RelayCircuit.row T30 18 2 1 10 ref6 ref1 Row.off (λ x. x) λ x. x
+  abbrev s32 : Typed.Both T33 T36
+  s32 = Relend.k-back-sl ReservationUsage.row T33 20 3 2 11 ref7 ref2 Row.off (λ x. x) λ x. x
+  abbrev s35 : Typed.Both T36 T39
+  s35 = Relend.k-back-sl InflightAction.row T36 22 4 3 12 ref8 ref3 Row.off (λ x. x) λ x. x
+  abbrev s38 : Typed.Both T39 T42
+  s38 = Relend.k-back-sl (Referent.rtF (Referent.fInt Syntax.w32)) T39 24 5 4 13 ref9 ref4 Row.off (λ x. x) λ x. x
+  abbrev s39 : Typed.Gives T42 T43
+  s39 = Know.k-sl-known (Referent.fInt Syntax.w32) T42 5 4 ref9 Row.off 0 λ x. x
+  abbrev s42 : Typed.Gives T7 T46
+  s42 = Relend.k-sl-relend RelayPending.row T7 1 25 0 14 ref5 ref0 Row.off λ x. x
+  abbrev s43 : Typed.Asks T46 T47
+  s43 = Relend.k-sl-aggregate RelayPending.row (Relend.asMut RelayPending.row) T46 25 26 14 ref0 ref0 (λ x. x) (Scalar.oFld 1 ((Syntax.field 1) ∷
       List.[]) (Syntax.tyInt Syntax.w64) 8 λ v. Shared.lenV (v .0))
-  abbrev s44 : Typed.Gives T46 T48
-  s44 = Relend.k-sl-relend RelayCircuit.row T46 2 26 1 15 ref6 ref1 Row.off λ x. x
-  abbrev s45 : Typed.Asks T48 T49
-  s45 = Relend.k-sl-aggregate RelayCircuit.row (Relend.asMut RelayCircuit.row) T48 26 27 15 ref1 ref1 (λ x. x) (Scalar.oFld 2 ((Syntax.field 1) ∷
+  abbrev s45 : Typed.Gives T47 T49
+  s45 = Relend.k-sl-relend RelayCircuit.row T47 2 27 1 15 ref6 ref1 Row.off λ x. x
+  abbrev s46 : Typed.Asks T49 T50
+  s46 = Relend.k-sl-aggregate RelayCircuit.row (Relend.asMut RelayCircuit.row) T49 27 28 15 ref1 ref1 (λ x. x) (Scalar.oFld 2 ((Syntax.field 1) ∷
       List.[]) (Syntax.tyInt Syntax.w64) 8 λ v. Shared.lenV (v .0))
-  abbrev s47 : Typed.Gives T49 T51
-  s47 = Relend.k-sl-relend InflightAction.row T49 4 28 3 16 ref8 ref3 Row.off λ x. x
-  abbrev s48 : Typed.Asks T51 T52
-  s48 = Relend.k-sl-aggregate InflightAction.row (Relend.asMut InflightAction.row) T51 28 29 16 ref3 ref3 (λ x. x) (Scalar.oFld 4 ((Syntax.field 1) ∷
+  abbrev s48 : Typed.Gives T50 T52
+  s48 = Relend.k-sl-relend InflightAction.row T50 4 29 3 16 ref8 ref3 Row.off λ x. x
+  abbrev s49 : Typed.Asks T52 T53
+  s49 = Relend.k-sl-aggregate InflightAction.row (Relend.asMut InflightAction.row) T52 29 30 16 ref3 ref3 (λ x. x) (Scalar.oFld 4 ((Syntax.field 1) ∷
       List.[]) (Syntax.tyInt Syntax.w64) 8 λ v. Shared.lenV (v .0))
-  abbrev s50 : Typed.Gives T52 T54
-  s50 = Relend.k-sl-relend (Referent.rtF (Referent.fInt Syntax.w32)) T52 5 30 4 17 ref9 ref4 Row.off λ x. x
-  abbrev s51 : Typed.Asks T54 T55
-  s51 = Relend.k-sl-aggregate (Referent.rtF (Referent.fInt Syntax.w32)) (Relend.asMut (Referent.rtF (Referent.fInt Syntax.w32))) T54 30 31 17 ref4
+  abbrev s51 : Typed.Gives T53 T55
+  s51 = Relend.k-sl-relend (Referent.rtF (Referent.fInt Syntax.w32)) T53 5 31 4 17 ref9 ref4 Row.off λ x. x
+  abbrev s52 : Typed.Asks T55 T56
+  s52 = Relend.k-sl-aggregate (Referent.rtF (Referent.fInt Syntax.w32)) (Relend.asMut (Referent.rtF (Referent.fInt Syntax.w32))) T55 31 32 17 ref4
       ref4 (λ x. x) (Scalar.oFld 5 ((Syntax.field 1) ∷ List.[]) (Syntax.tyInt Syntax.w64) 8 λ v. Shared.lenV (v .0))
-  abbrev s52 : Typed.Both T55 T56
-  s52 = Call.callB ps·1 r·1 (claims· .2) (claims· .3) T55 (record { pos = 25; ty = Syntax.tyRef Syntax.erased Syntax.mut RelayPending.to; ref = λ x.
-      x; }, (record { pos = 27; ty = Syntax.tyRef Syntax.erased Syntax.mut RelayCircuit.to; ref = λ x. x; }, (record { pos = 29; ty = Syntax.tyRef
-      Syntax.erased Syntax.mut InflightAction.to; ref = λ x. x; }, (record { pos = 31; ty = Syntax.tyRef Syntax.erased Syntax.mut (Syntax.tyInt
+  abbrev s53 : Typed.Both T56 T57
+  s53 = Call.callB ps·1 r·1 (claims· .2) (claims· .3) T56 (record { pos = 26; ty = Syntax.tyRef Syntax.erased Syntax.mut RelayPending.to; ref = λ x.
+      x; }, (record { pos = 28; ty = Syntax.tyRef Syntax.erased Syntax.mut RelayCircuit.to; ref = λ x. x; }, (record { pos = 30; ty = Syntax.tyRef
+      Syntax.erased Syntax.mut InflightAction.to; ref = λ x. x; }, (record { pos = 32; ty = Syntax.tyRef Syntax.erased Syntax.mut (Syntax.tyInt
       Syntax.w32); ref = λ x. x; }, (record { pos = 6; st = List.[]; d = 0; at = λ x. x }, (record { pos = 7; st = List.[]; d = 0; at = λ x. x },
-      (record { pos = 8; ty = Syntax.tyRef (Syntax.named 5) Syntax.imm (Syntax.tyInt Syntax.w8); ref = λ x. x; }, (record { pos = 9; ty = Syntax.tyRef
-      (Syntax.named 6) Syntax.imm (Syntax.tyInt Syntax.w8); ref = λ x. x; }, tt,),),),),),),),) 13 (14 ∷ 15 ∷ 16 ∷ 17 ∷ 5 ∷ 6 ∷ List.[]) Laws''.mir
-  abbrev s53 : Typed.Mo T56 → Typed.Mo T57
-  s53 = Scalar.n-room T56 6 Laws'.mir
+      (record { pos = 8; st = List.[]; d = 0; at = λ x. x }, (record { pos = 9; ty = Syntax.tyRef (Syntax.named 5) Syntax.imm (Syntax.tyInt
+      Syntax.w8); ref = λ x. x; }, (record { pos = 10; ty = Syntax.tyRef (Syntax.named 6) Syntax.imm (Syntax.tyInt Syntax.w8); ref = λ x. x; },
+      tt,),),),),),),),),) 14 (14 ∷ 15 ∷ 16 ∷ 17 ∷ 5 ∷ 6 ∷ List.[]) Laws'''.mir
   abbrev s54 : Typed.Mo T57 → Typed.Mo T58
-  s54 = Scalar.n-room T57 7 Laws.mir
-  abbrev s56 : Typed.Both T58 T60
-  s56 = Relend.k-back-sl RelayPending.row T58 25 1 0 14 ref5 ref0 Row.off (λ x. x) λ x. x
-  abbrev s59 : Typed.Both T60 T63
-  s59 = Relend.k-back-sl RelayCircuit.row T60 27 2 1 15 ref6 ref1 Row.off (λ x. x) λ x. x
-  abbrev s62 : Typed.Both T63 T66
-  s62 = Relend.k-back-sl InflightAction.row T63 29 4 3 16 ref8 ref3 Row.off (λ x. x) λ x. x
-  abbrev s65 : Typed.Both T66 T69
-  s65 = Relend.k-back-sl (Referent.rtF (Referent.fInt Syntax.w32)) T66 31 5 4 17 ref9 ref4 Row.off (λ x. x) λ x. x
-  abbrev s66 : Typed.Gives T69 T70
-  s66 = Know.k-sl-known (Referent.fInt Syntax.w32) T69 5 4 ref9 Row.off 0 λ x. x
-  abbrev s69 : Typed.Gives T7 T73
-  s69 = Relend.k-sl-relend RelayCircuit.row T7 2 32 1 18 ref6 ref1 Row.off λ x. x
-  abbrev s70 : Typed.Asks T73 T74
-  s70 = Relend.k-sl-aggregate RelayCircuit.row (Relend.asMut RelayCircuit.row) T73 32 33 18 ref1 ref1 (λ x. x) (Scalar.oFld 2 ((Syntax.field 1) ∷
+  s54 = Scalar.n-room T57 6 Laws''.mir
+  abbrev s55 : Typed.Mo T58 → Typed.Mo T59
+  s55 = Scalar.n-room T58 7 Laws.mir
+  abbrev s56 : Typed.Mo T59 → Typed.Mo T60
+  s56 = Scalar.n-room T59 8 Laws'.mir
+  abbrev s58 : Typed.Both T60 T62
+  s58 = Relend.k-back-sl RelayPending.row T60 26 1 0 14 ref5 ref0 Row.off (λ x. x) λ x. x
+  abbrev s61 : Typed.Both T62 T65
+  s61 = Relend.k-back-sl RelayCircuit.row T62 28 2 1 15 ref6 ref1 Row.off (λ x. x) λ x. x
+  abbrev s64 : Typed.Both T65 T68
+  s64 = Relend.k-back-sl InflightAction.row T65 30 4 3 16 ref8 ref3 Row.off (λ x. x) λ x. x
+  abbrev s67 : Typed.Both T68 T71
+  s67 = Relend.k-back-sl (Referent.rtF (Referent.fInt Syntax.w32)) T68 32 5 4 17 ref9 ref4 Row.off (λ x. x) λ x. x
+  abbrev s68 : Typed.Gives T71 T72
+  s68 = Know.k-sl-known (Referent.fInt Syntax.w32) T71 5 4 ref9 Row.off 0 λ x. x
+  abbrev s71 : Typed.Gives T7 T75
+  s71 = Relend.k-sl-relend RelayCircuit.row T7 2 33 1 18 ref6 ref1 Row.off λ x. x
+  abbrev s72 : Typed.Asks T75 T76
+  s72 = Relend.k-sl-aggregate RelayCircuit.row (Relend.asMut RelayCircuit.row) T75 33 34 18 ref1 ref1 (λ x. x) (Scalar.oFld 2 ((Syntax.field 1) ∷
       List.[]) (Syntax.tyInt Syntax.w64) 8 λ v. Shared.lenV (v .0))
-  abbrev s72 : Typed.Gives T74 T76
-  s72 = Relend.k-sl-relend ReservationUsage.row T74 3 34 2 19 ref7 ref2 Row.off λ x. x
-  abbrev s73 : Typed.Asks T76 T77
-  s73 = Relend.k-sl-aggregate ReservationUsage.row (Relend.asMut ReservationUsage.row) T76 34 35 19 ref2 ref2 (λ x. x) (Scalar.oFld 3 ((Syntax.field
+  abbrev s74 : Typed.Gives T76 T78
+  s74 = Relend.k-sl-relend ReservationUsage.row T76 3 35 2 19 ref7 ref2 Row.off λ x. x
+  abbrev s75 : Typed.Asks T78 T79
+  s75 = Relend.k-sl-aggregate ReservationUsage.row (Relend.asMut ReservationUsage.row) T78 35 36 19 ref2 ref2 (λ x. x) (Scalar.oFld 3 ((Syntax.field
       1) ∷ List.[]) (Syntax.tyInt Syntax.w64) 8 λ v. Shared.lenV (v .0))
-  abbrev s75 : Typed.Gives T77 T79
-  s75 = Relend.k-sl-relend InflightAction.row T77 4 36 3 20 ref8 ref3 Row.off λ x. x
-  abbrev s76 : Typed.Asks T79 T80
-  s76 = Relend.k-sl-aggregate InflightAction.row (Relend.asMut InflightAction.row) T79 36 37 20 ref3 ref3 (λ x. x) (Scalar.oFld 4 ((Syntax.field 1) ∷
+  abbrev s77 : Typed.Gives T79 T81
+  s77 = Relend.k-sl-relend InflightAction.row T79 4 37 3 20 ref8 ref3 Row.off λ x. x
+  abbrev s78 : Typed.Asks T81 T82
+  s78 = Relend.k-sl-aggregate InflightAction.row (Relend.asMut InflightAction.row) T81 37 38 20 ref3 ref3 (λ x. x) (Scalar.oFld 4 ((Syntax.field 1) ∷
       List.[]) (Syntax.tyInt Syntax.w64) 8 λ v. Shared.lenV (v .0))
-  abbrev s78 : Typed.Gives T80 T82
-  s78 = Relend.k-sl-relend (Referent.rtF (Referent.fInt Syntax.w32)) T80 5 38 4 21 ref9 ref4 Row.off λ x. x
-  abbrev s79 : Typed.Asks T82 T83
-  s79 = Relend.k-sl-aggregate (Referent.rtF (Referent.fInt Syntax.w32)) (Relend.asMut (Referent.rtF (Referent.fInt Syntax.w32))) T82 38 39 21 ref4
+  abbrev s80 : Typed.Gives T82 T84
+  s80 = Relend.k-sl-relend (Referent.rtF (Referent.fInt Syntax.w32)) T82 5 39 4 21 ref9 ref4 Row.off λ x. x
+  abbrev s81 : Typed.Asks T84 T85
+  s81 = Relend.k-sl-aggregate (Referent.rtF (Referent.fInt Syntax.w32)) (Relend.asMut (Referent.rtF (Referent.fInt Syntax.w32))) T84 39 40 21 ref4
       ref4 (λ x. x) (Scalar.oFld 5 ((Syntax.field 1) ∷ List.[]) (Syntax.tyInt Syntax.w64) 8 λ v. Shared.lenV (v .0))
-  abbrev s80 : Typed.Both T83 T84
-  s80 = Call.callB ps·2 r·2 (claims· .4) (claims· .5) T83 (record { pos = 33; ty = Syntax.tyRef Syntax.erased Syntax.mut RelayCircuit.to; ref = λ x.
-      x; }, (record { pos = 35; ty = Syntax.tyRef Syntax.erased Syntax.mut ReservationUsage.to; ref = λ x. x; }, (record { pos = 37; ty = Syntax.tyRef
-      Syntax.erased Syntax.mut InflightAction.to; ref = λ x. x; }, (record { pos = 39; ty = Syntax.tyRef Syntax.erased Syntax.mut (Syntax.tyInt
+  abbrev s82 : Typed.Both T85 T86
+  s82 = Call.callB ps·2 r·2 (claims· .4) (claims· .5) T85 (record { pos = 34; ty = Syntax.tyRef Syntax.erased Syntax.mut RelayCircuit.to; ref = λ x.
+      x; }, (record { pos = 36; ty = Syntax.tyRef Syntax.erased Syntax.mut ReservationUsage.to; ref = λ x. x; }, (record { pos = 38; ty = Syntax.tyRef
+      Syntax.erased Syntax.mut InflightAction.to; ref = λ x. x; }, (record { pos = 40; ty = Syntax.tyRef Syntax.erased Syntax.mut (Syntax.tyInt
       Syntax.w32); ref = λ x. x; }, (record { pos = 6; st = List.[]; d = 0; at = λ x. x }, (record { pos = 7; st = List.[]; d = 0; at = λ x. x },
-      (record { pos = 8; ty = Syntax.tyRef (Syntax.named 5) Syntax.imm (Syntax.tyInt Syntax.w8); ref = λ x. x; }, (record { pos = 9; ty = Syntax.tyRef
-      (Syntax.named 6) Syntax.imm (Syntax.tyInt Syntax.w8); ref = λ x. x; }, tt,),),),),),),),) 13 (18 ∷ 19 ∷ 20 ∷ 21 ∷ 5 ∷ 6 ∷ List.[]) Laws''.mir
-  abbrev s81 : Typed.Mo T84 → Typed.Mo T85
-  s81 = Scalar.n-room T84 6 Laws'.mir
-  abbrev s82 : Typed.Mo T85 → Typed.Mo T86
-  s82 = Scalar.n-room T85 7 Laws.mir
-  abbrev s84 : Typed.Both T86 T88
-  s84 = Relend.k-back-sl RelayCircuit.row T86 33 2 1 18 ref6 ref1 Row.off (λ x. x) λ x. x
-  abbrev s87 : Typed.Both T88 T91
-  s87 = Relend.k-back-sl ReservationUsage.row T88 35 3 2 19 ref7 ref2 Row.off (λ x. x) λ x. x
+      (record { pos = 8; st = List.[]; d = 0; at = λ x. x }, (record { pos = 9; ty = Syntax.tyRef (Syntax.named 5) Syntax.imm (Syntax.tyInt
+      Syntax.w8); ref = λ x. x; }, (record { pos = 10; ty = Syntax.tyRef (Syntax.named 6) Syntax.imm (Syntax.tyInt Syntax.w8); ref = λ x. x; },
+      tt,),),),),),),),),) 14 (18 ∷ 19 ∷ 20 ∷ 21 ∷ 5 ∷ 6 ∷ List.[]) Laws'''.mir
+  abbrev s83 : Typed.Mo T86 → Typed.Mo T87
+  s83 = Scalar.n-room T86 6 Laws''.mir
+  abbrev s84 : Typed.Mo T87 → Typed.Mo T88
+  s84 = Scalar.n-room T87 7 Laws.mir
+  abbrev s85 : Typed.Mo T88 → Typed.Mo T89
+  s85 = Scalar.n-room T88 8 Laws'.mir
+  abbrev s87 : Typed.Both T89 T91
+  s87 = Relend.k-back-sl RelayCircuit.row T89 34 2 1 18 ref6 ref1 Row.off (λ x. x) λ x. x
   abbrev s90 : Typed.Both T91 T94
-  s90 = Relend.k-back-sl InflightAction.row T91 37 4 3 20 ref8 ref3 Row.off (λ x. x) λ x. x
+  s90 = Relend.k-back-sl ReservationUsage.row T91 36 3 2 19 ref7 ref2 Row.off (λ x. x) λ x. x
   abbrev s93 : Typed.Both T94 T97
-  s93 = Relend.k-back-sl (Referent.rtF (Referent.fInt Syntax.w32)) T94 39 5 4 21 ref9 ref4 Row.off (λ x. x) λ x. x
-  abbrev s94 : Typed.Gives T97 T98
-  s94 = Know.k-sl-known (Referent.fInt Syntax.w32) T97 5 4 ref9 Row.off 0 λ x. x
-  abbrev s97 : Typed.Gives T7 T101
-  s97 = Relend.k-sl-relend RelayCircuit.row T7 2 40 1 22 ref6 ref1 Row.off λ x. x
-  abbrev s98 : Typed.Asks T101 T102
-  s98 = Relend.k-sl-aggregate RelayCircuit.row (Relend.asMut RelayCircuit.row) T101 40 41 22 ref1 ref1 (λ x. x) (Scalar.oFld 2 ((Syntax.field 1) ∷
-      List.[]) (Syntax.tyInt Syntax.w64) 8 λ v. Shared.lenV (v .0))
-  abbrev s100 : Typed.Gives T102 T104
-  s100 = Relend.k-sl-relend InflightAction.row T102 4 42 3 23 ref8 ref3 Row.off λ x. x
+  s93 = Relend.k-back-sl InflightAction.row T94 38 4 3 20 ref8 ref3 Row.off (λ x. x) λ x. x
+  abbrev s96 : Typed.Both T97 T100
+  s96 = Relend.k-back-sl (Referent.rtF (Referent.fInt Syntax.w32)) T97 40 5 4 21 ref9 ref4 Row.off (λ x. x) λ x. x
+  abbrev s97 : Typed.Gives T100 T101
+  s97 = Know.k-sl-known (Referent.fInt Syntax.w32) T100 5 4 ref9 Row.off 0 λ x. x
+  abbrev s100 : Typed.Gives T7 T104
+  s100 = Relend.k-sl-relend RelayCircuit.row T7 2 41 1 22 ref6 ref1 Row.off λ x. x
   abbrev s101 : Typed.Asks T104 T105
-  s101 = Relend.k-sl-aggregate InflightAction.row (Relend.asMut InflightAction.row) T104 42 43 23 ref3 ref3 (λ x. x) (Scalar.oFld 4 ((Syntax.field 1)
-      ∷ List.[]) (Syntax.tyInt Syntax.w64) 8 λ v. Shared.lenV (v .0))
+  s101 = Relend.k-sl-aggregate RelayCircuit.row (Relend.asMut RelayCircuit.row) T104 41 42 22 ref1 ref1 (λ x. x) (Scalar.oFld 2 ((Syntax.field 1) ∷
+      List.[]) (Syntax.tyInt Syntax.w64) 8 λ v. Shared.lenV (v .0))
   abbrev s103 : Typed.Gives T105 T107
-  s103 = Relend.k-sl-relend (Referent.rtF (Referent.fInt Syntax.w32)) T105 5 44 4 24 ref9 ref4 Row.off λ x. x
+  s103 = Relend.k-sl-relend InflightAction.row T105 4 43 3 23 ref8 ref3 Row.off λ x. x
   abbrev s104 : Typed.Asks T107 T108
-  s104 = Relend.k-sl-aggregate (Referent.rtF (Referent.fInt Syntax.w32)) (Relend.asMut (Referent.rtF (Referent.fInt Syntax.w32))) T107 44 45 24 ref4
-      ref4 (λ x. x) (Scalar.oFld 5 ((Syntax.field 1) ∷ List.[]) (Syntax.tyInt Syntax.w64) 8 λ v. Shared.lenV (v .0))
-  abbrev s105 : Typed.Both T108 T109
-  s105 = Call.callB ps·3 r·3 (claims· .6) (claims· .7) T108 (record { pos = 41; ty = Syntax.tyRef Syntax.erased Syntax.mut RelayCircuit.to; ref = λ x.
-      x; }, (record { pos = 43; ty = Syntax.tyRef Syntax.erased Syntax.mut InflightAction.to; ref = λ x. x; }, (record { pos = 45; ty = Syntax.tyRef
-      Syntax.erased Syntax.mut (Syntax.tyInt Syntax.w32); ref = λ x. x; }, (record { pos = 6; st = List.[]; d = 0; at = λ x. x }, (record { pos = 7;
-      st = List.[]; d = 0; at = λ x. x }, (record { pos = 8; ty = Syntax.tyRef (Syntax.named 5) Syntax.imm (Syntax.tyInt Syntax.w8); ref = λ x. x; },
-      (record { pos = 9; ty = Syntax.tyRef (Syntax.named 6) Syntax.imm (Syntax.tyInt Syntax.w8); ref = λ x. x; }, tt,),),),),),),) 13 (22 ∷ 23 ∷ 24 ∷
-      5 ∷ 6 ∷ List.[]) Laws''.mir
-  abbrev s106 : Typed.Mo T109 → Typed.Mo T110
-  s106 = Scalar.n-room T109 6 Laws'.mir
-  abbrev s107 : Typed.Mo T110 → Typed.Mo T111
-  s107 = Scalar.n-room T110 7 Laws.mir
-  abbrev s109 : Typed.Both T111 T113
-  s109 = Relend.k-back-sl RelayCircuit.row T111 41 2 1 22 ref6 ref1 Row.off (λ x. x) λ x. x
-  abbrev s112 : Typed.Both T113 T116
-  s112 = Relend.k-back-sl InflightAction.row T113 43 4 3 23 ref8 ref3 Row.off (λ x. x) λ x. x
-  abbrev s115 : Typed.Both T116 T119
-  s115 = Relend.k-back-sl (Referent.rtF (Referent.fInt Syntax.w32)) T116 45 5 4 24 ref9 ref4 Row.off (λ x. x) λ x. x
-  abbrev s116 : Typed.Gives T119 T120
-  s116 = Know.k-sl-known (Referent.fInt Syntax.w32) T119 5 4 ref9 Row.off 0 λ x. x
-  abbrev s118 : Typed.Mo T7 → Typed.Mo T122
-  s118 = Scalar.n-room T7 7 Laws.mir
-  abbrev s119 : Typed.Asks T7 T123
-  s119 = Scalar.k-op2 T7 (Syntax.lt Syntax.unsigned) (Scalar.oAt 12 (Syntax.tyInt Syntax.w8) (Row.valS (Row.sInt Syntax.w8))) (Scalar.oInt Syntax.w8
-      13) 46 (Rows.sc-here Row.sBool) (Row.sBool .of)
-  abbrev s120 : Typed.Mo T123 → Typed.Mo T125
-  s120 = Scalar.n-room T123 7 Laws.mir
-  abbrev s121 : Typed.Mo T125 → Typed.Mo T126
-  s121 = Scalar.n-room T125 46 Syntax.tyBool
-  abbrev s122 : Typed.Mo T123 → Typed.Mo T127
-  s122 = Scalar.n-room T123 46 Syntax.tyBool
-  abbrev s123 : Typed.Asks T124 T128
-  s123 = Scalar.k-op2 T124 (Syntax.lt Syntax.unsigned) (Scalar.oAt 12 (Syntax.tyInt Syntax.w8) (Row.valS (Row.sInt Syntax.w8))) (Scalar.oInt Syntax.w8
-      21) 46 (Rows.sc-here Row.sBool) (Row.sBool .of)
-  abbrev s124 : Typed.Mo T128 → Typed.Mo T130
-  s124 = Scalar.n-room T128 46 Syntax.tyBool
-  abbrev s126 : Typed.Gives T130 T132
-  s126 = Relend.k-sl-relend RelayPending.row T130 1 47 0 25 ref5 ref0 Row.off λ x. x
-  abbrev s127 : Typed.Asks T132 T133
-  s127 = Relend.k-sl-aggregate RelayPending.row (Relend.asMut RelayPending.row) T132 47 48 25 ref0 ref0 (λ x. x) (Scalar.oFld 1 ((Syntax.field 1) ∷
-      List.[]) (Syntax.tyInt Syntax.w64) 8 λ v. Shared.lenV (v .0))
-  abbrev s129 : Typed.Gives T133 T135
-  s129 = Relend.k-sl-relend RelayCircuit.row T133 2 49 1 26 ref6 ref1 Row.off λ x. x
-  abbrev s130 : Typed.Asks T135 T136
-  s130 = Relend.k-sl-aggregate RelayCircuit.row (Relend.asMut RelayCircuit.row) T135 49 50 26 ref1 ref1 (λ x. x) (Scalar.oFld 2 ((Syntax.field 1) ∷
-      List.[]) (Syntax.tyInt Syntax.w64) 8 λ v. Shared.lenV (v .0))
-  abbrev s132 : Typed.Gives T136 T138
-  s132 = Relend.k-sl-relend InflightAction.row T136 4 51 3 27 ref8 ref3 Row.off λ x. x
-  abbrev s133 : Typed.Asks T138 T139
-  s133 = Relend.k-sl-aggregate InflightAction.row (Relend.asMut InflightAction.row) T138 51 52 27 ref3 ref3 (λ x. x) (Scalar.oFld 4 ((Syntax.field 1)
+  s104 = Relend.k-sl-aggregate InflightAction.row (Relend.asMut InflightAction.row) T107 43 44 23 ref3 ref3 (λ x. x) (Scalar.oFld 4 ((Syntax.field 1)
       ∷ List.[]) (Syntax.tyInt Syntax.w64) 8 λ v. Shared.lenV (v .0))
-  abbrev s135 : Typed.Gives T139 T141
-  s135 = Relend.k-sl-relend (Referent.rtF (Referent.fInt Syntax.w32)) T139 5 53 4 28 ref9 ref4 Row.off λ x. x
-  abbrev s136 : Typed.Asks T141 T142
-  s136 = Relend.k-sl-aggregate (Referent.rtF (Referent.fInt Syntax.w32)) (Relend.asMut (Referent.rtF (Referent.fInt Syntax.w32))) T141 53 54 28 ref4
+  abbrev s106 : Typed.Gives T108 T110
+  s106 = Relend.k-sl-relend (Referent.rtF (Referent.fInt Syntax.w32)) T108 5 45 4 24 ref9 ref4 Row.off λ x. x
+  abbrev s107 : Typed.Asks T110 T111
+  s107 = Relend.k-sl-aggregate (Referent.rtF (Referent.fInt Syntax.w32)) (Relend.asMut (Referent.rtF (Referent.fInt Syntax.w32))) T110 45 46 24 ref4
       ref4 (λ x. x) (Scalar.oFld 5 ((Syntax.field 1) ∷ List.[]) (Syntax.tyInt Syntax.w64) 8 λ v. Shared.lenV (v .0))
-  abbrev s137 : Typed.Both T142 T143
-  s137 = Call.callB ps·4 r·4 (claims· .8) (claims· .9) T142 (record { pos = 48; ty = Syntax.tyRef Syntax.erased Syntax.mut RelayPending.to; ref = λ x.
-      x; }, (record { pos = 50; ty = Syntax.tyRef Syntax.erased Syntax.mut RelayCircuit.to; ref = λ x. x; }, (record { pos = 52; ty = Syntax.tyRef
-      Syntax.erased Syntax.mut InflightAction.to; ref = λ x. x; }, (record { pos = 54; ty = Syntax.tyRef Syntax.erased Syntax.mut (Syntax.tyInt
+  abbrev s108 : Typed.Both T111 T112
+  s108 = Call.callB ps·3 r·3 (claims· .6) (claims· .7) T111 (record { pos = 42; ty = Syntax.tyRef Syntax.erased Syntax.mut RelayCircuit.to; ref = λ x.
+      x; }, (record { pos = 44; ty = Syntax.tyRef Syntax.erased Syntax.mut InflightAction.to; ref = λ x. x; }, (record { pos = 46; ty = Syntax.tyRef
+      Syntax.erased Syntax.mut (Syntax.tyInt Syntax.w32); ref = λ x. x; }, (record { pos = 6; st = List.[]; d = 0; at = λ x. x }, (record { pos = 7;
+      st = List.[]; d = 0; at = λ x. x }, (record { pos = 8; st = List.[]; d = 0; at = λ x. x }, (record { pos = 9; ty = Syntax.tyRef (Syntax.named 5)
+      Syntax.imm (Syntax.tyInt Syntax.w8); ref = λ x. x; }, (record { pos = 10; ty = Syntax.tyRef (Syntax.named 6) Syntax.imm (Syntax.tyInt
+      Syntax.w8); ref = λ x. x; }, tt,),),),),),),),) 14 (22 ∷ 23 ∷ 24 ∷ 5 ∷ 6 ∷ List.[]) Laws'''.mir
+  abbrev s109 : Typed.Mo T112 → Typed.Mo T113
+  s109 = Scalar.n-room T112 6 Laws''.mir
+  abbrev s110 : Typed.Mo T113 → Typed.Mo T114
+  s110 = Scalar.n-room T113 7 Laws.mir
+  abbrev s111 : Typed.Mo T114 → Typed.Mo T115
+  s111 = Scalar.n-room T114 8 Laws'.mir
+  abbrev s113 : Typed.Both T115 T117
+  s113 = Relend.k-back-sl RelayCircuit.row T115 42 2 1 22 ref6 ref1 Row.off (λ x. x) λ x. x
+  abbrev s116 : Typed.Both T117 T120
+  s116 = Relend.k-back-sl InflightAction.row T117 44 4 3 23 ref8 ref3 Row.off (λ x. x) λ x. x
+  abbrev s119 : Typed.Both T120 T123
+  s119 = Relend.k-back-sl (Referent.rtF (Referent.fInt Syntax.w32)) T120 46 5 4 24 ref9 ref4 Row.off (λ x. x) λ x. x
+  abbrev s120 : Typed.Gives T123 T124
+  s120 = Know.k-sl-known (Referent.fInt Syntax.w32) T123 5 4 ref9 Row.off 0 λ x. x
+  abbrev s122 : Typed.Mo T7 → Typed.Mo T126
+  s122 = Scalar.n-room T7 8 Laws'.mir
+  abbrev s123 : Typed.Asks T7 T127
+  s123 = Scalar.k-op2 T7 (Syntax.lt Syntax.unsigned) (Scalar.oAt 13 (Syntax.tyInt Syntax.w8) (Row.valS (Row.sInt Syntax.w8))) (Scalar.oInt Syntax.w8
+      13) 47 (Rows.sc-here Row.sBool) (Row.sBool .of)
+  abbrev s124 : Typed.Mo T127 → Typed.Mo T129
+  s124 = Scalar.n-room T127 8 Laws'.mir
+  abbrev s125 : Typed.Mo T129 → Typed.Mo T130
+  s125 = Scalar.n-room T129 47 Syntax.tyBool
+  abbrev s126 : Typed.Mo T127 → Typed.Mo T131
+  s126 = Scalar.n-room T127 47 Syntax.tyBool
+  abbrev s127 : Typed.Asks T128 T132
+  s127 = Scalar.k-op2 T128 (Syntax.lt Syntax.unsigned) (Scalar.oAt 13 (Syntax.tyInt Syntax.w8) (Row.valS (Row.sInt Syntax.w8))) (Scalar.oInt Syntax.w8
+      21) 47 (Rows.sc-here Row.sBool) (Row.sBool .of)
+  abbrev s128 : Typed.Mo T132 → Typed.Mo T134
+  s128 = Scalar.n-room T132 47 Syntax.tyBool
+  abbrev s130 : Typed.Gives T134 T136
+  s130 = Relend.k-sl-relend RelayPending.row T134 1 48 0 25 ref5 ref0 Row.off λ x. x
+  abbrev s131 : Typed.Asks T136 T137
+  s131 = Relend.k-sl-aggregate RelayPending.row (Relend.asMut RelayPending.row) T136 48 49 25 ref0 ref0 (λ x. x) (Scalar.oFld 1 ((Syntax.field 1) ∷
+      List.[]) (Syntax.tyInt Syntax.w64) 8 λ v. Shared.lenV (v .0))
+  abbrev s133 : Typed.Gives T137 T139
+  s133 = Relend.k-sl-relend RelayCircuit.row T137 2 50 1 26 ref6 ref1 Row.off λ x. x
+  abbrev s134 : Typed.Asks T139 T140
+  s134 = Relend.k-sl-aggregate RelayCircuit.row (Relend.asMut RelayCircuit.row) T139 50 51 26 ref1 ref1 (λ x. x) (Scalar.oFld 2 ((Syntax.field 1) ∷
+      List.[]) (Syntax.tyInt Syntax.w64) 8 λ v. Shared.lenV (v .0))
+  abbrev s136 : Typed.Gives T140 T142
+  s136 = Relend.k-sl-relend InflightAction.row T140 4 52 3 27 ref8 ref3 Row.off λ x. x
+  abbrev s137 : Typed.Asks T142 T143
+  s137 = Relend.k-sl-aggregate InflightAction.row (Relend.asMut InflightAction.row) T142 52 53 27 ref3 ref3 (λ x. x) (Scalar.oFld 4 ((Syntax.field 1)
+      ∷ List.[]) (Syntax.tyInt Syntax.w64) 8 λ v. Shared.lenV (v .0))
+  abbrev s139 : Typed.Gives T143 T145
+  s139 = Relend.k-sl-relend (Referent.rtF (Referent.fInt Syntax.w32)) T143 5 54 4 28 ref9 ref4 Row.off λ x. x
+  abbrev s140 : Typed.Asks T145 T146
+  s140 = Relend.k-sl-aggregate (Referent.rtF (Referent.fInt Syntax.w32)) (Relend.asMut (Referent.rtF (Referent.fInt Syntax.w32))) T145 54 55 28 ref4
+      ref4 (λ x. x) (Scalar.oFld 5 ((Syntax.field 1) ∷ List.[]) (Syntax.tyInt Syntax.w64) 8 λ v. Shared.lenV (v .0))
+  abbrev s141 : Typed.Both T146 T147
+  s141 = Call.callB ps·4 r·4 (claims· .8) (claims· .9) T146 (record { pos = 49; ty = Syntax.tyRef Syntax.erased Syntax.mut RelayPending.to; ref = λ x.
+      x; }, (record { pos = 51; ty = Syntax.tyRef Syntax.erased Syntax.mut RelayCircuit.to; ref = λ x. x; }, (record { pos = 53; ty = Syntax.tyRef
+      Syntax.erased Syntax.mut InflightAction.to; ref = λ x. x; }, (record { pos = 55; ty = Syntax.tyRef Syntax.erased Syntax.mut (Syntax.tyInt
       Syntax.w32); ref = λ x. x; }, (record { pos = 6; st = List.[]; d = 0; at = λ x. x }, (record { pos = 7; st = List.[]; d = 0; at = λ x. x },
-      (record { pos = 8; ty = Syntax.tyRef (Syntax.named 5) Syntax.imm (Syntax.tyInt Syntax.w8); ref = λ x. x; }, (record { pos = 9; ty = Syntax.tyRef
-      (Syntax.named 6) Syntax.imm (Syntax.tyInt Syntax.w8); ref = λ x. x; }, tt,),),),),),),),) 13 (25 ∷ 26 ∷ 27 ∷ 28 ∷ 5 ∷ 6 ∷ List.[]) Laws''.mir
-  abbrev s138 : Typed.Mo T143 → Typed.Mo T144
-  s138 = Scalar.n-room T143 6 Laws'.mir
-  abbrev s139 : Typed.Mo T144 → Typed.Mo T145
-  s139 = Scalar.n-room T144 7 Laws.mir
-  abbrev s141 : Typed.Both T145 T147
-  s141 = Relend.k-back-sl RelayPending.row T145 48 1 0 25 ref5 ref0 Row.off (λ x. x) λ x. x
-  abbrev s144 : Typed.Both T147 T150
-  s144 = Relend.k-back-sl RelayCircuit.row T147 50 2 1 26 ref6 ref1 Row.off (λ x. x) λ x. x
-  abbrev s147 : Typed.Both T150 T153
-  s147 = Relend.k-back-sl InflightAction.row T150 52 4 3 27 ref8 ref3 Row.off (λ x. x) λ x. x
-  abbrev s150 : Typed.Both T153 T156
-  s150 = Relend.k-back-sl (Referent.rtF (Referent.fInt Syntax.w32)) T153 54 5 4 28 ref9 ref4 Row.off (λ x. x) λ x. x
-  abbrev s151 : Typed.Gives T156 T157
-  s151 = Know.k-sl-known (Referent.fInt Syntax.w32) T156 5 4 ref9 Row.off 0 λ x. x
-  abbrev s153 : Typed.Mo T128 → Typed.Mo T159
-  s153 = Scalar.n-room T128 7 Laws.mir
-  abbrev s154 : Typed.Mo T159 → Typed.Mo T160
-  s154 = Scalar.n-room T159 46 Syntax.tyBool
-  abbrev s155 : Typed.Both T9 T161
-  s155 = Call.callB ps·5 r·5 (claims· .10) (claims· .11) T9 (record { pos = 6; st = List.[]; d = 0; at = λ x. x }, tt,) 13 List.[] Laws''.mir
-  abbrev s156 : Typed.Mo T161 → Typed.Mo T162
-  s156 = Scalar.n-room T161 6 Laws'.mir
-  abbrev s157 : Typed.Mo T8 → Typed.Mo T163
-  s157 = LocalCopy.n-val-copy T8 13 0 (Declared.row Relayed.the-type) (Rows.whole (Declared.row Relayed.the-type)) (Rows.whole (Declared.row
-      Relayed.the-type)) (λ x. x) (λ x. x) λ x. x
-  abbrev s158 : Typed.Mo T163 → Typed.Mo T164
-  s158 = Scalar.n-room T163 12 (Syntax.tyInt Syntax.w8)
+      (record { pos = 8; st = List.[]; d = 0; at = λ x. x }, (record { pos = 9; ty = Syntax.tyRef (Syntax.named 5) Syntax.imm (Syntax.tyInt
+      Syntax.w8); ref = λ x. x; }, (record { pos = 10; ty = Syntax.tyRef (Syntax.named 6) Syntax.imm (Syntax.tyInt Syntax.w8); ref = λ x. x; },
+      tt,),),),),),),),),) 14 (25 ∷ 26 ∷ 27 ∷ 28 ∷ 5 ∷ 6 ∷ List.[]) Laws'''.mir
+  abbrev s142 : Typed.Mo T147 → Typed.Mo T148
+  s142 = Scalar.n-room T147 6 Laws''.mir
+  abbrev s143 : Typed.Mo T148 → Typed.Mo T149
+  s143 = Scalar.n-room T148 7 Laws.mir
+  abbrev s144 : Typed.Mo T149 → Typed.Mo T150
+  s144 = Scalar.n-room T149 8 Laws'.mir
+  abbrev s146 : Typed.Both T150 T152
+  s146 = Relend.k-back-sl RelayPending.row T150 49 1 0 25 ref5 ref0 Row.off (λ x. x) λ x. x
+  abbrev s149 : Typed.Both T152 T155
+  s149 = Relend.k-back-sl RelayCircuit.row T152 51 2 1 26 ref6 ref1 Row.off (λ x. x) λ x. x
+  abbrev s152 : Typed.Both T155 T158
+  s152 = Relend.k-back-sl InflightAction.row T155 53 4 3 27 ref8 ref3 Row.off (λ x. x) λ x. x
+  abbrev s155 : Typed.Both T158 T161
+  s155 = Relend.k-back-sl (Referent.rtF (Referent.fInt Syntax.w32)) T158 55 5 4 28 ref9 ref4 Row.off (λ x. x) λ x. x
+  abbrev s156 : Typed.Gives T161 T162
+  s156 = Know.k-sl-known (Referent.fInt Syntax.w32) T161 5 4 ref9 Row.off 0 λ x. x
+  abbrev s158 : Typed.Mo T132 → Typed.Mo T164
+  s158 = Scalar.n-room T132 8 Laws'.mir
   abbrev s159 : Typed.Mo T164 → Typed.Mo T165
-  s159 = Scalar.n-room T164 13 Laws''.mir
+  s159 = Scalar.n-room T164 47 Syntax.tyBool
+  abbrev s160 : Typed.Both T9 T166
+  s160 = Call.callB ps·5 r·5 (claims· .10) (claims· .11) T9 (record { pos = 6; st = List.[]; d = 0; at = λ x. x }, (record { pos = 7; st = List.[]; d
+      = 0; at = λ x. x }, tt),) 14 List.[] Laws'''.mir
+  abbrev s161 : Typed.Mo T166 → Typed.Mo T167
+  s161 = Scalar.n-room T166 6 Laws''.mir
+  abbrev s162 : Typed.Mo T167 → Typed.Mo T168
+  s162 = Scalar.n-room T167 7 Laws.mir
+  abbrev s163 : Typed.Mo T8 → Typed.Mo T169
+  s163 = LocalCopy.n-val-copy T8 14 0 (Declared.row Relayed.the-type) (Rows.whole (Declared.row Relayed.the-type)) (Rows.whole (Declared.row
+      Relayed.the-type)) (λ x. x) (λ x. x) λ x. x
+  abbrev s164 : Typed.Mo T169 → Typed.Mo T170
+  s164 = Scalar.n-room T169 13 (Syntax.tyInt Syntax.w8)
+  abbrev s165 : Typed.Mo T170 → Typed.Mo T171
+  s165 = Scalar.n-room T170 14 Laws'''.mir
   module _ (Pre· : (κs : Lifetimes.Lfts 9) → Kinds.Dens κs ps → Type 0) (Post· : (κs : Lifetimes.Lfts 9) → (a : Kinds.Dens κs ps) → Kinds.Plain 9 ps r
       κs) where
     module _ (M : Type 1) where
@@ -1546,368 +1637,378 @@ module _ (claims· : Claims) where
           "hnsr_circuit::handle::unexpected") → Statement.Triple 𝓤 (Wp.WpFn 𝓤 H (𝓣 .C) (𝓣 .Λ) (Function.fnOf 9 ps r xs m hs body)) (Function.plainOf 𝓤
           H A 9 ps r Pre· Post·)
     module _ where
-      abbrev at0 : Typed.TF T42 O4
+      abbrev at0 : Typed.TF T43 O4
       at0 = Typed.atExit 1 O4
-      abbrev at1 : Typed.TF T42 O4
+      abbrev at1 : Typed.TF T43 O4
       at1 = λ Ψ. at0 Ψ
-      abbrev at2 : Typed.TF T41 O4
-      at2 = λ Ψ. Typed.give s38 (at1 Ψ)
-      abbrev at3 : Typed.TF T38 O4
-      at3 = λ Ψ. Typed.both s37 (at2 Ψ)
-      abbrev at4 : Typed.TF T38 O4
+      abbrev at2 : Typed.TF T42 O4
+      at2 = λ Ψ. Typed.give s39 (at1 Ψ)
+      abbrev at3 : Typed.TF T39 O4
+      at3 = λ Ψ. Typed.both s38 (at2 Ψ)
+      abbrev at4 : Typed.TF T39 O4
       at4 = λ Ψ. at3 Ψ
-      abbrev at5 : Typed.TF T38 O4
+      abbrev at5 : Typed.TF T39 O4
       at5 = λ Ψ. at4 Ψ
-      abbrev at6 : Typed.TF T35 O4
-      at6 = λ Ψ. Typed.both s34 (at5 Ψ)
-      abbrev at7 : Typed.TF T35 O4
+      abbrev at6 : Typed.TF T36 O4
+      at6 = λ Ψ. Typed.both s35 (at5 Ψ)
+      abbrev at7 : Typed.TF T36 O4
       at7 = λ Ψ. at6 Ψ
-      abbrev at8 : Typed.TF T35 O4
+      abbrev at8 : Typed.TF T36 O4
       at8 = λ Ψ. at7 Ψ
-      abbrev at9 : Typed.TF T32 O4
-      at9 = λ Ψ. Typed.both s31 (at8 Ψ)
-      abbrev at10 : Typed.TF T32 O4
+      abbrev at9 : Typed.TF T33 O4
+      at9 = λ Ψ. Typed.both s32 (at8 Ψ)
+      abbrev at10 : Typed.TF T33 O4
       at10 = λ Ψ. at9 Ψ
-      abbrev at11 : Typed.TF T32 O4
+      abbrev at11 : Typed.TF T33 O4
       at11 = λ Ψ. at10 Ψ
-      abbrev at12 : Typed.TF T29 O4
-      at12 = λ Ψ. Typed.both s28 (at11 Ψ)
-      abbrev at13 : Typed.TF T29 O4
+      abbrev at12 : Typed.TF T30 O4
+      at12 = λ Ψ. Typed.both s29 (at11 Ψ)
+      abbrev at13 : Typed.TF T30 O4
       at13 = λ Ψ. at12 Ψ
-      abbrev at14 : Typed.TF T29 O4
+      abbrev at14 : Typed.TF T30 O4
       at14 = λ Ψ. at13 Ψ
-      abbrev at15 : Typed.TF T27 O4
-      at15 = λ Ψ. Typed.both s25 (at14 Ψ)
-      abbrev at16 : Typed.TF T27 O4
+      abbrev at15 : Typed.TF T28 O4
+      at15 = λ Ψ. Typed.both s26 (at14 Ψ)
+      abbrev at16 : Typed.TF T28 O4
       at16 = λ Ψ. at15 Ψ
-      abbrev at17 : Typed.TF T26 O4
-      at17 = λ Ψ. Typed.pass T26 T27 s23 (at16 Ψ)
-      abbrev at18 : Typed.TF T25 O4
-      at18 = λ Ψ. Typed.pass T25 T26 s22 (at17 Ψ)
-      abbrev at19 : Typed.TF T24 O4
-      at19 = λ Ψ. Typed.both s21 (at18 Ψ)
-      abbrev at20 : Typed.TF T23 O4
-      at20 = λ Ψ. Typed.ask s20 (at19 Ψ)
-      abbrev at21 : Typed.TF T21 O4
-      at21 = λ Ψ. Typed.give s19 (at20 Ψ)
+      abbrev at17 : Typed.TF T27 O4
+      at17 = λ Ψ. Typed.pass T27 T28 s24 (at16 Ψ)
+      abbrev at18 : Typed.TF T26 O4
+      at18 = λ Ψ. Typed.pass T26 T27 s23 (at17 Ψ)
+      abbrev at19 : Typed.TF T25 O4
+      at19 = λ Ψ. Typed.pass T25 T26 s22 (at18 Ψ)
+      abbrev at20 : Typed.TF T24 O4
+      at20 = λ Ψ. Typed.both s21 (at19 Ψ)
+      abbrev at21 : Typed.TF T23 O4
+      at21 = λ Ψ. Typed.ask s20 (at20 Ψ)
       abbrev at22 : Typed.TF T21 O4
-      at22 = λ Ψ. at21 Ψ
-      abbrev at23 : Typed.TF T20 O4
-      at23 = λ Ψ. Typed.ask s17 (at22 Ψ)
-      abbrev at24 : Typed.TF T18 O4
-      at24 = λ Ψ. Typed.give s16 (at23 Ψ)
+      at22 = λ Ψ. Typed.give s19 (at21 Ψ)
+      abbrev at23 : Typed.TF T21 O4
+      at23 = λ Ψ. at22 Ψ
+      abbrev at24 : Typed.TF T20 O4
+      at24 = λ Ψ. Typed.ask s17 (at23 Ψ)
       abbrev at25 : Typed.TF T18 O4
-      at25 = λ Ψ. at24 Ψ
-      abbrev at26 : Typed.TF T17 O4
-      at26 = λ Ψ. Typed.ask s14 (at25 Ψ)
-      abbrev at27 : Typed.TF T15 O4
-      at27 = λ Ψ. Typed.give s13 (at26 Ψ)
+      at25 = λ Ψ. Typed.give s16 (at24 Ψ)
+      abbrev at26 : Typed.TF T18 O4
+      at26 = λ Ψ. at25 Ψ
+      abbrev at27 : Typed.TF T17 O4
+      at27 = λ Ψ. Typed.ask s14 (at26 Ψ)
       abbrev at28 : Typed.TF T15 O4
-      at28 = λ Ψ. at27 Ψ
-      abbrev at29 : Typed.TF T14 O4
-      at29 = λ Ψ. Typed.ask s11 (at28 Ψ)
-      abbrev at30 : Typed.TF T12 O4
-      at30 = λ Ψ. Typed.give s10 (at29 Ψ)
+      at28 = λ Ψ. Typed.give s13 (at27 Ψ)
+      abbrev at29 : Typed.TF T15 O4
+      at29 = λ Ψ. at28 Ψ
+      abbrev at30 : Typed.TF T14 O4
+      at30 = λ Ψ. Typed.ask s11 (at29 Ψ)
       abbrev at31 : Typed.TF T12 O4
-      at31 = λ Ψ. at30 Ψ
-      abbrev at32 : Typed.TF T11 O4
-      at32 = λ Ψ. Typed.ask s8 (at31 Ψ)
-      abbrev at33 : Typed.TF T7 O4
-      at33 = λ Ψ. Typed.give s7 (at32 Ψ)
+      at31 = λ Ψ. Typed.give s10 (at30 Ψ)
+      abbrev at32 : Typed.TF T12 O4
+      at32 = λ Ψ. at31 Ψ
+      abbrev at33 : Typed.TF T11 O4
+      at33 = λ Ψ. Typed.ask s8 (at32 Ψ)
       abbrev at34 : Typed.TF T7 O4
-      at34 = λ Ψ. at33 Ψ
-      abbrev at35 : Typed.TF T70 O4
-      at35 = Typed.atExit 1 O4
-      abbrev at36 : Typed.TF T70 O4
-      at36 = λ Ψ. at35 Ψ
-      abbrev at37 : Typed.TF T69 O4
-      at37 = λ Ψ. Typed.give s66 (at36 Ψ)
-      abbrev at38 : Typed.TF T66 O4
-      at38 = λ Ψ. Typed.both s65 (at37 Ψ)
-      abbrev at39 : Typed.TF T66 O4
-      at39 = λ Ψ. at38 Ψ
-      abbrev at40 : Typed.TF T66 O4
+      at34 = λ Ψ. Typed.give s7 (at33 Ψ)
+      abbrev at35 : Typed.TF T7 O4
+      at35 = λ Ψ. at34 Ψ
+      abbrev at36 : Typed.TF T72 O4
+      at36 = Typed.atExit 1 O4
+      abbrev at37 : Typed.TF T72 O4
+      at37 = λ Ψ. at36 Ψ
+      abbrev at38 : Typed.TF T71 O4
+      at38 = λ Ψ. Typed.give s68 (at37 Ψ)
+      abbrev at39 : Typed.TF T68 O4
+      at39 = λ Ψ. Typed.both s67 (at38 Ψ)
+      abbrev at40 : Typed.TF T68 O4
       at40 = λ Ψ. at39 Ψ
-      abbrev at41 : Typed.TF T63 O4
-      at41 = λ Ψ. Typed.both s62 (at40 Ψ)
-      abbrev at42 : Typed.TF T63 O4
-      at42 = λ Ψ. at41 Ψ
-      abbrev at43 : Typed.TF T63 O4
+      abbrev at41 : Typed.TF T68 O4
+      at41 = λ Ψ. at40 Ψ
+      abbrev at42 : Typed.TF T65 O4
+      at42 = λ Ψ. Typed.both s64 (at41 Ψ)
+      abbrev at43 : Typed.TF T65 O4
       at43 = λ Ψ. at42 Ψ
-      abbrev at44 : Typed.TF T60 O4
-      at44 = λ Ψ. Typed.both s59 (at43 Ψ)
-      abbrev at45 : Typed.TF T60 O4
-      at45 = λ Ψ. at44 Ψ
-      abbrev at46 : Typed.TF T60 O4
+      abbrev at44 : Typed.TF T65 O4
+      at44 = λ Ψ. at43 Ψ
+      abbrev at45 : Typed.TF T62 O4
+      at45 = λ Ψ. Typed.both s61 (at44 Ψ)
+      abbrev at46 : Typed.TF T62 O4
       at46 = λ Ψ. at45 Ψ
-      abbrev at47 : Typed.TF T58 O4
-      at47 = λ Ψ. Typed.both s56 (at46 Ψ)
-      abbrev at48 : Typed.TF T58 O4
-      at48 = λ Ψ. at47 Ψ
-      abbrev at49 : Typed.TF T57 O4
-      at49 = λ Ψ. Typed.pass T57 T58 s54 (at48 Ψ)
-      abbrev at50 : Typed.TF T56 O4
-      at50 = λ Ψ. Typed.pass T56 T57 s53 (at49 Ψ)
-      abbrev at51 : Typed.TF T55 O4
-      at51 = λ Ψ. Typed.both s52 (at50 Ψ)
-      abbrev at52 : Typed.TF T54 O4
-      at52 = λ Ψ. Typed.ask s51 (at51 Ψ)
-      abbrev at53 : Typed.TF T52 O4
-      at53 = λ Ψ. Typed.give s50 (at52 Ψ)
-      abbrev at54 : Typed.TF T52 O4
-      at54 = λ Ψ. at53 Ψ
-      abbrev at55 : Typed.TF T51 O4
-      at55 = λ Ψ. Typed.ask s48 (at54 Ψ)
-      abbrev at56 : Typed.TF T49 O4
-      at56 = λ Ψ. Typed.give s47 (at55 Ψ)
-      abbrev at57 : Typed.TF T49 O4
-      at57 = λ Ψ. at56 Ψ
-      abbrev at58 : Typed.TF T48 O4
-      at58 = λ Ψ. Typed.ask s45 (at57 Ψ)
-      abbrev at59 : Typed.TF T46 O4
-      at59 = λ Ψ. Typed.give s44 (at58 Ψ)
-      abbrev at60 : Typed.TF T46 O4
-      at60 = λ Ψ. at59 Ψ
-      abbrev at61 : Typed.TF T45 O4
-      at61 = λ Ψ. Typed.ask s42 (at60 Ψ)
-      abbrev at62 : Typed.TF T7 O4
-      at62 = λ Ψ. Typed.give s41 (at61 Ψ)
-      abbrev at63 : Typed.TF T7 O4
-      at63 = λ Ψ. at62 Ψ
-      abbrev at64 : Typed.TF T98 O4
-      at64 = Typed.atExit 1 O4
-      abbrev at65 : Typed.TF T98 O4
+      abbrev at47 : Typed.TF T62 O4
+      at47 = λ Ψ. at46 Ψ
+      abbrev at48 : Typed.TF T60 O4
+      at48 = λ Ψ. Typed.both s58 (at47 Ψ)
+      abbrev at49 : Typed.TF T60 O4
+      at49 = λ Ψ. at48 Ψ
+      abbrev at50 : Typed.TF T59 O4
+      at50 = λ Ψ. Typed.pass T59 T60 s56 (at49 Ψ)
+      abbrev at51 : Typed.TF T58 O4
+      at51 = λ Ψ. Typed.pass T58 T59 s55 (at50 Ψ)
+      abbrev at52 : Typed.TF T57 O4
+      at52 = λ Ψ. Typed.pass T57 T58 s54 (at51 Ψ)
+      abbrev at53 : Typed.TF T56 O4
+      at53 = λ Ψ. Typed.both s53 (at52 Ψ)
+      abbrev at54 : Typed.TF T55 O4
+      at54 = λ Ψ. Typed.ask s52 (at53 Ψ)
+      abbrev at55 : Typed.TF T53 O4
+      at55 = λ Ψ. Typed.give s51 (at54 Ψ)
+      abbrev at56 : Typed.TF T53 O4
+      at56 = λ Ψ. at55 Ψ
+      abbrev at57 : Typed.TF T52 O4
+      at57 = λ Ψ. Typed.ask s49 (at56 Ψ)
+      abbrev at58 : Typed.TF T50 O4
+      at58 = λ Ψ. Typed.give s48 (at57 Ψ)
+      abbrev at59 : Typed.TF T50 O4
+      at59 = λ Ψ. at58 Ψ
+      abbrev at60 : Typed.TF T49 O4
+      at60 = λ Ψ. Typed.ask s46 (at59 Ψ)
+      abbrev at61 : Typed.TF T47 O4
+      at61 = λ Ψ. Typed.give s45 (at60 Ψ)
+      abbrev at62 : Typed.TF T47 O4
+      at62 = λ Ψ. at61 Ψ
+      abbrev at63 : Typed.TF T46 O4
+      at63 = λ Ψ. Typed.ask s43 (at62 Ψ)
+      abbrev at64 : Typed.TF T7 O4
+      at64 = λ Ψ. Typed.give s42 (at63 Ψ)
+      abbrev at65 : Typed.TF T7 O4
       at65 = λ Ψ. at64 Ψ
-      abbrev at66 : Typed.TF T97 O4
-      at66 = λ Ψ. Typed.give s94 (at65 Ψ)
-      abbrev at67 : Typed.TF T94 O4
-      at67 = λ Ψ. Typed.both s93 (at66 Ψ)
-      abbrev at68 : Typed.TF T94 O4
-      at68 = λ Ψ. at67 Ψ
-      abbrev at69 : Typed.TF T94 O4
-      at69 = λ Ψ. at68 Ψ
-      abbrev at70 : Typed.TF T91 O4
-      at70 = λ Ψ. Typed.both s90 (at69 Ψ)
-      abbrev at71 : Typed.TF T91 O4
+      abbrev at66 : Typed.TF T101 O4
+      at66 = Typed.atExit 1 O4
+      abbrev at67 : Typed.TF T101 O4
+      at67 = λ Ψ. at66 Ψ
+      abbrev at68 : Typed.TF T100 O4
+      at68 = λ Ψ. Typed.give s97 (at67 Ψ)
+      abbrev at69 : Typed.TF T97 O4
+      at69 = λ Ψ. Typed.both s96 (at68 Ψ)
+      abbrev at70 : Typed.TF T97 O4
+      at70 = λ Ψ. at69 Ψ
+      abbrev at71 : Typed.TF T97 O4
       at71 = λ Ψ. at70 Ψ
-      abbrev at72 : Typed.TF T91 O4
-      at72 = λ Ψ. at71 Ψ
-      abbrev at73 : Typed.TF T88 O4
-      at73 = λ Ψ. Typed.both s87 (at72 Ψ)
-      abbrev at74 : Typed.TF T88 O4
+      abbrev at72 : Typed.TF T94 O4
+      at72 = λ Ψ. Typed.both s93 (at71 Ψ)
+      abbrev at73 : Typed.TF T94 O4
+      at73 = λ Ψ. at72 Ψ
+      abbrev at74 : Typed.TF T94 O4
       at74 = λ Ψ. at73 Ψ
-      abbrev at75 : Typed.TF T88 O4
-      at75 = λ Ψ. at74 Ψ
-      abbrev at76 : Typed.TF T86 O4
-      at76 = λ Ψ. Typed.both s84 (at75 Ψ)
-      abbrev at77 : Typed.TF T86 O4
+      abbrev at75 : Typed.TF T91 O4
+      at75 = λ Ψ. Typed.both s90 (at74 Ψ)
+      abbrev at76 : Typed.TF T91 O4
+      at76 = λ Ψ. at75 Ψ
+      abbrev at77 : Typed.TF T91 O4
       at77 = λ Ψ. at76 Ψ
-      abbrev at78 : Typed.TF T85 O4
-      at78 = λ Ψ. Typed.pass T85 T86 s82 (at77 Ψ)
-      abbrev at79 : Typed.TF T84 O4
-      at79 = λ Ψ. Typed.pass T84 T85 s81 (at78 Ψ)
-      abbrev at80 : Typed.TF T83 O4
-      at80 = λ Ψ. Typed.both s80 (at79 Ψ)
-      abbrev at81 : Typed.TF T82 O4
-      at81 = λ Ψ. Typed.ask s79 (at80 Ψ)
-      abbrev at82 : Typed.TF T80 O4
-      at82 = λ Ψ. Typed.give s78 (at81 Ψ)
-      abbrev at83 : Typed.TF T80 O4
-      at83 = λ Ψ. at82 Ψ
-      abbrev at84 : Typed.TF T79 O4
-      at84 = λ Ψ. Typed.ask s76 (at83 Ψ)
-      abbrev at85 : Typed.TF T77 O4
-      at85 = λ Ψ. Typed.give s75 (at84 Ψ)
-      abbrev at86 : Typed.TF T77 O4
+      abbrev at78 : Typed.TF T89 O4
+      at78 = λ Ψ. Typed.both s87 (at77 Ψ)
+      abbrev at79 : Typed.TF T89 O4
+      at79 = λ Ψ. at78 Ψ
+      abbrev at80 : Typed.TF T88 O4
+      at80 = λ Ψ. Typed.pass T88 T89 s85 (at79 Ψ)
+      abbrev at81 : Typed.TF T87 O4
+      at81 = λ Ψ. Typed.pass T87 T88 s84 (at80 Ψ)
+      abbrev at82 : Typed.TF T86 O4
+      at82 = λ Ψ. Typed.pass T86 T87 s83 (at81 Ψ)
+      abbrev at83 : Typed.TF T85 O4
+      at83 = λ Ψ. Typed.both s82 (at82 Ψ)
+      abbrev at84 : Typed.TF T84 O4
+      at84 = λ Ψ. Typed.ask s81 (at83 Ψ)
+      abbrev at85 : Typed.TF T82 O4
+      at85 = λ Ψ. Typed.give s80 (at84 Ψ)
+      abbrev at86 : Typed.TF T82 O4
       at86 = λ Ψ. at85 Ψ
-      abbrev at87 : Typed.TF T76 O4
-      at87 = λ Ψ. Typed.ask s73 (at86 Ψ)
-      abbrev at88 : Typed.TF T74 O4
-      at88 = λ Ψ. Typed.give s72 (at87 Ψ)
-      abbrev at89 : Typed.TF T74 O4
+      abbrev at87 : Typed.TF T81 O4
+      at87 = λ Ψ. Typed.ask s78 (at86 Ψ)
+      abbrev at88 : Typed.TF T79 O4
+      at88 = λ Ψ. Typed.give s77 (at87 Ψ)
+      abbrev at89 : Typed.TF T79 O4
       at89 = λ Ψ. at88 Ψ
-      abbrev at90 : Typed.TF T73 O4
-      at90 = λ Ψ. Typed.ask s70 (at89 Ψ)
-      abbrev at91 : Typed.TF T7 O4
-      at91 = λ Ψ. Typed.give s69 (at90 Ψ)
-      abbrev at92 : Typed.TF T7 O4
+      abbrev at90 : Typed.TF T78 O4
+      at90 = λ Ψ. Typed.ask s75 (at89 Ψ)
+      abbrev at91 : Typed.TF T76 O4
+      at91 = λ Ψ. Typed.give s74 (at90 Ψ)
+      abbrev at92 : Typed.TF T76 O4
       at92 = λ Ψ. at91 Ψ
-      abbrev at93 : Typed.TF T120 O4
-      at93 = Typed.atExit 1 O4
-      abbrev at94 : Typed.TF T120 O4
-      at94 = λ Ψ. at93 Ψ
-      abbrev at95 : Typed.TF T119 O4
-      at95 = λ Ψ. Typed.give s116 (at94 Ψ)
-      abbrev at96 : Typed.TF T116 O4
-      at96 = λ Ψ. Typed.both s115 (at95 Ψ)
-      abbrev at97 : Typed.TF T116 O4
+      abbrev at93 : Typed.TF T75 O4
+      at93 = λ Ψ. Typed.ask s72 (at92 Ψ)
+      abbrev at94 : Typed.TF T7 O4
+      at94 = λ Ψ. Typed.give s71 (at93 Ψ)
+      abbrev at95 : Typed.TF T7 O4
+      at95 = λ Ψ. at94 Ψ
+      abbrev at96 : Typed.TF T124 O4
+      at96 = Typed.atExit 1 O4
+      abbrev at97 : Typed.TF T124 O4
       at97 = λ Ψ. at96 Ψ
-      abbrev at98 : Typed.TF T116 O4
-      at98 = λ Ψ. at97 Ψ
-      abbrev at99 : Typed.TF T113 O4
-      at99 = λ Ψ. Typed.both s112 (at98 Ψ)
-      abbrev at100 : Typed.TF T113 O4
+      abbrev at98 : Typed.TF T123 O4
+      at98 = λ Ψ. Typed.give s120 (at97 Ψ)
+      abbrev at99 : Typed.TF T120 O4
+      at99 = λ Ψ. Typed.both s119 (at98 Ψ)
+      abbrev at100 : Typed.TF T120 O4
       at100 = λ Ψ. at99 Ψ
-      abbrev at101 : Typed.TF T113 O4
+      abbrev at101 : Typed.TF T120 O4
       at101 = λ Ψ. at100 Ψ
-      abbrev at102 : Typed.TF T111 O4
-      at102 = λ Ψ. Typed.both s109 (at101 Ψ)
-      abbrev at103 : Typed.TF T111 O4
+      abbrev at102 : Typed.TF T117 O4
+      at102 = λ Ψ. Typed.both s116 (at101 Ψ)
+      abbrev at103 : Typed.TF T117 O4
       at103 = λ Ψ. at102 Ψ
-      abbrev at104 : Typed.TF T110 O4
-      at104 = λ Ψ. Typed.pass T110 T111 s107 (at103 Ψ)
-      abbrev at105 : Typed.TF T109 O4
-      at105 = λ Ψ. Typed.pass T109 T110 s106 (at104 Ψ)
-      abbrev at106 : Typed.TF T108 O4
-      at106 = λ Ψ. Typed.both s105 (at105 Ψ)
-      abbrev at107 : Typed.TF T107 O4
-      at107 = λ Ψ. Typed.ask s104 (at106 Ψ)
-      abbrev at108 : Typed.TF T105 O4
-      at108 = λ Ψ. Typed.give s103 (at107 Ψ)
-      abbrev at109 : Typed.TF T105 O4
-      at109 = λ Ψ. at108 Ψ
-      abbrev at110 : Typed.TF T104 O4
-      at110 = λ Ψ. Typed.ask s101 (at109 Ψ)
-      abbrev at111 : Typed.TF T102 O4
-      at111 = λ Ψ. Typed.give s100 (at110 Ψ)
-      abbrev at112 : Typed.TF T102 O4
-      at112 = λ Ψ. at111 Ψ
-      abbrev at113 : Typed.TF T101 O4
-      at113 = λ Ψ. Typed.ask s98 (at112 Ψ)
-      abbrev at114 : Typed.TF T7 O4
-      at114 = λ Ψ. Typed.give s97 (at113 Ψ)
-      abbrev at115 : Typed.TF T7 O4
-      at115 = λ Ψ. at114 Ψ
-      abbrev at116 : Typed.TF T122 O4
-      at116 = Typed.atExit 0 O4
-      abbrev at117 : Typed.TF T7 O4
-      at117 = λ Ψ. Typed.pass T7 T122 s118 (at116 Ψ)
-      abbrev at118 : Typed.TF T126 O5
-      at118 = Typed.atExit 0 O5
-      abbrev at119 : Typed.TF T125 O5
-      at119 = λ Ψ. Typed.pass T125 T126 s121 (at118 Ψ)
-      abbrev at120 : Typed.TF T123 O5
-      at120 = λ Ψ. Typed.pass T123 T125 s120 (at119 Ψ)
-      abbrev at121 : Typed.TF T127 O5
-      at121 = Typed.atNext O5
-      abbrev at122 : Typed.TF T123 O5
-      at122 = λ Ψ. Typed.pass T123 T127 s122 (at121 Ψ)
-      abbrev at123 : Typed.TF T123 O5
-      at123 = Scalar.Φcond T123 O5 46 (λ x. x) at120 at122
-      abbrev at124 : Typed.TF T157 O6
-      at124 = Typed.atExit 1 O6
-      abbrev at125 : Typed.TF T157 O6
-      at125 = λ Ψ. at124 Ψ
-      abbrev at126 : Typed.TF T156 O6
-      at126 = λ Ψ. Typed.give s151 (at125 Ψ)
-      abbrev at127 : Typed.TF T153 O6
-      at127 = λ Ψ. Typed.both s150 (at126 Ψ)
-      abbrev at128 : Typed.TF T153 O6
-      at128 = λ Ψ. at127 Ψ
-      abbrev at129 : Typed.TF T153 O6
+      abbrev at104 : Typed.TF T117 O4
+      at104 = λ Ψ. at103 Ψ
+      abbrev at105 : Typed.TF T115 O4
+      at105 = λ Ψ. Typed.both s113 (at104 Ψ)
+      abbrev at106 : Typed.TF T115 O4
+      at106 = λ Ψ. at105 Ψ
+      abbrev at107 : Typed.TF T114 O4
+      at107 = λ Ψ. Typed.pass T114 T115 s111 (at106 Ψ)
+      abbrev at108 : Typed.TF T113 O4
+      at108 = λ Ψ. Typed.pass T113 T114 s110 (at107 Ψ)
+      abbrev at109 : Typed.TF T112 O4
+      at109 = λ Ψ. Typed.pass T112 T113 s109 (at108 Ψ)
+      abbrev at110 : Typed.TF T111 O4
+      at110 = λ Ψ. Typed.both s108 (at109 Ψ)
+      abbrev at111 : Typed.TF T110 O4
+      at111 = λ Ψ. Typed.ask s107 (at110 Ψ)
+      abbrev at112 : Typed.TF T108 O4
+      at112 = λ Ψ. Typed.give s106 (at111 Ψ)
+      abbrev at113 : Typed.TF T108 O4
+      at113 = λ Ψ. at112 Ψ
+      abbrev at114 : Typed.TF T107 O4
+      at114 = λ Ψ. Typed.ask s104 (at113 Ψ)
+      abbrev at115 : Typed.TF T105 O4
+      at115 = λ Ψ. Typed.give s103 (at114 Ψ)
+      abbrev at116 : Typed.TF T105 O4
+      at116 = λ Ψ. at115 Ψ
+      abbrev at117 : Typed.TF T104 O4
+      at117 = λ Ψ. Typed.ask s101 (at116 Ψ)
+      abbrev at118 : Typed.TF T7 O4
+      at118 = λ Ψ. Typed.give s100 (at117 Ψ)
+      abbrev at119 : Typed.TF T7 O4
+      at119 = λ Ψ. at118 Ψ
+      abbrev at120 : Typed.TF T126 O4
+      at120 = Typed.atExit 0 O4
+      abbrev at121 : Typed.TF T7 O4
+      at121 = λ Ψ. Typed.pass T7 T126 s122 (at120 Ψ)
+      abbrev at122 : Typed.TF T130 O5
+      at122 = Typed.atExit 0 O5
+      abbrev at123 : Typed.TF T129 O5
+      at123 = λ Ψ. Typed.pass T129 T130 s125 (at122 Ψ)
+      abbrev at124 : Typed.TF T127 O5
+      at124 = λ Ψ. Typed.pass T127 T129 s124 (at123 Ψ)
+      abbrev at125 : Typed.TF T131 O5
+      at125 = Typed.atNext O5
+      abbrev at126 : Typed.TF T127 O5
+      at126 = λ Ψ. Typed.pass T127 T131 s126 (at125 Ψ)
+      abbrev at127 : Typed.TF T127 O5
+      at127 = Scalar.Φcond T127 O5 47 (λ x. x) at124 at126
+      abbrev at128 : Typed.TF T162 O6
+      at128 = Typed.atExit 1 O6
+      abbrev at129 : Typed.TF T162 O6
       at129 = λ Ψ. at128 Ψ
-      abbrev at130 : Typed.TF T150 O6
-      at130 = λ Ψ. Typed.both s147 (at129 Ψ)
-      abbrev at131 : Typed.TF T150 O6
-      at131 = λ Ψ. at130 Ψ
-      abbrev at132 : Typed.TF T150 O6
+      abbrev at130 : Typed.TF T161 O6
+      at130 = λ Ψ. Typed.give s156 (at129 Ψ)
+      abbrev at131 : Typed.TF T158 O6
+      at131 = λ Ψ. Typed.both s155 (at130 Ψ)
+      abbrev at132 : Typed.TF T158 O6
       at132 = λ Ψ. at131 Ψ
-      abbrev at133 : Typed.TF T147 O6
-      at133 = λ Ψ. Typed.both s144 (at132 Ψ)
-      abbrev at134 : Typed.TF T147 O6
-      at134 = λ Ψ. at133 Ψ
-      abbrev at135 : Typed.TF T147 O6
+      abbrev at133 : Typed.TF T158 O6
+      at133 = λ Ψ. at132 Ψ
+      abbrev at134 : Typed.TF T155 O6
+      at134 = λ Ψ. Typed.both s152 (at133 Ψ)
+      abbrev at135 : Typed.TF T155 O6
       at135 = λ Ψ. at134 Ψ
-      abbrev at136 : Typed.TF T145 O6
-      at136 = λ Ψ. Typed.both s141 (at135 Ψ)
-      abbrev at137 : Typed.TF T145 O6
-      at137 = λ Ψ. at136 Ψ
-      abbrev at138 : Typed.TF T144 O6
-      at138 = λ Ψ. Typed.pass T144 T145 s139 (at137 Ψ)
-      abbrev at139 : Typed.TF T143 O6
-      at139 = λ Ψ. Typed.pass T143 T144 s138 (at138 Ψ)
-      abbrev at140 : Typed.TF T142 O6
-      at140 = λ Ψ. Typed.both s137 (at139 Ψ)
-      abbrev at141 : Typed.TF T141 O6
-      at141 = λ Ψ. Typed.ask s136 (at140 Ψ)
-      abbrev at142 : Typed.TF T139 O6
-      at142 = λ Ψ. Typed.give s135 (at141 Ψ)
-      abbrev at143 : Typed.TF T139 O6
-      at143 = λ Ψ. at142 Ψ
-      abbrev at144 : Typed.TF T138 O6
-      at144 = λ Ψ. Typed.ask s133 (at143 Ψ)
-      abbrev at145 : Typed.TF T136 O6
-      at145 = λ Ψ. Typed.give s132 (at144 Ψ)
-      abbrev at146 : Typed.TF T136 O6
-      at146 = λ Ψ. at145 Ψ
-      abbrev at147 : Typed.TF T135 O6
-      at147 = λ Ψ. Typed.ask s130 (at146 Ψ)
-      abbrev at148 : Typed.TF T133 O6
-      at148 = λ Ψ. Typed.give s129 (at147 Ψ)
-      abbrev at149 : Typed.TF T133 O6
-      at149 = λ Ψ. at148 Ψ
-      abbrev at150 : Typed.TF T132 O6
-      at150 = λ Ψ. Typed.ask s127 (at149 Ψ)
-      abbrev at151 : Typed.TF T130 O6
-      at151 = λ Ψ. Typed.give s126 (at150 Ψ)
-      abbrev at152 : Typed.TF T130 O6
-      at152 = λ Ψ. at151 Ψ
-      abbrev at153 : Typed.TF T128 O6
-      at153 = λ Ψ. Typed.pass T128 T130 s124 (at152 Ψ)
-      abbrev at154 : Typed.TF T160 O6
-      at154 = Typed.atNext O6
-      abbrev at155 : Typed.TF T159 O6
-      at155 = λ Ψ. Typed.pass T159 T160 s154 (at154 Ψ)
-      abbrev at156 : Typed.TF T128 O6
-      at156 = λ Ψ. Typed.pass T128 T159 s153 (at155 Ψ)
-      abbrev at157 : Typed.TF T128 O6
-      at157 = Scalar.Φcond T128 O6 46 (λ x. x) at153 at156
-      abbrev at158 : Typed.TF T129 O4
-      at158 = Typed.atExit 0 O4
-      abbrev at159 : Typed.TF T128 O4
-      at159 = λ Ψ. at157 (Typed.wantNext T129 O4 (at158 Ψ) Ψ)
-      abbrev at160 : Typed.TF T124 O4
-      at160 = λ Ψ. Typed.ask s123 (at159 Ψ)
-      abbrev at161 : Typed.TF T123 O4
-      at161 = λ Ψ. at123 (Typed.wantNext T124 O4 (at160 Ψ) Ψ)
-      abbrev at162 : Typed.TF T7 O4
-      at162 = λ Ψ. Typed.ask s119 (at161 Ψ)
-      abbrev at163 : Typed.TF T7 O4
-      at163 = Switch.Φswitch T7 O4 12 (λ x. x) (Syntax.arm (13 ∷ List.[]) b23 (Syntax.arm (15 ∷ List.[]) b42 (Syntax.arm (17 ∷ List.[]) b61
-          (Syntax.arm (18 ∷ List.[]) b76 (Syntax.arm (14 ∷ 16 ∷ List.[]) b77 (Syntax.default b108)))))) (at34, (at63, (at92, (at115, (at117,
-          at162)))))
-      abbrev at164 : Typed.TF T7 O3
-      at164 = λ Ψ. at163 (Typed.inBlock O3 Ψ)
-      pub at165 : Typed.TF T9 O2
-      at165 = λ Ψ. Typed.both s155 (Typed.pass T161 T162 s156 (Typed.atNext O2 Ψ))
-      abbrev at166 : Typed.TF T7 O2
-      at166 = λ Ψ. at164 (Typed.wantNext T9 O2 (at165 Ψ) Ψ)
-      abbrev at167 : Typed.TF T7 O1
-      at167 = λ Ψ. at166 (Typed.inBlock O1 Ψ)
-      abbrev at168 : Typed.TF T165 O0
-      at168 = Typed.atRet O0
-      abbrev at169 : Typed.TF T164 O0
-      at169 = λ Ψ. Typed.pass T164 T165 s159 (at168 Ψ)
-      abbrev at170 : Typed.TF T163 O0
-      at170 = λ Ψ. Typed.pass T163 T164 s158 (at169 Ψ)
-      abbrev at171 : Typed.TF T8 O0
-      at171 = λ Ψ. Typed.pass T8 T163 s157 (at170 Ψ)
-      abbrev at172 : Typed.TF T7 O0
-      at172 = λ Ψ. at167 (Typed.wantNext T8 O0 (at171 Ψ) Ψ)
-      abbrev at173 : Typed.TF T6 O0
-      at173 = λ Ψ. Typed.pass T6 T7 s5 (at172 Ψ)
-      abbrev at174 : Typed.TF T5 O0
-      at174 = λ Ψ. Typed.give s4 (at173 Ψ)
-      abbrev at175 : Typed.TF T4 O0
-      at175 = λ Ψ. Typed.give s3 (at174 Ψ)
-      abbrev at176 : Typed.TF T3 O0
-      at176 = λ Ψ. Typed.give s2 (at175 Ψ)
-      abbrev at177 : Typed.TF T2 O0
-      at177 = λ Ψ. Typed.give s1 (at176 Ψ)
-      abbrev at178 : Typed.TF T0 O0
-      at178 = λ Ψ. Typed.give s0 (at177 Ψ)
+      abbrev at136 : Typed.TF T155 O6
+      at136 = λ Ψ. at135 Ψ
+      abbrev at137 : Typed.TF T152 O6
+      at137 = λ Ψ. Typed.both s149 (at136 Ψ)
+      abbrev at138 : Typed.TF T152 O6
+      at138 = λ Ψ. at137 Ψ
+      abbrev at139 : Typed.TF T152 O6
+      at139 = λ Ψ. at138 Ψ
+      abbrev at140 : Typed.TF T150 O6
+      at140 = λ Ψ. Typed.both s146 (at139 Ψ)
+      abbrev at141 : Typed.TF T150 O6
+      at141 = λ Ψ. at140 Ψ
+      abbrev at142 : Typed.TF T149 O6
+      at142 = λ Ψ. Typed.pass T149 T150 s144 (at141 Ψ)
+      abbrev at143 : Typed.TF T148 O6
+      at143 = λ Ψ. Typed.pass T148 T149 s143 (at142 Ψ)
+      abbrev at144 : Typed.TF T147 O6
+      at144 = λ Ψ. Typed.pass T147 T148 s142 (at143 Ψ)
+      abbrev at145 : Typed.TF T146 O6
+      at145 = λ Ψ. Typed.both s141 (at144 Ψ)
+      abbrev at146 : Typed.TF T145 O6
+      at146 = λ Ψ. Typed.ask s140 (at145 Ψ)
+      abbrev at147 : Typed.TF T143 O6
+      at147 = λ Ψ. Typed.give s139 (at146 Ψ)
+      abbrev at148 : Typed.TF T143 O6
+      at148 = λ Ψ. at147 Ψ
+      abbrev at149 : Typed.TF T142 O6
+      at149 = λ Ψ. Typed.ask s137 (at148 Ψ)
+      abbrev at150 : Typed.TF T140 O6
+      at150 = λ Ψ. Typed.give s136 (at149 Ψ)
+      abbrev at151 : Typed.TF T140 O6
+      at151 = λ Ψ. at150 Ψ
+      abbrev at152 : Typed.TF T139 O6
+      at152 = λ Ψ. Typed.ask s134 (at151 Ψ)
+      abbrev at153 : Typed.TF T137 O6
+      at153 = λ Ψ. Typed.give s133 (at152 Ψ)
+      abbrev at154 : Typed.TF T137 O6
+      at154 = λ Ψ. at153 Ψ
+      abbrev at155 : Typed.TF T136 O6
+      at155 = λ Ψ. Typed.ask s131 (at154 Ψ)
+      abbrev at156 : Typed.TF T134 O6
+      at156 = λ Ψ. Typed.give s130 (at155 Ψ)
+      abbrev at157 : Typed.TF T134 O6
+      at157 = λ Ψ. at156 Ψ
+      abbrev at158 : Typed.TF T132 O6
+      at158 = λ Ψ. Typed.pass T132 T134 s128 (at157 Ψ)
+      abbrev at159 : Typed.TF T165 O6
+      at159 = Typed.atNext O6
+      abbrev at160 : Typed.TF T164 O6
+      at160 = λ Ψ. Typed.pass T164 T165 s159 (at159 Ψ)
+      abbrev at161 : Typed.TF T132 O6
+      at161 = λ Ψ. Typed.pass T132 T164 s158 (at160 Ψ)
+      abbrev at162 : Typed.TF T132 O6
+      at162 = Scalar.Φcond T132 O6 47 (λ x. x) at158 at161
+      abbrev at163 : Typed.TF T133 O4
+      at163 = Typed.atExit 0 O4
+      abbrev at164 : Typed.TF T132 O4
+      at164 = λ Ψ. at162 (Typed.wantNext T133 O4 (at163 Ψ) Ψ)
+      abbrev at165 : Typed.TF T128 O4
+      at165 = λ Ψ. Typed.ask s127 (at164 Ψ)
+      abbrev at166 : Typed.TF T127 O4
+      at166 = λ Ψ. at127 (Typed.wantNext T128 O4 (at165 Ψ) Ψ)
+      abbrev at167 : Typed.TF T7 O4
+      at167 = λ Ψ. Typed.ask s123 (at166 Ψ)
+      abbrev at168 : Typed.TF T7 O4
+      at168 = Switch.Φswitch T7 O4 13 (λ x. x) (Syntax.arm (13 ∷ List.[]) b23 (Syntax.arm (15 ∷ List.[]) b42 (Syntax.arm (17 ∷ List.[]) b61
+          (Syntax.arm (18 ∷ List.[]) b76 (Syntax.arm (14 ∷ 16 ∷ List.[]) b77 (Syntax.default b108)))))) (at35, (at65, (at95, (at119, (at121,
+          at167)))))
+      abbrev at169 : Typed.TF T7 O3
+      at169 = λ Ψ. at168 (Typed.inBlock O3 Ψ)
+      pub at170 : Typed.TF T9 O2
+      at170 = λ Ψ. Typed.both s160 (Typed.pass T166 T167 s161 (Typed.pass T167 T168 s162 (Typed.atNext O2 Ψ)))
+      abbrev at171 : Typed.TF T7 O2
+      at171 = λ Ψ. at169 (Typed.wantNext T9 O2 (at170 Ψ) Ψ)
+      abbrev at172 : Typed.TF T7 O1
+      at172 = λ Ψ. at171 (Typed.inBlock O1 Ψ)
+      abbrev at173 : Typed.TF T171 O0
+      at173 = Typed.atRet O0
+      abbrev at174 : Typed.TF T170 O0
+      at174 = λ Ψ. Typed.pass T170 T171 s165 (at173 Ψ)
+      abbrev at175 : Typed.TF T169 O0
+      at175 = λ Ψ. Typed.pass T169 T170 s164 (at174 Ψ)
+      abbrev at176 : Typed.TF T8 O0
+      at176 = λ Ψ. Typed.pass T8 T169 s163 (at175 Ψ)
+      abbrev at177 : Typed.TF T7 O0
+      at177 = λ Ψ. at172 (Typed.wantNext T8 O0 (at176 Ψ) Ψ)
+      abbrev at178 : Typed.TF T6 O0
+      at178 = λ Ψ. Typed.pass T6 T7 s5 (at177 Ψ)
+      abbrev at179 : Typed.TF T5 O0
+      at179 = λ Ψ. Typed.give s4 (at178 Ψ)
+      abbrev at180 : Typed.TF T4 O0
+      at180 = λ Ψ. Typed.give s3 (at179 Ψ)
+      abbrev at181 : Typed.TF T3 O0
+      at181 = λ Ψ. Typed.give s2 (at180 Ψ)
+      abbrev at182 : Typed.TF T2 O0
+      at182 = λ Ψ. Typed.give s1 (at181 Ψ)
+      abbrev at183 : Typed.TF T0 O0
+      at183 = λ Ψ. Typed.give s0 (at182 Ψ)
       abbrev pub Φ : Typed.TF T0 O0
-      Φ = at178
+      Φ = at183
       module _ { M : Type 1 } (𝓤 : URA.URA M) (H : Wp.Heap 𝓤) (A : Atoms.Atoms 𝓤) (W : Kit.Given 𝓤 H A) (𝓣 : Wp.Tables 𝓤 H) where
         abbrev Knowns : Type 1
         Knowns = Plain.Known 𝓤 H A W 𝓣 9 ps·0 r·0 (claims· .0) (claims· .1) "hnsr_circuit::handle_open::handle_open" × Plain.Known 𝓤 H A W 𝓣 6 ps·1
@@ -1936,442 +2037,448 @@ module _ (claims· : Claims) where
         abbrev life8 : Row.Life
         life8 = Row.lease (κs .1 .1 .1 .1 .1 .1 .1 .1 .0) (qs .1 .1 .1 .1 .1 .1 .1 .1 .0)
         abbrev g8 : List.List Row.Entry
-        g8 = (0, Rows.any-gone Laws''.mir,) ∷ (1, Relend.mslice-owed RelayPending.row ref5 0 9 life0,) ∷ (2, Mut.mslice RelayCircuit.row ref6 1,) ∷
+        g8 = (0, Rows.any-gone Laws'''.mir,) ∷ (1, Relend.mslice-owed RelayPending.row ref5 0 9 life0,) ∷ (2, Mut.mslice RelayCircuit.row ref6 1,) ∷
             (3, Mut.mslice ReservationUsage.row ref7 2,) ∷ (4, Mut.mslice InflightAction.row ref8 3,) ∷ (5, Mut.mslice (Referent.rtF (Referent.fInt
-            Syntax.w32)) ref9 4,) ∷ (6, Rows.whole (Declared.row OpaqueRelayRuntime.the-type)) ∷ (7, Rows.whole (Declared.row RelayPacket.the-type),)
-            ∷ (8, Rows.sslice (Referent.rtF (Referent.fInt Syntax.w8)) ref10 5,) ∷ (9, Rows.sslice (Referent.rtF (Referent.fInt Syntax.w8)) ref11 6,)
-            ∷ (10, Rows.sslice (Referent.rtF (Referent.fInt Syntax.w8)) ref12 7,) ∷ (11, Rows.sslice (Referent.rtF (Referent.fInt Syntax.w8)) ref13
-            8,) ∷ (12, Rows.sc-here (Row.sInt Syntax.w8)) ∷ (13, Rows.any-gone Laws''.mir,) ∷ (14, Relend.msptr RelayPending.row ref0 9,) ∷ (15,
-            Rows.any-gone (Syntax.tyStruct (38 ∷ 91 ∷ 93 ∷ List.[]) (Syntax.tcons ref0 (Syntax.tcons (Syntax.tyInt Syntax.w64) Syntax.tnil))),) ∷
-            List.[]
+            Syntax.w32)) ref9 4,) ∷ (6, Rows.whole (Declared.row OpaqueRelayRuntime.the-type)) ∷ (7, Rows.whole (Declared.row Places.the-type),) ∷ (8,
+            Rows.whole (Declared.row RelayPacket.the-type)) ∷ (9, Rows.sslice (Referent.rtF (Referent.fInt Syntax.w8)) ref10 5,) ∷ (10, Rows.sslice
+            (Referent.rtF (Referent.fInt Syntax.w8)) ref11 6,) ∷ (11, Rows.sslice (Referent.rtF (Referent.fInt Syntax.w8)) ref12 7,) ∷ (12,
+            Rows.sslice (Referent.rtF (Referent.fInt Syntax.w8)) ref13 8,) ∷ (13, Rows.sc-here (Row.sInt Syntax.w8)) ∷ (14, Rows.any-gone
+            Laws'''.mir,) ∷ (15, Relend.msptr RelayPending.row ref0 9,) ∷ List.[]
         abbrev g9 : List.List Row.Entry
-        g9 = (0, Rows.any-gone Laws''.mir,) ∷ (1, Relend.mslice-owed RelayPending.row ref5 0 9 life0,) ∷ (2, Mut.mslice RelayCircuit.row ref6 1,) ∷
+        g9 = (0, Rows.any-gone Laws'''.mir,) ∷ (1, Relend.mslice-owed RelayPending.row ref5 0 9 life0,) ∷ (2, Mut.mslice RelayCircuit.row ref6 1,) ∷
             (3, Mut.mslice ReservationUsage.row ref7 2,) ∷ (4, Mut.mslice InflightAction.row ref8 3,) ∷ (5, Mut.mslice (Referent.rtF (Referent.fInt
-            Syntax.w32)) ref9 4,) ∷ (6, Rows.whole (Declared.row OpaqueRelayRuntime.the-type)) ∷ (7, Rows.whole (Declared.row RelayPacket.the-type),)
-            ∷ (8, Rows.sslice (Referent.rtF (Referent.fInt Syntax.w8)) ref10 5,) ∷ (9, Rows.sslice (Referent.rtF (Referent.fInt Syntax.w8)) ref11 6,)
-            ∷ (10, Rows.sslice (Referent.rtF (Referent.fInt Syntax.w8)) ref12 7,) ∷ (11, Rows.sslice (Referent.rtF (Referent.fInt Syntax.w8)) ref13
-            8,) ∷ (12, Rows.sc-here (Row.sInt Syntax.w8)) ∷ (13, Rows.any-gone Laws''.mir,) ∷ (14, Rows.any-gone ref0,) ∷ (15, Mut.mslice
-            RelayPending.row ref0 9,) ∷ List.[]
-        abbrev g10 : List.List Row.Entry
-        g10 = (0, Rows.any-gone Laws''.mir,) ∷ (1, Relend.mslice-owed RelayPending.row ref5 0 9 life0,) ∷ (2, Relend.mslice-owed RelayCircuit.row ref6
-            1 10 life1,) ∷ (3, Mut.mslice ReservationUsage.row ref7 2,) ∷ (4, Mut.mslice InflightAction.row ref8 3,) ∷ (5, Mut.mslice (Referent.rtF
-            (Referent.fInt Syntax.w32)) ref9 4,) ∷ (6, Rows.whole (Declared.row OpaqueRelayRuntime.the-type)) ∷ (7, Rows.whole (Declared.row
-            RelayPacket.the-type),) ∷ (8, Rows.sslice (Referent.rtF (Referent.fInt Syntax.w8)) ref10 5,) ∷ (9, Rows.sslice (Referent.rtF
-            (Referent.fInt Syntax.w8)) ref11 6,) ∷ (10, Rows.sslice (Referent.rtF (Referent.fInt Syntax.w8)) ref12 7,) ∷ (11, Rows.sslice
-            (Referent.rtF (Referent.fInt Syntax.w8)) ref13 8,) ∷ (12, Rows.sc-here (Row.sInt Syntax.w8)) ∷ (13, Rows.any-gone Laws''.mir,) ∷ (14,
-            Rows.any-gone ref0,) ∷ (15, Mut.mslice RelayPending.row ref0 9,) ∷ List.[]
-        abbrev g13 : List.List Row.Entry
-        g13 = (0, Rows.any-gone Laws''.mir,) ∷ (1, Relend.mslice-owed RelayPending.row ref5 0 9 life0,) ∷ (2, Relend.mslice-owed RelayCircuit.row ref6
-            1 10 life1,) ∷ (3, Relend.mslice-owed ReservationUsage.row ref7 2 11 life2,) ∷ (4, Mut.mslice InflightAction.row ref8 3,) ∷ (5, Mut.mslice
+            Syntax.w32)) ref9 4,) ∷ (6, Rows.whole (Declared.row OpaqueRelayRuntime.the-type)) ∷ (7, Rows.whole (Declared.row Places.the-type),) ∷ (8,
+            Rows.whole (Declared.row RelayPacket.the-type)) ∷ (9, Rows.sslice (Referent.rtF (Referent.fInt Syntax.w8)) ref10 5,) ∷ (10, Rows.sslice
+            (Referent.rtF (Referent.fInt Syntax.w8)) ref11 6,) ∷ (11, Rows.sslice (Referent.rtF (Referent.fInt Syntax.w8)) ref12 7,) ∷ (12,
+            Rows.sslice (Referent.rtF (Referent.fInt Syntax.w8)) ref13 8,) ∷ (13, Rows.sc-here (Row.sInt Syntax.w8)) ∷ (14, Rows.any-gone
+            Laws'''.mir,) ∷ (15, Rows.any-gone ref0,) ∷ List.[]
+        abbrev g11 : List.List Row.Entry
+        g11 = (0, Rows.any-gone Laws'''.mir,) ∷ (1, Relend.mslice-owed RelayPending.row ref5 0 9 life0,) ∷ (2, Relend.mslice-owed RelayCircuit.row
+            ref6 1 10 life1,) ∷ (3, Mut.mslice ReservationUsage.row ref7 2,) ∷ (4, Mut.mslice InflightAction.row ref8 3,) ∷ (5, Mut.mslice
             (Referent.rtF (Referent.fInt Syntax.w32)) ref9 4,) ∷ (6, Rows.whole (Declared.row OpaqueRelayRuntime.the-type)) ∷ (7, Rows.whole
-            (Declared.row RelayPacket.the-type),) ∷ (8, Rows.sslice (Referent.rtF (Referent.fInt Syntax.w8)) ref10 5,) ∷ (9, Rows.sslice (Referent.rtF
-            (Referent.fInt Syntax.w8)) ref11 6,) ∷ (10, Rows.sslice (Referent.rtF (Referent.fInt Syntax.w8)) ref12 7,) ∷ (11, Rows.sslice
-            (Referent.rtF (Referent.fInt Syntax.w8)) ref13 8,) ∷ (12, Rows.sc-here (Row.sInt Syntax.w8)) ∷ (13, Rows.any-gone Laws''.mir,) ∷ (14,
-            Rows.any-gone ref0,) ∷ (15, Mut.mslice RelayPending.row ref0 9,) ∷ List.[]
-        abbrev g16 : List.List Row.Entry
-        g16 = (0, Rows.any-gone Laws''.mir,) ∷ (1, Relend.mslice-owed RelayPending.row ref5 0 9 life0,) ∷ (2, Relend.mslice-owed RelayCircuit.row ref6
-            1 10 life1,) ∷ (3, Relend.mslice-owed ReservationUsage.row ref7 2 11 life2,) ∷ (4, Relend.mslice-owed InflightAction.row ref8 3 12 life3,)
-            ∷ (5, Mut.mslice (Referent.rtF (Referent.fInt Syntax.w32)) ref9 4,) ∷ (6, Rows.whole (Declared.row OpaqueRelayRuntime.the-type)) ∷ (7,
-            Rows.whole (Declared.row RelayPacket.the-type),) ∷ (8, Rows.sslice (Referent.rtF (Referent.fInt Syntax.w8)) ref10 5,) ∷ (9, Rows.sslice
-            (Referent.rtF (Referent.fInt Syntax.w8)) ref11 6,) ∷ (10, Rows.sslice (Referent.rtF (Referent.fInt Syntax.w8)) ref12 7,) ∷ (11,
-            Rows.sslice (Referent.rtF (Referent.fInt Syntax.w8)) ref13 8,) ∷ (12, Rows.sc-here (Row.sInt Syntax.w8)) ∷ (13, Rows.any-gone Laws''.mir,)
-            ∷ (14, Rows.any-gone ref0,) ∷ (15, Mut.mslice RelayPending.row ref0 9,) ∷ List.[]
-        abbrev g19 : List.List Row.Entry
-        g19 = (0, Rows.any-gone Laws''.mir,) ∷ (1, Relend.mslice-owed RelayPending.row ref5 0 9 life0,) ∷ (2, Relend.mslice-owed RelayCircuit.row ref6
-            1 10 life1,) ∷ (3, Relend.mslice-owed ReservationUsage.row ref7 2 11 life2,) ∷ (4, Relend.mslice-owed InflightAction.row ref8 3 12 life3,)
-            ∷ (5, Relend.mslice-owed (Referent.rtF (Referent.fInt Syntax.w32)) ref9 4 13 life4,) ∷ (6, Rows.whole (Declared.row
-            OpaqueRelayRuntime.the-type)) ∷ (7, Rows.whole (Declared.row RelayPacket.the-type),) ∷ (8, Rows.sslice (Referent.rtF (Referent.fInt
-            Syntax.w8)) ref10 5,) ∷ (9, Rows.sslice (Referent.rtF (Referent.fInt Syntax.w8)) ref11 6,) ∷ (10, Rows.sslice (Referent.rtF (Referent.fInt
-            Syntax.w8)) ref12 7,) ∷ (11, Rows.sslice (Referent.rtF (Referent.fInt Syntax.w8)) ref13 8,) ∷ (12, Rows.sc-here (Row.sInt Syntax.w8)) ∷
-            (13, Rows.any-gone Laws''.mir,) ∷ (14, Rows.any-gone ref0,) ∷ (15, Mut.mslice RelayPending.row ref0 9,) ∷ List.[]
-        abbrev g22 : List.List Row.Entry
-        g22 = (0, Rows.any-gone Laws''.mir,) ∷ (1, Relend.mslice-owed RelayPending.row ref5 0 9 life0,) ∷ (2, Relend.mslice-owed RelayCircuit.row ref6
-            1 10 life1,) ∷ (3, Relend.mslice-owed ReservationUsage.row ref7 2 11 life2,) ∷ (4, Relend.mslice-owed InflightAction.row ref8 3 12 life3,)
-            ∷ (5, Relend.mslice-owed (Referent.rtF (Referent.fInt Syntax.w32)) ref9 4 13 life4,) ∷ (6, Rows.whole (Declared.row
-            OpaqueRelayRuntime.the-type)) ∷ (7, Rows.whole (Declared.row RelayPacket.the-type),) ∷ (8, Rows.sslice (Referent.rtF (Referent.fInt
-            Syntax.w8)) ref10 5,) ∷ (9, Rows.sslice (Referent.rtF (Referent.fInt Syntax.w8)) ref11 6,) ∷ (10, Rows.sslice (Referent.rtF (Referent.fInt
-            Syntax.w8)) ref12 7,) ∷ (11, Rows.sslice (Referent.rtF (Referent.fInt Syntax.w8)) ref13 8,) ∷ (12, Rows.sc-here (Row.sInt Syntax.w8)) ∷
-            (13, Rows.whole (Declared.row Relayed.the-type),) ∷ (14, Rows.any-gone ref0,) ∷ (15, Mut.msleft RelayPending.row ref0,) ∷ List.[]
-        abbrev g24 : List.List Row.Entry
-        g24 = (0, Rows.any-gone Laws''.mir,) ∷ (1, Relend.mslice-owed RelayPending.row ref5 0 9 life0,) ∷ (2, Relend.mslice-owed RelayCircuit.row ref6
-            1 10 life1,) ∷ (3, Relend.mslice-owed ReservationUsage.row ref7 2 11 life2,) ∷ (4, Relend.mslice-owed InflightAction.row ref8 3 12 life3,)
-            ∷ (5, Relend.mslice-owed (Referent.rtF (Referent.fInt Syntax.w32)) ref9 4 13 life4,) ∷ (6, Rows.any-gone Laws'.mir,) ∷ (7, Rows.whole
-            (Declared.row RelayPacket.the-type)) ∷ (8, Rows.sslice (Referent.rtF (Referent.fInt Syntax.w8)) ref10 5,) ∷ (9, Rows.sslice (Referent.rtF
-            (Referent.fInt Syntax.w8)) ref11 6,) ∷ (10, Rows.sslice (Referent.rtF (Referent.fInt Syntax.w8)) ref12 7,) ∷ (11, Rows.sslice
-            (Referent.rtF (Referent.fInt Syntax.w8)) ref13 8,) ∷ (12, Rows.sc-here (Row.sInt Syntax.w8)) ∷ (13, Rows.whole (Declared.row
-            Relayed.the-type),) ∷ (14, Rows.any-gone ref0,) ∷ (15, Mut.msleft RelayPending.row ref0,) ∷ List.[]
+            (Declared.row Places.the-type),) ∷ (8, Rows.whole (Declared.row RelayPacket.the-type)) ∷ (9, Rows.sslice (Referent.rtF (Referent.fInt
+            Syntax.w8)) ref10 5,) ∷ (10, Rows.sslice (Referent.rtF (Referent.fInt Syntax.w8)) ref11 6,) ∷ (11, Rows.sslice (Referent.rtF
+            (Referent.fInt Syntax.w8)) ref12 7,) ∷ (12, Rows.sslice (Referent.rtF (Referent.fInt Syntax.w8)) ref13 8,) ∷ (13, Rows.sc-here (Row.sInt
+            Syntax.w8)) ∷ (14, Rows.any-gone Laws'''.mir,) ∷ (15, Rows.any-gone ref0,) ∷ List.[]
+        abbrev g14 : List.List Row.Entry
+        g14 = (0, Rows.any-gone Laws'''.mir,) ∷ (1, Relend.mslice-owed RelayPending.row ref5 0 9 life0,) ∷ (2, Relend.mslice-owed RelayCircuit.row
+            ref6 1 10 life1,) ∷ (3, Relend.mslice-owed ReservationUsage.row ref7 2 11 life2,) ∷ (4, Mut.mslice InflightAction.row ref8 3,) ∷ (5,
+            Mut.mslice (Referent.rtF (Referent.fInt Syntax.w32)) ref9 4,) ∷ (6, Rows.whole (Declared.row OpaqueRelayRuntime.the-type)) ∷ (7,
+            Rows.whole (Declared.row Places.the-type),) ∷ (8, Rows.whole (Declared.row RelayPacket.the-type)) ∷ (9, Rows.sslice (Referent.rtF
+            (Referent.fInt Syntax.w8)) ref10 5,) ∷ (10, Rows.sslice (Referent.rtF (Referent.fInt Syntax.w8)) ref11 6,) ∷ (11, Rows.sslice
+            (Referent.rtF (Referent.fInt Syntax.w8)) ref12 7,) ∷ (12, Rows.sslice (Referent.rtF (Referent.fInt Syntax.w8)) ref13 8,) ∷ (13,
+            Rows.sc-here (Row.sInt Syntax.w8)) ∷ (14, Rows.any-gone Laws'''.mir,) ∷ (15, Rows.any-gone ref0,) ∷ List.[]
+        abbrev g17 : List.List Row.Entry
+        g17 = (0, Rows.any-gone Laws'''.mir,) ∷ (1, Relend.mslice-owed RelayPending.row ref5 0 9 life0,) ∷ (2, Relend.mslice-owed RelayCircuit.row
+            ref6 1 10 life1,) ∷ (3, Relend.mslice-owed ReservationUsage.row ref7 2 11 life2,) ∷ (4, Relend.mslice-owed InflightAction.row ref8 3 12
+            life3,) ∷ (5, Mut.mslice (Referent.rtF (Referent.fInt Syntax.w32)) ref9 4,) ∷ (6, Rows.whole (Declared.row OpaqueRelayRuntime.the-type)) ∷
+            (7, Rows.whole (Declared.row Places.the-type),) ∷ (8, Rows.whole (Declared.row RelayPacket.the-type)) ∷ (9, Rows.sslice (Referent.rtF
+            (Referent.fInt Syntax.w8)) ref10 5,) ∷ (10, Rows.sslice (Referent.rtF (Referent.fInt Syntax.w8)) ref11 6,) ∷ (11, Rows.sslice
+            (Referent.rtF (Referent.fInt Syntax.w8)) ref12 7,) ∷ (12, Rows.sslice (Referent.rtF (Referent.fInt Syntax.w8)) ref13 8,) ∷ (13,
+            Rows.sc-here (Row.sInt Syntax.w8)) ∷ (14, Rows.any-gone Laws'''.mir,) ∷ (15, Rows.any-gone ref0,) ∷ List.[]
+        abbrev g20 : List.List Row.Entry
+        g20 = (0, Rows.any-gone Laws'''.mir,) ∷ (1, Relend.mslice-owed RelayPending.row ref5 0 9 life0,) ∷ (2, Relend.mslice-owed RelayCircuit.row
+            ref6 1 10 life1,) ∷ (3, Relend.mslice-owed ReservationUsage.row ref7 2 11 life2,) ∷ (4, Relend.mslice-owed InflightAction.row ref8 3 12
+            life3,) ∷ (5, Relend.mslice-owed (Referent.rtF (Referent.fInt Syntax.w32)) ref9 4 13 life4,) ∷ (6, Rows.whole (Declared.row
+            OpaqueRelayRuntime.the-type)) ∷ (7, Rows.whole (Declared.row Places.the-type),) ∷ (8, Rows.whole (Declared.row RelayPacket.the-type)) ∷
+            (9, Rows.sslice (Referent.rtF (Referent.fInt Syntax.w8)) ref10 5,) ∷ (10, Rows.sslice (Referent.rtF (Referent.fInt Syntax.w8)) ref11 6,) ∷
+            (11, Rows.sslice (Referent.rtF (Referent.fInt Syntax.w8)) ref12 7,) ∷ (12, Rows.sslice (Referent.rtF (Referent.fInt Syntax.w8)) ref13 8,)
+            ∷ (13, Rows.sc-here (Row.sInt Syntax.w8)) ∷ (14, Rows.any-gone Laws'''.mir,) ∷ (15, Rows.any-gone ref0,) ∷ List.[]
+        abbrev g23 : List.List Row.Entry
+        g23 = (0, Rows.any-gone Laws'''.mir,) ∷ (1, Relend.mslice-owed RelayPending.row ref5 0 9 life0,) ∷ (2, Relend.mslice-owed RelayCircuit.row
+            ref6 1 10 life1,) ∷ (3, Relend.mslice-owed ReservationUsage.row ref7 2 11 life2,) ∷ (4, Relend.mslice-owed InflightAction.row ref8 3 12
+            life3,) ∷ (5, Relend.mslice-owed (Referent.rtF (Referent.fInt Syntax.w32)) ref9 4 13 life4,) ∷ (6, Rows.whole (Declared.row
+            OpaqueRelayRuntime.the-type)) ∷ (7, Rows.whole (Declared.row Places.the-type),) ∷ (8, Rows.whole (Declared.row RelayPacket.the-type)) ∷
+            (9, Rows.sslice (Referent.rtF (Referent.fInt Syntax.w8)) ref10 5,) ∷ (10, Rows.sslice (Referent.rtF (Referent.fInt Syntax.w8)) ref11 6,) ∷
+            (11, Rows.sslice (Referent.rtF (Referent.fInt Syntax.w8)) ref12 7,) ∷ (12, Rows.sslice (Referent.rtF (Referent.fInt Syntax.w8)) ref13 8,)
+            ∷ (13, Rows.sc-here (Row.sInt Syntax.w8)) ∷ (14, Rows.whole (Declared.row Relayed.the-type),) ∷ (15, Rows.any-gone ref0,) ∷ List.[]
         abbrev g25 : List.List Row.Entry
-        g25 = (0, Rows.any-gone Laws''.mir,) ∷ (1, Relend.mslice-owed RelayPending.row ref5 0 9 life0,) ∷ (2, Relend.mslice-owed RelayCircuit.row ref6
-            1 10 life1,) ∷ (3, Relend.mslice-owed ReservationUsage.row ref7 2 11 life2,) ∷ (4, Relend.mslice-owed InflightAction.row ref8 3 12 life3,)
-            ∷ (5, Relend.mslice-owed (Referent.rtF (Referent.fInt Syntax.w32)) ref9 4 13 life4,) ∷ (6, Rows.any-gone Laws'.mir,) ∷ (7, Rows.any-gone
-            Laws.mir,) ∷ (8, Rows.sslice (Referent.rtF (Referent.fInt Syntax.w8)) ref10 5,) ∷ (9, Rows.sslice (Referent.rtF (Referent.fInt Syntax.w8))
-            ref11 6,) ∷ (10, Rows.sslice (Referent.rtF (Referent.fInt Syntax.w8)) ref12 7,) ∷ (11, Rows.sslice (Referent.rtF (Referent.fInt
-            Syntax.w8)) ref13 8,) ∷ (12, Rows.sc-here (Row.sInt Syntax.w8)) ∷ (13, Rows.whole (Declared.row Relayed.the-type),) ∷ (14, Rows.any-gone
-            ref0,) ∷ (15, Mut.msleft RelayPending.row ref0,) ∷ List.[]
+        g25 = (0, Rows.any-gone Laws'''.mir,) ∷ (1, Relend.mslice-owed RelayPending.row ref5 0 9 life0,) ∷ (2, Relend.mslice-owed RelayCircuit.row
+            ref6 1 10 life1,) ∷ (3, Relend.mslice-owed ReservationUsage.row ref7 2 11 life2,) ∷ (4, Relend.mslice-owed InflightAction.row ref8 3 12
+            life3,) ∷ (5, Relend.mslice-owed (Referent.rtF (Referent.fInt Syntax.w32)) ref9 4 13 life4,) ∷ (6, Rows.any-gone Laws''.mir,) ∷ (7,
+            Rows.whole (Declared.row Places.the-type)) ∷ (8, Rows.whole (Declared.row RelayPacket.the-type),) ∷ (9, Rows.sslice (Referent.rtF
+            (Referent.fInt Syntax.w8)) ref10 5,) ∷ (10, Rows.sslice (Referent.rtF (Referent.fInt Syntax.w8)) ref11 6,) ∷ (11, Rows.sslice
+            (Referent.rtF (Referent.fInt Syntax.w8)) ref12 7,) ∷ (12, Rows.sslice (Referent.rtF (Referent.fInt Syntax.w8)) ref13 8,) ∷ (13,
+            Rows.sc-here (Row.sInt Syntax.w8)) ∷ (14, Rows.whole (Declared.row Relayed.the-type),) ∷ (15, Rows.any-gone ref0,) ∷ List.[]
         abbrev g26 : List.List Row.Entry
-        g26 = (0, Rows.any-gone Laws''.mir,) ∷ (1, Mut.mslice RelayPending.row ref5 0,) ∷ (2, Relend.mslice-owed RelayCircuit.row ref6 1 10 life1,) ∷
-            (3, Relend.mslice-owed ReservationUsage.row ref7 2 11 life2,) ∷ (4, Relend.mslice-owed InflightAction.row ref8 3 12 life3,) ∷ (5,
-            Relend.mslice-owed (Referent.rtF (Referent.fInt Syntax.w32)) ref9 4 13 life4,) ∷ (6, Rows.any-gone Laws'.mir,) ∷ (7, Rows.any-gone
-            Laws.mir,) ∷ (8, Rows.sslice (Referent.rtF (Referent.fInt Syntax.w8)) ref10 5,) ∷ (9, Rows.sslice (Referent.rtF (Referent.fInt Syntax.w8))
-            ref11 6,) ∷ (10, Rows.sslice (Referent.rtF (Referent.fInt Syntax.w8)) ref12 7,) ∷ (11, Rows.sslice (Referent.rtF (Referent.fInt
-            Syntax.w8)) ref13 8,) ∷ (12, Rows.sc-here (Row.sInt Syntax.w8)) ∷ (13, Rows.whole (Declared.row Relayed.the-type),) ∷ (14, Rows.any-gone
-            ref0,) ∷ (15, Rows.any-gone (Syntax.tyStruct (38 ∷ 91 ∷ 93 ∷ List.[]) (Syntax.tcons ref0 (Syntax.tcons (Syntax.tyInt Syntax.w64)
-            Syntax.tnil))),) ∷ List.[]
+        g26 = (0, Rows.any-gone Laws'''.mir,) ∷ (1, Relend.mslice-owed RelayPending.row ref5 0 9 life0,) ∷ (2, Relend.mslice-owed RelayCircuit.row
+            ref6 1 10 life1,) ∷ (3, Relend.mslice-owed ReservationUsage.row ref7 2 11 life2,) ∷ (4, Relend.mslice-owed InflightAction.row ref8 3 12
+            life3,) ∷ (5, Relend.mslice-owed (Referent.rtF (Referent.fInt Syntax.w32)) ref9 4 13 life4,) ∷ (6, Rows.any-gone Laws''.mir,) ∷ (7,
+            Rows.any-gone Laws.mir,) ∷ (8, Rows.whole (Declared.row RelayPacket.the-type)) ∷ (9, Rows.sslice (Referent.rtF (Referent.fInt Syntax.w8))
+            ref10 5,) ∷ (10, Rows.sslice (Referent.rtF (Referent.fInt Syntax.w8)) ref11 6,) ∷ (11, Rows.sslice (Referent.rtF (Referent.fInt
+            Syntax.w8)) ref12 7,) ∷ (12, Rows.sslice (Referent.rtF (Referent.fInt Syntax.w8)) ref13 8,) ∷ (13, Rows.sc-here (Row.sInt Syntax.w8)) ∷
+            (14, Rows.whole (Declared.row Relayed.the-type),) ∷ (15, Rows.any-gone ref0,) ∷ List.[]
         abbrev g27 : List.List Row.Entry
-        g27 = (0, Rows.any-gone Laws''.mir,) ∷ (1, Mut.mslice RelayPending.row ref5 0,) ∷ (2, Mut.mslice RelayCircuit.row ref6 1,) ∷ (3,
+        g27 = (0, Rows.any-gone Laws'''.mir,) ∷ (1, Relend.mslice-owed RelayPending.row ref5 0 9 life0,) ∷ (2, Relend.mslice-owed RelayCircuit.row
+            ref6 1 10 life1,) ∷ (3, Relend.mslice-owed ReservationUsage.row ref7 2 11 life2,) ∷ (4, Relend.mslice-owed InflightAction.row ref8 3 12
+            life3,) ∷ (5, Relend.mslice-owed (Referent.rtF (Referent.fInt Syntax.w32)) ref9 4 13 life4,) ∷ (6, Rows.any-gone Laws''.mir,) ∷ (7,
+            Rows.any-gone Laws.mir,) ∷ (8, Rows.any-gone Laws'.mir,) ∷ (9, Rows.sslice (Referent.rtF (Referent.fInt Syntax.w8)) ref10 5,) ∷ (10,
+            Rows.sslice (Referent.rtF (Referent.fInt Syntax.w8)) ref11 6,) ∷ (11, Rows.sslice (Referent.rtF (Referent.fInt Syntax.w8)) ref12 7,) ∷
+            (12, Rows.sslice (Referent.rtF (Referent.fInt Syntax.w8)) ref13 8,) ∷ (13, Rows.sc-here (Row.sInt Syntax.w8)) ∷ (14, Rows.whole
+            (Declared.row Relayed.the-type),) ∷ (15, Rows.any-gone ref0,) ∷ List.[]
+        abbrev g28 : List.List Row.Entry
+        g28 = (0, Rows.any-gone Laws'''.mir,) ∷ (1, Mut.mslice RelayPending.row ref5 0,) ∷ (2, Relend.mslice-owed RelayCircuit.row ref6 1 10 life1,) ∷
+            (3, Relend.mslice-owed ReservationUsage.row ref7 2 11 life2,) ∷ (4, Relend.mslice-owed InflightAction.row ref8 3 12 life3,) ∷ (5,
+            Relend.mslice-owed (Referent.rtF (Referent.fInt Syntax.w32)) ref9 4 13 life4,) ∷ (6, Rows.any-gone Laws''.mir,) ∷ (7, Rows.any-gone
+            Laws.mir,) ∷ (8, Rows.any-gone Laws'.mir,) ∷ (9, Rows.sslice (Referent.rtF (Referent.fInt Syntax.w8)) ref10 5,) ∷ (10, Rows.sslice
+            (Referent.rtF (Referent.fInt Syntax.w8)) ref11 6,) ∷ (11, Rows.sslice (Referent.rtF (Referent.fInt Syntax.w8)) ref12 7,) ∷ (12,
+            Rows.sslice (Referent.rtF (Referent.fInt Syntax.w8)) ref13 8,) ∷ (13, Rows.sc-here (Row.sInt Syntax.w8)) ∷ (14, Rows.whole (Declared.row
+            Relayed.the-type),) ∷ (15, Rows.any-gone ref0,) ∷ List.[]
+        abbrev g30 : List.List Row.Entry
+        g30 = (0, Rows.any-gone Laws'''.mir,) ∷ (1, Mut.mslice RelayPending.row ref5 0,) ∷ (2, Mut.mslice RelayCircuit.row ref6 1,) ∷ (3,
             Relend.mslice-owed ReservationUsage.row ref7 2 11 life2,) ∷ (4, Relend.mslice-owed InflightAction.row ref8 3 12 life3,) ∷ (5,
-            Relend.mslice-owed (Referent.rtF (Referent.fInt Syntax.w32)) ref9 4 13 life4,) ∷ (6, Rows.any-gone Laws'.mir,) ∷ (7, Rows.any-gone
-            Laws.mir,) ∷ (8, Rows.sslice (Referent.rtF (Referent.fInt Syntax.w8)) ref10 5,) ∷ (9, Rows.sslice (Referent.rtF (Referent.fInt Syntax.w8))
-            ref11 6,) ∷ (10, Rows.sslice (Referent.rtF (Referent.fInt Syntax.w8)) ref12 7,) ∷ (11, Rows.sslice (Referent.rtF (Referent.fInt
-            Syntax.w8)) ref13 8,) ∷ (12, Rows.sc-here (Row.sInt Syntax.w8)) ∷ (13, Rows.whole (Declared.row Relayed.the-type),) ∷ (14, Rows.any-gone
-            ref0,) ∷ (15, Rows.any-gone (Syntax.tyStruct (38 ∷ 91 ∷ 93 ∷ List.[]) (Syntax.tcons ref0 (Syntax.tcons (Syntax.tyInt Syntax.w64)
-            Syntax.tnil))),) ∷ List.[]
-        abbrev g29 : List.List Row.Entry
-        g29 = (0, Rows.any-gone Laws''.mir,) ∷ (1, Mut.mslice RelayPending.row ref5 0,) ∷ (2, Mut.mslice RelayCircuit.row ref6 1,) ∷ (3, Mut.mslice
+            Relend.mslice-owed (Referent.rtF (Referent.fInt Syntax.w32)) ref9 4 13 life4,) ∷ (6, Rows.any-gone Laws''.mir,) ∷ (7, Rows.any-gone
+            Laws.mir,) ∷ (8, Rows.any-gone Laws'.mir,) ∷ (9, Rows.sslice (Referent.rtF (Referent.fInt Syntax.w8)) ref10 5,) ∷ (10, Rows.sslice
+            (Referent.rtF (Referent.fInt Syntax.w8)) ref11 6,) ∷ (11, Rows.sslice (Referent.rtF (Referent.fInt Syntax.w8)) ref12 7,) ∷ (12,
+            Rows.sslice (Referent.rtF (Referent.fInt Syntax.w8)) ref13 8,) ∷ (13, Rows.sc-here (Row.sInt Syntax.w8)) ∷ (14, Rows.whole (Declared.row
+            Relayed.the-type),) ∷ (15, Rows.any-gone ref0,) ∷ List.[]
+        abbrev g32 : List.List Row.Entry
+        g32 = (0, Rows.any-gone Laws'''.mir,) ∷ (1, Mut.mslice RelayPending.row ref5 0,) ∷ (2, Mut.mslice RelayCircuit.row ref6 1,) ∷ (3, Mut.mslice
             ReservationUsage.row ref7 2,) ∷ (4, Relend.mslice-owed InflightAction.row ref8 3 12 life3,) ∷ (5, Relend.mslice-owed (Referent.rtF
-            (Referent.fInt Syntax.w32)) ref9 4 13 life4,) ∷ (6, Rows.any-gone Laws'.mir,) ∷ (7, Rows.any-gone Laws.mir,) ∷ (8, Rows.sslice
-            (Referent.rtF (Referent.fInt Syntax.w8)) ref10 5,) ∷ (9, Rows.sslice (Referent.rtF (Referent.fInt Syntax.w8)) ref11 6,) ∷ (10, Rows.sslice
-            (Referent.rtF (Referent.fInt Syntax.w8)) ref12 7,) ∷ (11, Rows.sslice (Referent.rtF (Referent.fInt Syntax.w8)) ref13 8,) ∷ (12,
-            Rows.sc-here (Row.sInt Syntax.w8)) ∷ (13, Rows.whole (Declared.row Relayed.the-type),) ∷ (14, Rows.any-gone ref0,) ∷ (15, Rows.any-gone
-            (Syntax.tyStruct (38 ∷ 91 ∷ 93 ∷ List.[]) (Syntax.tcons ref0 (Syntax.tcons (Syntax.tyInt Syntax.w64) Syntax.tnil))),) ∷ List.[]
-        abbrev g31 : List.List Row.Entry
-        g31 = (0, Rows.any-gone Laws''.mir,) ∷ (1, Mut.mslice RelayPending.row ref5 0,) ∷ (2, Mut.mslice RelayCircuit.row ref6 1,) ∷ (3, Mut.mslice
+            (Referent.fInt Syntax.w32)) ref9 4 13 life4,) ∷ (6, Rows.any-gone Laws''.mir,) ∷ (7, Rows.any-gone Laws.mir,) ∷ (8, Rows.any-gone
+            Laws'.mir,) ∷ (9, Rows.sslice (Referent.rtF (Referent.fInt Syntax.w8)) ref10 5,) ∷ (10, Rows.sslice (Referent.rtF (Referent.fInt
+            Syntax.w8)) ref11 6,) ∷ (11, Rows.sslice (Referent.rtF (Referent.fInt Syntax.w8)) ref12 7,) ∷ (12, Rows.sslice (Referent.rtF
+            (Referent.fInt Syntax.w8)) ref13 8,) ∷ (13, Rows.sc-here (Row.sInt Syntax.w8)) ∷ (14, Rows.whole (Declared.row Relayed.the-type),) ∷ (15,
+            Rows.any-gone ref0,) ∷ List.[]
+        abbrev g34 : List.List Row.Entry
+        g34 = (0, Rows.any-gone Laws'''.mir,) ∷ (1, Mut.mslice RelayPending.row ref5 0,) ∷ (2, Mut.mslice RelayCircuit.row ref6 1,) ∷ (3, Mut.mslice
             ReservationUsage.row ref7 2,) ∷ (4, Mut.mslice InflightAction.row ref8 3,) ∷ (5, Relend.mslice-owed (Referent.rtF (Referent.fInt
-            Syntax.w32)) ref9 4 13 life4,) ∷ (6, Rows.any-gone Laws'.mir,) ∷ (7, Rows.any-gone Laws.mir,) ∷ (8, Rows.sslice (Referent.rtF
-            (Referent.fInt Syntax.w8)) ref10 5,) ∷ (9, Rows.sslice (Referent.rtF (Referent.fInt Syntax.w8)) ref11 6,) ∷ (10, Rows.sslice (Referent.rtF
-            (Referent.fInt Syntax.w8)) ref12 7,) ∷ (11, Rows.sslice (Referent.rtF (Referent.fInt Syntax.w8)) ref13 8,) ∷ (12, Rows.sc-here (Row.sInt
-            Syntax.w8)) ∷ (13, Rows.whole (Declared.row Relayed.the-type),) ∷ (14, Rows.any-gone ref0,) ∷ (15, Rows.any-gone (Syntax.tyStruct (38 ∷ 91
-            ∷ 93 ∷ List.[]) (Syntax.tcons ref0 (Syntax.tcons (Syntax.tyInt Syntax.w64) Syntax.tnil))),) ∷ List.[]
-        abbrev g33 : List.List Row.Entry
-        g33 = (0, Rows.any-gone Laws''.mir,) ∷ (1, Relend.mslice-owed RelayPending.row ref5 0 14 life0,) ∷ (2, Mut.mslice RelayCircuit.row ref6 1,) ∷
-            (3, Mut.mslice ReservationUsage.row ref7 2,) ∷ (4, Mut.mslice InflightAction.row ref8 3,) ∷ (5, Mut.mslice (Referent.rtF (Referent.fInt
-            Syntax.w32)) ref9 4,) ∷ (6, Rows.whole (Declared.row OpaqueRelayRuntime.the-type)) ∷ (7, Rows.whole (Declared.row RelayPacket.the-type),)
-            ∷ (8, Rows.sslice (Referent.rtF (Referent.fInt Syntax.w8)) ref10 5,) ∷ (9, Rows.sslice (Referent.rtF (Referent.fInt Syntax.w8)) ref11 6,)
-            ∷ (10, Rows.sslice (Referent.rtF (Referent.fInt Syntax.w8)) ref12 7,) ∷ (11, Rows.sslice (Referent.rtF (Referent.fInt Syntax.w8)) ref13
-            8,) ∷ (12, Rows.sc-here (Row.sInt Syntax.w8)) ∷ (13, Rows.any-gone Laws''.mir,) ∷ (14, Rows.any-gone ref0,) ∷ (15, Rows.any-gone
-            (Syntax.tyStruct (38 ∷ 91 ∷ 93 ∷ List.[]) (Syntax.tcons ref0 (Syntax.tcons (Syntax.tyInt Syntax.w64) Syntax.tnil))),) ∷ List.[]
+            Syntax.w32)) ref9 4 13 life4,) ∷ (6, Rows.any-gone Laws''.mir,) ∷ (7, Rows.any-gone Laws.mir,) ∷ (8, Rows.any-gone Laws'.mir,) ∷ (9,
+            Rows.sslice (Referent.rtF (Referent.fInt Syntax.w8)) ref10 5,) ∷ (10, Rows.sslice (Referent.rtF (Referent.fInt Syntax.w8)) ref11 6,) ∷
+            (11, Rows.sslice (Referent.rtF (Referent.fInt Syntax.w8)) ref12 7,) ∷ (12, Rows.sslice (Referent.rtF (Referent.fInt Syntax.w8)) ref13 8,)
+            ∷ (13, Rows.sc-here (Row.sInt Syntax.w8)) ∷ (14, Rows.whole (Declared.row Relayed.the-type),) ∷ (15, Rows.any-gone ref0,) ∷ List.[]
         abbrev g36 : List.List Row.Entry
-        g36 = (0, Rows.any-gone Laws''.mir,) ∷ (1, Relend.mslice-owed RelayPending.row ref5 0 14 life0,) ∷ (2, Relend.mslice-owed RelayCircuit.row
+        g36 = (0, Rows.any-gone Laws'''.mir,) ∷ (1, Relend.mslice-owed RelayPending.row ref5 0 14 life0,) ∷ (2, Mut.mslice RelayCircuit.row ref6 1,) ∷
+            (3, Mut.mslice ReservationUsage.row ref7 2,) ∷ (4, Mut.mslice InflightAction.row ref8 3,) ∷ (5, Mut.mslice (Referent.rtF (Referent.fInt
+            Syntax.w32)) ref9 4,) ∷ (6, Rows.whole (Declared.row OpaqueRelayRuntime.the-type)) ∷ (7, Rows.whole (Declared.row Places.the-type),) ∷ (8,
+            Rows.whole (Declared.row RelayPacket.the-type)) ∷ (9, Rows.sslice (Referent.rtF (Referent.fInt Syntax.w8)) ref10 5,) ∷ (10, Rows.sslice
+            (Referent.rtF (Referent.fInt Syntax.w8)) ref11 6,) ∷ (11, Rows.sslice (Referent.rtF (Referent.fInt Syntax.w8)) ref12 7,) ∷ (12,
+            Rows.sslice (Referent.rtF (Referent.fInt Syntax.w8)) ref13 8,) ∷ (13, Rows.sc-here (Row.sInt Syntax.w8)) ∷ (14, Rows.any-gone
+            Laws'''.mir,) ∷ (15, Rows.any-gone ref0,) ∷ List.[]
+        abbrev g39 : List.List Row.Entry
+        g39 = (0, Rows.any-gone Laws'''.mir,) ∷ (1, Relend.mslice-owed RelayPending.row ref5 0 14 life0,) ∷ (2, Relend.mslice-owed RelayCircuit.row
             ref6 1 15 life1,) ∷ (3, Mut.mslice ReservationUsage.row ref7 2,) ∷ (4, Mut.mslice InflightAction.row ref8 3,) ∷ (5, Mut.mslice
             (Referent.rtF (Referent.fInt Syntax.w32)) ref9 4,) ∷ (6, Rows.whole (Declared.row OpaqueRelayRuntime.the-type)) ∷ (7, Rows.whole
-            (Declared.row RelayPacket.the-type),) ∷ (8, Rows.sslice (Referent.rtF (Referent.fInt Syntax.w8)) ref10 5,) ∷ (9, Rows.sslice (Referent.rtF
-            (Referent.fInt Syntax.w8)) ref11 6,) ∷ (10, Rows.sslice (Referent.rtF (Referent.fInt Syntax.w8)) ref12 7,) ∷ (11, Rows.sslice
-            (Referent.rtF (Referent.fInt Syntax.w8)) ref13 8,) ∷ (12, Rows.sc-here (Row.sInt Syntax.w8)) ∷ (13, Rows.any-gone Laws''.mir,) ∷ (14,
-            Rows.any-gone ref0,) ∷ (15, Rows.any-gone (Syntax.tyStruct (38 ∷ 91 ∷ 93 ∷ List.[]) (Syntax.tcons ref0 (Syntax.tcons (Syntax.tyInt
-            Syntax.w64) Syntax.tnil))),) ∷ List.[]
-        abbrev g39 : List.List Row.Entry
-        g39 = (0, Rows.any-gone Laws''.mir,) ∷ (1, Relend.mslice-owed RelayPending.row ref5 0 14 life0,) ∷ (2, Relend.mslice-owed RelayCircuit.row
+            (Declared.row Places.the-type),) ∷ (8, Rows.whole (Declared.row RelayPacket.the-type)) ∷ (9, Rows.sslice (Referent.rtF (Referent.fInt
+            Syntax.w8)) ref10 5,) ∷ (10, Rows.sslice (Referent.rtF (Referent.fInt Syntax.w8)) ref11 6,) ∷ (11, Rows.sslice (Referent.rtF
+            (Referent.fInt Syntax.w8)) ref12 7,) ∷ (12, Rows.sslice (Referent.rtF (Referent.fInt Syntax.w8)) ref13 8,) ∷ (13, Rows.sc-here (Row.sInt
+            Syntax.w8)) ∷ (14, Rows.any-gone Laws'''.mir,) ∷ (15, Rows.any-gone ref0,) ∷ List.[]
+        abbrev g42 : List.List Row.Entry
+        g42 = (0, Rows.any-gone Laws'''.mir,) ∷ (1, Relend.mslice-owed RelayPending.row ref5 0 14 life0,) ∷ (2, Relend.mslice-owed RelayCircuit.row
             ref6 1 15 life1,) ∷ (3, Mut.mslice ReservationUsage.row ref7 2,) ∷ (4, Relend.mslice-owed InflightAction.row ref8 3 16 life3,) ∷ (5,
             Mut.mslice (Referent.rtF (Referent.fInt Syntax.w32)) ref9 4,) ∷ (6, Rows.whole (Declared.row OpaqueRelayRuntime.the-type)) ∷ (7,
-            Rows.whole (Declared.row RelayPacket.the-type),) ∷ (8, Rows.sslice (Referent.rtF (Referent.fInt Syntax.w8)) ref10 5,) ∷ (9, Rows.sslice
-            (Referent.rtF (Referent.fInt Syntax.w8)) ref11 6,) ∷ (10, Rows.sslice (Referent.rtF (Referent.fInt Syntax.w8)) ref12 7,) ∷ (11,
-            Rows.sslice (Referent.rtF (Referent.fInt Syntax.w8)) ref13 8,) ∷ (12, Rows.sc-here (Row.sInt Syntax.w8)) ∷ (13, Rows.any-gone Laws''.mir,)
-            ∷ (14, Rows.any-gone ref0,) ∷ (15, Rows.any-gone (Syntax.tyStruct (38 ∷ 91 ∷ 93 ∷ List.[]) (Syntax.tcons ref0 (Syntax.tcons (Syntax.tyInt
-            Syntax.w64) Syntax.tnil))),) ∷ List.[]
-        abbrev g42 : List.List Row.Entry
-        g42 = (0, Rows.any-gone Laws''.mir,) ∷ (1, Relend.mslice-owed RelayPending.row ref5 0 14 life0,) ∷ (2, Relend.mslice-owed RelayCircuit.row
-            ref6 1 15 life1,) ∷ (3, Mut.mslice ReservationUsage.row ref7 2,) ∷ (4, Relend.mslice-owed InflightAction.row ref8 3 16 life3,) ∷ (5,
-            Relend.mslice-owed (Referent.rtF (Referent.fInt Syntax.w32)) ref9 4 17 life4,) ∷ (6, Rows.whole (Declared.row
-            OpaqueRelayRuntime.the-type)) ∷ (7, Rows.whole (Declared.row RelayPacket.the-type),) ∷ (8, Rows.sslice (Referent.rtF (Referent.fInt
-            Syntax.w8)) ref10 5,) ∷ (9, Rows.sslice (Referent.rtF (Referent.fInt Syntax.w8)) ref11 6,) ∷ (10, Rows.sslice (Referent.rtF (Referent.fInt
-            Syntax.w8)) ref12 7,) ∷ (11, Rows.sslice (Referent.rtF (Referent.fInt Syntax.w8)) ref13 8,) ∷ (12, Rows.sc-here (Row.sInt Syntax.w8)) ∷
-            (13, Rows.any-gone Laws''.mir,) ∷ (14, Rows.any-gone ref0,) ∷ (15, Rows.any-gone (Syntax.tyStruct (38 ∷ 91 ∷ 93 ∷ List.[]) (Syntax.tcons
-            ref0 (Syntax.tcons (Syntax.tyInt Syntax.w64) Syntax.tnil))),) ∷ List.[]
+            Rows.whole (Declared.row Places.the-type),) ∷ (8, Rows.whole (Declared.row RelayPacket.the-type)) ∷ (9, Rows.sslice (Referent.rtF
+            (Referent.fInt Syntax.w8)) ref10 5,) ∷ (10, Rows.sslice (Referent.rtF (Referent.fInt Syntax.w8)) ref11 6,) ∷ (11, Rows.sslice
+            (Referent.rtF (Referent.fInt Syntax.w8)) ref12 7,) ∷ (12, Rows.sslice (Referent.rtF (Referent.fInt Syntax.w8)) ref13 8,) ∷ (13,
+            Rows.sc-here (Row.sInt Syntax.w8)) ∷ (14, Rows.any-gone Laws'''.mir,) ∷ (15, Rows.any-gone ref0,) ∷ List.[]
         abbrev g45 : List.List Row.Entry
-        g45 = (0, Rows.any-gone Laws''.mir,) ∷ (1, Relend.mslice-owed RelayPending.row ref5 0 14 life0,) ∷ (2, Relend.mslice-owed RelayCircuit.row
+        g45 = (0, Rows.any-gone Laws'''.mir,) ∷ (1, Relend.mslice-owed RelayPending.row ref5 0 14 life0,) ∷ (2, Relend.mslice-owed RelayCircuit.row
             ref6 1 15 life1,) ∷ (3, Mut.mslice ReservationUsage.row ref7 2,) ∷ (4, Relend.mslice-owed InflightAction.row ref8 3 16 life3,) ∷ (5,
             Relend.mslice-owed (Referent.rtF (Referent.fInt Syntax.w32)) ref9 4 17 life4,) ∷ (6, Rows.whole (Declared.row
-            OpaqueRelayRuntime.the-type)) ∷ (7, Rows.whole (Declared.row RelayPacket.the-type),) ∷ (8, Rows.sslice (Referent.rtF (Referent.fInt
-            Syntax.w8)) ref10 5,) ∷ (9, Rows.sslice (Referent.rtF (Referent.fInt Syntax.w8)) ref11 6,) ∷ (10, Rows.sslice (Referent.rtF (Referent.fInt
-            Syntax.w8)) ref12 7,) ∷ (11, Rows.sslice (Referent.rtF (Referent.fInt Syntax.w8)) ref13 8,) ∷ (12, Rows.sc-here (Row.sInt Syntax.w8)) ∷
-            (13, Rows.whole (Declared.row Relayed.the-type),) ∷ (14, Rows.any-gone ref0,) ∷ (15, Rows.any-gone (Syntax.tyStruct (38 ∷ 91 ∷ 93 ∷
-            List.[]) (Syntax.tcons ref0 (Syntax.tcons (Syntax.tyInt Syntax.w64) Syntax.tnil))),) ∷ List.[]
-        abbrev g47 : List.List Row.Entry
-        g47 = (0, Rows.any-gone Laws''.mir,) ∷ (1, Relend.mslice-owed RelayPending.row ref5 0 14 life0,) ∷ (2, Relend.mslice-owed RelayCircuit.row
-            ref6 1 15 life1,) ∷ (3, Mut.mslice ReservationUsage.row ref7 2,) ∷ (4, Relend.mslice-owed InflightAction.row ref8 3 16 life3,) ∷ (5,
-            Relend.mslice-owed (Referent.rtF (Referent.fInt Syntax.w32)) ref9 4 17 life4,) ∷ (6, Rows.any-gone Laws'.mir,) ∷ (7, Rows.whole
-            (Declared.row RelayPacket.the-type)) ∷ (8, Rows.sslice (Referent.rtF (Referent.fInt Syntax.w8)) ref10 5,) ∷ (9, Rows.sslice (Referent.rtF
-            (Referent.fInt Syntax.w8)) ref11 6,) ∷ (10, Rows.sslice (Referent.rtF (Referent.fInt Syntax.w8)) ref12 7,) ∷ (11, Rows.sslice
-            (Referent.rtF (Referent.fInt Syntax.w8)) ref13 8,) ∷ (12, Rows.sc-here (Row.sInt Syntax.w8)) ∷ (13, Rows.whole (Declared.row
-            Relayed.the-type),) ∷ (14, Rows.any-gone ref0,) ∷ (15, Rows.any-gone (Syntax.tyStruct (38 ∷ 91 ∷ 93 ∷ List.[]) (Syntax.tcons ref0
-            (Syntax.tcons (Syntax.tyInt Syntax.w64) Syntax.tnil))),) ∷ List.[]
+            OpaqueRelayRuntime.the-type)) ∷ (7, Rows.whole (Declared.row Places.the-type),) ∷ (8, Rows.whole (Declared.row RelayPacket.the-type)) ∷
+            (9, Rows.sslice (Referent.rtF (Referent.fInt Syntax.w8)) ref10 5,) ∷ (10, Rows.sslice (Referent.rtF (Referent.fInt Syntax.w8)) ref11 6,) ∷
+            (11, Rows.sslice (Referent.rtF (Referent.fInt Syntax.w8)) ref12 7,) ∷ (12, Rows.sslice (Referent.rtF (Referent.fInt Syntax.w8)) ref13 8,)
+            ∷ (13, Rows.sc-here (Row.sInt Syntax.w8)) ∷ (14, Rows.any-gone Laws'''.mir,) ∷ (15, Rows.any-gone ref0,) ∷ List.[]
         abbrev g48 : List.List Row.Entry
-        g48 = (0, Rows.any-gone Laws''.mir,) ∷ (1, Relend.mslice-owed RelayPending.row ref5 0 14 life0,) ∷ (2, Relend.mslice-owed RelayCircuit.row
+        g48 = (0, Rows.any-gone Laws'''.mir,) ∷ (1, Relend.mslice-owed RelayPending.row ref5 0 14 life0,) ∷ (2, Relend.mslice-owed RelayCircuit.row
             ref6 1 15 life1,) ∷ (3, Mut.mslice ReservationUsage.row ref7 2,) ∷ (4, Relend.mslice-owed InflightAction.row ref8 3 16 life3,) ∷ (5,
-            Relend.mslice-owed (Referent.rtF (Referent.fInt Syntax.w32)) ref9 4 17 life4,) ∷ (6, Rows.any-gone Laws'.mir,) ∷ (7, Rows.any-gone
-            Laws.mir,) ∷ (8, Rows.sslice (Referent.rtF (Referent.fInt Syntax.w8)) ref10 5,) ∷ (9, Rows.sslice (Referent.rtF (Referent.fInt Syntax.w8))
-            ref11 6,) ∷ (10, Rows.sslice (Referent.rtF (Referent.fInt Syntax.w8)) ref12 7,) ∷ (11, Rows.sslice (Referent.rtF (Referent.fInt
-            Syntax.w8)) ref13 8,) ∷ (12, Rows.sc-here (Row.sInt Syntax.w8)) ∷ (13, Rows.whole (Declared.row Relayed.the-type),) ∷ (14, Rows.any-gone
-            ref0,) ∷ (15, Rows.any-gone (Syntax.tyStruct (38 ∷ 91 ∷ 93 ∷ List.[]) (Syntax.tcons ref0 (Syntax.tcons (Syntax.tyInt Syntax.w64)
-            Syntax.tnil))),) ∷ List.[]
-        abbrev g49 : List.List Row.Entry
-        g49 = (0, Rows.any-gone Laws''.mir,) ∷ (1, Mut.mslice RelayPending.row ref5 0,) ∷ (2, Relend.mslice-owed RelayCircuit.row ref6 1 15 life1,) ∷
-            (3, Mut.mslice ReservationUsage.row ref7 2,) ∷ (4, Relend.mslice-owed InflightAction.row ref8 3 16 life3,) ∷ (5, Relend.mslice-owed
-            (Referent.rtF (Referent.fInt Syntax.w32)) ref9 4 17 life4,) ∷ (6, Rows.any-gone Laws'.mir,) ∷ (7, Rows.any-gone Laws.mir,) ∷ (8,
-            Rows.sslice (Referent.rtF (Referent.fInt Syntax.w8)) ref10 5,) ∷ (9, Rows.sslice (Referent.rtF (Referent.fInt Syntax.w8)) ref11 6,) ∷ (10,
-            Rows.sslice (Referent.rtF (Referent.fInt Syntax.w8)) ref12 7,) ∷ (11, Rows.sslice (Referent.rtF (Referent.fInt Syntax.w8)) ref13 8,) ∷
-            (12, Rows.sc-here (Row.sInt Syntax.w8)) ∷ (13, Rows.whole (Declared.row Relayed.the-type),) ∷ (14, Rows.any-gone ref0,) ∷ (15,
-            Rows.any-gone (Syntax.tyStruct (38 ∷ 91 ∷ 93 ∷ List.[]) (Syntax.tcons ref0 (Syntax.tcons (Syntax.tyInt Syntax.w64) Syntax.tnil))),) ∷
-            List.[]
+            Relend.mslice-owed (Referent.rtF (Referent.fInt Syntax.w32)) ref9 4 17 life4,) ∷ (6, Rows.whole (Declared.row
+            OpaqueRelayRuntime.the-type)) ∷ (7, Rows.whole (Declared.row Places.the-type),) ∷ (8, Rows.whole (Declared.row RelayPacket.the-type)) ∷
+            (9, Rows.sslice (Referent.rtF (Referent.fInt Syntax.w8)) ref10 5,) ∷ (10, Rows.sslice (Referent.rtF (Referent.fInt Syntax.w8)) ref11 6,) ∷
+            (11, Rows.sslice (Referent.rtF (Referent.fInt Syntax.w8)) ref12 7,) ∷ (12, Rows.sslice (Referent.rtF (Referent.fInt Syntax.w8)) ref13 8,)
+            ∷ (13, Rows.sc-here (Row.sInt Syntax.w8)) ∷ (14, Rows.whole (Declared.row Relayed.the-type),) ∷ (15, Rows.any-gone ref0,) ∷ List.[]
         abbrev g51 : List.List Row.Entry
-        g51 = (0, Rows.any-gone Laws''.mir,) ∷ (1, Mut.mslice RelayPending.row ref5 0,) ∷ (2, Mut.mslice RelayCircuit.row ref6 1,) ∷ (3, Mut.mslice
-            ReservationUsage.row ref7 2,) ∷ (4, Relend.mslice-owed InflightAction.row ref8 3 16 life3,) ∷ (5, Relend.mslice-owed (Referent.rtF
-            (Referent.fInt Syntax.w32)) ref9 4 17 life4,) ∷ (6, Rows.any-gone Laws'.mir,) ∷ (7, Rows.any-gone Laws.mir,) ∷ (8, Rows.sslice
-            (Referent.rtF (Referent.fInt Syntax.w8)) ref10 5,) ∷ (9, Rows.sslice (Referent.rtF (Referent.fInt Syntax.w8)) ref11 6,) ∷ (10, Rows.sslice
-            (Referent.rtF (Referent.fInt Syntax.w8)) ref12 7,) ∷ (11, Rows.sslice (Referent.rtF (Referent.fInt Syntax.w8)) ref13 8,) ∷ (12,
-            Rows.sc-here (Row.sInt Syntax.w8)) ∷ (13, Rows.whole (Declared.row Relayed.the-type),) ∷ (14, Rows.any-gone ref0,) ∷ (15, Rows.any-gone
-            (Syntax.tyStruct (38 ∷ 91 ∷ 93 ∷ List.[]) (Syntax.tcons ref0 (Syntax.tcons (Syntax.tyInt Syntax.w64) Syntax.tnil))),) ∷ List.[]
+        g51 = (0, Rows.any-gone Laws'''.mir,) ∷ (1, Relend.mslice-owed RelayPending.row ref5 0 14 life0,) ∷ (2, Relend.mslice-owed RelayCircuit.row
+            ref6 1 15 life1,) ∷ (3, Mut.mslice ReservationUsage.row ref7 2,) ∷ (4, Relend.mslice-owed InflightAction.row ref8 3 16 life3,) ∷ (5,
+            Relend.mslice-owed (Referent.rtF (Referent.fInt Syntax.w32)) ref9 4 17 life4,) ∷ (6, Rows.any-gone Laws''.mir,) ∷ (7, Rows.whole
+            (Declared.row Places.the-type)) ∷ (8, Rows.whole (Declared.row RelayPacket.the-type),) ∷ (9, Rows.sslice (Referent.rtF (Referent.fInt
+            Syntax.w8)) ref10 5,) ∷ (10, Rows.sslice (Referent.rtF (Referent.fInt Syntax.w8)) ref11 6,) ∷ (11, Rows.sslice (Referent.rtF
+            (Referent.fInt Syntax.w8)) ref12 7,) ∷ (12, Rows.sslice (Referent.rtF (Referent.fInt Syntax.w8)) ref13 8,) ∷ (13, Rows.sc-here (Row.sInt
+            Syntax.w8)) ∷ (14, Rows.whole (Declared.row Relayed.the-type),) ∷ (15, Rows.any-gone ref0,) ∷ List.[]
+        abbrev g52 : List.List Row.Entry
+        g52 = (0, Rows.any-gone Laws'''.mir,) ∷ (1, Relend.mslice-owed RelayPending.row ref5 0 14 life0,) ∷ (2, Relend.mslice-owed RelayCircuit.row
+            ref6 1 15 life1,) ∷ (3, Mut.mslice ReservationUsage.row ref7 2,) ∷ (4, Relend.mslice-owed InflightAction.row ref8 3 16 life3,) ∷ (5,
+            Relend.mslice-owed (Referent.rtF (Referent.fInt Syntax.w32)) ref9 4 17 life4,) ∷ (6, Rows.any-gone Laws''.mir,) ∷ (7, Rows.any-gone
+            Laws.mir,) ∷ (8, Rows.whole (Declared.row RelayPacket.the-type)) ∷ (9, Rows.sslice (Referent.rtF (Referent.fInt Syntax.w8)) ref10 5,) ∷
+            (10, Rows.sslice (Referent.rtF (Referent.fInt Syntax.w8)) ref11 6,) ∷ (11, Rows.sslice (Referent.rtF (Referent.fInt Syntax.w8)) ref12 7,)
+            ∷ (12, Rows.sslice (Referent.rtF (Referent.fInt Syntax.w8)) ref13 8,) ∷ (13, Rows.sc-here (Row.sInt Syntax.w8)) ∷ (14, Rows.whole
+            (Declared.row Relayed.the-type),) ∷ (15, Rows.any-gone ref0,) ∷ List.[]
         abbrev g53 : List.List Row.Entry
-        g53 = (0, Rows.any-gone Laws''.mir,) ∷ (1, Mut.mslice RelayPending.row ref5 0,) ∷ (2, Mut.mslice RelayCircuit.row ref6 1,) ∷ (3, Mut.mslice
-            ReservationUsage.row ref7 2,) ∷ (4, Mut.mslice InflightAction.row ref8 3,) ∷ (5, Relend.mslice-owed (Referent.rtF (Referent.fInt
-            Syntax.w32)) ref9 4 17 life4,) ∷ (6, Rows.any-gone Laws'.mir,) ∷ (7, Rows.any-gone Laws.mir,) ∷ (8, Rows.sslice (Referent.rtF
-            (Referent.fInt Syntax.w8)) ref10 5,) ∷ (9, Rows.sslice (Referent.rtF (Referent.fInt Syntax.w8)) ref11 6,) ∷ (10, Rows.sslice (Referent.rtF
-            (Referent.fInt Syntax.w8)) ref12 7,) ∷ (11, Rows.sslice (Referent.rtF (Referent.fInt Syntax.w8)) ref13 8,) ∷ (12, Rows.sc-here (Row.sInt
-            Syntax.w8)) ∷ (13, Rows.whole (Declared.row Relayed.the-type),) ∷ (14, Rows.any-gone ref0,) ∷ (15, Rows.any-gone (Syntax.tyStruct (38 ∷ 91
-            ∷ 93 ∷ List.[]) (Syntax.tcons ref0 (Syntax.tcons (Syntax.tyInt Syntax.w64) Syntax.tnil))),) ∷ List.[]
-        abbrev g55 : List.List Row.Entry
-        g55 = (0, Rows.any-gone Laws''.mir,) ∷ (1, Mut.mslice RelayPending.row ref5 0,) ∷ (2, Relend.mslice-owed RelayCircuit.row ref6 1 18 life1,) ∷
-            (3, Mut.mslice ReservationUsage.row ref7 2,) ∷ (4, Mut.mslice InflightAction.row ref8 3,) ∷ (5, Mut.mslice (Referent.rtF (Referent.fInt
-            Syntax.w32)) ref9 4,) ∷ (6, Rows.whole (Declared.row OpaqueRelayRuntime.the-type)) ∷ (7, Rows.whole (Declared.row RelayPacket.the-type),)
-            ∷ (8, Rows.sslice (Referent.rtF (Referent.fInt Syntax.w8)) ref10 5,) ∷ (9, Rows.sslice (Referent.rtF (Referent.fInt Syntax.w8)) ref11 6,)
-            ∷ (10, Rows.sslice (Referent.rtF (Referent.fInt Syntax.w8)) ref12 7,) ∷ (11, Rows.sslice (Referent.rtF (Referent.fInt Syntax.w8)) ref13
-            8,) ∷ (12, Rows.sc-here (Row.sInt Syntax.w8)) ∷ (13, Rows.any-gone Laws''.mir,) ∷ (14, Rows.any-gone ref0,) ∷ (15, Rows.any-gone
-            (Syntax.tyStruct (38 ∷ 91 ∷ 93 ∷ List.[]) (Syntax.tcons ref0 (Syntax.tcons (Syntax.tyInt Syntax.w64) Syntax.tnil))),) ∷ List.[]
+        g53 = (0, Rows.any-gone Laws'''.mir,) ∷ (1, Relend.mslice-owed RelayPending.row ref5 0 14 life0,) ∷ (2, Relend.mslice-owed RelayCircuit.row
+            ref6 1 15 life1,) ∷ (3, Mut.mslice ReservationUsage.row ref7 2,) ∷ (4, Relend.mslice-owed InflightAction.row ref8 3 16 life3,) ∷ (5,
+            Relend.mslice-owed (Referent.rtF (Referent.fInt Syntax.w32)) ref9 4 17 life4,) ∷ (6, Rows.any-gone Laws''.mir,) ∷ (7, Rows.any-gone
+            Laws.mir,) ∷ (8, Rows.any-gone Laws'.mir,) ∷ (9, Rows.sslice (Referent.rtF (Referent.fInt Syntax.w8)) ref10 5,) ∷ (10, Rows.sslice
+            (Referent.rtF (Referent.fInt Syntax.w8)) ref11 6,) ∷ (11, Rows.sslice (Referent.rtF (Referent.fInt Syntax.w8)) ref12 7,) ∷ (12,
+            Rows.sslice (Referent.rtF (Referent.fInt Syntax.w8)) ref13 8,) ∷ (13, Rows.sc-here (Row.sInt Syntax.w8)) ∷ (14, Rows.whole (Declared.row
+            Relayed.the-type),) ∷ (15, Rows.any-gone ref0,) ∷ List.[]
+        abbrev g54 : List.List Row.Entry
+        g54 = (0, Rows.any-gone Laws'''.mir,) ∷ (1, Mut.mslice RelayPending.row ref5 0,) ∷ (2, Relend.mslice-owed RelayCircuit.row ref6 1 15 life1,) ∷
+            (3, Mut.mslice ReservationUsage.row ref7 2,) ∷ (4, Relend.mslice-owed InflightAction.row ref8 3 16 life3,) ∷ (5, Relend.mslice-owed
+            (Referent.rtF (Referent.fInt Syntax.w32)) ref9 4 17 life4,) ∷ (6, Rows.any-gone Laws''.mir,) ∷ (7, Rows.any-gone Laws.mir,) ∷ (8,
+            Rows.any-gone Laws'.mir,) ∷ (9, Rows.sslice (Referent.rtF (Referent.fInt Syntax.w8)) ref10 5,) ∷ (10, Rows.sslice (Referent.rtF
+            (Referent.fInt Syntax.w8)) ref11 6,) ∷ (11, Rows.sslice (Referent.rtF (Referent.fInt Syntax.w8)) ref12 7,) ∷ (12, Rows.sslice
+            (Referent.rtF (Referent.fInt Syntax.w8)) ref13 8,) ∷ (13, Rows.sc-here (Row.sInt Syntax.w8)) ∷ (14, Rows.whole (Declared.row
+            Relayed.the-type),) ∷ (15, Rows.any-gone ref0,) ∷ List.[]
+        abbrev g56 : List.List Row.Entry
+        g56 = (0, Rows.any-gone Laws'''.mir,) ∷ (1, Mut.mslice RelayPending.row ref5 0,) ∷ (2, Mut.mslice RelayCircuit.row ref6 1,) ∷ (3, Mut.mslice
+            ReservationUsage.row ref7 2,) ∷ (4, Relend.mslice-owed InflightAction.row ref8 3 16 life3,) ∷ (5, Relend.mslice-owed (Referent.rtF
+            (Referent.fInt Syntax.w32)) ref9 4 17 life4,) ∷ (6, Rows.any-gone Laws''.mir,) ∷ (7, Rows.any-gone Laws.mir,) ∷ (8, Rows.any-gone
+            Laws'.mir,) ∷ (9, Rows.sslice (Referent.rtF (Referent.fInt Syntax.w8)) ref10 5,) ∷ (10, Rows.sslice (Referent.rtF (Referent.fInt
+            Syntax.w8)) ref11 6,) ∷ (11, Rows.sslice (Referent.rtF (Referent.fInt Syntax.w8)) ref12 7,) ∷ (12, Rows.sslice (Referent.rtF
+            (Referent.fInt Syntax.w8)) ref13 8,) ∷ (13, Rows.sc-here (Row.sInt Syntax.w8)) ∷ (14, Rows.whole (Declared.row Relayed.the-type),) ∷ (15,
+            Rows.any-gone ref0,) ∷ List.[]
         abbrev g58 : List.List Row.Entry
-        g58 = (0, Rows.any-gone Laws''.mir,) ∷ (1, Mut.mslice RelayPending.row ref5 0,) ∷ (2, Relend.mslice-owed RelayCircuit.row ref6 1 18 life1,) ∷
+        g58 = (0, Rows.any-gone Laws'''.mir,) ∷ (1, Mut.mslice RelayPending.row ref5 0,) ∷ (2, Mut.mslice RelayCircuit.row ref6 1,) ∷ (3, Mut.mslice
+            ReservationUsage.row ref7 2,) ∷ (4, Mut.mslice InflightAction.row ref8 3,) ∷ (5, Relend.mslice-owed (Referent.rtF (Referent.fInt
+            Syntax.w32)) ref9 4 17 life4,) ∷ (6, Rows.any-gone Laws''.mir,) ∷ (7, Rows.any-gone Laws.mir,) ∷ (8, Rows.any-gone Laws'.mir,) ∷ (9,
+            Rows.sslice (Referent.rtF (Referent.fInt Syntax.w8)) ref10 5,) ∷ (10, Rows.sslice (Referent.rtF (Referent.fInt Syntax.w8)) ref11 6,) ∷
+            (11, Rows.sslice (Referent.rtF (Referent.fInt Syntax.w8)) ref12 7,) ∷ (12, Rows.sslice (Referent.rtF (Referent.fInt Syntax.w8)) ref13 8,)
+            ∷ (13, Rows.sc-here (Row.sInt Syntax.w8)) ∷ (14, Rows.whole (Declared.row Relayed.the-type),) ∷ (15, Rows.any-gone ref0,) ∷ List.[]
+        abbrev g59 : List.List Row.Entry
+        g59 = (0, Rows.any-gone Laws'''.mir,) ∷ (1, Mut.mslice RelayPending.row ref5 0,) ∷ (2, Relend.mslice-owed RelayCircuit.row ref6 1 18 life1,) ∷
+            (3, Mut.mslice ReservationUsage.row ref7 2,) ∷ (4, Mut.mslice InflightAction.row ref8 3,) ∷ (5, Mut.mslice (Referent.rtF (Referent.fInt
+            Syntax.w32)) ref9 4,) ∷ (6, Rows.whole (Declared.row OpaqueRelayRuntime.the-type)) ∷ (7, Rows.whole (Declared.row Places.the-type),) ∷ (8,
+            Rows.whole (Declared.row RelayPacket.the-type)) ∷ (9, Rows.sslice (Referent.rtF (Referent.fInt Syntax.w8)) ref10 5,) ∷ (10, Rows.sslice
+            (Referent.rtF (Referent.fInt Syntax.w8)) ref11 6,) ∷ (11, Rows.sslice (Referent.rtF (Referent.fInt Syntax.w8)) ref12 7,) ∷ (12,
+            Rows.sslice (Referent.rtF (Referent.fInt Syntax.w8)) ref13 8,) ∷ (13, Rows.sc-here (Row.sInt Syntax.w8)) ∷ (14, Rows.any-gone
+            Laws'''.mir,) ∷ (15, Rows.any-gone ref0,) ∷ List.[]
+        abbrev g62 : List.List Row.Entry
+        g62 = (0, Rows.any-gone Laws'''.mir,) ∷ (1, Mut.mslice RelayPending.row ref5 0,) ∷ (2, Relend.mslice-owed RelayCircuit.row ref6 1 18 life1,) ∷
             (3, Relend.mslice-owed ReservationUsage.row ref7 2 19 life2,) ∷ (4, Mut.mslice InflightAction.row ref8 3,) ∷ (5, Mut.mslice (Referent.rtF
             (Referent.fInt Syntax.w32)) ref9 4,) ∷ (6, Rows.whole (Declared.row OpaqueRelayRuntime.the-type)) ∷ (7, Rows.whole (Declared.row
-            RelayPacket.the-type),) ∷ (8, Rows.sslice (Referent.rtF (Referent.fInt Syntax.w8)) ref10 5,) ∷ (9, Rows.sslice (Referent.rtF
-            (Referent.fInt Syntax.w8)) ref11 6,) ∷ (10, Rows.sslice (Referent.rtF (Referent.fInt Syntax.w8)) ref12 7,) ∷ (11, Rows.sslice
-            (Referent.rtF (Referent.fInt Syntax.w8)) ref13 8,) ∷ (12, Rows.sc-here (Row.sInt Syntax.w8)) ∷ (13, Rows.any-gone Laws''.mir,) ∷ (14,
-            Rows.any-gone ref0,) ∷ (15, Rows.any-gone (Syntax.tyStruct (38 ∷ 91 ∷ 93 ∷ List.[]) (Syntax.tcons ref0 (Syntax.tcons (Syntax.tyInt
-            Syntax.w64) Syntax.tnil))),) ∷ List.[]
-        abbrev g61 : List.List Row.Entry
-        g61 = (0, Rows.any-gone Laws''.mir,) ∷ (1, Mut.mslice RelayPending.row ref5 0,) ∷ (2, Relend.mslice-owed RelayCircuit.row ref6 1 18 life1,) ∷
+            Places.the-type),) ∷ (8, Rows.whole (Declared.row RelayPacket.the-type)) ∷ (9, Rows.sslice (Referent.rtF (Referent.fInt Syntax.w8)) ref10
+            5,) ∷ (10, Rows.sslice (Referent.rtF (Referent.fInt Syntax.w8)) ref11 6,) ∷ (11, Rows.sslice (Referent.rtF (Referent.fInt Syntax.w8))
+            ref12 7,) ∷ (12, Rows.sslice (Referent.rtF (Referent.fInt Syntax.w8)) ref13 8,) ∷ (13, Rows.sc-here (Row.sInt Syntax.w8)) ∷ (14,
+            Rows.any-gone Laws'''.mir,) ∷ (15, Rows.any-gone ref0,) ∷ List.[]
+        abbrev g65 : List.List Row.Entry
+        g65 = (0, Rows.any-gone Laws'''.mir,) ∷ (1, Mut.mslice RelayPending.row ref5 0,) ∷ (2, Relend.mslice-owed RelayCircuit.row ref6 1 18 life1,) ∷
             (3, Relend.mslice-owed ReservationUsage.row ref7 2 19 life2,) ∷ (4, Relend.mslice-owed InflightAction.row ref8 3 20 life3,) ∷ (5,
             Mut.mslice (Referent.rtF (Referent.fInt Syntax.w32)) ref9 4,) ∷ (6, Rows.whole (Declared.row OpaqueRelayRuntime.the-type)) ∷ (7,
-            Rows.whole (Declared.row RelayPacket.the-type),) ∷ (8, Rows.sslice (Referent.rtF (Referent.fInt Syntax.w8)) ref10 5,) ∷ (9, Rows.sslice
-            (Referent.rtF (Referent.fInt Syntax.w8)) ref11 6,) ∷ (10, Rows.sslice (Referent.rtF (Referent.fInt Syntax.w8)) ref12 7,) ∷ (11,
-            Rows.sslice (Referent.rtF (Referent.fInt Syntax.w8)) ref13 8,) ∷ (12, Rows.sc-here (Row.sInt Syntax.w8)) ∷ (13, Rows.any-gone Laws''.mir,)
-            ∷ (14, Rows.any-gone ref0,) ∷ (15, Rows.any-gone (Syntax.tyStruct (38 ∷ 91 ∷ 93 ∷ List.[]) (Syntax.tcons ref0 (Syntax.tcons (Syntax.tyInt
-            Syntax.w64) Syntax.tnil))),) ∷ List.[]
-        abbrev g64 : List.List Row.Entry
-        g64 = (0, Rows.any-gone Laws''.mir,) ∷ (1, Mut.mslice RelayPending.row ref5 0,) ∷ (2, Relend.mslice-owed RelayCircuit.row ref6 1 18 life1,) ∷
+            Rows.whole (Declared.row Places.the-type),) ∷ (8, Rows.whole (Declared.row RelayPacket.the-type)) ∷ (9, Rows.sslice (Referent.rtF
+            (Referent.fInt Syntax.w8)) ref10 5,) ∷ (10, Rows.sslice (Referent.rtF (Referent.fInt Syntax.w8)) ref11 6,) ∷ (11, Rows.sslice
+            (Referent.rtF (Referent.fInt Syntax.w8)) ref12 7,) ∷ (12, Rows.sslice (Referent.rtF (Referent.fInt Syntax.w8)) ref13 8,) ∷ (13,
+            Rows.sc-here (Row.sInt Syntax.w8)) ∷ (14, Rows.any-gone Laws'''.mir,) ∷ (15, Rows.any-gone ref0,) ∷ List.[]
+        abbrev g68 : List.List Row.Entry
+        g68 = (0, Rows.any-gone Laws'''.mir,) ∷ (1, Mut.mslice RelayPending.row ref5 0,) ∷ (2, Relend.mslice-owed RelayCircuit.row ref6 1 18 life1,) ∷
             (3, Relend.mslice-owed ReservationUsage.row ref7 2 19 life2,) ∷ (4, Relend.mslice-owed InflightAction.row ref8 3 20 life3,) ∷ (5,
             Relend.mslice-owed (Referent.rtF (Referent.fInt Syntax.w32)) ref9 4 21 life4,) ∷ (6, Rows.whole (Declared.row
-            OpaqueRelayRuntime.the-type)) ∷ (7, Rows.whole (Declared.row RelayPacket.the-type),) ∷ (8, Rows.sslice (Referent.rtF (Referent.fInt
-            Syntax.w8)) ref10 5,) ∷ (9, Rows.sslice (Referent.rtF (Referent.fInt Syntax.w8)) ref11 6,) ∷ (10, Rows.sslice (Referent.rtF (Referent.fInt
-            Syntax.w8)) ref12 7,) ∷ (11, Rows.sslice (Referent.rtF (Referent.fInt Syntax.w8)) ref13 8,) ∷ (12, Rows.sc-here (Row.sInt Syntax.w8)) ∷
-            (13, Rows.any-gone Laws''.mir,) ∷ (14, Rows.any-gone ref0,) ∷ (15, Rows.any-gone (Syntax.tyStruct (38 ∷ 91 ∷ 93 ∷ List.[]) (Syntax.tcons
-            ref0 (Syntax.tcons (Syntax.tyInt Syntax.w64) Syntax.tnil))),) ∷ List.[]
-        abbrev g67 : List.List Row.Entry
-        g67 = (0, Rows.any-gone Laws''.mir,) ∷ (1, Mut.mslice RelayPending.row ref5 0,) ∷ (2, Relend.mslice-owed RelayCircuit.row ref6 1 18 life1,) ∷
-            (3, Relend.mslice-owed ReservationUsage.row ref7 2 19 life2,) ∷ (4, Relend.mslice-owed InflightAction.row ref8 3 20 life3,) ∷ (5,
-            Relend.mslice-owed (Referent.rtF (Referent.fInt Syntax.w32)) ref9 4 21 life4,) ∷ (6, Rows.whole (Declared.row
-            OpaqueRelayRuntime.the-type)) ∷ (7, Rows.whole (Declared.row RelayPacket.the-type),) ∷ (8, Rows.sslice (Referent.rtF (Referent.fInt
-            Syntax.w8)) ref10 5,) ∷ (9, Rows.sslice (Referent.rtF (Referent.fInt Syntax.w8)) ref11 6,) ∷ (10, Rows.sslice (Referent.rtF (Referent.fInt
-            Syntax.w8)) ref12 7,) ∷ (11, Rows.sslice (Referent.rtF (Referent.fInt Syntax.w8)) ref13 8,) ∷ (12, Rows.sc-here (Row.sInt Syntax.w8)) ∷
-            (13, Rows.whole (Declared.row Relayed.the-type),) ∷ (14, Rows.any-gone ref0,) ∷ (15, Rows.any-gone (Syntax.tyStruct (38 ∷ 91 ∷ 93 ∷
-            List.[]) (Syntax.tcons ref0 (Syntax.tcons (Syntax.tyInt Syntax.w64) Syntax.tnil))),) ∷ List.[]
-        abbrev g69 : List.List Row.Entry
-        g69 = (0, Rows.any-gone Laws''.mir,) ∷ (1, Mut.mslice RelayPending.row ref5 0,) ∷ (2, Relend.mslice-owed RelayCircuit.row ref6 1 18 life1,) ∷
-            (3, Relend.mslice-owed ReservationUsage.row ref7 2 19 life2,) ∷ (4, Relend.mslice-owed InflightAction.row ref8 3 20 life3,) ∷ (5,
-            Relend.mslice-owed (Referent.rtF (Referent.fInt Syntax.w32)) ref9 4 21 life4,) ∷ (6, Rows.any-gone Laws'.mir,) ∷ (7, Rows.whole
-            (Declared.row RelayPacket.the-type)) ∷ (8, Rows.sslice (Referent.rtF (Referent.fInt Syntax.w8)) ref10 5,) ∷ (9, Rows.sslice (Referent.rtF
-            (Referent.fInt Syntax.w8)) ref11 6,) ∷ (10, Rows.sslice (Referent.rtF (Referent.fInt Syntax.w8)) ref12 7,) ∷ (11, Rows.sslice
-            (Referent.rtF (Referent.fInt Syntax.w8)) ref13 8,) ∷ (12, Rows.sc-here (Row.sInt Syntax.w8)) ∷ (13, Rows.whole (Declared.row
-            Relayed.the-type),) ∷ (14, Rows.any-gone ref0,) ∷ (15, Rows.any-gone (Syntax.tyStruct (38 ∷ 91 ∷ 93 ∷ List.[]) (Syntax.tcons ref0
-            (Syntax.tcons (Syntax.tyInt Syntax.w64) Syntax.tnil))),) ∷ List.[]
-        abbrev g70 : List.List Row.Entry
-        g70 = (0, Rows.any-gone Laws''.mir,) ∷ (1, Mut.mslice RelayPending.row ref5 0,) ∷ (2, Relend.mslice-owed RelayCircuit.row ref6 1 18 life1,) ∷
-            (3, Relend.mslice-owed ReservationUsage.row ref7 2 19 life2,) ∷ (4, Relend.mslice-owed InflightAction.row ref8 3 20 life3,) ∷ (5,
-            Relend.mslice-owed (Referent.rtF (Referent.fInt Syntax.w32)) ref9 4 21 life4,) ∷ (6, Rows.any-gone Laws'.mir,) ∷ (7, Rows.any-gone
-            Laws.mir,) ∷ (8, Rows.sslice (Referent.rtF (Referent.fInt Syntax.w8)) ref10 5,) ∷ (9, Rows.sslice (Referent.rtF (Referent.fInt Syntax.w8))
-            ref11 6,) ∷ (10, Rows.sslice (Referent.rtF (Referent.fInt Syntax.w8)) ref12 7,) ∷ (11, Rows.sslice (Referent.rtF (Referent.fInt
-            Syntax.w8)) ref13 8,) ∷ (12, Rows.sc-here (Row.sInt Syntax.w8)) ∷ (13, Rows.whole (Declared.row Relayed.the-type),) ∷ (14, Rows.any-gone
-            ref0,) ∷ (15, Rows.any-gone (Syntax.tyStruct (38 ∷ 91 ∷ 93 ∷ List.[]) (Syntax.tcons ref0 (Syntax.tcons (Syntax.tyInt Syntax.w64)
-            Syntax.tnil))),) ∷ List.[]
+            OpaqueRelayRuntime.the-type)) ∷ (7, Rows.whole (Declared.row Places.the-type),) ∷ (8, Rows.whole (Declared.row RelayPacket.the-type)) ∷
+            (9, Rows.sslice (Referent.rtF (Referent.fInt Syntax.w8)) ref10 5,) ∷ (10, Rows.sslice (Referent.rtF (Referent.fInt Syntax.w8)) ref11 6,) ∷
+            (11, Rows.sslice (Referent.rtF (Referent.fInt Syntax.w8)) ref12 7,) ∷ (12, Rows.sslice (Referent.rtF (Referent.fInt Syntax.w8)) ref13 8,)
+            ∷ (13, Rows.sc-here (Row.sInt Syntax.w8)) ∷ (14, Rows.any-gone Laws'''.mir,) ∷ (15, Rows.any-gone ref0,) ∷ List.[]
         abbrev g71 : List.List Row.Entry
-        g71 = (0, Rows.any-gone Laws''.mir,) ∷ (1, Mut.mslice RelayPending.row ref5 0,) ∷ (2, Mut.mslice RelayCircuit.row ref6 1,) ∷ (3,
-            Relend.mslice-owed ReservationUsage.row ref7 2 19 life2,) ∷ (4, Relend.mslice-owed InflightAction.row ref8 3 20 life3,) ∷ (5,
-            Relend.mslice-owed (Referent.rtF (Referent.fInt Syntax.w32)) ref9 4 21 life4,) ∷ (6, Rows.any-gone Laws'.mir,) ∷ (7, Rows.any-gone
-            Laws.mir,) ∷ (8, Rows.sslice (Referent.rtF (Referent.fInt Syntax.w8)) ref10 5,) ∷ (9, Rows.sslice (Referent.rtF (Referent.fInt Syntax.w8))
-            ref11 6,) ∷ (10, Rows.sslice (Referent.rtF (Referent.fInt Syntax.w8)) ref12 7,) ∷ (11, Rows.sslice (Referent.rtF (Referent.fInt
-            Syntax.w8)) ref13 8,) ∷ (12, Rows.sc-here (Row.sInt Syntax.w8)) ∷ (13, Rows.whole (Declared.row Relayed.the-type),) ∷ (14, Rows.any-gone
-            ref0,) ∷ (15, Rows.any-gone (Syntax.tyStruct (38 ∷ 91 ∷ 93 ∷ List.[]) (Syntax.tcons ref0 (Syntax.tcons (Syntax.tyInt Syntax.w64)
-            Syntax.tnil))),) ∷ List.[]
+        g71 = (0, Rows.any-gone Laws'''.mir,) ∷ (1, Mut.mslice RelayPending.row ref5 0,) ∷ (2, Relend.mslice-owed RelayCircuit.row ref6 1 18 life1,) ∷
+            (3, Relend.mslice-owed ReservationUsage.row ref7 2 19 life2,) ∷ (4, Relend.mslice-owed InflightAction.row ref8 3 20 life3,) ∷ (5,
+            Relend.mslice-owed (Referent.rtF (Referent.fInt Syntax.w32)) ref9 4 21 life4,) ∷ (6, Rows.whole (Declared.row
+            OpaqueRelayRuntime.the-type)) ∷ (7, Rows.whole (Declared.row Places.the-type),) ∷ (8, Rows.whole (Declared.row RelayPacket.the-type)) ∷
+            (9, Rows.sslice (Referent.rtF (Referent.fInt Syntax.w8)) ref10 5,) ∷ (10, Rows.sslice (Referent.rtF (Referent.fInt Syntax.w8)) ref11 6,) ∷
+            (11, Rows.sslice (Referent.rtF (Referent.fInt Syntax.w8)) ref12 7,) ∷ (12, Rows.sslice (Referent.rtF (Referent.fInt Syntax.w8)) ref13 8,)
+            ∷ (13, Rows.sc-here (Row.sInt Syntax.w8)) ∷ (14, Rows.whole (Declared.row Relayed.the-type),) ∷ (15, Rows.any-gone ref0,) ∷ List.[]
         abbrev g73 : List.List Row.Entry
-        g73 = (0, Rows.any-gone Laws''.mir,) ∷ (1, Mut.mslice RelayPending.row ref5 0,) ∷ (2, Mut.mslice RelayCircuit.row ref6 1,) ∷ (3, Mut.mslice
-            ReservationUsage.row ref7 2,) ∷ (4, Relend.mslice-owed InflightAction.row ref8 3 20 life3,) ∷ (5, Relend.mslice-owed (Referent.rtF
-            (Referent.fInt Syntax.w32)) ref9 4 21 life4,) ∷ (6, Rows.any-gone Laws'.mir,) ∷ (7, Rows.any-gone Laws.mir,) ∷ (8, Rows.sslice
-            (Referent.rtF (Referent.fInt Syntax.w8)) ref10 5,) ∷ (9, Rows.sslice (Referent.rtF (Referent.fInt Syntax.w8)) ref11 6,) ∷ (10, Rows.sslice
-            (Referent.rtF (Referent.fInt Syntax.w8)) ref12 7,) ∷ (11, Rows.sslice (Referent.rtF (Referent.fInt Syntax.w8)) ref13 8,) ∷ (12,
-            Rows.sc-here (Row.sInt Syntax.w8)) ∷ (13, Rows.whole (Declared.row Relayed.the-type),) ∷ (14, Rows.any-gone ref0,) ∷ (15, Rows.any-gone
-            (Syntax.tyStruct (38 ∷ 91 ∷ 93 ∷ List.[]) (Syntax.tcons ref0 (Syntax.tcons (Syntax.tyInt Syntax.w64) Syntax.tnil))),) ∷ List.[]
+        g73 = (0, Rows.any-gone Laws'''.mir,) ∷ (1, Mut.mslice RelayPending.row ref5 0,) ∷ (2, Relend.mslice-owed RelayCircuit.row ref6 1 18 life1,) ∷
+            (3, Relend.mslice-owed ReservationUsage.row ref7 2 19 life2,) ∷ (4, Relend.mslice-owed InflightAction.row ref8 3 20 life3,) ∷ (5,
+            Relend.mslice-owed (Referent.rtF (Referent.fInt Syntax.w32)) ref9 4 21 life4,) ∷ (6, Rows.any-gone Laws''.mir,) ∷ (7, Rows.whole
+            (Declared.row Places.the-type)) ∷ (8, Rows.whole (Declared.row RelayPacket.the-type),) ∷ (9, Rows.sslice (Referent.rtF (Referent.fInt
+            Syntax.w8)) ref10 5,) ∷ (10, Rows.sslice (Referent.rtF (Referent.fInt Syntax.w8)) ref11 6,) ∷ (11, Rows.sslice (Referent.rtF
+            (Referent.fInt Syntax.w8)) ref12 7,) ∷ (12, Rows.sslice (Referent.rtF (Referent.fInt Syntax.w8)) ref13 8,) ∷ (13, Rows.sc-here (Row.sInt
+            Syntax.w8)) ∷ (14, Rows.whole (Declared.row Relayed.the-type),) ∷ (15, Rows.any-gone ref0,) ∷ List.[]
+        abbrev g74 : List.List Row.Entry
+        g74 = (0, Rows.any-gone Laws'''.mir,) ∷ (1, Mut.mslice RelayPending.row ref5 0,) ∷ (2, Relend.mslice-owed RelayCircuit.row ref6 1 18 life1,) ∷
+            (3, Relend.mslice-owed ReservationUsage.row ref7 2 19 life2,) ∷ (4, Relend.mslice-owed InflightAction.row ref8 3 20 life3,) ∷ (5,
+            Relend.mslice-owed (Referent.rtF (Referent.fInt Syntax.w32)) ref9 4 21 life4,) ∷ (6, Rows.any-gone Laws''.mir,) ∷ (7, Rows.any-gone
+            Laws.mir,) ∷ (8, Rows.whole (Declared.row RelayPacket.the-type)) ∷ (9, Rows.sslice (Referent.rtF (Referent.fInt Syntax.w8)) ref10 5,) ∷
+            (10, Rows.sslice (Referent.rtF (Referent.fInt Syntax.w8)) ref11 6,) ∷ (11, Rows.sslice (Referent.rtF (Referent.fInt Syntax.w8)) ref12 7,)
+            ∷ (12, Rows.sslice (Referent.rtF (Referent.fInt Syntax.w8)) ref13 8,) ∷ (13, Rows.sc-here (Row.sInt Syntax.w8)) ∷ (14, Rows.whole
+            (Declared.row Relayed.the-type),) ∷ (15, Rows.any-gone ref0,) ∷ List.[]
         abbrev g75 : List.List Row.Entry
-        g75 = (0, Rows.any-gone Laws''.mir,) ∷ (1, Mut.mslice RelayPending.row ref5 0,) ∷ (2, Mut.mslice RelayCircuit.row ref6 1,) ∷ (3, Mut.mslice
-            ReservationUsage.row ref7 2,) ∷ (4, Mut.mslice InflightAction.row ref8 3,) ∷ (5, Relend.mslice-owed (Referent.rtF (Referent.fInt
-            Syntax.w32)) ref9 4 21 life4,) ∷ (6, Rows.any-gone Laws'.mir,) ∷ (7, Rows.any-gone Laws.mir,) ∷ (8, Rows.sslice (Referent.rtF
-            (Referent.fInt Syntax.w8)) ref10 5,) ∷ (9, Rows.sslice (Referent.rtF (Referent.fInt Syntax.w8)) ref11 6,) ∷ (10, Rows.sslice (Referent.rtF
-            (Referent.fInt Syntax.w8)) ref12 7,) ∷ (11, Rows.sslice (Referent.rtF (Referent.fInt Syntax.w8)) ref13 8,) ∷ (12, Rows.sc-here (Row.sInt
-            Syntax.w8)) ∷ (13, Rows.whole (Declared.row Relayed.the-type),) ∷ (14, Rows.any-gone ref0,) ∷ (15, Rows.any-gone (Syntax.tyStruct (38 ∷ 91
-            ∷ 93 ∷ List.[]) (Syntax.tcons ref0 (Syntax.tcons (Syntax.tyInt Syntax.w64) Syntax.tnil))),) ∷ List.[]
-        abbrev g77 : List.List Row.Entry
-        g77 = (0, Rows.any-gone Laws''.mir,) ∷ (1, Mut.mslice RelayPending.row ref5 0,) ∷ (2, Relend.mslice-owed RelayCircuit.row ref6 1 22 life1,) ∷
-            (3, Mut.mslice ReservationUsage.row ref7 2,) ∷ (4, Mut.mslice InflightAction.row ref8 3,) ∷ (5, Mut.mslice (Referent.rtF (Referent.fInt
-            Syntax.w32)) ref9 4,) ∷ (6, Rows.whole (Declared.row OpaqueRelayRuntime.the-type)) ∷ (7, Rows.whole (Declared.row RelayPacket.the-type),)
-            ∷ (8, Rows.sslice (Referent.rtF (Referent.fInt Syntax.w8)) ref10 5,) ∷ (9, Rows.sslice (Referent.rtF (Referent.fInt Syntax.w8)) ref11 6,)
-            ∷ (10, Rows.sslice (Referent.rtF (Referent.fInt Syntax.w8)) ref12 7,) ∷ (11, Rows.sslice (Referent.rtF (Referent.fInt Syntax.w8)) ref13
-            8,) ∷ (12, Rows.sc-here (Row.sInt Syntax.w8)) ∷ (13, Rows.any-gone Laws''.mir,) ∷ (14, Rows.any-gone ref0,) ∷ (15, Rows.any-gone
-            (Syntax.tyStruct (38 ∷ 91 ∷ 93 ∷ List.[]) (Syntax.tcons ref0 (Syntax.tcons (Syntax.tyInt Syntax.w64) Syntax.tnil))),) ∷ List.[]
+        g75 = (0, Rows.any-gone Laws'''.mir,) ∷ (1, Mut.mslice RelayPending.row ref5 0,) ∷ (2, Relend.mslice-owed RelayCircuit.row ref6 1 18 life1,) ∷
+            (3, Relend.mslice-owed ReservationUsage.row ref7 2 19 life2,) ∷ (4, Relend.mslice-owed InflightAction.row ref8 3 20 life3,) ∷ (5,
+            Relend.mslice-owed (Referent.rtF (Referent.fInt Syntax.w32)) ref9 4 21 life4,) ∷ (6, Rows.any-gone Laws''.mir,) ∷ (7, Rows.any-gone
+            Laws.mir,) ∷ (8, Rows.any-gone Laws'.mir,) ∷ (9, Rows.sslice (Referent.rtF (Referent.fInt Syntax.w8)) ref10 5,) ∷ (10, Rows.sslice
+            (Referent.rtF (Referent.fInt Syntax.w8)) ref11 6,) ∷ (11, Rows.sslice (Referent.rtF (Referent.fInt Syntax.w8)) ref12 7,) ∷ (12,
+            Rows.sslice (Referent.rtF (Referent.fInt Syntax.w8)) ref13 8,) ∷ (13, Rows.sc-here (Row.sInt Syntax.w8)) ∷ (14, Rows.whole (Declared.row
+            Relayed.the-type),) ∷ (15, Rows.any-gone ref0,) ∷ List.[]
+        abbrev g76 : List.List Row.Entry
+        g76 = (0, Rows.any-gone Laws'''.mir,) ∷ (1, Mut.mslice RelayPending.row ref5 0,) ∷ (2, Mut.mslice RelayCircuit.row ref6 1,) ∷ (3,
+            Relend.mslice-owed ReservationUsage.row ref7 2 19 life2,) ∷ (4, Relend.mslice-owed InflightAction.row ref8 3 20 life3,) ∷ (5,
+            Relend.mslice-owed (Referent.rtF (Referent.fInt Syntax.w32)) ref9 4 21 life4,) ∷ (6, Rows.any-gone Laws''.mir,) ∷ (7, Rows.any-gone
+            Laws.mir,) ∷ (8, Rows.any-gone Laws'.mir,) ∷ (9, Rows.sslice (Referent.rtF (Referent.fInt Syntax.w8)) ref10 5,) ∷ (10, Rows.sslice
+            (Referent.rtF (Referent.fInt Syntax.w8)) ref11 6,) ∷ (11, Rows.sslice (Referent.rtF (Referent.fInt Syntax.w8)) ref12 7,) ∷ (12,
+            Rows.sslice (Referent.rtF (Referent.fInt Syntax.w8)) ref13 8,) ∷ (13, Rows.sc-here (Row.sInt Syntax.w8)) ∷ (14, Rows.whole (Declared.row
+            Relayed.the-type),) ∷ (15, Rows.any-gone ref0,) ∷ List.[]
+        abbrev g78 : List.List Row.Entry
+        g78 = (0, Rows.any-gone Laws'''.mir,) ∷ (1, Mut.mslice RelayPending.row ref5 0,) ∷ (2, Mut.mslice RelayCircuit.row ref6 1,) ∷ (3, Mut.mslice
+            ReservationUsage.row ref7 2,) ∷ (4, Relend.mslice-owed InflightAction.row ref8 3 20 life3,) ∷ (5, Relend.mslice-owed (Referent.rtF
+            (Referent.fInt Syntax.w32)) ref9 4 21 life4,) ∷ (6, Rows.any-gone Laws''.mir,) ∷ (7, Rows.any-gone Laws.mir,) ∷ (8, Rows.any-gone
+            Laws'.mir,) ∷ (9, Rows.sslice (Referent.rtF (Referent.fInt Syntax.w8)) ref10 5,) ∷ (10, Rows.sslice (Referent.rtF (Referent.fInt
+            Syntax.w8)) ref11 6,) ∷ (11, Rows.sslice (Referent.rtF (Referent.fInt Syntax.w8)) ref12 7,) ∷ (12, Rows.sslice (Referent.rtF
+            (Referent.fInt Syntax.w8)) ref13 8,) ∷ (13, Rows.sc-here (Row.sInt Syntax.w8)) ∷ (14, Rows.whole (Declared.row Relayed.the-type),) ∷ (15,
+            Rows.any-gone ref0,) ∷ List.[]
         abbrev g80 : List.List Row.Entry
-        g80 = (0, Rows.any-gone Laws''.mir,) ∷ (1, Mut.mslice RelayPending.row ref5 0,) ∷ (2, Relend.mslice-owed RelayCircuit.row ref6 1 22 life1,) ∷
+        g80 = (0, Rows.any-gone Laws'''.mir,) ∷ (1, Mut.mslice RelayPending.row ref5 0,) ∷ (2, Mut.mslice RelayCircuit.row ref6 1,) ∷ (3, Mut.mslice
+            ReservationUsage.row ref7 2,) ∷ (4, Mut.mslice InflightAction.row ref8 3,) ∷ (5, Relend.mslice-owed (Referent.rtF (Referent.fInt
+            Syntax.w32)) ref9 4 21 life4,) ∷ (6, Rows.any-gone Laws''.mir,) ∷ (7, Rows.any-gone Laws.mir,) ∷ (8, Rows.any-gone Laws'.mir,) ∷ (9,
+            Rows.sslice (Referent.rtF (Referent.fInt Syntax.w8)) ref10 5,) ∷ (10, Rows.sslice (Referent.rtF (Referent.fInt Syntax.w8)) ref11 6,) ∷
+            (11, Rows.sslice (Referent.rtF (Referent.fInt Syntax.w8)) ref12 7,) ∷ (12, Rows.sslice (Referent.rtF (Referent.fInt Syntax.w8)) ref13 8,)
+            ∷ (13, Rows.sc-here (Row.sInt Syntax.w8)) ∷ (14, Rows.whole (Declared.row Relayed.the-type),) ∷ (15, Rows.any-gone ref0,) ∷ List.[]
+        abbrev g82 : List.List Row.Entry
+        g82 = (0, Rows.any-gone Laws'''.mir,) ∷ (1, Mut.mslice RelayPending.row ref5 0,) ∷ (2, Relend.mslice-owed RelayCircuit.row ref6 1 22 life1,) ∷
+            (3, Mut.mslice ReservationUsage.row ref7 2,) ∷ (4, Mut.mslice InflightAction.row ref8 3,) ∷ (5, Mut.mslice (Referent.rtF (Referent.fInt
+            Syntax.w32)) ref9 4,) ∷ (6, Rows.whole (Declared.row OpaqueRelayRuntime.the-type)) ∷ (7, Rows.whole (Declared.row Places.the-type),) ∷ (8,
+            Rows.whole (Declared.row RelayPacket.the-type)) ∷ (9, Rows.sslice (Referent.rtF (Referent.fInt Syntax.w8)) ref10 5,) ∷ (10, Rows.sslice
+            (Referent.rtF (Referent.fInt Syntax.w8)) ref11 6,) ∷ (11, Rows.sslice (Referent.rtF (Referent.fInt Syntax.w8)) ref12 7,) ∷ (12,
+            Rows.sslice (Referent.rtF (Referent.fInt Syntax.w8)) ref13 8,) ∷ (13, Rows.sc-here (Row.sInt Syntax.w8)) ∷ (14, Rows.any-gone
+            Laws'''.mir,) ∷ (15, Rows.any-gone ref0,) ∷ List.[]
+        abbrev g85 : List.List Row.Entry
+        g85 = (0, Rows.any-gone Laws'''.mir,) ∷ (1, Mut.mslice RelayPending.row ref5 0,) ∷ (2, Relend.mslice-owed RelayCircuit.row ref6 1 22 life1,) ∷
             (3, Mut.mslice ReservationUsage.row ref7 2,) ∷ (4, Relend.mslice-owed InflightAction.row ref8 3 23 life3,) ∷ (5, Mut.mslice (Referent.rtF
             (Referent.fInt Syntax.w32)) ref9 4,) ∷ (6, Rows.whole (Declared.row OpaqueRelayRuntime.the-type)) ∷ (7, Rows.whole (Declared.row
-            RelayPacket.the-type),) ∷ (8, Rows.sslice (Referent.rtF (Referent.fInt Syntax.w8)) ref10 5,) ∷ (9, Rows.sslice (Referent.rtF
-            (Referent.fInt Syntax.w8)) ref11 6,) ∷ (10, Rows.sslice (Referent.rtF (Referent.fInt Syntax.w8)) ref12 7,) ∷ (11, Rows.sslice
-            (Referent.rtF (Referent.fInt Syntax.w8)) ref13 8,) ∷ (12, Rows.sc-here (Row.sInt Syntax.w8)) ∷ (13, Rows.any-gone Laws''.mir,) ∷ (14,
-            Rows.any-gone ref0,) ∷ (15, Rows.any-gone (Syntax.tyStruct (38 ∷ 91 ∷ 93 ∷ List.[]) (Syntax.tcons ref0 (Syntax.tcons (Syntax.tyInt
-            Syntax.w64) Syntax.tnil))),) ∷ List.[]
-        abbrev g83 : List.List Row.Entry
-        g83 = (0, Rows.any-gone Laws''.mir,) ∷ (1, Mut.mslice RelayPending.row ref5 0,) ∷ (2, Relend.mslice-owed RelayCircuit.row ref6 1 22 life1,) ∷
-            (3, Mut.mslice ReservationUsage.row ref7 2,) ∷ (4, Relend.mslice-owed InflightAction.row ref8 3 23 life3,) ∷ (5, Relend.mslice-owed
-            (Referent.rtF (Referent.fInt Syntax.w32)) ref9 4 24 life4,) ∷ (6, Rows.whole (Declared.row OpaqueRelayRuntime.the-type)) ∷ (7, Rows.whole
-            (Declared.row RelayPacket.the-type),) ∷ (8, Rows.sslice (Referent.rtF (Referent.fInt Syntax.w8)) ref10 5,) ∷ (9, Rows.sslice (Referent.rtF
-            (Referent.fInt Syntax.w8)) ref11 6,) ∷ (10, Rows.sslice (Referent.rtF (Referent.fInt Syntax.w8)) ref12 7,) ∷ (11, Rows.sslice
-            (Referent.rtF (Referent.fInt Syntax.w8)) ref13 8,) ∷ (12, Rows.sc-here (Row.sInt Syntax.w8)) ∷ (13, Rows.any-gone Laws''.mir,) ∷ (14,
-            Rows.any-gone ref0,) ∷ (15, Rows.any-gone (Syntax.tyStruct (38 ∷ 91 ∷ 93 ∷ List.[]) (Syntax.tcons ref0 (Syntax.tcons (Syntax.tyInt
-            Syntax.w64) Syntax.tnil))),) ∷ List.[]
-        abbrev g86 : List.List Row.Entry
-        g86 = (0, Rows.any-gone Laws''.mir,) ∷ (1, Mut.mslice RelayPending.row ref5 0,) ∷ (2, Relend.mslice-owed RelayCircuit.row ref6 1 22 life1,) ∷
-            (3, Mut.mslice ReservationUsage.row ref7 2,) ∷ (4, Relend.mslice-owed InflightAction.row ref8 3 23 life3,) ∷ (5, Relend.mslice-owed
-            (Referent.rtF (Referent.fInt Syntax.w32)) ref9 4 24 life4,) ∷ (6, Rows.whole (Declared.row OpaqueRelayRuntime.the-type)) ∷ (7, Rows.whole
-            (Declared.row RelayPacket.the-type),) ∷ (8, Rows.sslice (Referent.rtF (Referent.fInt Syntax.w8)) ref10 5,) ∷ (9, Rows.sslice (Referent.rtF
-            (Referent.fInt Syntax.w8)) ref11 6,) ∷ (10, Rows.sslice (Referent.rtF (Referent.fInt Syntax.w8)) ref12 7,) ∷ (11, Rows.sslice
-            (Referent.rtF (Referent.fInt Syntax.w8)) ref13 8,) ∷ (12, Rows.sc-here (Row.sInt Syntax.w8)) ∷ (13, Rows.whole (Declared.row
-            Relayed.the-type),) ∷ (14, Rows.any-gone ref0,) ∷ (15, Rows.any-gone (Syntax.tyStruct (38 ∷ 91 ∷ 93 ∷ List.[]) (Syntax.tcons ref0
-            (Syntax.tcons (Syntax.tyInt Syntax.w64) Syntax.tnil))),) ∷ List.[]
+            Places.the-type),) ∷ (8, Rows.whole (Declared.row RelayPacket.the-type)) ∷ (9, Rows.sslice (Referent.rtF (Referent.fInt Syntax.w8)) ref10
+            5,) ∷ (10, Rows.sslice (Referent.rtF (Referent.fInt Syntax.w8)) ref11 6,) ∷ (11, Rows.sslice (Referent.rtF (Referent.fInt Syntax.w8))
+            ref12 7,) ∷ (12, Rows.sslice (Referent.rtF (Referent.fInt Syntax.w8)) ref13 8,) ∷ (13, Rows.sc-here (Row.sInt Syntax.w8)) ∷ (14,
+            Rows.any-gone Laws'''.mir,) ∷ (15, Rows.any-gone ref0,) ∷ List.[]
         abbrev g88 : List.List Row.Entry
-        g88 = (0, Rows.any-gone Laws''.mir,) ∷ (1, Mut.mslice RelayPending.row ref5 0,) ∷ (2, Relend.mslice-owed RelayCircuit.row ref6 1 22 life1,) ∷
+        g88 = (0, Rows.any-gone Laws'''.mir,) ∷ (1, Mut.mslice RelayPending.row ref5 0,) ∷ (2, Relend.mslice-owed RelayCircuit.row ref6 1 22 life1,) ∷
             (3, Mut.mslice ReservationUsage.row ref7 2,) ∷ (4, Relend.mslice-owed InflightAction.row ref8 3 23 life3,) ∷ (5, Relend.mslice-owed
-            (Referent.rtF (Referent.fInt Syntax.w32)) ref9 4 24 life4,) ∷ (6, Rows.any-gone Laws'.mir,) ∷ (7, Rows.whole (Declared.row
-            RelayPacket.the-type)) ∷ (8, Rows.sslice (Referent.rtF (Referent.fInt Syntax.w8)) ref10 5,) ∷ (9, Rows.sslice (Referent.rtF (Referent.fInt
-            Syntax.w8)) ref11 6,) ∷ (10, Rows.sslice (Referent.rtF (Referent.fInt Syntax.w8)) ref12 7,) ∷ (11, Rows.sslice (Referent.rtF
-            (Referent.fInt Syntax.w8)) ref13 8,) ∷ (12, Rows.sc-here (Row.sInt Syntax.w8)) ∷ (13, Rows.whole (Declared.row Relayed.the-type),) ∷ (14,
-            Rows.any-gone ref0,) ∷ (15, Rows.any-gone (Syntax.tyStruct (38 ∷ 91 ∷ 93 ∷ List.[]) (Syntax.tcons ref0 (Syntax.tcons (Syntax.tyInt
-            Syntax.w64) Syntax.tnil))),) ∷ List.[]
-        abbrev g89 : List.List Row.Entry
-        g89 = (0, Rows.any-gone Laws''.mir,) ∷ (1, Mut.mslice RelayPending.row ref5 0,) ∷ (2, Relend.mslice-owed RelayCircuit.row ref6 1 22 life1,) ∷
+            (Referent.rtF (Referent.fInt Syntax.w32)) ref9 4 24 life4,) ∷ (6, Rows.whole (Declared.row OpaqueRelayRuntime.the-type)) ∷ (7, Rows.whole
+            (Declared.row Places.the-type),) ∷ (8, Rows.whole (Declared.row RelayPacket.the-type)) ∷ (9, Rows.sslice (Referent.rtF (Referent.fInt
+            Syntax.w8)) ref10 5,) ∷ (10, Rows.sslice (Referent.rtF (Referent.fInt Syntax.w8)) ref11 6,) ∷ (11, Rows.sslice (Referent.rtF
+            (Referent.fInt Syntax.w8)) ref12 7,) ∷ (12, Rows.sslice (Referent.rtF (Referent.fInt Syntax.w8)) ref13 8,) ∷ (13, Rows.sc-here (Row.sInt
+            Syntax.w8)) ∷ (14, Rows.any-gone Laws'''.mir,) ∷ (15, Rows.any-gone ref0,) ∷ List.[]
+        abbrev g91 : List.List Row.Entry
+        g91 = (0, Rows.any-gone Laws'''.mir,) ∷ (1, Mut.mslice RelayPending.row ref5 0,) ∷ (2, Relend.mslice-owed RelayCircuit.row ref6 1 22 life1,) ∷
             (3, Mut.mslice ReservationUsage.row ref7 2,) ∷ (4, Relend.mslice-owed InflightAction.row ref8 3 23 life3,) ∷ (5, Relend.mslice-owed
-            (Referent.rtF (Referent.fInt Syntax.w32)) ref9 4 24 life4,) ∷ (6, Rows.any-gone Laws'.mir,) ∷ (7, Rows.any-gone Laws.mir,) ∷ (8,
-            Rows.sslice (Referent.rtF (Referent.fInt Syntax.w8)) ref10 5,) ∷ (9, Rows.sslice (Referent.rtF (Referent.fInt Syntax.w8)) ref11 6,) ∷ (10,
-            Rows.sslice (Referent.rtF (Referent.fInt Syntax.w8)) ref12 7,) ∷ (11, Rows.sslice (Referent.rtF (Referent.fInt Syntax.w8)) ref13 8,) ∷
-            (12, Rows.sc-here (Row.sInt Syntax.w8)) ∷ (13, Rows.whole (Declared.row Relayed.the-type),) ∷ (14, Rows.any-gone ref0,) ∷ (15,
-            Rows.any-gone (Syntax.tyStruct (38 ∷ 91 ∷ 93 ∷ List.[]) (Syntax.tcons ref0 (Syntax.tcons (Syntax.tyInt Syntax.w64) Syntax.tnil))),) ∷
-            List.[]
-        abbrev g90 : List.List Row.Entry
-        g90 = (0, Rows.any-gone Laws''.mir,) ∷ (1, Mut.mslice RelayPending.row ref5 0,) ∷ (2, Mut.mslice RelayCircuit.row ref6 1,) ∷ (3, Mut.mslice
-            ReservationUsage.row ref7 2,) ∷ (4, Relend.mslice-owed InflightAction.row ref8 3 23 life3,) ∷ (5, Relend.mslice-owed (Referent.rtF
-            (Referent.fInt Syntax.w32)) ref9 4 24 life4,) ∷ (6, Rows.any-gone Laws'.mir,) ∷ (7, Rows.any-gone Laws.mir,) ∷ (8, Rows.sslice
-            (Referent.rtF (Referent.fInt Syntax.w8)) ref10 5,) ∷ (9, Rows.sslice (Referent.rtF (Referent.fInt Syntax.w8)) ref11 6,) ∷ (10, Rows.sslice
-            (Referent.rtF (Referent.fInt Syntax.w8)) ref12 7,) ∷ (11, Rows.sslice (Referent.rtF (Referent.fInt Syntax.w8)) ref13 8,) ∷ (12,
-            Rows.sc-here (Row.sInt Syntax.w8)) ∷ (13, Rows.whole (Declared.row Relayed.the-type),) ∷ (14, Rows.any-gone ref0,) ∷ (15, Rows.any-gone
-            (Syntax.tyStruct (38 ∷ 91 ∷ 93 ∷ List.[]) (Syntax.tcons ref0 (Syntax.tcons (Syntax.tyInt Syntax.w64) Syntax.tnil))),) ∷ List.[]
-        abbrev g92 : List.List Row.Entry
-        g92 = (0, Rows.any-gone Laws''.mir,) ∷ (1, Mut.mslice RelayPending.row ref5 0,) ∷ (2, Mut.mslice RelayCircuit.row ref6 1,) ∷ (3, Mut.mslice
-            ReservationUsage.row ref7 2,) ∷ (4, Mut.mslice InflightAction.row ref8 3,) ∷ (5, Relend.mslice-owed (Referent.rtF (Referent.fInt
-            Syntax.w32)) ref9 4 24 life4,) ∷ (6, Rows.any-gone Laws'.mir,) ∷ (7, Rows.any-gone Laws.mir,) ∷ (8, Rows.sslice (Referent.rtF
-            (Referent.fInt Syntax.w8)) ref10 5,) ∷ (9, Rows.sslice (Referent.rtF (Referent.fInt Syntax.w8)) ref11 6,) ∷ (10, Rows.sslice (Referent.rtF
-            (Referent.fInt Syntax.w8)) ref12 7,) ∷ (11, Rows.sslice (Referent.rtF (Referent.fInt Syntax.w8)) ref13 8,) ∷ (12, Rows.sc-here (Row.sInt
-            Syntax.w8)) ∷ (13, Rows.whole (Declared.row Relayed.the-type),) ∷ (14, Rows.any-gone ref0,) ∷ (15, Rows.any-gone (Syntax.tyStruct (38 ∷ 91
-            ∷ 93 ∷ List.[]) (Syntax.tcons ref0 (Syntax.tcons (Syntax.tyInt Syntax.w64) Syntax.tnil))),) ∷ List.[]
+            (Referent.rtF (Referent.fInt Syntax.w32)) ref9 4 24 life4,) ∷ (6, Rows.whole (Declared.row OpaqueRelayRuntime.the-type)) ∷ (7, Rows.whole
+            (Declared.row Places.the-type),) ∷ (8, Rows.whole (Declared.row RelayPacket.the-type)) ∷ (9, Rows.sslice (Referent.rtF (Referent.fInt
+            Syntax.w8)) ref10 5,) ∷ (10, Rows.sslice (Referent.rtF (Referent.fInt Syntax.w8)) ref11 6,) ∷ (11, Rows.sslice (Referent.rtF
+            (Referent.fInt Syntax.w8)) ref12 7,) ∷ (12, Rows.sslice (Referent.rtF (Referent.fInt Syntax.w8)) ref13 8,) ∷ (13, Rows.sc-here (Row.sInt
+            Syntax.w8)) ∷ (14, Rows.whole (Declared.row Relayed.the-type),) ∷ (15, Rows.any-gone ref0,) ∷ List.[]
+        abbrev g93 : List.List Row.Entry
+        g93 = (0, Rows.any-gone Laws'''.mir,) ∷ (1, Mut.mslice RelayPending.row ref5 0,) ∷ (2, Relend.mslice-owed RelayCircuit.row ref6 1 22 life1,) ∷
+            (3, Mut.mslice ReservationUsage.row ref7 2,) ∷ (4, Relend.mslice-owed InflightAction.row ref8 3 23 life3,) ∷ (5, Relend.mslice-owed
+            (Referent.rtF (Referent.fInt Syntax.w32)) ref9 4 24 life4,) ∷ (6, Rows.any-gone Laws''.mir,) ∷ (7, Rows.whole (Declared.row
+            Places.the-type)) ∷ (8, Rows.whole (Declared.row RelayPacket.the-type),) ∷ (9, Rows.sslice (Referent.rtF (Referent.fInt Syntax.w8)) ref10
+            5,) ∷ (10, Rows.sslice (Referent.rtF (Referent.fInt Syntax.w8)) ref11 6,) ∷ (11, Rows.sslice (Referent.rtF (Referent.fInt Syntax.w8))
+            ref12 7,) ∷ (12, Rows.sslice (Referent.rtF (Referent.fInt Syntax.w8)) ref13 8,) ∷ (13, Rows.sc-here (Row.sInt Syntax.w8)) ∷ (14,
+            Rows.whole (Declared.row Relayed.the-type),) ∷ (15, Rows.any-gone ref0,) ∷ List.[]
+        abbrev g94 : List.List Row.Entry
+        g94 = (0, Rows.any-gone Laws'''.mir,) ∷ (1, Mut.mslice RelayPending.row ref5 0,) ∷ (2, Relend.mslice-owed RelayCircuit.row ref6 1 22 life1,) ∷
+            (3, Mut.mslice ReservationUsage.row ref7 2,) ∷ (4, Relend.mslice-owed InflightAction.row ref8 3 23 life3,) ∷ (5, Relend.mslice-owed
+            (Referent.rtF (Referent.fInt Syntax.w32)) ref9 4 24 life4,) ∷ (6, Rows.any-gone Laws''.mir,) ∷ (7, Rows.any-gone Laws.mir,) ∷ (8,
+            Rows.whole (Declared.row RelayPacket.the-type)) ∷ (9, Rows.sslice (Referent.rtF (Referent.fInt Syntax.w8)) ref10 5,) ∷ (10, Rows.sslice
+            (Referent.rtF (Referent.fInt Syntax.w8)) ref11 6,) ∷ (11, Rows.sslice (Referent.rtF (Referent.fInt Syntax.w8)) ref12 7,) ∷ (12,
+            Rows.sslice (Referent.rtF (Referent.fInt Syntax.w8)) ref13 8,) ∷ (13, Rows.sc-here (Row.sInt Syntax.w8)) ∷ (14, Rows.whole (Declared.row
+            Relayed.the-type),) ∷ (15, Rows.any-gone ref0,) ∷ List.[]
         abbrev g95 : List.List Row.Entry
-        g95 = (0, Rows.any-gone Laws''.mir,) ∷ (1, Relend.mslice-owed RelayPending.row ref5 0 25 life0,) ∷ (2, Mut.mslice RelayCircuit.row ref6 1,) ∷
-            (3, Mut.mslice ReservationUsage.row ref7 2,) ∷ (4, Mut.mslice InflightAction.row ref8 3,) ∷ (5, Mut.mslice (Referent.rtF (Referent.fInt
-            Syntax.w32)) ref9 4,) ∷ (6, Rows.whole (Declared.row OpaqueRelayRuntime.the-type)) ∷ (7, Rows.whole (Declared.row RelayPacket.the-type),)
-            ∷ (8, Rows.sslice (Referent.rtF (Referent.fInt Syntax.w8)) ref10 5,) ∷ (9, Rows.sslice (Referent.rtF (Referent.fInt Syntax.w8)) ref11 6,)
-            ∷ (10, Rows.sslice (Referent.rtF (Referent.fInt Syntax.w8)) ref12 7,) ∷ (11, Rows.sslice (Referent.rtF (Referent.fInt Syntax.w8)) ref13
-            8,) ∷ (12, Rows.sc-here (Row.sInt Syntax.w8)) ∷ (13, Rows.any-gone Laws''.mir,) ∷ (14, Rows.any-gone ref0,) ∷ (15, Rows.any-gone
-            (Syntax.tyStruct (38 ∷ 91 ∷ 93 ∷ List.[]) (Syntax.tcons ref0 (Syntax.tcons (Syntax.tyInt Syntax.w64) Syntax.tnil))),) ∷ List.[]
+        g95 = (0, Rows.any-gone Laws'''.mir,) ∷ (1, Mut.mslice RelayPending.row ref5 0,) ∷ (2, Relend.mslice-owed RelayCircuit.row ref6 1 22 life1,) ∷
+            (3, Mut.mslice ReservationUsage.row ref7 2,) ∷ (4, Relend.mslice-owed InflightAction.row ref8 3 23 life3,) ∷ (5, Relend.mslice-owed
+            (Referent.rtF (Referent.fInt Syntax.w32)) ref9 4 24 life4,) ∷ (6, Rows.any-gone Laws''.mir,) ∷ (7, Rows.any-gone Laws.mir,) ∷ (8,
+            Rows.any-gone Laws'.mir,) ∷ (9, Rows.sslice (Referent.rtF (Referent.fInt Syntax.w8)) ref10 5,) ∷ (10, Rows.sslice (Referent.rtF
+            (Referent.fInt Syntax.w8)) ref11 6,) ∷ (11, Rows.sslice (Referent.rtF (Referent.fInt Syntax.w8)) ref12 7,) ∷ (12, Rows.sslice
+            (Referent.rtF (Referent.fInt Syntax.w8)) ref13 8,) ∷ (13, Rows.sc-here (Row.sInt Syntax.w8)) ∷ (14, Rows.whole (Declared.row
+            Relayed.the-type),) ∷ (15, Rows.any-gone ref0,) ∷ List.[]
+        abbrev g96 : List.List Row.Entry
+        g96 = (0, Rows.any-gone Laws'''.mir,) ∷ (1, Mut.mslice RelayPending.row ref5 0,) ∷ (2, Mut.mslice RelayCircuit.row ref6 1,) ∷ (3, Mut.mslice
+            ReservationUsage.row ref7 2,) ∷ (4, Relend.mslice-owed InflightAction.row ref8 3 23 life3,) ∷ (5, Relend.mslice-owed (Referent.rtF
+            (Referent.fInt Syntax.w32)) ref9 4 24 life4,) ∷ (6, Rows.any-gone Laws''.mir,) ∷ (7, Rows.any-gone Laws.mir,) ∷ (8, Rows.any-gone
+            Laws'.mir,) ∷ (9, Rows.sslice (Referent.rtF (Referent.fInt Syntax.w8)) ref10 5,) ∷ (10, Rows.sslice (Referent.rtF (Referent.fInt
+            Syntax.w8)) ref11 6,) ∷ (11, Rows.sslice (Referent.rtF (Referent.fInt Syntax.w8)) ref12 7,) ∷ (12, Rows.sslice (Referent.rtF
+            (Referent.fInt Syntax.w8)) ref13 8,) ∷ (13, Rows.sc-here (Row.sInt Syntax.w8)) ∷ (14, Rows.whole (Declared.row Relayed.the-type),) ∷ (15,
+            Rows.any-gone ref0,) ∷ List.[]
         abbrev g98 : List.List Row.Entry
-        g98 = (0, Rows.any-gone Laws''.mir,) ∷ (1, Relend.mslice-owed RelayPending.row ref5 0 25 life0,) ∷ (2, Relend.mslice-owed RelayCircuit.row
+        g98 = (0, Rows.any-gone Laws'''.mir,) ∷ (1, Mut.mslice RelayPending.row ref5 0,) ∷ (2, Mut.mslice RelayCircuit.row ref6 1,) ∷ (3, Mut.mslice
+            ReservationUsage.row ref7 2,) ∷ (4, Mut.mslice InflightAction.row ref8 3,) ∷ (5, Relend.mslice-owed (Referent.rtF (Referent.fInt
+            Syntax.w32)) ref9 4 24 life4,) ∷ (6, Rows.any-gone Laws''.mir,) ∷ (7, Rows.any-gone Laws.mir,) ∷ (8, Rows.any-gone Laws'.mir,) ∷ (9,
+            Rows.sslice (Referent.rtF (Referent.fInt Syntax.w8)) ref10 5,) ∷ (10, Rows.sslice (Referent.rtF (Referent.fInt Syntax.w8)) ref11 6,) ∷
+            (11, Rows.sslice (Referent.rtF (Referent.fInt Syntax.w8)) ref12 7,) ∷ (12, Rows.sslice (Referent.rtF (Referent.fInt Syntax.w8)) ref13 8,)
+            ∷ (13, Rows.sc-here (Row.sInt Syntax.w8)) ∷ (14, Rows.whole (Declared.row Relayed.the-type),) ∷ (15, Rows.any-gone ref0,) ∷ List.[]
+        abbrev g101 : List.List Row.Entry
+        g101 = (0, Rows.any-gone Laws'''.mir,) ∷ (1, Relend.mslice-owed RelayPending.row ref5 0 25 life0,) ∷ (2, Mut.mslice RelayCircuit.row ref6 1,)
+            ∷ (3, Mut.mslice ReservationUsage.row ref7 2,) ∷ (4, Mut.mslice InflightAction.row ref8 3,) ∷ (5, Mut.mslice (Referent.rtF (Referent.fInt
+            Syntax.w32)) ref9 4,) ∷ (6, Rows.whole (Declared.row OpaqueRelayRuntime.the-type)) ∷ (7, Rows.whole (Declared.row Places.the-type),) ∷ (8,
+            Rows.whole (Declared.row RelayPacket.the-type)) ∷ (9, Rows.sslice (Referent.rtF (Referent.fInt Syntax.w8)) ref10 5,) ∷ (10, Rows.sslice
+            (Referent.rtF (Referent.fInt Syntax.w8)) ref11 6,) ∷ (11, Rows.sslice (Referent.rtF (Referent.fInt Syntax.w8)) ref12 7,) ∷ (12,
+            Rows.sslice (Referent.rtF (Referent.fInt Syntax.w8)) ref13 8,) ∷ (13, Rows.sc-here (Row.sInt Syntax.w8)) ∷ (14, Rows.any-gone
+            Laws'''.mir,) ∷ (15, Rows.any-gone ref0,) ∷ List.[]
+        abbrev g104 : List.List Row.Entry
+        g104 = (0, Rows.any-gone Laws'''.mir,) ∷ (1, Relend.mslice-owed RelayPending.row ref5 0 25 life0,) ∷ (2, Relend.mslice-owed RelayCircuit.row
             ref6 1 26 life1,) ∷ (3, Mut.mslice ReservationUsage.row ref7 2,) ∷ (4, Mut.mslice InflightAction.row ref8 3,) ∷ (5, Mut.mslice
             (Referent.rtF (Referent.fInt Syntax.w32)) ref9 4,) ∷ (6, Rows.whole (Declared.row OpaqueRelayRuntime.the-type)) ∷ (7, Rows.whole
-            (Declared.row RelayPacket.the-type),) ∷ (8, Rows.sslice (Referent.rtF (Referent.fInt Syntax.w8)) ref10 5,) ∷ (9, Rows.sslice (Referent.rtF
-            (Referent.fInt Syntax.w8)) ref11 6,) ∷ (10, Rows.sslice (Referent.rtF (Referent.fInt Syntax.w8)) ref12 7,) ∷ (11, Rows.sslice
-            (Referent.rtF (Referent.fInt Syntax.w8)) ref13 8,) ∷ (12, Rows.sc-here (Row.sInt Syntax.w8)) ∷ (13, Rows.any-gone Laws''.mir,) ∷ (14,
-            Rows.any-gone ref0,) ∷ (15, Rows.any-gone (Syntax.tyStruct (38 ∷ 91 ∷ 93 ∷ List.[]) (Syntax.tcons ref0 (Syntax.tcons (Syntax.tyInt
-            Syntax.w64) Syntax.tnil))),) ∷ List.[]
-        abbrev g101 : List.List Row.Entry
-        g101 = (0, Rows.any-gone Laws''.mir,) ∷ (1, Relend.mslice-owed RelayPending.row ref5 0 25 life0,) ∷ (2, Relend.mslice-owed RelayCircuit.row
+            (Declared.row Places.the-type),) ∷ (8, Rows.whole (Declared.row RelayPacket.the-type)) ∷ (9, Rows.sslice (Referent.rtF (Referent.fInt
+            Syntax.w8)) ref10 5,) ∷ (10, Rows.sslice (Referent.rtF (Referent.fInt Syntax.w8)) ref11 6,) ∷ (11, Rows.sslice (Referent.rtF
+            (Referent.fInt Syntax.w8)) ref12 7,) ∷ (12, Rows.sslice (Referent.rtF (Referent.fInt Syntax.w8)) ref13 8,) ∷ (13, Rows.sc-here (Row.sInt
+            Syntax.w8)) ∷ (14, Rows.any-gone Laws'''.mir,) ∷ (15, Rows.any-gone ref0,) ∷ List.[]
+        abbrev g107 : List.List Row.Entry
+        g107 = (0, Rows.any-gone Laws'''.mir,) ∷ (1, Relend.mslice-owed RelayPending.row ref5 0 25 life0,) ∷ (2, Relend.mslice-owed RelayCircuit.row
             ref6 1 26 life1,) ∷ (3, Mut.mslice ReservationUsage.row ref7 2,) ∷ (4, Relend.mslice-owed InflightAction.row ref8 3 27 life3,) ∷ (5,
             Mut.mslice (Referent.rtF (Referent.fInt Syntax.w32)) ref9 4,) ∷ (6, Rows.whole (Declared.row OpaqueRelayRuntime.the-type)) ∷ (7,
-            Rows.whole (Declared.row RelayPacket.the-type),) ∷ (8, Rows.sslice (Referent.rtF (Referent.fInt Syntax.w8)) ref10 5,) ∷ (9, Rows.sslice
-            (Referent.rtF (Referent.fInt Syntax.w8)) ref11 6,) ∷ (10, Rows.sslice (Referent.rtF (Referent.fInt Syntax.w8)) ref12 7,) ∷ (11,
-            Rows.sslice (Referent.rtF (Referent.fInt Syntax.w8)) ref13 8,) ∷ (12, Rows.sc-here (Row.sInt Syntax.w8)) ∷ (13, Rows.any-gone Laws''.mir,)
-            ∷ (14, Rows.any-gone ref0,) ∷ (15, Rows.any-gone (Syntax.tyStruct (38 ∷ 91 ∷ 93 ∷ List.[]) (Syntax.tcons ref0 (Syntax.tcons (Syntax.tyInt
-            Syntax.w64) Syntax.tnil))),) ∷ List.[]
-        abbrev g104 : List.List Row.Entry
-        g104 = (0, Rows.any-gone Laws''.mir,) ∷ (1, Relend.mslice-owed RelayPending.row ref5 0 25 life0,) ∷ (2, Relend.mslice-owed RelayCircuit.row
-            ref6 1 26 life1,) ∷ (3, Mut.mslice ReservationUsage.row ref7 2,) ∷ (4, Relend.mslice-owed InflightAction.row ref8 3 27 life3,) ∷ (5,
-            Relend.mslice-owed (Referent.rtF (Referent.fInt Syntax.w32)) ref9 4 28 life4,) ∷ (6, Rows.whole (Declared.row
-            OpaqueRelayRuntime.the-type)) ∷ (7, Rows.whole (Declared.row RelayPacket.the-type),) ∷ (8, Rows.sslice (Referent.rtF (Referent.fInt
-            Syntax.w8)) ref10 5,) ∷ (9, Rows.sslice (Referent.rtF (Referent.fInt Syntax.w8)) ref11 6,) ∷ (10, Rows.sslice (Referent.rtF (Referent.fInt
-            Syntax.w8)) ref12 7,) ∷ (11, Rows.sslice (Referent.rtF (Referent.fInt Syntax.w8)) ref13 8,) ∷ (12, Rows.sc-here (Row.sInt Syntax.w8)) ∷
-            (13, Rows.any-gone Laws''.mir,) ∷ (14, Rows.any-gone ref0,) ∷ (15, Rows.any-gone (Syntax.tyStruct (38 ∷ 91 ∷ 93 ∷ List.[]) (Syntax.tcons
-            ref0 (Syntax.tcons (Syntax.tyInt Syntax.w64) Syntax.tnil))),) ∷ List.[]
-        abbrev g107 : List.List Row.Entry
-        g107 = (0, Rows.any-gone Laws''.mir,) ∷ (1, Relend.mslice-owed RelayPending.row ref5 0 25 life0,) ∷ (2, Relend.mslice-owed RelayCircuit.row
-            ref6 1 26 life1,) ∷ (3, Mut.mslice ReservationUsage.row ref7 2,) ∷ (4, Relend.mslice-owed InflightAction.row ref8 3 27 life3,) ∷ (5,
-            Relend.mslice-owed (Referent.rtF (Referent.fInt Syntax.w32)) ref9 4 28 life4,) ∷ (6, Rows.whole (Declared.row
-            OpaqueRelayRuntime.the-type)) ∷ (7, Rows.whole (Declared.row RelayPacket.the-type),) ∷ (8, Rows.sslice (Referent.rtF (Referent.fInt
-            Syntax.w8)) ref10 5,) ∷ (9, Rows.sslice (Referent.rtF (Referent.fInt Syntax.w8)) ref11 6,) ∷ (10, Rows.sslice (Referent.rtF (Referent.fInt
-            Syntax.w8)) ref12 7,) ∷ (11, Rows.sslice (Referent.rtF (Referent.fInt Syntax.w8)) ref13 8,) ∷ (12, Rows.sc-here (Row.sInt Syntax.w8)) ∷
-            (13, Rows.whole (Declared.row Relayed.the-type),) ∷ (14, Rows.any-gone ref0,) ∷ (15, Rows.any-gone (Syntax.tyStruct (38 ∷ 91 ∷ 93 ∷
-            List.[]) (Syntax.tcons ref0 (Syntax.tcons (Syntax.tyInt Syntax.w64) Syntax.tnil))),) ∷ List.[]
-        abbrev g109 : List.List Row.Entry
-        g109 = (0, Rows.any-gone Laws''.mir,) ∷ (1, Relend.mslice-owed RelayPending.row ref5 0 25 life0,) ∷ (2, Relend.mslice-owed RelayCircuit.row
-            ref6 1 26 life1,) ∷ (3, Mut.mslice ReservationUsage.row ref7 2,) ∷ (4, Relend.mslice-owed InflightAction.row ref8 3 27 life3,) ∷ (5,
-            Relend.mslice-owed (Referent.rtF (Referent.fInt Syntax.w32)) ref9 4 28 life4,) ∷ (6, Rows.any-gone Laws'.mir,) ∷ (7, Rows.whole
-            (Declared.row RelayPacket.the-type)) ∷ (8, Rows.sslice (Referent.rtF (Referent.fInt Syntax.w8)) ref10 5,) ∷ (9, Rows.sslice (Referent.rtF
-            (Referent.fInt Syntax.w8)) ref11 6,) ∷ (10, Rows.sslice (Referent.rtF (Referent.fInt Syntax.w8)) ref12 7,) ∷ (11, Rows.sslice
-            (Referent.rtF (Referent.fInt Syntax.w8)) ref13 8,) ∷ (12, Rows.sc-here (Row.sInt Syntax.w8)) ∷ (13, Rows.whole (Declared.row
-            Relayed.the-type),) ∷ (14, Rows.any-gone ref0,) ∷ (15, Rows.any-gone (Syntax.tyStruct (38 ∷ 91 ∷ 93 ∷ List.[]) (Syntax.tcons ref0
-            (Syntax.tcons (Syntax.tyInt Syntax.w64) Syntax.tnil))),) ∷ List.[]
+            Rows.whole (Declared.row Places.the-type),) ∷ (8, Rows.whole (Declared.row RelayPacket.the-type)) ∷ (9, Rows.sslice (Referent.rtF
+            (Referent.fInt Syntax.w8)) ref10 5,) ∷ (10, Rows.sslice (Referent.rtF (Referent.fInt Syntax.w8)) ref11 6,) ∷ (11, Rows.sslice
+            (Referent.rtF (Referent.fInt Syntax.w8)) ref12 7,) ∷ (12, Rows.sslice (Referent.rtF (Referent.fInt Syntax.w8)) ref13 8,) ∷ (13,
+            Rows.sc-here (Row.sInt Syntax.w8)) ∷ (14, Rows.any-gone Laws'''.mir,) ∷ (15, Rows.any-gone ref0,) ∷ List.[]
         abbrev g110 : List.List Row.Entry
-        g110 = (0, Rows.any-gone Laws''.mir,) ∷ (1, Relend.mslice-owed RelayPending.row ref5 0 25 life0,) ∷ (2, Relend.mslice-owed RelayCircuit.row
+        g110 = (0, Rows.any-gone Laws'''.mir,) ∷ (1, Relend.mslice-owed RelayPending.row ref5 0 25 life0,) ∷ (2, Relend.mslice-owed RelayCircuit.row
             ref6 1 26 life1,) ∷ (3, Mut.mslice ReservationUsage.row ref7 2,) ∷ (4, Relend.mslice-owed InflightAction.row ref8 3 27 life3,) ∷ (5,
-            Relend.mslice-owed (Referent.rtF (Referent.fInt Syntax.w32)) ref9 4 28 life4,) ∷ (6, Rows.any-gone Laws'.mir,) ∷ (7, Rows.any-gone
-            Laws.mir,) ∷ (8, Rows.sslice (Referent.rtF (Referent.fInt Syntax.w8)) ref10 5,) ∷ (9, Rows.sslice (Referent.rtF (Referent.fInt Syntax.w8))
-            ref11 6,) ∷ (10, Rows.sslice (Referent.rtF (Referent.fInt Syntax.w8)) ref12 7,) ∷ (11, Rows.sslice (Referent.rtF (Referent.fInt
-            Syntax.w8)) ref13 8,) ∷ (12, Rows.sc-here (Row.sInt Syntax.w8)) ∷ (13, Rows.whole (Declared.row Relayed.the-type),) ∷ (14, Rows.any-gone
-            ref0,) ∷ (15, Rows.any-gone (Syntax.tyStruct (38 ∷ 91 ∷ 93 ∷ List.[]) (Syntax.tcons ref0 (Syntax.tcons (Syntax.tyInt Syntax.w64)
-            Syntax.tnil))),) ∷ List.[]
-        abbrev g111 : List.List Row.Entry
-        g111 = (0, Rows.any-gone Laws''.mir,) ∷ (1, Mut.mslice RelayPending.row ref5 0,) ∷ (2, Relend.mslice-owed RelayCircuit.row ref6 1 26 life1,) ∷
-            (3, Mut.mslice ReservationUsage.row ref7 2,) ∷ (4, Relend.mslice-owed InflightAction.row ref8 3 27 life3,) ∷ (5, Relend.mslice-owed
-            (Referent.rtF (Referent.fInt Syntax.w32)) ref9 4 28 life4,) ∷ (6, Rows.any-gone Laws'.mir,) ∷ (7, Rows.any-gone Laws.mir,) ∷ (8,
-            Rows.sslice (Referent.rtF (Referent.fInt Syntax.w8)) ref10 5,) ∷ (9, Rows.sslice (Referent.rtF (Referent.fInt Syntax.w8)) ref11 6,) ∷ (10,
-            Rows.sslice (Referent.rtF (Referent.fInt Syntax.w8)) ref12 7,) ∷ (11, Rows.sslice (Referent.rtF (Referent.fInt Syntax.w8)) ref13 8,) ∷
-            (12, Rows.sc-here (Row.sInt Syntax.w8)) ∷ (13, Rows.whole (Declared.row Relayed.the-type),) ∷ (14, Rows.any-gone ref0,) ∷ (15,
-            Rows.any-gone (Syntax.tyStruct (38 ∷ 91 ∷ 93 ∷ List.[]) (Syntax.tcons ref0 (Syntax.tcons (Syntax.tyInt Syntax.w64) Syntax.tnil))),) ∷
-            List.[]
+            Relend.mslice-owed (Referent.rtF (Referent.fInt Syntax.w32)) ref9 4 28 life4,) ∷ (6, Rows.whole (Declared.row
+            OpaqueRelayRuntime.the-type)) ∷ (7, Rows.whole (Declared.row Places.the-type),) ∷ (8, Rows.whole (Declared.row RelayPacket.the-type)) ∷
+            (9, Rows.sslice (Referent.rtF (Referent.fInt Syntax.w8)) ref10 5,) ∷ (10, Rows.sslice (Referent.rtF (Referent.fInt Syntax.w8)) ref11 6,) ∷
+            (11, Rows.sslice (Referent.rtF (Referent.fInt Syntax.w8)) ref12 7,) ∷ (12, Rows.sslice (Referent.rtF (Referent.fInt Syntax.w8)) ref13 8,)
+            ∷ (13, Rows.sc-here (Row.sInt Syntax.w8)) ∷ (14, Rows.any-gone Laws'''.mir,) ∷ (15, Rows.any-gone ref0,) ∷ List.[]
         abbrev g113 : List.List Row.Entry
-        g113 = (0, Rows.any-gone Laws''.mir,) ∷ (1, Mut.mslice RelayPending.row ref5 0,) ∷ (2, Mut.mslice RelayCircuit.row ref6 1,) ∷ (3, Mut.mslice
-            ReservationUsage.row ref7 2,) ∷ (4, Relend.mslice-owed InflightAction.row ref8 3 27 life3,) ∷ (5, Relend.mslice-owed (Referent.rtF
-            (Referent.fInt Syntax.w32)) ref9 4 28 life4,) ∷ (6, Rows.any-gone Laws'.mir,) ∷ (7, Rows.any-gone Laws.mir,) ∷ (8, Rows.sslice
-            (Referent.rtF (Referent.fInt Syntax.w8)) ref10 5,) ∷ (9, Rows.sslice (Referent.rtF (Referent.fInt Syntax.w8)) ref11 6,) ∷ (10, Rows.sslice
-            (Referent.rtF (Referent.fInt Syntax.w8)) ref12 7,) ∷ (11, Rows.sslice (Referent.rtF (Referent.fInt Syntax.w8)) ref13 8,) ∷ (12,
-            Rows.sc-here (Row.sInt Syntax.w8)) ∷ (13, Rows.whole (Declared.row Relayed.the-type),) ∷ (14, Rows.any-gone ref0,) ∷ (15, Rows.any-gone
-            (Syntax.tyStruct (38 ∷ 91 ∷ 93 ∷ List.[]) (Syntax.tcons ref0 (Syntax.tcons (Syntax.tyInt Syntax.w64) Syntax.tnil))),) ∷ List.[]
+        g113 = (0, Rows.any-gone Laws'''.mir,) ∷ (1, Relend.mslice-owed RelayPending.row ref5 0 25 life0,) ∷ (2, Relend.mslice-owed RelayCircuit.row
+            ref6 1 26 life1,) ∷ (3, Mut.mslice ReservationUsage.row ref7 2,) ∷ (4, Relend.mslice-owed InflightAction.row ref8 3 27 life3,) ∷ (5,
+            Relend.mslice-owed (Referent.rtF (Referent.fInt Syntax.w32)) ref9 4 28 life4,) ∷ (6, Rows.whole (Declared.row
+            OpaqueRelayRuntime.the-type)) ∷ (7, Rows.whole (Declared.row Places.the-type),) ∷ (8, Rows.whole (Declared.row RelayPacket.the-type)) ∷
+            (9, Rows.sslice (Referent.rtF (Referent.fInt Syntax.w8)) ref10 5,) ∷ (10, Rows.sslice (Referent.rtF (Referent.fInt Syntax.w8)) ref11 6,) ∷
+            (11, Rows.sslice (Referent.rtF (Referent.fInt Syntax.w8)) ref12 7,) ∷ (12, Rows.sslice (Referent.rtF (Referent.fInt Syntax.w8)) ref13 8,)
+            ∷ (13, Rows.sc-here (Row.sInt Syntax.w8)) ∷ (14, Rows.whole (Declared.row Relayed.the-type),) ∷ (15, Rows.any-gone ref0,) ∷ List.[]
         abbrev g115 : List.List Row.Entry
-        g115 = (0, Rows.any-gone Laws''.mir,) ∷ (1, Mut.mslice RelayPending.row ref5 0,) ∷ (2, Mut.mslice RelayCircuit.row ref6 1,) ∷ (3, Mut.mslice
+        g115 = (0, Rows.any-gone Laws'''.mir,) ∷ (1, Relend.mslice-owed RelayPending.row ref5 0 25 life0,) ∷ (2, Relend.mslice-owed RelayCircuit.row
+            ref6 1 26 life1,) ∷ (3, Mut.mslice ReservationUsage.row ref7 2,) ∷ (4, Relend.mslice-owed InflightAction.row ref8 3 27 life3,) ∷ (5,
+            Relend.mslice-owed (Referent.rtF (Referent.fInt Syntax.w32)) ref9 4 28 life4,) ∷ (6, Rows.any-gone Laws''.mir,) ∷ (7, Rows.whole
+            (Declared.row Places.the-type)) ∷ (8, Rows.whole (Declared.row RelayPacket.the-type),) ∷ (9, Rows.sslice (Referent.rtF (Referent.fInt
+            Syntax.w8)) ref10 5,) ∷ (10, Rows.sslice (Referent.rtF (Referent.fInt Syntax.w8)) ref11 6,) ∷ (11, Rows.sslice (Referent.rtF
+            (Referent.fInt Syntax.w8)) ref12 7,) ∷ (12, Rows.sslice (Referent.rtF (Referent.fInt Syntax.w8)) ref13 8,) ∷ (13, Rows.sc-here (Row.sInt
+            Syntax.w8)) ∷ (14, Rows.whole (Declared.row Relayed.the-type),) ∷ (15, Rows.any-gone ref0,) ∷ List.[]
+        abbrev g116 : List.List Row.Entry
+        g116 = (0, Rows.any-gone Laws'''.mir,) ∷ (1, Relend.mslice-owed RelayPending.row ref5 0 25 life0,) ∷ (2, Relend.mslice-owed RelayCircuit.row
+            ref6 1 26 life1,) ∷ (3, Mut.mslice ReservationUsage.row ref7 2,) ∷ (4, Relend.mslice-owed InflightAction.row ref8 3 27 life3,) ∷ (5,
+            Relend.mslice-owed (Referent.rtF (Referent.fInt Syntax.w32)) ref9 4 28 life4,) ∷ (6, Rows.any-gone Laws''.mir,) ∷ (7, Rows.any-gone
+            Laws.mir,) ∷ (8, Rows.whole (Declared.row RelayPacket.the-type)) ∷ (9, Rows.sslice (Referent.rtF (Referent.fInt Syntax.w8)) ref10 5,) ∷
+            (10, Rows.sslice (Referent.rtF (Referent.fInt Syntax.w8)) ref11 6,) ∷ (11, Rows.sslice (Referent.rtF (Referent.fInt Syntax.w8)) ref12 7,)
+            ∷ (12, Rows.sslice (Referent.rtF (Referent.fInt Syntax.w8)) ref13 8,) ∷ (13, Rows.sc-here (Row.sInt Syntax.w8)) ∷ (14, Rows.whole
+            (Declared.row Relayed.the-type),) ∷ (15, Rows.any-gone ref0,) ∷ List.[]
+        abbrev g117 : List.List Row.Entry
+        g117 = (0, Rows.any-gone Laws'''.mir,) ∷ (1, Relend.mslice-owed RelayPending.row ref5 0 25 life0,) ∷ (2, Relend.mslice-owed RelayCircuit.row
+            ref6 1 26 life1,) ∷ (3, Mut.mslice ReservationUsage.row ref7 2,) ∷ (4, Relend.mslice-owed InflightAction.row ref8 3 27 life3,) ∷ (5,
+            Relend.mslice-owed (Referent.rtF (Referent.fInt Syntax.w32)) ref9 4 28 life4,) ∷ (6, Rows.any-gone Laws''.mir,) ∷ (7, Rows.any-gone
+            Laws.mir,) ∷ (8, Rows.any-gone Laws'.mir,) ∷ (9, Rows.sslice (Referent.rtF (Referent.fInt Syntax.w8)) ref10 5,) ∷ (10, Rows.sslice
+            (Referent.rtF (Referent.fInt Syntax.w8)) ref11 6,) ∷ (11, Rows.sslice (Referent.rtF (Referent.fInt Syntax.w8)) ref12 7,) ∷ (12,
+            Rows.sslice (Referent.rtF (Referent.fInt Syntax.w8)) ref13 8,) ∷ (13, Rows.sc-here (Row.sInt Syntax.w8)) ∷ (14, Rows.whole (Declared.row
+            Relayed.the-type),) ∷ (15, Rows.any-gone ref0,) ∷ List.[]
+        abbrev g118 : List.List Row.Entry
+        g118 = (0, Rows.any-gone Laws'''.mir,) ∷ (1, Mut.mslice RelayPending.row ref5 0,) ∷ (2, Relend.mslice-owed RelayCircuit.row ref6 1 26 life1,)
+            ∷ (3, Mut.mslice ReservationUsage.row ref7 2,) ∷ (4, Relend.mslice-owed InflightAction.row ref8 3 27 life3,) ∷ (5, Relend.mslice-owed
+            (Referent.rtF (Referent.fInt Syntax.w32)) ref9 4 28 life4,) ∷ (6, Rows.any-gone Laws''.mir,) ∷ (7, Rows.any-gone Laws.mir,) ∷ (8,
+            Rows.any-gone Laws'.mir,) ∷ (9, Rows.sslice (Referent.rtF (Referent.fInt Syntax.w8)) ref10 5,) ∷ (10, Rows.sslice (Referent.rtF
+            (Referent.fInt Syntax.w8)) ref11 6,) ∷ (11, Rows.sslice (Referent.rtF (Referent.fInt Syntax.w8)) ref12 7,) ∷ (12, Rows.sslice
+            (Referent.rtF (Referent.fInt Syntax.w8)) ref13 8,) ∷ (13, Rows.sc-here (Row.sInt Syntax.w8)) ∷ (14, Rows.whole (Declared.row
+            Relayed.the-type),) ∷ (15, Rows.any-gone ref0,) ∷ List.[]
+        abbrev g120 : List.List Row.Entry
+        g120 = (0, Rows.any-gone Laws'''.mir,) ∷ (1, Mut.mslice RelayPending.row ref5 0,) ∷ (2, Mut.mslice RelayCircuit.row ref6 1,) ∷ (3, Mut.mslice
+            ReservationUsage.row ref7 2,) ∷ (4, Relend.mslice-owed InflightAction.row ref8 3 27 life3,) ∷ (5, Relend.mslice-owed (Referent.rtF
+            (Referent.fInt Syntax.w32)) ref9 4 28 life4,) ∷ (6, Rows.any-gone Laws''.mir,) ∷ (7, Rows.any-gone Laws.mir,) ∷ (8, Rows.any-gone
+            Laws'.mir,) ∷ (9, Rows.sslice (Referent.rtF (Referent.fInt Syntax.w8)) ref10 5,) ∷ (10, Rows.sslice (Referent.rtF (Referent.fInt
+            Syntax.w8)) ref11 6,) ∷ (11, Rows.sslice (Referent.rtF (Referent.fInt Syntax.w8)) ref12 7,) ∷ (12, Rows.sslice (Referent.rtF
+            (Referent.fInt Syntax.w8)) ref13 8,) ∷ (13, Rows.sc-here (Row.sInt Syntax.w8)) ∷ (14, Rows.whole (Declared.row Relayed.the-type),) ∷ (15,
+            Rows.any-gone ref0,) ∷ List.[]
+        abbrev g122 : List.List Row.Entry
+        g122 = (0, Rows.any-gone Laws'''.mir,) ∷ (1, Mut.mslice RelayPending.row ref5 0,) ∷ (2, Mut.mslice RelayCircuit.row ref6 1,) ∷ (3, Mut.mslice
             ReservationUsage.row ref7 2,) ∷ (4, Mut.mslice InflightAction.row ref8 3,) ∷ (5, Relend.mslice-owed (Referent.rtF (Referent.fInt
-            Syntax.w32)) ref9 4 28 life4,) ∷ (6, Rows.any-gone Laws'.mir,) ∷ (7, Rows.any-gone Laws.mir,) ∷ (8, Rows.sslice (Referent.rtF
-            (Referent.fInt Syntax.w8)) ref10 5,) ∷ (9, Rows.sslice (Referent.rtF (Referent.fInt Syntax.w8)) ref11 6,) ∷ (10, Rows.sslice (Referent.rtF
-            (Referent.fInt Syntax.w8)) ref12 7,) ∷ (11, Rows.sslice (Referent.rtF (Referent.fInt Syntax.w8)) ref13 8,) ∷ (12, Rows.sc-here (Row.sInt
-            Syntax.w8)) ∷ (13, Rows.whole (Declared.row Relayed.the-type),) ∷ (14, Rows.any-gone ref0,) ∷ (15, Rows.any-gone (Syntax.tyStruct (38 ∷ 91
-            ∷ 93 ∷ List.[]) (Syntax.tcons ref0 (Syntax.tcons (Syntax.tyInt Syntax.w64) Syntax.tnil))),) ∷ List.[]
+            Syntax.w32)) ref9 4 28 life4,) ∷ (6, Rows.any-gone Laws''.mir,) ∷ (7, Rows.any-gone Laws.mir,) ∷ (8, Rows.any-gone Laws'.mir,) ∷ (9,
+            Rows.sslice (Referent.rtF (Referent.fInt Syntax.w8)) ref10 5,) ∷ (10, Rows.sslice (Referent.rtF (Referent.fInt Syntax.w8)) ref11 6,) ∷
+            (11, Rows.sslice (Referent.rtF (Referent.fInt Syntax.w8)) ref12 7,) ∷ (12, Rows.sslice (Referent.rtF (Referent.fInt Syntax.w8)) ref13 8,)
+            ∷ (13, Rows.sc-here (Row.sInt Syntax.w8)) ∷ (14, Rows.whole (Declared.row Relayed.the-type),) ∷ (15, Rows.any-gone ref0,) ∷ List.[]
         abbrev G0 : Row.Cx
         G0 = record { locals = List._++_ t0 (List._++_ t1 (List._++_ t2 t3)); slots = life0 ∷ life1 ∷ life2 ∷ life3 ∷ life4 ∷ life5 ∷ life6 ∷ life7 ∷
             life8 ∷ Row.off ∷ Row.off ∷ Row.off ∷ Row.off ∷ Row.off ∷ Row.off ∷ Row.off ∷ Row.off ∷ Row.off ∷ Row.off ∷ Row.off ∷ Row.off ∷ Row.off ∷
@@ -2421,459 +2528,459 @@ module _ (claims· : Claims) where
             ∷ life8 ∷ Row.alive ∷ Row.off ∷ Row.off ∷ Row.off ∷ Row.off ∷ Row.off ∷ Row.off ∷ Row.off ∷ Row.off ∷ Row.off ∷ Row.off ∷ Row.off ∷
             Row.off ∷ Row.off ∷ Row.off ∷ Row.off ∷ Row.off ∷ Row.off ∷ Row.off ∷ Row.off ∷ List.[]; }
         abbrev G12 : Row.Cx
-        G12 = record { locals = List._++_ g9 (List._++_ t1 (List._++_ t2 t3)); slots = Row.off ∷ life1 ∷ life2 ∷ life3 ∷ life4 ∷ life5 ∷ life6 ∷ life7
-            ∷ life8 ∷ Row.alive ∷ Row.off ∷ Row.off ∷ Row.off ∷ Row.off ∷ Row.off ∷ Row.off ∷ Row.off ∷ Row.off ∷ Row.off ∷ Row.off ∷ Row.off ∷
+        G12 = record { locals = List._++_ g9 (List._++_ t10 (List._++_ t2 t3)); slots = Row.off ∷ life1 ∷ life2 ∷ life3 ∷ life4 ∷ life5 ∷ life6 ∷
+            life7 ∷ life8 ∷ Row.alive ∷ Row.off ∷ Row.off ∷ Row.off ∷ Row.off ∷ Row.off ∷ Row.off ∷ Row.off ∷ Row.off ∷ Row.off ∷ Row.off ∷ Row.off ∷
             Row.off ∷ Row.off ∷ Row.off ∷ Row.off ∷ Row.off ∷ Row.off ∷ Row.off ∷ Row.off ∷ List.[]; }
         abbrev G13 : Row.Cx
-        G13 = record { locals = List._++_ g9 (List._++_ t1 (List._++_ t2 t3)); slots = Row.off ∷ life1 ∷ life2 ∷ life3 ∷ life4 ∷ life5 ∷ life6 ∷ life7
-            ∷ life8 ∷ Row.alive ∷ Row.alive ∷ Row.off ∷ Row.off ∷ Row.off ∷ Row.off ∷ Row.off ∷ Row.off ∷ Row.off ∷ Row.off ∷ Row.off ∷ Row.off ∷
-            Row.off ∷ Row.off ∷ Row.off ∷ Row.off ∷ Row.off ∷ Row.off ∷ Row.off ∷ Row.off ∷ List.[]; }
+        G13 = record { locals = List._++_ g9 (List._++_ t10 (List._++_ t2 t3)); slots = Row.off ∷ life1 ∷ life2 ∷ life3 ∷ life4 ∷ life5 ∷ life6 ∷
+            life7 ∷ life8 ∷ Row.alive ∷ Row.alive ∷ Row.off ∷ Row.off ∷ Row.off ∷ Row.off ∷ Row.off ∷ Row.off ∷ Row.off ∷ Row.off ∷ Row.off ∷ Row.off
+            ∷ Row.off ∷ Row.off ∷ Row.off ∷ Row.off ∷ Row.off ∷ Row.off ∷ Row.off ∷ Row.off ∷ List.[]; }
         abbrev G14 : Row.Cx
-        G14 = record { locals = List._++_ g10 (List._++_ t11 (List._++_ t2 t3)); slots = Row.off ∷ Row.off ∷ life2 ∷ life3 ∷ life4 ∷ life5 ∷ life6 ∷
+        G14 = record { locals = List._++_ g11 (List._++_ t12 (List._++_ t2 t3)); slots = Row.off ∷ Row.off ∷ life2 ∷ life3 ∷ life4 ∷ life5 ∷ life6 ∷
             life7 ∷ life8 ∷ Row.alive ∷ Row.alive ∷ Row.off ∷ Row.off ∷ Row.off ∷ Row.off ∷ Row.off ∷ Row.off ∷ Row.off ∷ Row.off ∷ Row.off ∷ Row.off
             ∷ Row.off ∷ Row.off ∷ Row.off ∷ Row.off ∷ Row.off ∷ Row.off ∷ Row.off ∷ Row.off ∷ List.[]; }
         abbrev G15 : Row.Cx
-        G15 = record { locals = List._++_ g10 (List._++_ t12 (List._++_ t2 t3)); slots = Row.off ∷ Row.off ∷ life2 ∷ life3 ∷ life4 ∷ life5 ∷ life6 ∷
+        G15 = record { locals = List._++_ g11 (List._++_ t13 (List._++_ t2 t3)); slots = Row.off ∷ Row.off ∷ life2 ∷ life3 ∷ life4 ∷ life5 ∷ life6 ∷
             life7 ∷ life8 ∷ Row.alive ∷ Row.alive ∷ Row.off ∷ Row.off ∷ Row.off ∷ Row.off ∷ Row.off ∷ Row.off ∷ Row.off ∷ Row.off ∷ Row.off ∷ Row.off
             ∷ Row.off ∷ Row.off ∷ Row.off ∷ Row.off ∷ Row.off ∷ Row.off ∷ Row.off ∷ Row.off ∷ List.[]; }
         abbrev G16 : Row.Cx
-        G16 = record { locals = List._++_ g10 (List._++_ t12 (List._++_ t2 t3)); slots = Row.off ∷ Row.off ∷ life2 ∷ life3 ∷ life4 ∷ life5 ∷ life6 ∷
+        G16 = record { locals = List._++_ g11 (List._++_ t13 (List._++_ t2 t3)); slots = Row.off ∷ Row.off ∷ life2 ∷ life3 ∷ life4 ∷ life5 ∷ life6 ∷
             life7 ∷ life8 ∷ Row.alive ∷ Row.alive ∷ Row.alive ∷ Row.off ∷ Row.off ∷ Row.off ∷ Row.off ∷ Row.off ∷ Row.off ∷ Row.off ∷ Row.off ∷
             Row.off ∷ Row.off ∷ Row.off ∷ Row.off ∷ Row.off ∷ Row.off ∷ Row.off ∷ Row.off ∷ Row.off ∷ List.[]; }
         abbrev G17 : Row.Cx
-        G17 = record { locals = List._++_ g13 (List._++_ t14 (List._++_ t2 t3)); slots = Row.off ∷ Row.off ∷ Row.off ∷ life3 ∷ life4 ∷ life5 ∷ life6 ∷
+        G17 = record { locals = List._++_ g14 (List._++_ t15 (List._++_ t2 t3)); slots = Row.off ∷ Row.off ∷ Row.off ∷ life3 ∷ life4 ∷ life5 ∷ life6 ∷
             life7 ∷ life8 ∷ Row.alive ∷ Row.alive ∷ Row.alive ∷ Row.off ∷ Row.off ∷ Row.off ∷ Row.off ∷ Row.off ∷ Row.off ∷ Row.off ∷ Row.off ∷
             Row.off ∷ Row.off ∷ Row.off ∷ Row.off ∷ Row.off ∷ Row.off ∷ Row.off ∷ Row.off ∷ Row.off ∷ List.[]; }
         abbrev G18 : Row.Cx
-        G18 = record { locals = List._++_ g13 (List._++_ t15 (List._++_ t2 t3)); slots = Row.off ∷ Row.off ∷ Row.off ∷ life3 ∷ life4 ∷ life5 ∷ life6 ∷
+        G18 = record { locals = List._++_ g14 (List._++_ t16 (List._++_ t2 t3)); slots = Row.off ∷ Row.off ∷ Row.off ∷ life3 ∷ life4 ∷ life5 ∷ life6 ∷
             life7 ∷ life8 ∷ Row.alive ∷ Row.alive ∷ Row.alive ∷ Row.off ∷ Row.off ∷ Row.off ∷ Row.off ∷ Row.off ∷ Row.off ∷ Row.off ∷ Row.off ∷
             Row.off ∷ Row.off ∷ Row.off ∷ Row.off ∷ Row.off ∷ Row.off ∷ Row.off ∷ Row.off ∷ Row.off ∷ List.[]; }
         abbrev G19 : Row.Cx
-        G19 = record { locals = List._++_ g13 (List._++_ t15 (List._++_ t2 t3)); slots = Row.off ∷ Row.off ∷ Row.off ∷ life3 ∷ life4 ∷ life5 ∷ life6 ∷
+        G19 = record { locals = List._++_ g14 (List._++_ t16 (List._++_ t2 t3)); slots = Row.off ∷ Row.off ∷ Row.off ∷ life3 ∷ life4 ∷ life5 ∷ life6 ∷
             life7 ∷ life8 ∷ Row.alive ∷ Row.alive ∷ Row.alive ∷ Row.alive ∷ Row.off ∷ Row.off ∷ Row.off ∷ Row.off ∷ Row.off ∷ Row.off ∷ Row.off ∷
             Row.off ∷ Row.off ∷ Row.off ∷ Row.off ∷ Row.off ∷ Row.off ∷ Row.off ∷ Row.off ∷ Row.off ∷ List.[]; }
         abbrev G20 : Row.Cx
-        G20 = record { locals = List._++_ g16 (List._++_ t17 (List._++_ t2 t3)); slots = Row.off ∷ Row.off ∷ Row.off ∷ Row.off ∷ life4 ∷ life5 ∷ life6
+        G20 = record { locals = List._++_ g17 (List._++_ t18 (List._++_ t2 t3)); slots = Row.off ∷ Row.off ∷ Row.off ∷ Row.off ∷ life4 ∷ life5 ∷ life6
             ∷ life7 ∷ life8 ∷ Row.alive ∷ Row.alive ∷ Row.alive ∷ Row.alive ∷ Row.off ∷ Row.off ∷ Row.off ∷ Row.off ∷ Row.off ∷ Row.off ∷ Row.off ∷
             Row.off ∷ Row.off ∷ Row.off ∷ Row.off ∷ Row.off ∷ Row.off ∷ Row.off ∷ Row.off ∷ Row.off ∷ List.[]; }
         abbrev G21 : Row.Cx
-        G21 = record { locals = List._++_ g16 (List._++_ t18 (List._++_ t2 t3)); slots = Row.off ∷ Row.off ∷ Row.off ∷ Row.off ∷ life4 ∷ life5 ∷ life6
+        G21 = record { locals = List._++_ g17 (List._++_ t19 (List._++_ t2 t3)); slots = Row.off ∷ Row.off ∷ Row.off ∷ Row.off ∷ life4 ∷ life5 ∷ life6
             ∷ life7 ∷ life8 ∷ Row.alive ∷ Row.alive ∷ Row.alive ∷ Row.alive ∷ Row.off ∷ Row.off ∷ Row.off ∷ Row.off ∷ Row.off ∷ Row.off ∷ Row.off ∷
             Row.off ∷ Row.off ∷ Row.off ∷ Row.off ∷ Row.off ∷ Row.off ∷ Row.off ∷ Row.off ∷ Row.off ∷ List.[]; }
         abbrev G22 : Row.Cx
-        G22 = record { locals = List._++_ g16 (List._++_ t18 (List._++_ t2 t3)); slots = Row.off ∷ Row.off ∷ Row.off ∷ Row.off ∷ life4 ∷ life5 ∷ life6
+        G22 = record { locals = List._++_ g17 (List._++_ t19 (List._++_ t2 t3)); slots = Row.off ∷ Row.off ∷ Row.off ∷ Row.off ∷ life4 ∷ life5 ∷ life6
             ∷ life7 ∷ life8 ∷ Row.alive ∷ Row.alive ∷ Row.alive ∷ Row.alive ∷ Row.alive ∷ Row.off ∷ Row.off ∷ Row.off ∷ Row.off ∷ Row.off ∷ Row.off ∷
             Row.off ∷ Row.off ∷ Row.off ∷ Row.off ∷ Row.off ∷ Row.off ∷ Row.off ∷ Row.off ∷ Row.off ∷ List.[]; }
         abbrev G23 : Row.Cx
-        G23 = record { locals = List._++_ g19 (List._++_ t20 (List._++_ t2 t3)); slots = Row.off ∷ Row.off ∷ Row.off ∷ Row.off ∷ Row.off ∷ life5 ∷
+        G23 = record { locals = List._++_ g20 (List._++_ t21 (List._++_ t2 t3)); slots = Row.off ∷ Row.off ∷ Row.off ∷ Row.off ∷ Row.off ∷ life5 ∷
             life6 ∷ life7 ∷ life8 ∷ Row.alive ∷ Row.alive ∷ Row.alive ∷ Row.alive ∷ Row.alive ∷ Row.off ∷ Row.off ∷ Row.off ∷ Row.off ∷ Row.off ∷
             Row.off ∷ Row.off ∷ Row.off ∷ Row.off ∷ Row.off ∷ Row.off ∷ Row.off ∷ Row.off ∷ Row.off ∷ Row.off ∷ List.[]; }
         abbrev G24 : Row.Cx
-        G24 = record { locals = List._++_ g19 (List._++_ t21 (List._++_ t2 t3)); slots = Row.off ∷ Row.off ∷ Row.off ∷ Row.off ∷ Row.off ∷ life5 ∷
+        G24 = record { locals = List._++_ g20 (List._++_ t22 (List._++_ t2 t3)); slots = Row.off ∷ Row.off ∷ Row.off ∷ Row.off ∷ Row.off ∷ life5 ∷
             life6 ∷ life7 ∷ life8 ∷ Row.alive ∷ Row.alive ∷ Row.alive ∷ Row.alive ∷ Row.alive ∷ Row.off ∷ Row.off ∷ Row.off ∷ Row.off ∷ Row.off ∷
             Row.off ∷ Row.off ∷ Row.off ∷ Row.off ∷ Row.off ∷ Row.off ∷ Row.off ∷ Row.off ∷ Row.off ∷ Row.off ∷ List.[]; }
         abbrev G25 : Row.Cx
-        G25 = record { locals = List._++_ g22 (List._++_ t23 (List._++_ t2 t3)); slots = Row.off ∷ Row.off ∷ Row.off ∷ Row.off ∷ Row.off ∷ life5 ∷
+        G25 = record { locals = List._++_ g23 (List._++_ t24 (List._++_ t2 t3)); slots = Row.off ∷ Row.off ∷ Row.off ∷ Row.off ∷ Row.off ∷ life5 ∷
             life6 ∷ life7 ∷ life8 ∷ Row.alive ∷ Row.alive ∷ Row.alive ∷ Row.alive ∷ Row.alive ∷ Row.off ∷ Row.off ∷ Row.off ∷ Row.off ∷ Row.off ∷
             Row.off ∷ Row.off ∷ Row.off ∷ Row.off ∷ Row.off ∷ Row.off ∷ Row.off ∷ Row.off ∷ Row.off ∷ Row.off ∷ List.[]; }
         abbrev G26 : Row.Cx
-        G26 = record { locals = List._++_ g24 (List._++_ t23 (List._++_ t2 t3)); slots = Row.off ∷ Row.off ∷ Row.off ∷ Row.off ∷ Row.off ∷ life5 ∷
+        G26 = record { locals = List._++_ g25 (List._++_ t24 (List._++_ t2 t3)); slots = Row.off ∷ Row.off ∷ Row.off ∷ Row.off ∷ Row.off ∷ life5 ∷
             life6 ∷ life7 ∷ life8 ∷ Row.alive ∷ Row.alive ∷ Row.alive ∷ Row.alive ∷ Row.alive ∷ Row.off ∷ Row.off ∷ Row.off ∷ Row.off ∷ Row.off ∷
             Row.off ∷ Row.off ∷ Row.off ∷ Row.off ∷ Row.off ∷ Row.off ∷ Row.off ∷ Row.off ∷ Row.off ∷ Row.off ∷ List.[]; }
         abbrev G27 : Row.Cx
-        G27 = record { locals = List._++_ g25 (List._++_ t23 (List._++_ t2 t3)); slots = Row.off ∷ Row.off ∷ Row.off ∷ Row.off ∷ Row.off ∷ life5 ∷
+        G27 = record { locals = List._++_ g26 (List._++_ t24 (List._++_ t2 t3)); slots = Row.off ∷ Row.off ∷ Row.off ∷ Row.off ∷ Row.off ∷ life5 ∷
             life6 ∷ life7 ∷ life8 ∷ Row.alive ∷ Row.alive ∷ Row.alive ∷ Row.alive ∷ Row.alive ∷ Row.off ∷ Row.off ∷ Row.off ∷ Row.off ∷ Row.off ∷
             Row.off ∷ Row.off ∷ Row.off ∷ Row.off ∷ Row.off ∷ Row.off ∷ Row.off ∷ Row.off ∷ Row.off ∷ Row.off ∷ List.[]; }
         abbrev G28 : Row.Cx
-        G28 = record { locals = List._++_ g25 (List._++_ t23 (List._++_ t2 t3)); slots = Row.off ∷ Row.off ∷ Row.off ∷ Row.off ∷ Row.off ∷ life5 ∷
-            life6 ∷ life7 ∷ life8 ∷ Row.dead ∷ Row.alive ∷ Row.alive ∷ Row.alive ∷ Row.alive ∷ Row.off ∷ Row.off ∷ Row.off ∷ Row.off ∷ Row.off ∷
+        G28 = record { locals = List._++_ g27 (List._++_ t24 (List._++_ t2 t3)); slots = Row.off ∷ Row.off ∷ Row.off ∷ Row.off ∷ Row.off ∷ life5 ∷
+            life6 ∷ life7 ∷ life8 ∷ Row.alive ∷ Row.alive ∷ Row.alive ∷ Row.alive ∷ Row.alive ∷ Row.off ∷ Row.off ∷ Row.off ∷ Row.off ∷ Row.off ∷
             Row.off ∷ Row.off ∷ Row.off ∷ Row.off ∷ Row.off ∷ Row.off ∷ Row.off ∷ Row.off ∷ Row.off ∷ Row.off ∷ List.[]; }
         abbrev G29 : Row.Cx
-        G29 = record { locals = List._++_ g26 (List._++_ t23 (List._++_ t2 t3)); slots = life0 ∷ Row.off ∷ Row.off ∷ Row.off ∷ Row.off ∷ life5 ∷ life6
+        G29 = record { locals = List._++_ g27 (List._++_ t24 (List._++_ t2 t3)); slots = Row.off ∷ Row.off ∷ Row.off ∷ Row.off ∷ Row.off ∷ life5 ∷
+            life6 ∷ life7 ∷ life8 ∷ Row.dead ∷ Row.alive ∷ Row.alive ∷ Row.alive ∷ Row.alive ∷ Row.off ∷ Row.off ∷ Row.off ∷ Row.off ∷ Row.off ∷
+            Row.off ∷ Row.off ∷ Row.off ∷ Row.off ∷ Row.off ∷ Row.off ∷ Row.off ∷ Row.off ∷ Row.off ∷ Row.off ∷ List.[]; }
+        abbrev G30 : Row.Cx
+        G30 = record { locals = List._++_ g28 (List._++_ t29 (List._++_ t2 t3)); slots = life0 ∷ Row.off ∷ Row.off ∷ Row.off ∷ Row.off ∷ life5 ∷ life6
             ∷ life7 ∷ life8 ∷ Row.dead ∷ Row.alive ∷ Row.alive ∷ Row.alive ∷ Row.alive ∷ Row.off ∷ Row.off ∷ Row.off ∷ Row.off ∷ Row.off ∷ Row.off ∷
             Row.off ∷ Row.off ∷ Row.off ∷ Row.off ∷ Row.off ∷ Row.off ∷ Row.off ∷ Row.off ∷ Row.off ∷ List.[]; }
-        abbrev G30 : Row.Cx
-        G30 = record { locals = List._++_ g26 (List._++_ t23 (List._++_ t2 t3)); slots = life0 ∷ Row.off ∷ Row.off ∷ Row.off ∷ Row.off ∷ life5 ∷ life6
+        abbrev G31 : Row.Cx
+        G31 = record { locals = List._++_ g28 (List._++_ t29 (List._++_ t2 t3)); slots = life0 ∷ Row.off ∷ Row.off ∷ Row.off ∷ Row.off ∷ life5 ∷ life6
             ∷ life7 ∷ life8 ∷ Row.off ∷ Row.alive ∷ Row.alive ∷ Row.alive ∷ Row.alive ∷ Row.off ∷ Row.off ∷ Row.off ∷ Row.off ∷ Row.off ∷ Row.off ∷
             Row.off ∷ Row.off ∷ Row.off ∷ Row.off ∷ Row.off ∷ Row.off ∷ Row.off ∷ Row.off ∷ Row.off ∷ List.[]; }
-        abbrev G31 : Row.Cx
-        G31 = record { locals = List._++_ g26 (List._++_ t23 (List._++_ t2 t3)); slots = life0 ∷ Row.off ∷ Row.off ∷ Row.off ∷ Row.off ∷ life5 ∷ life6
+        abbrev G32 : Row.Cx
+        G32 = record { locals = List._++_ g28 (List._++_ t29 (List._++_ t2 t3)); slots = life0 ∷ Row.off ∷ Row.off ∷ Row.off ∷ Row.off ∷ life5 ∷ life6
             ∷ life7 ∷ life8 ∷ Row.off ∷ Row.dead ∷ Row.alive ∷ Row.alive ∷ Row.alive ∷ Row.off ∷ Row.off ∷ Row.off ∷ Row.off ∷ Row.off ∷ Row.off ∷
             Row.off ∷ Row.off ∷ Row.off ∷ Row.off ∷ Row.off ∷ Row.off ∷ Row.off ∷ Row.off ∷ Row.off ∷ List.[]; }
-        abbrev G32 : Row.Cx
-        G32 = record { locals = List._++_ g27 (List._++_ t28 (List._++_ t2 t3)); slots = life0 ∷ life1 ∷ Row.off ∷ Row.off ∷ Row.off ∷ life5 ∷ life6 ∷
+        abbrev G33 : Row.Cx
+        G33 = record { locals = List._++_ g30 (List._++_ t31 (List._++_ t2 t3)); slots = life0 ∷ life1 ∷ Row.off ∷ Row.off ∷ Row.off ∷ life5 ∷ life6 ∷
             life7 ∷ life8 ∷ Row.off ∷ Row.dead ∷ Row.alive ∷ Row.alive ∷ Row.alive ∷ Row.off ∷ Row.off ∷ Row.off ∷ Row.off ∷ Row.off ∷ Row.off ∷
             Row.off ∷ Row.off ∷ Row.off ∷ Row.off ∷ Row.off ∷ Row.off ∷ Row.off ∷ Row.off ∷ Row.off ∷ List.[]; }
-        abbrev G33 : Row.Cx
-        G33 = record { locals = List._++_ g27 (List._++_ t28 (List._++_ t2 t3)); slots = life0 ∷ life1 ∷ Row.off ∷ Row.off ∷ Row.off ∷ life5 ∷ life6 ∷
+        abbrev G34 : Row.Cx
+        G34 = record { locals = List._++_ g30 (List._++_ t31 (List._++_ t2 t3)); slots = life0 ∷ life1 ∷ Row.off ∷ Row.off ∷ Row.off ∷ life5 ∷ life6 ∷
             life7 ∷ life8 ∷ Row.off ∷ Row.off ∷ Row.alive ∷ Row.alive ∷ Row.alive ∷ Row.off ∷ Row.off ∷ Row.off ∷ Row.off ∷ Row.off ∷ Row.off ∷
             Row.off ∷ Row.off ∷ Row.off ∷ Row.off ∷ Row.off ∷ Row.off ∷ Row.off ∷ Row.off ∷ Row.off ∷ List.[]; }
-        abbrev G34 : Row.Cx
-        G34 = record { locals = List._++_ g27 (List._++_ t28 (List._++_ t2 t3)); slots = life0 ∷ life1 ∷ Row.off ∷ Row.off ∷ Row.off ∷ life5 ∷ life6 ∷
-            life7 ∷ life8 ∷ Row.off ∷ Row.off ∷ Row.dead ∷ Row.alive ∷ Row.alive ∷ Row.off ∷ Row.off ∷ Row.off ∷ Row.off ∷ Row.off ∷ Row.off ∷ Row.off
-            ∷ Row.off ∷ Row.off ∷ Row.off ∷ Row.off ∷ Row.off ∷ Row.off ∷ Row.off ∷ Row.off ∷ List.[]; }
         abbrev G35 : Row.Cx
-        G35 = record { locals = List._++_ g29 (List._++_ t30 (List._++_ t2 t3)); slots = life0 ∷ life1 ∷ life2 ∷ Row.off ∷ Row.off ∷ life5 ∷ life6 ∷
+        G35 = record { locals = List._++_ g30 (List._++_ t31 (List._++_ t2 t3)); slots = life0 ∷ life1 ∷ Row.off ∷ Row.off ∷ Row.off ∷ life5 ∷ life6 ∷
             life7 ∷ life8 ∷ Row.off ∷ Row.off ∷ Row.dead ∷ Row.alive ∷ Row.alive ∷ Row.off ∷ Row.off ∷ Row.off ∷ Row.off ∷ Row.off ∷ Row.off ∷ Row.off
             ∷ Row.off ∷ Row.off ∷ Row.off ∷ Row.off ∷ Row.off ∷ Row.off ∷ Row.off ∷ Row.off ∷ List.[]; }
         abbrev G36 : Row.Cx
-        G36 = record { locals = List._++_ g29 (List._++_ t30 (List._++_ t2 t3)); slots = life0 ∷ life1 ∷ life2 ∷ Row.off ∷ Row.off ∷ life5 ∷ life6 ∷
-            life7 ∷ life8 ∷ Row.off ∷ Row.off ∷ Row.off ∷ Row.alive ∷ Row.alive ∷ Row.off ∷ Row.off ∷ Row.off ∷ Row.off ∷ Row.off ∷ Row.off ∷ Row.off
+        G36 = record { locals = List._++_ g32 (List._++_ t33 (List._++_ t2 t3)); slots = life0 ∷ life1 ∷ life2 ∷ Row.off ∷ Row.off ∷ life5 ∷ life6 ∷
+            life7 ∷ life8 ∷ Row.off ∷ Row.off ∷ Row.dead ∷ Row.alive ∷ Row.alive ∷ Row.off ∷ Row.off ∷ Row.off ∷ Row.off ∷ Row.off ∷ Row.off ∷ Row.off
             ∷ Row.off ∷ Row.off ∷ Row.off ∷ Row.off ∷ Row.off ∷ Row.off ∷ Row.off ∷ Row.off ∷ List.[]; }
         abbrev G37 : Row.Cx
-        G37 = record { locals = List._++_ g29 (List._++_ t30 (List._++_ t2 t3)); slots = life0 ∷ life1 ∷ life2 ∷ Row.off ∷ Row.off ∷ life5 ∷ life6 ∷
-            life7 ∷ life8 ∷ Row.off ∷ Row.off ∷ Row.off ∷ Row.dead ∷ Row.alive ∷ Row.off ∷ Row.off ∷ Row.off ∷ Row.off ∷ Row.off ∷ Row.off ∷ Row.off ∷
-            Row.off ∷ Row.off ∷ Row.off ∷ Row.off ∷ Row.off ∷ Row.off ∷ Row.off ∷ Row.off ∷ List.[]; }
+        G37 = record { locals = List._++_ g32 (List._++_ t33 (List._++_ t2 t3)); slots = life0 ∷ life1 ∷ life2 ∷ Row.off ∷ Row.off ∷ life5 ∷ life6 ∷
+            life7 ∷ life8 ∷ Row.off ∷ Row.off ∷ Row.off ∷ Row.alive ∷ Row.alive ∷ Row.off ∷ Row.off ∷ Row.off ∷ Row.off ∷ Row.off ∷ Row.off ∷ Row.off
+            ∷ Row.off ∷ Row.off ∷ Row.off ∷ Row.off ∷ Row.off ∷ Row.off ∷ Row.off ∷ Row.off ∷ List.[]; }
         abbrev G38 : Row.Cx
-        G38 = record { locals = List._++_ g31 (List._++_ t32 (List._++_ t2 t3)); slots = life0 ∷ life1 ∷ life2 ∷ life3 ∷ Row.off ∷ life5 ∷ life6 ∷
+        G38 = record { locals = List._++_ g32 (List._++_ t33 (List._++_ t2 t3)); slots = life0 ∷ life1 ∷ life2 ∷ Row.off ∷ Row.off ∷ life5 ∷ life6 ∷
             life7 ∷ life8 ∷ Row.off ∷ Row.off ∷ Row.off ∷ Row.dead ∷ Row.alive ∷ Row.off ∷ Row.off ∷ Row.off ∷ Row.off ∷ Row.off ∷ Row.off ∷ Row.off ∷
             Row.off ∷ Row.off ∷ Row.off ∷ Row.off ∷ Row.off ∷ Row.off ∷ Row.off ∷ Row.off ∷ List.[]; }
         abbrev G39 : Row.Cx
-        G39 = record { locals = List._++_ g31 (List._++_ t32 (List._++_ t2 t3)); slots = life0 ∷ life1 ∷ life2 ∷ life3 ∷ Row.off ∷ life5 ∷ life6 ∷
-            life7 ∷ life8 ∷ Row.off ∷ Row.off ∷ Row.off ∷ Row.off ∷ Row.alive ∷ Row.off ∷ Row.off ∷ Row.off ∷ Row.off ∷ Row.off ∷ Row.off ∷ Row.off ∷
+        G39 = record { locals = List._++_ g34 (List._++_ t35 (List._++_ t2 t3)); slots = life0 ∷ life1 ∷ life2 ∷ life3 ∷ Row.off ∷ life5 ∷ life6 ∷
+            life7 ∷ life8 ∷ Row.off ∷ Row.off ∷ Row.off ∷ Row.dead ∷ Row.alive ∷ Row.off ∷ Row.off ∷ Row.off ∷ Row.off ∷ Row.off ∷ Row.off ∷ Row.off ∷
             Row.off ∷ Row.off ∷ Row.off ∷ Row.off ∷ Row.off ∷ Row.off ∷ Row.off ∷ Row.off ∷ List.[]; }
         abbrev G40 : Row.Cx
-        G40 = record { locals = List._++_ g31 (List._++_ t32 (List._++_ t2 t3)); slots = life0 ∷ life1 ∷ life2 ∷ life3 ∷ Row.off ∷ life5 ∷ life6 ∷
-            life7 ∷ life8 ∷ Row.off ∷ Row.off ∷ Row.off ∷ Row.off ∷ Row.dead ∷ Row.off ∷ Row.off ∷ Row.off ∷ Row.off ∷ Row.off ∷ Row.off ∷ Row.off ∷
+        G40 = record { locals = List._++_ g34 (List._++_ t35 (List._++_ t2 t3)); slots = life0 ∷ life1 ∷ life2 ∷ life3 ∷ Row.off ∷ life5 ∷ life6 ∷
+            life7 ∷ life8 ∷ Row.off ∷ Row.off ∷ Row.off ∷ Row.off ∷ Row.alive ∷ Row.off ∷ Row.off ∷ Row.off ∷ Row.off ∷ Row.off ∷ Row.off ∷ Row.off ∷
             Row.off ∷ Row.off ∷ Row.off ∷ Row.off ∷ Row.off ∷ Row.off ∷ Row.off ∷ Row.off ∷ List.[]; }
         abbrev G41 : Row.Cx
-        G41 = record { locals = List._++_ t6 (List._++_ t1 (List._++_ t2 t3)); slots = life0 ∷ life1 ∷ life2 ∷ life3 ∷ life4 ∷ life5 ∷ life6 ∷ life7 ∷
-            life8 ∷ Row.off ∷ Row.off ∷ Row.off ∷ Row.off ∷ Row.dead ∷ Row.off ∷ Row.off ∷ Row.off ∷ Row.off ∷ Row.off ∷ Row.off ∷ Row.off ∷ Row.off ∷
-            Row.off ∷ Row.off ∷ Row.off ∷ Row.off ∷ Row.off ∷ Row.off ∷ Row.off ∷ List.[]; }
+        G41 = record { locals = List._++_ g34 (List._++_ t35 (List._++_ t2 t3)); slots = life0 ∷ life1 ∷ life2 ∷ life3 ∷ Row.off ∷ life5 ∷ life6 ∷
+            life7 ∷ life8 ∷ Row.off ∷ Row.off ∷ Row.off ∷ Row.off ∷ Row.dead ∷ Row.off ∷ Row.off ∷ Row.off ∷ Row.off ∷ Row.off ∷ Row.off ∷ Row.off ∷
+            Row.off ∷ Row.off ∷ Row.off ∷ Row.off ∷ Row.off ∷ Row.off ∷ Row.off ∷ Row.off ∷ List.[]; }
         abbrev G42 : Row.Cx
         G42 = record { locals = List._++_ t6 (List._++_ t1 (List._++_ t2 t3)); slots = life0 ∷ life1 ∷ life2 ∷ life3 ∷ life4 ∷ life5 ∷ life6 ∷ life7 ∷
             life8 ∷ Row.off ∷ Row.off ∷ Row.off ∷ Row.off ∷ Row.dead ∷ Row.off ∷ Row.off ∷ Row.off ∷ Row.off ∷ Row.off ∷ Row.off ∷ Row.off ∷ Row.off ∷
             Row.off ∷ Row.off ∷ Row.off ∷ Row.off ∷ Row.off ∷ Row.off ∷ Row.off ∷ List.[]; }
         abbrev G43 : Row.Cx
         G43 = record { locals = List._++_ t6 (List._++_ t1 (List._++_ t2 t3)); slots = life0 ∷ life1 ∷ life2 ∷ life3 ∷ life4 ∷ life5 ∷ life6 ∷ life7 ∷
-            life8 ∷ Row.off ∷ Row.off ∷ Row.off ∷ Row.off ∷ Row.off ∷ Row.off ∷ Row.off ∷ Row.off ∷ Row.off ∷ Row.off ∷ Row.off ∷ Row.off ∷ Row.off ∷
+            life8 ∷ Row.off ∷ Row.off ∷ Row.off ∷ Row.off ∷ Row.dead ∷ Row.off ∷ Row.off ∷ Row.off ∷ Row.off ∷ Row.off ∷ Row.off ∷ Row.off ∷ Row.off ∷
             Row.off ∷ Row.off ∷ Row.off ∷ Row.off ∷ Row.off ∷ Row.off ∷ Row.off ∷ List.[]; }
         abbrev G44 : Row.Cx
-        G44 = record { locals = List._++_ t5 (List._++_ t1 (List._++_ t2 t3)); slots = life0 ∷ life1 ∷ life2 ∷ life3 ∷ life4 ∷ life5 ∷ life6 ∷ life7 ∷
+        G44 = record { locals = List._++_ t6 (List._++_ t1 (List._++_ t2 t3)); slots = life0 ∷ life1 ∷ life2 ∷ life3 ∷ life4 ∷ life5 ∷ life6 ∷ life7 ∷
+            life8 ∷ Row.off ∷ Row.off ∷ Row.off ∷ Row.off ∷ Row.off ∷ Row.off ∷ Row.off ∷ Row.off ∷ Row.off ∷ Row.off ∷ Row.off ∷ Row.off ∷ Row.off ∷
+            Row.off ∷ Row.off ∷ Row.off ∷ Row.off ∷ Row.off ∷ Row.off ∷ Row.off ∷ List.[]; }
+        abbrev G45 : Row.Cx
+        G45 = record { locals = List._++_ t5 (List._++_ t1 (List._++_ t2 t3)); slots = life0 ∷ life1 ∷ life2 ∷ life3 ∷ life4 ∷ life5 ∷ life6 ∷ life7 ∷
             life8 ∷ Row.off ∷ Row.off ∷ Row.off ∷ Row.off ∷ Row.off ∷ Row.alive ∷ Row.off ∷ Row.off ∷ Row.off ∷ Row.off ∷ Row.off ∷ Row.off ∷ Row.off
             ∷ Row.off ∷ Row.off ∷ Row.off ∷ Row.off ∷ Row.off ∷ Row.off ∷ Row.off ∷ List.[]; }
-        abbrev G45 : Row.Cx
-        G45 = record { locals = List._++_ g33 (List._++_ t34 (List._++_ t2 t3)); slots = Row.off ∷ life1 ∷ life2 ∷ life3 ∷ life4 ∷ life5 ∷ life6 ∷
-            life7 ∷ life8 ∷ Row.off ∷ Row.off ∷ Row.off ∷ Row.off ∷ Row.off ∷ Row.alive ∷ Row.off ∷ Row.off ∷ Row.off ∷ Row.off ∷ Row.off ∷ Row.off ∷
-            Row.off ∷ Row.off ∷ Row.off ∷ Row.off ∷ Row.off ∷ Row.off ∷ Row.off ∷ Row.off ∷ List.[]; }
         abbrev G46 : Row.Cx
-        G46 = record { locals = List._++_ g33 (List._++_ t35 (List._++_ t2 t3)); slots = Row.off ∷ life1 ∷ life2 ∷ life3 ∷ life4 ∷ life5 ∷ life6 ∷
+        G46 = record { locals = List._++_ g36 (List._++_ t37 (List._++_ t2 t3)); slots = Row.off ∷ life1 ∷ life2 ∷ life3 ∷ life4 ∷ life5 ∷ life6 ∷
             life7 ∷ life8 ∷ Row.off ∷ Row.off ∷ Row.off ∷ Row.off ∷ Row.off ∷ Row.alive ∷ Row.off ∷ Row.off ∷ Row.off ∷ Row.off ∷ Row.off ∷ Row.off ∷
             Row.off ∷ Row.off ∷ Row.off ∷ Row.off ∷ Row.off ∷ Row.off ∷ Row.off ∷ Row.off ∷ List.[]; }
         abbrev G47 : Row.Cx
-        G47 = record { locals = List._++_ g33 (List._++_ t35 (List._++_ t2 t3)); slots = Row.off ∷ life1 ∷ life2 ∷ life3 ∷ life4 ∷ life5 ∷ life6 ∷
-            life7 ∷ life8 ∷ Row.off ∷ Row.off ∷ Row.off ∷ Row.off ∷ Row.off ∷ Row.alive ∷ Row.alive ∷ Row.off ∷ Row.off ∷ Row.off ∷ Row.off ∷ Row.off
-            ∷ Row.off ∷ Row.off ∷ Row.off ∷ Row.off ∷ Row.off ∷ Row.off ∷ Row.off ∷ Row.off ∷ List.[]; }
+        G47 = record { locals = List._++_ g36 (List._++_ t38 (List._++_ t2 t3)); slots = Row.off ∷ life1 ∷ life2 ∷ life3 ∷ life4 ∷ life5 ∷ life6 ∷
+            life7 ∷ life8 ∷ Row.off ∷ Row.off ∷ Row.off ∷ Row.off ∷ Row.off ∷ Row.alive ∷ Row.off ∷ Row.off ∷ Row.off ∷ Row.off ∷ Row.off ∷ Row.off ∷
+            Row.off ∷ Row.off ∷ Row.off ∷ Row.off ∷ Row.off ∷ Row.off ∷ Row.off ∷ Row.off ∷ List.[]; }
         abbrev G48 : Row.Cx
-        G48 = record { locals = List._++_ g36 (List._++_ t37 (List._++_ t2 t3)); slots = Row.off ∷ Row.off ∷ life2 ∷ life3 ∷ life4 ∷ life5 ∷ life6 ∷
+        G48 = record { locals = List._++_ g36 (List._++_ t38 (List._++_ t2 t3)); slots = Row.off ∷ life1 ∷ life2 ∷ life3 ∷ life4 ∷ life5 ∷ life6 ∷
             life7 ∷ life8 ∷ Row.off ∷ Row.off ∷ Row.off ∷ Row.off ∷ Row.off ∷ Row.alive ∷ Row.alive ∷ Row.off ∷ Row.off ∷ Row.off ∷ Row.off ∷ Row.off
             ∷ Row.off ∷ Row.off ∷ Row.off ∷ Row.off ∷ Row.off ∷ Row.off ∷ Row.off ∷ Row.off ∷ List.[]; }
         abbrev G49 : Row.Cx
-        G49 = record { locals = List._++_ g36 (List._++_ t38 (List._++_ t2 t3)); slots = Row.off ∷ Row.off ∷ life2 ∷ life3 ∷ life4 ∷ life5 ∷ life6 ∷
+        G49 = record { locals = List._++_ g39 (List._++_ t40 (List._++_ t2 t3)); slots = Row.off ∷ Row.off ∷ life2 ∷ life3 ∷ life4 ∷ life5 ∷ life6 ∷
             life7 ∷ life8 ∷ Row.off ∷ Row.off ∷ Row.off ∷ Row.off ∷ Row.off ∷ Row.alive ∷ Row.alive ∷ Row.off ∷ Row.off ∷ Row.off ∷ Row.off ∷ Row.off
             ∷ Row.off ∷ Row.off ∷ Row.off ∷ Row.off ∷ Row.off ∷ Row.off ∷ Row.off ∷ Row.off ∷ List.[]; }
         abbrev G50 : Row.Cx
-        G50 = record { locals = List._++_ g36 (List._++_ t38 (List._++_ t2 t3)); slots = Row.off ∷ Row.off ∷ life2 ∷ life3 ∷ life4 ∷ life5 ∷ life6 ∷
-            life7 ∷ life8 ∷ Row.off ∷ Row.off ∷ Row.off ∷ Row.off ∷ Row.off ∷ Row.alive ∷ Row.alive ∷ Row.alive ∷ Row.off ∷ Row.off ∷ Row.off ∷
-            Row.off ∷ Row.off ∷ Row.off ∷ Row.off ∷ Row.off ∷ Row.off ∷ Row.off ∷ Row.off ∷ Row.off ∷ List.[]; }
+        G50 = record { locals = List._++_ g39 (List._++_ t41 (List._++_ t2 t3)); slots = Row.off ∷ Row.off ∷ life2 ∷ life3 ∷ life4 ∷ life5 ∷ life6 ∷
+            life7 ∷ life8 ∷ Row.off ∷ Row.off ∷ Row.off ∷ Row.off ∷ Row.off ∷ Row.alive ∷ Row.alive ∷ Row.off ∷ Row.off ∷ Row.off ∷ Row.off ∷ Row.off
+            ∷ Row.off ∷ Row.off ∷ Row.off ∷ Row.off ∷ Row.off ∷ Row.off ∷ Row.off ∷ Row.off ∷ List.[]; }
         abbrev G51 : Row.Cx
-        G51 = record { locals = List._++_ g39 (List._++_ t40 (List._++_ t2 t3)); slots = Row.off ∷ Row.off ∷ life2 ∷ Row.off ∷ life4 ∷ life5 ∷ life6 ∷
+        G51 = record { locals = List._++_ g39 (List._++_ t41 (List._++_ t2 t3)); slots = Row.off ∷ Row.off ∷ life2 ∷ life3 ∷ life4 ∷ life5 ∷ life6 ∷
             life7 ∷ life8 ∷ Row.off ∷ Row.off ∷ Row.off ∷ Row.off ∷ Row.off ∷ Row.alive ∷ Row.alive ∷ Row.alive ∷ Row.off ∷ Row.off ∷ Row.off ∷
             Row.off ∷ Row.off ∷ Row.off ∷ Row.off ∷ Row.off ∷ Row.off ∷ Row.off ∷ Row.off ∷ Row.off ∷ List.[]; }
         abbrev G52 : Row.Cx
-        G52 = record { locals = List._++_ g39 (List._++_ t41 (List._++_ t2 t3)); slots = Row.off ∷ Row.off ∷ life2 ∷ Row.off ∷ life4 ∷ life5 ∷ life6 ∷
+        G52 = record { locals = List._++_ g42 (List._++_ t43 (List._++_ t2 t3)); slots = Row.off ∷ Row.off ∷ life2 ∷ Row.off ∷ life4 ∷ life5 ∷ life6 ∷
             life7 ∷ life8 ∷ Row.off ∷ Row.off ∷ Row.off ∷ Row.off ∷ Row.off ∷ Row.alive ∷ Row.alive ∷ Row.alive ∷ Row.off ∷ Row.off ∷ Row.off ∷
             Row.off ∷ Row.off ∷ Row.off ∷ Row.off ∷ Row.off ∷ Row.off ∷ Row.off ∷ Row.off ∷ Row.off ∷ List.[]; }
         abbrev G53 : Row.Cx
-        G53 = record { locals = List._++_ g39 (List._++_ t41 (List._++_ t2 t3)); slots = Row.off ∷ Row.off ∷ life2 ∷ Row.off ∷ life4 ∷ life5 ∷ life6 ∷
-            life7 ∷ life8 ∷ Row.off ∷ Row.off ∷ Row.off ∷ Row.off ∷ Row.off ∷ Row.alive ∷ Row.alive ∷ Row.alive ∷ Row.alive ∷ Row.off ∷ Row.off ∷
+        G53 = record { locals = List._++_ g42 (List._++_ t44 (List._++_ t2 t3)); slots = Row.off ∷ Row.off ∷ life2 ∷ Row.off ∷ life4 ∷ life5 ∷ life6 ∷
+            life7 ∷ life8 ∷ Row.off ∷ Row.off ∷ Row.off ∷ Row.off ∷ Row.off ∷ Row.alive ∷ Row.alive ∷ Row.alive ∷ Row.off ∷ Row.off ∷ Row.off ∷
             Row.off ∷ Row.off ∷ Row.off ∷ Row.off ∷ Row.off ∷ Row.off ∷ Row.off ∷ Row.off ∷ Row.off ∷ List.[]; }
         abbrev G54 : Row.Cx
-        G54 = record { locals = List._++_ g42 (List._++_ t43 (List._++_ t2 t3)); slots = Row.off ∷ Row.off ∷ life2 ∷ Row.off ∷ Row.off ∷ life5 ∷ life6
-            ∷ life7 ∷ life8 ∷ Row.off ∷ Row.off ∷ Row.off ∷ Row.off ∷ Row.off ∷ Row.alive ∷ Row.alive ∷ Row.alive ∷ Row.alive ∷ Row.off ∷ Row.off ∷
+        G54 = record { locals = List._++_ g42 (List._++_ t44 (List._++_ t2 t3)); slots = Row.off ∷ Row.off ∷ life2 ∷ Row.off ∷ life4 ∷ life5 ∷ life6 ∷
+            life7 ∷ life8 ∷ Row.off ∷ Row.off ∷ Row.off ∷ Row.off ∷ Row.off ∷ Row.alive ∷ Row.alive ∷ Row.alive ∷ Row.alive ∷ Row.off ∷ Row.off ∷
             Row.off ∷ Row.off ∷ Row.off ∷ Row.off ∷ Row.off ∷ Row.off ∷ Row.off ∷ Row.off ∷ Row.off ∷ List.[]; }
         abbrev G55 : Row.Cx
-        G55 = record { locals = List._++_ g42 (List._++_ t44 (List._++_ t2 t3)); slots = Row.off ∷ Row.off ∷ life2 ∷ Row.off ∷ Row.off ∷ life5 ∷ life6
+        G55 = record { locals = List._++_ g45 (List._++_ t46 (List._++_ t2 t3)); slots = Row.off ∷ Row.off ∷ life2 ∷ Row.off ∷ Row.off ∷ life5 ∷ life6
             ∷ life7 ∷ life8 ∷ Row.off ∷ Row.off ∷ Row.off ∷ Row.off ∷ Row.off ∷ Row.alive ∷ Row.alive ∷ Row.alive ∷ Row.alive ∷ Row.off ∷ Row.off ∷
             Row.off ∷ Row.off ∷ Row.off ∷ Row.off ∷ Row.off ∷ Row.off ∷ Row.off ∷ Row.off ∷ Row.off ∷ List.[]; }
         abbrev G56 : Row.Cx
-        G56 = record { locals = List._++_ g45 (List._++_ t46 (List._++_ t2 t3)); slots = Row.off ∷ Row.off ∷ life2 ∷ Row.off ∷ Row.off ∷ life5 ∷ life6
-            ∷ life7 ∷ life8 ∷ Row.off ∷ Row.off ∷ Row.off ∷ Row.off ∷ Row.off ∷ Row.alive ∷ Row.alive ∷ Row.alive ∷ Row.alive ∷ Row.off ∷ Row.off ∷
-            Row.off ∷ Row.off ∷ Row.off ∷ Row.off ∷ Row.off ∷ Row.off ∷ Row.off ∷ Row.off ∷ Row.off ∷ List.[]; }
+        G56 = record { locals = List._++_ g45 (List._++_ t44 (List._++_ t47 t3)); slots = Row.off ∷ Row.off ∷ life2 ∷ Row.off ∷ Row.off ∷ life5 ∷
+            life6 ∷ life7 ∷ life8 ∷ Row.off ∷ Row.off ∷ Row.off ∷ Row.off ∷ Row.off ∷ Row.alive ∷ Row.alive ∷ Row.alive ∷ Row.alive ∷ Row.off ∷
+            Row.off ∷ Row.off ∷ Row.off ∷ Row.off ∷ Row.off ∷ Row.off ∷ Row.off ∷ Row.off ∷ Row.off ∷ Row.off ∷ List.[]; }
         abbrev G57 : Row.Cx
-        G57 = record { locals = List._++_ g47 (List._++_ t46 (List._++_ t2 t3)); slots = Row.off ∷ Row.off ∷ life2 ∷ Row.off ∷ Row.off ∷ life5 ∷ life6
-            ∷ life7 ∷ life8 ∷ Row.off ∷ Row.off ∷ Row.off ∷ Row.off ∷ Row.off ∷ Row.alive ∷ Row.alive ∷ Row.alive ∷ Row.alive ∷ Row.off ∷ Row.off ∷
-            Row.off ∷ Row.off ∷ Row.off ∷ Row.off ∷ Row.off ∷ Row.off ∷ Row.off ∷ Row.off ∷ Row.off ∷ List.[]; }
+        G57 = record { locals = List._++_ g48 (List._++_ t49 (List._++_ t50 t3)); slots = Row.off ∷ Row.off ∷ life2 ∷ Row.off ∷ Row.off ∷ life5 ∷
+            life6 ∷ life7 ∷ life8 ∷ Row.off ∷ Row.off ∷ Row.off ∷ Row.off ∷ Row.off ∷ Row.alive ∷ Row.alive ∷ Row.alive ∷ Row.alive ∷ Row.off ∷
+            Row.off ∷ Row.off ∷ Row.off ∷ Row.off ∷ Row.off ∷ Row.off ∷ Row.off ∷ Row.off ∷ Row.off ∷ Row.off ∷ List.[]; }
         abbrev G58 : Row.Cx
-        G58 = record { locals = List._++_ g48 (List._++_ t46 (List._++_ t2 t3)); slots = Row.off ∷ Row.off ∷ life2 ∷ Row.off ∷ Row.off ∷ life5 ∷ life6
-            ∷ life7 ∷ life8 ∷ Row.off ∷ Row.off ∷ Row.off ∷ Row.off ∷ Row.off ∷ Row.alive ∷ Row.alive ∷ Row.alive ∷ Row.alive ∷ Row.off ∷ Row.off ∷
-            Row.off ∷ Row.off ∷ Row.off ∷ Row.off ∷ Row.off ∷ Row.off ∷ Row.off ∷ Row.off ∷ Row.off ∷ List.[]; }
+        G58 = record { locals = List._++_ g51 (List._++_ t49 (List._++_ t50 t3)); slots = Row.off ∷ Row.off ∷ life2 ∷ Row.off ∷ Row.off ∷ life5 ∷
+            life6 ∷ life7 ∷ life8 ∷ Row.off ∷ Row.off ∷ Row.off ∷ Row.off ∷ Row.off ∷ Row.alive ∷ Row.alive ∷ Row.alive ∷ Row.alive ∷ Row.off ∷
+            Row.off ∷ Row.off ∷ Row.off ∷ Row.off ∷ Row.off ∷ Row.off ∷ Row.off ∷ Row.off ∷ Row.off ∷ Row.off ∷ List.[]; }
         abbrev G59 : Row.Cx
-        G59 = record { locals = List._++_ g48 (List._++_ t46 (List._++_ t2 t3)); slots = Row.off ∷ Row.off ∷ life2 ∷ Row.off ∷ Row.off ∷ life5 ∷ life6
+        G59 = record { locals = List._++_ g52 (List._++_ t49 (List._++_ t50 t3)); slots = Row.off ∷ Row.off ∷ life2 ∷ Row.off ∷ Row.off ∷ life5 ∷
+            life6 ∷ life7 ∷ life8 ∷ Row.off ∷ Row.off ∷ Row.off ∷ Row.off ∷ Row.off ∷ Row.alive ∷ Row.alive ∷ Row.alive ∷ Row.alive ∷ Row.off ∷
+            Row.off ∷ Row.off ∷ Row.off ∷ Row.off ∷ Row.off ∷ Row.off ∷ Row.off ∷ Row.off ∷ Row.off ∷ Row.off ∷ List.[]; }
+        abbrev G60 : Row.Cx
+        G60 = record { locals = List._++_ g53 (List._++_ t49 (List._++_ t50 t3)); slots = Row.off ∷ Row.off ∷ life2 ∷ Row.off ∷ Row.off ∷ life5 ∷
+            life6 ∷ life7 ∷ life8 ∷ Row.off ∷ Row.off ∷ Row.off ∷ Row.off ∷ Row.off ∷ Row.alive ∷ Row.alive ∷ Row.alive ∷ Row.alive ∷ Row.off ∷
+            Row.off ∷ Row.off ∷ Row.off ∷ Row.off ∷ Row.off ∷ Row.off ∷ Row.off ∷ Row.off ∷ Row.off ∷ Row.off ∷ List.[]; }
+        abbrev G61 : Row.Cx
+        G61 = record { locals = List._++_ g53 (List._++_ t49 (List._++_ t50 t3)); slots = Row.off ∷ Row.off ∷ life2 ∷ Row.off ∷ Row.off ∷ life5 ∷
+            life6 ∷ life7 ∷ life8 ∷ Row.off ∷ Row.off ∷ Row.off ∷ Row.off ∷ Row.off ∷ Row.dead ∷ Row.alive ∷ Row.alive ∷ Row.alive ∷ Row.off ∷ Row.off
+            ∷ Row.off ∷ Row.off ∷ Row.off ∷ Row.off ∷ Row.off ∷ Row.off ∷ Row.off ∷ Row.off ∷ Row.off ∷ List.[]; }
+        abbrev G62 : Row.Cx
+        G62 = record { locals = List._++_ g54 (List._++_ t55 (List._++_ t50 t3)); slots = life0 ∷ Row.off ∷ life2 ∷ Row.off ∷ Row.off ∷ life5 ∷ life6
             ∷ life7 ∷ life8 ∷ Row.off ∷ Row.off ∷ Row.off ∷ Row.off ∷ Row.off ∷ Row.dead ∷ Row.alive ∷ Row.alive ∷ Row.alive ∷ Row.off ∷ Row.off ∷
             Row.off ∷ Row.off ∷ Row.off ∷ Row.off ∷ Row.off ∷ Row.off ∷ Row.off ∷ Row.off ∷ Row.off ∷ List.[]; }
-        abbrev G60 : Row.Cx
-        G60 = record { locals = List._++_ g49 (List._++_ t50 (List._++_ t2 t3)); slots = life0 ∷ Row.off ∷ life2 ∷ Row.off ∷ Row.off ∷ life5 ∷ life6 ∷
-            life7 ∷ life8 ∷ Row.off ∷ Row.off ∷ Row.off ∷ Row.off ∷ Row.off ∷ Row.dead ∷ Row.alive ∷ Row.alive ∷ Row.alive ∷ Row.off ∷ Row.off ∷
-            Row.off ∷ Row.off ∷ Row.off ∷ Row.off ∷ Row.off ∷ Row.off ∷ Row.off ∷ Row.off ∷ Row.off ∷ List.[]; }
-        abbrev G61 : Row.Cx
-        G61 = record { locals = List._++_ g49 (List._++_ t50 (List._++_ t2 t3)); slots = life0 ∷ Row.off ∷ life2 ∷ Row.off ∷ Row.off ∷ life5 ∷ life6 ∷
-            life7 ∷ life8 ∷ Row.off ∷ Row.off ∷ Row.off ∷ Row.off ∷ Row.off ∷ Row.off ∷ Row.alive ∷ Row.alive ∷ Row.alive ∷ Row.off ∷ Row.off ∷
-            Row.off ∷ Row.off ∷ Row.off ∷ Row.off ∷ Row.off ∷ Row.off ∷ Row.off ∷ Row.off ∷ Row.off ∷ List.[]; }
-        abbrev G62 : Row.Cx
-        G62 = record { locals = List._++_ g49 (List._++_ t50 (List._++_ t2 t3)); slots = life0 ∷ Row.off ∷ life2 ∷ Row.off ∷ Row.off ∷ life5 ∷ life6 ∷
-            life7 ∷ life8 ∷ Row.off ∷ Row.off ∷ Row.off ∷ Row.off ∷ Row.off ∷ Row.off ∷ Row.dead ∷ Row.alive ∷ Row.alive ∷ Row.off ∷ Row.off ∷ Row.off
-            ∷ Row.off ∷ Row.off ∷ Row.off ∷ Row.off ∷ Row.off ∷ Row.off ∷ Row.off ∷ Row.off ∷ List.[]; }
         abbrev G63 : Row.Cx
-        G63 = record { locals = List._++_ g51 (List._++_ t52 (List._++_ t2 t3)); slots = life0 ∷ life1 ∷ life2 ∷ Row.off ∷ Row.off ∷ life5 ∷ life6 ∷
+        G63 = record { locals = List._++_ g54 (List._++_ t55 (List._++_ t50 t3)); slots = life0 ∷ Row.off ∷ life2 ∷ Row.off ∷ Row.off ∷ life5 ∷ life6
+            ∷ life7 ∷ life8 ∷ Row.off ∷ Row.off ∷ Row.off ∷ Row.off ∷ Row.off ∷ Row.off ∷ Row.alive ∷ Row.alive ∷ Row.alive ∷ Row.off ∷ Row.off ∷
+            Row.off ∷ Row.off ∷ Row.off ∷ Row.off ∷ Row.off ∷ Row.off ∷ Row.off ∷ Row.off ∷ Row.off ∷ List.[]; }
+        abbrev G64 : Row.Cx
+        G64 = record { locals = List._++_ g54 (List._++_ t55 (List._++_ t50 t3)); slots = life0 ∷ Row.off ∷ life2 ∷ Row.off ∷ Row.off ∷ life5 ∷ life6
+            ∷ life7 ∷ life8 ∷ Row.off ∷ Row.off ∷ Row.off ∷ Row.off ∷ Row.off ∷ Row.off ∷ Row.dead ∷ Row.alive ∷ Row.alive ∷ Row.off ∷ Row.off ∷
+            Row.off ∷ Row.off ∷ Row.off ∷ Row.off ∷ Row.off ∷ Row.off ∷ Row.off ∷ Row.off ∷ Row.off ∷ List.[]; }
+        abbrev G65 : Row.Cx
+        G65 = record { locals = List._++_ g56 (List._++_ t57 (List._++_ t50 t3)); slots = life0 ∷ life1 ∷ life2 ∷ Row.off ∷ Row.off ∷ life5 ∷ life6 ∷
             life7 ∷ life8 ∷ Row.off ∷ Row.off ∷ Row.off ∷ Row.off ∷ Row.off ∷ Row.off ∷ Row.dead ∷ Row.alive ∷ Row.alive ∷ Row.off ∷ Row.off ∷ Row.off
             ∷ Row.off ∷ Row.off ∷ Row.off ∷ Row.off ∷ Row.off ∷ Row.off ∷ Row.off ∷ Row.off ∷ List.[]; }
-        abbrev G64 : Row.Cx
-        G64 = record { locals = List._++_ g51 (List._++_ t52 (List._++_ t2 t3)); slots = life0 ∷ life1 ∷ life2 ∷ Row.off ∷ Row.off ∷ life5 ∷ life6 ∷
+        abbrev G66 : Row.Cx
+        G66 = record { locals = List._++_ g56 (List._++_ t57 (List._++_ t50 t3)); slots = life0 ∷ life1 ∷ life2 ∷ Row.off ∷ Row.off ∷ life5 ∷ life6 ∷
             life7 ∷ life8 ∷ Row.off ∷ Row.off ∷ Row.off ∷ Row.off ∷ Row.off ∷ Row.off ∷ Row.off ∷ Row.alive ∷ Row.alive ∷ Row.off ∷ Row.off ∷ Row.off
             ∷ Row.off ∷ Row.off ∷ Row.off ∷ Row.off ∷ Row.off ∷ Row.off ∷ Row.off ∷ Row.off ∷ List.[]; }
-        abbrev G65 : Row.Cx
-        G65 = record { locals = List._++_ g51 (List._++_ t52 (List._++_ t2 t3)); slots = life0 ∷ life1 ∷ life2 ∷ Row.off ∷ Row.off ∷ life5 ∷ life6 ∷
-            life7 ∷ life8 ∷ Row.off ∷ Row.off ∷ Row.off ∷ Row.off ∷ Row.off ∷ Row.off ∷ Row.off ∷ Row.dead ∷ Row.alive ∷ Row.off ∷ Row.off ∷ Row.off ∷
-            Row.off ∷ Row.off ∷ Row.off ∷ Row.off ∷ Row.off ∷ Row.off ∷ Row.off ∷ Row.off ∷ List.[]; }
-        abbrev G66 : Row.Cx
-        G66 = record { locals = List._++_ g53 (List._++_ t54 (List._++_ t2 t3)); slots = life0 ∷ life1 ∷ life2 ∷ life3 ∷ Row.off ∷ life5 ∷ life6 ∷
-            life7 ∷ life8 ∷ Row.off ∷ Row.off ∷ Row.off ∷ Row.off ∷ Row.off ∷ Row.off ∷ Row.off ∷ Row.dead ∷ Row.alive ∷ Row.off ∷ Row.off ∷ Row.off ∷
-            Row.off ∷ Row.off ∷ Row.off ∷ Row.off ∷ Row.off ∷ Row.off ∷ Row.off ∷ Row.off ∷ List.[]; }
         abbrev G67 : Row.Cx
-        G67 = record { locals = List._++_ g53 (List._++_ t54 (List._++_ t2 t3)); slots = life0 ∷ life1 ∷ life2 ∷ life3 ∷ Row.off ∷ life5 ∷ life6 ∷
-            life7 ∷ life8 ∷ Row.off ∷ Row.off ∷ Row.off ∷ Row.off ∷ Row.off ∷ Row.off ∷ Row.off ∷ Row.off ∷ Row.alive ∷ Row.off ∷ Row.off ∷ Row.off ∷
+        G67 = record { locals = List._++_ g56 (List._++_ t57 (List._++_ t50 t3)); slots = life0 ∷ life1 ∷ life2 ∷ Row.off ∷ Row.off ∷ life5 ∷ life6 ∷
+            life7 ∷ life8 ∷ Row.off ∷ Row.off ∷ Row.off ∷ Row.off ∷ Row.off ∷ Row.off ∷ Row.off ∷ Row.dead ∷ Row.alive ∷ Row.off ∷ Row.off ∷ Row.off ∷
             Row.off ∷ Row.off ∷ Row.off ∷ Row.off ∷ Row.off ∷ Row.off ∷ Row.off ∷ Row.off ∷ List.[]; }
         abbrev G68 : Row.Cx
-        G68 = record { locals = List._++_ g53 (List._++_ t54 (List._++_ t2 t3)); slots = life0 ∷ life1 ∷ life2 ∷ life3 ∷ Row.off ∷ life5 ∷ life6 ∷
-            life7 ∷ life8 ∷ Row.off ∷ Row.off ∷ Row.off ∷ Row.off ∷ Row.off ∷ Row.off ∷ Row.off ∷ Row.off ∷ Row.dead ∷ Row.off ∷ Row.off ∷ Row.off ∷
+        G68 = record { locals = List._++_ g58 (List._++_ t1 (List._++_ t50 t3)); slots = life0 ∷ life1 ∷ life2 ∷ life3 ∷ Row.off ∷ life5 ∷ life6 ∷
+            life7 ∷ life8 ∷ Row.off ∷ Row.off ∷ Row.off ∷ Row.off ∷ Row.off ∷ Row.off ∷ Row.off ∷ Row.dead ∷ Row.alive ∷ Row.off ∷ Row.off ∷ Row.off ∷
             Row.off ∷ Row.off ∷ Row.off ∷ Row.off ∷ Row.off ∷ Row.off ∷ Row.off ∷ Row.off ∷ List.[]; }
         abbrev G69 : Row.Cx
-        G69 = record { locals = List._++_ t6 (List._++_ t1 (List._++_ t2 t3)); slots = life0 ∷ life1 ∷ life2 ∷ life3 ∷ life4 ∷ life5 ∷ life6 ∷ life7 ∷
-            life8 ∷ Row.off ∷ Row.off ∷ Row.off ∷ Row.off ∷ Row.off ∷ Row.off ∷ Row.off ∷ Row.off ∷ Row.dead ∷ Row.off ∷ Row.off ∷ Row.off ∷ Row.off ∷
-            Row.off ∷ Row.off ∷ Row.off ∷ Row.off ∷ Row.off ∷ Row.off ∷ Row.off ∷ List.[]; }
+        G69 = record { locals = List._++_ g58 (List._++_ t1 (List._++_ t50 t3)); slots = life0 ∷ life1 ∷ life2 ∷ life3 ∷ Row.off ∷ life5 ∷ life6 ∷
+            life7 ∷ life8 ∷ Row.off ∷ Row.off ∷ Row.off ∷ Row.off ∷ Row.off ∷ Row.off ∷ Row.off ∷ Row.off ∷ Row.alive ∷ Row.off ∷ Row.off ∷ Row.off ∷
+            Row.off ∷ Row.off ∷ Row.off ∷ Row.off ∷ Row.off ∷ Row.off ∷ Row.off ∷ Row.off ∷ List.[]; }
         abbrev G70 : Row.Cx
-        G70 = record { locals = List._++_ t6 (List._++_ t1 (List._++_ t2 t3)); slots = life0 ∷ life1 ∷ life2 ∷ life3 ∷ life4 ∷ life5 ∷ life6 ∷ life7 ∷
-            life8 ∷ Row.off ∷ Row.off ∷ Row.off ∷ Row.off ∷ Row.off ∷ Row.off ∷ Row.off ∷ Row.off ∷ Row.dead ∷ Row.off ∷ Row.off ∷ Row.off ∷ Row.off ∷
-            Row.off ∷ Row.off ∷ Row.off ∷ Row.off ∷ Row.off ∷ Row.off ∷ Row.off ∷ List.[]; }
+        G70 = record { locals = List._++_ g58 (List._++_ t1 (List._++_ t50 t3)); slots = life0 ∷ life1 ∷ life2 ∷ life3 ∷ Row.off ∷ life5 ∷ life6 ∷
+            life7 ∷ life8 ∷ Row.off ∷ Row.off ∷ Row.off ∷ Row.off ∷ Row.off ∷ Row.off ∷ Row.off ∷ Row.off ∷ Row.dead ∷ Row.off ∷ Row.off ∷ Row.off ∷
+            Row.off ∷ Row.off ∷ Row.off ∷ Row.off ∷ Row.off ∷ Row.off ∷ Row.off ∷ Row.off ∷ List.[]; }
         abbrev G71 : Row.Cx
         G71 = record { locals = List._++_ t6 (List._++_ t1 (List._++_ t2 t3)); slots = life0 ∷ life1 ∷ life2 ∷ life3 ∷ life4 ∷ life5 ∷ life6 ∷ life7 ∷
-            life8 ∷ Row.off ∷ Row.off ∷ Row.off ∷ Row.off ∷ Row.off ∷ Row.off ∷ Row.off ∷ Row.off ∷ Row.off ∷ Row.off ∷ Row.off ∷ Row.off ∷ Row.off ∷
+            life8 ∷ Row.off ∷ Row.off ∷ Row.off ∷ Row.off ∷ Row.off ∷ Row.off ∷ Row.off ∷ Row.off ∷ Row.dead ∷ Row.off ∷ Row.off ∷ Row.off ∷ Row.off ∷
             Row.off ∷ Row.off ∷ Row.off ∷ Row.off ∷ Row.off ∷ Row.off ∷ Row.off ∷ List.[]; }
         abbrev G72 : Row.Cx
-        G72 = record { locals = List._++_ t5 (List._++_ t1 (List._++_ t2 t3)); slots = life0 ∷ life1 ∷ life2 ∷ life3 ∷ life4 ∷ life5 ∷ life6 ∷ life7 ∷
+        G72 = record { locals = List._++_ t6 (List._++_ t1 (List._++_ t2 t3)); slots = life0 ∷ life1 ∷ life2 ∷ life3 ∷ life4 ∷ life5 ∷ life6 ∷ life7 ∷
+            life8 ∷ Row.off ∷ Row.off ∷ Row.off ∷ Row.off ∷ Row.off ∷ Row.off ∷ Row.off ∷ Row.off ∷ Row.dead ∷ Row.off ∷ Row.off ∷ Row.off ∷ Row.off ∷
+            Row.off ∷ Row.off ∷ Row.off ∷ Row.off ∷ Row.off ∷ Row.off ∷ Row.off ∷ List.[]; }
+        abbrev G73 : Row.Cx
+        G73 = record { locals = List._++_ t6 (List._++_ t1 (List._++_ t2 t3)); slots = life0 ∷ life1 ∷ life2 ∷ life3 ∷ life4 ∷ life5 ∷ life6 ∷ life7 ∷
+            life8 ∷ Row.off ∷ Row.off ∷ Row.off ∷ Row.off ∷ Row.off ∷ Row.off ∷ Row.off ∷ Row.off ∷ Row.off ∷ Row.off ∷ Row.off ∷ Row.off ∷ Row.off ∷
+            Row.off ∷ Row.off ∷ Row.off ∷ Row.off ∷ Row.off ∷ Row.off ∷ Row.off ∷ List.[]; }
+        abbrev G74 : Row.Cx
+        G74 = record { locals = List._++_ t5 (List._++_ t1 (List._++_ t2 t3)); slots = life0 ∷ life1 ∷ life2 ∷ life3 ∷ life4 ∷ life5 ∷ life6 ∷ life7 ∷
             life8 ∷ Row.off ∷ Row.off ∷ Row.off ∷ Row.off ∷ Row.off ∷ Row.off ∷ Row.off ∷ Row.off ∷ Row.off ∷ Row.alive ∷ Row.off ∷ Row.off ∷ Row.off
             ∷ Row.off ∷ Row.off ∷ Row.off ∷ Row.off ∷ Row.off ∷ Row.off ∷ Row.off ∷ List.[]; }
-        abbrev G73 : Row.Cx
-        G73 = record { locals = List._++_ g55 (List._++_ t1 (List._++_ t56 t3)); slots = life0 ∷ Row.off ∷ life2 ∷ life3 ∷ life4 ∷ life5 ∷ life6 ∷
-            life7 ∷ life8 ∷ Row.off ∷ Row.off ∷ Row.off ∷ Row.off ∷ Row.off ∷ Row.off ∷ Row.off ∷ Row.off ∷ Row.off ∷ Row.alive ∷ Row.off ∷ Row.off ∷
-            Row.off ∷ Row.off ∷ Row.off ∷ Row.off ∷ Row.off ∷ Row.off ∷ Row.off ∷ Row.off ∷ List.[]; }
-        abbrev G74 : Row.Cx
-        G74 = record { locals = List._++_ g55 (List._++_ t1 (List._++_ t57 t3)); slots = life0 ∷ Row.off ∷ life2 ∷ life3 ∷ life4 ∷ life5 ∷ life6 ∷
-            life7 ∷ life8 ∷ Row.off ∷ Row.off ∷ Row.off ∷ Row.off ∷ Row.off ∷ Row.off ∷ Row.off ∷ Row.off ∷ Row.off ∷ Row.alive ∷ Row.off ∷ Row.off ∷
-            Row.off ∷ Row.off ∷ Row.off ∷ Row.off ∷ Row.off ∷ Row.off ∷ Row.off ∷ Row.off ∷ List.[]; }
         abbrev G75 : Row.Cx
-        G75 = record { locals = List._++_ g55 (List._++_ t1 (List._++_ t57 t3)); slots = life0 ∷ Row.off ∷ life2 ∷ life3 ∷ life4 ∷ life5 ∷ life6 ∷
-            life7 ∷ life8 ∷ Row.off ∷ Row.off ∷ Row.off ∷ Row.off ∷ Row.off ∷ Row.off ∷ Row.off ∷ Row.off ∷ Row.off ∷ Row.alive ∷ Row.alive ∷ Row.off
-            ∷ Row.off ∷ Row.off ∷ Row.off ∷ Row.off ∷ Row.off ∷ Row.off ∷ Row.off ∷ Row.off ∷ List.[]; }
+        G75 = record { locals = List._++_ g59 (List._++_ t1 (List._++_ t60 t3)); slots = life0 ∷ Row.off ∷ life2 ∷ life3 ∷ life4 ∷ life5 ∷ life6 ∷
+            life7 ∷ life8 ∷ Row.off ∷ Row.off ∷ Row.off ∷ Row.off ∷ Row.off ∷ Row.off ∷ Row.off ∷ Row.off ∷ Row.off ∷ Row.alive ∷ Row.off ∷ Row.off ∷
+            Row.off ∷ Row.off ∷ Row.off ∷ Row.off ∷ Row.off ∷ Row.off ∷ Row.off ∷ Row.off ∷ List.[]; }
         abbrev G76 : Row.Cx
-        G76 = record { locals = List._++_ g58 (List._++_ t1 (List._++_ t59 t3)); slots = life0 ∷ Row.off ∷ Row.off ∷ life3 ∷ life4 ∷ life5 ∷ life6 ∷
-            life7 ∷ life8 ∷ Row.off ∷ Row.off ∷ Row.off ∷ Row.off ∷ Row.off ∷ Row.off ∷ Row.off ∷ Row.off ∷ Row.off ∷ Row.alive ∷ Row.alive ∷ Row.off
-            ∷ Row.off ∷ Row.off ∷ Row.off ∷ Row.off ∷ Row.off ∷ Row.off ∷ Row.off ∷ Row.off ∷ List.[]; }
+        G76 = record { locals = List._++_ g59 (List._++_ t1 (List._++_ t61 t3)); slots = life0 ∷ Row.off ∷ life2 ∷ life3 ∷ life4 ∷ life5 ∷ life6 ∷
+            life7 ∷ life8 ∷ Row.off ∷ Row.off ∷ Row.off ∷ Row.off ∷ Row.off ∷ Row.off ∷ Row.off ∷ Row.off ∷ Row.off ∷ Row.alive ∷ Row.off ∷ Row.off ∷
+            Row.off ∷ Row.off ∷ Row.off ∷ Row.off ∷ Row.off ∷ Row.off ∷ Row.off ∷ Row.off ∷ List.[]; }
         abbrev G77 : Row.Cx
-        G77 = record { locals = List._++_ g58 (List._++_ t1 (List._++_ t60 t3)); slots = life0 ∷ Row.off ∷ Row.off ∷ life3 ∷ life4 ∷ life5 ∷ life6 ∷
+        G77 = record { locals = List._++_ g59 (List._++_ t1 (List._++_ t61 t3)); slots = life0 ∷ Row.off ∷ life2 ∷ life3 ∷ life4 ∷ life5 ∷ life6 ∷
             life7 ∷ life8 ∷ Row.off ∷ Row.off ∷ Row.off ∷ Row.off ∷ Row.off ∷ Row.off ∷ Row.off ∷ Row.off ∷ Row.off ∷ Row.alive ∷ Row.alive ∷ Row.off
             ∷ Row.off ∷ Row.off ∷ Row.off ∷ Row.off ∷ Row.off ∷ Row.off ∷ Row.off ∷ Row.off ∷ List.[]; }
         abbrev G78 : Row.Cx
-        G78 = record { locals = List._++_ g58 (List._++_ t1 (List._++_ t60 t3)); slots = life0 ∷ Row.off ∷ Row.off ∷ life3 ∷ life4 ∷ life5 ∷ life6 ∷
-            life7 ∷ life8 ∷ Row.off ∷ Row.off ∷ Row.off ∷ Row.off ∷ Row.off ∷ Row.off ∷ Row.off ∷ Row.off ∷ Row.off ∷ Row.alive ∷ Row.alive ∷
-            Row.alive ∷ Row.off ∷ Row.off ∷ Row.off ∷ Row.off ∷ Row.off ∷ Row.off ∷ Row.off ∷ Row.off ∷ List.[]; }
+        G78 = record { locals = List._++_ g62 (List._++_ t1 (List._++_ t63 t3)); slots = life0 ∷ Row.off ∷ Row.off ∷ life3 ∷ life4 ∷ life5 ∷ life6 ∷
+            life7 ∷ life8 ∷ Row.off ∷ Row.off ∷ Row.off ∷ Row.off ∷ Row.off ∷ Row.off ∷ Row.off ∷ Row.off ∷ Row.off ∷ Row.alive ∷ Row.alive ∷ Row.off
+            ∷ Row.off ∷ Row.off ∷ Row.off ∷ Row.off ∷ Row.off ∷ Row.off ∷ Row.off ∷ Row.off ∷ List.[]; }
         abbrev G79 : Row.Cx
-        G79 = record { locals = List._++_ g61 (List._++_ t1 (List._++_ t62 t3)); slots = life0 ∷ Row.off ∷ Row.off ∷ Row.off ∷ life4 ∷ life5 ∷ life6 ∷
-            life7 ∷ life8 ∷ Row.off ∷ Row.off ∷ Row.off ∷ Row.off ∷ Row.off ∷ Row.off ∷ Row.off ∷ Row.off ∷ Row.off ∷ Row.alive ∷ Row.alive ∷
-            Row.alive ∷ Row.off ∷ Row.off ∷ Row.off ∷ Row.off ∷ Row.off ∷ Row.off ∷ Row.off ∷ Row.off ∷ List.[]; }
+        G79 = record { locals = List._++_ g62 (List._++_ t1 (List._++_ t64 t3)); slots = life0 ∷ Row.off ∷ Row.off ∷ life3 ∷ life4 ∷ life5 ∷ life6 ∷
+            life7 ∷ life8 ∷ Row.off ∷ Row.off ∷ Row.off ∷ Row.off ∷ Row.off ∷ Row.off ∷ Row.off ∷ Row.off ∷ Row.off ∷ Row.alive ∷ Row.alive ∷ Row.off
+            ∷ Row.off ∷ Row.off ∷ Row.off ∷ Row.off ∷ Row.off ∷ Row.off ∷ Row.off ∷ Row.off ∷ List.[]; }
         abbrev G80 : Row.Cx
-        G80 = record { locals = List._++_ g61 (List._++_ t1 (List._++_ t63 t3)); slots = life0 ∷ Row.off ∷ Row.off ∷ Row.off ∷ life4 ∷ life5 ∷ life6 ∷
+        G80 = record { locals = List._++_ g62 (List._++_ t1 (List._++_ t64 t3)); slots = life0 ∷ Row.off ∷ Row.off ∷ life3 ∷ life4 ∷ life5 ∷ life6 ∷
             life7 ∷ life8 ∷ Row.off ∷ Row.off ∷ Row.off ∷ Row.off ∷ Row.off ∷ Row.off ∷ Row.off ∷ Row.off ∷ Row.off ∷ Row.alive ∷ Row.alive ∷
             Row.alive ∷ Row.off ∷ Row.off ∷ Row.off ∷ Row.off ∷ Row.off ∷ Row.off ∷ Row.off ∷ Row.off ∷ List.[]; }
         abbrev G81 : Row.Cx
-        G81 = record { locals = List._++_ g61 (List._++_ t1 (List._++_ t63 t3)); slots = life0 ∷ Row.off ∷ Row.off ∷ Row.off ∷ life4 ∷ life5 ∷ life6 ∷
+        G81 = record { locals = List._++_ g65 (List._++_ t1 (List._++_ t66 t3)); slots = life0 ∷ Row.off ∷ Row.off ∷ Row.off ∷ life4 ∷ life5 ∷ life6 ∷
+            life7 ∷ life8 ∷ Row.off ∷ Row.off ∷ Row.off ∷ Row.off ∷ Row.off ∷ Row.off ∷ Row.off ∷ Row.off ∷ Row.off ∷ Row.alive ∷ Row.alive ∷
+            Row.alive ∷ Row.off ∷ Row.off ∷ Row.off ∷ Row.off ∷ Row.off ∷ Row.off ∷ Row.off ∷ Row.off ∷ List.[]; }
+        abbrev G82 : Row.Cx
+        G82 = record { locals = List._++_ g65 (List._++_ t1 (List._++_ t67 t3)); slots = life0 ∷ Row.off ∷ Row.off ∷ Row.off ∷ life4 ∷ life5 ∷ life6 ∷
+            life7 ∷ life8 ∷ Row.off ∷ Row.off ∷ Row.off ∷ Row.off ∷ Row.off ∷ Row.off ∷ Row.off ∷ Row.off ∷ Row.off ∷ Row.alive ∷ Row.alive ∷
+            Row.alive ∷ Row.off ∷ Row.off ∷ Row.off ∷ Row.off ∷ Row.off ∷ Row.off ∷ Row.off ∷ Row.off ∷ List.[]; }
+        abbrev G83 : Row.Cx
+        G83 = record { locals = List._++_ g65 (List._++_ t1 (List._++_ t67 t3)); slots = life0 ∷ Row.off ∷ Row.off ∷ Row.off ∷ life4 ∷ life5 ∷ life6 ∷
             life7 ∷ life8 ∷ Row.off ∷ Row.off ∷ Row.off ∷ Row.off ∷ Row.off ∷ Row.off ∷ Row.off ∷ Row.off ∷ Row.off ∷ Row.alive ∷ Row.alive ∷
             Row.alive ∷ Row.alive ∷ Row.off ∷ Row.off ∷ Row.off ∷ Row.off ∷ Row.off ∷ Row.off ∷ Row.off ∷ List.[]; }
-        abbrev G82 : Row.Cx
-        G82 = record { locals = List._++_ g64 (List._++_ t1 (List._++_ t65 t3)); slots = life0 ∷ Row.off ∷ Row.off ∷ Row.off ∷ Row.off ∷ life5 ∷ life6
-            ∷ life7 ∷ life8 ∷ Row.off ∷ Row.off ∷ Row.off ∷ Row.off ∷ Row.off ∷ Row.off ∷ Row.off ∷ Row.off ∷ Row.off ∷ Row.alive ∷ Row.alive ∷
-            Row.alive ∷ Row.alive ∷ Row.off ∷ Row.off ∷ Row.off ∷ Row.off ∷ Row.off ∷ Row.off ∷ Row.off ∷ List.[]; }
-        abbrev G83 : Row.Cx
-        G83 = record { locals = List._++_ g64 (List._++_ t1 (List._++_ t66 t3)); slots = life0 ∷ Row.off ∷ Row.off ∷ Row.off ∷ Row.off ∷ life5 ∷ life6
-            ∷ life7 ∷ life8 ∷ Row.off ∷ Row.off ∷ Row.off ∷ Row.off ∷ Row.off ∷ Row.off ∷ Row.off ∷ Row.off ∷ Row.off ∷ Row.alive ∷ Row.alive ∷
-            Row.alive ∷ Row.alive ∷ Row.off ∷ Row.off ∷ Row.off ∷ Row.off ∷ Row.off ∷ Row.off ∷ Row.off ∷ List.[]; }
         abbrev G84 : Row.Cx
-        G84 = record { locals = List._++_ g67 (List._++_ t1 (List._++_ t68 t3)); slots = life0 ∷ Row.off ∷ Row.off ∷ Row.off ∷ Row.off ∷ life5 ∷ life6
+        G84 = record { locals = List._++_ g68 (List._++_ t1 (List._++_ t69 t3)); slots = life0 ∷ Row.off ∷ Row.off ∷ Row.off ∷ Row.off ∷ life5 ∷ life6
             ∷ life7 ∷ life8 ∷ Row.off ∷ Row.off ∷ Row.off ∷ Row.off ∷ Row.off ∷ Row.off ∷ Row.off ∷ Row.off ∷ Row.off ∷ Row.alive ∷ Row.alive ∷
             Row.alive ∷ Row.alive ∷ Row.off ∷ Row.off ∷ Row.off ∷ Row.off ∷ Row.off ∷ Row.off ∷ Row.off ∷ List.[]; }
         abbrev G85 : Row.Cx
-        G85 = record { locals = List._++_ g69 (List._++_ t1 (List._++_ t68 t3)); slots = life0 ∷ Row.off ∷ Row.off ∷ Row.off ∷ Row.off ∷ life5 ∷ life6
+        G85 = record { locals = List._++_ g68 (List._++_ t1 (List._++_ t70 t3)); slots = life0 ∷ Row.off ∷ Row.off ∷ Row.off ∷ Row.off ∷ life5 ∷ life6
             ∷ life7 ∷ life8 ∷ Row.off ∷ Row.off ∷ Row.off ∷ Row.off ∷ Row.off ∷ Row.off ∷ Row.off ∷ Row.off ∷ Row.off ∷ Row.alive ∷ Row.alive ∷
             Row.alive ∷ Row.alive ∷ Row.off ∷ Row.off ∷ Row.off ∷ Row.off ∷ Row.off ∷ Row.off ∷ Row.off ∷ List.[]; }
         abbrev G86 : Row.Cx
-        G86 = record { locals = List._++_ g70 (List._++_ t1 (List._++_ t68 t3)); slots = life0 ∷ Row.off ∷ Row.off ∷ Row.off ∷ Row.off ∷ life5 ∷ life6
+        G86 = record { locals = List._++_ g71 (List._++_ t1 (List._++_ t72 t3)); slots = life0 ∷ Row.off ∷ Row.off ∷ Row.off ∷ Row.off ∷ life5 ∷ life6
             ∷ life7 ∷ life8 ∷ Row.off ∷ Row.off ∷ Row.off ∷ Row.off ∷ Row.off ∷ Row.off ∷ Row.off ∷ Row.off ∷ Row.off ∷ Row.alive ∷ Row.alive ∷
             Row.alive ∷ Row.alive ∷ Row.off ∷ Row.off ∷ Row.off ∷ Row.off ∷ Row.off ∷ Row.off ∷ Row.off ∷ List.[]; }
         abbrev G87 : Row.Cx
-        G87 = record { locals = List._++_ g70 (List._++_ t1 (List._++_ t68 t3)); slots = life0 ∷ Row.off ∷ Row.off ∷ Row.off ∷ Row.off ∷ life5 ∷ life6
-            ∷ life7 ∷ life8 ∷ Row.off ∷ Row.off ∷ Row.off ∷ Row.off ∷ Row.off ∷ Row.off ∷ Row.off ∷ Row.off ∷ Row.off ∷ Row.dead ∷ Row.alive ∷
+        G87 = record { locals = List._++_ g73 (List._++_ t1 (List._++_ t72 t3)); slots = life0 ∷ Row.off ∷ Row.off ∷ Row.off ∷ Row.off ∷ life5 ∷ life6
+            ∷ life7 ∷ life8 ∷ Row.off ∷ Row.off ∷ Row.off ∷ Row.off ∷ Row.off ∷ Row.off ∷ Row.off ∷ Row.off ∷ Row.off ∷ Row.alive ∷ Row.alive ∷
             Row.alive ∷ Row.alive ∷ Row.off ∷ Row.off ∷ Row.off ∷ Row.off ∷ Row.off ∷ Row.off ∷ Row.off ∷ List.[]; }
         abbrev G88 : Row.Cx
-        G88 = record { locals = List._++_ g71 (List._++_ t1 (List._++_ t72 t3)); slots = life0 ∷ life1 ∷ Row.off ∷ Row.off ∷ Row.off ∷ life5 ∷ life6 ∷
+        G88 = record { locals = List._++_ g74 (List._++_ t1 (List._++_ t72 t3)); slots = life0 ∷ Row.off ∷ Row.off ∷ Row.off ∷ Row.off ∷ life5 ∷ life6
+            ∷ life7 ∷ life8 ∷ Row.off ∷ Row.off ∷ Row.off ∷ Row.off ∷ Row.off ∷ Row.off ∷ Row.off ∷ Row.off ∷ Row.off ∷ Row.alive ∷ Row.alive ∷
+            Row.alive ∷ Row.alive ∷ Row.off ∷ Row.off ∷ Row.off ∷ Row.off ∷ Row.off ∷ Row.off ∷ Row.off ∷ List.[]; }
+        abbrev G89 : Row.Cx
+        G89 = record { locals = List._++_ g75 (List._++_ t1 (List._++_ t72 t3)); slots = life0 ∷ Row.off ∷ Row.off ∷ Row.off ∷ Row.off ∷ life5 ∷ life6
+            ∷ life7 ∷ life8 ∷ Row.off ∷ Row.off ∷ Row.off ∷ Row.off ∷ Row.off ∷ Row.off ∷ Row.off ∷ Row.off ∷ Row.off ∷ Row.alive ∷ Row.alive ∷
+            Row.alive ∷ Row.alive ∷ Row.off ∷ Row.off ∷ Row.off ∷ Row.off ∷ Row.off ∷ Row.off ∷ Row.off ∷ List.[]; }
+        abbrev G90 : Row.Cx
+        G90 = record { locals = List._++_ g75 (List._++_ t1 (List._++_ t72 t3)); slots = life0 ∷ Row.off ∷ Row.off ∷ Row.off ∷ Row.off ∷ life5 ∷ life6
+            ∷ life7 ∷ life8 ∷ Row.off ∷ Row.off ∷ Row.off ∷ Row.off ∷ Row.off ∷ Row.off ∷ Row.off ∷ Row.off ∷ Row.off ∷ Row.dead ∷ Row.alive ∷
+            Row.alive ∷ Row.alive ∷ Row.off ∷ Row.off ∷ Row.off ∷ Row.off ∷ Row.off ∷ Row.off ∷ Row.off ∷ List.[]; }
+        abbrev G91 : Row.Cx
+        G91 = record { locals = List._++_ g76 (List._++_ t1 (List._++_ t77 t3)); slots = life0 ∷ life1 ∷ Row.off ∷ Row.off ∷ Row.off ∷ life5 ∷ life6 ∷
             life7 ∷ life8 ∷ Row.off ∷ Row.off ∷ Row.off ∷ Row.off ∷ Row.off ∷ Row.off ∷ Row.off ∷ Row.off ∷ Row.off ∷ Row.dead ∷ Row.alive ∷ Row.alive
             ∷ Row.alive ∷ Row.off ∷ Row.off ∷ Row.off ∷ Row.off ∷ Row.off ∷ Row.off ∷ Row.off ∷ List.[]; }
-        abbrev G89 : Row.Cx
-        G89 = record { locals = List._++_ g71 (List._++_ t1 (List._++_ t72 t3)); slots = life0 ∷ life1 ∷ Row.off ∷ Row.off ∷ Row.off ∷ life5 ∷ life6 ∷
+        abbrev G92 : Row.Cx
+        G92 = record { locals = List._++_ g76 (List._++_ t1 (List._++_ t77 t3)); slots = life0 ∷ life1 ∷ Row.off ∷ Row.off ∷ Row.off ∷ life5 ∷ life6 ∷
             life7 ∷ life8 ∷ Row.off ∷ Row.off ∷ Row.off ∷ Row.off ∷ Row.off ∷ Row.off ∷ Row.off ∷ Row.off ∷ Row.off ∷ Row.off ∷ Row.alive ∷ Row.alive
             ∷ Row.alive ∷ Row.off ∷ Row.off ∷ Row.off ∷ Row.off ∷ Row.off ∷ Row.off ∷ Row.off ∷ List.[]; }
-        abbrev G90 : Row.Cx
-        G90 = record { locals = List._++_ g71 (List._++_ t1 (List._++_ t72 t3)); slots = life0 ∷ life1 ∷ Row.off ∷ Row.off ∷ Row.off ∷ life5 ∷ life6 ∷
-            life7 ∷ life8 ∷ Row.off ∷ Row.off ∷ Row.off ∷ Row.off ∷ Row.off ∷ Row.off ∷ Row.off ∷ Row.off ∷ Row.off ∷ Row.off ∷ Row.dead ∷ Row.alive ∷
-            Row.alive ∷ Row.off ∷ Row.off ∷ Row.off ∷ Row.off ∷ Row.off ∷ Row.off ∷ Row.off ∷ List.[]; }
-        abbrev G91 : Row.Cx
-        G91 = record { locals = List._++_ g73 (List._++_ t1 (List._++_ t74 t3)); slots = life0 ∷ life1 ∷ life2 ∷ Row.off ∷ Row.off ∷ life5 ∷ life6 ∷
-            life7 ∷ life8 ∷ Row.off ∷ Row.off ∷ Row.off ∷ Row.off ∷ Row.off ∷ Row.off ∷ Row.off ∷ Row.off ∷ Row.off ∷ Row.off ∷ Row.dead ∷ Row.alive ∷
-            Row.alive ∷ Row.off ∷ Row.off ∷ Row.off ∷ Row.off ∷ Row.off ∷ Row.off ∷ Row.off ∷ List.[]; }
-        abbrev G92 : Row.Cx
-        G92 = record { locals = List._++_ g73 (List._++_ t1 (List._++_ t74 t3)); slots = life0 ∷ life1 ∷ life2 ∷ Row.off ∷ Row.off ∷ life5 ∷ life6 ∷
-            life7 ∷ life8 ∷ Row.off ∷ Row.off ∷ Row.off ∷ Row.off ∷ Row.off ∷ Row.off ∷ Row.off ∷ Row.off ∷ Row.off ∷ Row.off ∷ Row.off ∷ Row.alive ∷
-            Row.alive ∷ Row.off ∷ Row.off ∷ Row.off ∷ Row.off ∷ Row.off ∷ Row.off ∷ Row.off ∷ List.[]; }
         abbrev G93 : Row.Cx
-        G93 = record { locals = List._++_ g73 (List._++_ t1 (List._++_ t74 t3)); slots = life0 ∷ life1 ∷ life2 ∷ Row.off ∷ Row.off ∷ life5 ∷ life6 ∷
-            life7 ∷ life8 ∷ Row.off ∷ Row.off ∷ Row.off ∷ Row.off ∷ Row.off ∷ Row.off ∷ Row.off ∷ Row.off ∷ Row.off ∷ Row.off ∷ Row.off ∷ Row.dead ∷
+        G93 = record { locals = List._++_ g76 (List._++_ t1 (List._++_ t77 t3)); slots = life0 ∷ life1 ∷ Row.off ∷ Row.off ∷ Row.off ∷ life5 ∷ life6 ∷
+            life7 ∷ life8 ∷ Row.off ∷ Row.off ∷ Row.off ∷ Row.off ∷ Row.off ∷ Row.off ∷ Row.off ∷ Row.off ∷ Row.off ∷ Row.off ∷ Row.dead ∷ Row.alive ∷
             Row.alive ∷ Row.off ∷ Row.off ∷ Row.off ∷ Row.off ∷ Row.off ∷ Row.off ∷ Row.off ∷ List.[]; }
         abbrev G94 : Row.Cx
-        G94 = record { locals = List._++_ g75 (List._++_ t1 (List._++_ t76 t3)); slots = life0 ∷ life1 ∷ life2 ∷ life3 ∷ Row.off ∷ life5 ∷ life6 ∷
-            life7 ∷ life8 ∷ Row.off ∷ Row.off ∷ Row.off ∷ Row.off ∷ Row.off ∷ Row.off ∷ Row.off ∷ Row.off ∷ Row.off ∷ Row.off ∷ Row.off ∷ Row.dead ∷
+        G94 = record { locals = List._++_ g78 (List._++_ t1 (List._++_ t79 t3)); slots = life0 ∷ life1 ∷ life2 ∷ Row.off ∷ Row.off ∷ life5 ∷ life6 ∷
+            life7 ∷ life8 ∷ Row.off ∷ Row.off ∷ Row.off ∷ Row.off ∷ Row.off ∷ Row.off ∷ Row.off ∷ Row.off ∷ Row.off ∷ Row.off ∷ Row.dead ∷ Row.alive ∷
             Row.alive ∷ Row.off ∷ Row.off ∷ Row.off ∷ Row.off ∷ Row.off ∷ Row.off ∷ Row.off ∷ List.[]; }
         abbrev G95 : Row.Cx
-        G95 = record { locals = List._++_ g75 (List._++_ t1 (List._++_ t76 t3)); slots = life0 ∷ life1 ∷ life2 ∷ life3 ∷ Row.off ∷ life5 ∷ life6 ∷
-            life7 ∷ life8 ∷ Row.off ∷ Row.off ∷ Row.off ∷ Row.off ∷ Row.off ∷ Row.off ∷ Row.off ∷ Row.off ∷ Row.off ∷ Row.off ∷ Row.off ∷ Row.off ∷
+        G95 = record { locals = List._++_ g78 (List._++_ t1 (List._++_ t79 t3)); slots = life0 ∷ life1 ∷ life2 ∷ Row.off ∷ Row.off ∷ life5 ∷ life6 ∷
+            life7 ∷ life8 ∷ Row.off ∷ Row.off ∷ Row.off ∷ Row.off ∷ Row.off ∷ Row.off ∷ Row.off ∷ Row.off ∷ Row.off ∷ Row.off ∷ Row.off ∷ Row.alive ∷
             Row.alive ∷ Row.off ∷ Row.off ∷ Row.off ∷ Row.off ∷ Row.off ∷ Row.off ∷ Row.off ∷ List.[]; }
         abbrev G96 : Row.Cx
-        G96 = record { locals = List._++_ g75 (List._++_ t1 (List._++_ t76 t3)); slots = life0 ∷ life1 ∷ life2 ∷ life3 ∷ Row.off ∷ life5 ∷ life6 ∷
+        G96 = record { locals = List._++_ g78 (List._++_ t1 (List._++_ t79 t3)); slots = life0 ∷ life1 ∷ life2 ∷ Row.off ∷ Row.off ∷ life5 ∷ life6 ∷
+            life7 ∷ life8 ∷ Row.off ∷ Row.off ∷ Row.off ∷ Row.off ∷ Row.off ∷ Row.off ∷ Row.off ∷ Row.off ∷ Row.off ∷ Row.off ∷ Row.off ∷ Row.dead ∷
+            Row.alive ∷ Row.off ∷ Row.off ∷ Row.off ∷ Row.off ∷ Row.off ∷ Row.off ∷ Row.off ∷ List.[]; }
+        abbrev G97 : Row.Cx
+        G97 = record { locals = List._++_ g80 (List._++_ t1 (List._++_ t81 t3)); slots = life0 ∷ life1 ∷ life2 ∷ life3 ∷ Row.off ∷ life5 ∷ life6 ∷
+            life7 ∷ life8 ∷ Row.off ∷ Row.off ∷ Row.off ∷ Row.off ∷ Row.off ∷ Row.off ∷ Row.off ∷ Row.off ∷ Row.off ∷ Row.off ∷ Row.off ∷ Row.dead ∷
+            Row.alive ∷ Row.off ∷ Row.off ∷ Row.off ∷ Row.off ∷ Row.off ∷ Row.off ∷ Row.off ∷ List.[]; }
+        abbrev G98 : Row.Cx
+        G98 = record { locals = List._++_ g80 (List._++_ t1 (List._++_ t81 t3)); slots = life0 ∷ life1 ∷ life2 ∷ life3 ∷ Row.off ∷ life5 ∷ life6 ∷
+            life7 ∷ life8 ∷ Row.off ∷ Row.off ∷ Row.off ∷ Row.off ∷ Row.off ∷ Row.off ∷ Row.off ∷ Row.off ∷ Row.off ∷ Row.off ∷ Row.off ∷ Row.off ∷
+            Row.alive ∷ Row.off ∷ Row.off ∷ Row.off ∷ Row.off ∷ Row.off ∷ Row.off ∷ Row.off ∷ List.[]; }
+        abbrev G99 : Row.Cx
+        G99 = record { locals = List._++_ g80 (List._++_ t1 (List._++_ t81 t3)); slots = life0 ∷ life1 ∷ life2 ∷ life3 ∷ Row.off ∷ life5 ∷ life6 ∷
             life7 ∷ life8 ∷ Row.off ∷ Row.off ∷ Row.off ∷ Row.off ∷ Row.off ∷ Row.off ∷ Row.off ∷ Row.off ∷ Row.off ∷ Row.off ∷ Row.off ∷ Row.off ∷
             Row.dead ∷ Row.off ∷ Row.off ∷ Row.off ∷ Row.off ∷ Row.off ∷ Row.off ∷ Row.off ∷ List.[]; }
-        abbrev G97 : Row.Cx
-        G97 = record { locals = List._++_ t6 (List._++_ t1 (List._++_ t2 t3)); slots = life0 ∷ life1 ∷ life2 ∷ life3 ∷ life4 ∷ life5 ∷ life6 ∷ life7 ∷
-            life8 ∷ Row.off ∷ Row.off ∷ Row.off ∷ Row.off ∷ Row.off ∷ Row.off ∷ Row.off ∷ Row.off ∷ Row.off ∷ Row.off ∷ Row.off ∷ Row.off ∷ Row.dead ∷
-            Row.off ∷ Row.off ∷ Row.off ∷ Row.off ∷ Row.off ∷ Row.off ∷ Row.off ∷ List.[]; }
-        abbrev G98 : Row.Cx
-        G98 = record { locals = List._++_ t6 (List._++_ t1 (List._++_ t2 t3)); slots = life0 ∷ life1 ∷ life2 ∷ life3 ∷ life4 ∷ life5 ∷ life6 ∷ life7 ∷
-            life8 ∷ Row.off ∷ Row.off ∷ Row.off ∷ Row.off ∷ Row.off ∷ Row.off ∷ Row.off ∷ Row.off ∷ Row.off ∷ Row.off ∷ Row.off ∷ Row.off ∷ Row.dead ∷
-            Row.off ∷ Row.off ∷ Row.off ∷ Row.off ∷ Row.off ∷ Row.off ∷ Row.off ∷ List.[]; }
-        abbrev G99 : Row.Cx
-        G99 = record { locals = List._++_ t6 (List._++_ t1 (List._++_ t2 t3)); slots = life0 ∷ life1 ∷ life2 ∷ life3 ∷ life4 ∷ life5 ∷ life6 ∷ life7 ∷
-            life8 ∷ Row.off ∷ Row.off ∷ Row.off ∷ Row.off ∷ Row.off ∷ Row.off ∷ Row.off ∷ Row.off ∷ Row.off ∷ Row.off ∷ Row.off ∷ Row.off ∷ Row.off ∷
-            Row.off ∷ Row.off ∷ Row.off ∷ Row.off ∷ Row.off ∷ Row.off ∷ Row.off ∷ List.[]; }
         abbrev G100 : Row.Cx
-        G100 = record { locals = List._++_ t5 (List._++_ t1 (List._++_ t2 t3)); slots = life0 ∷ life1 ∷ life2 ∷ life3 ∷ life4 ∷ life5 ∷ life6 ∷ life7
+        G100 = record { locals = List._++_ t6 (List._++_ t1 (List._++_ t2 t3)); slots = life0 ∷ life1 ∷ life2 ∷ life3 ∷ life4 ∷ life5 ∷ life6 ∷ life7
+            ∷ life8 ∷ Row.off ∷ Row.off ∷ Row.off ∷ Row.off ∷ Row.off ∷ Row.off ∷ Row.off ∷ Row.off ∷ Row.off ∷ Row.off ∷ Row.off ∷ Row.off ∷ Row.dead
+            ∷ Row.off ∷ Row.off ∷ Row.off ∷ Row.off ∷ Row.off ∷ Row.off ∷ Row.off ∷ List.[]; }
+        abbrev G101 : Row.Cx
+        G101 = record { locals = List._++_ t6 (List._++_ t1 (List._++_ t2 t3)); slots = life0 ∷ life1 ∷ life2 ∷ life3 ∷ life4 ∷ life5 ∷ life6 ∷ life7
+            ∷ life8 ∷ Row.off ∷ Row.off ∷ Row.off ∷ Row.off ∷ Row.off ∷ Row.off ∷ Row.off ∷ Row.off ∷ Row.off ∷ Row.off ∷ Row.off ∷ Row.off ∷ Row.dead
+            ∷ Row.off ∷ Row.off ∷ Row.off ∷ Row.off ∷ Row.off ∷ Row.off ∷ Row.off ∷ List.[]; }
+        abbrev G102 : Row.Cx
+        G102 = record { locals = List._++_ t6 (List._++_ t1 (List._++_ t2 t3)); slots = life0 ∷ life1 ∷ life2 ∷ life3 ∷ life4 ∷ life5 ∷ life6 ∷ life7
+            ∷ life8 ∷ Row.off ∷ Row.off ∷ Row.off ∷ Row.off ∷ Row.off ∷ Row.off ∷ Row.off ∷ Row.off ∷ Row.off ∷ Row.off ∷ Row.off ∷ Row.off ∷ Row.off
+            ∷ Row.off ∷ Row.off ∷ Row.off ∷ Row.off ∷ Row.off ∷ Row.off ∷ Row.off ∷ List.[]; }
+        abbrev G103 : Row.Cx
+        G103 = record { locals = List._++_ t5 (List._++_ t1 (List._++_ t2 t3)); slots = life0 ∷ life1 ∷ life2 ∷ life3 ∷ life4 ∷ life5 ∷ life6 ∷ life7
             ∷ life8 ∷ Row.off ∷ Row.off ∷ Row.off ∷ Row.off ∷ Row.off ∷ Row.off ∷ Row.off ∷ Row.off ∷ Row.off ∷ Row.off ∷ Row.off ∷ Row.off ∷ Row.off
             ∷ Row.alive ∷ Row.off ∷ Row.off ∷ Row.off ∷ Row.off ∷ Row.off ∷ Row.off ∷ List.[]; }
-        abbrev G101 : Row.Cx
-        G101 = record { locals = List._++_ g77 (List._++_ t1 (List._++_ t78 t3)); slots = life0 ∷ Row.off ∷ life2 ∷ life3 ∷ life4 ∷ life5 ∷ life6 ∷
-            life7 ∷ life8 ∷ Row.off ∷ Row.off ∷ Row.off ∷ Row.off ∷ Row.off ∷ Row.off ∷ Row.off ∷ Row.off ∷ Row.off ∷ Row.off ∷ Row.off ∷ Row.off ∷
-            Row.off ∷ Row.alive ∷ Row.off ∷ Row.off ∷ Row.off ∷ Row.off ∷ Row.off ∷ Row.off ∷ List.[]; }
-        abbrev G102 : Row.Cx
-        G102 = record { locals = List._++_ g77 (List._++_ t1 (List._++_ t79 t3)); slots = life0 ∷ Row.off ∷ life2 ∷ life3 ∷ life4 ∷ life5 ∷ life6 ∷
-            life7 ∷ life8 ∷ Row.off ∷ Row.off ∷ Row.off ∷ Row.off ∷ Row.off ∷ Row.off ∷ Row.off ∷ Row.off ∷ Row.off ∷ Row.off ∷ Row.off ∷ Row.off ∷
-            Row.off ∷ Row.alive ∷ Row.off ∷ Row.off ∷ Row.off ∷ Row.off ∷ Row.off ∷ Row.off ∷ List.[]; }
-        abbrev G103 : Row.Cx
-        G103 = record { locals = List._++_ g77 (List._++_ t1 (List._++_ t79 t3)); slots = life0 ∷ Row.off ∷ life2 ∷ life3 ∷ life4 ∷ life5 ∷ life6 ∷
-            life7 ∷ life8 ∷ Row.off ∷ Row.off ∷ Row.off ∷ Row.off ∷ Row.off ∷ Row.off ∷ Row.off ∷ Row.off ∷ Row.off ∷ Row.off ∷ Row.off ∷ Row.off ∷
-            Row.off ∷ Row.alive ∷ Row.alive ∷ Row.off ∷ Row.off ∷ Row.off ∷ Row.off ∷ Row.off ∷ List.[]; }
         abbrev G104 : Row.Cx
-        G104 = record { locals = List._++_ g80 (List._++_ t1 (List._++_ t81 t3)); slots = life0 ∷ Row.off ∷ life2 ∷ Row.off ∷ life4 ∷ life5 ∷ life6 ∷
+        G104 = record { locals = List._++_ g82 (List._++_ t1 (List._++_ t83 t3)); slots = life0 ∷ Row.off ∷ life2 ∷ life3 ∷ life4 ∷ life5 ∷ life6 ∷
             life7 ∷ life8 ∷ Row.off ∷ Row.off ∷ Row.off ∷ Row.off ∷ Row.off ∷ Row.off ∷ Row.off ∷ Row.off ∷ Row.off ∷ Row.off ∷ Row.off ∷ Row.off ∷
-            Row.off ∷ Row.alive ∷ Row.alive ∷ Row.off ∷ Row.off ∷ Row.off ∷ Row.off ∷ Row.off ∷ List.[]; }
+            Row.off ∷ Row.alive ∷ Row.off ∷ Row.off ∷ Row.off ∷ Row.off ∷ Row.off ∷ Row.off ∷ List.[]; }
         abbrev G105 : Row.Cx
-        G105 = record { locals = List._++_ g80 (List._++_ t1 (List._++_ t82 t3)); slots = life0 ∷ Row.off ∷ life2 ∷ Row.off ∷ life4 ∷ life5 ∷ life6 ∷
+        G105 = record { locals = List._++_ g82 (List._++_ t1 (List._++_ t84 t3)); slots = life0 ∷ Row.off ∷ life2 ∷ life3 ∷ life4 ∷ life5 ∷ life6 ∷
+            life7 ∷ life8 ∷ Row.off ∷ Row.off ∷ Row.off ∷ Row.off ∷ Row.off ∷ Row.off ∷ Row.off ∷ Row.off ∷ Row.off ∷ Row.off ∷ Row.off ∷ Row.off ∷
+            Row.off ∷ Row.alive ∷ Row.off ∷ Row.off ∷ Row.off ∷ Row.off ∷ Row.off ∷ Row.off ∷ List.[]; }
+        abbrev G106 : Row.Cx
+        G106 = record { locals = List._++_ g82 (List._++_ t1 (List._++_ t84 t3)); slots = life0 ∷ Row.off ∷ life2 ∷ life3 ∷ life4 ∷ life5 ∷ life6 ∷
             life7 ∷ life8 ∷ Row.off ∷ Row.off ∷ Row.off ∷ Row.off ∷ Row.off ∷ Row.off ∷ Row.off ∷ Row.off ∷ Row.off ∷ Row.off ∷ Row.off ∷ Row.off ∷
             Row.off ∷ Row.alive ∷ Row.alive ∷ Row.off ∷ Row.off ∷ Row.off ∷ Row.off ∷ Row.off ∷ List.[]; }
-        abbrev G106 : Row.Cx
-        G106 = record { locals = List._++_ g80 (List._++_ t1 (List._++_ t82 t3)); slots = life0 ∷ Row.off ∷ life2 ∷ Row.off ∷ life4 ∷ life5 ∷ life6 ∷
-            life7 ∷ life8 ∷ Row.off ∷ Row.off ∷ Row.off ∷ Row.off ∷ Row.off ∷ Row.off ∷ Row.off ∷ Row.off ∷ Row.off ∷ Row.off ∷ Row.off ∷ Row.off ∷
-            Row.off ∷ Row.alive ∷ Row.alive ∷ Row.alive ∷ Row.off ∷ Row.off ∷ Row.off ∷ Row.off ∷ List.[]; }
         abbrev G107 : Row.Cx
-        G107 = record { locals = List._++_ g83 (List._++_ t1 (List._++_ t84 t3)); slots = life0 ∷ Row.off ∷ life2 ∷ Row.off ∷ Row.off ∷ life5 ∷ life6
-            ∷ life7 ∷ life8 ∷ Row.off ∷ Row.off ∷ Row.off ∷ Row.off ∷ Row.off ∷ Row.off ∷ Row.off ∷ Row.off ∷ Row.off ∷ Row.off ∷ Row.off ∷ Row.off ∷
-            Row.off ∷ Row.alive ∷ Row.alive ∷ Row.alive ∷ Row.off ∷ Row.off ∷ Row.off ∷ Row.off ∷ List.[]; }
+        G107 = record { locals = List._++_ g85 (List._++_ t1 (List._++_ t86 t3)); slots = life0 ∷ Row.off ∷ life2 ∷ Row.off ∷ life4 ∷ life5 ∷ life6 ∷
+            life7 ∷ life8 ∷ Row.off ∷ Row.off ∷ Row.off ∷ Row.off ∷ Row.off ∷ Row.off ∷ Row.off ∷ Row.off ∷ Row.off ∷ Row.off ∷ Row.off ∷ Row.off ∷
+            Row.off ∷ Row.alive ∷ Row.alive ∷ Row.off ∷ Row.off ∷ Row.off ∷ Row.off ∷ Row.off ∷ List.[]; }
         abbrev G108 : Row.Cx
-        G108 = record { locals = List._++_ g83 (List._++_ t1 (List._++_ t85 t3)); slots = life0 ∷ Row.off ∷ life2 ∷ Row.off ∷ Row.off ∷ life5 ∷ life6
-            ∷ life7 ∷ life8 ∷ Row.off ∷ Row.off ∷ Row.off ∷ Row.off ∷ Row.off ∷ Row.off ∷ Row.off ∷ Row.off ∷ Row.off ∷ Row.off ∷ Row.off ∷ Row.off ∷
-            Row.off ∷ Row.alive ∷ Row.alive ∷ Row.alive ∷ Row.off ∷ Row.off ∷ Row.off ∷ Row.off ∷ List.[]; }
+        G108 = record { locals = List._++_ g85 (List._++_ t1 (List._++_ t87 t3)); slots = life0 ∷ Row.off ∷ life2 ∷ Row.off ∷ life4 ∷ life5 ∷ life6 ∷
+            life7 ∷ life8 ∷ Row.off ∷ Row.off ∷ Row.off ∷ Row.off ∷ Row.off ∷ Row.off ∷ Row.off ∷ Row.off ∷ Row.off ∷ Row.off ∷ Row.off ∷ Row.off ∷
+            Row.off ∷ Row.alive ∷ Row.alive ∷ Row.off ∷ Row.off ∷ Row.off ∷ Row.off ∷ Row.off ∷ List.[]; }
         abbrev G109 : Row.Cx
-        G109 = record { locals = List._++_ g86 (List._++_ t1 (List._++_ t87 t3)); slots = life0 ∷ Row.off ∷ life2 ∷ Row.off ∷ Row.off ∷ life5 ∷ life6
-            ∷ life7 ∷ life8 ∷ Row.off ∷ Row.off ∷ Row.off ∷ Row.off ∷ Row.off ∷ Row.off ∷ Row.off ∷ Row.off ∷ Row.off ∷ Row.off ∷ Row.off ∷ Row.off ∷
+        G109 = record { locals = List._++_ g85 (List._++_ t1 (List._++_ t87 t3)); slots = life0 ∷ Row.off ∷ life2 ∷ Row.off ∷ life4 ∷ life5 ∷ life6 ∷
+            life7 ∷ life8 ∷ Row.off ∷ Row.off ∷ Row.off ∷ Row.off ∷ Row.off ∷ Row.off ∷ Row.off ∷ Row.off ∷ Row.off ∷ Row.off ∷ Row.off ∷ Row.off ∷
             Row.off ∷ Row.alive ∷ Row.alive ∷ Row.alive ∷ Row.off ∷ Row.off ∷ Row.off ∷ Row.off ∷ List.[]; }
         abbrev G110 : Row.Cx
-        G110 = record { locals = List._++_ g88 (List._++_ t1 (List._++_ t87 t3)); slots = life0 ∷ Row.off ∷ life2 ∷ Row.off ∷ Row.off ∷ life5 ∷ life6
+        G110 = record { locals = List._++_ g88 (List._++_ t1 (List._++_ t89 t3)); slots = life0 ∷ Row.off ∷ life2 ∷ Row.off ∷ Row.off ∷ life5 ∷ life6
             ∷ life7 ∷ life8 ∷ Row.off ∷ Row.off ∷ Row.off ∷ Row.off ∷ Row.off ∷ Row.off ∷ Row.off ∷ Row.off ∷ Row.off ∷ Row.off ∷ Row.off ∷ Row.off ∷
             Row.off ∷ Row.alive ∷ Row.alive ∷ Row.alive ∷ Row.off ∷ Row.off ∷ Row.off ∷ Row.off ∷ List.[]; }
         abbrev G111 : Row.Cx
-        G111 = record { locals = List._++_ g89 (List._++_ t1 (List._++_ t87 t3)); slots = life0 ∷ Row.off ∷ life2 ∷ Row.off ∷ Row.off ∷ life5 ∷ life6
+        G111 = record { locals = List._++_ g88 (List._++_ t1 (List._++_ t90 t3)); slots = life0 ∷ Row.off ∷ life2 ∷ Row.off ∷ Row.off ∷ life5 ∷ life6
             ∷ life7 ∷ life8 ∷ Row.off ∷ Row.off ∷ Row.off ∷ Row.off ∷ Row.off ∷ Row.off ∷ Row.off ∷ Row.off ∷ Row.off ∷ Row.off ∷ Row.off ∷ Row.off ∷
             Row.off ∷ Row.alive ∷ Row.alive ∷ Row.alive ∷ Row.off ∷ Row.off ∷ Row.off ∷ Row.off ∷ List.[]; }
         abbrev G112 : Row.Cx
-        G112 = record { locals = List._++_ g89 (List._++_ t1 (List._++_ t87 t3)); slots = life0 ∷ Row.off ∷ life2 ∷ Row.off ∷ Row.off ∷ life5 ∷ life6
+        G112 = record { locals = List._++_ g91 (List._++_ t1 (List._++_ t92 t3)); slots = life0 ∷ Row.off ∷ life2 ∷ Row.off ∷ Row.off ∷ life5 ∷ life6
+            ∷ life7 ∷ life8 ∷ Row.off ∷ Row.off ∷ Row.off ∷ Row.off ∷ Row.off ∷ Row.off ∷ Row.off ∷ Row.off ∷ Row.off ∷ Row.off ∷ Row.off ∷ Row.off ∷
+            Row.off ∷ Row.alive ∷ Row.alive ∷ Row.alive ∷ Row.off ∷ Row.off ∷ Row.off ∷ Row.off ∷ List.[]; }
+        abbrev G113 : Row.Cx
+        G113 = record { locals = List._++_ g93 (List._++_ t1 (List._++_ t92 t3)); slots = life0 ∷ Row.off ∷ life2 ∷ Row.off ∷ Row.off ∷ life5 ∷ life6
+            ∷ life7 ∷ life8 ∷ Row.off ∷ Row.off ∷ Row.off ∷ Row.off ∷ Row.off ∷ Row.off ∷ Row.off ∷ Row.off ∷ Row.off ∷ Row.off ∷ Row.off ∷ Row.off ∷
+            Row.off ∷ Row.alive ∷ Row.alive ∷ Row.alive ∷ Row.off ∷ Row.off ∷ Row.off ∷ Row.off ∷ List.[]; }
+        abbrev G114 : Row.Cx
+        G114 = record { locals = List._++_ g94 (List._++_ t1 (List._++_ t92 t3)); slots = life0 ∷ Row.off ∷ life2 ∷ Row.off ∷ Row.off ∷ life5 ∷ life6
+            ∷ life7 ∷ life8 ∷ Row.off ∷ Row.off ∷ Row.off ∷ Row.off ∷ Row.off ∷ Row.off ∷ Row.off ∷ Row.off ∷ Row.off ∷ Row.off ∷ Row.off ∷ Row.off ∷
+            Row.off ∷ Row.alive ∷ Row.alive ∷ Row.alive ∷ Row.off ∷ Row.off ∷ Row.off ∷ Row.off ∷ List.[]; }
+        abbrev G115 : Row.Cx
+        G115 = record { locals = List._++_ g95 (List._++_ t1 (List._++_ t92 t3)); slots = life0 ∷ Row.off ∷ life2 ∷ Row.off ∷ Row.off ∷ life5 ∷ life6
+            ∷ life7 ∷ life8 ∷ Row.off ∷ Row.off ∷ Row.off ∷ Row.off ∷ Row.off ∷ Row.off ∷ Row.off ∷ Row.off ∷ Row.off ∷ Row.off ∷ Row.off ∷ Row.off ∷
+            Row.off ∷ Row.alive ∷ Row.alive ∷ Row.alive ∷ Row.off ∷ Row.off ∷ Row.off ∷ Row.off ∷ List.[]; }
+        abbrev G116 : Row.Cx
+        G116 = record { locals = List._++_ g95 (List._++_ t1 (List._++_ t92 t3)); slots = life0 ∷ Row.off ∷ life2 ∷ Row.off ∷ Row.off ∷ life5 ∷ life6
             ∷ life7 ∷ life8 ∷ Row.off ∷ Row.off ∷ Row.off ∷ Row.off ∷ Row.off ∷ Row.off ∷ Row.off ∷ Row.off ∷ Row.off ∷ Row.off ∷ Row.off ∷ Row.off ∷
             Row.off ∷ Row.dead ∷ Row.alive ∷ Row.alive ∷ Row.off ∷ Row.off ∷ Row.off ∷ Row.off ∷ List.[]; }
-        abbrev G113 : Row.Cx
-        G113 = record { locals = List._++_ g90 (List._++_ t1 (List._++_ t91 t3)); slots = life0 ∷ life1 ∷ life2 ∷ Row.off ∷ Row.off ∷ life5 ∷ life6 ∷
+        abbrev G117 : Row.Cx
+        G117 = record { locals = List._++_ g96 (List._++_ t1 (List._++_ t97 t3)); slots = life0 ∷ life1 ∷ life2 ∷ Row.off ∷ Row.off ∷ life5 ∷ life6 ∷
             life7 ∷ life8 ∷ Row.off ∷ Row.off ∷ Row.off ∷ Row.off ∷ Row.off ∷ Row.off ∷ Row.off ∷ Row.off ∷ Row.off ∷ Row.off ∷ Row.off ∷ Row.off ∷
             Row.off ∷ Row.dead ∷ Row.alive ∷ Row.alive ∷ Row.off ∷ Row.off ∷ Row.off ∷ Row.off ∷ List.[]; }
-        abbrev G114 : Row.Cx
-        G114 = record { locals = List._++_ g90 (List._++_ t1 (List._++_ t91 t3)); slots = life0 ∷ life1 ∷ life2 ∷ Row.off ∷ Row.off ∷ life5 ∷ life6 ∷
+        abbrev G118 : Row.Cx
+        G118 = record { locals = List._++_ g96 (List._++_ t1 (List._++_ t97 t3)); slots = life0 ∷ life1 ∷ life2 ∷ Row.off ∷ Row.off ∷ life5 ∷ life6 ∷
             life7 ∷ life8 ∷ Row.off ∷ Row.off ∷ Row.off ∷ Row.off ∷ Row.off ∷ Row.off ∷ Row.off ∷ Row.off ∷ Row.off ∷ Row.off ∷ Row.off ∷ Row.off ∷
             Row.off ∷ Row.off ∷ Row.alive ∷ Row.alive ∷ Row.off ∷ Row.off ∷ Row.off ∷ Row.off ∷ List.[]; }
-        abbrev G115 : Row.Cx
-        G115 = record { locals = List._++_ g90 (List._++_ t1 (List._++_ t91 t3)); slots = life0 ∷ life1 ∷ life2 ∷ Row.off ∷ Row.off ∷ life5 ∷ life6 ∷
+        abbrev G119 : Row.Cx
+        G119 = record { locals = List._++_ g96 (List._++_ t1 (List._++_ t97 t3)); slots = life0 ∷ life1 ∷ life2 ∷ Row.off ∷ Row.off ∷ life5 ∷ life6 ∷
             life7 ∷ life8 ∷ Row.off ∷ Row.off ∷ Row.off ∷ Row.off ∷ Row.off ∷ Row.off ∷ Row.off ∷ Row.off ∷ Row.off ∷ Row.off ∷ Row.off ∷ Row.off ∷
             Row.off ∷ Row.off ∷ Row.dead ∷ Row.alive ∷ Row.off ∷ Row.off ∷ Row.off ∷ Row.off ∷ List.[]; }
-        abbrev G116 : Row.Cx
-        G116 = record { locals = List._++_ g92 (List._++_ t1 (List._++_ t93 t3)); slots = life0 ∷ life1 ∷ life2 ∷ life3 ∷ Row.off ∷ life5 ∷ life6 ∷
+        abbrev G120 : Row.Cx
+        G120 = record { locals = List._++_ g98 (List._++_ t1 (List._++_ t99 t3)); slots = life0 ∷ life1 ∷ life2 ∷ life3 ∷ Row.off ∷ life5 ∷ life6 ∷
             life7 ∷ life8 ∷ Row.off ∷ Row.off ∷ Row.off ∷ Row.off ∷ Row.off ∷ Row.off ∷ Row.off ∷ Row.off ∷ Row.off ∷ Row.off ∷ Row.off ∷ Row.off ∷
             Row.off ∷ Row.off ∷ Row.dead ∷ Row.alive ∷ Row.off ∷ Row.off ∷ Row.off ∷ Row.off ∷ List.[]; }
-        abbrev G117 : Row.Cx
-        G117 = record { locals = List._++_ g92 (List._++_ t1 (List._++_ t93 t3)); slots = life0 ∷ life1 ∷ life2 ∷ life3 ∷ Row.off ∷ life5 ∷ life6 ∷
+        abbrev G121 : Row.Cx
+        G121 = record { locals = List._++_ g98 (List._++_ t1 (List._++_ t99 t3)); slots = life0 ∷ life1 ∷ life2 ∷ life3 ∷ Row.off ∷ life5 ∷ life6 ∷
             life7 ∷ life8 ∷ Row.off ∷ Row.off ∷ Row.off ∷ Row.off ∷ Row.off ∷ Row.off ∷ Row.off ∷ Row.off ∷ Row.off ∷ Row.off ∷ Row.off ∷ Row.off ∷
             Row.off ∷ Row.off ∷ Row.off ∷ Row.alive ∷ Row.off ∷ Row.off ∷ Row.off ∷ Row.off ∷ List.[]; }
-        abbrev G118 : Row.Cx
-        G118 = record { locals = List._++_ g92 (List._++_ t1 (List._++_ t93 t3)); slots = life0 ∷ life1 ∷ life2 ∷ life3 ∷ Row.off ∷ life5 ∷ life6 ∷
+        abbrev G122 : Row.Cx
+        G122 = record { locals = List._++_ g98 (List._++_ t1 (List._++_ t99 t3)); slots = life0 ∷ life1 ∷ life2 ∷ life3 ∷ Row.off ∷ life5 ∷ life6 ∷
             life7 ∷ life8 ∷ Row.off ∷ Row.off ∷ Row.off ∷ Row.off ∷ Row.off ∷ Row.off ∷ Row.off ∷ Row.off ∷ Row.off ∷ Row.off ∷ Row.off ∷ Row.off ∷
             Row.off ∷ Row.off ∷ Row.off ∷ Row.dead ∷ Row.off ∷ Row.off ∷ Row.off ∷ Row.off ∷ List.[]; }
-        abbrev G119 : Row.Cx
-        G119 = record { locals = List._++_ t6 (List._++_ t1 (List._++_ t2 t3)); slots = life0 ∷ life1 ∷ life2 ∷ life3 ∷ life4 ∷ life5 ∷ life6 ∷ life7
-            ∷ life8 ∷ Row.off ∷ Row.off ∷ Row.off ∷ Row.off ∷ Row.off ∷ Row.off ∷ Row.off ∷ Row.off ∷ Row.off ∷ Row.off ∷ Row.off ∷ Row.off ∷ Row.off
-            ∷ Row.off ∷ Row.off ∷ Row.dead ∷ Row.off ∷ Row.off ∷ Row.off ∷ Row.off ∷ List.[]; }
-        abbrev G120 : Row.Cx
-        G120 = record { locals = List._++_ t6 (List._++_ t1 (List._++_ t2 t3)); slots = life0 ∷ life1 ∷ life2 ∷ life3 ∷ life4 ∷ life5 ∷ life6 ∷ life7
-            ∷ life8 ∷ Row.off ∷ Row.off ∷ Row.off ∷ Row.off ∷ Row.off ∷ Row.off ∷ Row.off ∷ Row.off ∷ Row.off ∷ Row.off ∷ Row.off ∷ Row.off ∷ Row.off
-            ∷ Row.off ∷ Row.off ∷ Row.dead ∷ Row.off ∷ Row.off ∷ Row.off ∷ Row.off ∷ List.[]; }
-        abbrev G121 : Row.Cx
-        G121 = record { locals = List._++_ t6 (List._++_ t1 (List._++_ t2 t3)); slots = life0 ∷ life1 ∷ life2 ∷ life3 ∷ life4 ∷ life5 ∷ life6 ∷ life7
-            ∷ life8 ∷ Row.off ∷ Row.off ∷ Row.off ∷ Row.off ∷ Row.off ∷ Row.off ∷ Row.off ∷ Row.off ∷ Row.off ∷ Row.off ∷ Row.off ∷ Row.off ∷ Row.off
-            ∷ Row.off ∷ Row.off ∷ Row.off ∷ Row.off ∷ Row.off ∷ Row.off ∷ Row.off ∷ List.[]; }
-        abbrev G122 : Row.Cx
-        G122 = record { locals = List._++_ t7 (List._++_ t1 (List._++_ t2 t3)); slots = life0 ∷ life1 ∷ life2 ∷ life3 ∷ life4 ∷ life5 ∷ life6 ∷ life7
-            ∷ life8 ∷ Row.off ∷ Row.off ∷ Row.off ∷ Row.off ∷ Row.off ∷ Row.off ∷ Row.off ∷ Row.off ∷ Row.off ∷ Row.off ∷ Row.off ∷ Row.off ∷ Row.off
-            ∷ Row.off ∷ Row.off ∷ Row.off ∷ Row.off ∷ Row.off ∷ Row.off ∷ Row.off ∷ List.[]; }
         abbrev G123 : Row.Cx
-        G123 = record { locals = List._++_ t5 (List._++_ t1 (List._++_ t94 t3)); slots = life0 ∷ life1 ∷ life2 ∷ life3 ∷ life4 ∷ life5 ∷ life6 ∷ life7
+        G123 = record { locals = List._++_ t6 (List._++_ t1 (List._++_ t2 t3)); slots = life0 ∷ life1 ∷ life2 ∷ life3 ∷ life4 ∷ life5 ∷ life6 ∷ life7
             ∷ life8 ∷ Row.off ∷ Row.off ∷ Row.off ∷ Row.off ∷ Row.off ∷ Row.off ∷ Row.off ∷ Row.off ∷ Row.off ∷ Row.off ∷ Row.off ∷ Row.off ∷ Row.off
-            ∷ Row.off ∷ Row.off ∷ Row.off ∷ Row.off ∷ Row.off ∷ Row.off ∷ Row.off ∷ List.[]; }
+            ∷ Row.off ∷ Row.off ∷ Row.dead ∷ Row.off ∷ Row.off ∷ Row.off ∷ Row.off ∷ List.[]; }
         abbrev G124 : Row.Cx
-        G124 = record { locals = List._++_ t5 (List._++_ t1 (List._++_ t2 t3)); slots = life0 ∷ life1 ∷ life2 ∷ life3 ∷ life4 ∷ life5 ∷ life6 ∷ life7
+        G124 = record { locals = List._++_ t6 (List._++_ t1 (List._++_ t2 t3)); slots = life0 ∷ life1 ∷ life2 ∷ life3 ∷ life4 ∷ life5 ∷ life6 ∷ life7
             ∷ life8 ∷ Row.off ∷ Row.off ∷ Row.off ∷ Row.off ∷ Row.off ∷ Row.off ∷ Row.off ∷ Row.off ∷ Row.off ∷ Row.off ∷ Row.off ∷ Row.off ∷ Row.off
-            ∷ Row.off ∷ Row.off ∷ Row.off ∷ Row.off ∷ Row.off ∷ Row.off ∷ Row.off ∷ List.[]; }
+            ∷ Row.off ∷ Row.off ∷ Row.dead ∷ Row.off ∷ Row.off ∷ Row.off ∷ Row.off ∷ List.[]; }
         abbrev G125 : Row.Cx
-        G125 = record { locals = List._++_ t7 (List._++_ t1 (List._++_ t94 t3)); slots = life0 ∷ life1 ∷ life2 ∷ life3 ∷ life4 ∷ life5 ∷ life6 ∷ life7
+        G125 = record { locals = List._++_ t6 (List._++_ t1 (List._++_ t2 t3)); slots = life0 ∷ life1 ∷ life2 ∷ life3 ∷ life4 ∷ life5 ∷ life6 ∷ life7
             ∷ life8 ∷ Row.off ∷ Row.off ∷ Row.off ∷ Row.off ∷ Row.off ∷ Row.off ∷ Row.off ∷ Row.off ∷ Row.off ∷ Row.off ∷ Row.off ∷ Row.off ∷ Row.off
             ∷ Row.off ∷ Row.off ∷ Row.off ∷ Row.off ∷ Row.off ∷ Row.off ∷ Row.off ∷ List.[]; }
         abbrev G126 : Row.Cx
@@ -2881,159 +2988,183 @@ module _ (claims· : Claims) where
             ∷ life8 ∷ Row.off ∷ Row.off ∷ Row.off ∷ Row.off ∷ Row.off ∷ Row.off ∷ Row.off ∷ Row.off ∷ Row.off ∷ Row.off ∷ Row.off ∷ Row.off ∷ Row.off
             ∷ Row.off ∷ Row.off ∷ Row.off ∷ Row.off ∷ Row.off ∷ Row.off ∷ Row.off ∷ List.[]; }
         abbrev G127 : Row.Cx
-        G127 = record { locals = List._++_ t5 (List._++_ t1 (List._++_ t2 t3)); slots = life0 ∷ life1 ∷ life2 ∷ life3 ∷ life4 ∷ life5 ∷ life6 ∷ life7
-            ∷ life8 ∷ Row.off ∷ Row.off ∷ Row.off ∷ Row.off ∷ Row.off ∷ Row.off ∷ Row.off ∷ Row.off ∷ Row.off ∷ Row.off ∷ Row.off ∷ Row.off ∷ Row.off
-            ∷ Row.off ∷ Row.off ∷ Row.off ∷ Row.off ∷ Row.off ∷ Row.off ∷ Row.off ∷ List.[]; }
+        G127 = record { locals = List._++_ t5 (List._++_ t1 (List._++_ t100 t3)); slots = life0 ∷ life1 ∷ life2 ∷ life3 ∷ life4 ∷ life5 ∷ life6 ∷
+            life7 ∷ life8 ∷ Row.off ∷ Row.off ∷ Row.off ∷ Row.off ∷ Row.off ∷ Row.off ∷ Row.off ∷ Row.off ∷ Row.off ∷ Row.off ∷ Row.off ∷ Row.off ∷
+            Row.off ∷ Row.off ∷ Row.off ∷ Row.off ∷ Row.off ∷ Row.off ∷ Row.off ∷ Row.off ∷ List.[]; }
         abbrev G128 : Row.Cx
-        G128 = record { locals = List._++_ t5 (List._++_ t1 (List._++_ t94 t3)); slots = life0 ∷ life1 ∷ life2 ∷ life3 ∷ life4 ∷ life5 ∷ life6 ∷ life7
+        G128 = record { locals = List._++_ t5 (List._++_ t1 (List._++_ t2 t3)); slots = life0 ∷ life1 ∷ life2 ∷ life3 ∷ life4 ∷ life5 ∷ life6 ∷ life7
             ∷ life8 ∷ Row.off ∷ Row.off ∷ Row.off ∷ Row.off ∷ Row.off ∷ Row.off ∷ Row.off ∷ Row.off ∷ Row.off ∷ Row.off ∷ Row.off ∷ Row.off ∷ Row.off
             ∷ Row.off ∷ Row.off ∷ Row.off ∷ Row.off ∷ Row.off ∷ Row.off ∷ Row.off ∷ List.[]; }
         abbrev G129 : Row.Cx
-        G129 = record { locals = List._++_ t7 (List._++_ t1 (List._++_ t2 t3)); slots = life0 ∷ life1 ∷ life2 ∷ life3 ∷ life4 ∷ life5 ∷ life6 ∷ life7
-            ∷ life8 ∷ Row.off ∷ Row.off ∷ Row.off ∷ Row.off ∷ Row.off ∷ Row.off ∷ Row.off ∷ Row.off ∷ Row.off ∷ Row.off ∷ Row.off ∷ Row.off ∷ Row.off
-            ∷ Row.off ∷ Row.off ∷ Row.off ∷ Row.off ∷ Row.off ∷ Row.off ∷ Row.off ∷ List.[]; }
+        G129 = record { locals = List._++_ t7 (List._++_ t1 (List._++_ t100 t3)); slots = life0 ∷ life1 ∷ life2 ∷ life3 ∷ life4 ∷ life5 ∷ life6 ∷
+            life7 ∷ life8 ∷ Row.off ∷ Row.off ∷ Row.off ∷ Row.off ∷ Row.off ∷ Row.off ∷ Row.off ∷ Row.off ∷ Row.off ∷ Row.off ∷ Row.off ∷ Row.off ∷
+            Row.off ∷ Row.off ∷ Row.off ∷ Row.off ∷ Row.off ∷ Row.off ∷ Row.off ∷ Row.off ∷ List.[]; }
         abbrev G130 : Row.Cx
-        G130 = record { locals = List._++_ t5 (List._++_ t1 (List._++_ t2 t3)); slots = life0 ∷ life1 ∷ life2 ∷ life3 ∷ life4 ∷ life5 ∷ life6 ∷ life7
+        G130 = record { locals = List._++_ t7 (List._++_ t1 (List._++_ t2 t3)); slots = life0 ∷ life1 ∷ life2 ∷ life3 ∷ life4 ∷ life5 ∷ life6 ∷ life7
             ∷ life8 ∷ Row.off ∷ Row.off ∷ Row.off ∷ Row.off ∷ Row.off ∷ Row.off ∷ Row.off ∷ Row.off ∷ Row.off ∷ Row.off ∷ Row.off ∷ Row.off ∷ Row.off
             ∷ Row.off ∷ Row.off ∷ Row.off ∷ Row.off ∷ Row.off ∷ Row.off ∷ Row.off ∷ List.[]; }
         abbrev G131 : Row.Cx
         G131 = record { locals = List._++_ t5 (List._++_ t1 (List._++_ t2 t3)); slots = life0 ∷ life1 ∷ life2 ∷ life3 ∷ life4 ∷ life5 ∷ life6 ∷ life7
             ∷ life8 ∷ Row.off ∷ Row.off ∷ Row.off ∷ Row.off ∷ Row.off ∷ Row.off ∷ Row.off ∷ Row.off ∷ Row.off ∷ Row.off ∷ Row.off ∷ Row.off ∷ Row.off
-            ∷ Row.off ∷ Row.off ∷ Row.off ∷ Row.alive ∷ Row.off ∷ Row.off ∷ Row.off ∷ List.[]; }
+            ∷ Row.off ∷ Row.off ∷ Row.off ∷ Row.off ∷ Row.off ∷ Row.off ∷ Row.off ∷ List.[]; }
         abbrev G132 : Row.Cx
-        G132 = record { locals = List._++_ g95 (List._++_ t1 (List._++_ t96 t3)); slots = Row.off ∷ life1 ∷ life2 ∷ life3 ∷ life4 ∷ life5 ∷ life6 ∷
+        G132 = record { locals = List._++_ t5 (List._++_ t1 (List._++_ t100 t3)); slots = life0 ∷ life1 ∷ life2 ∷ life3 ∷ life4 ∷ life5 ∷ life6 ∷
             life7 ∷ life8 ∷ Row.off ∷ Row.off ∷ Row.off ∷ Row.off ∷ Row.off ∷ Row.off ∷ Row.off ∷ Row.off ∷ Row.off ∷ Row.off ∷ Row.off ∷ Row.off ∷
-            Row.off ∷ Row.off ∷ Row.off ∷ Row.off ∷ Row.alive ∷ Row.off ∷ Row.off ∷ Row.off ∷ List.[]; }
+            Row.off ∷ Row.off ∷ Row.off ∷ Row.off ∷ Row.off ∷ Row.off ∷ Row.off ∷ Row.off ∷ List.[]; }
         abbrev G133 : Row.Cx
-        G133 = record { locals = List._++_ g95 (List._++_ t1 (List._++_ t2 t97)); slots = Row.off ∷ life1 ∷ life2 ∷ life3 ∷ life4 ∷ life5 ∷ life6 ∷
+        G133 = record { locals = List._++_ t7 (List._++_ t1 (List._++_ t2 t3)); slots = life0 ∷ life1 ∷ life2 ∷ life3 ∷ life4 ∷ life5 ∷ life6 ∷ life7
+            ∷ life8 ∷ Row.off ∷ Row.off ∷ Row.off ∷ Row.off ∷ Row.off ∷ Row.off ∷ Row.off ∷ Row.off ∷ Row.off ∷ Row.off ∷ Row.off ∷ Row.off ∷ Row.off
+            ∷ Row.off ∷ Row.off ∷ Row.off ∷ Row.off ∷ Row.off ∷ Row.off ∷ Row.off ∷ List.[]; }
+        abbrev G134 : Row.Cx
+        G134 = record { locals = List._++_ t5 (List._++_ t1 (List._++_ t2 t3)); slots = life0 ∷ life1 ∷ life2 ∷ life3 ∷ life4 ∷ life5 ∷ life6 ∷ life7
+            ∷ life8 ∷ Row.off ∷ Row.off ∷ Row.off ∷ Row.off ∷ Row.off ∷ Row.off ∷ Row.off ∷ Row.off ∷ Row.off ∷ Row.off ∷ Row.off ∷ Row.off ∷ Row.off
+            ∷ Row.off ∷ Row.off ∷ Row.off ∷ Row.off ∷ Row.off ∷ Row.off ∷ Row.off ∷ List.[]; }
+        abbrev G135 : Row.Cx
+        G135 = record { locals = List._++_ t5 (List._++_ t1 (List._++_ t2 t3)); slots = life0 ∷ life1 ∷ life2 ∷ life3 ∷ life4 ∷ life5 ∷ life6 ∷ life7
+            ∷ life8 ∷ Row.off ∷ Row.off ∷ Row.off ∷ Row.off ∷ Row.off ∷ Row.off ∷ Row.off ∷ Row.off ∷ Row.off ∷ Row.off ∷ Row.off ∷ Row.off ∷ Row.off
+            ∷ Row.off ∷ Row.off ∷ Row.off ∷ Row.alive ∷ Row.off ∷ Row.off ∷ Row.off ∷ List.[]; }
+        abbrev G136 : Row.Cx
+        G136 = record { locals = List._++_ g101 (List._++_ t1 (List._++_ t2 t102)); slots = Row.off ∷ life1 ∷ life2 ∷ life3 ∷ life4 ∷ life5 ∷ life6 ∷
             life7 ∷ life8 ∷ Row.off ∷ Row.off ∷ Row.off ∷ Row.off ∷ Row.off ∷ Row.off ∷ Row.off ∷ Row.off ∷ Row.off ∷ Row.off ∷ Row.off ∷ Row.off ∷
             Row.off ∷ Row.off ∷ Row.off ∷ Row.off ∷ Row.alive ∷ Row.off ∷ Row.off ∷ Row.off ∷ List.[]; }
-        abbrev G134 : Row.Cx
-        G134 = record { locals = List._++_ g95 (List._++_ t1 (List._++_ t2 t97)); slots = Row.off ∷ life1 ∷ life2 ∷ life3 ∷ life4 ∷ life5 ∷ life6 ∷
-            life7 ∷ life8 ∷ Row.off ∷ Row.off ∷ Row.off ∷ Row.off ∷ Row.off ∷ Row.off ∷ Row.off ∷ Row.off ∷ Row.off ∷ Row.off ∷ Row.off ∷ Row.off ∷
-            Row.off ∷ Row.off ∷ Row.off ∷ Row.off ∷ Row.alive ∷ Row.alive ∷ Row.off ∷ Row.off ∷ List.[]; }
-        abbrev G135 : Row.Cx
-        G135 = record { locals = List._++_ g98 (List._++_ t1 (List._++_ t2 t99)); slots = Row.off ∷ Row.off ∷ life2 ∷ life3 ∷ life4 ∷ life5 ∷ life6 ∷
-            life7 ∷ life8 ∷ Row.off ∷ Row.off ∷ Row.off ∷ Row.off ∷ Row.off ∷ Row.off ∷ Row.off ∷ Row.off ∷ Row.off ∷ Row.off ∷ Row.off ∷ Row.off ∷
-            Row.off ∷ Row.off ∷ Row.off ∷ Row.off ∷ Row.alive ∷ Row.alive ∷ Row.off ∷ Row.off ∷ List.[]; }
-        abbrev G136 : Row.Cx
-        G136 = record { locals = List._++_ g98 (List._++_ t1 (List._++_ t2 t100)); slots = Row.off ∷ Row.off ∷ life2 ∷ life3 ∷ life4 ∷ life5 ∷ life6 ∷
-            life7 ∷ life8 ∷ Row.off ∷ Row.off ∷ Row.off ∷ Row.off ∷ Row.off ∷ Row.off ∷ Row.off ∷ Row.off ∷ Row.off ∷ Row.off ∷ Row.off ∷ Row.off ∷
-            Row.off ∷ Row.off ∷ Row.off ∷ Row.off ∷ Row.alive ∷ Row.alive ∷ Row.off ∷ Row.off ∷ List.[]; }
         abbrev G137 : Row.Cx
-        G137 = record { locals = List._++_ g98 (List._++_ t1 (List._++_ t2 t100)); slots = Row.off ∷ Row.off ∷ life2 ∷ life3 ∷ life4 ∷ life5 ∷ life6 ∷
+        G137 = record { locals = List._++_ g101 (List._++_ t1 (List._++_ t2 t103)); slots = Row.off ∷ life1 ∷ life2 ∷ life3 ∷ life4 ∷ life5 ∷ life6 ∷
             life7 ∷ life8 ∷ Row.off ∷ Row.off ∷ Row.off ∷ Row.off ∷ Row.off ∷ Row.off ∷ Row.off ∷ Row.off ∷ Row.off ∷ Row.off ∷ Row.off ∷ Row.off ∷
-            Row.off ∷ Row.off ∷ Row.off ∷ Row.off ∷ Row.alive ∷ Row.alive ∷ Row.alive ∷ Row.off ∷ List.[]; }
+            Row.off ∷ Row.off ∷ Row.off ∷ Row.off ∷ Row.alive ∷ Row.off ∷ Row.off ∷ Row.off ∷ List.[]; }
         abbrev G138 : Row.Cx
-        G138 = record { locals = List._++_ g101 (List._++_ t1 (List._++_ t2 t102)); slots = Row.off ∷ Row.off ∷ life2 ∷ Row.off ∷ life4 ∷ life5 ∷
-            life6 ∷ life7 ∷ life8 ∷ Row.off ∷ Row.off ∷ Row.off ∷ Row.off ∷ Row.off ∷ Row.off ∷ Row.off ∷ Row.off ∷ Row.off ∷ Row.off ∷ Row.off ∷
-            Row.off ∷ Row.off ∷ Row.off ∷ Row.off ∷ Row.off ∷ Row.alive ∷ Row.alive ∷ Row.alive ∷ Row.off ∷ List.[]; }
+        G138 = record { locals = List._++_ g101 (List._++_ t1 (List._++_ t2 t103)); slots = Row.off ∷ life1 ∷ life2 ∷ life3 ∷ life4 ∷ life5 ∷ life6 ∷
+            life7 ∷ life8 ∷ Row.off ∷ Row.off ∷ Row.off ∷ Row.off ∷ Row.off ∷ Row.off ∷ Row.off ∷ Row.off ∷ Row.off ∷ Row.off ∷ Row.off ∷ Row.off ∷
+            Row.off ∷ Row.off ∷ Row.off ∷ Row.off ∷ Row.alive ∷ Row.alive ∷ Row.off ∷ Row.off ∷ List.[]; }
         abbrev G139 : Row.Cx
-        G139 = record { locals = List._++_ g101 (List._++_ t1 (List._++_ t2 t103)); slots = Row.off ∷ Row.off ∷ life2 ∷ Row.off ∷ life4 ∷ life5 ∷
+        G139 = record { locals = List._++_ g104 (List._++_ t1 (List._++_ t2 t105)); slots = Row.off ∷ Row.off ∷ life2 ∷ life3 ∷ life4 ∷ life5 ∷ life6
+            ∷ life7 ∷ life8 ∷ Row.off ∷ Row.off ∷ Row.off ∷ Row.off ∷ Row.off ∷ Row.off ∷ Row.off ∷ Row.off ∷ Row.off ∷ Row.off ∷ Row.off ∷ Row.off ∷
+            Row.off ∷ Row.off ∷ Row.off ∷ Row.off ∷ Row.alive ∷ Row.alive ∷ Row.off ∷ Row.off ∷ List.[]; }
+        abbrev G140 : Row.Cx
+        G140 = record { locals = List._++_ g104 (List._++_ t1 (List._++_ t2 t106)); slots = Row.off ∷ Row.off ∷ life2 ∷ life3 ∷ life4 ∷ life5 ∷ life6
+            ∷ life7 ∷ life8 ∷ Row.off ∷ Row.off ∷ Row.off ∷ Row.off ∷ Row.off ∷ Row.off ∷ Row.off ∷ Row.off ∷ Row.off ∷ Row.off ∷ Row.off ∷ Row.off ∷
+            Row.off ∷ Row.off ∷ Row.off ∷ Row.off ∷ Row.alive ∷ Row.alive ∷ Row.off ∷ Row.off ∷ List.[]; }
+        abbrev G141 : Row.Cx
+        G141 = record { locals = List._++_ g104 (List._++_ t1 (List._++_ t2 t106)); slots = Row.off ∷ Row.off ∷ life2 ∷ life3 ∷ life4 ∷ life5 ∷ life6
+            ∷ life7 ∷ life8 ∷ Row.off ∷ Row.off ∷ Row.off ∷ Row.off ∷ Row.off ∷ Row.off ∷ Row.off ∷ Row.off ∷ Row.off ∷ Row.off ∷ Row.off ∷ Row.off ∷
+            Row.off ∷ Row.off ∷ Row.off ∷ Row.off ∷ Row.alive ∷ Row.alive ∷ Row.alive ∷ Row.off ∷ List.[]; }
+        abbrev G142 : Row.Cx
+        G142 = record { locals = List._++_ g107 (List._++_ t1 (List._++_ t2 t108)); slots = Row.off ∷ Row.off ∷ life2 ∷ Row.off ∷ life4 ∷ life5 ∷
             life6 ∷ life7 ∷ life8 ∷ Row.off ∷ Row.off ∷ Row.off ∷ Row.off ∷ Row.off ∷ Row.off ∷ Row.off ∷ Row.off ∷ Row.off ∷ Row.off ∷ Row.off ∷
             Row.off ∷ Row.off ∷ Row.off ∷ Row.off ∷ Row.off ∷ Row.alive ∷ Row.alive ∷ Row.alive ∷ Row.off ∷ List.[]; }
-        abbrev G140 : Row.Cx
-        G140 = record { locals = List._++_ g101 (List._++_ t1 (List._++_ t2 t103)); slots = Row.off ∷ Row.off ∷ life2 ∷ Row.off ∷ life4 ∷ life5 ∷
-            life6 ∷ life7 ∷ life8 ∷ Row.off ∷ Row.off ∷ Row.off ∷ Row.off ∷ Row.off ∷ Row.off ∷ Row.off ∷ Row.off ∷ Row.off ∷ Row.off ∷ Row.off ∷
-            Row.off ∷ Row.off ∷ Row.off ∷ Row.off ∷ Row.off ∷ Row.alive ∷ Row.alive ∷ Row.alive ∷ Row.alive ∷ List.[]; }
-        abbrev G141 : Row.Cx
-        G141 = record { locals = List._++_ g104 (List._++_ t1 (List._++_ t2 t105)); slots = Row.off ∷ Row.off ∷ life2 ∷ Row.off ∷ Row.off ∷ life5 ∷
-            life6 ∷ life7 ∷ life8 ∷ Row.off ∷ Row.off ∷ Row.off ∷ Row.off ∷ Row.off ∷ Row.off ∷ Row.off ∷ Row.off ∷ Row.off ∷ Row.off ∷ Row.off ∷
-            Row.off ∷ Row.off ∷ Row.off ∷ Row.off ∷ Row.off ∷ Row.alive ∷ Row.alive ∷ Row.alive ∷ Row.alive ∷ List.[]; }
-        abbrev G142 : Row.Cx
-        G142 = record { locals = List._++_ g104 (List._++_ t1 (List._++_ t2 t106)); slots = Row.off ∷ Row.off ∷ life2 ∷ Row.off ∷ Row.off ∷ life5 ∷
-            life6 ∷ life7 ∷ life8 ∷ Row.off ∷ Row.off ∷ Row.off ∷ Row.off ∷ Row.off ∷ Row.off ∷ Row.off ∷ Row.off ∷ Row.off ∷ Row.off ∷ Row.off ∷
-            Row.off ∷ Row.off ∷ Row.off ∷ Row.off ∷ Row.off ∷ Row.alive ∷ Row.alive ∷ Row.alive ∷ Row.alive ∷ List.[]; }
         abbrev G143 : Row.Cx
-        G143 = record { locals = List._++_ g107 (List._++_ t1 (List._++_ t2 t108)); slots = Row.off ∷ Row.off ∷ life2 ∷ Row.off ∷ Row.off ∷ life5 ∷
+        G143 = record { locals = List._++_ g107 (List._++_ t1 (List._++_ t2 t109)); slots = Row.off ∷ Row.off ∷ life2 ∷ Row.off ∷ life4 ∷ life5 ∷
             life6 ∷ life7 ∷ life8 ∷ Row.off ∷ Row.off ∷ Row.off ∷ Row.off ∷ Row.off ∷ Row.off ∷ Row.off ∷ Row.off ∷ Row.off ∷ Row.off ∷ Row.off ∷
-            Row.off ∷ Row.off ∷ Row.off ∷ Row.off ∷ Row.off ∷ Row.alive ∷ Row.alive ∷ Row.alive ∷ Row.alive ∷ List.[]; }
+            Row.off ∷ Row.off ∷ Row.off ∷ Row.off ∷ Row.off ∷ Row.alive ∷ Row.alive ∷ Row.alive ∷ Row.off ∷ List.[]; }
         abbrev G144 : Row.Cx
-        G144 = record { locals = List._++_ g109 (List._++_ t1 (List._++_ t2 t108)); slots = Row.off ∷ Row.off ∷ life2 ∷ Row.off ∷ Row.off ∷ life5 ∷
+        G144 = record { locals = List._++_ g107 (List._++_ t1 (List._++_ t2 t109)); slots = Row.off ∷ Row.off ∷ life2 ∷ Row.off ∷ life4 ∷ life5 ∷
             life6 ∷ life7 ∷ life8 ∷ Row.off ∷ Row.off ∷ Row.off ∷ Row.off ∷ Row.off ∷ Row.off ∷ Row.off ∷ Row.off ∷ Row.off ∷ Row.off ∷ Row.off ∷
             Row.off ∷ Row.off ∷ Row.off ∷ Row.off ∷ Row.off ∷ Row.alive ∷ Row.alive ∷ Row.alive ∷ Row.alive ∷ List.[]; }
         abbrev G145 : Row.Cx
-        G145 = record { locals = List._++_ g110 (List._++_ t1 (List._++_ t2 t108)); slots = Row.off ∷ Row.off ∷ life2 ∷ Row.off ∷ Row.off ∷ life5 ∷
+        G145 = record { locals = List._++_ g110 (List._++_ t1 (List._++_ t2 t111)); slots = Row.off ∷ Row.off ∷ life2 ∷ Row.off ∷ Row.off ∷ life5 ∷
             life6 ∷ life7 ∷ life8 ∷ Row.off ∷ Row.off ∷ Row.off ∷ Row.off ∷ Row.off ∷ Row.off ∷ Row.off ∷ Row.off ∷ Row.off ∷ Row.off ∷ Row.off ∷
             Row.off ∷ Row.off ∷ Row.off ∷ Row.off ∷ Row.off ∷ Row.alive ∷ Row.alive ∷ Row.alive ∷ Row.alive ∷ List.[]; }
         abbrev G146 : Row.Cx
-        G146 = record { locals = List._++_ g110 (List._++_ t1 (List._++_ t2 t108)); slots = Row.off ∷ Row.off ∷ life2 ∷ Row.off ∷ Row.off ∷ life5 ∷
+        G146 = record { locals = List._++_ g110 (List._++_ t1 (List._++_ t2 t112)); slots = Row.off ∷ Row.off ∷ life2 ∷ Row.off ∷ Row.off ∷ life5 ∷
             life6 ∷ life7 ∷ life8 ∷ Row.off ∷ Row.off ∷ Row.off ∷ Row.off ∷ Row.off ∷ Row.off ∷ Row.off ∷ Row.off ∷ Row.off ∷ Row.off ∷ Row.off ∷
-            Row.off ∷ Row.off ∷ Row.off ∷ Row.off ∷ Row.off ∷ Row.dead ∷ Row.alive ∷ Row.alive ∷ Row.alive ∷ List.[]; }
+            Row.off ∷ Row.off ∷ Row.off ∷ Row.off ∷ Row.off ∷ Row.alive ∷ Row.alive ∷ Row.alive ∷ Row.alive ∷ List.[]; }
         abbrev G147 : Row.Cx
-        G147 = record { locals = List._++_ g111 (List._++_ t1 (List._++_ t2 t112)); slots = life0 ∷ Row.off ∷ life2 ∷ Row.off ∷ Row.off ∷ life5 ∷
+        G147 = record { locals = List._++_ g113 (List._++_ t1 (List._++_ t2 t114)); slots = Row.off ∷ Row.off ∷ life2 ∷ Row.off ∷ Row.off ∷ life5 ∷
+            life6 ∷ life7 ∷ life8 ∷ Row.off ∷ Row.off ∷ Row.off ∷ Row.off ∷ Row.off ∷ Row.off ∷ Row.off ∷ Row.off ∷ Row.off ∷ Row.off ∷ Row.off ∷
+            Row.off ∷ Row.off ∷ Row.off ∷ Row.off ∷ Row.off ∷ Row.alive ∷ Row.alive ∷ Row.alive ∷ Row.alive ∷ List.[]; }
+        abbrev G148 : Row.Cx
+        G148 = record { locals = List._++_ g115 (List._++_ t1 (List._++_ t2 t114)); slots = Row.off ∷ Row.off ∷ life2 ∷ Row.off ∷ Row.off ∷ life5 ∷
+            life6 ∷ life7 ∷ life8 ∷ Row.off ∷ Row.off ∷ Row.off ∷ Row.off ∷ Row.off ∷ Row.off ∷ Row.off ∷ Row.off ∷ Row.off ∷ Row.off ∷ Row.off ∷
+            Row.off ∷ Row.off ∷ Row.off ∷ Row.off ∷ Row.off ∷ Row.alive ∷ Row.alive ∷ Row.alive ∷ Row.alive ∷ List.[]; }
+        abbrev G149 : Row.Cx
+        G149 = record { locals = List._++_ g116 (List._++_ t1 (List._++_ t2 t114)); slots = Row.off ∷ Row.off ∷ life2 ∷ Row.off ∷ Row.off ∷ life5 ∷
+            life6 ∷ life7 ∷ life8 ∷ Row.off ∷ Row.off ∷ Row.off ∷ Row.off ∷ Row.off ∷ Row.off ∷ Row.off ∷ Row.off ∷ Row.off ∷ Row.off ∷ Row.off ∷
+            Row.off ∷ Row.off ∷ Row.off ∷ Row.off ∷ Row.off ∷ Row.alive ∷ Row.alive ∷ Row.alive ∷ Row.alive ∷ List.[]; }
+        abbrev G150 : Row.Cx
+        G150 = record { locals = List._++_ g117 (List._++_ t1 (List._++_ t2 t114)); slots = Row.off ∷ Row.off ∷ life2 ∷ Row.off ∷ Row.off ∷ life5 ∷
+            life6 ∷ life7 ∷ life8 ∷ Row.off ∷ Row.off ∷ Row.off ∷ Row.off ∷ Row.off ∷ Row.off ∷ Row.off ∷ Row.off ∷ Row.off ∷ Row.off ∷ Row.off ∷
+            Row.off ∷ Row.off ∷ Row.off ∷ Row.off ∷ Row.off ∷ Row.alive ∷ Row.alive ∷ Row.alive ∷ Row.alive ∷ List.[]; }
+        abbrev G151 : Row.Cx
+        G151 = record { locals = List._++_ g117 (List._++_ t1 (List._++_ t2 t114)); slots = Row.off ∷ Row.off ∷ life2 ∷ Row.off ∷ Row.off ∷ life5 ∷
             life6 ∷ life7 ∷ life8 ∷ Row.off ∷ Row.off ∷ Row.off ∷ Row.off ∷ Row.off ∷ Row.off ∷ Row.off ∷ Row.off ∷ Row.off ∷ Row.off ∷ Row.off ∷
             Row.off ∷ Row.off ∷ Row.off ∷ Row.off ∷ Row.off ∷ Row.dead ∷ Row.alive ∷ Row.alive ∷ Row.alive ∷ List.[]; }
-        abbrev G148 : Row.Cx
-        G148 = record { locals = List._++_ g111 (List._++_ t1 (List._++_ t2 t112)); slots = life0 ∷ Row.off ∷ life2 ∷ Row.off ∷ Row.off ∷ life5 ∷
+        abbrev G152 : Row.Cx
+        G152 = record { locals = List._++_ g118 (List._++_ t1 (List._++_ t2 t119)); slots = life0 ∷ Row.off ∷ life2 ∷ Row.off ∷ Row.off ∷ life5 ∷
+            life6 ∷ life7 ∷ life8 ∷ Row.off ∷ Row.off ∷ Row.off ∷ Row.off ∷ Row.off ∷ Row.off ∷ Row.off ∷ Row.off ∷ Row.off ∷ Row.off ∷ Row.off ∷
+            Row.off ∷ Row.off ∷ Row.off ∷ Row.off ∷ Row.off ∷ Row.dead ∷ Row.alive ∷ Row.alive ∷ Row.alive ∷ List.[]; }
+        abbrev G153 : Row.Cx
+        G153 = record { locals = List._++_ g118 (List._++_ t1 (List._++_ t2 t119)); slots = life0 ∷ Row.off ∷ life2 ∷ Row.off ∷ Row.off ∷ life5 ∷
             life6 ∷ life7 ∷ life8 ∷ Row.off ∷ Row.off ∷ Row.off ∷ Row.off ∷ Row.off ∷ Row.off ∷ Row.off ∷ Row.off ∷ Row.off ∷ Row.off ∷ Row.off ∷
             Row.off ∷ Row.off ∷ Row.off ∷ Row.off ∷ Row.off ∷ Row.off ∷ Row.alive ∷ Row.alive ∷ Row.alive ∷ List.[]; }
-        abbrev G149 : Row.Cx
-        G149 = record { locals = List._++_ g111 (List._++_ t1 (List._++_ t2 t112)); slots = life0 ∷ Row.off ∷ life2 ∷ Row.off ∷ Row.off ∷ life5 ∷
+        abbrev G154 : Row.Cx
+        G154 = record { locals = List._++_ g118 (List._++_ t1 (List._++_ t2 t119)); slots = life0 ∷ Row.off ∷ life2 ∷ Row.off ∷ Row.off ∷ life5 ∷
             life6 ∷ life7 ∷ life8 ∷ Row.off ∷ Row.off ∷ Row.off ∷ Row.off ∷ Row.off ∷ Row.off ∷ Row.off ∷ Row.off ∷ Row.off ∷ Row.off ∷ Row.off ∷
             Row.off ∷ Row.off ∷ Row.off ∷ Row.off ∷ Row.off ∷ Row.off ∷ Row.dead ∷ Row.alive ∷ Row.alive ∷ List.[]; }
-        abbrev G150 : Row.Cx
-        G150 = record { locals = List._++_ g113 (List._++_ t1 (List._++_ t2 t114)); slots = life0 ∷ life1 ∷ life2 ∷ Row.off ∷ Row.off ∷ life5 ∷ life6
+        abbrev G155 : Row.Cx
+        G155 = record { locals = List._++_ g120 (List._++_ t1 (List._++_ t2 t121)); slots = life0 ∷ life1 ∷ life2 ∷ Row.off ∷ Row.off ∷ life5 ∷ life6
             ∷ life7 ∷ life8 ∷ Row.off ∷ Row.off ∷ Row.off ∷ Row.off ∷ Row.off ∷ Row.off ∷ Row.off ∷ Row.off ∷ Row.off ∷ Row.off ∷ Row.off ∷ Row.off ∷
             Row.off ∷ Row.off ∷ Row.off ∷ Row.off ∷ Row.off ∷ Row.dead ∷ Row.alive ∷ Row.alive ∷ List.[]; }
-        abbrev G151 : Row.Cx
-        G151 = record { locals = List._++_ g113 (List._++_ t1 (List._++_ t2 t114)); slots = life0 ∷ life1 ∷ life2 ∷ Row.off ∷ Row.off ∷ life5 ∷ life6
+        abbrev G156 : Row.Cx
+        G156 = record { locals = List._++_ g120 (List._++_ t1 (List._++_ t2 t121)); slots = life0 ∷ life1 ∷ life2 ∷ Row.off ∷ Row.off ∷ life5 ∷ life6
             ∷ life7 ∷ life8 ∷ Row.off ∷ Row.off ∷ Row.off ∷ Row.off ∷ Row.off ∷ Row.off ∷ Row.off ∷ Row.off ∷ Row.off ∷ Row.off ∷ Row.off ∷ Row.off ∷
             Row.off ∷ Row.off ∷ Row.off ∷ Row.off ∷ Row.off ∷ Row.off ∷ Row.alive ∷ Row.alive ∷ List.[]; }
-        abbrev G152 : Row.Cx
-        G152 = record { locals = List._++_ g113 (List._++_ t1 (List._++_ t2 t114)); slots = life0 ∷ life1 ∷ life2 ∷ Row.off ∷ Row.off ∷ life5 ∷ life6
+        abbrev G157 : Row.Cx
+        G157 = record { locals = List._++_ g120 (List._++_ t1 (List._++_ t2 t121)); slots = life0 ∷ life1 ∷ life2 ∷ Row.off ∷ Row.off ∷ life5 ∷ life6
             ∷ life7 ∷ life8 ∷ Row.off ∷ Row.off ∷ Row.off ∷ Row.off ∷ Row.off ∷ Row.off ∷ Row.off ∷ Row.off ∷ Row.off ∷ Row.off ∷ Row.off ∷ Row.off ∷
             Row.off ∷ Row.off ∷ Row.off ∷ Row.off ∷ Row.off ∷ Row.off ∷ Row.dead ∷ Row.alive ∷ List.[]; }
-        abbrev G153 : Row.Cx
-        G153 = record { locals = List._++_ g115 (List._++_ t1 (List._++_ t2 t116)); slots = life0 ∷ life1 ∷ life2 ∷ life3 ∷ Row.off ∷ life5 ∷ life6 ∷
+        abbrev G158 : Row.Cx
+        G158 = record { locals = List._++_ g122 (List._++_ t1 (List._++_ t2 t123)); slots = life0 ∷ life1 ∷ life2 ∷ life3 ∷ Row.off ∷ life5 ∷ life6 ∷
             life7 ∷ life8 ∷ Row.off ∷ Row.off ∷ Row.off ∷ Row.off ∷ Row.off ∷ Row.off ∷ Row.off ∷ Row.off ∷ Row.off ∷ Row.off ∷ Row.off ∷ Row.off ∷
             Row.off ∷ Row.off ∷ Row.off ∷ Row.off ∷ Row.off ∷ Row.off ∷ Row.dead ∷ Row.alive ∷ List.[]; }
-        abbrev G154 : Row.Cx
-        G154 = record { locals = List._++_ g115 (List._++_ t1 (List._++_ t2 t116)); slots = life0 ∷ life1 ∷ life2 ∷ life3 ∷ Row.off ∷ life5 ∷ life6 ∷
+        abbrev G159 : Row.Cx
+        G159 = record { locals = List._++_ g122 (List._++_ t1 (List._++_ t2 t123)); slots = life0 ∷ life1 ∷ life2 ∷ life3 ∷ Row.off ∷ life5 ∷ life6 ∷
             life7 ∷ life8 ∷ Row.off ∷ Row.off ∷ Row.off ∷ Row.off ∷ Row.off ∷ Row.off ∷ Row.off ∷ Row.off ∷ Row.off ∷ Row.off ∷ Row.off ∷ Row.off ∷
             Row.off ∷ Row.off ∷ Row.off ∷ Row.off ∷ Row.off ∷ Row.off ∷ Row.off ∷ Row.alive ∷ List.[]; }
-        abbrev G155 : Row.Cx
-        G155 = record { locals = List._++_ g115 (List._++_ t1 (List._++_ t2 t116)); slots = life0 ∷ life1 ∷ life2 ∷ life3 ∷ Row.off ∷ life5 ∷ life6 ∷
+        abbrev G160 : Row.Cx
+        G160 = record { locals = List._++_ g122 (List._++_ t1 (List._++_ t2 t123)); slots = life0 ∷ life1 ∷ life2 ∷ life3 ∷ Row.off ∷ life5 ∷ life6 ∷
             life7 ∷ life8 ∷ Row.off ∷ Row.off ∷ Row.off ∷ Row.off ∷ Row.off ∷ Row.off ∷ Row.off ∷ Row.off ∷ Row.off ∷ Row.off ∷ Row.off ∷ Row.off ∷
             Row.off ∷ Row.off ∷ Row.off ∷ Row.off ∷ Row.off ∷ Row.off ∷ Row.off ∷ Row.dead ∷ List.[]; }
-        abbrev G156 : Row.Cx
-        G156 = record { locals = List._++_ t6 (List._++_ t1 (List._++_ t2 t3)); slots = life0 ∷ life1 ∷ life2 ∷ life3 ∷ life4 ∷ life5 ∷ life6 ∷ life7
-            ∷ life8 ∷ Row.off ∷ Row.off ∷ Row.off ∷ Row.off ∷ Row.off ∷ Row.off ∷ Row.off ∷ Row.off ∷ Row.off ∷ Row.off ∷ Row.off ∷ Row.off ∷ Row.off
-            ∷ Row.off ∷ Row.off ∷ Row.off ∷ Row.off ∷ Row.off ∷ Row.off ∷ Row.dead ∷ List.[]; }
-        abbrev G157 : Row.Cx
-        G157 = record { locals = List._++_ t6 (List._++_ t1 (List._++_ t2 t3)); slots = life0 ∷ life1 ∷ life2 ∷ life3 ∷ life4 ∷ life5 ∷ life6 ∷ life7
-            ∷ life8 ∷ Row.off ∷ Row.off ∷ Row.off ∷ Row.off ∷ Row.off ∷ Row.off ∷ Row.off ∷ Row.off ∷ Row.off ∷ Row.off ∷ Row.off ∷ Row.off ∷ Row.off
-            ∷ Row.off ∷ Row.off ∷ Row.off ∷ Row.off ∷ Row.off ∷ Row.off ∷ Row.dead ∷ List.[]; }
-        abbrev G158 : Row.Cx
-        G158 = record { locals = List._++_ t6 (List._++_ t1 (List._++_ t2 t3)); slots = life0 ∷ life1 ∷ life2 ∷ life3 ∷ life4 ∷ life5 ∷ life6 ∷ life7
-            ∷ life8 ∷ Row.off ∷ Row.off ∷ Row.off ∷ Row.off ∷ Row.off ∷ Row.off ∷ Row.off ∷ Row.off ∷ Row.off ∷ Row.off ∷ Row.off ∷ Row.off ∷ Row.off
-            ∷ Row.off ∷ Row.off ∷ Row.off ∷ Row.off ∷ Row.off ∷ Row.off ∷ Row.off ∷ List.[]; }
-        abbrev G159 : Row.Cx
-        G159 = record { locals = List._++_ t7 (List._++_ t1 (List._++_ t94 t3)); slots = life0 ∷ life1 ∷ life2 ∷ life3 ∷ life4 ∷ life5 ∷ life6 ∷ life7
-            ∷ life8 ∷ Row.off ∷ Row.off ∷ Row.off ∷ Row.off ∷ Row.off ∷ Row.off ∷ Row.off ∷ Row.off ∷ Row.off ∷ Row.off ∷ Row.off ∷ Row.off ∷ Row.off
-            ∷ Row.off ∷ Row.off ∷ Row.off ∷ Row.off ∷ Row.off ∷ Row.off ∷ Row.off ∷ List.[]; }
-        abbrev G160 : Row.Cx
-        G160 = record { locals = List._++_ t7 (List._++_ t1 (List._++_ t2 t3)); slots = life0 ∷ life1 ∷ life2 ∷ life3 ∷ life4 ∷ life5 ∷ life6 ∷ life7
-            ∷ life8 ∷ Row.off ∷ Row.off ∷ Row.off ∷ Row.off ∷ Row.off ∷ Row.off ∷ Row.off ∷ Row.off ∷ Row.off ∷ Row.off ∷ Row.off ∷ Row.off ∷ Row.off
-            ∷ Row.off ∷ Row.off ∷ Row.off ∷ Row.off ∷ Row.off ∷ Row.off ∷ Row.off ∷ List.[]; }
         abbrev G161 : Row.Cx
-        G161 = record { locals = List._++_ t117 (List._++_ t1 (List._++_ t2 t3)); slots = life0 ∷ life1 ∷ life2 ∷ life3 ∷ life4 ∷ life5 ∷ life6 ∷
-            life7 ∷ life8 ∷ Row.off ∷ Row.off ∷ Row.off ∷ Row.off ∷ Row.off ∷ Row.off ∷ Row.off ∷ Row.off ∷ Row.off ∷ Row.off ∷ Row.off ∷ Row.off ∷
-            Row.off ∷ Row.off ∷ Row.off ∷ Row.off ∷ Row.off ∷ Row.off ∷ Row.off ∷ Row.off ∷ List.[]; }
+        G161 = record { locals = List._++_ t6 (List._++_ t1 (List._++_ t2 t3)); slots = life0 ∷ life1 ∷ life2 ∷ life3 ∷ life4 ∷ life5 ∷ life6 ∷ life7
+            ∷ life8 ∷ Row.off ∷ Row.off ∷ Row.off ∷ Row.off ∷ Row.off ∷ Row.off ∷ Row.off ∷ Row.off ∷ Row.off ∷ Row.off ∷ Row.off ∷ Row.off ∷ Row.off
+            ∷ Row.off ∷ Row.off ∷ Row.off ∷ Row.off ∷ Row.off ∷ Row.off ∷ Row.dead ∷ List.[]; }
         abbrev G162 : Row.Cx
         G162 = record { locals = List._++_ t6 (List._++_ t1 (List._++_ t2 t3)); slots = life0 ∷ life1 ∷ life2 ∷ life3 ∷ life4 ∷ life5 ∷ life6 ∷ life7
             ∷ life8 ∷ Row.off ∷ Row.off ∷ Row.off ∷ Row.off ∷ Row.off ∷ Row.off ∷ Row.off ∷ Row.off ∷ Row.off ∷ Row.off ∷ Row.off ∷ Row.off ∷ Row.off
-            ∷ Row.off ∷ Row.off ∷ Row.off ∷ Row.off ∷ Row.off ∷ Row.off ∷ Row.off ∷ List.[]; }
+            ∷ Row.off ∷ Row.off ∷ Row.off ∷ Row.off ∷ Row.off ∷ Row.off ∷ Row.dead ∷ List.[]; }
         abbrev G163 : Row.Cx
-        G163 = record { locals = List._++_ t118 (List._++_ t1 (List._++_ t2 t3)); slots = life0 ∷ life1 ∷ life2 ∷ life3 ∷ life4 ∷ life5 ∷ life6 ∷
-            life7 ∷ life8 ∷ Row.off ∷ Row.off ∷ Row.off ∷ Row.off ∷ Row.off ∷ Row.off ∷ Row.off ∷ Row.off ∷ Row.off ∷ Row.off ∷ Row.off ∷ Row.off ∷
-            Row.off ∷ Row.off ∷ Row.off ∷ Row.off ∷ Row.off ∷ Row.off ∷ Row.off ∷ Row.off ∷ List.[]; }
+        G163 = record { locals = List._++_ t6 (List._++_ t1 (List._++_ t2 t3)); slots = life0 ∷ life1 ∷ life2 ∷ life3 ∷ life4 ∷ life5 ∷ life6 ∷ life7
+            ∷ life8 ∷ Row.off ∷ Row.off ∷ Row.off ∷ Row.off ∷ Row.off ∷ Row.off ∷ Row.off ∷ Row.off ∷ Row.off ∷ Row.off ∷ Row.off ∷ Row.off ∷ Row.off
+            ∷ Row.off ∷ Row.off ∷ Row.off ∷ Row.off ∷ Row.off ∷ Row.off ∷ Row.off ∷ List.[]; }
         abbrev G164 : Row.Cx
-        G164 = record { locals = List._++_ t119 (List._++_ t1 (List._++_ t2 t3)); slots = life0 ∷ life1 ∷ life2 ∷ life3 ∷ life4 ∷ life5 ∷ life6 ∷
+        G164 = record { locals = List._++_ t7 (List._++_ t1 (List._++_ t100 t3)); slots = life0 ∷ life1 ∷ life2 ∷ life3 ∷ life4 ∷ life5 ∷ life6 ∷
             life7 ∷ life8 ∷ Row.off ∷ Row.off ∷ Row.off ∷ Row.off ∷ Row.off ∷ Row.off ∷ Row.off ∷ Row.off ∷ Row.off ∷ Row.off ∷ Row.off ∷ Row.off ∷
             Row.off ∷ Row.off ∷ Row.off ∷ Row.off ∷ Row.off ∷ Row.off ∷ Row.off ∷ Row.off ∷ List.[]; }
         abbrev G165 : Row.Cx
-        G165 = record { locals = List._++_ t4 (List._++_ t1 (List._++_ t2 t3)); slots = life0 ∷ life1 ∷ life2 ∷ life3 ∷ life4 ∷ life5 ∷ life6 ∷ life7
+        G165 = record { locals = List._++_ t7 (List._++_ t1 (List._++_ t2 t3)); slots = life0 ∷ life1 ∷ life2 ∷ life3 ∷ life4 ∷ life5 ∷ life6 ∷ life7
+            ∷ life8 ∷ Row.off ∷ Row.off ∷ Row.off ∷ Row.off ∷ Row.off ∷ Row.off ∷ Row.off ∷ Row.off ∷ Row.off ∷ Row.off ∷ Row.off ∷ Row.off ∷ Row.off
+            ∷ Row.off ∷ Row.off ∷ Row.off ∷ Row.off ∷ Row.off ∷ Row.off ∷ Row.off ∷ List.[]; }
+        abbrev G166 : Row.Cx
+        G166 = record { locals = List._++_ t124 (List._++_ t1 (List._++_ t2 t3)); slots = life0 ∷ life1 ∷ life2 ∷ life3 ∷ life4 ∷ life5 ∷ life6 ∷
+            life7 ∷ life8 ∷ Row.off ∷ Row.off ∷ Row.off ∷ Row.off ∷ Row.off ∷ Row.off ∷ Row.off ∷ Row.off ∷ Row.off ∷ Row.off ∷ Row.off ∷ Row.off ∷
+            Row.off ∷ Row.off ∷ Row.off ∷ Row.off ∷ Row.off ∷ Row.off ∷ Row.off ∷ Row.off ∷ List.[]; }
+        abbrev G167 : Row.Cx
+        G167 = record { locals = List._++_ t125 (List._++_ t1 (List._++_ t2 t3)); slots = life0 ∷ life1 ∷ life2 ∷ life3 ∷ life4 ∷ life5 ∷ life6 ∷
+            life7 ∷ life8 ∷ Row.off ∷ Row.off ∷ Row.off ∷ Row.off ∷ Row.off ∷ Row.off ∷ Row.off ∷ Row.off ∷ Row.off ∷ Row.off ∷ Row.off ∷ Row.off ∷
+            Row.off ∷ Row.off ∷ Row.off ∷ Row.off ∷ Row.off ∷ Row.off ∷ Row.off ∷ Row.off ∷ List.[]; }
+        abbrev G168 : Row.Cx
+        G168 = record { locals = List._++_ t6 (List._++_ t1 (List._++_ t2 t3)); slots = life0 ∷ life1 ∷ life2 ∷ life3 ∷ life4 ∷ life5 ∷ life6 ∷ life7
+            ∷ life8 ∷ Row.off ∷ Row.off ∷ Row.off ∷ Row.off ∷ Row.off ∷ Row.off ∷ Row.off ∷ Row.off ∷ Row.off ∷ Row.off ∷ Row.off ∷ Row.off ∷ Row.off
+            ∷ Row.off ∷ Row.off ∷ Row.off ∷ Row.off ∷ Row.off ∷ Row.off ∷ Row.off ∷ List.[]; }
+        abbrev G169 : Row.Cx
+        G169 = record { locals = List._++_ t126 (List._++_ t1 (List._++_ t2 t3)); slots = life0 ∷ life1 ∷ life2 ∷ life3 ∷ life4 ∷ life5 ∷ life6 ∷
+            life7 ∷ life8 ∷ Row.off ∷ Row.off ∷ Row.off ∷ Row.off ∷ Row.off ∷ Row.off ∷ Row.off ∷ Row.off ∷ Row.off ∷ Row.off ∷ Row.off ∷ Row.off ∷
+            Row.off ∷ Row.off ∷ Row.off ∷ Row.off ∷ Row.off ∷ Row.off ∷ Row.off ∷ Row.off ∷ List.[]; }
+        abbrev G170 : Row.Cx
+        G170 = record { locals = List._++_ t127 (List._++_ t1 (List._++_ t2 t3)); slots = life0 ∷ life1 ∷ life2 ∷ life3 ∷ life4 ∷ life5 ∷ life6 ∷
+            life7 ∷ life8 ∷ Row.off ∷ Row.off ∷ Row.off ∷ Row.off ∷ Row.off ∷ Row.off ∷ Row.off ∷ Row.off ∷ Row.off ∷ Row.off ∷ Row.off ∷ Row.off ∷
+            Row.off ∷ Row.off ∷ Row.off ∷ Row.off ∷ Row.off ∷ Row.off ∷ Row.off ∷ Row.off ∷ List.[]; }
+        abbrev G171 : Row.Cx
+        G171 = record { locals = List._++_ t4 (List._++_ t1 (List._++_ t2 t3)); slots = life0 ∷ life1 ∷ life2 ∷ life3 ∷ life4 ∷ life5 ∷ life6 ∷ life7
             ∷ life8 ∷ Row.off ∷ Row.off ∷ Row.off ∷ Row.off ∷ Row.off ∷ Row.off ∷ Row.off ∷ Row.off ∷ Row.off ∷ Row.off ∷ Row.off ∷ Row.off ∷ Row.off
             ∷ Row.off ∷ Row.off ∷ Row.off ∷ Row.off ∷ Row.off ∷ Row.off ∷ Row.off ∷ List.[]; }
         abbrev Δ0 : Typed.Outs
@@ -3047,774 +3178,814 @@ module _ (claims· : Claims) where
         abbrev Δ4 : Typed.Outs
         Δ4 = Typed.inBlock₀ Δ3
         abbrev Δ5 : Typed.Outs
-        Δ5 = Typed.withNext (Option.some G124) Δ4
+        Δ5 = Typed.withNext (Option.some G128) Δ4
         abbrev Δ6 : Typed.Outs
-        Δ6 = Typed.withNext (Option.some G129) Δ4
+        Δ6 = Typed.withNext (Option.some G133) Δ4
         module _ { M : Type 1 } (𝓤 : URA.URA M) (H : Wp.Heap 𝓤) (A : Atoms.Atoms 𝓤) (W : Kit.Given 𝓤 H A) (𝓣 : Wp.Tables 𝓤 H) (known : Knowns 𝓤 H A W
             𝓣) (bs : List.List Nat.ℕ) (bd : Lifetimes.AllOutlive 9 (Kinds.osR r) κs) where
           abbrev E : Wp.Env 𝓤 H
           E = Frame.EnvOf 𝓤 H ((Kinds.tyR r) ∷ (Enter.tysP ps xs)) bs
-          d0 : Typed.Typed 𝓤 H A 𝓣 E G43 b12 Δ4 at0
+          d0 : Typed.Typed 𝓤 H A 𝓣 E G44 b12 Δ4 at0
           d0 = Typed.t-exit 𝓤 H A W 𝓣 E 1 Δ4 tt
-          d1 : Typed.Typed 𝓤 H A 𝓣 E G42 b12 Δ4 at1
-          d1 = Typed.g-pre 𝓤 H A W 𝓣 E G42 G43 b12 Δ4 (λ Ψ. Ψ) at0 (Lifetime.g-forget 𝓤 H A W E G42 13 Row.dead Path.refl) d0
-          d2 : Typed.Typed 𝓤 H A 𝓣 E G41 b12 Δ4 at2
-          d2 = Typed.g-pre 𝓤 H A W 𝓣 E G41 G42 b12 Δ4 (Typed.give s38) at1 (Know.g-sl-known 𝓤 H A W (Referent.fInt Syntax.w32) E G41 5 4 ref9 life4 0
+          d1 : Typed.Typed 𝓤 H A 𝓣 E G43 b12 Δ4 at1
+          d1 = Typed.g-pre 𝓤 H A W 𝓣 E G43 G44 b12 Δ4 (λ Ψ. Ψ) at0 (Lifetime.g-forget 𝓤 H A W E G43 13 Row.dead Path.refl) d0
+          d2 : Typed.Typed 𝓤 H A 𝓣 E G42 b12 Δ4 at2
+          d2 = Typed.g-pre 𝓤 H A W 𝓣 E G42 G43 b12 Δ4 (Typed.give s39) at1 (Know.g-sl-known 𝓤 H A W (Referent.fInt Syntax.w32) E G42 5 4 ref9 life4 0
               (λ x. x) record { fits = Dec.lit< tt } (Reads'.as-is 𝓤 H A (Mut.mslice (Referent.rtF (Referent.fInt Syntax.w32)) ref9 4)) Path.refl tt)
               d1
-          d3 : Typed.Typed 𝓤 H A 𝓣 E G40 b12 Δ4 at3
-          d3 = Typed.g-pre 𝓤 H A W 𝓣 E G40 G41 b12 Δ4 (Typed.both s37) at2 (Relend.g-back-sl 𝓤 H A W E (Referent.rtF (Referent.fInt Syntax.w32)) G40
-              23 5 4 13 ref9 ref4 life4 (λ x. x) (λ x. x) (Reads'.as-is 𝓤 H A (Mut.msleft (Referent.rtF (Referent.fInt Syntax.w32)) ref4))
+          d3 : Typed.Typed 𝓤 H A 𝓣 E G41 b12 Δ4 at3
+          d3 = Typed.g-pre 𝓤 H A W 𝓣 E G41 G42 b12 Δ4 (Typed.both s38) at2 (Relend.g-back-sl 𝓤 H A W E (Referent.rtF (Referent.fInt Syntax.w32)) G41
+              24 5 4 13 ref9 ref4 life4 (λ x. x) (λ x. x) (Reads'.as-is 𝓤 H A (Mut.msleft (Referent.rtF (Referent.fInt Syntax.w32)) ref4))
               (Reads'.as-is 𝓤 H A (Relend.mslice-owed (Referent.rtF (Referent.fInt Syntax.w32)) ref9 4 13 life4)) Path.refl Path.refl) d2
-          d4 : Typed.Typed 𝓤 H A 𝓣 E G39 b12 Δ4 at4
-          d4 = Typed.g-pre 𝓤 H A W 𝓣 E G39 G40 b12 Δ4 (λ Ψ. Ψ) at3 (Lifetime.g-end 𝓤 H A W E G39 13 Path.refl) d3
-          d5 : Typed.Typed 𝓤 H A 𝓣 E G38 b12 Δ4 at5
-          d5 = Typed.g-pre 𝓤 H A W 𝓣 E G38 G39 b12 Δ4 (λ Ψ. Ψ) at4 (Lifetime.g-forget 𝓤 H A W E G38 12 Row.dead Path.refl) d4
-          d6 : Typed.Typed 𝓤 H A 𝓣 E G37 b12 Δ4 at6
-          d6 = Typed.g-pre 𝓤 H A W 𝓣 E G37 G38 b12 Δ4 (Typed.both s34) at5 (Relend.g-back-sl 𝓤 H A W E InflightAction.row G37 21 4 3 12 ref8 ref3
+          d4 : Typed.Typed 𝓤 H A 𝓣 E G40 b12 Δ4 at4
+          d4 = Typed.g-pre 𝓤 H A W 𝓣 E G40 G41 b12 Δ4 (λ Ψ. Ψ) at3 (Lifetime.g-end 𝓤 H A W E G40 13 Path.refl) d3
+          d5 : Typed.Typed 𝓤 H A 𝓣 E G39 b12 Δ4 at5
+          d5 = Typed.g-pre 𝓤 H A W 𝓣 E G39 G40 b12 Δ4 (λ Ψ. Ψ) at4 (Lifetime.g-forget 𝓤 H A W E G39 12 Row.dead Path.refl) d4
+          d6 : Typed.Typed 𝓤 H A 𝓣 E G38 b12 Δ4 at6
+          d6 = Typed.g-pre 𝓤 H A W 𝓣 E G38 G39 b12 Δ4 (Typed.both s35) at5 (Relend.g-back-sl 𝓤 H A W E InflightAction.row G38 22 4 3 12 ref8 ref3
               life3 (λ x. x) (λ x. x) (Reads'.as-is 𝓤 H A (Mut.msleft InflightAction.row ref3)) (Reads'.as-is 𝓤 H A (Relend.mslice-owed
               InflightAction.row ref8 3 12 life3)) Path.refl Path.refl) d5
-          d7 : Typed.Typed 𝓤 H A 𝓣 E G36 b12 Δ4 at7
-          d7 = Typed.g-pre 𝓤 H A W 𝓣 E G36 G37 b12 Δ4 (λ Ψ. Ψ) at6 (Lifetime.g-end 𝓤 H A W E G36 12 Path.refl) d6
-          d8 : Typed.Typed 𝓤 H A 𝓣 E G35 b12 Δ4 at8
-          d8 = Typed.g-pre 𝓤 H A W 𝓣 E G35 G36 b12 Δ4 (λ Ψ. Ψ) at7 (Lifetime.g-forget 𝓤 H A W E G35 11 Row.dead Path.refl) d7
-          d9 : Typed.Typed 𝓤 H A 𝓣 E G34 b12 Δ4 at9
-          d9 = Typed.g-pre 𝓤 H A W 𝓣 E G34 G35 b12 Δ4 (Typed.both s31) at8 (Relend.g-back-sl 𝓤 H A W E ReservationUsage.row G34 19 3 2 11 ref7 ref2
+          d7 : Typed.Typed 𝓤 H A 𝓣 E G37 b12 Δ4 at7
+          d7 = Typed.g-pre 𝓤 H A W 𝓣 E G37 G38 b12 Δ4 (λ Ψ. Ψ) at6 (Lifetime.g-end 𝓤 H A W E G37 12 Path.refl) d6
+          d8 : Typed.Typed 𝓤 H A 𝓣 E G36 b12 Δ4 at8
+          d8 = Typed.g-pre 𝓤 H A W 𝓣 E G36 G37 b12 Δ4 (λ Ψ. Ψ) at7 (Lifetime.g-forget 𝓤 H A W E G36 11 Row.dead Path.refl) d7
+          d9 : Typed.Typed 𝓤 H A 𝓣 E G35 b12 Δ4 at9
+          d9 = Typed.g-pre 𝓤 H A W 𝓣 E G35 G36 b12 Δ4 (Typed.both s32) at8 (Relend.g-back-sl 𝓤 H A W E ReservationUsage.row G35 20 3 2 11 ref7 ref2
               life2 (λ x. x) (λ x. x) (Reads'.as-is 𝓤 H A (Mut.msleft ReservationUsage.row ref2)) (Reads'.as-is 𝓤 H A (Relend.mslice-owed
               ReservationUsage.row ref7 2 11 life2)) Path.refl Path.refl) d8
-          d10 : Typed.Typed 𝓤 H A 𝓣 E G33 b12 Δ4 at10
-          d10 = Typed.g-pre 𝓤 H A W 𝓣 E G33 G34 b12 Δ4 (λ Ψ. Ψ) at9 (Lifetime.g-end 𝓤 H A W E G33 11 Path.refl) d9
-          d11 : Typed.Typed 𝓤 H A 𝓣 E G32 b12 Δ4 at11
-          d11 = Typed.g-pre 𝓤 H A W 𝓣 E G32 G33 b12 Δ4 (λ Ψ. Ψ) at10 (Lifetime.g-forget 𝓤 H A W E G32 10 Row.dead Path.refl) d10
-          d12 : Typed.Typed 𝓤 H A 𝓣 E G31 b12 Δ4 at12
-          d12 = Typed.g-pre 𝓤 H A W 𝓣 E G31 G32 b12 Δ4 (Typed.both s28) at11 (Relend.g-back-sl 𝓤 H A W E RelayCircuit.row G31 17 2 1 10 ref6 ref1
+          d10 : Typed.Typed 𝓤 H A 𝓣 E G34 b12 Δ4 at10
+          d10 = Typed.g-pre 𝓤 H A W 𝓣 E G34 G35 b12 Δ4 (λ Ψ. Ψ) at9 (Lifetime.g-end 𝓤 H A W E G34 11 Path.refl) d9
+          d11 : Typed.Typed 𝓤 H A 𝓣 E G33 b12 Δ4 at11
+          d11 = Typed.g-pre 𝓤 H A W 𝓣 E G33 G34 b12 Δ4 (λ Ψ. Ψ) at10 (Lifetime.g-forget 𝓤 H A W E G33 10 Row.dead Path.refl) d10
+          d12 : Typed.Typed 𝓤 H A 𝓣 E G32 b12 Δ4 at12
+          d12 = Typed.g-pre 𝓤 H A W 𝓣 E G32 G33 b12 Δ4 (Typed.both s29) at11 (Relend.g-back-sl 𝓤 H A W E RelayCircuit.row G32 18 2 1 10 ref6 ref1
               life1 (λ x. x) (λ x. x) (Reads'.as-is 𝓤 H A (Mut.msleft RelayCircuit.row ref1)) (Reads'.as-is 𝓤 H A (Relend.mslice-owed RelayCircuit.row
               ref6 1 10 life1)) Path.refl Path.refl) d11
-          d13 : Typed.Typed 𝓤 H A 𝓣 E G30 b12 Δ4 at13
-          d13 = Typed.g-pre 𝓤 H A W 𝓣 E G30 G31 b12 Δ4 (λ Ψ. Ψ) at12 (Lifetime.g-end 𝓤 H A W E G30 10 Path.refl) d12
-          d14 : Typed.Typed 𝓤 H A 𝓣 E G29 b12 Δ4 at14
-          d14 = Typed.g-pre 𝓤 H A W 𝓣 E G29 G30 b12 Δ4 (λ Ψ. Ψ) at13 (Lifetime.g-forget 𝓤 H A W E G29 9 Row.dead Path.refl) d13
-          d15 : Typed.Typed 𝓤 H A 𝓣 E G28 b12 Δ4 at15
-          d15 = Typed.g-pre 𝓤 H A W 𝓣 E G28 G29 b12 Δ4 (Typed.both s25) at14 (Relend.g-back-sl 𝓤 H A W E RelayPending.row G28 15 1 0 9 ref5 ref0 life0
+          d13 : Typed.Typed 𝓤 H A 𝓣 E G31 b12 Δ4 at13
+          d13 = Typed.g-pre 𝓤 H A W 𝓣 E G31 G32 b12 Δ4 (λ Ψ. Ψ) at12 (Lifetime.g-end 𝓤 H A W E G31 10 Path.refl) d12
+          d14 : Typed.Typed 𝓤 H A 𝓣 E G30 b12 Δ4 at14
+          d14 = Typed.g-pre 𝓤 H A W 𝓣 E G30 G31 b12 Δ4 (λ Ψ. Ψ) at13 (Lifetime.g-forget 𝓤 H A W E G30 9 Row.dead Path.refl) d13
+          d15 : Typed.Typed 𝓤 H A 𝓣 E G29 b12 Δ4 at15
+          d15 = Typed.g-pre 𝓤 H A W 𝓣 E G29 G30 b12 Δ4 (Typed.both s26) at14 (Relend.g-back-sl 𝓤 H A W E RelayPending.row G29 16 1 0 9 ref5 ref0 life0
               (λ x. x) (λ x. x) (Reads'.as-is 𝓤 H A (Mut.msleft RelayPending.row ref0)) (Reads'.as-is 𝓤 H A (Relend.mslice-owed RelayPending.row ref5
               0 9 life0)) Path.refl Path.refl) d14
-          d16 : Typed.Typed 𝓤 H A 𝓣 E G27 b12 Δ4 at16
-          d16 = Typed.g-pre 𝓤 H A W 𝓣 E G27 G28 b12 Δ4 (λ Ψ. Ψ) at15 (Lifetime.g-end 𝓤 H A W E G27 9 Path.refl) d15
-          d17 : Typed.Typed 𝓤 H A 𝓣 E G26 b12 Δ4 at17
-          d17 = Typed.g-pre 𝓤 H A W 𝓣 E G26 G27 b12 Δ4 (Typed.pass T26 T27 s23) at16 (Scalar.g-room 𝓤 H A W E G26 7 Laws.mir (Local.room-whole 𝓤 H A W
-              (Declared.row RelayPacket.the-type) Laws.mir Path.refl)) d16
-          d18 : Typed.Typed 𝓤 H A 𝓣 E G25 b12 Δ4 at18
-          d18 = Typed.g-pre 𝓤 H A W 𝓣 E G25 G26 b12 Δ4 (Typed.pass T25 T26 s22) at17 (Scalar.g-room 𝓤 H A W E G25 6 Laws'.mir (Local.room-whole 𝓤 H A
-              W (Declared.row OpaqueRelayRuntime.the-type) Laws'.mir Path.refl)) d17
-          d19 : Typed.Typed 𝓤 H A 𝓣 E G24 b13 Δ4 at19
-          d19 = Typed.s-seq 𝓤 H A W 𝓣 E G24 G25 b11 b12 Δ4 (Typed.both s21) at18 (Plain.t-call-plain 𝓤 H A W 𝓣 9 ps·0 r·0 (claims· .0) (claims· .1)
-              "hnsr_circuit::handle_open::handle_open" (known .0) E (λ pos β. β) G24 (record { pos = 15; ty = Syntax.tyRef Syntax.erased Syntax.mut
-              RelayPending.to; ref = λ x. x; }, (record { pos = 17; ty = Syntax.tyRef Syntax.erased Syntax.mut RelayCircuit.to; ref = λ x. x; },
-              (record { pos = 19; ty = Syntax.tyRef Syntax.erased Syntax.mut ReservationUsage.to; ref = λ x. x; }, (record { pos = 21; ty =
-              Syntax.tyRef Syntax.erased Syntax.mut InflightAction.to; ref = λ x. x; }, (record { pos = 23; ty = Syntax.tyRef Syntax.erased Syntax.mut
+          d16 : Typed.Typed 𝓤 H A 𝓣 E G28 b12 Δ4 at16
+          d16 = Typed.g-pre 𝓤 H A W 𝓣 E G28 G29 b12 Δ4 (λ Ψ. Ψ) at15 (Lifetime.g-end 𝓤 H A W E G28 9 Path.refl) d15
+          d17 : Typed.Typed 𝓤 H A 𝓣 E G27 b12 Δ4 at17
+          d17 = Typed.g-pre 𝓤 H A W 𝓣 E G27 G28 b12 Δ4 (Typed.pass T27 T28 s24) at16 (Scalar.g-room 𝓤 H A W E G27 8 Laws'.mir (Local.room-whole 𝓤 H A
+              W (Declared.row RelayPacket.the-type) Laws'.mir Path.refl)) d16
+          d18 : Typed.Typed 𝓤 H A 𝓣 E G26 b12 Δ4 at18
+          d18 = Typed.g-pre 𝓤 H A W 𝓣 E G26 G27 b12 Δ4 (Typed.pass T26 T27 s23) at17 (Scalar.g-room 𝓤 H A W E G26 7 Laws.mir (Local.room-whole 𝓤 H A W
+              (Declared.row Places.the-type) Laws.mir Path.refl)) d17
+          d19 : Typed.Typed 𝓤 H A 𝓣 E G25 b12 Δ4 at19
+          d19 = Typed.g-pre 𝓤 H A W 𝓣 E G25 G26 b12 Δ4 (Typed.pass T25 T26 s22) at18 (Scalar.g-room 𝓤 H A W E G25 6 Laws''.mir (Local.room-whole 𝓤 H A
+              W (Declared.row OpaqueRelayRuntime.the-type) Laws''.mir Path.refl)) d18
+          d20 : Typed.Typed 𝓤 H A 𝓣 E G24 b13 Δ4 at20
+          d20 = Typed.s-seq 𝓤 H A W 𝓣 E G24 G25 b11 b12 Δ4 (Typed.both s21) at19 (Plain.t-call-plain 𝓤 H A W 𝓣 9 ps·0 r·0 (claims· .0) (claims· .1)
+              "hnsr_circuit::handle_open::handle_open" (known .0) E (λ pos β. β) G24 (record { pos = 16; ty = Syntax.tyRef Syntax.erased Syntax.mut
+              RelayPending.to; ref = λ x. x; }, (record { pos = 18; ty = Syntax.tyRef Syntax.erased Syntax.mut RelayCircuit.to; ref = λ x. x; },
+              (record { pos = 20; ty = Syntax.tyRef Syntax.erased Syntax.mut ReservationUsage.to; ref = λ x. x; }, (record { pos = 22; ty =
+              Syntax.tyRef Syntax.erased Syntax.mut InflightAction.to; ref = λ x. x; }, (record { pos = 24; ty = Syntax.tyRef Syntax.erased Syntax.mut
               (Syntax.tyInt Syntax.w32); ref = λ x. x; }, (record { pos = 6; st = List.[]; d = 0; at = λ x. x }, (record { pos = 7; st = List.[]; d =
-              0; at = λ x. x }, (record { pos = 8; ty = Syntax.tyRef (Syntax.named 5) Syntax.imm (Syntax.tyInt Syntax.w8); ref = λ x. x; }, (record {
-              pos = 9; ty = Syntax.tyRef (Syntax.named 6) Syntax.imm (Syntax.tyInt Syntax.w8); ref = λ x. x; }, (record { pos = 10; ty = Syntax.tyRef
-              (Syntax.named 7) Syntax.imm (Syntax.tyInt Syntax.w8); ref = λ x. x; }, (record { pos = 11; ty = Syntax.tyRef (Syntax.named 8) Syntax.imm
-              (Syntax.tyInt Syntax.w8); ref = λ x. x; }, tt,),),),),),),),),),),) 13 (9 ∷ 10 ∷ 11 ∷ 12 ∷ 13 ∷ 5 ∷ 6 ∷ 7 ∷ 8 ∷ List.[]) (Call.sub-id 𝓤
-              H A W (G24 .slots)) (Reads'.as-is 𝓤 H A (Mut.mslice RelayPending.row ref0 9), Mut.reads-mslice 𝓤 H A W RelayPending.row ref0 9,
-              Path.refl, (Reads'.as-is 𝓤 H A (Mut.mslice RelayCircuit.row ref1 10), Mut.reads-mslice 𝓤 H A W RelayCircuit.row ref1 10, Path.refl,
-              (Reads'.as-is 𝓤 H A (Mut.mslice ReservationUsage.row ref2 11), Mut.reads-mslice 𝓤 H A W ReservationUsage.row ref2 11, Path.refl,
-              (Reads'.as-is 𝓤 H A (Mut.mslice InflightAction.row ref3 12), Mut.reads-mslice 𝓤 H A W InflightAction.row ref3 12, Path.refl,
-              (Reads'.as-is 𝓤 H A (Mut.mslice (Referent.rtF (Referent.fInt Syntax.w32)) ref4 13), Mut.reads-mslice 𝓤 H A W (Referent.rtF
-              (Referent.fInt Syntax.w32)) ref4 13, Path.refl, ((Yields.yields-copy 𝓤 H A W (λ ρ. Unit) (Declared.row OpaqueRelayRuntime.the-type)
-              Path.refl (Copies.cStruct OpaqueRelayRuntime.the-type Laws'.the-laws Laws'.the-copy .copy 𝓤 H A W) (Rows.whole (Declared.row
-              OpaqueRelayRuntime.the-type)) (λ x. x) (λ x. x) (λ ρ told. Local.mem-whole 𝓤 H A W (Declared.row OpaqueRelayRuntime.the-type) ρ) λ ρ
-              told. Local.whole-mem 𝓤 H A W (Declared.row OpaqueRelayRuntime.the-type) ρ, Path.refl,), ((Yields.yields-copy 𝓤 H A W (λ ρ. Unit)
-              (Declared.row RelayPacket.the-type) Path.refl (Copies.cStruct RelayPacket.the-type Laws.the-laws Laws.the-copy .copy 𝓤 H A W)
-              (Rows.whole (Declared.row RelayPacket.the-type)) (λ x. x) (λ x. x) (λ ρ told. Local.mem-whole 𝓤 H A W (Declared.row
-              RelayPacket.the-type) ρ) λ ρ told. Local.whole-mem 𝓤 H A W (Declared.row RelayPacket.the-type) ρ, Path.refl,), (ShrSlice.spares-sslice 𝓤
-              H A W (Referent.rtF (Referent.fInt Syntax.w8)) ref10 5, Shared.reads-sslice 𝓤 H A W (Referent.rtF (Referent.fInt Syntax.w8)) ref10 5,
-              Path.refl, (ShrSlice.spares-sslice 𝓤 H A W (Referent.rtF (Referent.fInt Syntax.w8)) ref11 6, Shared.reads-sslice 𝓤 H A W (Referent.rtF
-              (Referent.fInt Syntax.w8)) ref11 6, Path.refl, (ShrSlice.spares-sslice 𝓤 H A W (Referent.rtF (Referent.fInt Syntax.w8)) ref12 7,
-              Shared.reads-sslice 𝓤 H A W (Referent.rtF (Referent.fInt Syntax.w8)) ref12 7, Path.refl, (ShrSlice.spares-sslice 𝓤 H A W (Referent.rtF
-              (Referent.fInt Syntax.w8)) ref13 8, Shared.reads-sslice 𝓤 H A W (Referent.rtF (Referent.fInt Syntax.w8)) ref13 8, Path.refl,
-              tt,),),),),),),),),),),) (Reads'.room-gone 𝓤 H A Laws''.mir) (tt, (tt, (tt, (tt, (tt, (tt, (tt, (tt, (tt, tt))))))))) Path.refl) d18
-          d20 : Typed.Typed 𝓤 H A 𝓣 E G23 b14 Δ4 at20
-          d20 = Typed.s-seq 𝓤 H A W 𝓣 E G23 G24 b10 b13 Δ4 (Typed.ask s20) at19 (Relend.t-sl-aggregate 𝓤 H A W E (Referent.rtF (Referent.fInt
-              Syntax.w32)) 𝓣 (Relend.asMut (Referent.rtF (Referent.fInt Syntax.w32))) G23 22 23 13 ref4 ref4 (λ x. x) (Scalar.oFld 5 ((Syntax.field 1)
+              0; at = λ x. x }, (record { pos = 8; st = List.[]; d = 0; at = λ x. x }, (record { pos = 9; ty = Syntax.tyRef (Syntax.named 5)
+              Syntax.imm (Syntax.tyInt Syntax.w8); ref = λ x. x; }, (record { pos = 10; ty = Syntax.tyRef (Syntax.named 6) Syntax.imm (Syntax.tyInt
+              Syntax.w8); ref = λ x. x; }, (record { pos = 11; ty = Syntax.tyRef (Syntax.named 7) Syntax.imm (Syntax.tyInt Syntax.w8); ref = λ x. x;
+              }, (record { pos = 12; ty = Syntax.tyRef (Syntax.named 8) Syntax.imm (Syntax.tyInt Syntax.w8); ref = λ x. x; },
+              tt,),),),),),),),),),),),) 14 (9 ∷ 10 ∷ 11 ∷ 12 ∷ 13 ∷ 5 ∷ 6 ∷ 7 ∷ 8 ∷ List.[]) (Call.sub-id 𝓤 H A W (G24 .slots)) (Reads'.as-is 𝓤 H A
+              (Mut.mslice RelayPending.row ref0 9), Mut.reads-mslice 𝓤 H A W RelayPending.row ref0 9, Path.refl, (Reads'.as-is 𝓤 H A (Mut.mslice
+              RelayCircuit.row ref1 10), Mut.reads-mslice 𝓤 H A W RelayCircuit.row ref1 10, Path.refl, (Reads'.as-is 𝓤 H A (Mut.mslice
+              ReservationUsage.row ref2 11), Mut.reads-mslice 𝓤 H A W ReservationUsage.row ref2 11, Path.refl, (Reads'.as-is 𝓤 H A (Mut.mslice
+              InflightAction.row ref3 12), Mut.reads-mslice 𝓤 H A W InflightAction.row ref3 12, Path.refl, (Reads'.as-is 𝓤 H A (Mut.mslice
+              (Referent.rtF (Referent.fInt Syntax.w32)) ref4 13), Mut.reads-mslice 𝓤 H A W (Referent.rtF (Referent.fInt Syntax.w32)) ref4 13,
+              Path.refl, ((Yields.yields-copy 𝓤 H A W (λ ρ. Unit) (Declared.row OpaqueRelayRuntime.the-type) Path.refl (Copies.cStruct
+              OpaqueRelayRuntime.the-type Laws''.the-laws Laws''.the-copy .copy 𝓤 H A W) (Rows.whole (Declared.row OpaqueRelayRuntime.the-type)) (λ x.
+              x) (λ x. x) (λ ρ told. Local.mem-whole 𝓤 H A W (Declared.row OpaqueRelayRuntime.the-type) ρ) λ ρ told. Local.whole-mem 𝓤 H A W
+              (Declared.row OpaqueRelayRuntime.the-type) ρ, Path.refl,), ((Yields.yields-copy 𝓤 H A W (λ ρ. Unit) (Declared.row Places.the-type)
+              Path.refl (Copies.cStruct Places.the-type Laws.the-laws Laws.the-copy .copy 𝓤 H A W) (Rows.whole (Declared.row Places.the-type)) (λ x.
+              x) (λ x. x) (λ ρ told. Local.mem-whole 𝓤 H A W (Declared.row Places.the-type) ρ) λ ρ told. Local.whole-mem 𝓤 H A W (Declared.row
+              Places.the-type) ρ, Path.refl,), ((Yields.yields-copy 𝓤 H A W (λ ρ. Unit) (Declared.row RelayPacket.the-type) Path.refl (Copies.cStruct
+              RelayPacket.the-type Laws'.the-laws Laws'.the-copy .copy 𝓤 H A W) (Rows.whole (Declared.row RelayPacket.the-type)) (λ x. x) (λ x. x) (λ
+              ρ told. Local.mem-whole 𝓤 H A W (Declared.row RelayPacket.the-type) ρ) λ ρ told. Local.whole-mem 𝓤 H A W (Declared.row
+              RelayPacket.the-type) ρ, Path.refl,), (ShrSlice.spares-sslice 𝓤 H A W (Referent.rtF (Referent.fInt Syntax.w8)) ref10 5,
+              Shared.reads-sslice 𝓤 H A W (Referent.rtF (Referent.fInt Syntax.w8)) ref10 5, Path.refl, (ShrSlice.spares-sslice 𝓤 H A W (Referent.rtF
+              (Referent.fInt Syntax.w8)) ref11 6, Shared.reads-sslice 𝓤 H A W (Referent.rtF (Referent.fInt Syntax.w8)) ref11 6, Path.refl,
+              (ShrSlice.spares-sslice 𝓤 H A W (Referent.rtF (Referent.fInt Syntax.w8)) ref12 7, Shared.reads-sslice 𝓤 H A W (Referent.rtF
+              (Referent.fInt Syntax.w8)) ref12 7, Path.refl, (ShrSlice.spares-sslice 𝓤 H A W (Referent.rtF (Referent.fInt Syntax.w8)) ref13 8,
+              Shared.reads-sslice 𝓤 H A W (Referent.rtF (Referent.fInt Syntax.w8)) ref13 8, Path.refl, tt,),),),),),),),),),),),) (Reads'.room-gone 𝓤
+              H A Laws'''.mir) (tt, (tt, (tt, (tt, (tt, (tt, (tt, (tt, (tt, tt))))))))) Path.refl) d19
+          d21 : Typed.Typed 𝓤 H A 𝓣 E G23 b14 Δ4 at21
+          d21 = Typed.s-seq 𝓤 H A W 𝓣 E G23 G24 b10 b13 Δ4 (Typed.ask s20) at20 (Relend.t-sl-aggregate 𝓤 H A W E (Referent.rtF (Referent.fInt
+              Syntax.w32)) 𝓣 (Relend.asMut (Referent.rtF (Referent.fInt Syntax.w32))) G23 23 24 13 ref4 ref4 (λ x. x) (Scalar.oFld 5 ((Syntax.field 1)
               ∷ List.[]) (Syntax.tyInt Syntax.w64) 8 λ v. Shared.lenV (v .0)) (Reads'.as-is 𝓤 H A (Relend.msptr (Referent.rtF (Referent.fInt
               Syntax.w32)) ref4 13)) (Reads'.room-gone 𝓤 H A (Syntax.tyStruct (38 ∷ 91 ∷ 93 ∷ List.[]) (Syntax.tcons ref4 (Syntax.tcons (Syntax.tyInt
               Syntax.w64) Syntax.tnil)))) (Relend.reads-owed-len 𝓤 H A W (Referent.rtF (Referent.fInt Syntax.w32)) ref9 4 13 life4 8 Path.refl,
-              Path.refl,) Path.refl Path.refl λ b o k. tt) d19
-          d21 : Typed.Typed 𝓤 H A 𝓣 E G22 b15 Δ4 at21
-          d21 = Typed.s-seq 𝓤 H A W 𝓣 E G22 G23 b9 b14 Δ4 (Typed.give s19) at20 (Relend.t-sl-relend 𝓤 H A W E (Referent.rtF (Referent.fInt
-              Syntax.w32)) 𝓣 G22 5 22 4 13 ref9 ref4 life4 0 (λ x. x) (Reads'.as-is 𝓤 H A (Mut.mslice (Referent.rtF (Referent.fInt Syntax.w32)) ref9
-              4)) (Reads'.room-gone 𝓤 H A ref4) Path.refl tt Path.refl Path.refl Path.refl λ b o. tt) d20
-          d22 : Typed.Typed 𝓤 H A 𝓣 E G21 b15 Δ4 at22
-          d22 = Typed.g-pre 𝓤 H A W 𝓣 E G21 G22 b15 Δ4 (λ Ψ. Ψ) at21 (Lifetime.g-begin 𝓤 H A W E G21 13 (tt, ((tt, tt), ((tt, tt), ((tt, tt), ((tt,
+              Path.refl,) Path.refl Path.refl λ b o k. tt) d20
+          d22 : Typed.Typed 𝓤 H A 𝓣 E G22 b15 Δ4 at22
+          d22 = Typed.s-seq 𝓤 H A W 𝓣 E G22 G23 b9 b14 Δ4 (Typed.give s19) at21 (Relend.t-sl-relend 𝓤 H A W E (Referent.rtF (Referent.fInt
+              Syntax.w32)) 𝓣 G22 5 23 4 13 ref9 ref4 life4 0 (λ x. x) (Reads'.as-is 𝓤 H A (Mut.mslice (Referent.rtF (Referent.fInt Syntax.w32)) ref9
+              4)) (Reads'.room-gone 𝓤 H A ref4) Path.refl tt Path.refl Path.refl Path.refl λ b o. tt) d21
+          d23 : Typed.Typed 𝓤 H A 𝓣 E G21 b15 Δ4 at23
+          d23 = Typed.g-pre 𝓤 H A W 𝓣 E G21 G22 b15 Δ4 (λ Ψ. Ψ) at22 (Lifetime.g-begin 𝓤 H A W E G21 13 (tt, ((tt, tt), ((tt, tt), ((tt, tt), ((tt,
               tt), (tt, (tt, (tt, (tt, (tt, (tt, (tt, (tt, (tt, (tt, (tt, (tt, (tt, (tt, (tt, (tt, (tt, (tt, (tt, (tt, (tt, (tt, (tt, (tt, (tt, (tt,
-              (tt, (tt, (tt, (tt, (tt, (tt, (tt, (tt, (tt, (tt, (tt, (tt, (tt, (tt, (tt, (tt, (tt, (tt, (tt, (tt, (tt, (tt, (tt, (tt,
-              tt,),),),),),),),),),),),),),),),),),),),),),),),),),),),),),),),),),),),),),),),),),),),),),),),),),),),),),),)) d21
-          d23 : Typed.Typed 𝓤 H A 𝓣 E G20 b16 Δ4 at23
-          d23 = Typed.s-seq 𝓤 H A W 𝓣 E G20 G21 b8 b15 Δ4 (Typed.ask s17) at22 (Relend.t-sl-aggregate 𝓤 H A W E InflightAction.row 𝓣 (Relend.asMut
-              InflightAction.row) G20 20 21 12 ref3 ref3 (λ x. x) (Scalar.oFld 4 ((Syntax.field 1) ∷ List.[]) (Syntax.tyInt Syntax.w64) 8 λ v.
+              (tt, (tt, (tt, (tt, (tt, (tt, (tt, (tt, (tt, (tt, (tt, (tt, (tt, (tt, (tt, (tt, (tt, (tt, (tt, (tt, (tt, (tt, (tt, (tt, (tt,
+              tt,),),),),),),),),),),),),),),),),),),),),),),),),),),),),),),),),),),),),),),),),),),),),),),),),),),),),),),),)) d22
+          d24 : Typed.Typed 𝓤 H A 𝓣 E G20 b16 Δ4 at24
+          d24 = Typed.s-seq 𝓤 H A W 𝓣 E G20 G21 b8 b15 Δ4 (Typed.ask s17) at23 (Relend.t-sl-aggregate 𝓤 H A W E InflightAction.row 𝓣 (Relend.asMut
+              InflightAction.row) G20 21 22 12 ref3 ref3 (λ x. x) (Scalar.oFld 4 ((Syntax.field 1) ∷ List.[]) (Syntax.tyInt Syntax.w64) 8 λ v.
               Shared.lenV (v .0)) (Reads'.as-is 𝓤 H A (Relend.msptr InflightAction.row ref3 12)) (Reads'.room-gone 𝓤 H A (Syntax.tyStruct (38 ∷ 91 ∷
               93 ∷ List.[]) (Syntax.tcons ref3 (Syntax.tcons (Syntax.tyInt Syntax.w64) Syntax.tnil)))) (Relend.reads-owed-len 𝓤 H A W
-              InflightAction.row ref8 3 12 life3 8 Path.refl, Path.refl,) Path.refl Path.refl λ b o k. tt) d22
-          d24 : Typed.Typed 𝓤 H A 𝓣 E G19 b17 Δ4 at24
-          d24 = Typed.s-seq 𝓤 H A W 𝓣 E G19 G20 b7 b16 Δ4 (Typed.give s16) at23 (Relend.t-sl-relend 𝓤 H A W E InflightAction.row 𝓣 G19 4 20 3 12 ref8
+              InflightAction.row ref8 3 12 life3 8 Path.refl, Path.refl,) Path.refl Path.refl λ b o k. tt) d23
+          d25 : Typed.Typed 𝓤 H A 𝓣 E G19 b17 Δ4 at25
+          d25 = Typed.s-seq 𝓤 H A W 𝓣 E G19 G20 b7 b16 Δ4 (Typed.give s16) at24 (Relend.t-sl-relend 𝓤 H A W E InflightAction.row 𝓣 G19 4 21 3 12 ref8
               ref3 life3 0 (λ x. x) (Reads'.as-is 𝓤 H A (Mut.mslice InflightAction.row ref8 3)) (Reads'.room-gone 𝓤 H A ref3) Path.refl tt Path.refl
-              Path.refl Path.refl λ b o. tt) d23
-          d25 : Typed.Typed 𝓤 H A 𝓣 E G18 b17 Δ4 at25
-          d25 = Typed.g-pre 𝓤 H A W 𝓣 E G18 G19 b17 Δ4 (λ Ψ. Ψ) at24 (Lifetime.g-begin 𝓤 H A W E G18 12 (tt, ((tt, tt), ((tt, tt), ((tt, tt), (tt,
+              Path.refl Path.refl λ b o. tt) d24
+          d26 : Typed.Typed 𝓤 H A 𝓣 E G18 b17 Δ4 at26
+          d26 = Typed.g-pre 𝓤 H A W 𝓣 E G18 G19 b17 Δ4 (λ Ψ. Ψ) at25 (Lifetime.g-begin 𝓤 H A W E G18 12 (tt, ((tt, tt), ((tt, tt), ((tt, tt), (tt,
               (tt, (tt, (tt, (tt, (tt, (tt, (tt, (tt, (tt, (tt, (tt, (tt, (tt, (tt, (tt, (tt, (tt, (tt, (tt, (tt, (tt, (tt, (tt, (tt, (tt, (tt, (tt,
-              (tt, (tt, (tt, (tt, (tt, (tt, (tt, (tt, (tt, (tt, (tt, (tt, (tt, (tt, (tt, (tt, (tt, (tt, (tt, (tt, (tt, (tt, (tt,
-              tt,),),),),),),),),),),),),),),),),),),),),),),),),),),),),),),),),),),),),),),),),),),),),),),),),),),),),),),)) d24
-          d26 : Typed.Typed 𝓤 H A 𝓣 E G17 b18 Δ4 at26
-          d26 = Typed.s-seq 𝓤 H A W 𝓣 E G17 G18 b6 b17 Δ4 (Typed.ask s14) at25 (Relend.t-sl-aggregate 𝓤 H A W E ReservationUsage.row 𝓣 (Relend.asMut
-              ReservationUsage.row) G17 18 19 11 ref2 ref2 (λ x. x) (Scalar.oFld 3 ((Syntax.field 1) ∷ List.[]) (Syntax.tyInt Syntax.w64) 8 λ v.
+              (tt, (tt, (tt, (tt, (tt, (tt, (tt, (tt, (tt, (tt, (tt, (tt, (tt, (tt, (tt, (tt, (tt, (tt, (tt, (tt, (tt, (tt, (tt, (tt,
+              tt,),),),),),),),),),),),),),),),),),),),),),),),),),),),),),),),),),),),),),),),),),),),),),),),),),),),),),),),)) d25
+          d27 : Typed.Typed 𝓤 H A 𝓣 E G17 b18 Δ4 at27
+          d27 = Typed.s-seq 𝓤 H A W 𝓣 E G17 G18 b6 b17 Δ4 (Typed.ask s14) at26 (Relend.t-sl-aggregate 𝓤 H A W E ReservationUsage.row 𝓣 (Relend.asMut
+              ReservationUsage.row) G17 19 20 11 ref2 ref2 (λ x. x) (Scalar.oFld 3 ((Syntax.field 1) ∷ List.[]) (Syntax.tyInt Syntax.w64) 8 λ v.
               Shared.lenV (v .0)) (Reads'.as-is 𝓤 H A (Relend.msptr ReservationUsage.row ref2 11)) (Reads'.room-gone 𝓤 H A (Syntax.tyStruct (38 ∷ 91 ∷
               93 ∷ List.[]) (Syntax.tcons ref2 (Syntax.tcons (Syntax.tyInt Syntax.w64) Syntax.tnil)))) (Relend.reads-owed-len 𝓤 H A W
-              ReservationUsage.row ref7 2 11 life2 8 Path.refl, Path.refl,) Path.refl Path.refl λ b o k. tt) d25
-          d27 : Typed.Typed 𝓤 H A 𝓣 E G16 b19 Δ4 at27
-          d27 = Typed.s-seq 𝓤 H A W 𝓣 E G16 G17 b5 b18 Δ4 (Typed.give s13) at26 (Relend.t-sl-relend 𝓤 H A W E ReservationUsage.row 𝓣 G16 3 18 2 11
+              ReservationUsage.row ref7 2 11 life2 8 Path.refl, Path.refl,) Path.refl Path.refl λ b o k. tt) d26
+          d28 : Typed.Typed 𝓤 H A 𝓣 E G16 b19 Δ4 at28
+          d28 = Typed.s-seq 𝓤 H A W 𝓣 E G16 G17 b5 b18 Δ4 (Typed.give s13) at27 (Relend.t-sl-relend 𝓤 H A W E ReservationUsage.row 𝓣 G16 3 19 2 11
               ref7 ref2 life2 0 (λ x. x) (Reads'.as-is 𝓤 H A (Mut.mslice ReservationUsage.row ref7 2)) (Reads'.room-gone 𝓤 H A ref2) Path.refl tt
-              Path.refl Path.refl Path.refl λ b o. tt) d26
-          d28 : Typed.Typed 𝓤 H A 𝓣 E G15 b19 Δ4 at28
-          d28 = Typed.g-pre 𝓤 H A W 𝓣 E G15 G16 b19 Δ4 (λ Ψ. Ψ) at27 (Lifetime.g-begin 𝓤 H A W E G15 11 (tt, ((tt, tt), ((tt, tt), (tt, (tt, (tt, (tt,
+              Path.refl Path.refl Path.refl λ b o. tt) d27
+          d29 : Typed.Typed 𝓤 H A 𝓣 E G15 b19 Δ4 at29
+          d29 = Typed.g-pre 𝓤 H A W 𝓣 E G15 G16 b19 Δ4 (λ Ψ. Ψ) at28 (Lifetime.g-begin 𝓤 H A W E G15 11 (tt, ((tt, tt), ((tt, tt), (tt, (tt, (tt, (tt,
               (tt, (tt, (tt, (tt, (tt, (tt, (tt, (tt, (tt, (tt, (tt, (tt, (tt, (tt, (tt, (tt, (tt, (tt, (tt, (tt, (tt, (tt, (tt, (tt, (tt, (tt, (tt,
-              (tt, (tt, (tt, (tt, (tt, (tt, (tt, (tt, (tt, (tt, (tt, (tt, (tt, (tt, (tt, (tt, (tt, (tt, (tt, (tt, (tt,
-              tt,),),),),),),),),),),),),),),),),),),),),),),),),),),),),),),),),),),),),),),),),),),),),),),),),),),),),),),)) d27
-          d29 : Typed.Typed 𝓤 H A 𝓣 E G14 b20 Δ4 at29
-          d29 = Typed.s-seq 𝓤 H A W 𝓣 E G14 G15 b4 b19 Δ4 (Typed.ask s11) at28 (Relend.t-sl-aggregate 𝓤 H A W E RelayCircuit.row 𝓣 (Relend.asMut
-              RelayCircuit.row) G14 16 17 10 ref1 ref1 (λ x. x) (Scalar.oFld 2 ((Syntax.field 1) ∷ List.[]) (Syntax.tyInt Syntax.w64) 8 λ v.
+              (tt, (tt, (tt, (tt, (tt, (tt, (tt, (tt, (tt, (tt, (tt, (tt, (tt, (tt, (tt, (tt, (tt, (tt, (tt, (tt, (tt, (tt,
+              tt,),),),),),),),),),),),),),),),),),),),),),),),),),),),),),),),),),),),),),),),),),),),),),),),),),),),),),),),)) d28
+          d30 : Typed.Typed 𝓤 H A 𝓣 E G14 b20 Δ4 at30
+          d30 = Typed.s-seq 𝓤 H A W 𝓣 E G14 G15 b4 b19 Δ4 (Typed.ask s11) at29 (Relend.t-sl-aggregate 𝓤 H A W E RelayCircuit.row 𝓣 (Relend.asMut
+              RelayCircuit.row) G14 17 18 10 ref1 ref1 (λ x. x) (Scalar.oFld 2 ((Syntax.field 1) ∷ List.[]) (Syntax.tyInt Syntax.w64) 8 λ v.
               Shared.lenV (v .0)) (Reads'.as-is 𝓤 H A (Relend.msptr RelayCircuit.row ref1 10)) (Reads'.room-gone 𝓤 H A (Syntax.tyStruct (38 ∷ 91 ∷ 93
               ∷ List.[]) (Syntax.tcons ref1 (Syntax.tcons (Syntax.tyInt Syntax.w64) Syntax.tnil)))) (Relend.reads-owed-len 𝓤 H A W RelayCircuit.row
-              ref6 1 10 life1 8 Path.refl, Path.refl,) Path.refl Path.refl λ b o k. tt) d28
-          d30 : Typed.Typed 𝓤 H A 𝓣 E G13 b21 Δ4 at30
-          d30 = Typed.s-seq 𝓤 H A W 𝓣 E G13 G14 b3 b20 Δ4 (Typed.give s10) at29 (Relend.t-sl-relend 𝓤 H A W E RelayCircuit.row 𝓣 G13 2 16 1 10 ref6
+              ref6 1 10 life1 8 Path.refl, Path.refl,) Path.refl Path.refl λ b o k. tt) d29
+          d31 : Typed.Typed 𝓤 H A 𝓣 E G13 b21 Δ4 at31
+          d31 = Typed.s-seq 𝓤 H A W 𝓣 E G13 G14 b3 b20 Δ4 (Typed.give s10) at30 (Relend.t-sl-relend 𝓤 H A W E RelayCircuit.row 𝓣 G13 2 17 1 10 ref6
               ref1 life1 0 (λ x. x) (Reads'.as-is 𝓤 H A (Mut.mslice RelayCircuit.row ref6 1)) (Reads'.room-gone 𝓤 H A ref1) Path.refl tt Path.refl
-              Path.refl Path.refl λ b o. tt) d29
-          d31 : Typed.Typed 𝓤 H A 𝓣 E G12 b21 Δ4 at31
-          d31 = Typed.g-pre 𝓤 H A W 𝓣 E G12 G13 b21 Δ4 (λ Ψ. Ψ) at30 (Lifetime.g-begin 𝓤 H A W E G12 10 (tt, ((tt, tt), (tt, (tt, (tt, (tt, (tt, (tt,
+              Path.refl Path.refl λ b o. tt) d30
+          d32 : Typed.Typed 𝓤 H A 𝓣 E G12 b21 Δ4 at32
+          d32 = Typed.g-pre 𝓤 H A W 𝓣 E G12 G13 b21 Δ4 (λ Ψ. Ψ) at31 (Lifetime.g-begin 𝓤 H A W E G12 10 (tt, ((tt, tt), (tt, (tt, (tt, (tt, (tt, (tt,
               (tt, (tt, (tt, (tt, (tt, (tt, (tt, (tt, (tt, (tt, (tt, (tt, (tt, (tt, (tt, (tt, (tt, (tt, (tt, (tt, (tt, (tt, (tt, (tt, (tt, (tt, (tt,
-              (tt, (tt, (tt, (tt, (tt, (tt, (tt, (tt, (tt, (tt, (tt, (tt, (tt, (tt, (tt, (tt, (tt, (tt, (tt, (tt,
-              tt,),),),),),),),),),),),),),),),),),),),),),),),),),),),),),),),),),),),),),),),),),),),),),),),),),),),),),),)) d30
-          d32 : Typed.Typed 𝓤 H A 𝓣 E G11 b22 Δ4 at32
-          d32 = Typed.s-seq 𝓤 H A W 𝓣 E G11 G12 b2 b21 Δ4 (Typed.ask s8) at31 (Relend.t-sl-aggregate 𝓤 H A W E RelayPending.row 𝓣 (Relend.asMut
-              RelayPending.row) G11 14 15 9 ref0 ref0 (λ x. x) (Scalar.oFld 1 ((Syntax.field 1) ∷ List.[]) (Syntax.tyInt Syntax.w64) 8 λ v.
+              (tt, (tt, (tt, (tt, (tt, (tt, (tt, (tt, (tt, (tt, (tt, (tt, (tt, (tt, (tt, (tt, (tt, (tt, (tt, (tt, (tt,
+              tt,),),),),),),),),),),),),),),),),),),),),),),),),),),),),),),),),),),),),),),),),),),),),),),),),),),),),),),),)) d31
+          d33 : Typed.Typed 𝓤 H A 𝓣 E G11 b22 Δ4 at33
+          d33 = Typed.s-seq 𝓤 H A W 𝓣 E G11 G12 b2 b21 Δ4 (Typed.ask s8) at32 (Relend.t-sl-aggregate 𝓤 H A W E RelayPending.row 𝓣 (Relend.asMut
+              RelayPending.row) G11 15 16 9 ref0 ref0 (λ x. x) (Scalar.oFld 1 ((Syntax.field 1) ∷ List.[]) (Syntax.tyInt Syntax.w64) 8 λ v.
               Shared.lenV (v .0)) (Reads'.as-is 𝓤 H A (Relend.msptr RelayPending.row ref0 9)) (Reads'.room-gone 𝓤 H A (Syntax.tyStruct (38 ∷ 91 ∷ 93 ∷
               List.[]) (Syntax.tcons ref0 (Syntax.tcons (Syntax.tyInt Syntax.w64) Syntax.tnil)))) (Relend.reads-owed-len 𝓤 H A W RelayPending.row ref5
-              0 9 life0 8 Path.refl, Path.refl,) Path.refl Path.refl λ b o k. tt) d31
-          d33 : Typed.Typed 𝓤 H A 𝓣 E G10 b23 Δ4 at33
-          d33 = Typed.s-seq 𝓤 H A W 𝓣 E G10 G11 b1 b22 Δ4 (Typed.give s7) at32 (Relend.t-sl-relend 𝓤 H A W E RelayPending.row 𝓣 G10 1 14 0 9 ref5 ref0
+              0 9 life0 8 Path.refl, Path.refl,) Path.refl Path.refl λ b o k. tt) d32
+          d34 : Typed.Typed 𝓤 H A 𝓣 E G10 b23 Δ4 at34
+          d34 = Typed.s-seq 𝓤 H A W 𝓣 E G10 G11 b1 b22 Δ4 (Typed.give s7) at33 (Relend.t-sl-relend 𝓤 H A W E RelayPending.row 𝓣 G10 1 15 0 9 ref5 ref0
               life0 0 (λ x. x) (Reads'.as-is 𝓤 H A (Mut.mslice RelayPending.row ref5 0)) (Reads'.room-gone 𝓤 H A ref0) Path.refl tt Path.refl
-              Path.refl Path.refl λ b o. tt) d32
-          d34 : Typed.Typed 𝓤 H A 𝓣 E G7 b23 Δ4 at34
-          d34 = Typed.g-pre 𝓤 H A W 𝓣 E G7 G10 b23 Δ4 (λ Ψ. Ψ) at33 (Lifetime.g-begin 𝓤 H A W E G7 9 (tt, (tt, (tt, (tt, (tt, (tt, (tt, (tt, (tt, (tt,
+              Path.refl Path.refl λ b o. tt) d33
+          d35 : Typed.Typed 𝓤 H A 𝓣 E G7 b23 Δ4 at35
+          d35 = Typed.g-pre 𝓤 H A W 𝓣 E G7 G10 b23 Δ4 (λ Ψ. Ψ) at34 (Lifetime.g-begin 𝓤 H A W E G7 9 (tt, (tt, (tt, (tt, (tt, (tt, (tt, (tt, (tt, (tt,
               (tt, (tt, (tt, (tt, (tt, (tt, (tt, (tt, (tt, (tt, (tt, (tt, (tt, (tt, (tt, (tt, (tt, (tt, (tt, (tt, (tt, (tt, (tt, (tt, (tt, (tt, (tt,
-              (tt, (tt, (tt, (tt, (tt, (tt, (tt, (tt, (tt, (tt, (tt, (tt, (tt, (tt, (tt, (tt, (tt, (tt,
-              tt,),),),),),),),),),),),),),),),),),),),),),),),),),),),),),),),),),),),),),),),),),),),),),),),),),),),),),),)) d33
-          d35 : Typed.Typed 𝓤 H A 𝓣 E G71 b33 Δ4 at35
-          d35 = Typed.t-exit 𝓤 H A W 𝓣 E 1 Δ4 tt
-          d36 : Typed.Typed 𝓤 H A 𝓣 E G70 b33 Δ4 at36
-          d36 = Typed.g-pre 𝓤 H A W 𝓣 E G70 G71 b33 Δ4 (λ Ψ. Ψ) at35 (Lifetime.g-forget 𝓤 H A W E G70 17 Row.dead Path.refl) d35
-          d37 : Typed.Typed 𝓤 H A 𝓣 E G69 b33 Δ4 at37
-          d37 = Typed.g-pre 𝓤 H A W 𝓣 E G69 G70 b33 Δ4 (Typed.give s66) at36 (Know.g-sl-known 𝓤 H A W (Referent.fInt Syntax.w32) E G69 5 4 ref9 life4
+              (tt, (tt, (tt, (tt, (tt, (tt, (tt, (tt, (tt, (tt, (tt, (tt, (tt, (tt, (tt, (tt, (tt, (tt, (tt,
+              tt,),),),),),),),),),),),),),),),),),),),),),),),),),),),),),),),),),),),),),),),),),),),),),),),),),),),),),),),)) d34
+          d36 : Typed.Typed 𝓤 H A 𝓣 E G73 b33 Δ4 at36
+          d36 = Typed.t-exit 𝓤 H A W 𝓣 E 1 Δ4 tt
+          d37 : Typed.Typed 𝓤 H A 𝓣 E G72 b33 Δ4 at37
+          d37 = Typed.g-pre 𝓤 H A W 𝓣 E G72 G73 b33 Δ4 (λ Ψ. Ψ) at36 (Lifetime.g-forget 𝓤 H A W E G72 17 Row.dead Path.refl) d36
+          d38 : Typed.Typed 𝓤 H A 𝓣 E G71 b33 Δ4 at38
+          d38 = Typed.g-pre 𝓤 H A W 𝓣 E G71 G72 b33 Δ4 (Typed.give s68) at37 (Know.g-sl-known 𝓤 H A W (Referent.fInt Syntax.w32) E G71 5 4 ref9 life4
               0 (λ x. x) record { fits = Dec.lit< tt } (Reads'.as-is 𝓤 H A (Mut.mslice (Referent.rtF (Referent.fInt Syntax.w32)) ref9 4)) Path.refl
-              tt) d36
-          d38 : Typed.Typed 𝓤 H A 𝓣 E G68 b33 Δ4 at38
-          d38 = Typed.g-pre 𝓤 H A W 𝓣 E G68 G69 b33 Δ4 (Typed.both s65) at37 (Relend.g-back-sl 𝓤 H A W E (Referent.rtF (Referent.fInt Syntax.w32)) G68
-              31 5 4 17 ref9 ref4 life4 (λ x. x) (λ x. x) (Reads'.as-is 𝓤 H A (Mut.msleft (Referent.rtF (Referent.fInt Syntax.w32)) ref4))
-              (Reads'.as-is 𝓤 H A (Relend.mslice-owed (Referent.rtF (Referent.fInt Syntax.w32)) ref9 4 17 life4)) Path.refl Path.refl) d37
-          d39 : Typed.Typed 𝓤 H A 𝓣 E G67 b33 Δ4 at39
-          d39 = Typed.g-pre 𝓤 H A W 𝓣 E G67 G68 b33 Δ4 (λ Ψ. Ψ) at38 (Lifetime.g-end 𝓤 H A W E G67 17 Path.refl) d38
-          d40 : Typed.Typed 𝓤 H A 𝓣 E G66 b33 Δ4 at40
-          d40 = Typed.g-pre 𝓤 H A W 𝓣 E G66 G67 b33 Δ4 (λ Ψ. Ψ) at39 (Lifetime.g-forget 𝓤 H A W E G66 16 Row.dead Path.refl) d39
-          d41 : Typed.Typed 𝓤 H A 𝓣 E G65 b33 Δ4 at41
-          d41 = Typed.g-pre 𝓤 H A W 𝓣 E G65 G66 b33 Δ4 (Typed.both s62) at40 (Relend.g-back-sl 𝓤 H A W E InflightAction.row G65 29 4 3 16 ref8 ref3
+              tt) d37
+          d39 : Typed.Typed 𝓤 H A 𝓣 E G70 b33 Δ4 at39
+          d39 = Typed.g-pre 𝓤 H A W 𝓣 E G70 G71 b33 Δ4 (Typed.both s67) at38 (Relend.g-back-sl 𝓤 H A W E (Referent.rtF (Referent.fInt Syntax.w32)) G70
+              32 5 4 17 ref9 ref4 life4 (λ x. x) (λ x. x) (Reads'.as-is 𝓤 H A (Mut.msleft (Referent.rtF (Referent.fInt Syntax.w32)) ref4))
+              (Reads'.as-is 𝓤 H A (Relend.mslice-owed (Referent.rtF (Referent.fInt Syntax.w32)) ref9 4 17 life4)) Path.refl Path.refl) d38
+          d40 : Typed.Typed 𝓤 H A 𝓣 E G69 b33 Δ4 at40
+          d40 = Typed.g-pre 𝓤 H A W 𝓣 E G69 G70 b33 Δ4 (λ Ψ. Ψ) at39 (Lifetime.g-end 𝓤 H A W E G69 17 Path.refl) d39
+          d41 : Typed.Typed 𝓤 H A 𝓣 E G68 b33 Δ4 at41
+          d41 = Typed.g-pre 𝓤 H A W 𝓣 E G68 G69 b33 Δ4 (λ Ψ. Ψ) at40 (Lifetime.g-forget 𝓤 H A W E G68 16 Row.dead Path.refl) d40
+          d42 : Typed.Typed 𝓤 H A 𝓣 E G67 b33 Δ4 at42
+          d42 = Typed.g-pre 𝓤 H A W 𝓣 E G67 G68 b33 Δ4 (Typed.both s64) at41 (Relend.g-back-sl 𝓤 H A W E InflightAction.row G67 30 4 3 16 ref8 ref3
               life3 (λ x. x) (λ x. x) (Reads'.as-is 𝓤 H A (Mut.msleft InflightAction.row ref3)) (Reads'.as-is 𝓤 H A (Relend.mslice-owed
-              InflightAction.row ref8 3 16 life3)) Path.refl Path.refl) d40
-          d42 : Typed.Typed 𝓤 H A 𝓣 E G64 b33 Δ4 at42
-          d42 = Typed.g-pre 𝓤 H A W 𝓣 E G64 G65 b33 Δ4 (λ Ψ. Ψ) at41 (Lifetime.g-end 𝓤 H A W E G64 16 Path.refl) d41
-          d43 : Typed.Typed 𝓤 H A 𝓣 E G63 b33 Δ4 at43
-          d43 = Typed.g-pre 𝓤 H A W 𝓣 E G63 G64 b33 Δ4 (λ Ψ. Ψ) at42 (Lifetime.g-forget 𝓤 H A W E G63 15 Row.dead Path.refl) d42
-          d44 : Typed.Typed 𝓤 H A 𝓣 E G62 b33 Δ4 at44
-          d44 = Typed.g-pre 𝓤 H A W 𝓣 E G62 G63 b33 Δ4 (Typed.both s59) at43 (Relend.g-back-sl 𝓤 H A W E RelayCircuit.row G62 27 2 1 15 ref6 ref1
+              InflightAction.row ref8 3 16 life3)) Path.refl Path.refl) d41
+          d43 : Typed.Typed 𝓤 H A 𝓣 E G66 b33 Δ4 at43
+          d43 = Typed.g-pre 𝓤 H A W 𝓣 E G66 G67 b33 Δ4 (λ Ψ. Ψ) at42 (Lifetime.g-end 𝓤 H A W E G66 16 Path.refl) d42
+          d44 : Typed.Typed 𝓤 H A 𝓣 E G65 b33 Δ4 at44
+          d44 = Typed.g-pre 𝓤 H A W 𝓣 E G65 G66 b33 Δ4 (λ Ψ. Ψ) at43 (Lifetime.g-forget 𝓤 H A W E G65 15 Row.dead Path.refl) d43
+          d45 : Typed.Typed 𝓤 H A 𝓣 E G64 b33 Δ4 at45
+          d45 = Typed.g-pre 𝓤 H A W 𝓣 E G64 G65 b33 Δ4 (Typed.both s61) at44 (Relend.g-back-sl 𝓤 H A W E RelayCircuit.row G64 28 2 1 15 ref6 ref1
               life1 (λ x. x) (λ x. x) (Reads'.as-is 𝓤 H A (Mut.msleft RelayCircuit.row ref1)) (Reads'.as-is 𝓤 H A (Relend.mslice-owed RelayCircuit.row
-              ref6 1 15 life1)) Path.refl Path.refl) d43
-          d45 : Typed.Typed 𝓤 H A 𝓣 E G61 b33 Δ4 at45
-          d45 = Typed.g-pre 𝓤 H A W 𝓣 E G61 G62 b33 Δ4 (λ Ψ. Ψ) at44 (Lifetime.g-end 𝓤 H A W E G61 15 Path.refl) d44
-          d46 : Typed.Typed 𝓤 H A 𝓣 E G60 b33 Δ4 at46
-          d46 = Typed.g-pre 𝓤 H A W 𝓣 E G60 G61 b33 Δ4 (λ Ψ. Ψ) at45 (Lifetime.g-forget 𝓤 H A W E G60 14 Row.dead Path.refl) d45
-          d47 : Typed.Typed 𝓤 H A 𝓣 E G59 b33 Δ4 at47
-          d47 = Typed.g-pre 𝓤 H A W 𝓣 E G59 G60 b33 Δ4 (Typed.both s56) at46 (Relend.g-back-sl 𝓤 H A W E RelayPending.row G59 25 1 0 14 ref5 ref0
+              ref6 1 15 life1)) Path.refl Path.refl) d44
+          d46 : Typed.Typed 𝓤 H A 𝓣 E G63 b33 Δ4 at46
+          d46 = Typed.g-pre 𝓤 H A W 𝓣 E G63 G64 b33 Δ4 (λ Ψ. Ψ) at45 (Lifetime.g-end 𝓤 H A W E G63 15 Path.refl) d45
+          d47 : Typed.Typed 𝓤 H A 𝓣 E G62 b33 Δ4 at47
+          d47 = Typed.g-pre 𝓤 H A W 𝓣 E G62 G63 b33 Δ4 (λ Ψ. Ψ) at46 (Lifetime.g-forget 𝓤 H A W E G62 14 Row.dead Path.refl) d46
+          d48 : Typed.Typed 𝓤 H A 𝓣 E G61 b33 Δ4 at48
+          d48 = Typed.g-pre 𝓤 H A W 𝓣 E G61 G62 b33 Δ4 (Typed.both s58) at47 (Relend.g-back-sl 𝓤 H A W E RelayPending.row G61 26 1 0 14 ref5 ref0
               life0 (λ x. x) (λ x. x) (Reads'.as-is 𝓤 H A (Mut.msleft RelayPending.row ref0)) (Reads'.as-is 𝓤 H A (Relend.mslice-owed RelayPending.row
-              ref5 0 14 life0)) Path.refl Path.refl) d46
-          d48 : Typed.Typed 𝓤 H A 𝓣 E G58 b33 Δ4 at48
-          d48 = Typed.g-pre 𝓤 H A W 𝓣 E G58 G59 b33 Δ4 (λ Ψ. Ψ) at47 (Lifetime.g-end 𝓤 H A W E G58 14 Path.refl) d47
-          d49 : Typed.Typed 𝓤 H A 𝓣 E G57 b33 Δ4 at49
-          d49 = Typed.g-pre 𝓤 H A W 𝓣 E G57 G58 b33 Δ4 (Typed.pass T57 T58 s54) at48 (Scalar.g-room 𝓤 H A W E G57 7 Laws.mir (Local.room-whole 𝓤 H A W
-              (Declared.row RelayPacket.the-type) Laws.mir Path.refl)) d48
-          d50 : Typed.Typed 𝓤 H A 𝓣 E G56 b33 Δ4 at50
-          d50 = Typed.g-pre 𝓤 H A W 𝓣 E G56 G57 b33 Δ4 (Typed.pass T56 T57 s53) at49 (Scalar.g-room 𝓤 H A W E G56 6 Laws'.mir (Local.room-whole 𝓤 H A
-              W (Declared.row OpaqueRelayRuntime.the-type) Laws'.mir Path.refl)) d49
-          d51 : Typed.Typed 𝓤 H A 𝓣 E G55 b34 Δ4 at51
-          d51 = Typed.s-seq 𝓤 H A W 𝓣 E G55 G56 b32 b33 Δ4 (Typed.both s52) at50 (Plain.t-call-plain 𝓤 H A W 𝓣 6 ps·1 r·1 (claims· .2) (claims· .3)
-              "hnsr_circuit::handle_accept::handle_accept" (known .1) E (λ pos β. β) G55 (record { pos = 25; ty = Syntax.tyRef Syntax.erased
-              Syntax.mut RelayPending.to; ref = λ x. x; }, (record { pos = 27; ty = Syntax.tyRef Syntax.erased Syntax.mut RelayCircuit.to; ref = λ x.
-              x; }, (record { pos = 29; ty = Syntax.tyRef Syntax.erased Syntax.mut InflightAction.to; ref = λ x. x; }, (record { pos = 31; ty =
+              ref5 0 14 life0)) Path.refl Path.refl) d47
+          d49 : Typed.Typed 𝓤 H A 𝓣 E G60 b33 Δ4 at49
+          d49 = Typed.g-pre 𝓤 H A W 𝓣 E G60 G61 b33 Δ4 (λ Ψ. Ψ) at48 (Lifetime.g-end 𝓤 H A W E G60 14 Path.refl) d48
+          d50 : Typed.Typed 𝓤 H A 𝓣 E G59 b33 Δ4 at50
+          d50 = Typed.g-pre 𝓤 H A W 𝓣 E G59 G60 b33 Δ4 (Typed.pass T59 T60 s56) at49 (Scalar.g-room 𝓤 H A W E G59 8 Laws'.mir (Local.room-whole 𝓤 H A
+              W (Declared.row RelayPacket.the-type) Laws'.mir Path.refl)) d49
+          d51 : Typed.Typed 𝓤 H A 𝓣 E G58 b33 Δ4 at51
+          d51 = Typed.g-pre 𝓤 H A W 𝓣 E G58 G59 b33 Δ4 (Typed.pass T58 T59 s55) at50 (Scalar.g-room 𝓤 H A W E G58 7 Laws.mir (Local.room-whole 𝓤 H A W
+              (Declared.row Places.the-type) Laws.mir Path.refl)) d50
+          d52 : Typed.Typed 𝓤 H A 𝓣 E G57 b33 Δ4 at52
+          d52 = Typed.g-pre 𝓤 H A W 𝓣 E G57 G58 b33 Δ4 (Typed.pass T57 T58 s54) at51 (Scalar.g-room 𝓤 H A W E G57 6 Laws''.mir (Local.room-whole 𝓤 H A
+              W (Declared.row OpaqueRelayRuntime.the-type) Laws''.mir Path.refl)) d51
+          d53 : Typed.Typed 𝓤 H A 𝓣 E G56 b34 Δ4 at53
+          d53 = Typed.s-seq 𝓤 H A W 𝓣 E G56 G57 b32 b33 Δ4 (Typed.both s53) at52 (Plain.t-call-plain 𝓤 H A W 𝓣 6 ps·1 r·1 (claims· .2) (claims· .3)
+              "hnsr_circuit::handle_accept::handle_accept" (known .1) E (λ pos β. β) G56 (record { pos = 26; ty = Syntax.tyRef Syntax.erased
+              Syntax.mut RelayPending.to; ref = λ x. x; }, (record { pos = 28; ty = Syntax.tyRef Syntax.erased Syntax.mut RelayCircuit.to; ref = λ x.
+              x; }, (record { pos = 30; ty = Syntax.tyRef Syntax.erased Syntax.mut InflightAction.to; ref = λ x. x; }, (record { pos = 32; ty =
               Syntax.tyRef Syntax.erased Syntax.mut (Syntax.tyInt Syntax.w32); ref = λ x. x; }, (record { pos = 6; st = List.[]; d = 0; at = λ x. x },
-              (record { pos = 7; st = List.[]; d = 0; at = λ x. x }, (record { pos = 8; ty = Syntax.tyRef (Syntax.named 5) Syntax.imm (Syntax.tyInt
-              Syntax.w8); ref = λ x. x; }, (record { pos = 9; ty = Syntax.tyRef (Syntax.named 6) Syntax.imm (Syntax.tyInt Syntax.w8); ref = λ x. x; },
-              tt,),),),),),),),) 13 (14 ∷ 15 ∷ 16 ∷ 17 ∷ 5 ∷ 6 ∷ List.[]) (Call.sub-id 𝓤 H A W (G55 .slots)) (Reads'.as-is 𝓤 H A (Mut.mslice
-              RelayPending.row ref0 14), Mut.reads-mslice 𝓤 H A W RelayPending.row ref0 14, Path.refl, (Reads'.as-is 𝓤 H A (Mut.mslice
-              RelayCircuit.row ref1 15), Mut.reads-mslice 𝓤 H A W RelayCircuit.row ref1 15, Path.refl, (Reads'.as-is 𝓤 H A (Mut.mslice
-              InflightAction.row ref3 16), Mut.reads-mslice 𝓤 H A W InflightAction.row ref3 16, Path.refl, (Reads'.as-is 𝓤 H A (Mut.mslice
-              (Referent.rtF (Referent.fInt Syntax.w32)) ref4 17), Mut.reads-mslice 𝓤 H A W (Referent.rtF (Referent.fInt Syntax.w32)) ref4 17,
-              Path.refl, ((Yields.yields-copy 𝓤 H A W (λ ρ. Unit) (Declared.row OpaqueRelayRuntime.the-type) Path.refl (Copies.cStruct
-              OpaqueRelayRuntime.the-type Laws'.the-laws Laws'.the-copy .copy 𝓤 H A W) (Rows.whole (Declared.row OpaqueRelayRuntime.the-type)) (λ x.
-              x) (λ x. x) (λ ρ told. Local.mem-whole 𝓤 H A W (Declared.row OpaqueRelayRuntime.the-type) ρ) λ ρ told. Local.whole-mem 𝓤 H A W
-              (Declared.row OpaqueRelayRuntime.the-type) ρ, Path.refl,), ((Yields.yields-copy 𝓤 H A W (λ ρ. Unit) (Declared.row RelayPacket.the-type)
-              Path.refl (Copies.cStruct RelayPacket.the-type Laws.the-laws Laws.the-copy .copy 𝓤 H A W) (Rows.whole (Declared.row
-              RelayPacket.the-type)) (λ x. x) (λ x. x) (λ ρ told. Local.mem-whole 𝓤 H A W (Declared.row RelayPacket.the-type) ρ) λ ρ told.
-              Local.whole-mem 𝓤 H A W (Declared.row RelayPacket.the-type) ρ, Path.refl,), (ShrSlice.spares-sslice 𝓤 H A W (Referent.rtF (Referent.fInt
-              Syntax.w8)) ref10 5, Shared.reads-sslice 𝓤 H A W (Referent.rtF (Referent.fInt Syntax.w8)) ref10 5, Path.refl, (ShrSlice.spares-sslice 𝓤
-              H A W (Referent.rtF (Referent.fInt Syntax.w8)) ref11 6, Shared.reads-sslice 𝓤 H A W (Referent.rtF (Referent.fInt Syntax.w8)) ref11 6,
-              Path.refl, tt,),),),),),),),) (Reads'.room-gone 𝓤 H A Laws''.mir) (tt, (tt, (tt, (tt, (tt, (tt, tt)))))) Path.refl) d50
-          d52 : Typed.Typed 𝓤 H A 𝓣 E G54 b35 Δ4 at52
-          d52 = Typed.s-seq 𝓤 H A W 𝓣 E G54 G55 b31 b34 Δ4 (Typed.ask s51) at51 (Relend.t-sl-aggregate 𝓤 H A W E (Referent.rtF (Referent.fInt
-              Syntax.w32)) 𝓣 (Relend.asMut (Referent.rtF (Referent.fInt Syntax.w32))) G54 30 31 17 ref4 ref4 (λ x. x) (Scalar.oFld 5 ((Syntax.field 1)
+              (record { pos = 7; st = List.[]; d = 0; at = λ x. x }, (record { pos = 8; st = List.[]; d = 0; at = λ x. x }, (record { pos = 9; ty =
+              Syntax.tyRef (Syntax.named 5) Syntax.imm (Syntax.tyInt Syntax.w8); ref = λ x. x; }, (record { pos = 10; ty = Syntax.tyRef (Syntax.named
+              6) Syntax.imm (Syntax.tyInt Syntax.w8); ref = λ x. x; }, tt,),),),),),),),),) 14 (14 ∷ 15 ∷ 16 ∷ 17 ∷ 5 ∷ 6 ∷ List.[]) (Call.sub-id 𝓤 H
+              A W (G56 .slots)) (Reads'.as-is 𝓤 H A (Mut.mslice RelayPending.row ref0 14), Mut.reads-mslice 𝓤 H A W RelayPending.row ref0 14,
+              Path.refl, (Reads'.as-is 𝓤 H A (Mut.mslice RelayCircuit.row ref1 15), Mut.reads-mslice 𝓤 H A W RelayCircuit.row ref1 15, Path.refl,
+              (Reads'.as-is 𝓤 H A (Mut.mslice InflightAction.row ref3 16), Mut.reads-mslice 𝓤 H A W InflightAction.row ref3 16, Path.refl,
+              (Reads'.as-is 𝓤 H A (Mut.mslice (Referent.rtF (Referent.fInt Syntax.w32)) ref4 17), Mut.reads-mslice 𝓤 H A W (Referent.rtF
+              (Referent.fInt Syntax.w32)) ref4 17, Path.refl, ((Yields.yields-copy 𝓤 H A W (λ ρ. Unit) (Declared.row OpaqueRelayRuntime.the-type)
+              Path.refl (Copies.cStruct OpaqueRelayRuntime.the-type Laws''.the-laws Laws''.the-copy .copy 𝓤 H A W) (Rows.whole (Declared.row
+              OpaqueRelayRuntime.the-type)) (λ x. x) (λ x. x) (λ ρ told. Local.mem-whole 𝓤 H A W (Declared.row OpaqueRelayRuntime.the-type) ρ) λ ρ
+              told. Local.whole-mem 𝓤 H A W (Declared.row OpaqueRelayRuntime.the-type) ρ, Path.refl,), ((Yields.yields-copy 𝓤 H A W (λ ρ. Unit)
+              (Declared.row Places.the-type) Path.refl (Copies.cStruct Places.the-type Laws.the-laws Laws.the-copy .copy 𝓤 H A W) (Rows.whole
+              (Declared.row Places.the-type)) (λ x. x) (λ x. x) (λ ρ told. Local.mem-whole 𝓤 H A W (Declared.row Places.the-type) ρ) λ ρ told.
+              Local.whole-mem 𝓤 H A W (Declared.row Places.the-type) ρ, Path.refl,), ((Yields.yields-copy 𝓤 H A W (λ ρ. Unit) (Declared.row
+              RelayPacket.the-type) Path.refl (Copies.cStruct RelayPacket.the-type Laws'.the-laws Laws'.the-copy .copy 𝓤 H A W) (Rows.whole
+              (Declared.row RelayPacket.the-type)) (λ x. x) (λ x. x) (λ ρ told. Local.mem-whole 𝓤 H A W (Declared.row RelayPacket.the-type) ρ) λ ρ
+              told. Local.whole-mem 𝓤 H A W (Declared.row RelayPacket.the-type) ρ, Path.refl,), (ShrSlice.spares-sslice 𝓤 H A W (Referent.rtF
+              (Referent.fInt Syntax.w8)) ref10 5, Shared.reads-sslice 𝓤 H A W (Referent.rtF (Referent.fInt Syntax.w8)) ref10 5, Path.refl,
+              (ShrSlice.spares-sslice 𝓤 H A W (Referent.rtF (Referent.fInt Syntax.w8)) ref11 6, Shared.reads-sslice 𝓤 H A W (Referent.rtF
+              (Referent.fInt Syntax.w8)) ref11 6, Path.refl, tt,),),),),),),),),) (Reads'.room-gone 𝓤 H A Laws'''.mir) (tt, (tt, (tt, (tt, (tt, (tt,
+              tt)))))) Path.refl) d52
+          d54 : Typed.Typed 𝓤 H A 𝓣 E G55 b35 Δ4 at54
+          d54 = Typed.s-seq 𝓤 H A W 𝓣 E G55 G56 b31 b34 Δ4 (Typed.ask s52) at53 (Relend.t-sl-aggregate 𝓤 H A W E (Referent.rtF (Referent.fInt
+              Syntax.w32)) 𝓣 (Relend.asMut (Referent.rtF (Referent.fInt Syntax.w32))) G55 31 32 17 ref4 ref4 (λ x. x) (Scalar.oFld 5 ((Syntax.field 1)
               ∷ List.[]) (Syntax.tyInt Syntax.w64) 8 λ v. Shared.lenV (v .0)) (Reads'.as-is 𝓤 H A (Relend.msptr (Referent.rtF (Referent.fInt
               Syntax.w32)) ref4 17)) (Reads'.room-gone 𝓤 H A (Syntax.tyStruct (38 ∷ 91 ∷ 93 ∷ List.[]) (Syntax.tcons ref4 (Syntax.tcons (Syntax.tyInt
               Syntax.w64) Syntax.tnil)))) (Relend.reads-owed-len 𝓤 H A W (Referent.rtF (Referent.fInt Syntax.w32)) ref9 4 17 life4 8 Path.refl,
-              Path.refl,) Path.refl Path.refl λ b o k. tt) d51
-          d53 : Typed.Typed 𝓤 H A 𝓣 E G53 b36 Δ4 at53
-          d53 = Typed.s-seq 𝓤 H A W 𝓣 E G53 G54 b30 b35 Δ4 (Typed.give s50) at52 (Relend.t-sl-relend 𝓤 H A W E (Referent.rtF (Referent.fInt
-              Syntax.w32)) 𝓣 G53 5 30 4 17 ref9 ref4 life4 0 (λ x. x) (Reads'.as-is 𝓤 H A (Mut.mslice (Referent.rtF (Referent.fInt Syntax.w32)) ref9
-              4)) (Reads'.room-gone 𝓤 H A ref4) Path.refl tt Path.refl Path.refl Path.refl λ b o. tt) d52
-          d54 : Typed.Typed 𝓤 H A 𝓣 E G52 b36 Δ4 at54
-          d54 = Typed.g-pre 𝓤 H A W 𝓣 E G52 G53 b36 Δ4 (λ Ψ. Ψ) at53 (Lifetime.g-begin 𝓤 H A W E G52 17 (tt, ((tt, tt), ((tt, tt), (tt, ((tt, tt),
+              Path.refl,) Path.refl Path.refl λ b o k. tt) d53
+          d55 : Typed.Typed 𝓤 H A 𝓣 E G54 b36 Δ4 at55
+          d55 = Typed.s-seq 𝓤 H A W 𝓣 E G54 G55 b30 b35 Δ4 (Typed.give s51) at54 (Relend.t-sl-relend 𝓤 H A W E (Referent.rtF (Referent.fInt
+              Syntax.w32)) 𝓣 G54 5 31 4 17 ref9 ref4 life4 0 (λ x. x) (Reads'.as-is 𝓤 H A (Mut.mslice (Referent.rtF (Referent.fInt Syntax.w32)) ref9
+              4)) (Reads'.room-gone 𝓤 H A ref4) Path.refl tt Path.refl Path.refl Path.refl λ b o. tt) d54
+          d56 : Typed.Typed 𝓤 H A 𝓣 E G53 b36 Δ4 at56
+          d56 = Typed.g-pre 𝓤 H A W 𝓣 E G53 G54 b36 Δ4 (λ Ψ. Ψ) at55 (Lifetime.g-begin 𝓤 H A W E G53 17 (tt, ((tt, tt), ((tt, tt), (tt, ((tt, tt),
               (tt, (tt, (tt, (tt, (tt, (tt, (tt, (tt, (tt, (tt, (tt, (tt, (tt, (tt, (tt, (tt, (tt, (tt, (tt, (tt, (tt, (tt, (tt, (tt, (tt, (tt, (tt,
-              (tt, (tt, (tt, (tt, (tt, (tt, (tt, (tt, (tt, (tt, (tt, (tt, (tt, (tt, (tt, (tt, (tt, (tt, (tt, (tt, (tt, (tt, (tt,
-              tt,),),),),),),),),),),),),),),),),),),),),),),),),),),),),),),),),),),),),),),),),),),),),),),),),),),),),),),)) d53
-          d55 : Typed.Typed 𝓤 H A 𝓣 E G51 b37 Δ4 at55
-          d55 = Typed.s-seq 𝓤 H A W 𝓣 E G51 G52 b29 b36 Δ4 (Typed.ask s48) at54 (Relend.t-sl-aggregate 𝓤 H A W E InflightAction.row 𝓣 (Relend.asMut
-              InflightAction.row) G51 28 29 16 ref3 ref3 (λ x. x) (Scalar.oFld 4 ((Syntax.field 1) ∷ List.[]) (Syntax.tyInt Syntax.w64) 8 λ v.
+              (tt, (tt, (tt, (tt, (tt, (tt, (tt, (tt, (tt, (tt, (tt, (tt, (tt, (tt, (tt, (tt, (tt, (tt, (tt, (tt, (tt, (tt, (tt, (tt,
+              tt,),),),),),),),),),),),),),),),),),),),),),),),),),),),),),),),),),),),),),),),),),),),),),),),),),),),),),),),)) d55
+          d57 : Typed.Typed 𝓤 H A 𝓣 E G52 b37 Δ4 at57
+          d57 = Typed.s-seq 𝓤 H A W 𝓣 E G52 G53 b29 b36 Δ4 (Typed.ask s49) at56 (Relend.t-sl-aggregate 𝓤 H A W E InflightAction.row 𝓣 (Relend.asMut
+              InflightAction.row) G52 29 30 16 ref3 ref3 (λ x. x) (Scalar.oFld 4 ((Syntax.field 1) ∷ List.[]) (Syntax.tyInt Syntax.w64) 8 λ v.
               Shared.lenV (v .0)) (Reads'.as-is 𝓤 H A (Relend.msptr InflightAction.row ref3 16)) (Reads'.room-gone 𝓤 H A (Syntax.tyStruct (38 ∷ 91 ∷
               93 ∷ List.[]) (Syntax.tcons ref3 (Syntax.tcons (Syntax.tyInt Syntax.w64) Syntax.tnil)))) (Relend.reads-owed-len 𝓤 H A W
-              InflightAction.row ref8 3 16 life3 8 Path.refl, Path.refl,) Path.refl Path.refl λ b o k. tt) d54
-          d56 : Typed.Typed 𝓤 H A 𝓣 E G50 b38 Δ4 at56
-          d56 = Typed.s-seq 𝓤 H A W 𝓣 E G50 G51 b28 b37 Δ4 (Typed.give s47) at55 (Relend.t-sl-relend 𝓤 H A W E InflightAction.row 𝓣 G50 4 28 3 16 ref8
+              InflightAction.row ref8 3 16 life3 8 Path.refl, Path.refl,) Path.refl Path.refl λ b o k. tt) d56
+          d58 : Typed.Typed 𝓤 H A 𝓣 E G51 b38 Δ4 at58
+          d58 = Typed.s-seq 𝓤 H A W 𝓣 E G51 G52 b28 b37 Δ4 (Typed.give s48) at57 (Relend.t-sl-relend 𝓤 H A W E InflightAction.row 𝓣 G51 4 29 3 16 ref8
               ref3 life3 0 (λ x. x) (Reads'.as-is 𝓤 H A (Mut.mslice InflightAction.row ref8 3)) (Reads'.room-gone 𝓤 H A ref3) Path.refl tt Path.refl
-              Path.refl Path.refl λ b o. tt) d55
-          d57 : Typed.Typed 𝓤 H A 𝓣 E G49 b38 Δ4 at57
-          d57 = Typed.g-pre 𝓤 H A W 𝓣 E G49 G50 b38 Δ4 (λ Ψ. Ψ) at56 (Lifetime.g-begin 𝓤 H A W E G49 16 (tt, ((tt, tt), ((tt, tt), (tt, (tt, (tt, (tt,
+              Path.refl Path.refl λ b o. tt) d57
+          d59 : Typed.Typed 𝓤 H A 𝓣 E G50 b38 Δ4 at59
+          d59 = Typed.g-pre 𝓤 H A W 𝓣 E G50 G51 b38 Δ4 (λ Ψ. Ψ) at58 (Lifetime.g-begin 𝓤 H A W E G50 16 (tt, ((tt, tt), ((tt, tt), (tt, (tt, (tt, (tt,
               (tt, (tt, (tt, (tt, (tt, (tt, (tt, (tt, (tt, (tt, (tt, (tt, (tt, (tt, (tt, (tt, (tt, (tt, (tt, (tt, (tt, (tt, (tt, (tt, (tt, (tt, (tt,
-              (tt, (tt, (tt, (tt, (tt, (tt, (tt, (tt, (tt, (tt, (tt, (tt, (tt, (tt, (tt, (tt, (tt, (tt, (tt, (tt, (tt,
-              tt,),),),),),),),),),),),),),),),),),),),),),),),),),),),),),),),),),),),),),),),),),),),),),),),),),),),),),),)) d56
-          d58 : Typed.Typed 𝓤 H A 𝓣 E G48 b39 Δ4 at58
-          d58 = Typed.s-seq 𝓤 H A W 𝓣 E G48 G49 b27 b38 Δ4 (Typed.ask s45) at57 (Relend.t-sl-aggregate 𝓤 H A W E RelayCircuit.row 𝓣 (Relend.asMut
-              RelayCircuit.row) G48 26 27 15 ref1 ref1 (λ x. x) (Scalar.oFld 2 ((Syntax.field 1) ∷ List.[]) (Syntax.tyInt Syntax.w64) 8 λ v.
+              (tt, (tt, (tt, (tt, (tt, (tt, (tt, (tt, (tt, (tt, (tt, (tt, (tt, (tt, (tt, (tt, (tt, (tt, (tt, (tt, (tt, (tt,
+              tt,),),),),),),),),),),),),),),),),),),),),),),),),),),),),),),),),),),),),),),),),),),),),),),),),),),),),),),),)) d58
+          d60 : Typed.Typed 𝓤 H A 𝓣 E G49 b39 Δ4 at60
+          d60 = Typed.s-seq 𝓤 H A W 𝓣 E G49 G50 b27 b38 Δ4 (Typed.ask s46) at59 (Relend.t-sl-aggregate 𝓤 H A W E RelayCircuit.row 𝓣 (Relend.asMut
+              RelayCircuit.row) G49 27 28 15 ref1 ref1 (λ x. x) (Scalar.oFld 2 ((Syntax.field 1) ∷ List.[]) (Syntax.tyInt Syntax.w64) 8 λ v.
               Shared.lenV (v .0)) (Reads'.as-is 𝓤 H A (Relend.msptr RelayCircuit.row ref1 15)) (Reads'.room-gone 𝓤 H A (Syntax.tyStruct (38 ∷ 91 ∷ 93
               ∷ List.[]) (Syntax.tcons ref1 (Syntax.tcons (Syntax.tyInt Syntax.w64) Syntax.tnil)))) (Relend.reads-owed-len 𝓤 H A W RelayCircuit.row
-              ref6 1 15 life1 8 Path.refl, Path.refl,) Path.refl Path.refl λ b o k. tt) d57
-          d59 : Typed.Typed 𝓤 H A 𝓣 E G47 b40 Δ4 at59
-          d59 = Typed.s-seq 𝓤 H A W 𝓣 E G47 G48 b26 b39 Δ4 (Typed.give s44) at58 (Relend.t-sl-relend 𝓤 H A W E RelayCircuit.row 𝓣 G47 2 26 1 15 ref6
+              ref6 1 15 life1 8 Path.refl, Path.refl,) Path.refl Path.refl λ b o k. tt) d59
+          d61 : Typed.Typed 𝓤 H A 𝓣 E G48 b40 Δ4 at61
+          d61 = Typed.s-seq 𝓤 H A W 𝓣 E G48 G49 b26 b39 Δ4 (Typed.give s45) at60 (Relend.t-sl-relend 𝓤 H A W E RelayCircuit.row 𝓣 G48 2 27 1 15 ref6
               ref1 life1 0 (λ x. x) (Reads'.as-is 𝓤 H A (Mut.mslice RelayCircuit.row ref6 1)) (Reads'.room-gone 𝓤 H A ref1) Path.refl tt Path.refl
-              Path.refl Path.refl λ b o. tt) d58
-          d60 : Typed.Typed 𝓤 H A 𝓣 E G46 b40 Δ4 at60
-          d60 = Typed.g-pre 𝓤 H A W 𝓣 E G46 G47 b40 Δ4 (λ Ψ. Ψ) at59 (Lifetime.g-begin 𝓤 H A W E G46 15 (tt, ((tt, tt), (tt, (tt, (tt, (tt, (tt, (tt,
+              Path.refl Path.refl λ b o. tt) d60
+          d62 : Typed.Typed 𝓤 H A 𝓣 E G47 b40 Δ4 at62
+          d62 = Typed.g-pre 𝓤 H A W 𝓣 E G47 G48 b40 Δ4 (λ Ψ. Ψ) at61 (Lifetime.g-begin 𝓤 H A W E G47 15 (tt, ((tt, tt), (tt, (tt, (tt, (tt, (tt, (tt,
               (tt, (tt, (tt, (tt, (tt, (tt, (tt, (tt, (tt, (tt, (tt, (tt, (tt, (tt, (tt, (tt, (tt, (tt, (tt, (tt, (tt, (tt, (tt, (tt, (tt, (tt, (tt,
-              (tt, (tt, (tt, (tt, (tt, (tt, (tt, (tt, (tt, (tt, (tt, (tt, (tt, (tt, (tt, (tt, (tt, (tt, (tt, (tt,
-              tt,),),),),),),),),),),),),),),),),),),),),),),),),),),),),),),),),),),),),),),),),),),),),),),),),),),),),),),)) d59
-          d61 : Typed.Typed 𝓤 H A 𝓣 E G45 b41 Δ4 at61
-          d61 = Typed.s-seq 𝓤 H A W 𝓣 E G45 G46 b25 b40 Δ4 (Typed.ask s42) at60 (Relend.t-sl-aggregate 𝓤 H A W E RelayPending.row 𝓣 (Relend.asMut
-              RelayPending.row) G45 24 25 14 ref0 ref0 (λ x. x) (Scalar.oFld 1 ((Syntax.field 1) ∷ List.[]) (Syntax.tyInt Syntax.w64) 8 λ v.
+              (tt, (tt, (tt, (tt, (tt, (tt, (tt, (tt, (tt, (tt, (tt, (tt, (tt, (tt, (tt, (tt, (tt, (tt, (tt, (tt, (tt,
+              tt,),),),),),),),),),),),),),),),),),),),),),),),),),),),),),),),),),),),),),),),),),),),),),),),),),),),),),),),)) d61
+          d63 : Typed.Typed 𝓤 H A 𝓣 E G46 b41 Δ4 at63
+          d63 = Typed.s-seq 𝓤 H A W 𝓣 E G46 G47 b25 b40 Δ4 (Typed.ask s43) at62 (Relend.t-sl-aggregate 𝓤 H A W E RelayPending.row 𝓣 (Relend.asMut
+              RelayPending.row) G46 25 26 14 ref0 ref0 (λ x. x) (Scalar.oFld 1 ((Syntax.field 1) ∷ List.[]) (Syntax.tyInt Syntax.w64) 8 λ v.
               Shared.lenV (v .0)) (Reads'.as-is 𝓤 H A (Relend.msptr RelayPending.row ref0 14)) (Reads'.room-gone 𝓤 H A (Syntax.tyStruct (38 ∷ 91 ∷ 93
               ∷ List.[]) (Syntax.tcons ref0 (Syntax.tcons (Syntax.tyInt Syntax.w64) Syntax.tnil)))) (Relend.reads-owed-len 𝓤 H A W RelayPending.row
-              ref5 0 14 life0 8 Path.refl, Path.refl,) Path.refl Path.refl λ b o k. tt) d60
-          d62 : Typed.Typed 𝓤 H A 𝓣 E G44 b42 Δ4 at62
-          d62 = Typed.s-seq 𝓤 H A W 𝓣 E G44 G45 b24 b41 Δ4 (Typed.give s41) at61 (Relend.t-sl-relend 𝓤 H A W E RelayPending.row 𝓣 G44 1 24 0 14 ref5
+              ref5 0 14 life0 8 Path.refl, Path.refl,) Path.refl Path.refl λ b o k. tt) d62
+          d64 : Typed.Typed 𝓤 H A 𝓣 E G45 b42 Δ4 at64
+          d64 = Typed.s-seq 𝓤 H A W 𝓣 E G45 G46 b24 b41 Δ4 (Typed.give s42) at63 (Relend.t-sl-relend 𝓤 H A W E RelayPending.row 𝓣 G45 1 25 0 14 ref5
               ref0 life0 0 (λ x. x) (Reads'.as-is 𝓤 H A (Mut.mslice RelayPending.row ref5 0)) (Reads'.room-gone 𝓤 H A ref0) Path.refl tt Path.refl
-              Path.refl Path.refl λ b o. tt) d61
-          d63 : Typed.Typed 𝓤 H A 𝓣 E G7 b42 Δ4 at63
-          d63 = Typed.g-pre 𝓤 H A W 𝓣 E G7 G44 b42 Δ4 (λ Ψ. Ψ) at62 (Lifetime.g-begin 𝓤 H A W E G7 14 (tt, (tt, (tt, (tt, (tt, (tt, (tt, (tt, (tt,
+              Path.refl Path.refl λ b o. tt) d63
+          d65 : Typed.Typed 𝓤 H A 𝓣 E G7 b42 Δ4 at65
+          d65 = Typed.g-pre 𝓤 H A W 𝓣 E G7 G45 b42 Δ4 (λ Ψ. Ψ) at64 (Lifetime.g-begin 𝓤 H A W E G7 14 (tt, (tt, (tt, (tt, (tt, (tt, (tt, (tt, (tt,
               (tt, (tt, (tt, (tt, (tt, (tt, (tt, (tt, (tt, (tt, (tt, (tt, (tt, (tt, (tt, (tt, (tt, (tt, (tt, (tt, (tt, (tt, (tt, (tt, (tt, (tt, (tt,
-              (tt, (tt, (tt, (tt, (tt, (tt, (tt, (tt, (tt, (tt, (tt, (tt, (tt, (tt, (tt, (tt, (tt, (tt, (tt,
-              tt,),),),),),),),),),),),),),),),),),),),),),),),),),),),),),),),),),),),),),),),),),),),),),),),),),),),),),),)) d62
-          d64 : Typed.Typed 𝓤 H A 𝓣 E G99 b52 Δ4 at64
-          d64 = Typed.t-exit 𝓤 H A W 𝓣 E 1 Δ4 tt
-          d65 : Typed.Typed 𝓤 H A 𝓣 E G98 b52 Δ4 at65
-          d65 = Typed.g-pre 𝓤 H A W 𝓣 E G98 G99 b52 Δ4 (λ Ψ. Ψ) at64 (Lifetime.g-forget 𝓤 H A W E G98 21 Row.dead Path.refl) d64
-          d66 : Typed.Typed 𝓤 H A 𝓣 E G97 b52 Δ4 at66
-          d66 = Typed.g-pre 𝓤 H A W 𝓣 E G97 G98 b52 Δ4 (Typed.give s94) at65 (Know.g-sl-known 𝓤 H A W (Referent.fInt Syntax.w32) E G97 5 4 ref9 life4
-              0 (λ x. x) record { fits = Dec.lit< tt } (Reads'.as-is 𝓤 H A (Mut.mslice (Referent.rtF (Referent.fInt Syntax.w32)) ref9 4)) Path.refl
-              tt) d65
-          d67 : Typed.Typed 𝓤 H A 𝓣 E G96 b52 Δ4 at67
-          d67 = Typed.g-pre 𝓤 H A W 𝓣 E G96 G97 b52 Δ4 (Typed.both s93) at66 (Relend.g-back-sl 𝓤 H A W E (Referent.rtF (Referent.fInt Syntax.w32)) G96
-              39 5 4 21 ref9 ref4 life4 (λ x. x) (λ x. x) (Reads'.as-is 𝓤 H A (Mut.msleft (Referent.rtF (Referent.fInt Syntax.w32)) ref4))
-              (Reads'.as-is 𝓤 H A (Relend.mslice-owed (Referent.rtF (Referent.fInt Syntax.w32)) ref9 4 21 life4)) Path.refl Path.refl) d66
-          d68 : Typed.Typed 𝓤 H A 𝓣 E G95 b52 Δ4 at68
-          d68 = Typed.g-pre 𝓤 H A W 𝓣 E G95 G96 b52 Δ4 (λ Ψ. Ψ) at67 (Lifetime.g-end 𝓤 H A W E G95 21 Path.refl) d67
-          d69 : Typed.Typed 𝓤 H A 𝓣 E G94 b52 Δ4 at69
-          d69 = Typed.g-pre 𝓤 H A W 𝓣 E G94 G95 b52 Δ4 (λ Ψ. Ψ) at68 (Lifetime.g-forget 𝓤 H A W E G94 20 Row.dead Path.refl) d68
-          d70 : Typed.Typed 𝓤 H A 𝓣 E G93 b52 Δ4 at70
-          d70 = Typed.g-pre 𝓤 H A W 𝓣 E G93 G94 b52 Δ4 (Typed.both s90) at69 (Relend.g-back-sl 𝓤 H A W E InflightAction.row G93 37 4 3 20 ref8 ref3
+              (tt, (tt, (tt, (tt, (tt, (tt, (tt, (tt, (tt, (tt, (tt, (tt, (tt, (tt, (tt, (tt, (tt, (tt, (tt, (tt,
+              tt,),),),),),),),),),),),),),),),),),),),),),),),),),),),),),),),),),),),),),),),),),),),),),),),),),),),),),),),)) d64
+          d66 : Typed.Typed 𝓤 H A 𝓣 E G102 b52 Δ4 at66
+          d66 = Typed.t-exit 𝓤 H A W 𝓣 E 1 Δ4 tt
+          d67 : Typed.Typed 𝓤 H A 𝓣 E G101 b52 Δ4 at67
+          d67 = Typed.g-pre 𝓤 H A W 𝓣 E G101 G102 b52 Δ4 (λ Ψ. Ψ) at66 (Lifetime.g-forget 𝓤 H A W E G101 21 Row.dead Path.refl) d66
+          d68 : Typed.Typed 𝓤 H A 𝓣 E G100 b52 Δ4 at68
+          d68 = Typed.g-pre 𝓤 H A W 𝓣 E G100 G101 b52 Δ4 (Typed.give s97) at67 (Know.g-sl-known 𝓤 H A W (Referent.fInt Syntax.w32) E G100 5 4 ref9
+              life4 0 (λ x. x) record { fits = Dec.lit< tt } (Reads'.as-is 𝓤 H A (Mut.mslice (Referent.rtF (Referent.fInt Syntax.w32)) ref9 4))
+              Path.refl tt) d67
+          d69 : Typed.Typed 𝓤 H A 𝓣 E G99 b52 Δ4 at69
+          d69 = Typed.g-pre 𝓤 H A W 𝓣 E G99 G100 b52 Δ4 (Typed.both s96) at68 (Relend.g-back-sl 𝓤 H A W E (Referent.rtF (Referent.fInt Syntax.w32))
+              G99 40 5 4 21 ref9 ref4 life4 (λ x. x) (λ x. x) (Reads'.as-is 𝓤 H A (Mut.msleft (Referent.rtF (Referent.fInt Syntax.w32)) ref4))
+              (Reads'.as-is 𝓤 H A (Relend.mslice-owed (Referent.rtF (Referent.fInt Syntax.w32)) ref9 4 21 life4)) Path.refl Path.refl) d68
+          d70 : Typed.Typed 𝓤 H A 𝓣 E G98 b52 Δ4 at70
+          d70 = Typed.g-pre 𝓤 H A W 𝓣 E G98 G99 b52 Δ4 (λ Ψ. Ψ) at69 (Lifetime.g-end 𝓤 H A W E G98 21 Path.refl) d69
+          d71 : Typed.Typed 𝓤 H A 𝓣 E G97 b52 Δ4 at71
+          d71 = Typed.g-pre 𝓤 H A W 𝓣 E G97 G98 b52 Δ4 (λ Ψ. Ψ) at70 (Lifetime.g-forget 𝓤 H A W E G97 20 Row.dead Path.refl) d70
+          d72 : Typed.Typed 𝓤 H A 𝓣 E G96 b52 Δ4 at72
+          d72 = Typed.g-pre 𝓤 H A W 𝓣 E G96 G97 b52 Δ4 (Typed.both s93) at71 (Relend.g-back-sl 𝓤 H A W E InflightAction.row G96 38 4 3 20 ref8 ref3
               life3 (λ x. x) (λ x. x) (Reads'.as-is 𝓤 H A (Mut.msleft InflightAction.row ref3)) (Reads'.as-is 𝓤 H A (Relend.mslice-owed
-              InflightAction.row ref8 3 20 life3)) Path.refl Path.refl) d69
-          d71 : Typed.Typed 𝓤 H A 𝓣 E G92 b52 Δ4 at71
-          d71 = Typed.g-pre 𝓤 H A W 𝓣 E G92 G93 b52 Δ4 (λ Ψ. Ψ) at70 (Lifetime.g-end 𝓤 H A W E G92 20 Path.refl) d70
-          d72 : Typed.Typed 𝓤 H A 𝓣 E G91 b52 Δ4 at72
-          d72 = Typed.g-pre 𝓤 H A W 𝓣 E G91 G92 b52 Δ4 (λ Ψ. Ψ) at71 (Lifetime.g-forget 𝓤 H A W E G91 19 Row.dead Path.refl) d71
-          d73 : Typed.Typed 𝓤 H A 𝓣 E G90 b52 Δ4 at73
-          d73 = Typed.g-pre 𝓤 H A W 𝓣 E G90 G91 b52 Δ4 (Typed.both s87) at72 (Relend.g-back-sl 𝓤 H A W E ReservationUsage.row G90 35 3 2 19 ref7 ref2
+              InflightAction.row ref8 3 20 life3)) Path.refl Path.refl) d71
+          d73 : Typed.Typed 𝓤 H A 𝓣 E G95 b52 Δ4 at73
+          d73 = Typed.g-pre 𝓤 H A W 𝓣 E G95 G96 b52 Δ4 (λ Ψ. Ψ) at72 (Lifetime.g-end 𝓤 H A W E G95 20 Path.refl) d72
+          d74 : Typed.Typed 𝓤 H A 𝓣 E G94 b52 Δ4 at74
+          d74 = Typed.g-pre 𝓤 H A W 𝓣 E G94 G95 b52 Δ4 (λ Ψ. Ψ) at73 (Lifetime.g-forget 𝓤 H A W E G94 19 Row.dead Path.refl) d73
+          d75 : Typed.Typed 𝓤 H A 𝓣 E G93 b52 Δ4 at75
+          d75 = Typed.g-pre 𝓤 H A W 𝓣 E G93 G94 b52 Δ4 (Typed.both s90) at74 (Relend.g-back-sl 𝓤 H A W E ReservationUsage.row G93 36 3 2 19 ref7 ref2
               life2 (λ x. x) (λ x. x) (Reads'.as-is 𝓤 H A (Mut.msleft ReservationUsage.row ref2)) (Reads'.as-is 𝓤 H A (Relend.mslice-owed
-              ReservationUsage.row ref7 2 19 life2)) Path.refl Path.refl) d72
-          d74 : Typed.Typed 𝓤 H A 𝓣 E G89 b52 Δ4 at74
-          d74 = Typed.g-pre 𝓤 H A W 𝓣 E G89 G90 b52 Δ4 (λ Ψ. Ψ) at73 (Lifetime.g-end 𝓤 H A W E G89 19 Path.refl) d73
-          d75 : Typed.Typed 𝓤 H A 𝓣 E G88 b52 Δ4 at75
-          d75 = Typed.g-pre 𝓤 H A W 𝓣 E G88 G89 b52 Δ4 (λ Ψ. Ψ) at74 (Lifetime.g-forget 𝓤 H A W E G88 18 Row.dead Path.refl) d74
-          d76 : Typed.Typed 𝓤 H A 𝓣 E G87 b52 Δ4 at76
-          d76 = Typed.g-pre 𝓤 H A W 𝓣 E G87 G88 b52 Δ4 (Typed.both s84) at75 (Relend.g-back-sl 𝓤 H A W E RelayCircuit.row G87 33 2 1 18 ref6 ref1
+              ReservationUsage.row ref7 2 19 life2)) Path.refl Path.refl) d74
+          d76 : Typed.Typed 𝓤 H A 𝓣 E G92 b52 Δ4 at76
+          d76 = Typed.g-pre 𝓤 H A W 𝓣 E G92 G93 b52 Δ4 (λ Ψ. Ψ) at75 (Lifetime.g-end 𝓤 H A W E G92 19 Path.refl) d75
+          d77 : Typed.Typed 𝓤 H A 𝓣 E G91 b52 Δ4 at77
+          d77 = Typed.g-pre 𝓤 H A W 𝓣 E G91 G92 b52 Δ4 (λ Ψ. Ψ) at76 (Lifetime.g-forget 𝓤 H A W E G91 18 Row.dead Path.refl) d76
+          d78 : Typed.Typed 𝓤 H A 𝓣 E G90 b52 Δ4 at78
+          d78 = Typed.g-pre 𝓤 H A W 𝓣 E G90 G91 b52 Δ4 (Typed.both s87) at77 (Relend.g-back-sl 𝓤 H A W E RelayCircuit.row G90 34 2 1 18 ref6 ref1
               life1 (λ x. x) (λ x. x) (Reads'.as-is 𝓤 H A (Mut.msleft RelayCircuit.row ref1)) (Reads'.as-is 𝓤 H A (Relend.mslice-owed RelayCircuit.row
-              ref6 1 18 life1)) Path.refl Path.refl) d75
-          d77 : Typed.Typed 𝓤 H A 𝓣 E G86 b52 Δ4 at77
-          d77 = Typed.g-pre 𝓤 H A W 𝓣 E G86 G87 b52 Δ4 (λ Ψ. Ψ) at76 (Lifetime.g-end 𝓤 H A W E G86 18 Path.refl) d76
-          d78 : Typed.Typed 𝓤 H A 𝓣 E G85 b52 Δ4 at78
-          d78 = Typed.g-pre 𝓤 H A W 𝓣 E G85 G86 b52 Δ4 (Typed.pass T85 T86 s82) at77 (Scalar.g-room 𝓤 H A W E G85 7 Laws.mir (Local.room-whole 𝓤 H A W
-              (Declared.row RelayPacket.the-type) Laws.mir Path.refl)) d77
-          d79 : Typed.Typed 𝓤 H A 𝓣 E G84 b52 Δ4 at79
-          d79 = Typed.g-pre 𝓤 H A W 𝓣 E G84 G85 b52 Δ4 (Typed.pass T84 T85 s81) at78 (Scalar.g-room 𝓤 H A W E G84 6 Laws'.mir (Local.room-whole 𝓤 H A
-              W (Declared.row OpaqueRelayRuntime.the-type) Laws'.mir Path.refl)) d78
-          d80 : Typed.Typed 𝓤 H A 𝓣 E G83 b53 Δ4 at80
-          d80 = Typed.s-seq 𝓤 H A W 𝓣 E G83 G84 b51 b52 Δ4 (Typed.both s80) at79 (Plain.t-call-plain 𝓤 H A W 𝓣 6 ps·2 r·2 (claims· .4) (claims· .5)
-              "hnsr_circuit::handle_data::handle_data" (known .2) E (λ pos β. β) G83 (record { pos = 33; ty = Syntax.tyRef Syntax.erased Syntax.mut
-              RelayCircuit.to; ref = λ x. x; }, (record { pos = 35; ty = Syntax.tyRef Syntax.erased Syntax.mut ReservationUsage.to; ref = λ x. x; },
-              (record { pos = 37; ty = Syntax.tyRef Syntax.erased Syntax.mut InflightAction.to; ref = λ x. x; }, (record { pos = 39; ty = Syntax.tyRef
+              ref6 1 18 life1)) Path.refl Path.refl) d77
+          d79 : Typed.Typed 𝓤 H A 𝓣 E G89 b52 Δ4 at79
+          d79 = Typed.g-pre 𝓤 H A W 𝓣 E G89 G90 b52 Δ4 (λ Ψ. Ψ) at78 (Lifetime.g-end 𝓤 H A W E G89 18 Path.refl) d78
+          d80 : Typed.Typed 𝓤 H A 𝓣 E G88 b52 Δ4 at80
+          d80 = Typed.g-pre 𝓤 H A W 𝓣 E G88 G89 b52 Δ4 (Typed.pass T88 T89 s85) at79 (Scalar.g-room 𝓤 H A W E G88 8 Laws'.mir (Local.room-whole 𝓤 H A
+              W (Declared.row RelayPacket.the-type) Laws'.mir Path.refl)) d79
+          d81 : Typed.Typed 𝓤 H A 𝓣 E G87 b52 Δ4 at81
+          d81 = Typed.g-pre 𝓤 H A W 𝓣 E G87 G88 b52 Δ4 (Typed.pass T87 T88 s84) at80 (Scalar.g-room 𝓤 H A W E G87 7 Laws.mir (Local.room-whole 𝓤 H A W
+              (Declared.row Places.the-type) Laws.mir Path.refl)) d80
+          d82 : Typed.Typed 𝓤 H A 𝓣 E G86 b52 Δ4 at82
+          d82 = Typed.g-pre 𝓤 H A W 𝓣 E G86 G87 b52 Δ4 (Typed.pass T86 T87 s83) at81 (Scalar.g-room 𝓤 H A W E G86 6 Laws''.mir (Local.room-whole 𝓤 H A
+              W (Declared.row OpaqueRelayRuntime.the-type) Laws''.mir Path.refl)) d81
+          d83 : Typed.Typed 𝓤 H A 𝓣 E G85 b53 Δ4 at83
+          d83 = Typed.s-seq 𝓤 H A W 𝓣 E G85 G86 b51 b52 Δ4 (Typed.both s82) at82 (Plain.t-call-plain 𝓤 H A W 𝓣 6 ps·2 r·2 (claims· .4) (claims· .5)
+              "hnsr_circuit::handle_data::handle_data" (known .2) E (λ pos β. β) G85 (record { pos = 34; ty = Syntax.tyRef Syntax.erased Syntax.mut
+              RelayCircuit.to; ref = λ x. x; }, (record { pos = 36; ty = Syntax.tyRef Syntax.erased Syntax.mut ReservationUsage.to; ref = λ x. x; },
+              (record { pos = 38; ty = Syntax.tyRef Syntax.erased Syntax.mut InflightAction.to; ref = λ x. x; }, (record { pos = 40; ty = Syntax.tyRef
               Syntax.erased Syntax.mut (Syntax.tyInt Syntax.w32); ref = λ x. x; }, (record { pos = 6; st = List.[]; d = 0; at = λ x. x }, (record {
-              pos = 7; st = List.[]; d = 0; at = λ x. x }, (record { pos = 8; ty = Syntax.tyRef (Syntax.named 5) Syntax.imm (Syntax.tyInt Syntax.w8);
-              ref = λ x. x; }, (record { pos = 9; ty = Syntax.tyRef (Syntax.named 6) Syntax.imm (Syntax.tyInt Syntax.w8); ref = λ x. x; },
-              tt,),),),),),),),) 13 (18 ∷ 19 ∷ 20 ∷ 21 ∷ 5 ∷ 6 ∷ List.[]) (Call.sub-id 𝓤 H A W (G83 .slots)) (Reads'.as-is 𝓤 H A (Mut.mslice
-              RelayCircuit.row ref1 18), Mut.reads-mslice 𝓤 H A W RelayCircuit.row ref1 18, Path.refl, (Reads'.as-is 𝓤 H A (Mut.mslice
-              ReservationUsage.row ref2 19), Mut.reads-mslice 𝓤 H A W ReservationUsage.row ref2 19, Path.refl, (Reads'.as-is 𝓤 H A (Mut.mslice
-              InflightAction.row ref3 20), Mut.reads-mslice 𝓤 H A W InflightAction.row ref3 20, Path.refl, (Reads'.as-is 𝓤 H A (Mut.mslice
-              (Referent.rtF (Referent.fInt Syntax.w32)) ref4 21), Mut.reads-mslice 𝓤 H A W (Referent.rtF (Referent.fInt Syntax.w32)) ref4 21,
-              Path.refl, ((Yields.yields-copy 𝓤 H A W (λ ρ. Unit) (Declared.row OpaqueRelayRuntime.the-type) Path.refl (Copies.cStruct
-              OpaqueRelayRuntime.the-type Laws'.the-laws Laws'.the-copy .copy 𝓤 H A W) (Rows.whole (Declared.row OpaqueRelayRuntime.the-type)) (λ x.
-              x) (λ x. x) (λ ρ told. Local.mem-whole 𝓤 H A W (Declared.row OpaqueRelayRuntime.the-type) ρ) λ ρ told. Local.whole-mem 𝓤 H A W
-              (Declared.row OpaqueRelayRuntime.the-type) ρ, Path.refl,), ((Yields.yields-copy 𝓤 H A W (λ ρ. Unit) (Declared.row RelayPacket.the-type)
-              Path.refl (Copies.cStruct RelayPacket.the-type Laws.the-laws Laws.the-copy .copy 𝓤 H A W) (Rows.whole (Declared.row
-              RelayPacket.the-type)) (λ x. x) (λ x. x) (λ ρ told. Local.mem-whole 𝓤 H A W (Declared.row RelayPacket.the-type) ρ) λ ρ told.
-              Local.whole-mem 𝓤 H A W (Declared.row RelayPacket.the-type) ρ, Path.refl,), (ShrSlice.spares-sslice 𝓤 H A W (Referent.rtF (Referent.fInt
-              Syntax.w8)) ref10 5, Shared.reads-sslice 𝓤 H A W (Referent.rtF (Referent.fInt Syntax.w8)) ref10 5, Path.refl, (ShrSlice.spares-sslice 𝓤
-              H A W (Referent.rtF (Referent.fInt Syntax.w8)) ref11 6, Shared.reads-sslice 𝓤 H A W (Referent.rtF (Referent.fInt Syntax.w8)) ref11 6,
-              Path.refl, tt,),),),),),),),) (Reads'.room-gone 𝓤 H A Laws''.mir) (tt, (tt, (tt, (tt, (tt, (tt, tt)))))) Path.refl) d79
-          d81 : Typed.Typed 𝓤 H A 𝓣 E G82 b54 Δ4 at81
-          d81 = Typed.s-seq 𝓤 H A W 𝓣 E G82 G83 b50 b53 Δ4 (Typed.ask s79) at80 (Relend.t-sl-aggregate 𝓤 H A W E (Referent.rtF (Referent.fInt
-              Syntax.w32)) 𝓣 (Relend.asMut (Referent.rtF (Referent.fInt Syntax.w32))) G82 38 39 21 ref4 ref4 (λ x. x) (Scalar.oFld 5 ((Syntax.field 1)
+              pos = 7; st = List.[]; d = 0; at = λ x. x }, (record { pos = 8; st = List.[]; d = 0; at = λ x. x }, (record { pos = 9; ty = Syntax.tyRef
+              (Syntax.named 5) Syntax.imm (Syntax.tyInt Syntax.w8); ref = λ x. x; }, (record { pos = 10; ty = Syntax.tyRef (Syntax.named 6) Syntax.imm
+              (Syntax.tyInt Syntax.w8); ref = λ x. x; }, tt,),),),),),),),),) 14 (18 ∷ 19 ∷ 20 ∷ 21 ∷ 5 ∷ 6 ∷ List.[]) (Call.sub-id 𝓤 H A W (G85
+              .slots)) (Reads'.as-is 𝓤 H A (Mut.mslice RelayCircuit.row ref1 18), Mut.reads-mslice 𝓤 H A W RelayCircuit.row ref1 18, Path.refl,
+              (Reads'.as-is 𝓤 H A (Mut.mslice ReservationUsage.row ref2 19), Mut.reads-mslice 𝓤 H A W ReservationUsage.row ref2 19, Path.refl,
+              (Reads'.as-is 𝓤 H A (Mut.mslice InflightAction.row ref3 20), Mut.reads-mslice 𝓤 H A W InflightAction.row ref3 20, Path.refl,
+              (Reads'.as-is 𝓤 H A (Mut.mslice (Referent.rtF (Referent.fInt Syntax.w32)) ref4 21), Mut.reads-mslice 𝓤 H A W (Referent.rtF
+              (Referent.fInt Syntax.w32)) ref4 21, Path.refl, ((Yields.yields-copy 𝓤 H A W (λ ρ. Unit) (Declared.row OpaqueRelayRuntime.the-type)
+              Path.refl (Copies.cStruct OpaqueRelayRuntime.the-type Laws''.the-laws Laws''.the-copy .copy 𝓤 H A W) (Rows.whole (Declared.row
+              OpaqueRelayRuntime.the-type)) (λ x. x) (λ x. x) (λ ρ told. Local.mem-whole 𝓤 H A W (Declared.row OpaqueRelayRuntime.the-type) ρ) λ ρ
+              told. Local.whole-mem 𝓤 H A W (Declared.row OpaqueRelayRuntime.the-type) ρ, Path.refl,), ((Yields.yields-copy 𝓤 H A W (λ ρ. Unit)
+              (Declared.row Places.the-type) Path.refl (Copies.cStruct Places.the-type Laws.the-laws Laws.the-copy .copy 𝓤 H A W) (Rows.whole
+              (Declared.row Places.the-type)) (λ x. x) (λ x. x) (λ ρ told. Local.mem-whole 𝓤 H A W (Declared.row Places.the-type) ρ) λ ρ told.
+              Local.whole-mem 𝓤 H A W (Declared.row Places.the-type) ρ, Path.refl,), ((Yields.yields-copy 𝓤 H A W (λ ρ. Unit) (Declared.row
+              RelayPacket.the-type) Path.refl (Copies.cStruct RelayPacket.the-type Laws'.the-laws Laws'.the-copy .copy 𝓤 H A W) (Rows.whole
+              (Declared.row RelayPacket.the-type)) (λ x. x) (λ x. x) (λ ρ told. Local.mem-whole 𝓤 H A W (Declared.row RelayPacket.the-type) ρ) λ ρ
+              told. Local.whole-mem 𝓤 H A W (Declared.row RelayPacket.the-type) ρ, Path.refl,), (ShrSlice.spares-sslice 𝓤 H A W (Referent.rtF
+              (Referent.fInt Syntax.w8)) ref10 5, Shared.reads-sslice 𝓤 H A W (Referent.rtF (Referent.fInt Syntax.w8)) ref10 5, Path.refl,
+              (ShrSlice.spares-sslice 𝓤 H A W (Referent.rtF (Referent.fInt Syntax.w8)) ref11 6, Shared.reads-sslice 𝓤 H A W (Referent.rtF
+              (Referent.fInt Syntax.w8)) ref11 6, Path.refl, tt,),),),),),),),),) (Reads'.room-gone 𝓤 H A Laws'''.mir) (tt, (tt, (tt, (tt, (tt, (tt,
+              tt)))))) Path.refl) d82
+          d84 : Typed.Typed 𝓤 H A 𝓣 E G84 b54 Δ4 at84
+          d84 = Typed.s-seq 𝓤 H A W 𝓣 E G84 G85 b50 b53 Δ4 (Typed.ask s81) at83 (Relend.t-sl-aggregate 𝓤 H A W E (Referent.rtF (Referent.fInt
+              Syntax.w32)) 𝓣 (Relend.asMut (Referent.rtF (Referent.fInt Syntax.w32))) G84 39 40 21 ref4 ref4 (λ x. x) (Scalar.oFld 5 ((Syntax.field 1)
               ∷ List.[]) (Syntax.tyInt Syntax.w64) 8 λ v. Shared.lenV (v .0)) (Reads'.as-is 𝓤 H A (Relend.msptr (Referent.rtF (Referent.fInt
               Syntax.w32)) ref4 21)) (Reads'.room-gone 𝓤 H A (Syntax.tyStruct (38 ∷ 91 ∷ 93 ∷ List.[]) (Syntax.tcons ref4 (Syntax.tcons (Syntax.tyInt
               Syntax.w64) Syntax.tnil)))) (Relend.reads-owed-len 𝓤 H A W (Referent.rtF (Referent.fInt Syntax.w32)) ref9 4 21 life4 8 Path.refl,
-              Path.refl,) Path.refl Path.refl λ b o k. tt) d80
-          d82 : Typed.Typed 𝓤 H A 𝓣 E G81 b55 Δ4 at82
-          d82 = Typed.s-seq 𝓤 H A W 𝓣 E G81 G82 b49 b54 Δ4 (Typed.give s78) at81 (Relend.t-sl-relend 𝓤 H A W E (Referent.rtF (Referent.fInt
-              Syntax.w32)) 𝓣 G81 5 38 4 21 ref9 ref4 life4 0 (λ x. x) (Reads'.as-is 𝓤 H A (Mut.mslice (Referent.rtF (Referent.fInt Syntax.w32)) ref9
-              4)) (Reads'.room-gone 𝓤 H A ref4) Path.refl tt Path.refl Path.refl Path.refl λ b o. tt) d81
-          d83 : Typed.Typed 𝓤 H A 𝓣 E G80 b55 Δ4 at83
-          d83 = Typed.g-pre 𝓤 H A W 𝓣 E G80 G81 b55 Δ4 (λ Ψ. Ψ) at82 (Lifetime.g-begin 𝓤 H A W E G80 21 (tt, (tt, ((tt, tt), ((tt, tt), ((tt, tt),
+              Path.refl,) Path.refl Path.refl λ b o k. tt) d83
+          d85 : Typed.Typed 𝓤 H A 𝓣 E G83 b55 Δ4 at85
+          d85 = Typed.s-seq 𝓤 H A W 𝓣 E G83 G84 b49 b54 Δ4 (Typed.give s80) at84 (Relend.t-sl-relend 𝓤 H A W E (Referent.rtF (Referent.fInt
+              Syntax.w32)) 𝓣 G83 5 39 4 21 ref9 ref4 life4 0 (λ x. x) (Reads'.as-is 𝓤 H A (Mut.mslice (Referent.rtF (Referent.fInt Syntax.w32)) ref9
+              4)) (Reads'.room-gone 𝓤 H A ref4) Path.refl tt Path.refl Path.refl Path.refl λ b o. tt) d84
+          d86 : Typed.Typed 𝓤 H A 𝓣 E G82 b55 Δ4 at86
+          d86 = Typed.g-pre 𝓤 H A W 𝓣 E G82 G83 b55 Δ4 (λ Ψ. Ψ) at85 (Lifetime.g-begin 𝓤 H A W E G82 21 (tt, (tt, ((tt, tt), ((tt, tt), ((tt, tt),
               (tt, (tt, (tt, (tt, (tt, (tt, (tt, (tt, (tt, (tt, (tt, (tt, (tt, (tt, (tt, (tt, (tt, (tt, (tt, (tt, (tt, (tt, (tt, (tt, (tt, (tt, (tt,
-              (tt, (tt, (tt, (tt, (tt, (tt, (tt, (tt, (tt, (tt, (tt, (tt, (tt, (tt, (tt, (tt, (tt, (tt, (tt, (tt, (tt, (tt, (tt,
-              tt,),),),),),),),),),),),),),),),),),),),),),),),),),),),),),),),),),),),),),),),),),),),),),),),),),),),),),),)) d82
-          d84 : Typed.Typed 𝓤 H A 𝓣 E G79 b56 Δ4 at84
-          d84 = Typed.s-seq 𝓤 H A W 𝓣 E G79 G80 b48 b55 Δ4 (Typed.ask s76) at83 (Relend.t-sl-aggregate 𝓤 H A W E InflightAction.row 𝓣 (Relend.asMut
-              InflightAction.row) G79 36 37 20 ref3 ref3 (λ x. x) (Scalar.oFld 4 ((Syntax.field 1) ∷ List.[]) (Syntax.tyInt Syntax.w64) 8 λ v.
+              (tt, (tt, (tt, (tt, (tt, (tt, (tt, (tt, (tt, (tt, (tt, (tt, (tt, (tt, (tt, (tt, (tt, (tt, (tt, (tt, (tt, (tt, (tt, (tt,
+              tt,),),),),),),),),),),),),),),),),),),),),),),),),),),),),),),),),),),),),),),),),),),),),),),),),),),),),),),),)) d85
+          d87 : Typed.Typed 𝓤 H A 𝓣 E G81 b56 Δ4 at87
+          d87 = Typed.s-seq 𝓤 H A W 𝓣 E G81 G82 b48 b55 Δ4 (Typed.ask s78) at86 (Relend.t-sl-aggregate 𝓤 H A W E InflightAction.row 𝓣 (Relend.asMut
+              InflightAction.row) G81 37 38 20 ref3 ref3 (λ x. x) (Scalar.oFld 4 ((Syntax.field 1) ∷ List.[]) (Syntax.tyInt Syntax.w64) 8 λ v.
               Shared.lenV (v .0)) (Reads'.as-is 𝓤 H A (Relend.msptr InflightAction.row ref3 20)) (Reads'.room-gone 𝓤 H A (Syntax.tyStruct (38 ∷ 91 ∷
               93 ∷ List.[]) (Syntax.tcons ref3 (Syntax.tcons (Syntax.tyInt Syntax.w64) Syntax.tnil)))) (Relend.reads-owed-len 𝓤 H A W
-              InflightAction.row ref8 3 20 life3 8 Path.refl, Path.refl,) Path.refl Path.refl λ b o k. tt) d83
-          d85 : Typed.Typed 𝓤 H A 𝓣 E G78 b57 Δ4 at85
-          d85 = Typed.s-seq 𝓤 H A W 𝓣 E G78 G79 b47 b56 Δ4 (Typed.give s75) at84 (Relend.t-sl-relend 𝓤 H A W E InflightAction.row 𝓣 G78 4 36 3 20 ref8
+              InflightAction.row ref8 3 20 life3 8 Path.refl, Path.refl,) Path.refl Path.refl λ b o k. tt) d86
+          d88 : Typed.Typed 𝓤 H A 𝓣 E G80 b57 Δ4 at88
+          d88 = Typed.s-seq 𝓤 H A W 𝓣 E G80 G81 b47 b56 Δ4 (Typed.give s77) at87 (Relend.t-sl-relend 𝓤 H A W E InflightAction.row 𝓣 G80 4 37 3 20 ref8
               ref3 life3 0 (λ x. x) (Reads'.as-is 𝓤 H A (Mut.mslice InflightAction.row ref8 3)) (Reads'.room-gone 𝓤 H A ref3) Path.refl tt Path.refl
-              Path.refl Path.refl λ b o. tt) d84
-          d86 : Typed.Typed 𝓤 H A 𝓣 E G77 b57 Δ4 at86
-          d86 = Typed.g-pre 𝓤 H A W 𝓣 E G77 G78 b57 Δ4 (λ Ψ. Ψ) at85 (Lifetime.g-begin 𝓤 H A W E G77 20 (tt, (tt, ((tt, tt), ((tt, tt), (tt, (tt, (tt,
+              Path.refl Path.refl λ b o. tt) d87
+          d89 : Typed.Typed 𝓤 H A 𝓣 E G79 b57 Δ4 at89
+          d89 = Typed.g-pre 𝓤 H A W 𝓣 E G79 G80 b57 Δ4 (λ Ψ. Ψ) at88 (Lifetime.g-begin 𝓤 H A W E G79 20 (tt, (tt, ((tt, tt), ((tt, tt), (tt, (tt, (tt,
               (tt, (tt, (tt, (tt, (tt, (tt, (tt, (tt, (tt, (tt, (tt, (tt, (tt, (tt, (tt, (tt, (tt, (tt, (tt, (tt, (tt, (tt, (tt, (tt, (tt, (tt, (tt,
-              (tt, (tt, (tt, (tt, (tt, (tt, (tt, (tt, (tt, (tt, (tt, (tt, (tt, (tt, (tt, (tt, (tt, (tt, (tt, (tt, (tt,
-              tt,),),),),),),),),),),),),),),),),),),),),),),),),),),),),),),),),),),),),),),),),),),),),),),),),),),),),),),)) d85
-          d87 : Typed.Typed 𝓤 H A 𝓣 E G76 b58 Δ4 at87
-          d87 = Typed.s-seq 𝓤 H A W 𝓣 E G76 G77 b46 b57 Δ4 (Typed.ask s73) at86 (Relend.t-sl-aggregate 𝓤 H A W E ReservationUsage.row 𝓣 (Relend.asMut
-              ReservationUsage.row) G76 34 35 19 ref2 ref2 (λ x. x) (Scalar.oFld 3 ((Syntax.field 1) ∷ List.[]) (Syntax.tyInt Syntax.w64) 8 λ v.
+              (tt, (tt, (tt, (tt, (tt, (tt, (tt, (tt, (tt, (tt, (tt, (tt, (tt, (tt, (tt, (tt, (tt, (tt, (tt, (tt, (tt, (tt,
+              tt,),),),),),),),),),),),),),),),),),),),),),),),),),),),),),),),),),),),),),),),),),),),),),),),),),),),),),),),)) d88
+          d90 : Typed.Typed 𝓤 H A 𝓣 E G78 b58 Δ4 at90
+          d90 = Typed.s-seq 𝓤 H A W 𝓣 E G78 G79 b46 b57 Δ4 (Typed.ask s75) at89 (Relend.t-sl-aggregate 𝓤 H A W E ReservationUsage.row 𝓣 (Relend.asMut
+              ReservationUsage.row) G78 35 36 19 ref2 ref2 (λ x. x) (Scalar.oFld 3 ((Syntax.field 1) ∷ List.[]) (Syntax.tyInt Syntax.w64) 8 λ v.
               Shared.lenV (v .0)) (Reads'.as-is 𝓤 H A (Relend.msptr ReservationUsage.row ref2 19)) (Reads'.room-gone 𝓤 H A (Syntax.tyStruct (38 ∷ 91 ∷
               93 ∷ List.[]) (Syntax.tcons ref2 (Syntax.tcons (Syntax.tyInt Syntax.w64) Syntax.tnil)))) (Relend.reads-owed-len 𝓤 H A W
-              ReservationUsage.row ref7 2 19 life2 8 Path.refl, Path.refl,) Path.refl Path.refl λ b o k. tt) d86
-          d88 : Typed.Typed 𝓤 H A 𝓣 E G75 b59 Δ4 at88
-          d88 = Typed.s-seq 𝓤 H A W 𝓣 E G75 G76 b45 b58 Δ4 (Typed.give s72) at87 (Relend.t-sl-relend 𝓤 H A W E ReservationUsage.row 𝓣 G75 3 34 2 19
+              ReservationUsage.row ref7 2 19 life2 8 Path.refl, Path.refl,) Path.refl Path.refl λ b o k. tt) d89
+          d91 : Typed.Typed 𝓤 H A 𝓣 E G77 b59 Δ4 at91
+          d91 = Typed.s-seq 𝓤 H A W 𝓣 E G77 G78 b45 b58 Δ4 (Typed.give s74) at90 (Relend.t-sl-relend 𝓤 H A W E ReservationUsage.row 𝓣 G77 3 35 2 19
               ref7 ref2 life2 0 (λ x. x) (Reads'.as-is 𝓤 H A (Mut.mslice ReservationUsage.row ref7 2)) (Reads'.room-gone 𝓤 H A ref2) Path.refl tt
-              Path.refl Path.refl Path.refl λ b o. tt) d87
-          d89 : Typed.Typed 𝓤 H A 𝓣 E G74 b59 Δ4 at89
-          d89 = Typed.g-pre 𝓤 H A W 𝓣 E G74 G75 b59 Δ4 (λ Ψ. Ψ) at88 (Lifetime.g-begin 𝓤 H A W E G74 19 (tt, (tt, ((tt, tt), (tt, (tt, (tt, (tt, (tt,
+              Path.refl Path.refl Path.refl λ b o. tt) d90
+          d92 : Typed.Typed 𝓤 H A 𝓣 E G76 b59 Δ4 at92
+          d92 = Typed.g-pre 𝓤 H A W 𝓣 E G76 G77 b59 Δ4 (λ Ψ. Ψ) at91 (Lifetime.g-begin 𝓤 H A W E G76 19 (tt, (tt, ((tt, tt), (tt, (tt, (tt, (tt, (tt,
               (tt, (tt, (tt, (tt, (tt, (tt, (tt, (tt, (tt, (tt, (tt, (tt, (tt, (tt, (tt, (tt, (tt, (tt, (tt, (tt, (tt, (tt, (tt, (tt, (tt, (tt, (tt,
-              (tt, (tt, (tt, (tt, (tt, (tt, (tt, (tt, (tt, (tt, (tt, (tt, (tt, (tt, (tt, (tt, (tt, (tt, (tt, (tt,
-              tt,),),),),),),),),),),),),),),),),),),),),),),),),),),),),),),),),),),),),),),),),),),),),),),),),),),),),),),)) d88
-          d90 : Typed.Typed 𝓤 H A 𝓣 E G73 b60 Δ4 at90
-          d90 = Typed.s-seq 𝓤 H A W 𝓣 E G73 G74 b44 b59 Δ4 (Typed.ask s70) at89 (Relend.t-sl-aggregate 𝓤 H A W E RelayCircuit.row 𝓣 (Relend.asMut
-              RelayCircuit.row) G73 32 33 18 ref1 ref1 (λ x. x) (Scalar.oFld 2 ((Syntax.field 1) ∷ List.[]) (Syntax.tyInt Syntax.w64) 8 λ v.
+              (tt, (tt, (tt, (tt, (tt, (tt, (tt, (tt, (tt, (tt, (tt, (tt, (tt, (tt, (tt, (tt, (tt, (tt, (tt, (tt, (tt,
+              tt,),),),),),),),),),),),),),),),),),),),),),),),),),),),),),),),),),),),),),),),),),),),),),),),),),),),),),),),)) d91
+          d93 : Typed.Typed 𝓤 H A 𝓣 E G75 b60 Δ4 at93
+          d93 = Typed.s-seq 𝓤 H A W 𝓣 E G75 G76 b44 b59 Δ4 (Typed.ask s72) at92 (Relend.t-sl-aggregate 𝓤 H A W E RelayCircuit.row 𝓣 (Relend.asMut
+              RelayCircuit.row) G75 33 34 18 ref1 ref1 (λ x. x) (Scalar.oFld 2 ((Syntax.field 1) ∷ List.[]) (Syntax.tyInt Syntax.w64) 8 λ v.
               Shared.lenV (v .0)) (Reads'.as-is 𝓤 H A (Relend.msptr RelayCircuit.row ref1 18)) (Reads'.room-gone 𝓤 H A (Syntax.tyStruct (38 ∷ 91 ∷ 93
               ∷ List.[]) (Syntax.tcons ref1 (Syntax.tcons (Syntax.tyInt Syntax.w64) Syntax.tnil)))) (Relend.reads-owed-len 𝓤 H A W RelayCircuit.row
-              ref6 1 18 life1 8 Path.refl, Path.refl,) Path.refl Path.refl λ b o k. tt) d89
-          d91 : Typed.Typed 𝓤 H A 𝓣 E G72 b61 Δ4 at91
-          d91 = Typed.s-seq 𝓤 H A W 𝓣 E G72 G73 b43 b60 Δ4 (Typed.give s69) at90 (Relend.t-sl-relend 𝓤 H A W E RelayCircuit.row 𝓣 G72 2 32 1 18 ref6
+              ref6 1 18 life1 8 Path.refl, Path.refl,) Path.refl Path.refl λ b o k. tt) d92
+          d94 : Typed.Typed 𝓤 H A 𝓣 E G74 b61 Δ4 at94
+          d94 = Typed.s-seq 𝓤 H A W 𝓣 E G74 G75 b43 b60 Δ4 (Typed.give s71) at93 (Relend.t-sl-relend 𝓤 H A W E RelayCircuit.row 𝓣 G74 2 33 1 18 ref6
               ref1 life1 0 (λ x. x) (Reads'.as-is 𝓤 H A (Mut.mslice RelayCircuit.row ref6 1)) (Reads'.room-gone 𝓤 H A ref1) Path.refl tt Path.refl
-              Path.refl Path.refl λ b o. tt) d90
-          d92 : Typed.Typed 𝓤 H A 𝓣 E G7 b61 Δ4 at92
-          d92 = Typed.g-pre 𝓤 H A W 𝓣 E G7 G72 b61 Δ4 (λ Ψ. Ψ) at91 (Lifetime.g-begin 𝓤 H A W E G7 18 (tt, (tt, (tt, (tt, (tt, (tt, (tt, (tt, (tt,
+              Path.refl Path.refl λ b o. tt) d93
+          d95 : Typed.Typed 𝓤 H A 𝓣 E G7 b61 Δ4 at95
+          d95 = Typed.g-pre 𝓤 H A W 𝓣 E G7 G74 b61 Δ4 (λ Ψ. Ψ) at94 (Lifetime.g-begin 𝓤 H A W E G7 18 (tt, (tt, (tt, (tt, (tt, (tt, (tt, (tt, (tt,
               (tt, (tt, (tt, (tt, (tt, (tt, (tt, (tt, (tt, (tt, (tt, (tt, (tt, (tt, (tt, (tt, (tt, (tt, (tt, (tt, (tt, (tt, (tt, (tt, (tt, (tt, (tt,
-              (tt, (tt, (tt, (tt, (tt, (tt, (tt, (tt, (tt, (tt, (tt, (tt, (tt, (tt, (tt, (tt, (tt, (tt, (tt,
-              tt,),),),),),),),),),),),),),),),),),),),),),),),),),),),),),),),),),),),),),),),),),),),),),),),),),),),),),),)) d91
-          d93 : Typed.Typed 𝓤 H A 𝓣 E G121 b69 Δ4 at93
-          d93 = Typed.t-exit 𝓤 H A W 𝓣 E 1 Δ4 tt
-          d94 : Typed.Typed 𝓤 H A 𝓣 E G120 b69 Δ4 at94
-          d94 = Typed.g-pre 𝓤 H A W 𝓣 E G120 G121 b69 Δ4 (λ Ψ. Ψ) at93 (Lifetime.g-forget 𝓤 H A W E G120 24 Row.dead Path.refl) d93
-          d95 : Typed.Typed 𝓤 H A 𝓣 E G119 b69 Δ4 at95
-          d95 = Typed.g-pre 𝓤 H A W 𝓣 E G119 G120 b69 Δ4 (Typed.give s116) at94 (Know.g-sl-known 𝓤 H A W (Referent.fInt Syntax.w32) E G119 5 4 ref9
+              (tt, (tt, (tt, (tt, (tt, (tt, (tt, (tt, (tt, (tt, (tt, (tt, (tt, (tt, (tt, (tt, (tt, (tt, (tt, (tt,
+              tt,),),),),),),),),),),),),),),),),),),),),),),),),),),),),),),),),),),),),),),),),),),),),),),),),),),),),),),),)) d94
+          d96 : Typed.Typed 𝓤 H A 𝓣 E G125 b69 Δ4 at96
+          d96 = Typed.t-exit 𝓤 H A W 𝓣 E 1 Δ4 tt
+          d97 : Typed.Typed 𝓤 H A 𝓣 E G124 b69 Δ4 at97
+          d97 = Typed.g-pre 𝓤 H A W 𝓣 E G124 G125 b69 Δ4 (λ Ψ. Ψ) at96 (Lifetime.g-forget 𝓤 H A W E G124 24 Row.dead Path.refl) d96
+          d98 : Typed.Typed 𝓤 H A 𝓣 E G123 b69 Δ4 at98
+          d98 = Typed.g-pre 𝓤 H A W 𝓣 E G123 G124 b69 Δ4 (Typed.give s120) at97 (Know.g-sl-known 𝓤 H A W (Referent.fInt Syntax.w32) E G123 5 4 ref9
               life4 0 (λ x. x) record { fits = Dec.lit< tt } (Reads'.as-is 𝓤 H A (Mut.mslice (Referent.rtF (Referent.fInt Syntax.w32)) ref9 4))
-              Path.refl tt) d94
-          d96 : Typed.Typed 𝓤 H A 𝓣 E G118 b69 Δ4 at96
-          d96 = Typed.g-pre 𝓤 H A W 𝓣 E G118 G119 b69 Δ4 (Typed.both s115) at95 (Relend.g-back-sl 𝓤 H A W E (Referent.rtF (Referent.fInt Syntax.w32))
-              G118 45 5 4 24 ref9 ref4 life4 (λ x. x) (λ x. x) (Reads'.as-is 𝓤 H A (Mut.msleft (Referent.rtF (Referent.fInt Syntax.w32)) ref4))
-              (Reads'.as-is 𝓤 H A (Relend.mslice-owed (Referent.rtF (Referent.fInt Syntax.w32)) ref9 4 24 life4)) Path.refl Path.refl) d95
-          d97 : Typed.Typed 𝓤 H A 𝓣 E G117 b69 Δ4 at97
-          d97 = Typed.g-pre 𝓤 H A W 𝓣 E G117 G118 b69 Δ4 (λ Ψ. Ψ) at96 (Lifetime.g-end 𝓤 H A W E G117 24 Path.refl) d96
-          d98 : Typed.Typed 𝓤 H A 𝓣 E G116 b69 Δ4 at98
-          d98 = Typed.g-pre 𝓤 H A W 𝓣 E G116 G117 b69 Δ4 (λ Ψ. Ψ) at97 (Lifetime.g-forget 𝓤 H A W E G116 23 Row.dead Path.refl) d97
-          d99 : Typed.Typed 𝓤 H A 𝓣 E G115 b69 Δ4 at99
-          d99 = Typed.g-pre 𝓤 H A W 𝓣 E G115 G116 b69 Δ4 (Typed.both s112) at98 (Relend.g-back-sl 𝓤 H A W E InflightAction.row G115 43 4 3 23 ref8
+              Path.refl tt) d97
+          d99 : Typed.Typed 𝓤 H A 𝓣 E G122 b69 Δ4 at99
+          d99 = Typed.g-pre 𝓤 H A W 𝓣 E G122 G123 b69 Δ4 (Typed.both s119) at98 (Relend.g-back-sl 𝓤 H A W E (Referent.rtF (Referent.fInt Syntax.w32))
+              G122 46 5 4 24 ref9 ref4 life4 (λ x. x) (λ x. x) (Reads'.as-is 𝓤 H A (Mut.msleft (Referent.rtF (Referent.fInt Syntax.w32)) ref4))
+              (Reads'.as-is 𝓤 H A (Relend.mslice-owed (Referent.rtF (Referent.fInt Syntax.w32)) ref9 4 24 life4)) Path.refl Path.refl) d98
+          d100 : Typed.Typed 𝓤 H A 𝓣 E G121 b69 Δ4 at100
+          d100 = Typed.g-pre 𝓤 H A W 𝓣 E G121 G122 b69 Δ4 (λ Ψ. Ψ) at99 (Lifetime.g-end 𝓤 H A W E G121 24 Path.refl) d99
+          d101 : Typed.Typed 𝓤 H A 𝓣 E G120 b69 Δ4 at101
+          d101 = Typed.g-pre 𝓤 H A W 𝓣 E G120 G121 b69 Δ4 (λ Ψ. Ψ) at100 (Lifetime.g-forget 𝓤 H A W E G120 23 Row.dead Path.refl) d100
+          d102 : Typed.Typed 𝓤 H A 𝓣 E G119 b69 Δ4 at102
+          d102 = Typed.g-pre 𝓤 H A W 𝓣 E G119 G120 b69 Δ4 (Typed.both s116) at101 (Relend.g-back-sl 𝓤 H A W E InflightAction.row G119 44 4 3 23 ref8
               ref3 life3 (λ x. x) (λ x. x) (Reads'.as-is 𝓤 H A (Mut.msleft InflightAction.row ref3)) (Reads'.as-is 𝓤 H A (Relend.mslice-owed
-              InflightAction.row ref8 3 23 life3)) Path.refl Path.refl) d98
-          d100 : Typed.Typed 𝓤 H A 𝓣 E G114 b69 Δ4 at100
-          d100 = Typed.g-pre 𝓤 H A W 𝓣 E G114 G115 b69 Δ4 (λ Ψ. Ψ) at99 (Lifetime.g-end 𝓤 H A W E G114 23 Path.refl) d99
-          d101 : Typed.Typed 𝓤 H A 𝓣 E G113 b69 Δ4 at101
-          d101 = Typed.g-pre 𝓤 H A W 𝓣 E G113 G114 b69 Δ4 (λ Ψ. Ψ) at100 (Lifetime.g-forget 𝓤 H A W E G113 22 Row.dead Path.refl) d100
-          d102 : Typed.Typed 𝓤 H A 𝓣 E G112 b69 Δ4 at102
-          d102 = Typed.g-pre 𝓤 H A W 𝓣 E G112 G113 b69 Δ4 (Typed.both s109) at101 (Relend.g-back-sl 𝓤 H A W E RelayCircuit.row G112 41 2 1 22 ref6
+              InflightAction.row ref8 3 23 life3)) Path.refl Path.refl) d101
+          d103 : Typed.Typed 𝓤 H A 𝓣 E G118 b69 Δ4 at103
+          d103 = Typed.g-pre 𝓤 H A W 𝓣 E G118 G119 b69 Δ4 (λ Ψ. Ψ) at102 (Lifetime.g-end 𝓤 H A W E G118 23 Path.refl) d102
+          d104 : Typed.Typed 𝓤 H A 𝓣 E G117 b69 Δ4 at104
+          d104 = Typed.g-pre 𝓤 H A W 𝓣 E G117 G118 b69 Δ4 (λ Ψ. Ψ) at103 (Lifetime.g-forget 𝓤 H A W E G117 22 Row.dead Path.refl) d103
+          d105 : Typed.Typed 𝓤 H A 𝓣 E G116 b69 Δ4 at105
+          d105 = Typed.g-pre 𝓤 H A W 𝓣 E G116 G117 b69 Δ4 (Typed.both s113) at104 (Relend.g-back-sl 𝓤 H A W E RelayCircuit.row G116 42 2 1 22 ref6
               ref1 life1 (λ x. x) (λ x. x) (Reads'.as-is 𝓤 H A (Mut.msleft RelayCircuit.row ref1)) (Reads'.as-is 𝓤 H A (Relend.mslice-owed
-              RelayCircuit.row ref6 1 22 life1)) Path.refl Path.refl) d101
-          d103 : Typed.Typed 𝓤 H A 𝓣 E G111 b69 Δ4 at103
-          d103 = Typed.g-pre 𝓤 H A W 𝓣 E G111 G112 b69 Δ4 (λ Ψ. Ψ) at102 (Lifetime.g-end 𝓤 H A W E G111 22 Path.refl) d102
-          d104 : Typed.Typed 𝓤 H A 𝓣 E G110 b69 Δ4 at104
-          d104 = Typed.g-pre 𝓤 H A W 𝓣 E G110 G111 b69 Δ4 (Typed.pass T110 T111 s107) at103 (Scalar.g-room 𝓤 H A W E G110 7 Laws.mir (Local.room-whole
-              𝓤 H A W (Declared.row RelayPacket.the-type) Laws.mir Path.refl)) d103
-          d105 : Typed.Typed 𝓤 H A 𝓣 E G109 b69 Δ4 at105
-          d105 = Typed.g-pre 𝓤 H A W 𝓣 E G109 G110 b69 Δ4 (Typed.pass T109 T110 s106) at104 (Scalar.g-room 𝓤 H A W E G109 6 Laws'.mir
-              (Local.room-whole 𝓤 H A W (Declared.row OpaqueRelayRuntime.the-type) Laws'.mir Path.refl)) d104
-          d106 : Typed.Typed 𝓤 H A 𝓣 E G108 b70 Δ4 at106
-          d106 = Typed.s-seq 𝓤 H A W 𝓣 E G108 G109 b68 b69 Δ4 (Typed.both s105) at105 (Plain.t-call-plain 𝓤 H A W 𝓣 5 ps·3 r·3 (claims· .6) (claims·
-              .7) "hnsr_circuit::handle_window::handle_window" (known .3) E (λ pos β. β) G108 (record { pos = 41; ty = Syntax.tyRef Syntax.erased
-              Syntax.mut RelayCircuit.to; ref = λ x. x; }, (record { pos = 43; ty = Syntax.tyRef Syntax.erased Syntax.mut InflightAction.to; ref = λ
-              x. x; }, (record { pos = 45; ty = Syntax.tyRef Syntax.erased Syntax.mut (Syntax.tyInt Syntax.w32); ref = λ x. x; }, (record { pos = 6;
-              st = List.[]; d = 0; at = λ x. x }, (record { pos = 7; st = List.[]; d = 0; at = λ x. x }, (record { pos = 8; ty = Syntax.tyRef
-              (Syntax.named 5) Syntax.imm (Syntax.tyInt Syntax.w8); ref = λ x. x; }, (record { pos = 9; ty = Syntax.tyRef (Syntax.named 6) Syntax.imm
-              (Syntax.tyInt Syntax.w8); ref = λ x. x; }, tt,),),),),),),) 13 (22 ∷ 23 ∷ 24 ∷ 5 ∷ 6 ∷ List.[]) (Call.sub-id 𝓤 H A W (G108 .slots))
-              (Reads'.as-is 𝓤 H A (Mut.mslice RelayCircuit.row ref1 22), Mut.reads-mslice 𝓤 H A W RelayCircuit.row ref1 22, Path.refl, (Reads'.as-is 𝓤
-              H A (Mut.mslice InflightAction.row ref3 23), Mut.reads-mslice 𝓤 H A W InflightAction.row ref3 23, Path.refl, (Reads'.as-is 𝓤 H A
-              (Mut.mslice (Referent.rtF (Referent.fInt Syntax.w32)) ref4 24), Mut.reads-mslice 𝓤 H A W (Referent.rtF (Referent.fInt Syntax.w32)) ref4
-              24, Path.refl, ((Yields.yields-copy 𝓤 H A W (λ ρ. Unit) (Declared.row OpaqueRelayRuntime.the-type) Path.refl (Copies.cStruct
-              OpaqueRelayRuntime.the-type Laws'.the-laws Laws'.the-copy .copy 𝓤 H A W) (Rows.whole (Declared.row OpaqueRelayRuntime.the-type)) (λ x.
-              x) (λ x. x) (λ ρ told. Local.mem-whole 𝓤 H A W (Declared.row OpaqueRelayRuntime.the-type) ρ) λ ρ told. Local.whole-mem 𝓤 H A W
-              (Declared.row OpaqueRelayRuntime.the-type) ρ, Path.refl,), ((Yields.yields-copy 𝓤 H A W (λ ρ. Unit) (Declared.row RelayPacket.the-type)
-              Path.refl (Copies.cStruct RelayPacket.the-type Laws.the-laws Laws.the-copy .copy 𝓤 H A W) (Rows.whole (Declared.row
-              RelayPacket.the-type)) (λ x. x) (λ x. x) (λ ρ told. Local.mem-whole 𝓤 H A W (Declared.row RelayPacket.the-type) ρ) λ ρ told.
-              Local.whole-mem 𝓤 H A W (Declared.row RelayPacket.the-type) ρ, Path.refl,), (ShrSlice.spares-sslice 𝓤 H A W (Referent.rtF (Referent.fInt
-              Syntax.w8)) ref10 5, Shared.reads-sslice 𝓤 H A W (Referent.rtF (Referent.fInt Syntax.w8)) ref10 5, Path.refl, (ShrSlice.spares-sslice 𝓤
-              H A W (Referent.rtF (Referent.fInt Syntax.w8)) ref11 6, Shared.reads-sslice 𝓤 H A W (Referent.rtF (Referent.fInt Syntax.w8)) ref11 6,
-              Path.refl, tt,),),),),),),) (Reads'.room-gone 𝓤 H A Laws''.mir) (tt, (tt, (tt, (tt, (tt, tt))))) Path.refl) d105
-          d107 : Typed.Typed 𝓤 H A 𝓣 E G107 b71 Δ4 at107
-          d107 = Typed.s-seq 𝓤 H A W 𝓣 E G107 G108 b67 b70 Δ4 (Typed.ask s104) at106 (Relend.t-sl-aggregate 𝓤 H A W E (Referent.rtF (Referent.fInt
-              Syntax.w32)) 𝓣 (Relend.asMut (Referent.rtF (Referent.fInt Syntax.w32))) G107 44 45 24 ref4 ref4 (λ x. x) (Scalar.oFld 5 ((Syntax.field
+              RelayCircuit.row ref6 1 22 life1)) Path.refl Path.refl) d104
+          d106 : Typed.Typed 𝓤 H A 𝓣 E G115 b69 Δ4 at106
+          d106 = Typed.g-pre 𝓤 H A W 𝓣 E G115 G116 b69 Δ4 (λ Ψ. Ψ) at105 (Lifetime.g-end 𝓤 H A W E G115 22 Path.refl) d105
+          d107 : Typed.Typed 𝓤 H A 𝓣 E G114 b69 Δ4 at107
+          d107 = Typed.g-pre 𝓤 H A W 𝓣 E G114 G115 b69 Δ4 (Typed.pass T114 T115 s111) at106 (Scalar.g-room 𝓤 H A W E G114 8 Laws'.mir
+              (Local.room-whole 𝓤 H A W (Declared.row RelayPacket.the-type) Laws'.mir Path.refl)) d106
+          d108 : Typed.Typed 𝓤 H A 𝓣 E G113 b69 Δ4 at108
+          d108 = Typed.g-pre 𝓤 H A W 𝓣 E G113 G114 b69 Δ4 (Typed.pass T113 T114 s110) at107 (Scalar.g-room 𝓤 H A W E G113 7 Laws.mir (Local.room-whole
+              𝓤 H A W (Declared.row Places.the-type) Laws.mir Path.refl)) d107
+          d109 : Typed.Typed 𝓤 H A 𝓣 E G112 b69 Δ4 at109
+          d109 = Typed.g-pre 𝓤 H A W 𝓣 E G112 G113 b69 Δ4 (Typed.pass T112 T113 s109) at108 (Scalar.g-room 𝓤 H A W E G112 6 Laws''.mir
+              (Local.room-whole 𝓤 H A W (Declared.row OpaqueRelayRuntime.the-type) Laws''.mir Path.refl)) d108
+          d110 : Typed.Typed 𝓤 H A 𝓣 E G111 b70 Δ4 at110
+          d110 = Typed.s-seq 𝓤 H A W 𝓣 E G111 G112 b68 b69 Δ4 (Typed.both s108) at109 (Plain.t-call-plain 𝓤 H A W 𝓣 5 ps·3 r·3 (claims· .6) (claims·
+              .7) "hnsr_circuit::handle_window::handle_window" (known .3) E (λ pos β. β) G111 (record { pos = 42; ty = Syntax.tyRef Syntax.erased
+              Syntax.mut RelayCircuit.to; ref = λ x. x; }, (record { pos = 44; ty = Syntax.tyRef Syntax.erased Syntax.mut InflightAction.to; ref = λ
+              x. x; }, (record { pos = 46; ty = Syntax.tyRef Syntax.erased Syntax.mut (Syntax.tyInt Syntax.w32); ref = λ x. x; }, (record { pos = 6;
+              st = List.[]; d = 0; at = λ x. x }, (record { pos = 7; st = List.[]; d = 0; at = λ x. x }, (record { pos = 8; st = List.[]; d = 0; at =
+              λ x. x }, (record { pos = 9; ty = Syntax.tyRef (Syntax.named 5) Syntax.imm (Syntax.tyInt Syntax.w8); ref = λ x. x; }, (record { pos =
+              10; ty = Syntax.tyRef (Syntax.named 6) Syntax.imm (Syntax.tyInt Syntax.w8); ref = λ x. x; }, tt,),),),),),),),) 14 (22 ∷ 23 ∷ 24 ∷ 5 ∷ 6
+              ∷ List.[]) (Call.sub-id 𝓤 H A W (G111 .slots)) (Reads'.as-is 𝓤 H A (Mut.mslice RelayCircuit.row ref1 22), Mut.reads-mslice 𝓤 H A W
+              RelayCircuit.row ref1 22, Path.refl, (Reads'.as-is 𝓤 H A (Mut.mslice InflightAction.row ref3 23), Mut.reads-mslice 𝓤 H A W
+              InflightAction.row ref3 23, Path.refl, (Reads'.as-is 𝓤 H A (Mut.mslice (Referent.rtF (Referent.fInt Syntax.w32)) ref4 24),
+              Mut.reads-mslice 𝓤 H A W (Referent.rtF (Referent.fInt Syntax.w32)) ref4 24, Path.refl, ((Yields.yields-copy 𝓤 H A W (λ ρ. Unit)
+              (Declared.row OpaqueRelayRuntime.the-type) Path.refl (Copies.cStruct OpaqueRelayRuntime.the-type Laws''.the-laws Laws''.the-copy .copy 𝓤
+              H A W) (Rows.whole (Declared.row OpaqueRelayRuntime.the-type)) (λ x. x) (λ x. x) (λ ρ told. Local.mem-whole 𝓤 H A W (Declared.row
+              OpaqueRelayRuntime.the-type) ρ) λ ρ told. Local.whole-mem 𝓤 H A W (Declared.row OpaqueRelayRuntime.the-type) ρ, Path.refl,),
+              ((Yields.yields-copy 𝓤 H A W (λ ρ. Unit) (Declared.row Places.the-type) Path.refl (Copies.cStruct Places.the-type Laws.the-laws
+              Laws.the-copy .copy 𝓤 H A W) (Rows.whole (Declared.row Places.the-type)) (λ x. x) (λ x. x) (λ ρ told. Local.mem-whole 𝓤 H A W
+              (Declared.row Places.the-type) ρ) λ ρ told. Local.whole-mem 𝓤 H A W (Declared.row Places.the-type) ρ, Path.refl,), ((Yields.yields-copy
+              𝓤 H A W (λ ρ. Unit) (Declared.row RelayPacket.the-type) Path.refl (Copies.cStruct RelayPacket.the-type Laws'.the-laws Laws'.the-copy
+              .copy 𝓤 H A W) (Rows.whole (Declared.row RelayPacket.the-type)) (λ x. x) (λ x. x) (λ ρ told. Local.mem-whole 𝓤 H A W (Declared.row
+              RelayPacket.the-type) ρ) λ ρ told. Local.whole-mem 𝓤 H A W (Declared.row RelayPacket.the-type) ρ, Path.refl,), (ShrSlice.spares-sslice 𝓤
+              H A W (Referent.rtF (Referent.fInt Syntax.w8)) ref10 5, Shared.reads-sslice 𝓤 H A W (Referent.rtF (Referent.fInt Syntax.w8)) ref10 5,
+              Path.refl, (ShrSlice.spares-sslice 𝓤 H A W (Referent.rtF (Referent.fInt Syntax.w8)) ref11 6, Shared.reads-sslice 𝓤 H A W (Referent.rtF
+              (Referent.fInt Syntax.w8)) ref11 6, Path.refl, tt,),),),),),),),) (Reads'.room-gone 𝓤 H A Laws'''.mir) (tt, (tt, (tt, (tt, (tt, tt)))))
+              Path.refl) d109
+          d111 : Typed.Typed 𝓤 H A 𝓣 E G110 b71 Δ4 at111
+          d111 = Typed.s-seq 𝓤 H A W 𝓣 E G110 G111 b67 b70 Δ4 (Typed.ask s107) at110 (Relend.t-sl-aggregate 𝓤 H A W E (Referent.rtF (Referent.fInt
+              Syntax.w32)) 𝓣 (Relend.asMut (Referent.rtF (Referent.fInt Syntax.w32))) G110 45 46 24 ref4 ref4 (λ x. x) (Scalar.oFld 5 ((Syntax.field
               1) ∷ List.[]) (Syntax.tyInt Syntax.w64) 8 λ v. Shared.lenV (v .0)) (Reads'.as-is 𝓤 H A (Relend.msptr (Referent.rtF (Referent.fInt
               Syntax.w32)) ref4 24)) (Reads'.room-gone 𝓤 H A (Syntax.tyStruct (38 ∷ 91 ∷ 93 ∷ List.[]) (Syntax.tcons ref4 (Syntax.tcons (Syntax.tyInt
               Syntax.w64) Syntax.tnil)))) (Relend.reads-owed-len 𝓤 H A W (Referent.rtF (Referent.fInt Syntax.w32)) ref9 4 24 life4 8 Path.refl,
-              Path.refl,) Path.refl Path.refl λ b o k. tt) d106
-          d108 : Typed.Typed 𝓤 H A 𝓣 E G106 b72 Δ4 at108
-          d108 = Typed.s-seq 𝓤 H A W 𝓣 E G106 G107 b66 b71 Δ4 (Typed.give s103) at107 (Relend.t-sl-relend 𝓤 H A W E (Referent.rtF (Referent.fInt
-              Syntax.w32)) 𝓣 G106 5 44 4 24 ref9 ref4 life4 0 (λ x. x) (Reads'.as-is 𝓤 H A (Mut.mslice (Referent.rtF (Referent.fInt Syntax.w32)) ref9
-              4)) (Reads'.room-gone 𝓤 H A ref4) Path.refl tt Path.refl Path.refl Path.refl λ b o. tt) d107
-          d109 : Typed.Typed 𝓤 H A 𝓣 E G105 b72 Δ4 at109
-          d109 = Typed.g-pre 𝓤 H A W 𝓣 E G105 G106 b72 Δ4 (λ Ψ. Ψ) at108 (Lifetime.g-begin 𝓤 H A W E G105 24 (tt, (tt, ((tt, tt), (tt, ((tt, tt), (tt,
+              Path.refl,) Path.refl Path.refl λ b o k. tt) d110
+          d112 : Typed.Typed 𝓤 H A 𝓣 E G109 b72 Δ4 at112
+          d112 = Typed.s-seq 𝓤 H A W 𝓣 E G109 G110 b66 b71 Δ4 (Typed.give s106) at111 (Relend.t-sl-relend 𝓤 H A W E (Referent.rtF (Referent.fInt
+              Syntax.w32)) 𝓣 G109 5 45 4 24 ref9 ref4 life4 0 (λ x. x) (Reads'.as-is 𝓤 H A (Mut.mslice (Referent.rtF (Referent.fInt Syntax.w32)) ref9
+              4)) (Reads'.room-gone 𝓤 H A ref4) Path.refl tt Path.refl Path.refl Path.refl λ b o. tt) d111
+          d113 : Typed.Typed 𝓤 H A 𝓣 E G108 b72 Δ4 at113
+          d113 = Typed.g-pre 𝓤 H A W 𝓣 E G108 G109 b72 Δ4 (λ Ψ. Ψ) at112 (Lifetime.g-begin 𝓤 H A W E G108 24 (tt, (tt, ((tt, tt), (tt, ((tt, tt), (tt,
               (tt, (tt, (tt, (tt, (tt, (tt, (tt, (tt, (tt, (tt, (tt, (tt, (tt, (tt, (tt, (tt, (tt, (tt, (tt, (tt, (tt, (tt, (tt, (tt, (tt, (tt, (tt,
-              (tt, (tt, (tt, (tt, (tt, (tt, (tt, (tt, (tt, (tt, (tt, (tt, (tt, (tt, (tt, (tt, (tt, (tt, (tt, (tt, (tt, (tt,
-              tt,),),),),),),),),),),),),),),),),),),),),),),),),),),),),),),),),),),),),),),),),),),),),),),),),),),),),),),)) d108
-          d110 : Typed.Typed 𝓤 H A 𝓣 E G104 b73 Δ4 at110
-          d110 = Typed.s-seq 𝓤 H A W 𝓣 E G104 G105 b65 b72 Δ4 (Typed.ask s101) at109 (Relend.t-sl-aggregate 𝓤 H A W E InflightAction.row 𝓣
-              (Relend.asMut InflightAction.row) G104 42 43 23 ref3 ref3 (λ x. x) (Scalar.oFld 4 ((Syntax.field 1) ∷ List.[]) (Syntax.tyInt Syntax.w64)
+              (tt, (tt, (tt, (tt, (tt, (tt, (tt, (tt, (tt, (tt, (tt, (tt, (tt, (tt, (tt, (tt, (tt, (tt, (tt, (tt, (tt, (tt, (tt,
+              tt,),),),),),),),),),),),),),),),),),),),),),),),),),),),),),),),),),),),),),),),),),),),),),),),),),),),),),),),)) d112
+          d114 : Typed.Typed 𝓤 H A 𝓣 E G107 b73 Δ4 at114
+          d114 = Typed.s-seq 𝓤 H A W 𝓣 E G107 G108 b65 b72 Δ4 (Typed.ask s104) at113 (Relend.t-sl-aggregate 𝓤 H A W E InflightAction.row 𝓣
+              (Relend.asMut InflightAction.row) G107 43 44 23 ref3 ref3 (λ x. x) (Scalar.oFld 4 ((Syntax.field 1) ∷ List.[]) (Syntax.tyInt Syntax.w64)
               8 λ v. Shared.lenV (v .0)) (Reads'.as-is 𝓤 H A (Relend.msptr InflightAction.row ref3 23)) (Reads'.room-gone 𝓤 H A (Syntax.tyStruct (38 ∷
               91 ∷ 93 ∷ List.[]) (Syntax.tcons ref3 (Syntax.tcons (Syntax.tyInt Syntax.w64) Syntax.tnil)))) (Relend.reads-owed-len 𝓤 H A W
-              InflightAction.row ref8 3 23 life3 8 Path.refl, Path.refl,) Path.refl Path.refl λ b o k. tt) d109
-          d111 : Typed.Typed 𝓤 H A 𝓣 E G103 b74 Δ4 at111
-          d111 = Typed.s-seq 𝓤 H A W 𝓣 E G103 G104 b64 b73 Δ4 (Typed.give s100) at110 (Relend.t-sl-relend 𝓤 H A W E InflightAction.row 𝓣 G103 4 42 3
+              InflightAction.row ref8 3 23 life3 8 Path.refl, Path.refl,) Path.refl Path.refl λ b o k. tt) d113
+          d115 : Typed.Typed 𝓤 H A 𝓣 E G106 b74 Δ4 at115
+          d115 = Typed.s-seq 𝓤 H A W 𝓣 E G106 G107 b64 b73 Δ4 (Typed.give s103) at114 (Relend.t-sl-relend 𝓤 H A W E InflightAction.row 𝓣 G106 4 43 3
               23 ref8 ref3 life3 0 (λ x. x) (Reads'.as-is 𝓤 H A (Mut.mslice InflightAction.row ref8 3)) (Reads'.room-gone 𝓤 H A ref3) Path.refl tt
-              Path.refl Path.refl Path.refl λ b o. tt) d110
-          d112 : Typed.Typed 𝓤 H A 𝓣 E G102 b74 Δ4 at112
-          d112 = Typed.g-pre 𝓤 H A W 𝓣 E G102 G103 b74 Δ4 (λ Ψ. Ψ) at111 (Lifetime.g-begin 𝓤 H A W E G102 23 (tt, (tt, ((tt, tt), (tt, (tt, (tt, (tt,
+              Path.refl Path.refl Path.refl λ b o. tt) d114
+          d116 : Typed.Typed 𝓤 H A 𝓣 E G105 b74 Δ4 at116
+          d116 = Typed.g-pre 𝓤 H A W 𝓣 E G105 G106 b74 Δ4 (λ Ψ. Ψ) at115 (Lifetime.g-begin 𝓤 H A W E G105 23 (tt, (tt, ((tt, tt), (tt, (tt, (tt, (tt,
               (tt, (tt, (tt, (tt, (tt, (tt, (tt, (tt, (tt, (tt, (tt, (tt, (tt, (tt, (tt, (tt, (tt, (tt, (tt, (tt, (tt, (tt, (tt, (tt, (tt, (tt, (tt,
-              (tt, (tt, (tt, (tt, (tt, (tt, (tt, (tt, (tt, (tt, (tt, (tt, (tt, (tt, (tt, (tt, (tt, (tt, (tt, (tt, (tt,
-              tt,),),),),),),),),),),),),),),),),),),),),),),),),),),),),),),),),),),),),),),),),),),),),),),),),),),),),),),)) d111
-          d113 : Typed.Typed 𝓤 H A 𝓣 E G101 b75 Δ4 at113
-          d113 = Typed.s-seq 𝓤 H A W 𝓣 E G101 G102 b63 b74 Δ4 (Typed.ask s98) at112 (Relend.t-sl-aggregate 𝓤 H A W E RelayCircuit.row 𝓣 (Relend.asMut
-              RelayCircuit.row) G101 40 41 22 ref1 ref1 (λ x. x) (Scalar.oFld 2 ((Syntax.field 1) ∷ List.[]) (Syntax.tyInt Syntax.w64) 8 λ v.
+              (tt, (tt, (tt, (tt, (tt, (tt, (tt, (tt, (tt, (tt, (tt, (tt, (tt, (tt, (tt, (tt, (tt, (tt, (tt, (tt, (tt, (tt,
+              tt,),),),),),),),),),),),),),),),),),),),),),),),),),),),),),),),),),),),),),),),),),),),),),),),),),),),),),),),)) d115
+          d117 : Typed.Typed 𝓤 H A 𝓣 E G104 b75 Δ4 at117
+          d117 = Typed.s-seq 𝓤 H A W 𝓣 E G104 G105 b63 b74 Δ4 (Typed.ask s101) at116 (Relend.t-sl-aggregate 𝓤 H A W E RelayCircuit.row 𝓣 (Relend.asMut
+              RelayCircuit.row) G104 41 42 22 ref1 ref1 (λ x. x) (Scalar.oFld 2 ((Syntax.field 1) ∷ List.[]) (Syntax.tyInt Syntax.w64) 8 λ v.
               Shared.lenV (v .0)) (Reads'.as-is 𝓤 H A (Relend.msptr RelayCircuit.row ref1 22)) (Reads'.room-gone 𝓤 H A (Syntax.tyStruct (38 ∷ 91 ∷ 93
               ∷ List.[]) (Syntax.tcons ref1 (Syntax.tcons (Syntax.tyInt Syntax.w64) Syntax.tnil)))) (Relend.reads-owed-len 𝓤 H A W RelayCircuit.row
-              ref6 1 22 life1 8 Path.refl, Path.refl,) Path.refl Path.refl λ b o k. tt) d112
-          d114 : Typed.Typed 𝓤 H A 𝓣 E G100 b76 Δ4 at114
-          d114 = Typed.s-seq 𝓤 H A W 𝓣 E G100 G101 b62 b75 Δ4 (Typed.give s97) at113 (Relend.t-sl-relend 𝓤 H A W E RelayCircuit.row 𝓣 G100 2 40 1 22
+              ref6 1 22 life1 8 Path.refl, Path.refl,) Path.refl Path.refl λ b o k. tt) d116
+          d118 : Typed.Typed 𝓤 H A 𝓣 E G103 b76 Δ4 at118
+          d118 = Typed.s-seq 𝓤 H A W 𝓣 E G103 G104 b62 b75 Δ4 (Typed.give s100) at117 (Relend.t-sl-relend 𝓤 H A W E RelayCircuit.row 𝓣 G103 2 41 1 22
               ref6 ref1 life1 0 (λ x. x) (Reads'.as-is 𝓤 H A (Mut.mslice RelayCircuit.row ref6 1)) (Reads'.room-gone 𝓤 H A ref1) Path.refl tt
-              Path.refl Path.refl Path.refl λ b o. tt) d113
-          d115 : Typed.Typed 𝓤 H A 𝓣 E G7 b76 Δ4 at115
-          d115 = Typed.g-pre 𝓤 H A W 𝓣 E G7 G100 b76 Δ4 (λ Ψ. Ψ) at114 (Lifetime.g-begin 𝓤 H A W E G7 22 (tt, (tt, (tt, (tt, (tt, (tt, (tt, (tt, (tt,
+              Path.refl Path.refl Path.refl λ b o. tt) d117
+          d119 : Typed.Typed 𝓤 H A 𝓣 E G7 b76 Δ4 at119
+          d119 = Typed.g-pre 𝓤 H A W 𝓣 E G7 G103 b76 Δ4 (λ Ψ. Ψ) at118 (Lifetime.g-begin 𝓤 H A W E G7 22 (tt, (tt, (tt, (tt, (tt, (tt, (tt, (tt, (tt,
               (tt, (tt, (tt, (tt, (tt, (tt, (tt, (tt, (tt, (tt, (tt, (tt, (tt, (tt, (tt, (tt, (tt, (tt, (tt, (tt, (tt, (tt, (tt, (tt, (tt, (tt, (tt,
-              (tt, (tt, (tt, (tt, (tt, (tt, (tt, (tt, (tt, (tt, (tt, (tt, (tt, (tt, (tt, (tt, (tt, (tt, (tt,
-              tt,),),),),),),),),),),),),),),),),),),),),),),),),),),),),),),),),),),),),),),),),),),),),),),),),),),),),),),)) d114
-          d116 : Typed.Typed 𝓤 H A 𝓣 E G122 b77 Δ4 at116
-          d116 = Typed.t-exit 𝓤 H A W 𝓣 E 0 Δ4 tt
-          d117 : Typed.Typed 𝓤 H A 𝓣 E G7 b77 Δ4 at117
-          d117 = Typed.g-pre 𝓤 H A W 𝓣 E G7 G122 b77 Δ4 (Typed.pass T7 T122 s118) at116 (Scalar.g-room 𝓤 H A W E G7 7 Laws.mir (Local.room-whole 𝓤 H A
-              W (Declared.row RelayPacket.the-type) Laws.mir Path.refl)) d116
-          d118 : Typed.Typed 𝓤 H A 𝓣 E G126 b79 Δ5 at118
-          d118 = Typed.t-exit 𝓤 H A W 𝓣 E 0 Δ5 tt
-          d119 : Typed.Typed 𝓤 H A 𝓣 E G125 b79 Δ5 at119
-          d119 = Typed.g-pre 𝓤 H A W 𝓣 E G125 G126 b79 Δ5 (Typed.pass T125 T126 s121) at118 (Scalar.g-room 𝓤 H A W E G125 46 Syntax.tyBool
-              (Scalar.room-sc 𝓤 H A W Row.sBool)) d118
-          d120 : Typed.Typed 𝓤 H A 𝓣 E G123 b79 Δ5 at120
-          d120 = Typed.g-pre 𝓤 H A W 𝓣 E G123 G125 b79 Δ5 (Typed.pass T123 T125 s120) at119 (Scalar.g-room 𝓤 H A W E G123 7 Laws.mir (Local.room-whole
-              𝓤 H A W (Declared.row RelayPacket.the-type) Laws.mir Path.refl)) d119
-          d121 : Typed.Typed 𝓤 H A 𝓣 E G127 b80 Δ5 at121
-          d121 = Typed.t-skip 𝓤 H A W 𝓣 E Δ5 tt
-          d122 : Typed.Typed 𝓤 H A 𝓣 E G123 b80 Δ5 at122
-          d122 = Typed.g-pre 𝓤 H A W 𝓣 E G123 G127 b80 Δ5 (Typed.pass T123 T127 s122) at121 (Scalar.g-room 𝓤 H A W E G123 46 Syntax.tyBool
-              (Scalar.room-sc 𝓤 H A W Row.sBool)) d121
-          d123 : Typed.Typed 𝓤 H A 𝓣 E G123 b81 Δ5 at123
-          d123 = Scalar.t-cond 𝓤 H A W E 𝓣 G123 46 (λ x. x) b79 b80 Δ5 at120 at122 (Scalar.reads-sc 𝓤 H A W Row.sBool) Path.refl d120 d122
-          d124 : Typed.Typed 𝓤 H A 𝓣 E G158 b92 Δ6 at124
-          d124 = Typed.t-exit 𝓤 H A W 𝓣 E 1 Δ6 tt
-          d125 : Typed.Typed 𝓤 H A 𝓣 E G157 b92 Δ6 at125
-          d125 = Typed.g-pre 𝓤 H A W 𝓣 E G157 G158 b92 Δ6 (λ Ψ. Ψ) at124 (Lifetime.g-forget 𝓤 H A W E G157 28 Row.dead Path.refl) d124
-          d126 : Typed.Typed 𝓤 H A 𝓣 E G156 b92 Δ6 at126
-          d126 = Typed.g-pre 𝓤 H A W 𝓣 E G156 G157 b92 Δ6 (Typed.give s151) at125 (Know.g-sl-known 𝓤 H A W (Referent.fInt Syntax.w32) E G156 5 4 ref9
+              (tt, (tt, (tt, (tt, (tt, (tt, (tt, (tt, (tt, (tt, (tt, (tt, (tt, (tt, (tt, (tt, (tt, (tt, (tt, (tt,
+              tt,),),),),),),),),),),),),),),),),),),),),),),),),),),),),),),),),),),),),),),),),),),),),),),),),),),),),),),),)) d118
+          d120 : Typed.Typed 𝓤 H A 𝓣 E G126 b77 Δ4 at120
+          d120 = Typed.t-exit 𝓤 H A W 𝓣 E 0 Δ4 tt
+          d121 : Typed.Typed 𝓤 H A 𝓣 E G7 b77 Δ4 at121
+          d121 = Typed.g-pre 𝓤 H A W 𝓣 E G7 G126 b77 Δ4 (Typed.pass T7 T126 s122) at120 (Scalar.g-room 𝓤 H A W E G7 8 Laws'.mir (Local.room-whole 𝓤 H
+              A W (Declared.row RelayPacket.the-type) Laws'.mir Path.refl)) d120
+          d122 : Typed.Typed 𝓤 H A 𝓣 E G130 b79 Δ5 at122
+          d122 = Typed.t-exit 𝓤 H A W 𝓣 E 0 Δ5 tt
+          d123 : Typed.Typed 𝓤 H A 𝓣 E G129 b79 Δ5 at123
+          d123 = Typed.g-pre 𝓤 H A W 𝓣 E G129 G130 b79 Δ5 (Typed.pass T129 T130 s125) at122 (Scalar.g-room 𝓤 H A W E G129 47 Syntax.tyBool
+              (Scalar.room-sc 𝓤 H A W Row.sBool)) d122
+          d124 : Typed.Typed 𝓤 H A 𝓣 E G127 b79 Δ5 at124
+          d124 = Typed.g-pre 𝓤 H A W 𝓣 E G127 G129 b79 Δ5 (Typed.pass T127 T129 s124) at123 (Scalar.g-room 𝓤 H A W E G127 8 Laws'.mir
+              (Local.room-whole 𝓤 H A W (Declared.row RelayPacket.the-type) Laws'.mir Path.refl)) d123
+          d125 : Typed.Typed 𝓤 H A 𝓣 E G131 b80 Δ5 at125
+          d125 = Typed.t-skip 𝓤 H A W 𝓣 E Δ5 tt
+          d126 : Typed.Typed 𝓤 H A 𝓣 E G127 b80 Δ5 at126
+          d126 = Typed.g-pre 𝓤 H A W 𝓣 E G127 G131 b80 Δ5 (Typed.pass T127 T131 s126) at125 (Scalar.g-room 𝓤 H A W E G127 47 Syntax.tyBool
+              (Scalar.room-sc 𝓤 H A W Row.sBool)) d125
+          d127 : Typed.Typed 𝓤 H A 𝓣 E G127 b81 Δ5 at127
+          d127 = Scalar.t-cond 𝓤 H A W E 𝓣 G127 47 (λ x. x) b79 b80 Δ5 at124 at126 (Scalar.reads-sc 𝓤 H A W Row.sBool) Path.refl d124 d126
+          d128 : Typed.Typed 𝓤 H A 𝓣 E G163 b92 Δ6 at128
+          d128 = Typed.t-exit 𝓤 H A W 𝓣 E 1 Δ6 tt
+          d129 : Typed.Typed 𝓤 H A 𝓣 E G162 b92 Δ6 at129
+          d129 = Typed.g-pre 𝓤 H A W 𝓣 E G162 G163 b92 Δ6 (λ Ψ. Ψ) at128 (Lifetime.g-forget 𝓤 H A W E G162 28 Row.dead Path.refl) d128
+          d130 : Typed.Typed 𝓤 H A 𝓣 E G161 b92 Δ6 at130
+          d130 = Typed.g-pre 𝓤 H A W 𝓣 E G161 G162 b92 Δ6 (Typed.give s156) at129 (Know.g-sl-known 𝓤 H A W (Referent.fInt Syntax.w32) E G161 5 4 ref9
               life4 0 (λ x. x) record { fits = Dec.lit< tt } (Reads'.as-is 𝓤 H A (Mut.mslice (Referent.rtF (Referent.fInt Syntax.w32)) ref9 4))
-              Path.refl tt) d125
-          d127 : Typed.Typed 𝓤 H A 𝓣 E G155 b92 Δ6 at127
-          d127 = Typed.g-pre 𝓤 H A W 𝓣 E G155 G156 b92 Δ6 (Typed.both s150) at126 (Relend.g-back-sl 𝓤 H A W E (Referent.rtF (Referent.fInt
-              Syntax.w32)) G155 54 5 4 28 ref9 ref4 life4 (λ x. x) (λ x. x) (Reads'.as-is 𝓤 H A (Mut.msleft (Referent.rtF (Referent.fInt Syntax.w32))
-              ref4)) (Reads'.as-is 𝓤 H A (Relend.mslice-owed (Referent.rtF (Referent.fInt Syntax.w32)) ref9 4 28 life4)) Path.refl Path.refl) d126
-          d128 : Typed.Typed 𝓤 H A 𝓣 E G154 b92 Δ6 at128
-          d128 = Typed.g-pre 𝓤 H A W 𝓣 E G154 G155 b92 Δ6 (λ Ψ. Ψ) at127 (Lifetime.g-end 𝓤 H A W E G154 28 Path.refl) d127
-          d129 : Typed.Typed 𝓤 H A 𝓣 E G153 b92 Δ6 at129
-          d129 = Typed.g-pre 𝓤 H A W 𝓣 E G153 G154 b92 Δ6 (λ Ψ. Ψ) at128 (Lifetime.g-forget 𝓤 H A W E G153 27 Row.dead Path.refl) d128
-          d130 : Typed.Typed 𝓤 H A 𝓣 E G152 b92 Δ6 at130
-          d130 = Typed.g-pre 𝓤 H A W 𝓣 E G152 G153 b92 Δ6 (Typed.both s147) at129 (Relend.g-back-sl 𝓤 H A W E InflightAction.row G152 52 4 3 27 ref8
+              Path.refl tt) d129
+          d131 : Typed.Typed 𝓤 H A 𝓣 E G160 b92 Δ6 at131
+          d131 = Typed.g-pre 𝓤 H A W 𝓣 E G160 G161 b92 Δ6 (Typed.both s155) at130 (Relend.g-back-sl 𝓤 H A W E (Referent.rtF (Referent.fInt
+              Syntax.w32)) G160 55 5 4 28 ref9 ref4 life4 (λ x. x) (λ x. x) (Reads'.as-is 𝓤 H A (Mut.msleft (Referent.rtF (Referent.fInt Syntax.w32))
+              ref4)) (Reads'.as-is 𝓤 H A (Relend.mslice-owed (Referent.rtF (Referent.fInt Syntax.w32)) ref9 4 28 life4)) Path.refl Path.refl) d130
+          d132 : Typed.Typed 𝓤 H A 𝓣 E G159 b92 Δ6 at132
+          d132 = Typed.g-pre 𝓤 H A W 𝓣 E G159 G160 b92 Δ6 (λ Ψ. Ψ) at131 (Lifetime.g-end 𝓤 H A W E G159 28 Path.refl) d131
+          d133 : Typed.Typed 𝓤 H A 𝓣 E G158 b92 Δ6 at133
+          d133 = Typed.g-pre 𝓤 H A W 𝓣 E G158 G159 b92 Δ6 (λ Ψ. Ψ) at132 (Lifetime.g-forget 𝓤 H A W E G158 27 Row.dead Path.refl) d132
+          d134 : Typed.Typed 𝓤 H A 𝓣 E G157 b92 Δ6 at134
+          d134 = Typed.g-pre 𝓤 H A W 𝓣 E G157 G158 b92 Δ6 (Typed.both s152) at133 (Relend.g-back-sl 𝓤 H A W E InflightAction.row G157 53 4 3 27 ref8
               ref3 life3 (λ x. x) (λ x. x) (Reads'.as-is 𝓤 H A (Mut.msleft InflightAction.row ref3)) (Reads'.as-is 𝓤 H A (Relend.mslice-owed
-              InflightAction.row ref8 3 27 life3)) Path.refl Path.refl) d129
-          d131 : Typed.Typed 𝓤 H A 𝓣 E G151 b92 Δ6 at131
-          d131 = Typed.g-pre 𝓤 H A W 𝓣 E G151 G152 b92 Δ6 (λ Ψ. Ψ) at130 (Lifetime.g-end 𝓤 H A W E G151 27 Path.refl) d130
-          d132 : Typed.Typed 𝓤 H A 𝓣 E G150 b92 Δ6 at132
-          d132 = Typed.g-pre 𝓤 H A W 𝓣 E G150 G151 b92 Δ6 (λ Ψ. Ψ) at131 (Lifetime.g-forget 𝓤 H A W E G150 26 Row.dead Path.refl) d131
-          d133 : Typed.Typed 𝓤 H A 𝓣 E G149 b92 Δ6 at133
-          d133 = Typed.g-pre 𝓤 H A W 𝓣 E G149 G150 b92 Δ6 (Typed.both s144) at132 (Relend.g-back-sl 𝓤 H A W E RelayCircuit.row G149 50 2 1 26 ref6
+              InflightAction.row ref8 3 27 life3)) Path.refl Path.refl) d133
+          d135 : Typed.Typed 𝓤 H A 𝓣 E G156 b92 Δ6 at135
+          d135 = Typed.g-pre 𝓤 H A W 𝓣 E G156 G157 b92 Δ6 (λ Ψ. Ψ) at134 (Lifetime.g-end 𝓤 H A W E G156 27 Path.refl) d134
+          d136 : Typed.Typed 𝓤 H A 𝓣 E G155 b92 Δ6 at136
+          d136 = Typed.g-pre 𝓤 H A W 𝓣 E G155 G156 b92 Δ6 (λ Ψ. Ψ) at135 (Lifetime.g-forget 𝓤 H A W E G155 26 Row.dead Path.refl) d135
+          d137 : Typed.Typed 𝓤 H A 𝓣 E G154 b92 Δ6 at137
+          d137 = Typed.g-pre 𝓤 H A W 𝓣 E G154 G155 b92 Δ6 (Typed.both s149) at136 (Relend.g-back-sl 𝓤 H A W E RelayCircuit.row G154 51 2 1 26 ref6
               ref1 life1 (λ x. x) (λ x. x) (Reads'.as-is 𝓤 H A (Mut.msleft RelayCircuit.row ref1)) (Reads'.as-is 𝓤 H A (Relend.mslice-owed
-              RelayCircuit.row ref6 1 26 life1)) Path.refl Path.refl) d132
-          d134 : Typed.Typed 𝓤 H A 𝓣 E G148 b92 Δ6 at134
-          d134 = Typed.g-pre 𝓤 H A W 𝓣 E G148 G149 b92 Δ6 (λ Ψ. Ψ) at133 (Lifetime.g-end 𝓤 H A W E G148 26 Path.refl) d133
-          d135 : Typed.Typed 𝓤 H A 𝓣 E G147 b92 Δ6 at135
-          d135 = Typed.g-pre 𝓤 H A W 𝓣 E G147 G148 b92 Δ6 (λ Ψ. Ψ) at134 (Lifetime.g-forget 𝓤 H A W E G147 25 Row.dead Path.refl) d134
-          d136 : Typed.Typed 𝓤 H A 𝓣 E G146 b92 Δ6 at136
-          d136 = Typed.g-pre 𝓤 H A W 𝓣 E G146 G147 b92 Δ6 (Typed.both s141) at135 (Relend.g-back-sl 𝓤 H A W E RelayPending.row G146 48 1 0 25 ref5
+              RelayCircuit.row ref6 1 26 life1)) Path.refl Path.refl) d136
+          d138 : Typed.Typed 𝓤 H A 𝓣 E G153 b92 Δ6 at138
+          d138 = Typed.g-pre 𝓤 H A W 𝓣 E G153 G154 b92 Δ6 (λ Ψ. Ψ) at137 (Lifetime.g-end 𝓤 H A W E G153 26 Path.refl) d137
+          d139 : Typed.Typed 𝓤 H A 𝓣 E G152 b92 Δ6 at139
+          d139 = Typed.g-pre 𝓤 H A W 𝓣 E G152 G153 b92 Δ6 (λ Ψ. Ψ) at138 (Lifetime.g-forget 𝓤 H A W E G152 25 Row.dead Path.refl) d138
+          d140 : Typed.Typed 𝓤 H A 𝓣 E G151 b92 Δ6 at140
+          d140 = Typed.g-pre 𝓤 H A W 𝓣 E G151 G152 b92 Δ6 (Typed.both s146) at139 (Relend.g-back-sl 𝓤 H A W E RelayPending.row G151 49 1 0 25 ref5
               ref0 life0 (λ x. x) (λ x. x) (Reads'.as-is 𝓤 H A (Mut.msleft RelayPending.row ref0)) (Reads'.as-is 𝓤 H A (Relend.mslice-owed
-              RelayPending.row ref5 0 25 life0)) Path.refl Path.refl) d135
-          d137 : Typed.Typed 𝓤 H A 𝓣 E G145 b92 Δ6 at137
-          d137 = Typed.g-pre 𝓤 H A W 𝓣 E G145 G146 b92 Δ6 (λ Ψ. Ψ) at136 (Lifetime.g-end 𝓤 H A W E G145 25 Path.refl) d136
-          d138 : Typed.Typed 𝓤 H A 𝓣 E G144 b92 Δ6 at138
-          d138 = Typed.g-pre 𝓤 H A W 𝓣 E G144 G145 b92 Δ6 (Typed.pass T144 T145 s139) at137 (Scalar.g-room 𝓤 H A W E G144 7 Laws.mir (Local.room-whole
-              𝓤 H A W (Declared.row RelayPacket.the-type) Laws.mir Path.refl)) d137
-          d139 : Typed.Typed 𝓤 H A 𝓣 E G143 b92 Δ6 at139
-          d139 = Typed.g-pre 𝓤 H A W 𝓣 E G143 G144 b92 Δ6 (Typed.pass T143 T144 s138) at138 (Scalar.g-room 𝓤 H A W E G143 6 Laws'.mir
-              (Local.room-whole 𝓤 H A W (Declared.row OpaqueRelayRuntime.the-type) Laws'.mir Path.refl)) d138
-          d140 : Typed.Typed 𝓤 H A 𝓣 E G142 b93 Δ6 at140
-          d140 = Typed.s-seq 𝓤 H A W 𝓣 E G142 G143 b91 b92 Δ6 (Typed.both s137) at139 (Plain.t-call-plain 𝓤 H A W 𝓣 6 ps·4 r·4 (claims· .8) (claims·
-              .9) "hnsr_circuit::handle_close::handle_close" (known .4) E (λ pos β. β) G142 (record { pos = 48; ty = Syntax.tyRef Syntax.erased
-              Syntax.mut RelayPending.to; ref = λ x. x; }, (record { pos = 50; ty = Syntax.tyRef Syntax.erased Syntax.mut RelayCircuit.to; ref = λ x.
-              x; }, (record { pos = 52; ty = Syntax.tyRef Syntax.erased Syntax.mut InflightAction.to; ref = λ x. x; }, (record { pos = 54; ty =
+              RelayPending.row ref5 0 25 life0)) Path.refl Path.refl) d139
+          d141 : Typed.Typed 𝓤 H A 𝓣 E G150 b92 Δ6 at141
+          d141 = Typed.g-pre 𝓤 H A W 𝓣 E G150 G151 b92 Δ6 (λ Ψ. Ψ) at140 (Lifetime.g-end 𝓤 H A W E G150 25 Path.refl) d140
+          d142 : Typed.Typed 𝓤 H A 𝓣 E G149 b92 Δ6 at142
+          d142 = Typed.g-pre 𝓤 H A W 𝓣 E G149 G150 b92 Δ6 (Typed.pass T149 T150 s144) at141 (Scalar.g-room 𝓤 H A W E G149 8 Laws'.mir
+              (Local.room-whole 𝓤 H A W (Declared.row RelayPacket.the-type) Laws'.mir Path.refl)) d141
+          d143 : Typed.Typed 𝓤 H A 𝓣 E G148 b92 Δ6 at143
+          d143 = Typed.g-pre 𝓤 H A W 𝓣 E G148 G149 b92 Δ6 (Typed.pass T148 T149 s143) at142 (Scalar.g-room 𝓤 H A W E G148 7 Laws.mir (Local.room-whole
+              𝓤 H A W (Declared.row Places.the-type) Laws.mir Path.refl)) d142
+          d144 : Typed.Typed 𝓤 H A 𝓣 E G147 b92 Δ6 at144
+          d144 = Typed.g-pre 𝓤 H A W 𝓣 E G147 G148 b92 Δ6 (Typed.pass T147 T148 s142) at143 (Scalar.g-room 𝓤 H A W E G147 6 Laws''.mir
+              (Local.room-whole 𝓤 H A W (Declared.row OpaqueRelayRuntime.the-type) Laws''.mir Path.refl)) d143
+          d145 : Typed.Typed 𝓤 H A 𝓣 E G146 b93 Δ6 at145
+          d145 = Typed.s-seq 𝓤 H A W 𝓣 E G146 G147 b91 b92 Δ6 (Typed.both s141) at144 (Plain.t-call-plain 𝓤 H A W 𝓣 6 ps·4 r·4 (claims· .8) (claims·
+              .9) "hnsr_circuit::handle_close::handle_close" (known .4) E (λ pos β. β) G146 (record { pos = 49; ty = Syntax.tyRef Syntax.erased
+              Syntax.mut RelayPending.to; ref = λ x. x; }, (record { pos = 51; ty = Syntax.tyRef Syntax.erased Syntax.mut RelayCircuit.to; ref = λ x.
+              x; }, (record { pos = 53; ty = Syntax.tyRef Syntax.erased Syntax.mut InflightAction.to; ref = λ x. x; }, (record { pos = 55; ty =
               Syntax.tyRef Syntax.erased Syntax.mut (Syntax.tyInt Syntax.w32); ref = λ x. x; }, (record { pos = 6; st = List.[]; d = 0; at = λ x. x },
-              (record { pos = 7; st = List.[]; d = 0; at = λ x. x }, (record { pos = 8; ty = Syntax.tyRef (Syntax.named 5) Syntax.imm (Syntax.tyInt
-              Syntax.w8); ref = λ x. x; }, (record { pos = 9; ty = Syntax.tyRef (Syntax.named 6) Syntax.imm (Syntax.tyInt Syntax.w8); ref = λ x. x; },
-              tt,),),),),),),),) 13 (25 ∷ 26 ∷ 27 ∷ 28 ∷ 5 ∷ 6 ∷ List.[]) (Call.sub-id 𝓤 H A W (G142 .slots)) (Reads'.as-is 𝓤 H A (Mut.mslice
-              RelayPending.row ref0 25), Mut.reads-mslice 𝓤 H A W RelayPending.row ref0 25, Path.refl, (Reads'.as-is 𝓤 H A (Mut.mslice
-              RelayCircuit.row ref1 26), Mut.reads-mslice 𝓤 H A W RelayCircuit.row ref1 26, Path.refl, (Reads'.as-is 𝓤 H A (Mut.mslice
-              InflightAction.row ref3 27), Mut.reads-mslice 𝓤 H A W InflightAction.row ref3 27, Path.refl, (Reads'.as-is 𝓤 H A (Mut.mslice
-              (Referent.rtF (Referent.fInt Syntax.w32)) ref4 28), Mut.reads-mslice 𝓤 H A W (Referent.rtF (Referent.fInt Syntax.w32)) ref4 28,
-              Path.refl, ((Yields.yields-copy 𝓤 H A W (λ ρ. Unit) (Declared.row OpaqueRelayRuntime.the-type) Path.refl (Copies.cStruct
-              OpaqueRelayRuntime.the-type Laws'.the-laws Laws'.the-copy .copy 𝓤 H A W) (Rows.whole (Declared.row OpaqueRelayRuntime.the-type)) (λ x.
-              x) (λ x. x) (λ ρ told. Local.mem-whole 𝓤 H A W (Declared.row OpaqueRelayRuntime.the-type) ρ) λ ρ told. Local.whole-mem 𝓤 H A W
-              (Declared.row OpaqueRelayRuntime.the-type) ρ, Path.refl,), ((Yields.yields-copy 𝓤 H A W (λ ρ. Unit) (Declared.row RelayPacket.the-type)
-              Path.refl (Copies.cStruct RelayPacket.the-type Laws.the-laws Laws.the-copy .copy 𝓤 H A W) (Rows.whole (Declared.row
-              RelayPacket.the-type)) (λ x. x) (λ x. x) (λ ρ told. Local.mem-whole 𝓤 H A W (Declared.row RelayPacket.the-type) ρ) λ ρ told.
-              Local.whole-mem 𝓤 H A W (Declared.row RelayPacket.the-type) ρ, Path.refl,), (ShrSlice.spares-sslice 𝓤 H A W (Referent.rtF (Referent.fInt
-              Syntax.w8)) ref10 5, Shared.reads-sslice 𝓤 H A W (Referent.rtF (Referent.fInt Syntax.w8)) ref10 5, Path.refl, (ShrSlice.spares-sslice 𝓤
-              H A W (Referent.rtF (Referent.fInt Syntax.w8)) ref11 6, Shared.reads-sslice 𝓤 H A W (Referent.rtF (Referent.fInt Syntax.w8)) ref11 6,
-              Path.refl, tt,),),),),),),),) (Reads'.room-gone 𝓤 H A Laws''.mir) (tt, (tt, (tt, (tt, (tt, (tt, tt)))))) Path.refl) d139
-          d141 : Typed.Typed 𝓤 H A 𝓣 E G141 b94 Δ6 at141
-          d141 = Typed.s-seq 𝓤 H A W 𝓣 E G141 G142 b90 b93 Δ6 (Typed.ask s136) at140 (Relend.t-sl-aggregate 𝓤 H A W E (Referent.rtF (Referent.fInt
-              Syntax.w32)) 𝓣 (Relend.asMut (Referent.rtF (Referent.fInt Syntax.w32))) G141 53 54 28 ref4 ref4 (λ x. x) (Scalar.oFld 5 ((Syntax.field
+              (record { pos = 7; st = List.[]; d = 0; at = λ x. x }, (record { pos = 8; st = List.[]; d = 0; at = λ x. x }, (record { pos = 9; ty =
+              Syntax.tyRef (Syntax.named 5) Syntax.imm (Syntax.tyInt Syntax.w8); ref = λ x. x; }, (record { pos = 10; ty = Syntax.tyRef (Syntax.named
+              6) Syntax.imm (Syntax.tyInt Syntax.w8); ref = λ x. x; }, tt,),),),),),),),),) 14 (25 ∷ 26 ∷ 27 ∷ 28 ∷ 5 ∷ 6 ∷ List.[]) (Call.sub-id 𝓤 H
+              A W (G146 .slots)) (Reads'.as-is 𝓤 H A (Mut.mslice RelayPending.row ref0 25), Mut.reads-mslice 𝓤 H A W RelayPending.row ref0 25,
+              Path.refl, (Reads'.as-is 𝓤 H A (Mut.mslice RelayCircuit.row ref1 26), Mut.reads-mslice 𝓤 H A W RelayCircuit.row ref1 26, Path.refl,
+              (Reads'.as-is 𝓤 H A (Mut.mslice InflightAction.row ref3 27), Mut.reads-mslice 𝓤 H A W InflightAction.row ref3 27, Path.refl,
+              (Reads'.as-is 𝓤 H A (Mut.mslice (Referent.rtF (Referent.fInt Syntax.w32)) ref4 28), Mut.reads-mslice 𝓤 H A W (Referent.rtF
+              (Referent.fInt Syntax.w32)) ref4 28, Path.refl, ((Yields.yields-copy 𝓤 H A W (λ ρ. Unit) (Declared.row OpaqueRelayRuntime.the-type)
+              Path.refl (Copies.cStruct OpaqueRelayRuntime.the-type Laws''.the-laws Laws''.the-copy .copy 𝓤 H A W) (Rows.whole (Declared.row
+              OpaqueRelayRuntime.the-type)) (λ x. x) (λ x. x) (λ ρ told. Local.mem-whole 𝓤 H A W (Declared.row OpaqueRelayRuntime.the-type) ρ) λ ρ
+              told. Local.whole-mem 𝓤 H A W (Declared.row OpaqueRelayRuntime.the-type) ρ, Path.refl,), ((Yields.yields-copy 𝓤 H A W (λ ρ. Unit)
+              (Declared.row Places.the-type) Path.refl (Copies.cStruct Places.the-type Laws.the-laws Laws.the-copy .copy 𝓤 H A W) (Rows.whole
+              (Declared.row Places.the-type)) (λ x. x) (λ x. x) (λ ρ told. Local.mem-whole 𝓤 H A W (Declared.row Places.the-type) ρ) λ ρ told.
+              Local.whole-mem 𝓤 H A W (Declared.row Places.the-type) ρ, Path.refl,), ((Yields.yields-copy 𝓤 H A W (λ ρ. Unit) (Declared.row
+              RelayPacket.the-type) Path.refl (Copies.cStruct RelayPacket.the-type Laws'.the-laws Laws'.the-copy .copy 𝓤 H A W) (Rows.whole
+              (Declared.row RelayPacket.the-type)) (λ x. x) (λ x. x) (λ ρ told. Local.mem-whole 𝓤 H A W (Declared.row RelayPacket.the-type) ρ) λ ρ
+              told. Local.whole-mem 𝓤 H A W (Declared.row RelayPacket.the-type) ρ, Path.refl,), (ShrSlice.spares-sslice 𝓤 H A W (Referent.rtF
+              (Referent.fInt Syntax.w8)) ref10 5, Shared.reads-sslice 𝓤 H A W (Referent.rtF (Referent.fInt Syntax.w8)) ref10 5, Path.refl,
+              (ShrSlice.spares-sslice 𝓤 H A W (Referent.rtF (Referent.fInt Syntax.w8)) ref11 6, Shared.reads-sslice 𝓤 H A W (Referent.rtF
+              (Referent.fInt Syntax.w8)) ref11 6, Path.refl, tt,),),),),),),),),) (Reads'.room-gone 𝓤 H A Laws'''.mir) (tt, (tt, (tt, (tt, (tt, (tt,
+              tt)))))) Path.refl) d144
+          d146 : Typed.Typed 𝓤 H A 𝓣 E G145 b94 Δ6 at146
+          d146 = Typed.s-seq 𝓤 H A W 𝓣 E G145 G146 b90 b93 Δ6 (Typed.ask s140) at145 (Relend.t-sl-aggregate 𝓤 H A W E (Referent.rtF (Referent.fInt
+              Syntax.w32)) 𝓣 (Relend.asMut (Referent.rtF (Referent.fInt Syntax.w32))) G145 54 55 28 ref4 ref4 (λ x. x) (Scalar.oFld 5 ((Syntax.field
               1) ∷ List.[]) (Syntax.tyInt Syntax.w64) 8 λ v. Shared.lenV (v .0)) (Reads'.as-is 𝓤 H A (Relend.msptr (Referent.rtF (Referent.fInt
               Syntax.w32)) ref4 28)) (Reads'.room-gone 𝓤 H A (Syntax.tyStruct (38 ∷ 91 ∷ 93 ∷ List.[]) (Syntax.tcons ref4 (Syntax.tcons (Syntax.tyInt
               Syntax.w64) Syntax.tnil)))) (Relend.reads-owed-len 𝓤 H A W (Referent.rtF (Referent.fInt Syntax.w32)) ref9 4 28 life4 8 Path.refl,
-              Path.refl,) Path.refl Path.refl λ b o k. tt) d140
-          d142 : Typed.Typed 𝓤 H A 𝓣 E G140 b95 Δ6 at142
-          d142 = Typed.s-seq 𝓤 H A W 𝓣 E G140 G141 b89 b94 Δ6 (Typed.give s135) at141 (Relend.t-sl-relend 𝓤 H A W E (Referent.rtF (Referent.fInt
-              Syntax.w32)) 𝓣 G140 5 53 4 28 ref9 ref4 life4 0 (λ x. x) (Reads'.as-is 𝓤 H A (Mut.mslice (Referent.rtF (Referent.fInt Syntax.w32)) ref9
-              4)) (Reads'.room-gone 𝓤 H A ref4) Path.refl tt Path.refl Path.refl Path.refl λ b o. tt) d141
-          d143 : Typed.Typed 𝓤 H A 𝓣 E G139 b95 Δ6 at143
-          d143 = Typed.g-pre 𝓤 H A W 𝓣 E G139 G140 b95 Δ6 (λ Ψ. Ψ) at142 (Lifetime.g-begin 𝓤 H A W E G139 28 (tt, ((tt, tt), ((tt, tt), (tt, ((tt,
+              Path.refl,) Path.refl Path.refl λ b o k. tt) d145
+          d147 : Typed.Typed 𝓤 H A 𝓣 E G144 b95 Δ6 at147
+          d147 = Typed.s-seq 𝓤 H A W 𝓣 E G144 G145 b89 b94 Δ6 (Typed.give s139) at146 (Relend.t-sl-relend 𝓤 H A W E (Referent.rtF (Referent.fInt
+              Syntax.w32)) 𝓣 G144 5 54 4 28 ref9 ref4 life4 0 (λ x. x) (Reads'.as-is 𝓤 H A (Mut.mslice (Referent.rtF (Referent.fInt Syntax.w32)) ref9
+              4)) (Reads'.room-gone 𝓤 H A ref4) Path.refl tt Path.refl Path.refl Path.refl λ b o. tt) d146
+          d148 : Typed.Typed 𝓤 H A 𝓣 E G143 b95 Δ6 at148
+          d148 = Typed.g-pre 𝓤 H A W 𝓣 E G143 G144 b95 Δ6 (λ Ψ. Ψ) at147 (Lifetime.g-begin 𝓤 H A W E G143 28 (tt, ((tt, tt), ((tt, tt), (tt, ((tt,
               tt), (tt, (tt, (tt, (tt, (tt, (tt, (tt, (tt, (tt, (tt, (tt, (tt, (tt, (tt, (tt, (tt, (tt, (tt, (tt, (tt, (tt, (tt, (tt, (tt, (tt, (tt,
-              (tt, (tt, (tt, (tt, (tt, (tt, (tt, (tt, (tt, (tt, (tt, (tt, (tt, (tt, (tt, (tt, (tt, (tt, (tt, (tt, (tt, (tt, (tt, (tt,
-              tt,),),),),),),),),),),),),),),),),),),),),),),),),),),),),),),),),),),),),),),),),),),),),),),),),),),),),),),)) d142
-          d144 : Typed.Typed 𝓤 H A 𝓣 E G138 b96 Δ6 at144
-          d144 = Typed.s-seq 𝓤 H A W 𝓣 E G138 G139 b88 b95 Δ6 (Typed.ask s133) at143 (Relend.t-sl-aggregate 𝓤 H A W E InflightAction.row 𝓣
-              (Relend.asMut InflightAction.row) G138 51 52 27 ref3 ref3 (λ x. x) (Scalar.oFld 4 ((Syntax.field 1) ∷ List.[]) (Syntax.tyInt Syntax.w64)
+              (tt, (tt, (tt, (tt, (tt, (tt, (tt, (tt, (tt, (tt, (tt, (tt, (tt, (tt, (tt, (tt, (tt, (tt, (tt, (tt, (tt, (tt, (tt, (tt, (tt,
+              tt,),),),),),),),),),),),),),),),),),),),),),),),),),),),),),),),),),),),),),),),),),),),),),),),),),),),),),),),)) d147
+          d149 : Typed.Typed 𝓤 H A 𝓣 E G142 b96 Δ6 at149
+          d149 = Typed.s-seq 𝓤 H A W 𝓣 E G142 G143 b88 b95 Δ6 (Typed.ask s137) at148 (Relend.t-sl-aggregate 𝓤 H A W E InflightAction.row 𝓣
+              (Relend.asMut InflightAction.row) G142 52 53 27 ref3 ref3 (λ x. x) (Scalar.oFld 4 ((Syntax.field 1) ∷ List.[]) (Syntax.tyInt Syntax.w64)
               8 λ v. Shared.lenV (v .0)) (Reads'.as-is 𝓤 H A (Relend.msptr InflightAction.row ref3 27)) (Reads'.room-gone 𝓤 H A (Syntax.tyStruct (38 ∷
               91 ∷ 93 ∷ List.[]) (Syntax.tcons ref3 (Syntax.tcons (Syntax.tyInt Syntax.w64) Syntax.tnil)))) (Relend.reads-owed-len 𝓤 H A W
-              InflightAction.row ref8 3 27 life3 8 Path.refl, Path.refl,) Path.refl Path.refl λ b o k. tt) d143
-          d145 : Typed.Typed 𝓤 H A 𝓣 E G137 b97 Δ6 at145
-          d145 = Typed.s-seq 𝓤 H A W 𝓣 E G137 G138 b87 b96 Δ6 (Typed.give s132) at144 (Relend.t-sl-relend 𝓤 H A W E InflightAction.row 𝓣 G137 4 51 3
+              InflightAction.row ref8 3 27 life3 8 Path.refl, Path.refl,) Path.refl Path.refl λ b o k. tt) d148
+          d150 : Typed.Typed 𝓤 H A 𝓣 E G141 b97 Δ6 at150
+          d150 = Typed.s-seq 𝓤 H A W 𝓣 E G141 G142 b87 b96 Δ6 (Typed.give s136) at149 (Relend.t-sl-relend 𝓤 H A W E InflightAction.row 𝓣 G141 4 52 3
               27 ref8 ref3 life3 0 (λ x. x) (Reads'.as-is 𝓤 H A (Mut.mslice InflightAction.row ref8 3)) (Reads'.room-gone 𝓤 H A ref3) Path.refl tt
-              Path.refl Path.refl Path.refl λ b o. tt) d144
-          d146 : Typed.Typed 𝓤 H A 𝓣 E G136 b97 Δ6 at146
-          d146 = Typed.g-pre 𝓤 H A W 𝓣 E G136 G137 b97 Δ6 (λ Ψ. Ψ) at145 (Lifetime.g-begin 𝓤 H A W E G136 27 (tt, ((tt, tt), ((tt, tt), (tt, (tt, (tt,
+              Path.refl Path.refl Path.refl λ b o. tt) d149
+          d151 : Typed.Typed 𝓤 H A 𝓣 E G140 b97 Δ6 at151
+          d151 = Typed.g-pre 𝓤 H A W 𝓣 E G140 G141 b97 Δ6 (λ Ψ. Ψ) at150 (Lifetime.g-begin 𝓤 H A W E G140 27 (tt, ((tt, tt), ((tt, tt), (tt, (tt, (tt,
               (tt, (tt, (tt, (tt, (tt, (tt, (tt, (tt, (tt, (tt, (tt, (tt, (tt, (tt, (tt, (tt, (tt, (tt, (tt, (tt, (tt, (tt, (tt, (tt, (tt, (tt, (tt,
-              (tt, (tt, (tt, (tt, (tt, (tt, (tt, (tt, (tt, (tt, (tt, (tt, (tt, (tt, (tt, (tt, (tt, (tt, (tt, (tt, (tt, (tt,
-              tt,),),),),),),),),),),),),),),),),),),),),),),),),),),),),),),),),),),),),),),),),),),),),),),),),),),),),),),)) d145
-          d147 : Typed.Typed 𝓤 H A 𝓣 E G135 b98 Δ6 at147
-          d147 = Typed.s-seq 𝓤 H A W 𝓣 E G135 G136 b86 b97 Δ6 (Typed.ask s130) at146 (Relend.t-sl-aggregate 𝓤 H A W E RelayCircuit.row 𝓣 (Relend.asMut
-              RelayCircuit.row) G135 49 50 26 ref1 ref1 (λ x. x) (Scalar.oFld 2 ((Syntax.field 1) ∷ List.[]) (Syntax.tyInt Syntax.w64) 8 λ v.
+              (tt, (tt, (tt, (tt, (tt, (tt, (tt, (tt, (tt, (tt, (tt, (tt, (tt, (tt, (tt, (tt, (tt, (tt, (tt, (tt, (tt, (tt, (tt,
+              tt,),),),),),),),),),),),),),),),),),),),),),),),),),),),),),),),),),),),),),),),),),),),),),),),),),),),),),),),)) d150
+          d152 : Typed.Typed 𝓤 H A 𝓣 E G139 b98 Δ6 at152
+          d152 = Typed.s-seq 𝓤 H A W 𝓣 E G139 G140 b86 b97 Δ6 (Typed.ask s134) at151 (Relend.t-sl-aggregate 𝓤 H A W E RelayCircuit.row 𝓣 (Relend.asMut
+              RelayCircuit.row) G139 50 51 26 ref1 ref1 (λ x. x) (Scalar.oFld 2 ((Syntax.field 1) ∷ List.[]) (Syntax.tyInt Syntax.w64) 8 λ v.
               Shared.lenV (v .0)) (Reads'.as-is 𝓤 H A (Relend.msptr RelayCircuit.row ref1 26)) (Reads'.room-gone 𝓤 H A (Syntax.tyStruct (38 ∷ 91 ∷ 93
               ∷ List.[]) (Syntax.tcons ref1 (Syntax.tcons (Syntax.tyInt Syntax.w64) Syntax.tnil)))) (Relend.reads-owed-len 𝓤 H A W RelayCircuit.row
-              ref6 1 26 life1 8 Path.refl, Path.refl,) Path.refl Path.refl λ b o k. tt) d146
-          d148 : Typed.Typed 𝓤 H A 𝓣 E G134 b99 Δ6 at148
-          d148 = Typed.s-seq 𝓤 H A W 𝓣 E G134 G135 b85 b98 Δ6 (Typed.give s129) at147 (Relend.t-sl-relend 𝓤 H A W E RelayCircuit.row 𝓣 G134 2 49 1 26
+              ref6 1 26 life1 8 Path.refl, Path.refl,) Path.refl Path.refl λ b o k. tt) d151
+          d153 : Typed.Typed 𝓤 H A 𝓣 E G138 b99 Δ6 at153
+          d153 = Typed.s-seq 𝓤 H A W 𝓣 E G138 G139 b85 b98 Δ6 (Typed.give s133) at152 (Relend.t-sl-relend 𝓤 H A W E RelayCircuit.row 𝓣 G138 2 50 1 26
               ref6 ref1 life1 0 (λ x. x) (Reads'.as-is 𝓤 H A (Mut.mslice RelayCircuit.row ref6 1)) (Reads'.room-gone 𝓤 H A ref1) Path.refl tt
-              Path.refl Path.refl Path.refl λ b o. tt) d147
-          d149 : Typed.Typed 𝓤 H A 𝓣 E G133 b99 Δ6 at149
-          d149 = Typed.g-pre 𝓤 H A W 𝓣 E G133 G134 b99 Δ6 (λ Ψ. Ψ) at148 (Lifetime.g-begin 𝓤 H A W E G133 26 (tt, ((tt, tt), (tt, (tt, (tt, (tt, (tt,
+              Path.refl Path.refl Path.refl λ b o. tt) d152
+          d154 : Typed.Typed 𝓤 H A 𝓣 E G137 b99 Δ6 at154
+          d154 = Typed.g-pre 𝓤 H A W 𝓣 E G137 G138 b99 Δ6 (λ Ψ. Ψ) at153 (Lifetime.g-begin 𝓤 H A W E G137 26 (tt, ((tt, tt), (tt, (tt, (tt, (tt, (tt,
               (tt, (tt, (tt, (tt, (tt, (tt, (tt, (tt, (tt, (tt, (tt, (tt, (tt, (tt, (tt, (tt, (tt, (tt, (tt, (tt, (tt, (tt, (tt, (tt, (tt, (tt, (tt,
-              (tt, (tt, (tt, (tt, (tt, (tt, (tt, (tt, (tt, (tt, (tt, (tt, (tt, (tt, (tt, (tt, (tt, (tt, (tt, (tt, (tt,
-              tt,),),),),),),),),),),),),),),),),),),),),),),),),),),),),),),),),),),),),),),),),),),),),),),),),),),),),),),)) d148
-          d150 : Typed.Typed 𝓤 H A 𝓣 E G132 b100 Δ6 at150
-          d150 = Typed.s-seq 𝓤 H A W 𝓣 E G132 G133 b84 b99 Δ6 (Typed.ask s127) at149 (Relend.t-sl-aggregate 𝓤 H A W E RelayPending.row 𝓣 (Relend.asMut
-              RelayPending.row) G132 47 48 25 ref0 ref0 (λ x. x) (Scalar.oFld 1 ((Syntax.field 1) ∷ List.[]) (Syntax.tyInt Syntax.w64) 8 λ v.
+              (tt, (tt, (tt, (tt, (tt, (tt, (tt, (tt, (tt, (tt, (tt, (tt, (tt, (tt, (tt, (tt, (tt, (tt, (tt, (tt, (tt, (tt,
+              tt,),),),),),),),),),),),),),),),),),),),),),),),),),),),),),),),),),),),),),),),),),),),),),),),),),),),),),),),)) d153
+          d155 : Typed.Typed 𝓤 H A 𝓣 E G136 b100 Δ6 at155
+          d155 = Typed.s-seq 𝓤 H A W 𝓣 E G136 G137 b84 b99 Δ6 (Typed.ask s131) at154 (Relend.t-sl-aggregate 𝓤 H A W E RelayPending.row 𝓣 (Relend.asMut
+              RelayPending.row) G136 48 49 25 ref0 ref0 (λ x. x) (Scalar.oFld 1 ((Syntax.field 1) ∷ List.[]) (Syntax.tyInt Syntax.w64) 8 λ v.
               Shared.lenV (v .0)) (Reads'.as-is 𝓤 H A (Relend.msptr RelayPending.row ref0 25)) (Reads'.room-gone 𝓤 H A (Syntax.tyStruct (38 ∷ 91 ∷ 93
               ∷ List.[]) (Syntax.tcons ref0 (Syntax.tcons (Syntax.tyInt Syntax.w64) Syntax.tnil)))) (Relend.reads-owed-len 𝓤 H A W RelayPending.row
-              ref5 0 25 life0 8 Path.refl, Path.refl,) Path.refl Path.refl λ b o k. tt) d149
-          d151 : Typed.Typed 𝓤 H A 𝓣 E G131 b101 Δ6 at151
-          d151 = Typed.s-seq 𝓤 H A W 𝓣 E G131 G132 b83 b100 Δ6 (Typed.give s126) at150 (Relend.t-sl-relend 𝓤 H A W E RelayPending.row 𝓣 G131 1 47 0 25
+              ref5 0 25 life0 8 Path.refl, Path.refl,) Path.refl Path.refl λ b o k. tt) d154
+          d156 : Typed.Typed 𝓤 H A 𝓣 E G135 b101 Δ6 at156
+          d156 = Typed.s-seq 𝓤 H A W 𝓣 E G135 G136 b83 b100 Δ6 (Typed.give s130) at155 (Relend.t-sl-relend 𝓤 H A W E RelayPending.row 𝓣 G135 1 48 0 25
               ref5 ref0 life0 0 (λ x. x) (Reads'.as-is 𝓤 H A (Mut.mslice RelayPending.row ref5 0)) (Reads'.room-gone 𝓤 H A ref0) Path.refl tt
-              Path.refl Path.refl Path.refl λ b o. tt) d150
-          d152 : Typed.Typed 𝓤 H A 𝓣 E G130 b101 Δ6 at152
-          d152 = Typed.g-pre 𝓤 H A W 𝓣 E G130 G131 b101 Δ6 (λ Ψ. Ψ) at151 (Lifetime.g-begin 𝓤 H A W E G130 25 (tt, (tt, (tt, (tt, (tt, (tt, (tt, (tt,
+              Path.refl Path.refl Path.refl λ b o. tt) d155
+          d157 : Typed.Typed 𝓤 H A 𝓣 E G134 b101 Δ6 at157
+          d157 = Typed.g-pre 𝓤 H A W 𝓣 E G134 G135 b101 Δ6 (λ Ψ. Ψ) at156 (Lifetime.g-begin 𝓤 H A W E G134 25 (tt, (tt, (tt, (tt, (tt, (tt, (tt, (tt,
               (tt, (tt, (tt, (tt, (tt, (tt, (tt, (tt, (tt, (tt, (tt, (tt, (tt, (tt, (tt, (tt, (tt, (tt, (tt, (tt, (tt, (tt, (tt, (tt, (tt, (tt, (tt,
-              (tt, (tt, (tt, (tt, (tt, (tt, (tt, (tt, (tt, (tt, (tt, (tt, (tt, (tt, (tt, (tt, (tt, (tt, (tt, (tt,
-              tt,),),),),),),),),),),),),),),),),),),),),),),),),),),),),),),),),),),),),),),),),),),),),),),),),),),),),),),)) d151
-          d153 : Typed.Typed 𝓤 H A 𝓣 E G128 b101 Δ6 at153
-          d153 = Typed.g-pre 𝓤 H A W 𝓣 E G128 G130 b101 Δ6 (Typed.pass T128 T130 s124) at152 (Scalar.g-room 𝓤 H A W E G128 46 Syntax.tyBool
-              (Scalar.room-sc 𝓤 H A W Row.sBool)) d152
-          d154 : Typed.Typed 𝓤 H A 𝓣 E G160 b102 Δ6 at154
-          d154 = Typed.t-skip 𝓤 H A W 𝓣 E Δ6 tt
-          d155 : Typed.Typed 𝓤 H A 𝓣 E G159 b102 Δ6 at155
-          d155 = Typed.g-pre 𝓤 H A W 𝓣 E G159 G160 b102 Δ6 (Typed.pass T159 T160 s154) at154 (Scalar.g-room 𝓤 H A W E G159 46 Syntax.tyBool
-              (Scalar.room-sc 𝓤 H A W Row.sBool)) d154
-          d156 : Typed.Typed 𝓤 H A 𝓣 E G128 b102 Δ6 at156
-          d156 = Typed.g-pre 𝓤 H A W 𝓣 E G128 G159 b102 Δ6 (Typed.pass T128 T159 s153) at155 (Scalar.g-room 𝓤 H A W E G128 7 Laws.mir
-              (Local.room-whole 𝓤 H A W (Declared.row RelayPacket.the-type) Laws.mir Path.refl)) d155
-          d157 : Typed.Typed 𝓤 H A 𝓣 E G128 b103 Δ6 at157
-          d157 = Scalar.t-cond 𝓤 H A W E 𝓣 G128 46 (λ x. x) b101 b102 Δ6 at153 at156 (Scalar.reads-sc 𝓤 H A W Row.sBool) Path.refl d153 d156
-          d158 : Typed.Typed 𝓤 H A 𝓣 E G129 b104 Δ4 at158
-          d158 = Typed.t-exit 𝓤 H A W 𝓣 E 0 Δ4 tt
-          d159 : Typed.Typed 𝓤 H A 𝓣 E G128 b105 Δ4 at159
-          d159 = Typed.t-seq 𝓤 H A W 𝓣 E G128 G129 b103 b104 Δ4 at157 at158 d157 d158
-          d160 : Typed.Typed 𝓤 H A 𝓣 E G124 b106 Δ4 at160
-          d160 = Typed.s-seq 𝓤 H A W 𝓣 E G124 G128 b82 b105 Δ4 (Typed.ask s123) at159 (Scalar.t-op2 𝓤 H A W E 𝓣 G124 (Syntax.lt Syntax.unsigned)
-              (Scalar.oAt 12 (Syntax.tyInt Syntax.w8) (Row.valS (Row.sInt Syntax.w8))) (Scalar.oInt Syntax.w8 21) 46 (Rows.sc-here Row.sBool)
+              (tt, (tt, (tt, (tt, (tt, (tt, (tt, (tt, (tt, (tt, (tt, (tt, (tt, (tt, (tt, (tt, (tt, (tt, (tt, (tt, (tt,
+              tt,),),),),),),),),),),),),),),),),),),),),),),),),),),),),),),),),),),),),),),),),),),),),),),),),),),),),),),),)) d156
+          d158 : Typed.Typed 𝓤 H A 𝓣 E G132 b101 Δ6 at158
+          d158 = Typed.g-pre 𝓤 H A W 𝓣 E G132 G134 b101 Δ6 (Typed.pass T132 T134 s128) at157 (Scalar.g-room 𝓤 H A W E G132 47 Syntax.tyBool
+              (Scalar.room-sc 𝓤 H A W Row.sBool)) d157
+          d159 : Typed.Typed 𝓤 H A 𝓣 E G165 b102 Δ6 at159
+          d159 = Typed.t-skip 𝓤 H A W 𝓣 E Δ6 tt
+          d160 : Typed.Typed 𝓤 H A 𝓣 E G164 b102 Δ6 at160
+          d160 = Typed.g-pre 𝓤 H A W 𝓣 E G164 G165 b102 Δ6 (Typed.pass T164 T165 s159) at159 (Scalar.g-room 𝓤 H A W E G164 47 Syntax.tyBool
+              (Scalar.room-sc 𝓤 H A W Row.sBool)) d159
+          d161 : Typed.Typed 𝓤 H A 𝓣 E G132 b102 Δ6 at161
+          d161 = Typed.g-pre 𝓤 H A W 𝓣 E G132 G164 b102 Δ6 (Typed.pass T132 T164 s158) at160 (Scalar.g-room 𝓤 H A W E G132 8 Laws'.mir
+              (Local.room-whole 𝓤 H A W (Declared.row RelayPacket.the-type) Laws'.mir Path.refl)) d160
+          d162 : Typed.Typed 𝓤 H A 𝓣 E G132 b103 Δ6 at162
+          d162 = Scalar.t-cond 𝓤 H A W E 𝓣 G132 47 (λ x. x) b101 b102 Δ6 at158 at161 (Scalar.reads-sc 𝓤 H A W Row.sBool) Path.refl d158 d161
+          d163 : Typed.Typed 𝓤 H A 𝓣 E G133 b104 Δ4 at163
+          d163 = Typed.t-exit 𝓤 H A W 𝓣 E 0 Δ4 tt
+          d164 : Typed.Typed 𝓤 H A 𝓣 E G132 b105 Δ4 at164
+          d164 = Typed.t-seq 𝓤 H A W 𝓣 E G132 G133 b103 b104 Δ4 at162 at163 d162 d163
+          d165 : Typed.Typed 𝓤 H A 𝓣 E G128 b106 Δ4 at165
+          d165 = Typed.s-seq 𝓤 H A W 𝓣 E G128 G132 b82 b105 Δ4 (Typed.ask s127) at164 (Scalar.t-op2 𝓤 H A W E 𝓣 G128 (Syntax.lt Syntax.unsigned)
+              (Scalar.oAt 13 (Syntax.tyInt Syntax.w8) (Row.valS (Row.sInt Syntax.w8))) (Scalar.oInt Syntax.w8 21) 47 (Rows.sc-here Row.sBool)
               Syntax.tyBool (Row.valS Row.sBool) (Row.sBool .of) (Scalar.reads-sc 𝓤 H A W (Row.sInt Syntax.w8), Path.refl) tt (Reads'.room-gone 𝓤 H A
-              Syntax.tyBool) (Scalar.holds-sc 𝓤 H A W Row.sBool) Path.refl (λ u. Path.refl) λ u. tt) d159
-          d161 : Typed.Typed 𝓤 H A 𝓣 E G123 b107 Δ4 at161
-          d161 = Typed.t-seq 𝓤 H A W 𝓣 E G123 G124 b81 b106 Δ4 at123 at160 d123 d160
-          d162 : Typed.Typed 𝓤 H A 𝓣 E G7 b108 Δ4 at162
-          d162 = Typed.s-seq 𝓤 H A W 𝓣 E G7 G123 b78 b107 Δ4 (Typed.ask s119) at161 (Scalar.t-op2 𝓤 H A W E 𝓣 G7 (Syntax.lt Syntax.unsigned)
-              (Scalar.oAt 12 (Syntax.tyInt Syntax.w8) (Row.valS (Row.sInt Syntax.w8))) (Scalar.oInt Syntax.w8 13) 46 (Rows.sc-here Row.sBool)
+              Syntax.tyBool) (Scalar.holds-sc 𝓤 H A W Row.sBool) Path.refl (λ u. Path.refl) λ u. tt) d164
+          d166 : Typed.Typed 𝓤 H A 𝓣 E G127 b107 Δ4 at166
+          d166 = Typed.t-seq 𝓤 H A W 𝓣 E G127 G128 b81 b106 Δ4 at127 at165 d127 d165
+          d167 : Typed.Typed 𝓤 H A 𝓣 E G7 b108 Δ4 at167
+          d167 = Typed.s-seq 𝓤 H A W 𝓣 E G7 G127 b78 b107 Δ4 (Typed.ask s123) at166 (Scalar.t-op2 𝓤 H A W E 𝓣 G7 (Syntax.lt Syntax.unsigned)
+              (Scalar.oAt 13 (Syntax.tyInt Syntax.w8) (Row.valS (Row.sInt Syntax.w8))) (Scalar.oInt Syntax.w8 13) 47 (Rows.sc-here Row.sBool)
               Syntax.tyBool (Row.valS Row.sBool) (Row.sBool .of) (Scalar.reads-sc 𝓤 H A W (Row.sInt Syntax.w8), Path.refl) tt (Reads'.room-gone 𝓤 H A
-              Syntax.tyBool) (Scalar.holds-sc 𝓤 H A W Row.sBool) Path.refl (λ u. Path.refl) λ u. tt) d161
-          d163 : Typed.Typed 𝓤 H A 𝓣 E G7 b109 Δ4 at163
-          d163 = Switch.t-switch 𝓤 H A W E 𝓣 G7 12 Syntax.w8 (λ x. x) (Syntax.arm (13 ∷ List.[]) b23 (Syntax.arm (15 ∷ List.[]) b42 (Syntax.arm (17 ∷
-              List.[]) b61 (Syntax.arm (18 ∷ List.[]) b76 (Syntax.arm (14 ∷ 16 ∷ List.[]) b77 (Syntax.default b108)))))) Δ4 (at34, (at63, (at92,
-              (at115, (at117, at162))))) (Scalar.reads-sc 𝓤 H A W (Row.sInt Syntax.w8)) Path.refl (d34, (d63, (d92, (d115, (d117, d162)))))
-          d164 : Typed.Typed 𝓤 H A 𝓣 E G7 b110 Δ3 at164
-          d164 = Typed.t-block 𝓤 H A W 𝓣 E G7 b109 Δ3 at163 d163
-          d165 : Typed.Typed 𝓤 H A 𝓣 E G9 b111 Δ2 at165
-          unfolding at165
-          d165 = Typed.s-typed 𝓤 H A W 𝓣 E G9 b111 Δ2 (λ Ψ. Typed.both s155 (Typed.pass T161 T162 s156 Ψ)) tt (Typed.g-post 𝓤 H A W 𝓣 E G9 G161 G162
-              b111 (Typed.both s155) (Typed.pass T161 T162 s156) (Plain.t-call-plain 𝓤 H A W 𝓣 0 ps·5 r·5 (claims· .10) (claims· .11)
-              "hnsr_circuit::handle::unexpected" (known .5) E (λ pos β. β) G9 (record { pos = 6; st = List.[]; d = 0; at = λ x. x }, tt) 13 List.[]
-              (Call.sub-id 𝓤 H A W (G9 .slots)) ((Yields.yields-copy 𝓤 H A W (λ ρ. Unit) (Declared.row OpaqueRelayRuntime.the-type) Path.refl
-              (Copies.cStruct OpaqueRelayRuntime.the-type Laws'.the-laws Laws'.the-copy .copy 𝓤 H A W) (Rows.whole (Declared.row
-              OpaqueRelayRuntime.the-type)) (λ x. x) (λ x. x) (λ ρ told. Local.mem-whole 𝓤 H A W (Declared.row OpaqueRelayRuntime.the-type) ρ) λ ρ
-              told. Local.whole-mem 𝓤 H A W (Declared.row OpaqueRelayRuntime.the-type) ρ, Path.refl,), tt,) (Reads'.room-gone 𝓤 H A Laws''.mir) tt
-              Path.refl) (Scalar.g-room 𝓤 H A W E G161 6 Laws'.mir (Local.room-whole 𝓤 H A W (Declared.row OpaqueRelayRuntime.the-type) Laws'.mir
-              Path.refl)))
-          d166 : Typed.Typed 𝓤 H A 𝓣 E G7 b112 Δ2 at166
-          d166 = Typed.t-seq 𝓤 H A W 𝓣 E G7 G9 b110 b111 Δ2 at164 at165 d164 d165
-          d167 : Typed.Typed 𝓤 H A 𝓣 E G7 b113 Δ1 at167
-          d167 = Typed.t-block 𝓤 H A W 𝓣 E G7 b112 Δ1 at166 d166
-          d168 : Typed.Typed 𝓤 H A 𝓣 E G165 b115 Δ0 at168
-          d168 = Typed.t-return 𝓤 H A W 𝓣 E Δ0 tt
-          d169 : Typed.Typed 𝓤 H A 𝓣 E G164 b115 Δ0 at169
-          d169 = Typed.g-pre 𝓤 H A W 𝓣 E G164 G165 b115 Δ0 (Typed.pass T164 T165 s159) at168 (Scalar.g-room 𝓤 H A W E G164 13 Laws''.mir
-              (Local.room-whole 𝓤 H A W (Declared.row Relayed.the-type) Laws''.mir Path.refl)) d168
-          d170 : Typed.Typed 𝓤 H A 𝓣 E G163 b115 Δ0 at170
-          d170 = Typed.g-pre 𝓤 H A W 𝓣 E G163 G164 b115 Δ0 (Typed.pass T163 T164 s158) at169 (Scalar.g-room 𝓤 H A W E G163 12 (Syntax.tyInt Syntax.w8)
-              (Scalar.room-sc 𝓤 H A W (Row.sInt Syntax.w8))) d169
-          d171 : Typed.Typed 𝓤 H A 𝓣 E G8 b116 Δ0 at171
-          d171 = Typed.s-seq 𝓤 H A W 𝓣 E G8 G163 b114 b115 Δ0 (Typed.pass T8 T163 s157) at170 (LocalCopy.t-val-copy 𝓤 H A W E 𝓣 (λ ρ. Unit) G8 13 0
-              (Declared.row Relayed.the-type) Laws''.mir Laws''.mir (Rows.whole (Declared.row Relayed.the-type)) (Rows.whole (Declared.row
+              Syntax.tyBool) (Scalar.holds-sc 𝓤 H A W Row.sBool) Path.refl (λ u. Path.refl) λ u. tt) d166
+          d168 : Typed.Typed 𝓤 H A 𝓣 E G7 b109 Δ4 at168
+          d168 = Switch.t-switch 𝓤 H A W E 𝓣 G7 13 Syntax.w8 (λ x. x) (Syntax.arm (13 ∷ List.[]) b23 (Syntax.arm (15 ∷ List.[]) b42 (Syntax.arm (17 ∷
+              List.[]) b61 (Syntax.arm (18 ∷ List.[]) b76 (Syntax.arm (14 ∷ 16 ∷ List.[]) b77 (Syntax.default b108)))))) Δ4 (at35, (at65, (at95,
+              (at119, (at121, at167))))) (Scalar.reads-sc 𝓤 H A W (Row.sInt Syntax.w8)) Path.refl (d35, (d65, (d95, (d119, (d121, d167)))))
+          d169 : Typed.Typed 𝓤 H A 𝓣 E G7 b110 Δ3 at169
+          d169 = Typed.t-block 𝓤 H A W 𝓣 E G7 b109 Δ3 at168 d168
+          d170 : Typed.Typed 𝓤 H A 𝓣 E G9 b111 Δ2 at170
+          unfolding at170
+          d170 = Typed.s-typed 𝓤 H A W 𝓣 E G9 b111 Δ2 (λ Ψ. Typed.both s160 (Typed.pass T166 T167 s161 (Typed.pass T167 T168 s162 Ψ))) tt
+              (Typed.g-post 𝓤 H A W 𝓣 E G9 G167 G168 b111 (λ Ψ. Typed.both s160 (Typed.pass T166 T167 s161 Ψ)) (Typed.pass T167 T168 s162)
+              (Typed.g-post 𝓤 H A W 𝓣 E G9 G166 G167 b111 (Typed.both s160) (Typed.pass T166 T167 s161) (Plain.t-call-plain 𝓤 H A W 𝓣 0 ps·5 r·5
+              (claims· .10) (claims· .11) "hnsr_circuit::handle::unexpected" (known .5) E (λ pos β. β) G9 (record { pos = 6; st = List.[]; d = 0; at =
+              λ x. x }, (record { pos = 7; st = List.[]; d = 0; at = λ x. x }, tt),) 14 List.[] (Call.sub-id 𝓤 H A W (G9 .slots)) ((Yields.yields-copy
+              𝓤 H A W (λ ρ. Unit) (Declared.row OpaqueRelayRuntime.the-type) Path.refl (Copies.cStruct OpaqueRelayRuntime.the-type Laws''.the-laws
+              Laws''.the-copy .copy 𝓤 H A W) (Rows.whole (Declared.row OpaqueRelayRuntime.the-type)) (λ x. x) (λ x. x) (λ ρ told. Local.mem-whole 𝓤 H
+              A W (Declared.row OpaqueRelayRuntime.the-type) ρ) λ ρ told. Local.whole-mem 𝓤 H A W (Declared.row OpaqueRelayRuntime.the-type) ρ,
+              Path.refl,), ((Yields.yields-copy 𝓤 H A W (λ ρ. Unit) (Declared.row Places.the-type) Path.refl (Copies.cStruct Places.the-type
+              Laws.the-laws Laws.the-copy .copy 𝓤 H A W) (Rows.whole (Declared.row Places.the-type)) (λ x. x) (λ x. x) (λ ρ told. Local.mem-whole 𝓤 H
+              A W (Declared.row Places.the-type) ρ) λ ρ told. Local.whole-mem 𝓤 H A W (Declared.row Places.the-type) ρ, Path.refl,), tt,),)
+              (Reads'.room-gone 𝓤 H A Laws'''.mir) tt Path.refl) (Scalar.g-room 𝓤 H A W E G166 6 Laws''.mir (Local.room-whole 𝓤 H A W (Declared.row
+              OpaqueRelayRuntime.the-type) Laws''.mir Path.refl))) (Scalar.g-room 𝓤 H A W E G167 7 Laws.mir (Local.room-whole 𝓤 H A W (Declared.row
+              Places.the-type) Laws.mir Path.refl)))
+          d171 : Typed.Typed 𝓤 H A 𝓣 E G7 b112 Δ2 at171
+          d171 = Typed.t-seq 𝓤 H A W 𝓣 E G7 G9 b110 b111 Δ2 at169 at170 d169 d170
+          d172 : Typed.Typed 𝓤 H A 𝓣 E G7 b113 Δ1 at172
+          d172 = Typed.t-block 𝓤 H A W 𝓣 E G7 b112 Δ1 at171 d171
+          d173 : Typed.Typed 𝓤 H A 𝓣 E G171 b115 Δ0 at173
+          d173 = Typed.t-return 𝓤 H A W 𝓣 E Δ0 tt
+          d174 : Typed.Typed 𝓤 H A 𝓣 E G170 b115 Δ0 at174
+          d174 = Typed.g-pre 𝓤 H A W 𝓣 E G170 G171 b115 Δ0 (Typed.pass T170 T171 s165) at173 (Scalar.g-room 𝓤 H A W E G170 14 Laws'''.mir
+              (Local.room-whole 𝓤 H A W (Declared.row Relayed.the-type) Laws'''.mir Path.refl)) d173
+          d175 : Typed.Typed 𝓤 H A 𝓣 E G169 b115 Δ0 at175
+          d175 = Typed.g-pre 𝓤 H A W 𝓣 E G169 G170 b115 Δ0 (Typed.pass T169 T170 s164) at174 (Scalar.g-room 𝓤 H A W E G169 13 (Syntax.tyInt Syntax.w8)
+              (Scalar.room-sc 𝓤 H A W (Row.sInt Syntax.w8))) d174
+          d176 : Typed.Typed 𝓤 H A 𝓣 E G8 b116 Δ0 at176
+          d176 = Typed.s-seq 𝓤 H A W 𝓣 E G8 G169 b114 b115 Δ0 (Typed.pass T8 T169 s163) at175 (LocalCopy.t-val-copy 𝓤 H A W E 𝓣 (λ ρ. Unit) G8 14 0
+              (Declared.row Relayed.the-type) Laws'''.mir Laws'''.mir (Rows.whole (Declared.row Relayed.the-type)) (Rows.whole (Declared.row
               Relayed.the-type)) (λ x. x) (λ x. x) (λ x. x) Path.refl (Own.told-none 𝓤 H A (G8 .slots)) (Yields.yields-copy 𝓤 H A W (λ ρ. Unit)
-              (Declared.row Relayed.the-type) Path.refl (Copies.cStruct Relayed.the-type Laws''.the-laws Laws''.the-copy .copy 𝓤 H A W) (Rows.whole
+              (Declared.row Relayed.the-type) Path.refl (Copies.cStruct Relayed.the-type Laws'''.the-laws Laws'''.the-copy .copy 𝓤 H A W) (Rows.whole
               (Declared.row Relayed.the-type)) (λ x. x) (λ x. x) (λ ρ told. Local.mem-whole 𝓤 H A W (Declared.row Relayed.the-type) ρ) λ ρ told.
-              Local.whole-mem 𝓤 H A W (Declared.row Relayed.the-type) ρ) (Reads'.room-gone 𝓤 H A Laws''.mir) (Yields.makes-mem 𝓤 H A W (λ ρ. Unit)
+              Local.whole-mem 𝓤 H A W (Declared.row Relayed.the-type) ρ) (Reads'.room-gone 𝓤 H A Laws'''.mir) (Yields.makes-mem 𝓤 H A W (λ ρ. Unit)
               (Declared.row Relayed.the-type) Path.refl (Rows.whole (Declared.row Relayed.the-type)) (λ x. x) λ ρ told. Local.whole-mem 𝓤 H A W
-              (Declared.row Relayed.the-type) ρ) Path.refl Path.refl) d170
-          d172 : Typed.Typed 𝓤 H A 𝓣 E G7 b117 Δ0 at172
-          d172 = Typed.t-seq 𝓤 H A W 𝓣 E G7 G8 b113 b116 Δ0 at167 at171 d167 d171
-          d173 : Typed.Typed 𝓤 H A 𝓣 E G6 b118 Δ0 at173
-          d173 = Typed.s-seq 𝓤 H A W 𝓣 E G6 G7 b0 b117 Δ0 (Typed.pass T6 T7 s5) at172 (Scalar.t-use 𝓤 H A W E 𝓣 G6 (Scalar.oFld 7 ((Syntax.field 0) ∷
-              List.[]) (Syntax.tyInt Syntax.w8) 0 (Reads.fieldV RelayPacket.the-type Laws.the-laws 0)) 12 (Rows.sc-here (Row.sInt Syntax.w8))
+              (Declared.row Relayed.the-type) ρ) Path.refl Path.refl) d175
+          d177 : Typed.Typed 𝓤 H A 𝓣 E G7 b117 Δ0 at177
+          d177 = Typed.t-seq 𝓤 H A W 𝓣 E G7 G8 b113 b116 Δ0 at172 at176 d172 d176
+          d178 : Typed.Typed 𝓤 H A 𝓣 E G6 b118 Δ0 at178
+          d178 = Typed.s-seq 𝓤 H A W 𝓣 E G6 G7 b0 b117 Δ0 (Typed.pass T6 T7 s5) at177 (Scalar.t-use 𝓤 H A W E 𝓣 G6 (Scalar.oFld 8 ((Syntax.field 0) ∷
+              List.[]) (Syntax.tyInt Syntax.w8) 0 (Reads.fieldV RelayPacket.the-type Laws'.the-laws 0)) 13 (Rows.sc-here (Row.sInt Syntax.w8))
               (Syntax.tyInt Syntax.w8) (Row.valS (Row.sInt Syntax.w8)) (Row.sInt Syntax.w8 .of) (Reads.reads-field 𝓤 H A W RelayPacket.the-type
-              Laws.the-laws 0 (Syntax.tyInt Syntax.w8) 0 Path.refl, Path.refl,) (Reads'.room-gone 𝓤 H A (Syntax.tyInt Syntax.w8)) (Scalar.holds-sc 𝓤 H
-              A W (Row.sInt Syntax.w8)) Path.refl (λ u. Path.refl) λ u. tt) d172
-          d174 : Typed.Typed 𝓤 H A 𝓣 E G5 b118 Δ0 at174
-          d174 = Typed.g-pre 𝓤 H A W 𝓣 E G5 G6 b118 Δ0 (Typed.give s4) at173 (Know.g-shs-known 𝓤 H A W (Referent.fInt Syntax.w8) E G5 11 8 ref13 life8
+              Laws'.the-laws 0 (Syntax.tyInt Syntax.w8) 0 Path.refl, Path.refl,) (Reads'.room-gone 𝓤 H A (Syntax.tyInt Syntax.w8)) (Scalar.holds-sc 𝓤
+              H A W (Row.sInt Syntax.w8)) Path.refl (λ u. Path.refl) λ u. tt) d177
+          d179 : Typed.Typed 𝓤 H A 𝓣 E G5 b118 Δ0 at179
+          d179 = Typed.g-pre 𝓤 H A W 𝓣 E G5 G6 b118 Δ0 (Typed.give s4) at178 (Know.g-shs-known 𝓤 H A W (Referent.fInt Syntax.w8) E G5 12 8 ref13 life8
               0 (λ x. x) record { fits = Dec.lit< tt } (Reads'.as-is 𝓤 H A (Rows.sslice (Referent.rtF (Referent.fInt Syntax.w8)) ref13 8)) Path.refl
-              tt) d173
-          d175 : Typed.Typed 𝓤 H A 𝓣 E G4 b118 Δ0 at175
-          d175 = Typed.g-pre 𝓤 H A W 𝓣 E G4 G5 b118 Δ0 (Typed.give s3) at174 (Know.g-shs-known 𝓤 H A W (Referent.fInt Syntax.w8) E G4 10 7 ref12 life7
+              tt) d178
+          d180 : Typed.Typed 𝓤 H A 𝓣 E G4 b118 Δ0 at180
+          d180 = Typed.g-pre 𝓤 H A W 𝓣 E G4 G5 b118 Δ0 (Typed.give s3) at179 (Know.g-shs-known 𝓤 H A W (Referent.fInt Syntax.w8) E G4 11 7 ref12 life7
               0 (λ x. x) record { fits = Dec.lit< tt } (Reads'.as-is 𝓤 H A (Rows.sslice (Referent.rtF (Referent.fInt Syntax.w8)) ref12 7)) Path.refl
-              tt) d174
-          d176 : Typed.Typed 𝓤 H A 𝓣 E G3 b118 Δ0 at176
-          d176 = Typed.g-pre 𝓤 H A W 𝓣 E G3 G4 b118 Δ0 (Typed.give s2) at175 (Know.g-shs-known 𝓤 H A W (Referent.fInt Syntax.w8) E G3 9 6 ref11 life6
+              tt) d179
+          d181 : Typed.Typed 𝓤 H A 𝓣 E G3 b118 Δ0 at181
+          d181 = Typed.g-pre 𝓤 H A W 𝓣 E G3 G4 b118 Δ0 (Typed.give s2) at180 (Know.g-shs-known 𝓤 H A W (Referent.fInt Syntax.w8) E G3 10 6 ref11 life6
               0 (λ x. x) record { fits = Dec.lit< tt } (Reads'.as-is 𝓤 H A (Rows.sslice (Referent.rtF (Referent.fInt Syntax.w8)) ref11 6)) Path.refl
-              tt) d175
-          d177 : Typed.Typed 𝓤 H A 𝓣 E G2 b118 Δ0 at177
-          d177 = Typed.g-pre 𝓤 H A W 𝓣 E G2 G3 b118 Δ0 (Typed.give s1) at176 (Know.g-shs-known 𝓤 H A W (Referent.fInt Syntax.w8) E G2 8 5 ref10 life5
+              tt) d180
+          d182 : Typed.Typed 𝓤 H A 𝓣 E G2 b118 Δ0 at182
+          d182 = Typed.g-pre 𝓤 H A W 𝓣 E G2 G3 b118 Δ0 (Typed.give s1) at181 (Know.g-shs-known 𝓤 H A W (Referent.fInt Syntax.w8) E G2 9 5 ref10 life5
               0 (λ x. x) record { fits = Dec.lit< tt } (Reads'.as-is 𝓤 H A (Rows.sslice (Referent.rtF (Referent.fInt Syntax.w8)) ref10 5)) Path.refl
-              tt) d176
-          d178 : Typed.Typed 𝓤 H A 𝓣 E G0 b118 Δ0 at178
-          d178 = Typed.g-pre 𝓤 H A W 𝓣 E G0 G2 b118 Δ0 (Typed.give s0) at177 (Know.g-sl-known 𝓤 H A W (Referent.fInt Syntax.w32) E G0 5 4 ref9 life4 0
+              tt) d181
+          d183 : Typed.Typed 𝓤 H A 𝓣 E G0 b118 Δ0 at183
+          d183 = Typed.g-pre 𝓤 H A W 𝓣 E G0 G2 b118 Δ0 (Typed.give s0) at182 (Know.g-sl-known 𝓤 H A W (Referent.fInt Syntax.w32) E G0 5 4 ref9 life4 0
               (λ x. x) record { fits = Dec.lit< tt } (Reads'.as-is 𝓤 H A (Mut.mslice (Referent.rtF (Referent.fInt Syntax.w32)) ref9 4)) Path.refl tt)
-              d177
+              d182
           pub typed : Typed.Typed 𝓤 H A 𝓣 E (Function.Γin 9 ps r xs m κs qs) b118 (Function.Δret 9 ps r xs m κs qs) Φ
-          typed = d178
+          typed = d183
       module _ (κs : Lifetimes.Lfts 9) where
         pub record Args : Type 0 where
           pub pending : Kinds.Den { n = 9 } κs (MutSlice.pMutS RelayPending.row 0 tt)
@@ -3822,26 +3993,32 @@ module _ (claims· : Claims) where
           pub ledger : Kinds.Den { n = 9 } κs (MutSlice.pMutS ReservationUsage.row 2 tt)
           pub inflight : Kinds.Den { n = 9 } κs (MutSlice.pMutS InflightAction.row 3 tt)
           pub out : Kinds.Den { n = 9 } κs (MutSlice.pMutS (Referent.rtF (Referent.fInt Syntax.w32)) 4 tt)
-          pub relay : Kinds.Den { n = 9 } κs (Value.pVal record { ty = Declared.row OpaqueRelayRuntime.the-type; one = Path.refl; val = Laws'''.val
-              OpaqueRelayRuntime.the-type Laws'.the-laws; tells = Laws'''.tells OpaqueRelayRuntime.the-type Laws'.the-laws; still = Laws'''.still
-              OpaqueRelayRuntime.the-type Laws'.the-copy Exit.yes; row = Rows.whole (Declared.row OpaqueRelayRuntime.the-type); rd = λ x. x; mk = λ x.
-              x; } λ M 𝓤 H A W. record { copies = Laws'''.copy OpaqueRelayRuntime.the-type Laws'.the-copy 𝓤 H A W; lawful = Laws'''.lawful
-              OpaqueRelayRuntime.the-type Laws'.the-laws 𝓤 H A W; makes = Laws'''.makes OpaqueRelayRuntime.the-type Laws'.the-plain 𝓤 H A; in-mem =
+          pub relay : Kinds.Den { n = 9 } κs (Value.pVal record { ty = Declared.row OpaqueRelayRuntime.the-type; one = Path.refl; val = Laws''''.val
+              OpaqueRelayRuntime.the-type Laws''.the-laws; tells = Laws''''.tells OpaqueRelayRuntime.the-type Laws''.the-laws; still = Laws''''.still
+              OpaqueRelayRuntime.the-type Laws''.the-copy Exit.yes; row = Rows.whole (Declared.row OpaqueRelayRuntime.the-type); rd = λ x. x; mk = λ
+              x. x; } λ M 𝓤 H A W. record { copies = Laws''''.copy OpaqueRelayRuntime.the-type Laws''.the-copy 𝓤 H A W; lawful = Laws''''.lawful
+              OpaqueRelayRuntime.the-type Laws''.the-laws 𝓤 H A W; makes = Laws''''.makes OpaqueRelayRuntime.the-type Laws''.the-plain 𝓤 H A; in-mem =
               Local.mem-whole 𝓤 H A W (Declared.row OpaqueRelayRuntime.the-type); of-mem = Local.whole-mem 𝓤 H A W (Declared.row
               OpaqueRelayRuntime.the-type); })
-          pub packet : Kinds.Den { n = 9 } κs (Value.pVal record { ty = Declared.row RelayPacket.the-type; one = Path.refl; val = Laws'''.val
-              RelayPacket.the-type Laws.the-laws; tells = Laws'''.tells RelayPacket.the-type Laws.the-laws; still = Laws'''.still RelayPacket.the-type
-              Laws.the-copy Exit.yes; row = Rows.whole (Declared.row RelayPacket.the-type); rd = λ x. x; mk = λ x. x; } λ M 𝓤 H A W. record { copies =
-              Laws'''.copy RelayPacket.the-type Laws.the-copy 𝓤 H A W; lawful = Laws'''.lawful RelayPacket.the-type Laws.the-laws 𝓤 H A W; makes =
-              Laws'''.makes RelayPacket.the-type Laws.the-plain 𝓤 H A; in-mem = Local.mem-whole 𝓤 H A W (Declared.row RelayPacket.the-type); of-mem =
-              Local.whole-mem 𝓤 H A W (Declared.row RelayPacket.the-type); })
+          pub places : Kinds.Den { n = 9 } κs (Value.pVal record { ty = Declared.row Places.the-type; one = Path.refl; val = Laws''''.val
+              Places.the-type Laws.the-laws; tells = Laws''''.tells Places.the-type Laws.the-laws; still = Laws''''.still Places.the-type
+              Laws.the-copy Exit.yes; row = Rows.whole (Declared.row Places.the-type); rd = λ x. x; mk = λ x. x; } λ M 𝓤 H A W. record { copies =
+              Laws''''.copy Places.the-type Laws.the-copy 𝓤 H A W; lawful = Laws''''.lawful Places.the-type Laws.the-laws 𝓤 H A W; makes =
+              Laws''''.makes Places.the-type Laws.the-plain 𝓤 H A; in-mem = Local.mem-whole 𝓤 H A W (Declared.row Places.the-type); of-mem =
+              Local.whole-mem 𝓤 H A W (Declared.row Places.the-type); })
+          pub packet : Kinds.Den { n = 9 } κs (Value.pVal record { ty = Declared.row RelayPacket.the-type; one = Path.refl; val = Laws''''.val
+              RelayPacket.the-type Laws'.the-laws; tells = Laws''''.tells RelayPacket.the-type Laws'.the-laws; still = Laws''''.still
+              RelayPacket.the-type Laws'.the-copy Exit.yes; row = Rows.whole (Declared.row RelayPacket.the-type); rd = λ x. x; mk = λ x. x; } λ M 𝓤 H
+              A W. record { copies = Laws''''.copy RelayPacket.the-type Laws'.the-copy 𝓤 H A W; lawful = Laws''''.lawful RelayPacket.the-type
+              Laws'.the-laws 𝓤 H A W; makes = Laws''''.makes RelayPacket.the-type Laws'.the-plain 𝓤 H A; in-mem = Local.mem-whole 𝓤 H A W
+              (Declared.row RelayPacket.the-type); of-mem = Local.whole-mem 𝓤 H A W (Declared.row RelayPacket.the-type); })
           pub peer : Kinds.Den { n = 9 } κs (ShrSlice.pShrS (Referent.rtF (Referent.fInt Syntax.w8)) 5 tt)
           pub body : Kinds.Den { n = 9 } κs (ShrSlice.pShrS (Referent.rtF (Referent.fInt Syntax.w8)) 6 tt)
           pub endpoint : Kinds.Den { n = 9 } κs (ShrSlice.pShrS (Referent.rtF (Referent.fInt Syntax.w8)) 7 tt)
           pub random : Kinds.Den { n = 9 } κs (ShrSlice.pShrS (Referent.rtF (Referent.fInt Syntax.w8)) 8 tt)
         abbrev pub dens : (a : Args) → Kinds.Dens κs ps
-        dens = λ a. (a .pending, (a .circuits, (a .ledger, (a .inflight, (a .out, (a .relay, (a .packet, (a .peer, (a .body, (a .endpoint, (a .random,
-            tt))))),),),),),),)
+        dens = λ a. (a .pending, (a .circuits, (a .ledger, (a .inflight, (a .out, (a .relay, (a .places, (a .packet, (a .peer, (a .body, (a .endpoint,
+            (a .random, tt))))),),),),),),),)
       abbrev pub m0 : (κs : Lifetimes.Lfts 9) → (args : Args κs) → Typed.Mo T0
       m0 = λ κs args. (tt, Enter.partsP κs 1 ps xs (dens κs args))
       abbrev W0 : (κs : Lifetimes.Lfts 9) → (args : Args κs) → Typed.Want O0
@@ -3894,14 +4071,14 @@ module _ (claims· : Claims) where
       m6 = λ before given. s5 (m5 before given)
       abbrev W1 : (before : After-shared-slice-known3) → (given : s4 .gives (m4 (before .before) (before .shared-slice-known3 .given))) → Typed.Want
           O1
-      W1 = λ before given. Typed.wantNext T8 O0 (at171 (W0 (before .before .before .before .before .κs) (before .before .before .before .before
+      W1 = λ before given. Typed.wantNext T8 O0 (at176 (W0 (before .before .before .before .before .κs) (before .before .before .before .before
           .args))) (W0 (before .before .before .before .before .κs) (before .before .before .before .before .args))
       abbrev W2 : (before : After-shared-slice-known3) → (given : s4 .gives (m4 (before .before) (before .shared-slice-known3 .given))) → Typed.Want
           O2
       W2 = λ before given. Typed.inBlock O1 (W1 before given)
       abbrev W3 : (before : After-shared-slice-known3) → (given : s4 .gives (m4 (before .before) (before .shared-slice-known3 .given))) → Typed.Want
           O3
-      W3 = λ before given. Typed.wantNext T9 O2 (at165 (W2 before given)) (W2 before given)
+      W3 = λ before given. Typed.wantNext T9 O2 (at170 (W2 before given)) (W2 before given)
       abbrev W4 : (before : After-shared-slice-known3) → (given : s4 .gives (m4 (before .before) (before .shared-slice-known3 .given))) → Typed.Want
           O4
       W4 = λ before given. Typed.inBlock O3 (W3 before given)
@@ -3913,7 +4090,7 @@ module _ (claims· : Claims) where
         pub shared-slice-known4 : After-shared-slice-known4·own before
       module _ (before· : After-shared-slice-known4) where
         pub record At-match-keys1·own : Type 0 where
-          pub keys1 : Run.OneOf (13 ∷ List.[]) (Row.get 12 (T7 .locals) (m6 (before· .before) (before· .shared-slice-known4 .given)))
+          pub keys1 : Run.OneOf (13 ∷ List.[]) (Row.get 13 (T7 .locals) (m6 (before· .before) (before· .shared-slice-known4 .given)))
       pub record At-match-keys1 : Type 0 where
         pub before : After-shared-slice-known4
         pub match : At-match-keys1·own before
@@ -3982,617 +4159,637 @@ module _ (claims· : Claims) where
       m17 = λ before given. s21 .next (m16 (before .before) (before .handle-open-arg5 .given)) given
       module _ (before· : After-handle-open-arg5) where
         abbrev pub After-handle-open·own : Type 0
-        After-handle-open·own = Called.Called ps·0 r·0 (claims· .1) T24 (record { pos = 15; ty = Syntax.tyRef Syntax.erased Syntax.mut
-            RelayPending.to; ref = λ x. x; }, (record { pos = 17; ty = Syntax.tyRef Syntax.erased Syntax.mut RelayCircuit.to; ref = λ x. x; }, (record
-            { pos = 19; ty = Syntax.tyRef Syntax.erased Syntax.mut ReservationUsage.to; ref = λ x. x; }, (record { pos = 21; ty = Syntax.tyRef
-            Syntax.erased Syntax.mut InflightAction.to; ref = λ x. x; }, (record { pos = 23; ty = Syntax.tyRef Syntax.erased Syntax.mut (Syntax.tyInt
+        After-handle-open·own = Called.Called ps·0 r·0 (claims· .1) T24 (record { pos = 16; ty = Syntax.tyRef Syntax.erased Syntax.mut
+            RelayPending.to; ref = λ x. x; }, (record { pos = 18; ty = Syntax.tyRef Syntax.erased Syntax.mut RelayCircuit.to; ref = λ x. x; }, (record
+            { pos = 20; ty = Syntax.tyRef Syntax.erased Syntax.mut ReservationUsage.to; ref = λ x. x; }, (record { pos = 22; ty = Syntax.tyRef
+            Syntax.erased Syntax.mut InflightAction.to; ref = λ x. x; }, (record { pos = 24; ty = Syntax.tyRef Syntax.erased Syntax.mut (Syntax.tyInt
             Syntax.w32); ref = λ x. x; }, (record { pos = 6; st = List.[]; d = 0; at = λ x. x }, (record { pos = 7; st = List.[]; d = 0; at = λ x. x
-            }, (record { pos = 8; ty = Syntax.tyRef (Syntax.named 5) Syntax.imm (Syntax.tyInt Syntax.w8); ref = λ x. x; }, (record { pos = 9; ty =
-            Syntax.tyRef (Syntax.named 6) Syntax.imm (Syntax.tyInt Syntax.w8); ref = λ x. x; }, (record { pos = 10; ty = Syntax.tyRef (Syntax.named 7)
-            Syntax.imm (Syntax.tyInt Syntax.w8); ref = λ x. x; }, (record { pos = 11; ty = Syntax.tyRef (Syntax.named 8) Syntax.imm (Syntax.tyInt
-            Syntax.w8); ref = λ x. x; }, tt,),),),),),),),),),),) (m16 (before· .before) (before· .handle-open-arg5 .given))
+            }, (record { pos = 8; st = List.[]; d = 0; at = λ x. x }, (record { pos = 9; ty = Syntax.tyRef (Syntax.named 5) Syntax.imm (Syntax.tyInt
+            Syntax.w8); ref = λ x. x; }, (record { pos = 10; ty = Syntax.tyRef (Syntax.named 6) Syntax.imm (Syntax.tyInt Syntax.w8); ref = λ x. x; },
+            (record { pos = 11; ty = Syntax.tyRef (Syntax.named 7) Syntax.imm (Syntax.tyInt Syntax.w8); ref = λ x. x; }, (record { pos = 12; ty =
+            Syntax.tyRef (Syntax.named 8) Syntax.imm (Syntax.tyInt Syntax.w8); ref = λ x. x; }, tt,),),),),),),),),),),),) (m16 (before· .before)
+            (before· .handle-open-arg5 .given))
       pub record After-handle-open : Type 0 where
         pub before : After-handle-open-arg5
         pub handle-open : After-handle-open·own before
       abbrev pub After-handle-open·gave : (c : After-handle-open) → s21 .gives (m16 (c .before .before) (c .before .handle-open-arg5 .given))
-      After-handle-open·gave = λ c. Called.given ps·0 r·0 (claims· .1) T24 (record { pos = 15; ty = Syntax.tyRef Syntax.erased Syntax.mut
-          RelayPending.to; ref = λ x. x; }, (record { pos = 17; ty = Syntax.tyRef Syntax.erased Syntax.mut RelayCircuit.to; ref = λ x. x; }, (record {
-          pos = 19; ty = Syntax.tyRef Syntax.erased Syntax.mut ReservationUsage.to; ref = λ x. x; }, (record { pos = 21; ty = Syntax.tyRef
-          Syntax.erased Syntax.mut InflightAction.to; ref = λ x. x; }, (record { pos = 23; ty = Syntax.tyRef Syntax.erased Syntax.mut (Syntax.tyInt
+      After-handle-open·gave = λ c. Called.given ps·0 r·0 (claims· .1) T24 (record { pos = 16; ty = Syntax.tyRef Syntax.erased Syntax.mut
+          RelayPending.to; ref = λ x. x; }, (record { pos = 18; ty = Syntax.tyRef Syntax.erased Syntax.mut RelayCircuit.to; ref = λ x. x; }, (record {
+          pos = 20; ty = Syntax.tyRef Syntax.erased Syntax.mut ReservationUsage.to; ref = λ x. x; }, (record { pos = 22; ty = Syntax.tyRef
+          Syntax.erased Syntax.mut InflightAction.to; ref = λ x. x; }, (record { pos = 24; ty = Syntax.tyRef Syntax.erased Syntax.mut (Syntax.tyInt
           Syntax.w32); ref = λ x. x; }, (record { pos = 6; st = List.[]; d = 0; at = λ x. x }, (record { pos = 7; st = List.[]; d = 0; at = λ x. x },
-          (record { pos = 8; ty = Syntax.tyRef (Syntax.named 5) Syntax.imm (Syntax.tyInt Syntax.w8); ref = λ x. x; }, (record { pos = 9; ty =
-          Syntax.tyRef (Syntax.named 6) Syntax.imm (Syntax.tyInt Syntax.w8); ref = λ x. x; }, (record { pos = 10; ty = Syntax.tyRef (Syntax.named 7)
-          Syntax.imm (Syntax.tyInt Syntax.w8); ref = λ x. x; }, (record { pos = 11; ty = Syntax.tyRef (Syntax.named 8) Syntax.imm (Syntax.tyInt
-          Syntax.w8); ref = λ x. x; }, tt,),),),),),),),),),),) (m16 (c .before .before) (c .before .handle-open-arg5 .given)) (c .handle-open)
+          (record { pos = 8; st = List.[]; d = 0; at = λ x. x }, (record { pos = 9; ty = Syntax.tyRef (Syntax.named 5) Syntax.imm (Syntax.tyInt
+          Syntax.w8); ref = λ x. x; }, (record { pos = 10; ty = Syntax.tyRef (Syntax.named 6) Syntax.imm (Syntax.tyInt Syntax.w8); ref = λ x. x; },
+          (record { pos = 11; ty = Syntax.tyRef (Syntax.named 7) Syntax.imm (Syntax.tyInt Syntax.w8); ref = λ x. x; }, (record { pos = 12; ty =
+          Syntax.tyRef (Syntax.named 8) Syntax.imm (Syntax.tyInt Syntax.w8); ref = λ x. x; }, tt,),),),),),),),),),),),) (m16 (c .before .before) (c
+          .before .handle-open-arg5 .given)) (c .handle-open)
       abbrev pub m18 : (before : After-handle-open-arg5) → (given : s21 .gives (m16 (before .before) (before .handle-open-arg5 .given))) → Typed.Mo
           T26
       m18 = λ before given. s22 (m17 before given)
       abbrev pub m19 : (before : After-handle-open-arg5) → (given : s21 .gives (m16 (before .before) (before .handle-open-arg5 .given))) → Typed.Mo
           T27
       m19 = λ before given. s23 (m18 before given)
-      abbrev pub m20 : (before : After-handle-open) → (given : s25 .gives (m19 (before .before) (After-handle-open·gave before))) → Typed.Mo T29
-      m20 = λ before given. s25 .next (m19 (before .before) (After-handle-open·gave before)) given
+      abbrev pub m20 : (before : After-handle-open-arg5) → (given : s21 .gives (m16 (before .before) (before .handle-open-arg5 .given))) → Typed.Mo
+          T28
+      m20 = λ before given. s24 (m19 before given)
+      abbrev pub m21 : (before : After-handle-open) → (given : s26 .gives (m20 (before .before) (After-handle-open·gave before))) → Typed.Mo T30
+      m21 = λ before given. s26 .next (m20 (before .before) (After-handle-open·gave before)) given
       module _ (before· : After-handle-open) where
         pub record After-pending·own : Type 0 where
-          pub given : s25 .gives (m19 (before· .before) (After-handle-open·gave before·))
+          pub given : s26 .gives (m20 (before· .before) (After-handle-open·gave before·))
       pub record After-pending : Type 0 where
         pub before : After-handle-open
         pub pending : After-pending·own before
-      abbrev pub m21 : (before : After-pending) → (given : s28 .gives (m20 (before .before) (before .pending .given))) → Typed.Mo T32
-      m21 = λ before given. s28 .next (m20 (before .before) (before .pending .given)) given
+      abbrev pub m22 : (before : After-pending) → (given : s29 .gives (m21 (before .before) (before .pending .given))) → Typed.Mo T33
+      m22 = λ before given. s29 .next (m21 (before .before) (before .pending .given)) given
       module _ (before· : After-pending) where
         pub record After-circuits·own : Type 0 where
-          pub given : s28 .gives (m20 (before· .before) (before· .pending .given))
+          pub given : s29 .gives (m21 (before· .before) (before· .pending .given))
       pub record After-circuits : Type 0 where
         pub before : After-pending
         pub circuits : After-circuits·own before
-      abbrev pub m22 : (before : After-circuits) → (given : s31 .gives (m21 (before .before) (before .circuits .given))) → Typed.Mo T35
-      m22 = λ before given. s31 .next (m21 (before .before) (before .circuits .given)) given
+      abbrev pub m23 : (before : After-circuits) → (given : s32 .gives (m22 (before .before) (before .circuits .given))) → Typed.Mo T36
+      m23 = λ before given. s32 .next (m22 (before .before) (before .circuits .given)) given
       module _ (before· : After-circuits) where
         pub record After-ledger·own : Type 0 where
-          pub given : s31 .gives (m21 (before· .before) (before· .circuits .given))
+          pub given : s32 .gives (m22 (before· .before) (before· .circuits .given))
       pub record After-ledger : Type 0 where
         pub before : After-circuits
         pub ledger : After-ledger·own before
-      abbrev pub m23 : (before : After-ledger) → (given : s34 .gives (m22 (before .before) (before .ledger .given))) → Typed.Mo T38
-      m23 = λ before given. s34 .next (m22 (before .before) (before .ledger .given)) given
+      abbrev pub m24 : (before : After-ledger) → (given : s35 .gives (m23 (before .before) (before .ledger .given))) → Typed.Mo T39
+      m24 = λ before given. s35 .next (m23 (before .before) (before .ledger .given)) given
       module _ (before· : After-ledger) where
         pub record After-inflight·own : Type 0 where
-          pub given : s34 .gives (m22 (before· .before) (before· .ledger .given))
+          pub given : s35 .gives (m23 (before· .before) (before· .ledger .given))
       pub record After-inflight : Type 0 where
         pub before : After-ledger
         pub inflight : After-inflight·own before
-      abbrev pub m24 : (before : After-inflight) → (given : s37 .gives (m23 (before .before) (before .inflight .given))) → Typed.Mo T41
-      m24 = λ before given. s37 .next (m23 (before .before) (before .inflight .given)) given
+      abbrev pub m25 : (before : After-inflight) → (given : s38 .gives (m24 (before .before) (before .inflight .given))) → Typed.Mo T42
+      m25 = λ before given. s38 .next (m24 (before .before) (before .inflight .given)) given
       module _ (before· : After-inflight) where
         pub record After-out·own : Type 0 where
-          pub given : s37 .gives (m23 (before· .before) (before· .inflight .given))
+          pub given : s38 .gives (m24 (before· .before) (before· .inflight .given))
       pub record After-out : Type 0 where
         pub before : After-inflight
         pub out : After-out·own before
-      abbrev pub m25 : (before : After-out) → (given : s38 .gives (m24 (before .before) (before .out .given))) → Typed.Mo T42
-      m25 = λ before given. s38 .next (m24 (before .before) (before .out .given)) given
+      abbrev pub m26 : (before : After-out) → (given : s39 .gives (m25 (before .before) (before .out .given))) → Typed.Mo T43
+      m26 = λ before given. s39 .next (m25 (before .before) (before .out .given)) given
       module _ (before· : After-out) where
         pub record After-slice-known2·own : Type 0 where
-          pub given : s38 .gives (m24 (before· .before) (before· .out .given))
+          pub given : s39 .gives (m25 (before· .before) (before· .out .given))
       pub record After-slice-known2 : Type 0 where
         pub before : After-out
         pub slice-known2 : After-slice-known2·own before
       module _ (before· : After-shared-slice-known4) where
         pub record At-match-keys2·own : Type 0 where
-          pub keys2 : Run.OneOf (15 ∷ List.[]) (Row.get 12 (T7 .locals) (m6 (before· .before) (before· .shared-slice-known4 .given)))
+          pub keys2 : Run.OneOf (15 ∷ List.[]) (Row.get 13 (T7 .locals) (m6 (before· .before) (before· .shared-slice-known4 .given)))
       pub record At-match-keys2 : Type 0 where
         pub before : After-shared-slice-known4
         pub match : At-match-keys2·own before
-      abbrev pub m26 : (before : At-match-keys2) → (given : s41 .gives (m6 (before .before .before) (before .before .shared-slice-known4 .given))) →
-          Typed.Mo T45
-      m26 = λ before given. s41 .next (m6 (before .before .before) (before .before .shared-slice-known4 .given)) given
-      abbrev pub m27 : (before : At-match-keys2) → (given : s41 .gives (m6 (before .before .before) (before .before .shared-slice-known4 .given))) →
+      abbrev pub m27 : (before : At-match-keys2) → (given : s42 .gives (m6 (before .before .before) (before .before .shared-slice-known4 .given))) →
           Typed.Mo T46
-      m27 = λ before given. s42 .next (m26 before given)
+      m27 = λ before given. s42 .next (m6 (before .before .before) (before .before .shared-slice-known4 .given)) given
+      abbrev pub m28 : (before : At-match-keys2) → (given : s42 .gives (m6 (before .before .before) (before .before .shared-slice-known4 .given))) →
+          Typed.Mo T47
+      m28 = λ before given. s43 .next (m27 before given)
       module _ (before· : At-match-keys2) where
         pub record After-handle-accept-arg·own : Type 0 where
-          pub given : s41 .gives (m6 (before· .before .before) (before· .before .shared-slice-known4 .given))
+          pub given : s42 .gives (m6 (before· .before .before) (before· .before .shared-slice-known4 .given))
       pub record After-handle-accept-arg : Type 0 where
         pub before : At-match-keys2
         pub handle-accept-arg : After-handle-accept-arg·own before
-      abbrev pub m28 : (before : After-handle-accept-arg) → (given : s44 .gives (m27 (before .before) (before .handle-accept-arg .given))) → Typed.Mo
-          T48
-      m28 = λ before given. s44 .next (m27 (before .before) (before .handle-accept-arg .given)) given
-      abbrev pub m29 : (before : After-handle-accept-arg) → (given : s44 .gives (m27 (before .before) (before .handle-accept-arg .given))) → Typed.Mo
+      abbrev pub m29 : (before : After-handle-accept-arg) → (given : s45 .gives (m28 (before .before) (before .handle-accept-arg .given))) → Typed.Mo
           T49
-      m29 = λ before given. s45 .next (m28 before given)
+      m29 = λ before given. s45 .next (m28 (before .before) (before .handle-accept-arg .given)) given
+      abbrev pub m30 : (before : After-handle-accept-arg) → (given : s45 .gives (m28 (before .before) (before .handle-accept-arg .given))) → Typed.Mo
+          T50
+      m30 = λ before given. s46 .next (m29 before given)
       module _ (before· : After-handle-accept-arg) where
         pub record After-handle-accept-arg2·own : Type 0 where
-          pub given : s44 .gives (m27 (before· .before) (before· .handle-accept-arg .given))
+          pub given : s45 .gives (m28 (before· .before) (before· .handle-accept-arg .given))
       pub record After-handle-accept-arg2 : Type 0 where
         pub before : After-handle-accept-arg
         pub handle-accept-arg2 : After-handle-accept-arg2·own before
-      abbrev pub m30 : (before : After-handle-accept-arg2) → (given : s47 .gives (m29 (before .before) (before .handle-accept-arg2 .given))) →
-          Typed.Mo T51
-      m30 = λ before given. s47 .next (m29 (before .before) (before .handle-accept-arg2 .given)) given
-      abbrev pub m31 : (before : After-handle-accept-arg2) → (given : s47 .gives (m29 (before .before) (before .handle-accept-arg2 .given))) →
+      abbrev pub m31 : (before : After-handle-accept-arg2) → (given : s48 .gives (m30 (before .before) (before .handle-accept-arg2 .given))) →
           Typed.Mo T52
-      m31 = λ before given. s48 .next (m30 before given)
+      m31 = λ before given. s48 .next (m30 (before .before) (before .handle-accept-arg2 .given)) given
+      abbrev pub m32 : (before : After-handle-accept-arg2) → (given : s48 .gives (m30 (before .before) (before .handle-accept-arg2 .given))) →
+          Typed.Mo T53
+      m32 = λ before given. s49 .next (m31 before given)
       module _ (before· : After-handle-accept-arg2) where
         pub record After-handle-accept-arg3·own : Type 0 where
-          pub given : s47 .gives (m29 (before· .before) (before· .handle-accept-arg2 .given))
+          pub given : s48 .gives (m30 (before· .before) (before· .handle-accept-arg2 .given))
       pub record After-handle-accept-arg3 : Type 0 where
         pub before : After-handle-accept-arg2
         pub handle-accept-arg3 : After-handle-accept-arg3·own before
-      abbrev pub m32 : (before : After-handle-accept-arg3) → (given : s50 .gives (m31 (before .before) (before .handle-accept-arg3 .given))) →
-          Typed.Mo T54
-      m32 = λ before given. s50 .next (m31 (before .before) (before .handle-accept-arg3 .given)) given
-      abbrev pub m33 : (before : After-handle-accept-arg3) → (given : s50 .gives (m31 (before .before) (before .handle-accept-arg3 .given))) →
+      abbrev pub m33 : (before : After-handle-accept-arg3) → (given : s51 .gives (m32 (before .before) (before .handle-accept-arg3 .given))) →
           Typed.Mo T55
-      m33 = λ before given. s51 .next (m32 before given)
+      m33 = λ before given. s51 .next (m32 (before .before) (before .handle-accept-arg3 .given)) given
+      abbrev pub m34 : (before : After-handle-accept-arg3) → (given : s51 .gives (m32 (before .before) (before .handle-accept-arg3 .given))) →
+          Typed.Mo T56
+      m34 = λ before given. s52 .next (m33 before given)
       module _ (before· : After-handle-accept-arg3) where
         pub record After-handle-accept-arg4·own : Type 0 where
-          pub given : s50 .gives (m31 (before· .before) (before· .handle-accept-arg3 .given))
+          pub given : s51 .gives (m32 (before· .before) (before· .handle-accept-arg3 .given))
       pub record After-handle-accept-arg4 : Type 0 where
         pub before : After-handle-accept-arg3
         pub handle-accept-arg4 : After-handle-accept-arg4·own before
       abbrev pub Need-handle-accept-requires : Type 0
-      Need-handle-accept-requires = (c : After-handle-accept-arg4) → s52 .asks (m33 (c .before) (c .handle-accept-arg4 .given))
-      abbrev pub m34 : (before : After-handle-accept-arg4) → (given : s52 .gives (m33 (before .before) (before .handle-accept-arg4 .given))) →
-          Typed.Mo T56
-      m34 = λ before given. s52 .next (m33 (before .before) (before .handle-accept-arg4 .given)) given
+      Need-handle-accept-requires = (c : After-handle-accept-arg4) → s53 .asks (m34 (c .before) (c .handle-accept-arg4 .given))
+      abbrev pub m35 : (before : After-handle-accept-arg4) → (given : s53 .gives (m34 (before .before) (before .handle-accept-arg4 .given))) →
+          Typed.Mo T57
+      m35 = λ before given. s53 .next (m34 (before .before) (before .handle-accept-arg4 .given)) given
       module _ (before· : After-handle-accept-arg4) where
         abbrev pub After-handle-accept·own : Type 0
-        After-handle-accept·own = Called.Called ps·1 r·1 (claims· .3) T55 (record { pos = 25; ty = Syntax.tyRef Syntax.erased Syntax.mut
-            RelayPending.to; ref = λ x. x; }, (record { pos = 27; ty = Syntax.tyRef Syntax.erased Syntax.mut RelayCircuit.to; ref = λ x. x; }, (record
-            { pos = 29; ty = Syntax.tyRef Syntax.erased Syntax.mut InflightAction.to; ref = λ x. x; }, (record { pos = 31; ty = Syntax.tyRef
+        After-handle-accept·own = Called.Called ps·1 r·1 (claims· .3) T56 (record { pos = 26; ty = Syntax.tyRef Syntax.erased Syntax.mut
+            RelayPending.to; ref = λ x. x; }, (record { pos = 28; ty = Syntax.tyRef Syntax.erased Syntax.mut RelayCircuit.to; ref = λ x. x; }, (record
+            { pos = 30; ty = Syntax.tyRef Syntax.erased Syntax.mut InflightAction.to; ref = λ x. x; }, (record { pos = 32; ty = Syntax.tyRef
             Syntax.erased Syntax.mut (Syntax.tyInt Syntax.w32); ref = λ x. x; }, (record { pos = 6; st = List.[]; d = 0; at = λ x. x }, (record { pos
-            = 7; st = List.[]; d = 0; at = λ x. x }, (record { pos = 8; ty = Syntax.tyRef (Syntax.named 5) Syntax.imm (Syntax.tyInt Syntax.w8); ref =
-            λ x. x; }, (record { pos = 9; ty = Syntax.tyRef (Syntax.named 6) Syntax.imm (Syntax.tyInt Syntax.w8); ref = λ x. x; }, tt,),),),),),),),)
-            (m33 (before· .before) (before· .handle-accept-arg4 .given))
+            = 7; st = List.[]; d = 0; at = λ x. x }, (record { pos = 8; st = List.[]; d = 0; at = λ x. x }, (record { pos = 9; ty = Syntax.tyRef
+            (Syntax.named 5) Syntax.imm (Syntax.tyInt Syntax.w8); ref = λ x. x; }, (record { pos = 10; ty = Syntax.tyRef (Syntax.named 6) Syntax.imm
+            (Syntax.tyInt Syntax.w8); ref = λ x. x; }, tt,),),),),),),),),) (m34 (before· .before) (before· .handle-accept-arg4 .given))
       pub record After-handle-accept : Type 0 where
         pub before : After-handle-accept-arg4
         pub handle-accept : After-handle-accept·own before
-      abbrev pub After-handle-accept·gave : (c : After-handle-accept) → s52 .gives (m33 (c .before .before) (c .before .handle-accept-arg4 .given))
-      After-handle-accept·gave = λ c. Called.given ps·1 r·1 (claims· .3) T55 (record { pos = 25; ty = Syntax.tyRef Syntax.erased Syntax.mut
-          RelayPending.to; ref = λ x. x; }, (record { pos = 27; ty = Syntax.tyRef Syntax.erased Syntax.mut RelayCircuit.to; ref = λ x. x; }, (record {
-          pos = 29; ty = Syntax.tyRef Syntax.erased Syntax.mut InflightAction.to; ref = λ x. x; }, (record { pos = 31; ty = Syntax.tyRef Syntax.erased
+      abbrev pub After-handle-accept·gave : (c : After-handle-accept) → s53 .gives (m34 (c .before .before) (c .before .handle-accept-arg4 .given))
+      After-handle-accept·gave = λ c. Called.given ps·1 r·1 (claims· .3) T56 (record { pos = 26; ty = Syntax.tyRef Syntax.erased Syntax.mut
+          RelayPending.to; ref = λ x. x; }, (record { pos = 28; ty = Syntax.tyRef Syntax.erased Syntax.mut RelayCircuit.to; ref = λ x. x; }, (record {
+          pos = 30; ty = Syntax.tyRef Syntax.erased Syntax.mut InflightAction.to; ref = λ x. x; }, (record { pos = 32; ty = Syntax.tyRef Syntax.erased
           Syntax.mut (Syntax.tyInt Syntax.w32); ref = λ x. x; }, (record { pos = 6; st = List.[]; d = 0; at = λ x. x }, (record { pos = 7; st =
-          List.[]; d = 0; at = λ x. x }, (record { pos = 8; ty = Syntax.tyRef (Syntax.named 5) Syntax.imm (Syntax.tyInt Syntax.w8); ref = λ x. x; },
-          (record { pos = 9; ty = Syntax.tyRef (Syntax.named 6) Syntax.imm (Syntax.tyInt Syntax.w8); ref = λ x. x; }, tt,),),),),),),),) (m33 (c
-          .before .before) (c .before .handle-accept-arg4 .given)) (c .handle-accept)
-      abbrev pub m35 : (before : After-handle-accept-arg4) → (given : s52 .gives (m33 (before .before) (before .handle-accept-arg4 .given))) →
-          Typed.Mo T57
-      m35 = λ before given. s53 (m34 before given)
-      abbrev pub m36 : (before : After-handle-accept-arg4) → (given : s52 .gives (m33 (before .before) (before .handle-accept-arg4 .given))) →
+          List.[]; d = 0; at = λ x. x }, (record { pos = 8; st = List.[]; d = 0; at = λ x. x }, (record { pos = 9; ty = Syntax.tyRef (Syntax.named 5)
+          Syntax.imm (Syntax.tyInt Syntax.w8); ref = λ x. x; }, (record { pos = 10; ty = Syntax.tyRef (Syntax.named 6) Syntax.imm (Syntax.tyInt
+          Syntax.w8); ref = λ x. x; }, tt,),),),),),),),),) (m34 (c .before .before) (c .before .handle-accept-arg4 .given)) (c .handle-accept)
+      abbrev pub m36 : (before : After-handle-accept-arg4) → (given : s53 .gives (m34 (before .before) (before .handle-accept-arg4 .given))) →
           Typed.Mo T58
       m36 = λ before given. s54 (m35 before given)
-      abbrev pub m37 : (before : After-handle-accept) → (given : s56 .gives (m36 (before .before) (After-handle-accept·gave before))) → Typed.Mo T60
-      m37 = λ before given. s56 .next (m36 (before .before) (After-handle-accept·gave before)) given
+      abbrev pub m37 : (before : After-handle-accept-arg4) → (given : s53 .gives (m34 (before .before) (before .handle-accept-arg4 .given))) →
+          Typed.Mo T59
+      m37 = λ before given. s55 (m36 before given)
+      abbrev pub m38 : (before : After-handle-accept-arg4) → (given : s53 .gives (m34 (before .before) (before .handle-accept-arg4 .given))) →
+          Typed.Mo T60
+      m38 = λ before given. s56 (m37 before given)
+      abbrev pub m39 : (before : After-handle-accept) → (given : s58 .gives (m38 (before .before) (After-handle-accept·gave before))) → Typed.Mo T62
+      m39 = λ before given. s58 .next (m38 (before .before) (After-handle-accept·gave before)) given
       module _ (before· : After-handle-accept) where
         pub record After-pending2·own : Type 0 where
-          pub given : s56 .gives (m36 (before· .before) (After-handle-accept·gave before·))
+          pub given : s58 .gives (m38 (before· .before) (After-handle-accept·gave before·))
       pub record After-pending2 : Type 0 where
         pub before : After-handle-accept
         pub pending2 : After-pending2·own before
-      abbrev pub m38 : (before : After-pending2) → (given : s59 .gives (m37 (before .before) (before .pending2 .given))) → Typed.Mo T63
-      m38 = λ before given. s59 .next (m37 (before .before) (before .pending2 .given)) given
+      abbrev pub m40 : (before : After-pending2) → (given : s61 .gives (m39 (before .before) (before .pending2 .given))) → Typed.Mo T65
+      m40 = λ before given. s61 .next (m39 (before .before) (before .pending2 .given)) given
       module _ (before· : After-pending2) where
         pub record After-circuits2·own : Type 0 where
-          pub given : s59 .gives (m37 (before· .before) (before· .pending2 .given))
+          pub given : s61 .gives (m39 (before· .before) (before· .pending2 .given))
       pub record After-circuits2 : Type 0 where
         pub before : After-pending2
         pub circuits2 : After-circuits2·own before
-      abbrev pub m39 : (before : After-circuits2) → (given : s62 .gives (m38 (before .before) (before .circuits2 .given))) → Typed.Mo T66
-      m39 = λ before given. s62 .next (m38 (before .before) (before .circuits2 .given)) given
+      abbrev pub m41 : (before : After-circuits2) → (given : s64 .gives (m40 (before .before) (before .circuits2 .given))) → Typed.Mo T68
+      m41 = λ before given. s64 .next (m40 (before .before) (before .circuits2 .given)) given
       module _ (before· : After-circuits2) where
         pub record After-inflight2·own : Type 0 where
-          pub given : s62 .gives (m38 (before· .before) (before· .circuits2 .given))
+          pub given : s64 .gives (m40 (before· .before) (before· .circuits2 .given))
       pub record After-inflight2 : Type 0 where
         pub before : After-circuits2
         pub inflight2 : After-inflight2·own before
-      abbrev pub m40 : (before : After-inflight2) → (given : s65 .gives (m39 (before .before) (before .inflight2 .given))) → Typed.Mo T69
-      m40 = λ before given. s65 .next (m39 (before .before) (before .inflight2 .given)) given
+      abbrev pub m42 : (before : After-inflight2) → (given : s67 .gives (m41 (before .before) (before .inflight2 .given))) → Typed.Mo T71
+      m42 = λ before given. s67 .next (m41 (before .before) (before .inflight2 .given)) given
       module _ (before· : After-inflight2) where
         pub record After-out2·own : Type 0 where
-          pub given : s65 .gives (m39 (before· .before) (before· .inflight2 .given))
+          pub given : s67 .gives (m41 (before· .before) (before· .inflight2 .given))
       pub record After-out2 : Type 0 where
         pub before : After-inflight2
         pub out2 : After-out2·own before
-      abbrev pub m41 : (before : After-out2) → (given : s66 .gives (m40 (before .before) (before .out2 .given))) → Typed.Mo T70
-      m41 = λ before given. s66 .next (m40 (before .before) (before .out2 .given)) given
+      abbrev pub m43 : (before : After-out2) → (given : s68 .gives (m42 (before .before) (before .out2 .given))) → Typed.Mo T72
+      m43 = λ before given. s68 .next (m42 (before .before) (before .out2 .given)) given
       module _ (before· : After-out2) where
         pub record After-slice-known3·own : Type 0 where
-          pub given : s66 .gives (m40 (before· .before) (before· .out2 .given))
+          pub given : s68 .gives (m42 (before· .before) (before· .out2 .given))
       pub record After-slice-known3 : Type 0 where
         pub before : After-out2
         pub slice-known3 : After-slice-known3·own before
       module _ (before· : After-shared-slice-known4) where
         pub record At-match-keys3·own : Type 0 where
-          pub keys3 : Run.OneOf (17 ∷ List.[]) (Row.get 12 (T7 .locals) (m6 (before· .before) (before· .shared-slice-known4 .given)))
+          pub keys3 : Run.OneOf (17 ∷ List.[]) (Row.get 13 (T7 .locals) (m6 (before· .before) (before· .shared-slice-known4 .given)))
       pub record At-match-keys3 : Type 0 where
         pub before : After-shared-slice-known4
         pub match : At-match-keys3·own before
-      abbrev pub m42 : (before : At-match-keys3) → (given : s69 .gives (m6 (before .before .before) (before .before .shared-slice-known4 .given))) →
-          Typed.Mo T73
-      m42 = λ before given. s69 .next (m6 (before .before .before) (before .before .shared-slice-known4 .given)) given
-      abbrev pub m43 : (before : At-match-keys3) → (given : s69 .gives (m6 (before .before .before) (before .before .shared-slice-known4 .given))) →
-          Typed.Mo T74
-      m43 = λ before given. s70 .next (m42 before given)
+      abbrev pub m44 : (before : At-match-keys3) → (given : s71 .gives (m6 (before .before .before) (before .before .shared-slice-known4 .given))) →
+          Typed.Mo T75
+      m44 = λ before given. s71 .next (m6 (before .before .before) (before .before .shared-slice-known4 .given)) given
+      abbrev pub m45 : (before : At-match-keys3) → (given : s71 .gives (m6 (before .before .before) (before .before .shared-slice-known4 .given))) →
+          Typed.Mo T76
+      m45 = λ before given. s72 .next (m44 before given)
       module _ (before· : At-match-keys3) where
         pub record After-handle-data-arg·own : Type 0 where
-          pub given : s69 .gives (m6 (before· .before .before) (before· .before .shared-slice-known4 .given))
+          pub given : s71 .gives (m6 (before· .before .before) (before· .before .shared-slice-known4 .given))
       pub record After-handle-data-arg : Type 0 where
         pub before : At-match-keys3
         pub handle-data-arg : After-handle-data-arg·own before
-      abbrev pub m44 : (before : After-handle-data-arg) → (given : s72 .gives (m43 (before .before) (before .handle-data-arg .given))) → Typed.Mo T76
-      m44 = λ before given. s72 .next (m43 (before .before) (before .handle-data-arg .given)) given
-      abbrev pub m45 : (before : After-handle-data-arg) → (given : s72 .gives (m43 (before .before) (before .handle-data-arg .given))) → Typed.Mo T77
-      m45 = λ before given. s73 .next (m44 before given)
+      abbrev pub m46 : (before : After-handle-data-arg) → (given : s74 .gives (m45 (before .before) (before .handle-data-arg .given))) → Typed.Mo T78
+      m46 = λ before given. s74 .next (m45 (before .before) (before .handle-data-arg .given)) given
+      abbrev pub m47 : (before : After-handle-data-arg) → (given : s74 .gives (m45 (before .before) (before .handle-data-arg .given))) → Typed.Mo T79
+      m47 = λ before given. s75 .next (m46 before given)
       module _ (before· : After-handle-data-arg) where
         pub record After-handle-data-arg2·own : Type 0 where
-          pub given : s72 .gives (m43 (before· .before) (before· .handle-data-arg .given))
+          pub given : s74 .gives (m45 (before· .before) (before· .handle-data-arg .given))
       pub record After-handle-data-arg2 : Type 0 where
         pub before : After-handle-data-arg
         pub handle-data-arg2 : After-handle-data-arg2·own before
-      abbrev pub m46 : (before : After-handle-data-arg2) → (given : s75 .gives (m45 (before .before) (before .handle-data-arg2 .given))) → Typed.Mo
-          T79
-      m46 = λ before given. s75 .next (m45 (before .before) (before .handle-data-arg2 .given)) given
-      abbrev pub m47 : (before : After-handle-data-arg2) → (given : s75 .gives (m45 (before .before) (before .handle-data-arg2 .given))) → Typed.Mo
-          T80
-      m47 = λ before given. s76 .next (m46 before given)
+      abbrev pub m48 : (before : After-handle-data-arg2) → (given : s77 .gives (m47 (before .before) (before .handle-data-arg2 .given))) → Typed.Mo
+          T81
+      m48 = λ before given. s77 .next (m47 (before .before) (before .handle-data-arg2 .given)) given
+      abbrev pub m49 : (before : After-handle-data-arg2) → (given : s77 .gives (m47 (before .before) (before .handle-data-arg2 .given))) → Typed.Mo
+          T82
+      m49 = λ before given. s78 .next (m48 before given)
       module _ (before· : After-handle-data-arg2) where
         pub record After-handle-data-arg3·own : Type 0 where
-          pub given : s75 .gives (m45 (before· .before) (before· .handle-data-arg2 .given))
+          pub given : s77 .gives (m47 (before· .before) (before· .handle-data-arg2 .given))
       pub record After-handle-data-arg3 : Type 0 where
         pub before : After-handle-data-arg2
         pub handle-data-arg3 : After-handle-data-arg3·own before
-      abbrev pub m48 : (before : After-handle-data-arg3) → (given : s78 .gives (m47 (before .before) (before .handle-data-arg3 .given))) → Typed.Mo
-          T82
-      m48 = λ before given. s78 .next (m47 (before .before) (before .handle-data-arg3 .given)) given
-      abbrev pub m49 : (before : After-handle-data-arg3) → (given : s78 .gives (m47 (before .before) (before .handle-data-arg3 .given))) → Typed.Mo
-          T83
-      m49 = λ before given. s79 .next (m48 before given)
+      abbrev pub m50 : (before : After-handle-data-arg3) → (given : s80 .gives (m49 (before .before) (before .handle-data-arg3 .given))) → Typed.Mo
+          T84
+      m50 = λ before given. s80 .next (m49 (before .before) (before .handle-data-arg3 .given)) given
+      abbrev pub m51 : (before : After-handle-data-arg3) → (given : s80 .gives (m49 (before .before) (before .handle-data-arg3 .given))) → Typed.Mo
+          T85
+      m51 = λ before given. s81 .next (m50 before given)
       module _ (before· : After-handle-data-arg3) where
         pub record After-handle-data-arg4·own : Type 0 where
-          pub given : s78 .gives (m47 (before· .before) (before· .handle-data-arg3 .given))
+          pub given : s80 .gives (m49 (before· .before) (before· .handle-data-arg3 .given))
       pub record After-handle-data-arg4 : Type 0 where
         pub before : After-handle-data-arg3
         pub handle-data-arg4 : After-handle-data-arg4·own before
       abbrev pub Need-handle-data-requires : Type 0
-      Need-handle-data-requires = (c : After-handle-data-arg4) → s80 .asks (m49 (c .before) (c .handle-data-arg4 .given))
-      abbrev pub m50 : (before : After-handle-data-arg4) → (given : s80 .gives (m49 (before .before) (before .handle-data-arg4 .given))) → Typed.Mo
-          T84
-      m50 = λ before given. s80 .next (m49 (before .before) (before .handle-data-arg4 .given)) given
+      Need-handle-data-requires = (c : After-handle-data-arg4) → s82 .asks (m51 (c .before) (c .handle-data-arg4 .given))
+      abbrev pub m52 : (before : After-handle-data-arg4) → (given : s82 .gives (m51 (before .before) (before .handle-data-arg4 .given))) → Typed.Mo
+          T86
+      m52 = λ before given. s82 .next (m51 (before .before) (before .handle-data-arg4 .given)) given
       module _ (before· : After-handle-data-arg4) where
         abbrev pub After-handle-data·own : Type 0
-        After-handle-data·own = Called.Called ps·2 r·2 (claims· .5) T83 (record { pos = 33; ty = Syntax.tyRef Syntax.erased Syntax.mut
-            RelayCircuit.to; ref = λ x. x; }, (record { pos = 35; ty = Syntax.tyRef Syntax.erased Syntax.mut ReservationUsage.to; ref = λ x. x; },
-            (record { pos = 37; ty = Syntax.tyRef Syntax.erased Syntax.mut InflightAction.to; ref = λ x. x; }, (record { pos = 39; ty = Syntax.tyRef
+        After-handle-data·own = Called.Called ps·2 r·2 (claims· .5) T85 (record { pos = 34; ty = Syntax.tyRef Syntax.erased Syntax.mut
+            RelayCircuit.to; ref = λ x. x; }, (record { pos = 36; ty = Syntax.tyRef Syntax.erased Syntax.mut ReservationUsage.to; ref = λ x. x; },
+            (record { pos = 38; ty = Syntax.tyRef Syntax.erased Syntax.mut InflightAction.to; ref = λ x. x; }, (record { pos = 40; ty = Syntax.tyRef
             Syntax.erased Syntax.mut (Syntax.tyInt Syntax.w32); ref = λ x. x; }, (record { pos = 6; st = List.[]; d = 0; at = λ x. x }, (record { pos
-            = 7; st = List.[]; d = 0; at = λ x. x }, (record { pos = 8; ty = Syntax.tyRef (Syntax.named 5) Syntax.imm (Syntax.tyInt Syntax.w8); ref =
-            λ x. x; }, (record { pos = 9; ty = Syntax.tyRef (Syntax.named 6) Syntax.imm (Syntax.tyInt Syntax.w8); ref = λ x. x; }, tt,),),),),),),),)
-            (m49 (before· .before) (before· .handle-data-arg4 .given))
+            = 7; st = List.[]; d = 0; at = λ x. x }, (record { pos = 8; st = List.[]; d = 0; at = λ x. x }, (record { pos = 9; ty = Syntax.tyRef
+            (Syntax.named 5) Syntax.imm (Syntax.tyInt Syntax.w8); ref = λ x. x; }, (record { pos = 10; ty = Syntax.tyRef (Syntax.named 6) Syntax.imm
+            (Syntax.tyInt Syntax.w8); ref = λ x. x; }, tt,),),),),),),),),) (m51 (before· .before) (before· .handle-data-arg4 .given))
       pub record After-handle-data : Type 0 where
         pub before : After-handle-data-arg4
         pub handle-data : After-handle-data·own before
-      abbrev pub After-handle-data·gave : (c : After-handle-data) → s80 .gives (m49 (c .before .before) (c .before .handle-data-arg4 .given))
-      After-handle-data·gave = λ c. Called.given ps·2 r·2 (claims· .5) T83 (record { pos = 33; ty = Syntax.tyRef Syntax.erased Syntax.mut
-          RelayCircuit.to; ref = λ x. x; }, (record { pos = 35; ty = Syntax.tyRef Syntax.erased Syntax.mut ReservationUsage.to; ref = λ x. x; },
-          (record { pos = 37; ty = Syntax.tyRef Syntax.erased Syntax.mut InflightAction.to; ref = λ x. x; }, (record { pos = 39; ty = Syntax.tyRef
+      abbrev pub After-handle-data·gave : (c : After-handle-data) → s82 .gives (m51 (c .before .before) (c .before .handle-data-arg4 .given))
+      After-handle-data·gave = λ c. Called.given ps·2 r·2 (claims· .5) T85 (record { pos = 34; ty = Syntax.tyRef Syntax.erased Syntax.mut
+          RelayCircuit.to; ref = λ x. x; }, (record { pos = 36; ty = Syntax.tyRef Syntax.erased Syntax.mut ReservationUsage.to; ref = λ x. x; },
+          (record { pos = 38; ty = Syntax.tyRef Syntax.erased Syntax.mut InflightAction.to; ref = λ x. x; }, (record { pos = 40; ty = Syntax.tyRef
           Syntax.erased Syntax.mut (Syntax.tyInt Syntax.w32); ref = λ x. x; }, (record { pos = 6; st = List.[]; d = 0; at = λ x. x }, (record { pos =
-          7; st = List.[]; d = 0; at = λ x. x }, (record { pos = 8; ty = Syntax.tyRef (Syntax.named 5) Syntax.imm (Syntax.tyInt Syntax.w8); ref = λ x.
-          x; }, (record { pos = 9; ty = Syntax.tyRef (Syntax.named 6) Syntax.imm (Syntax.tyInt Syntax.w8); ref = λ x. x; }, tt,),),),),),),),) (m49 (c
-          .before .before) (c .before .handle-data-arg4 .given)) (c .handle-data)
-      abbrev pub m51 : (before : After-handle-data-arg4) → (given : s80 .gives (m49 (before .before) (before .handle-data-arg4 .given))) → Typed.Mo
-          T85
-      m51 = λ before given. s81 (m50 before given)
-      abbrev pub m52 : (before : After-handle-data-arg4) → (given : s80 .gives (m49 (before .before) (before .handle-data-arg4 .given))) → Typed.Mo
-          T86
-      m52 = λ before given. s82 (m51 before given)
-      abbrev pub m53 : (before : After-handle-data) → (given : s84 .gives (m52 (before .before) (After-handle-data·gave before))) → Typed.Mo T88
-      m53 = λ before given. s84 .next (m52 (before .before) (After-handle-data·gave before)) given
+          7; st = List.[]; d = 0; at = λ x. x }, (record { pos = 8; st = List.[]; d = 0; at = λ x. x }, (record { pos = 9; ty = Syntax.tyRef
+          (Syntax.named 5) Syntax.imm (Syntax.tyInt Syntax.w8); ref = λ x. x; }, (record { pos = 10; ty = Syntax.tyRef (Syntax.named 6) Syntax.imm
+          (Syntax.tyInt Syntax.w8); ref = λ x. x; }, tt,),),),),),),),),) (m51 (c .before .before) (c .before .handle-data-arg4 .given)) (c
+          .handle-data)
+      abbrev pub m53 : (before : After-handle-data-arg4) → (given : s82 .gives (m51 (before .before) (before .handle-data-arg4 .given))) → Typed.Mo
+          T87
+      m53 = λ before given. s83 (m52 before given)
+      abbrev pub m54 : (before : After-handle-data-arg4) → (given : s82 .gives (m51 (before .before) (before .handle-data-arg4 .given))) → Typed.Mo
+          T88
+      m54 = λ before given. s84 (m53 before given)
+      abbrev pub m55 : (before : After-handle-data-arg4) → (given : s82 .gives (m51 (before .before) (before .handle-data-arg4 .given))) → Typed.Mo
+          T89
+      m55 = λ before given. s85 (m54 before given)
+      abbrev pub m56 : (before : After-handle-data) → (given : s87 .gives (m55 (before .before) (After-handle-data·gave before))) → Typed.Mo T91
+      m56 = λ before given. s87 .next (m55 (before .before) (After-handle-data·gave before)) given
       module _ (before· : After-handle-data) where
         pub record After-circuits3·own : Type 0 where
-          pub given : s84 .gives (m52 (before· .before) (After-handle-data·gave before·))
+          pub given : s87 .gives (m55 (before· .before) (After-handle-data·gave before·))
       pub record After-circuits3 : Type 0 where
         pub before : After-handle-data
         pub circuits3 : After-circuits3·own before
-      abbrev pub m54 : (before : After-circuits3) → (given : s87 .gives (m53 (before .before) (before .circuits3 .given))) → Typed.Mo T91
-      m54 = λ before given. s87 .next (m53 (before .before) (before .circuits3 .given)) given
+      abbrev pub m57 : (before : After-circuits3) → (given : s90 .gives (m56 (before .before) (before .circuits3 .given))) → Typed.Mo T94
+      m57 = λ before given. s90 .next (m56 (before .before) (before .circuits3 .given)) given
       module _ (before· : After-circuits3) where
         pub record After-ledger2·own : Type 0 where
-          pub given : s87 .gives (m53 (before· .before) (before· .circuits3 .given))
+          pub given : s90 .gives (m56 (before· .before) (before· .circuits3 .given))
       pub record After-ledger2 : Type 0 where
         pub before : After-circuits3
         pub ledger2 : After-ledger2·own before
-      abbrev pub m55 : (before : After-ledger2) → (given : s90 .gives (m54 (before .before) (before .ledger2 .given))) → Typed.Mo T94
-      m55 = λ before given. s90 .next (m54 (before .before) (before .ledger2 .given)) given
+      abbrev pub m58 : (before : After-ledger2) → (given : s93 .gives (m57 (before .before) (before .ledger2 .given))) → Typed.Mo T97
+      m58 = λ before given. s93 .next (m57 (before .before) (before .ledger2 .given)) given
       module _ (before· : After-ledger2) where
         pub record After-inflight3·own : Type 0 where
-          pub given : s90 .gives (m54 (before· .before) (before· .ledger2 .given))
+          pub given : s93 .gives (m57 (before· .before) (before· .ledger2 .given))
       pub record After-inflight3 : Type 0 where
         pub before : After-ledger2
         pub inflight3 : After-inflight3·own before
-      abbrev pub m56 : (before : After-inflight3) → (given : s93 .gives (m55 (before .before) (before .inflight3 .given))) → Typed.Mo T97
-      m56 = λ before given. s93 .next (m55 (before .before) (before .inflight3 .given)) given
+      abbrev pub m59 : (before : After-inflight3) → (given : s96 .gives (m58 (before .before) (before .inflight3 .given))) → Typed.Mo T100
+      m59 = λ before given. s96 .next (m58 (before .before) (before .inflight3 .given)) given
       module _ (before· : After-inflight3) where
         pub record After-out3·own : Type 0 where
-          pub given : s93 .gives (m55 (before· .before) (before· .inflight3 .given))
+          pub given : s96 .gives (m58 (before· .before) (before· .inflight3 .given))
       pub record After-out3 : Type 0 where
         pub before : After-inflight3
         pub out3 : After-out3·own before
-      abbrev pub m57 : (before : After-out3) → (given : s94 .gives (m56 (before .before) (before .out3 .given))) → Typed.Mo T98
-      m57 = λ before given. s94 .next (m56 (before .before) (before .out3 .given)) given
+      abbrev pub m60 : (before : After-out3) → (given : s97 .gives (m59 (before .before) (before .out3 .given))) → Typed.Mo T101
+      m60 = λ before given. s97 .next (m59 (before .before) (before .out3 .given)) given
       module _ (before· : After-out3) where
         pub record After-slice-known4·own : Type 0 where
-          pub given : s94 .gives (m56 (before· .before) (before· .out3 .given))
+          pub given : s97 .gives (m59 (before· .before) (before· .out3 .given))
       pub record After-slice-known4 : Type 0 where
         pub before : After-out3
         pub slice-known4 : After-slice-known4·own before
       module _ (before· : After-shared-slice-known4) where
         pub record At-match-keys4·own : Type 0 where
-          pub keys4 : Run.OneOf (18 ∷ List.[]) (Row.get 12 (T7 .locals) (m6 (before· .before) (before· .shared-slice-known4 .given)))
+          pub keys4 : Run.OneOf (18 ∷ List.[]) (Row.get 13 (T7 .locals) (m6 (before· .before) (before· .shared-slice-known4 .given)))
       pub record At-match-keys4 : Type 0 where
         pub before : After-shared-slice-known4
         pub match : At-match-keys4·own before
-      abbrev pub m58 : (before : At-match-keys4) → (given : s97 .gives (m6 (before .before .before) (before .before .shared-slice-known4 .given))) →
-          Typed.Mo T101
-      m58 = λ before given. s97 .next (m6 (before .before .before) (before .before .shared-slice-known4 .given)) given
-      abbrev pub m59 : (before : At-match-keys4) → (given : s97 .gives (m6 (before .before .before) (before .before .shared-slice-known4 .given))) →
-          Typed.Mo T102
-      m59 = λ before given. s98 .next (m58 before given)
+      abbrev pub m61 : (before : At-match-keys4) → (given : s100 .gives (m6 (before .before .before) (before .before .shared-slice-known4 .given))) →
+          Typed.Mo T104
+      m61 = λ before given. s100 .next (m6 (before .before .before) (before .before .shared-slice-known4 .given)) given
+      abbrev pub m62 : (before : At-match-keys4) → (given : s100 .gives (m6 (before .before .before) (before .before .shared-slice-known4 .given))) →
+          Typed.Mo T105
+      m62 = λ before given. s101 .next (m61 before given)
       module _ (before· : At-match-keys4) where
         pub record After-handle-window-arg·own : Type 0 where
-          pub given : s97 .gives (m6 (before· .before .before) (before· .before .shared-slice-known4 .given))
+          pub given : s100 .gives (m6 (before· .before .before) (before· .before .shared-slice-known4 .given))
       pub record After-handle-window-arg : Type 0 where
         pub before : At-match-keys4
         pub handle-window-arg : After-handle-window-arg·own before
-      abbrev pub m60 : (before : After-handle-window-arg) → (given : s100 .gives (m59 (before .before) (before .handle-window-arg .given))) → Typed.Mo
-          T104
-      m60 = λ before given. s100 .next (m59 (before .before) (before .handle-window-arg .given)) given
-      abbrev pub m61 : (before : After-handle-window-arg) → (given : s100 .gives (m59 (before .before) (before .handle-window-arg .given))) → Typed.Mo
-          T105
-      m61 = λ before given. s101 .next (m60 before given)
+      abbrev pub m63 : (before : After-handle-window-arg) → (given : s103 .gives (m62 (before .before) (before .handle-window-arg .given))) → Typed.Mo
+          T107
+      m63 = λ before given. s103 .next (m62 (before .before) (before .handle-window-arg .given)) given
+      abbrev pub m64 : (before : After-handle-window-arg) → (given : s103 .gives (m62 (before .before) (before .handle-window-arg .given))) → Typed.Mo
+          T108
+      m64 = λ before given. s104 .next (m63 before given)
       module _ (before· : After-handle-window-arg) where
         pub record After-handle-window-arg2·own : Type 0 where
-          pub given : s100 .gives (m59 (before· .before) (before· .handle-window-arg .given))
+          pub given : s103 .gives (m62 (before· .before) (before· .handle-window-arg .given))
       pub record After-handle-window-arg2 : Type 0 where
         pub before : After-handle-window-arg
         pub handle-window-arg2 : After-handle-window-arg2·own before
-      abbrev pub m62 : (before : After-handle-window-arg2) → (given : s103 .gives (m61 (before .before) (before .handle-window-arg2 .given))) →
-          Typed.Mo T107
-      m62 = λ before given. s103 .next (m61 (before .before) (before .handle-window-arg2 .given)) given
-      abbrev pub m63 : (before : After-handle-window-arg2) → (given : s103 .gives (m61 (before .before) (before .handle-window-arg2 .given))) →
-          Typed.Mo T108
-      m63 = λ before given. s104 .next (m62 before given)
+      abbrev pub m65 : (before : After-handle-window-arg2) → (given : s106 .gives (m64 (before .before) (before .handle-window-arg2 .given))) →
+          Typed.Mo T110
+      m65 = λ before given. s106 .next (m64 (before .before) (before .handle-window-arg2 .given)) given
+      abbrev pub m66 : (before : After-handle-window-arg2) → (given : s106 .gives (m64 (before .before) (before .handle-window-arg2 .given))) →
+          Typed.Mo T111
+      m66 = λ before given. s107 .next (m65 before given)
       module _ (before· : After-handle-window-arg2) where
         pub record After-handle-window-arg3·own : Type 0 where
-          pub given : s103 .gives (m61 (before· .before) (before· .handle-window-arg2 .given))
+          pub given : s106 .gives (m64 (before· .before) (before· .handle-window-arg2 .given))
       pub record After-handle-window-arg3 : Type 0 where
         pub before : After-handle-window-arg2
         pub handle-window-arg3 : After-handle-window-arg3·own before
       abbrev pub Need-handle-window-requires : Type 0
-      Need-handle-window-requires = (c : After-handle-window-arg3) → s105 .asks (m63 (c .before) (c .handle-window-arg3 .given))
-      abbrev pub m64 : (before : After-handle-window-arg3) → (given : s105 .gives (m63 (before .before) (before .handle-window-arg3 .given))) →
-          Typed.Mo T109
-      m64 = λ before given. s105 .next (m63 (before .before) (before .handle-window-arg3 .given)) given
+      Need-handle-window-requires = (c : After-handle-window-arg3) → s108 .asks (m66 (c .before) (c .handle-window-arg3 .given))
+      abbrev pub m67 : (before : After-handle-window-arg3) → (given : s108 .gives (m66 (before .before) (before .handle-window-arg3 .given))) →
+          Typed.Mo T112
+      m67 = λ before given. s108 .next (m66 (before .before) (before .handle-window-arg3 .given)) given
       module _ (before· : After-handle-window-arg3) where
         abbrev pub After-handle-window·own : Type 0
-        After-handle-window·own = Called.Called ps·3 r·3 (claims· .7) T108 (record { pos = 41; ty = Syntax.tyRef Syntax.erased Syntax.mut
-            RelayCircuit.to; ref = λ x. x; }, (record { pos = 43; ty = Syntax.tyRef Syntax.erased Syntax.mut InflightAction.to; ref = λ x. x; },
-            (record { pos = 45; ty = Syntax.tyRef Syntax.erased Syntax.mut (Syntax.tyInt Syntax.w32); ref = λ x. x; }, (record { pos = 6; st =
-            List.[]; d = 0; at = λ x. x }, (record { pos = 7; st = List.[]; d = 0; at = λ x. x }, (record { pos = 8; ty = Syntax.tyRef (Syntax.named
-            5) Syntax.imm (Syntax.tyInt Syntax.w8); ref = λ x. x; }, (record { pos = 9; ty = Syntax.tyRef (Syntax.named 6) Syntax.imm (Syntax.tyInt
-            Syntax.w8); ref = λ x. x; }, tt,),),),),),),) (m63 (before· .before) (before· .handle-window-arg3 .given))
+        After-handle-window·own = Called.Called ps·3 r·3 (claims· .7) T111 (record { pos = 42; ty = Syntax.tyRef Syntax.erased Syntax.mut
+            RelayCircuit.to; ref = λ x. x; }, (record { pos = 44; ty = Syntax.tyRef Syntax.erased Syntax.mut InflightAction.to; ref = λ x. x; },
+            (record { pos = 46; ty = Syntax.tyRef Syntax.erased Syntax.mut (Syntax.tyInt Syntax.w32); ref = λ x. x; }, (record { pos = 6; st =
+            List.[]; d = 0; at = λ x. x }, (record { pos = 7; st = List.[]; d = 0; at = λ x. x }, (record { pos = 8; st = List.[]; d = 0; at = λ x. x
+            }, (record { pos = 9; ty = Syntax.tyRef (Syntax.named 5) Syntax.imm (Syntax.tyInt Syntax.w8); ref = λ x. x; }, (record { pos = 10; ty =
+            Syntax.tyRef (Syntax.named 6) Syntax.imm (Syntax.tyInt Syntax.w8); ref = λ x. x; }, tt,),),),),),),),) (m66 (before· .before) (before·
+            .handle-window-arg3 .given))
       pub record After-handle-window : Type 0 where
         pub before : After-handle-window-arg3
         pub handle-window : After-handle-window·own before
-      abbrev pub After-handle-window·gave : (c : After-handle-window) → s105 .gives (m63 (c .before .before) (c .before .handle-window-arg3 .given))
-      After-handle-window·gave = λ c. Called.given ps·3 r·3 (claims· .7) T108 (record { pos = 41; ty = Syntax.tyRef Syntax.erased Syntax.mut
-          RelayCircuit.to; ref = λ x. x; }, (record { pos = 43; ty = Syntax.tyRef Syntax.erased Syntax.mut InflightAction.to; ref = λ x. x; }, (record
-          { pos = 45; ty = Syntax.tyRef Syntax.erased Syntax.mut (Syntax.tyInt Syntax.w32); ref = λ x. x; }, (record { pos = 6; st = List.[]; d = 0;
-          at = λ x. x }, (record { pos = 7; st = List.[]; d = 0; at = λ x. x }, (record { pos = 8; ty = Syntax.tyRef (Syntax.named 5) Syntax.imm
-          (Syntax.tyInt Syntax.w8); ref = λ x. x; }, (record { pos = 9; ty = Syntax.tyRef (Syntax.named 6) Syntax.imm (Syntax.tyInt Syntax.w8); ref =
-          λ x. x; }, tt,),),),),),),) (m63 (c .before .before) (c .before .handle-window-arg3 .given)) (c .handle-window)
-      abbrev pub m65 : (before : After-handle-window-arg3) → (given : s105 .gives (m63 (before .before) (before .handle-window-arg3 .given))) →
-          Typed.Mo T110
-      m65 = λ before given. s106 (m64 before given)
-      abbrev pub m66 : (before : After-handle-window-arg3) → (given : s105 .gives (m63 (before .before) (before .handle-window-arg3 .given))) →
-          Typed.Mo T111
-      m66 = λ before given. s107 (m65 before given)
-      abbrev pub m67 : (before : After-handle-window) → (given : s109 .gives (m66 (before .before) (After-handle-window·gave before))) → Typed.Mo T113
-      m67 = λ before given. s109 .next (m66 (before .before) (After-handle-window·gave before)) given
+      abbrev pub After-handle-window·gave : (c : After-handle-window) → s108 .gives (m66 (c .before .before) (c .before .handle-window-arg3 .given))
+      After-handle-window·gave = λ c. Called.given ps·3 r·3 (claims· .7) T111 (record { pos = 42; ty = Syntax.tyRef Syntax.erased Syntax.mut
+          RelayCircuit.to; ref = λ x. x; }, (record { pos = 44; ty = Syntax.tyRef Syntax.erased Syntax.mut InflightAction.to; ref = λ x. x; }, (record
+          { pos = 46; ty = Syntax.tyRef Syntax.erased Syntax.mut (Syntax.tyInt Syntax.w32); ref = λ x. x; }, (record { pos = 6; st = List.[]; d = 0;
+          at = λ x. x }, (record { pos = 7; st = List.[]; d = 0; at = λ x. x }, (record { pos = 8; st = List.[]; d = 0; at = λ x. x }, (record { pos =
+          9; ty = Syntax.tyRef (Syntax.named 5) Syntax.imm (Syntax.tyInt Syntax.w8); ref = λ x. x; }, (record { pos = 10; ty = Syntax.tyRef
+          (Syntax.named 6) Syntax.imm (Syntax.tyInt Syntax.w8); ref = λ x. x; }, tt,),),),),),),),) (m66 (c .before .before) (c .before
+          .handle-window-arg3 .given)) (c .handle-window)
+      abbrev pub m68 : (before : After-handle-window-arg3) → (given : s108 .gives (m66 (before .before) (before .handle-window-arg3 .given))) →
+          Typed.Mo T113
+      m68 = λ before given. s109 (m67 before given)
+      abbrev pub m69 : (before : After-handle-window-arg3) → (given : s108 .gives (m66 (before .before) (before .handle-window-arg3 .given))) →
+          Typed.Mo T114
+      m69 = λ before given. s110 (m68 before given)
+      abbrev pub m70 : (before : After-handle-window-arg3) → (given : s108 .gives (m66 (before .before) (before .handle-window-arg3 .given))) →
+          Typed.Mo T115
+      m70 = λ before given. s111 (m69 before given)
+      abbrev pub m71 : (before : After-handle-window) → (given : s113 .gives (m70 (before .before) (After-handle-window·gave before))) → Typed.Mo T117
+      m71 = λ before given. s113 .next (m70 (before .before) (After-handle-window·gave before)) given
       module _ (before· : After-handle-window) where
         pub record After-circuits4·own : Type 0 where
-          pub given : s109 .gives (m66 (before· .before) (After-handle-window·gave before·))
+          pub given : s113 .gives (m70 (before· .before) (After-handle-window·gave before·))
       pub record After-circuits4 : Type 0 where
         pub before : After-handle-window
         pub circuits4 : After-circuits4·own before
-      abbrev pub m68 : (before : After-circuits4) → (given : s112 .gives (m67 (before .before) (before .circuits4 .given))) → Typed.Mo T116
-      m68 = λ before given. s112 .next (m67 (before .before) (before .circuits4 .given)) given
+      abbrev pub m72 : (before : After-circuits4) → (given : s116 .gives (m71 (before .before) (before .circuits4 .given))) → Typed.Mo T120
+      m72 = λ before given. s116 .next (m71 (before .before) (before .circuits4 .given)) given
       module _ (before· : After-circuits4) where
         pub record After-inflight4·own : Type 0 where
-          pub given : s112 .gives (m67 (before· .before) (before· .circuits4 .given))
+          pub given : s116 .gives (m71 (before· .before) (before· .circuits4 .given))
       pub record After-inflight4 : Type 0 where
         pub before : After-circuits4
         pub inflight4 : After-inflight4·own before
-      abbrev pub m69 : (before : After-inflight4) → (given : s115 .gives (m68 (before .before) (before .inflight4 .given))) → Typed.Mo T119
-      m69 = λ before given. s115 .next (m68 (before .before) (before .inflight4 .given)) given
+      abbrev pub m73 : (before : After-inflight4) → (given : s119 .gives (m72 (before .before) (before .inflight4 .given))) → Typed.Mo T123
+      m73 = λ before given. s119 .next (m72 (before .before) (before .inflight4 .given)) given
       module _ (before· : After-inflight4) where
         pub record After-out4·own : Type 0 where
-          pub given : s115 .gives (m68 (before· .before) (before· .inflight4 .given))
+          pub given : s119 .gives (m72 (before· .before) (before· .inflight4 .given))
       pub record After-out4 : Type 0 where
         pub before : After-inflight4
         pub out4 : After-out4·own before
-      abbrev pub m70 : (before : After-out4) → (given : s116 .gives (m69 (before .before) (before .out4 .given))) → Typed.Mo T120
-      m70 = λ before given. s116 .next (m69 (before .before) (before .out4 .given)) given
+      abbrev pub m74 : (before : After-out4) → (given : s120 .gives (m73 (before .before) (before .out4 .given))) → Typed.Mo T124
+      m74 = λ before given. s120 .next (m73 (before .before) (before .out4 .given)) given
       module _ (before· : After-out4) where
         pub record After-slice-known5·own : Type 0 where
-          pub given : s116 .gives (m69 (before· .before) (before· .out4 .given))
+          pub given : s120 .gives (m73 (before· .before) (before· .out4 .given))
       pub record After-slice-known5 : Type 0 where
         pub before : After-out4
         pub slice-known5 : After-slice-known5·own before
-      abbrev pub m71 : (before : After-shared-slice-known4) → Typed.Mo T122
-      m71 = λ before. s118 (m6 (before .before) (before .shared-slice-known4 .given))
+      abbrev pub m75 : (before : After-shared-slice-known4) → Typed.Mo T126
+      m75 = λ before. s122 (m6 (before .before) (before .shared-slice-known4 .given))
       module _ (before· : After-shared-slice-known4) where
         pub record At-match-keys5·own : Type 0 where
-          pub keys5 : Run.OneOf (14 ∷ 16 ∷ List.[]) (Row.get 12 (T7 .locals) (m6 (before· .before) (before· .shared-slice-known4 .given)))
+          pub keys5 : Run.OneOf (14 ∷ 16 ∷ List.[]) (Row.get 13 (T7 .locals) (m6 (before· .before) (before· .shared-slice-known4 .given)))
       pub record At-match-keys5 : Type 0 where
         pub before : After-shared-slice-known4
         pub match : At-match-keys5·own before
-      abbrev pub m72 : (before : After-shared-slice-known4) → Typed.Mo T123
-      m72 = λ before. s119 .next (m6 (before .before) (before .shared-slice-known4 .given))
+      abbrev pub m76 : (before : After-shared-slice-known4) → Typed.Mo T127
+      m76 = λ before. s123 .next (m6 (before .before) (before .shared-slice-known4 .given))
       abbrev W5 : (before : After-shared-slice-known4) → Typed.Want O5
-      W5 = λ before. Typed.wantNext T124 O4 (at160 (W4 (before .before) (before .shared-slice-known4 .given))) (W4 (before .before) (before
+      W5 = λ before. Typed.wantNext T128 O4 (at165 (W4 (before .before) (before .shared-slice-known4 .given))) (W4 (before .before) (before
           .shared-slice-known4 .given))
       module _ (before· : After-shared-slice-known4) where
         pub record At-match-rest·own : Type 0 where
-          pub rest : ((((Unit { 0 } × (Run.OneOf (13 ∷ List.[]) (Row.get 12 (T7 .locals) (m6 (before· .before) (before· .shared-slice-known4 .given)))
-              → ⊥)) × (Run.OneOf (15 ∷ List.[]) (Row.get 12 (T7 .locals) (m6 (before· .before) (before· .shared-slice-known4 .given))) → ⊥)) ×
-              (Run.OneOf (17 ∷ List.[]) (Row.get 12 (T7 .locals) (m6 (before· .before) (before· .shared-slice-known4 .given))) → ⊥)) × (Run.OneOf (18
-              ∷ List.[]) (Row.get 12 (T7 .locals) (m6 (before· .before) (before· .shared-slice-known4 .given))) → ⊥)) × (Run.OneOf (14 ∷ 16 ∷ List.[])
-              (Row.get 12 (T7 .locals) (m6 (before· .before) (before· .shared-slice-known4 .given))) → ⊥)
+          pub rest : ((((Unit { 0 } × (Run.OneOf (13 ∷ List.[]) (Row.get 13 (T7 .locals) (m6 (before· .before) (before· .shared-slice-known4 .given)))
+              → ⊥)) × (Run.OneOf (15 ∷ List.[]) (Row.get 13 (T7 .locals) (m6 (before· .before) (before· .shared-slice-known4 .given))) → ⊥)) ×
+              (Run.OneOf (17 ∷ List.[]) (Row.get 13 (T7 .locals) (m6 (before· .before) (before· .shared-slice-known4 .given))) → ⊥)) × (Run.OneOf (18
+              ∷ List.[]) (Row.get 13 (T7 .locals) (m6 (before· .before) (before· .shared-slice-known4 .given))) → ⊥)) × (Run.OneOf (14 ∷ 16 ∷ List.[])
+              (Row.get 13 (T7 .locals) (m6 (before· .before) (before· .shared-slice-known4 .given))) → ⊥)
       pub record At-match-rest : Type 0 where
         pub before : After-shared-slice-known4
         pub match : At-match-rest·own before
       module _ (before· : At-match-rest) where
         pub record Then1·own : Type 0 where
-          pub taken : Nat._<_ (Row.get 12 (T7 .locals) (m6 (before· .before .before) (before· .before .shared-slice-known4 .given))) 13
+          pub taken : Nat._<_ (Row.get 13 (T7 .locals) (m6 (before· .before .before) (before· .before .shared-slice-known4 .given))) 13
       pub record Then1 : Type 0 where
         pub before : At-match-rest
         pub if1 : Then1·own before
-      abbrev pub m73 : (before : At-match-rest) → Typed.Mo T125
-      m73 = λ before. s120 (m72 (before .before))
-      abbrev pub m74 : (before : At-match-rest) → Typed.Mo T126
-      m74 = λ before. s121 (m73 before)
+      abbrev pub m77 : (before : At-match-rest) → Typed.Mo T129
+      m77 = λ before. s124 (m76 (before .before))
+      abbrev pub m78 : (before : At-match-rest) → Typed.Mo T130
+      m78 = λ before. s125 (m77 before)
       module _ (before· : At-match-rest) where
         pub record Else1·own : Type 0 where
-          pub left : Nat._≤_ 13 (Row.get 12 (T7 .locals) (m6 (before· .before .before) (before· .before .shared-slice-known4 .given)))
+          pub left : Nat._≤_ 13 (Row.get 13 (T7 .locals) (m6 (before· .before .before) (before· .before .shared-slice-known4 .given)))
       pub record Else1 : Type 0 where
         pub before : At-match-rest
         pub if1 : Else1·own before
-      abbrev pub m75 : (before : At-match-rest) → Typed.Mo T127
-      m75 = λ before. s122 (m72 (before .before))
-      abbrev pub m76 : (before : At-match-rest) → Typed.Mo T128
-      m76 = λ before. s123 .next (m75 before)
+      abbrev pub m79 : (before : At-match-rest) → Typed.Mo T131
+      m79 = λ before. s126 (m76 (before .before))
+      abbrev pub m80 : (before : At-match-rest) → Typed.Mo T132
+      m80 = λ before. s127 .next (m79 before)
       abbrev W6 : (before : At-match-rest) → Typed.Want O6
-      W6 = λ before. Typed.wantNext T129 O4 (at158 (W4 (before .before .before) (before .before .shared-slice-known4 .given))) (W4 (before .before
+      W6 = λ before. Typed.wantNext T133 O4 (at163 (W4 (before .before .before) (before .before .shared-slice-known4 .given))) (W4 (before .before
           .before) (before .before .shared-slice-known4 .given))
       module _ (before· : Else1) where
         pub record Then2·own : Type 0 where
-          pub taken : Nat._<_ (Row.get 12 (T124 .locals) (m75 (before· .before))) 21
+          pub taken : Nat._<_ (Row.get 13 (T128 .locals) (m79 (before· .before))) 21
       pub record Then2 : Type 0 where
         pub before : Else1
         pub if2 : Then2·own before
-      abbrev pub m77 : (before : Else1) → Typed.Mo T130
-      m77 = λ before. s124 (m76 (before .before))
-      abbrev pub m78 : (before : Then2) → (given : s126 .gives (m77 (before .before))) → Typed.Mo T132
-      m78 = λ before given. s126 .next (m77 (before .before)) given
-      abbrev pub m79 : (before : Then2) → (given : s126 .gives (m77 (before .before))) → Typed.Mo T133
-      m79 = λ before given. s127 .next (m78 before given)
+      abbrev pub m81 : (before : Else1) → Typed.Mo T134
+      m81 = λ before. s128 (m80 (before .before))
+      abbrev pub m82 : (before : Then2) → (given : s130 .gives (m81 (before .before))) → Typed.Mo T136
+      m82 = λ before given. s130 .next (m81 (before .before)) given
+      abbrev pub m83 : (before : Then2) → (given : s130 .gives (m81 (before .before))) → Typed.Mo T137
+      m83 = λ before given. s131 .next (m82 before given)
       module _ (before· : Then2) where
         pub record After-handle-close-arg·own : Type 0 where
-          pub given : s126 .gives (m77 (before· .before))
+          pub given : s130 .gives (m81 (before· .before))
       pub record After-handle-close-arg : Type 0 where
         pub before : Then2
         pub handle-close-arg : After-handle-close-arg·own before
-      abbrev pub m80 : (before : After-handle-close-arg) → (given : s129 .gives (m79 (before .before) (before .handle-close-arg .given))) → Typed.Mo
-          T135
-      m80 = λ before given. s129 .next (m79 (before .before) (before .handle-close-arg .given)) given
-      abbrev pub m81 : (before : After-handle-close-arg) → (given : s129 .gives (m79 (before .before) (before .handle-close-arg .given))) → Typed.Mo
-          T136
-      m81 = λ before given. s130 .next (m80 before given)
+      abbrev pub m84 : (before : After-handle-close-arg) → (given : s133 .gives (m83 (before .before) (before .handle-close-arg .given))) → Typed.Mo
+          T139
+      m84 = λ before given. s133 .next (m83 (before .before) (before .handle-close-arg .given)) given
+      abbrev pub m85 : (before : After-handle-close-arg) → (given : s133 .gives (m83 (before .before) (before .handle-close-arg .given))) → Typed.Mo
+          T140
+      m85 = λ before given. s134 .next (m84 before given)
       module _ (before· : After-handle-close-arg) where
         pub record After-handle-close-arg2·own : Type 0 where
-          pub given : s129 .gives (m79 (before· .before) (before· .handle-close-arg .given))
+          pub given : s133 .gives (m83 (before· .before) (before· .handle-close-arg .given))
       pub record After-handle-close-arg2 : Type 0 where
         pub before : After-handle-close-arg
         pub handle-close-arg2 : After-handle-close-arg2·own before
-      abbrev pub m82 : (before : After-handle-close-arg2) → (given : s132 .gives (m81 (before .before) (before .handle-close-arg2 .given))) → Typed.Mo
-          T138
-      m82 = λ before given. s132 .next (m81 (before .before) (before .handle-close-arg2 .given)) given
-      abbrev pub m83 : (before : After-handle-close-arg2) → (given : s132 .gives (m81 (before .before) (before .handle-close-arg2 .given))) → Typed.Mo
-          T139
-      m83 = λ before given. s133 .next (m82 before given)
+      abbrev pub m86 : (before : After-handle-close-arg2) → (given : s136 .gives (m85 (before .before) (before .handle-close-arg2 .given))) → Typed.Mo
+          T142
+      m86 = λ before given. s136 .next (m85 (before .before) (before .handle-close-arg2 .given)) given
+      abbrev pub m87 : (before : After-handle-close-arg2) → (given : s136 .gives (m85 (before .before) (before .handle-close-arg2 .given))) → Typed.Mo
+          T143
+      m87 = λ before given. s137 .next (m86 before given)
       module _ (before· : After-handle-close-arg2) where
         pub record After-handle-close-arg3·own : Type 0 where
-          pub given : s132 .gives (m81 (before· .before) (before· .handle-close-arg2 .given))
+          pub given : s136 .gives (m85 (before· .before) (before· .handle-close-arg2 .given))
       pub record After-handle-close-arg3 : Type 0 where
         pub before : After-handle-close-arg2
         pub handle-close-arg3 : After-handle-close-arg3·own before
-      abbrev pub m84 : (before : After-handle-close-arg3) → (given : s135 .gives (m83 (before .before) (before .handle-close-arg3 .given))) → Typed.Mo
-          T141
-      m84 = λ before given. s135 .next (m83 (before .before) (before .handle-close-arg3 .given)) given
-      abbrev pub m85 : (before : After-handle-close-arg3) → (given : s135 .gives (m83 (before .before) (before .handle-close-arg3 .given))) → Typed.Mo
-          T142
-      m85 = λ before given. s136 .next (m84 before given)
+      abbrev pub m88 : (before : After-handle-close-arg3) → (given : s139 .gives (m87 (before .before) (before .handle-close-arg3 .given))) → Typed.Mo
+          T145
+      m88 = λ before given. s139 .next (m87 (before .before) (before .handle-close-arg3 .given)) given
+      abbrev pub m89 : (before : After-handle-close-arg3) → (given : s139 .gives (m87 (before .before) (before .handle-close-arg3 .given))) → Typed.Mo
+          T146
+      m89 = λ before given. s140 .next (m88 before given)
       module _ (before· : After-handle-close-arg3) where
         pub record After-handle-close-arg4·own : Type 0 where
-          pub given : s135 .gives (m83 (before· .before) (before· .handle-close-arg3 .given))
+          pub given : s139 .gives (m87 (before· .before) (before· .handle-close-arg3 .given))
       pub record After-handle-close-arg4 : Type 0 where
         pub before : After-handle-close-arg3
         pub handle-close-arg4 : After-handle-close-arg4·own before
       abbrev pub Need-handle-close-requires : Type 0
-      Need-handle-close-requires = (c : After-handle-close-arg4) → s137 .asks (m85 (c .before) (c .handle-close-arg4 .given))
-      abbrev pub m86 : (before : After-handle-close-arg4) → (given : s137 .gives (m85 (before .before) (before .handle-close-arg4 .given))) → Typed.Mo
-          T143
-      m86 = λ before given. s137 .next (m85 (before .before) (before .handle-close-arg4 .given)) given
+      Need-handle-close-requires = (c : After-handle-close-arg4) → s141 .asks (m89 (c .before) (c .handle-close-arg4 .given))
+      abbrev pub m90 : (before : After-handle-close-arg4) → (given : s141 .gives (m89 (before .before) (before .handle-close-arg4 .given))) → Typed.Mo
+          T147
+      m90 = λ before given. s141 .next (m89 (before .before) (before .handle-close-arg4 .given)) given
       module _ (before· : After-handle-close-arg4) where
         abbrev pub After-handle-close·own : Type 0
-        After-handle-close·own = Called.Called ps·4 r·4 (claims· .9) T142 (record { pos = 48; ty = Syntax.tyRef Syntax.erased Syntax.mut
-            RelayPending.to; ref = λ x. x; }, (record { pos = 50; ty = Syntax.tyRef Syntax.erased Syntax.mut RelayCircuit.to; ref = λ x. x; }, (record
-            { pos = 52; ty = Syntax.tyRef Syntax.erased Syntax.mut InflightAction.to; ref = λ x. x; }, (record { pos = 54; ty = Syntax.tyRef
+        After-handle-close·own = Called.Called ps·4 r·4 (claims· .9) T146 (record { pos = 49; ty = Syntax.tyRef Syntax.erased Syntax.mut
+            RelayPending.to; ref = λ x. x; }, (record { pos = 51; ty = Syntax.tyRef Syntax.erased Syntax.mut RelayCircuit.to; ref = λ x. x; }, (record
+            { pos = 53; ty = Syntax.tyRef Syntax.erased Syntax.mut InflightAction.to; ref = λ x. x; }, (record { pos = 55; ty = Syntax.tyRef
             Syntax.erased Syntax.mut (Syntax.tyInt Syntax.w32); ref = λ x. x; }, (record { pos = 6; st = List.[]; d = 0; at = λ x. x }, (record { pos
-            = 7; st = List.[]; d = 0; at = λ x. x }, (record { pos = 8; ty = Syntax.tyRef (Syntax.named 5) Syntax.imm (Syntax.tyInt Syntax.w8); ref =
-            λ x. x; }, (record { pos = 9; ty = Syntax.tyRef (Syntax.named 6) Syntax.imm (Syntax.tyInt Syntax.w8); ref = λ x. x; }, tt,),),),),),),),)
-            (m85 (before· .before) (before· .handle-close-arg4 .given))
+            = 7; st = List.[]; d = 0; at = λ x. x }, (record { pos = 8; st = List.[]; d = 0; at = λ x. x }, (record { pos = 9; ty = Syntax.tyRef
+            (Syntax.named 5) Syntax.imm (Syntax.tyInt Syntax.w8); ref = λ x. x; }, (record { pos = 10; ty = Syntax.tyRef (Syntax.named 6) Syntax.imm
+            (Syntax.tyInt Syntax.w8); ref = λ x. x; }, tt,),),),),),),),),) (m89 (before· .before) (before· .handle-close-arg4 .given))
       pub record After-handle-close : Type 0 where
         pub before : After-handle-close-arg4
         pub handle-close : After-handle-close·own before
-      abbrev pub After-handle-close·gave : (c : After-handle-close) → s137 .gives (m85 (c .before .before) (c .before .handle-close-arg4 .given))
-      After-handle-close·gave = λ c. Called.given ps·4 r·4 (claims· .9) T142 (record { pos = 48; ty = Syntax.tyRef Syntax.erased Syntax.mut
-          RelayPending.to; ref = λ x. x; }, (record { pos = 50; ty = Syntax.tyRef Syntax.erased Syntax.mut RelayCircuit.to; ref = λ x. x; }, (record {
-          pos = 52; ty = Syntax.tyRef Syntax.erased Syntax.mut InflightAction.to; ref = λ x. x; }, (record { pos = 54; ty = Syntax.tyRef Syntax.erased
+      abbrev pub After-handle-close·gave : (c : After-handle-close) → s141 .gives (m89 (c .before .before) (c .before .handle-close-arg4 .given))
+      After-handle-close·gave = λ c. Called.given ps·4 r·4 (claims· .9) T146 (record { pos = 49; ty = Syntax.tyRef Syntax.erased Syntax.mut
+          RelayPending.to; ref = λ x. x; }, (record { pos = 51; ty = Syntax.tyRef Syntax.erased Syntax.mut RelayCircuit.to; ref = λ x. x; }, (record {
+          pos = 53; ty = Syntax.tyRef Syntax.erased Syntax.mut InflightAction.to; ref = λ x. x; }, (record { pos = 55; ty = Syntax.tyRef Syntax.erased
           Syntax.mut (Syntax.tyInt Syntax.w32); ref = λ x. x; }, (record { pos = 6; st = List.[]; d = 0; at = λ x. x }, (record { pos = 7; st =
-          List.[]; d = 0; at = λ x. x }, (record { pos = 8; ty = Syntax.tyRef (Syntax.named 5) Syntax.imm (Syntax.tyInt Syntax.w8); ref = λ x. x; },
-          (record { pos = 9; ty = Syntax.tyRef (Syntax.named 6) Syntax.imm (Syntax.tyInt Syntax.w8); ref = λ x. x; }, tt,),),),),),),),) (m85 (c
-          .before .before) (c .before .handle-close-arg4 .given)) (c .handle-close)
-      abbrev pub m87 : (before : After-handle-close-arg4) → (given : s137 .gives (m85 (before .before) (before .handle-close-arg4 .given))) → Typed.Mo
-          T144
-      m87 = λ before given. s138 (m86 before given)
-      abbrev pub m88 : (before : After-handle-close-arg4) → (given : s137 .gives (m85 (before .before) (before .handle-close-arg4 .given))) → Typed.Mo
-          T145
-      m88 = λ before given. s139 (m87 before given)
-      abbrev pub m89 : (before : After-handle-close) → (given : s141 .gives (m88 (before .before) (After-handle-close·gave before))) → Typed.Mo T147
-      m89 = λ before given. s141 .next (m88 (before .before) (After-handle-close·gave before)) given
+          List.[]; d = 0; at = λ x. x }, (record { pos = 8; st = List.[]; d = 0; at = λ x. x }, (record { pos = 9; ty = Syntax.tyRef (Syntax.named 5)
+          Syntax.imm (Syntax.tyInt Syntax.w8); ref = λ x. x; }, (record { pos = 10; ty = Syntax.tyRef (Syntax.named 6) Syntax.imm (Syntax.tyInt
+          Syntax.w8); ref = λ x. x; }, tt,),),),),),),),),) (m89 (c .before .before) (c .before .handle-close-arg4 .given)) (c .handle-close)
+      abbrev pub m91 : (before : After-handle-close-arg4) → (given : s141 .gives (m89 (before .before) (before .handle-close-arg4 .given))) → Typed.Mo
+          T148
+      m91 = λ before given. s142 (m90 before given)
+      abbrev pub m92 : (before : After-handle-close-arg4) → (given : s141 .gives (m89 (before .before) (before .handle-close-arg4 .given))) → Typed.Mo
+          T149
+      m92 = λ before given. s143 (m91 before given)
+      abbrev pub m93 : (before : After-handle-close-arg4) → (given : s141 .gives (m89 (before .before) (before .handle-close-arg4 .given))) → Typed.Mo
+          T150
+      m93 = λ before given. s144 (m92 before given)
+      abbrev pub m94 : (before : After-handle-close) → (given : s146 .gives (m93 (before .before) (After-handle-close·gave before))) → Typed.Mo T152
+      m94 = λ before given. s146 .next (m93 (before .before) (After-handle-close·gave before)) given
       module _ (before· : After-handle-close) where
         pub record After-pending3·own : Type 0 where
-          pub given : s141 .gives (m88 (before· .before) (After-handle-close·gave before·))
+          pub given : s146 .gives (m93 (before· .before) (After-handle-close·gave before·))
       pub record After-pending3 : Type 0 where
         pub before : After-handle-close
         pub pending3 : After-pending3·own before
-      abbrev pub m90 : (before : After-pending3) → (given : s144 .gives (m89 (before .before) (before .pending3 .given))) → Typed.Mo T150
-      m90 = λ before given. s144 .next (m89 (before .before) (before .pending3 .given)) given
+      abbrev pub m95 : (before : After-pending3) → (given : s149 .gives (m94 (before .before) (before .pending3 .given))) → Typed.Mo T155
+      m95 = λ before given. s149 .next (m94 (before .before) (before .pending3 .given)) given
       module _ (before· : After-pending3) where
         pub record After-circuits5·own : Type 0 where
-          pub given : s144 .gives (m89 (before· .before) (before· .pending3 .given))
+          pub given : s149 .gives (m94 (before· .before) (before· .pending3 .given))
       pub record After-circuits5 : Type 0 where
         pub before : After-pending3
         pub circuits5 : After-circuits5·own before
-      abbrev pub m91 : (before : After-circuits5) → (given : s147 .gives (m90 (before .before) (before .circuits5 .given))) → Typed.Mo T153
-      m91 = λ before given. s147 .next (m90 (before .before) (before .circuits5 .given)) given
+      abbrev pub m96 : (before : After-circuits5) → (given : s152 .gives (m95 (before .before) (before .circuits5 .given))) → Typed.Mo T158
+      m96 = λ before given. s152 .next (m95 (before .before) (before .circuits5 .given)) given
       module _ (before· : After-circuits5) where
         pub record After-inflight5·own : Type 0 where
-          pub given : s147 .gives (m90 (before· .before) (before· .circuits5 .given))
+          pub given : s152 .gives (m95 (before· .before) (before· .circuits5 .given))
       pub record After-inflight5 : Type 0 where
         pub before : After-circuits5
         pub inflight5 : After-inflight5·own before
-      abbrev pub m92 : (before : After-inflight5) → (given : s150 .gives (m91 (before .before) (before .inflight5 .given))) → Typed.Mo T156
-      m92 = λ before given. s150 .next (m91 (before .before) (before .inflight5 .given)) given
+      abbrev pub m97 : (before : After-inflight5) → (given : s155 .gives (m96 (before .before) (before .inflight5 .given))) → Typed.Mo T161
+      m97 = λ before given. s155 .next (m96 (before .before) (before .inflight5 .given)) given
       module _ (before· : After-inflight5) where
         pub record After-out5·own : Type 0 where
-          pub given : s150 .gives (m91 (before· .before) (before· .inflight5 .given))
+          pub given : s155 .gives (m96 (before· .before) (before· .inflight5 .given))
       pub record After-out5 : Type 0 where
         pub before : After-inflight5
         pub out5 : After-out5·own before
-      abbrev pub m93 : (before : After-out5) → (given : s151 .gives (m92 (before .before) (before .out5 .given))) → Typed.Mo T157
-      m93 = λ before given. s151 .next (m92 (before .before) (before .out5 .given)) given
+      abbrev pub m98 : (before : After-out5) → (given : s156 .gives (m97 (before .before) (before .out5 .given))) → Typed.Mo T162
+      m98 = λ before given. s156 .next (m97 (before .before) (before .out5 .given)) given
       module _ (before· : After-out5) where
         pub record After-slice-known6·own : Type 0 where
-          pub given : s151 .gives (m92 (before· .before) (before· .out5 .given))
+          pub given : s156 .gives (m97 (before· .before) (before· .out5 .given))
       pub record After-slice-known6 : Type 0 where
         pub before : After-out5
         pub slice-known6 : After-slice-known6·own before
       module _ (before· : Else1) where
         pub record Else2·own : Type 0 where
-          pub left : Nat._≤_ 21 (Row.get 12 (T124 .locals) (m75 (before· .before)))
+          pub left : Nat._≤_ 21 (Row.get 13 (T128 .locals) (m79 (before· .before)))
       pub record Else2 : Type 0 where
         pub before : Else1
         pub if2 : Else2·own before
-      abbrev pub m94 : (before : Else1) → Typed.Mo T159
-      m94 = λ before. s153 (m76 (before .before))
-      abbrev pub m95 : (before : Else1) → Typed.Mo T160
-      m95 = λ before. s154 (m94 before)
-      abbrev pub m96 : (before : After-shared-slice-known4) → Typed.Mo T9
-      m96 = λ before. Row.set 46 (46, Rows.any-gone Syntax.tyBool) tt (Row.setRow 7 (7, Rows.any-gone Laws.mir,) (T7 .locals)) (Row.set 7 (7,
-          Rows.any-gone Laws.mir,) tt (T7 .locals) (m6 (before .before) (before .shared-slice-known4 .given)))
+      abbrev pub m99 : (before : Else1) → Typed.Mo T164
+      m99 = λ before. s158 (m80 (before .before))
+      abbrev pub m100 : (before : Else1) → Typed.Mo T165
+      m100 = λ before. s159 (m99 before)
+      abbrev pub m101 : (before : After-shared-slice-known4) → Typed.Mo T9
+      m101 = λ before. Row.set 47 (47, Rows.any-gone Syntax.tyBool) tt (Row.setRow 8 (8, Rows.any-gone Laws'.mir,) (T7 .locals)) (Row.set 8 (8,
+          Rows.any-gone Laws'.mir,) tt (T7 .locals) (m6 (before .before) (before .shared-slice-known4 .given)))
       module _ (before· : After-shared-slice-known4) where
         pub record At-match-came·own : Type 0 where
           pub came : Logic._⊎_ (At-match-keys5·own before·) (Logic._⊎_ ((match : At-match-rest·own before·) × Then1·own record { before = before·;
@@ -4602,49 +4799,51 @@ module _ (claims· : Claims) where
         pub before : After-shared-slice-known4
         pub match : At-match-came·own before
       abbrev pub Need-unexpected-requires : Type 0
-      Need-unexpected-requires = (c : At-match-came) → s155 .asks (m96 (c .before))
-      abbrev pub m97 : (before : At-match-came) → (given : s155 .gives (m96 (before .before))) → Typed.Mo T161
-      m97 = λ before given. s155 .next (m96 (before .before)) given
-      abbrev pub m98 : (before : At-match-came) → (given : s155 .gives (m96 (before .before))) → Typed.Mo T162
-      m98 = λ before given. s156 (m97 before given)
+      Need-unexpected-requires = (c : At-match-came) → s160 .asks (m101 (c .before))
+      abbrev pub m102 : (before : At-match-came) → (given : s160 .gives (m101 (before .before))) → Typed.Mo T166
+      m102 = λ before given. s160 .next (m101 (before .before)) given
+      abbrev pub m103 : (before : At-match-came) → (given : s160 .gives (m101 (before .before))) → Typed.Mo T167
+      m103 = λ before given. s161 (m102 before given)
+      abbrev pub m104 : (before : At-match-came) → (given : s160 .gives (m101 (before .before))) → Typed.Mo T168
+      m104 = λ before given. s162 (m103 before given)
       module _ (before· : At-match-came) where
         abbrev pub After-unexpected·own : Type 0
-        After-unexpected·own = Called.Called ps·5 r·5 (claims· .11) T9 (record { pos = 6; st = List.[]; d = 0; at = λ x. x }, tt,) (m96 (before·
-            .before))
+        After-unexpected·own = Called.Called ps·5 r·5 (claims· .11) T9 (record { pos = 6; st = List.[]; d = 0; at = λ x. x }, (record { pos = 7; st =
+            List.[]; d = 0; at = λ x. x }, tt),) (m101 (before· .before))
       pub record After-unexpected : Type 0 where
         pub before : At-match-came
         pub unexpected : After-unexpected·own before
-      abbrev pub After-unexpected·gave : (c : After-unexpected) → s155 .gives (m96 (c .before .before))
-      After-unexpected·gave = λ c. Called.given ps·5 r·5 (claims· .11) T9 (record { pos = 6; st = List.[]; d = 0; at = λ x. x }, tt,) (m96 (c .before
-          .before)) (c .unexpected)
-      abbrev pub m99 : (before : After-out) → (given : s38 .gives (m24 (before .before) (before .out .given))) → Typed.Mo T163
-      m99 = λ before given. s157 (m25 before given)
-      abbrev pub m100 : (before : After-out) → (given : s38 .gives (m24 (before .before) (before .out .given))) → Typed.Mo T164
-      m100 = λ before given. s158 (m99 before given)
-      abbrev pub m101 : (before : After-out) → (given : s38 .gives (m24 (before .before) (before .out .given))) → Typed.Mo T165
-      m101 = λ before given. s159 (m100 before given)
+      abbrev pub After-unexpected·gave : (c : After-unexpected) → s160 .gives (m101 (c .before .before))
+      After-unexpected·gave = λ c. Called.given ps·5 r·5 (claims· .11) T9 (record { pos = 6; st = List.[]; d = 0; at = λ x. x }, (record { pos = 7; st
+          = List.[]; d = 0; at = λ x. x }, tt),) (m101 (c .before .before)) (c .unexpected)
+      abbrev pub m105 : (before : After-out) → (given : s39 .gives (m25 (before .before) (before .out .given))) → Typed.Mo T169
+      m105 = λ before given. s163 (m26 before given)
+      abbrev pub m106 : (before : After-out) → (given : s39 .gives (m25 (before .before) (before .out .given))) → Typed.Mo T170
+      m106 = λ before given. s164 (m105 before given)
+      abbrev pub m107 : (before : After-out) → (given : s39 .gives (m25 (before .before) (before .out .given))) → Typed.Mo T171
+      m107 = λ before given. s165 (m106 before given)
       abbrev pub Need-same-length : Type 0
-      Need-same-length = (c : After-slice-known2) → MutSlice.SameLen (Row.get 1 (T165 .locals) (m101 (c .before) (c .slice-known2 .given))) (dens (c
+      Need-same-length = (c : After-slice-known2) → MutSlice.SameLen (Row.get 1 (T171 .locals) (m107 (c .before) (c .slice-known2 .given))) (dens (c
           .before .before .before .before .before .before .before .before .before .before .before .before .before .before .before .before .before
           .before .κs) (c .before .before .before .before .before .before .before .before .before .before .before .before .before .before .before
           .before .before .before .args) .0)
       abbrev pub Need-same-length-2 : Type 0
-      Need-same-length-2 = (c : After-slice-known2) → MutSlice.SameLen (Row.get 2 (T165 .locals) (m101 (c .before) (c .slice-known2 .given))) (dens (c
+      Need-same-length-2 = (c : After-slice-known2) → MutSlice.SameLen (Row.get 2 (T171 .locals) (m107 (c .before) (c .slice-known2 .given))) (dens (c
           .before .before .before .before .before .before .before .before .before .before .before .before .before .before .before .before .before
           .before .κs) (c .before .before .before .before .before .before .before .before .before .before .before .before .before .before .before
           .before .before .before .args) .1 .0)
       abbrev pub Need-same-length-3 : Type 0
-      Need-same-length-3 = (c : After-slice-known2) → MutSlice.SameLen (Row.get 3 (T165 .locals) (m101 (c .before) (c .slice-known2 .given))) (dens (c
+      Need-same-length-3 = (c : After-slice-known2) → MutSlice.SameLen (Row.get 3 (T171 .locals) (m107 (c .before) (c .slice-known2 .given))) (dens (c
           .before .before .before .before .before .before .before .before .before .before .before .before .before .before .before .before .before
           .before .κs) (c .before .before .before .before .before .before .before .before .before .before .before .before .before .before .before
           .before .before .before .args) .1 .1 .0)
       abbrev pub Need-same-length-4 : Type 0
-      Need-same-length-4 = (c : After-slice-known2) → MutSlice.SameLen (Row.get 4 (T165 .locals) (m101 (c .before) (c .slice-known2 .given))) (dens (c
+      Need-same-length-4 = (c : After-slice-known2) → MutSlice.SameLen (Row.get 4 (T171 .locals) (m107 (c .before) (c .slice-known2 .given))) (dens (c
           .before .before .before .before .before .before .before .before .before .before .before .before .before .before .before .before .before
           .before .κs) (c .before .before .before .before .before .before .before .before .before .before .before .before .before .before .before
           .before .before .before .args) .1 .1 .1 .0)
       abbrev pub Need-same-length-5 : Type 0
-      Need-same-length-5 = (c : After-slice-known2) → MutSlice.SameLen (Row.get 5 (T165 .locals) (m101 (c .before) (c .slice-known2 .given))) (dens (c
+      Need-same-length-5 = (c : After-slice-known2) → MutSlice.SameLen (Row.get 5 (T171 .locals) (m107 (c .before) (c .slice-known2 .given))) (dens (c
           .before .before .before .before .before .before .before .before .before .before .before .before .before .before .before .before .before
           .before .κs) (c .before .before .before .before .before .before .before .before .before .before .before .before .before .before .before
           .before .before .before .args) .1 .1 .1 .1 .0)
@@ -4653,7 +4852,7 @@ module _ (claims· : Claims) where
           .before .before .before .before .before .before .before .κs) (dens (c .before .before .before .before .before .before .before .before
           .before .before .before .before .before .before .before .before .before .before .κs) (c .before .before .before .before .before .before
           .before .before .before .before .before .before .before .before .before .before .before .before .args)) (Function.resV r (c .before .before
-          .before .before .before .before .before .before .before .before .before .before .before .before .before .before .before .before .κs) (m101
+          .before .before .before .before .before .before .before .before .before .before .before .before .before .before .before .before .κs) (m107
           (c .before) (c .slice-known2 .given) .0)) (Clauses.atExit (Kinds.endedOf 9 ps r) (c .before .before .before .before .before .before .before
           .before .before .before .before .before .before .before .before .before .before .before .κs) (dens (c .before .before .before .before
           .before .before .before .before .before .before .before .before .before .before .before .before .before .before .κs) (c .before .before
@@ -4661,29 +4860,29 @@ module _ (claims· : Claims) where
           (Enter.lastsP (c .before .before .before .before .before .before .before .before .before .before .before .before .before .before .before
           .before .before .before .κs) 1 ps xs (dens (c .before .before .before .before .before .before .before .before .before .before .before
           .before .before .before .before .before .before .before .κs) (c .before .before .before .before .before .before .before .before .before
-          .before .before .before .before .before .before .before .before .before .args)) (m101 (c .before) (c .slice-known2 .given) .1)))
-      abbrev pub m102 : (before : After-out2) → (given : s66 .gives (m40 (before .before) (before .out2 .given))) → Typed.Mo T163
-      m102 = λ before given. s157 (m41 before given)
-      abbrev pub m103 : (before : After-out2) → (given : s66 .gives (m40 (before .before) (before .out2 .given))) → Typed.Mo T164
-      m103 = λ before given. s158 (m102 before given)
-      abbrev pub m104 : (before : After-out2) → (given : s66 .gives (m40 (before .before) (before .out2 .given))) → Typed.Mo T165
-      m104 = λ before given. s159 (m103 before given)
+          .before .before .before .before .before .before .before .before .before .args)) (m107 (c .before) (c .slice-known2 .given) .1)))
+      abbrev pub m108 : (before : After-out2) → (given : s68 .gives (m42 (before .before) (before .out2 .given))) → Typed.Mo T169
+      m108 = λ before given. s163 (m43 before given)
+      abbrev pub m109 : (before : After-out2) → (given : s68 .gives (m42 (before .before) (before .out2 .given))) → Typed.Mo T170
+      m109 = λ before given. s164 (m108 before given)
+      abbrev pub m110 : (before : After-out2) → (given : s68 .gives (m42 (before .before) (before .out2 .given))) → Typed.Mo T171
+      m110 = λ before given. s165 (m109 before given)
       abbrev pub Need-same-length-6 : Type 0
-      Need-same-length-6 = (c : After-slice-known3) → MutSlice.SameLen (Row.get 1 (T165 .locals) (m104 (c .before) (c .slice-known3 .given))) (dens (c
+      Need-same-length-6 = (c : After-slice-known3) → MutSlice.SameLen (Row.get 1 (T171 .locals) (m110 (c .before) (c .slice-known3 .given))) (dens (c
           .before .before .before .before .before .before .before .before .before .before .before .before .before .before .before .before .κs) (c
           .before .before .before .before .before .before .before .before .before .before .before .before .before .before .before .before .args) .0)
       abbrev pub Need-same-length-7 : Type 0
-      Need-same-length-7 = (c : After-slice-known3) → MutSlice.SameLen (Row.get 2 (T165 .locals) (m104 (c .before) (c .slice-known3 .given))) (dens (c
+      Need-same-length-7 = (c : After-slice-known3) → MutSlice.SameLen (Row.get 2 (T171 .locals) (m110 (c .before) (c .slice-known3 .given))) (dens (c
           .before .before .before .before .before .before .before .before .before .before .before .before .before .before .before .before .κs) (c
           .before .before .before .before .before .before .before .before .before .before .before .before .before .before .before .before .args) .1
           .0)
       abbrev pub Need-same-length-8 : Type 0
-      Need-same-length-8 = (c : After-slice-known3) → MutSlice.SameLen (Row.get 4 (T165 .locals) (m104 (c .before) (c .slice-known3 .given))) (dens (c
+      Need-same-length-8 = (c : After-slice-known3) → MutSlice.SameLen (Row.get 4 (T171 .locals) (m110 (c .before) (c .slice-known3 .given))) (dens (c
           .before .before .before .before .before .before .before .before .before .before .before .before .before .before .before .before .κs) (c
           .before .before .before .before .before .before .before .before .before .before .before .before .before .before .before .before .args) .1 .1
           .1 .0)
       abbrev pub Need-same-length-9 : Type 0
-      Need-same-length-9 = (c : After-slice-known3) → MutSlice.SameLen (Row.get 5 (T165 .locals) (m104 (c .before) (c .slice-known3 .given))) (dens (c
+      Need-same-length-9 = (c : After-slice-known3) → MutSlice.SameLen (Row.get 5 (T171 .locals) (m110 (c .before) (c .slice-known3 .given))) (dens (c
           .before .before .before .before .before .before .before .before .before .before .before .before .before .before .before .before .κs) (c
           .before .before .before .before .before .before .before .before .before .before .before .before .before .before .before .before .args) .1 .1
           .1 .1 .0)
@@ -4692,37 +4891,37 @@ module _ (claims· : Claims) where
           .before .before .before .before .before .κs) (dens (c .before .before .before .before .before .before .before .before .before .before
           .before .before .before .before .before .before .κs) (c .before .before .before .before .before .before .before .before .before .before
           .before .before .before .before .before .before .args)) (Function.resV r (c .before .before .before .before .before .before .before .before
-          .before .before .before .before .before .before .before .before .κs) (m104 (c .before) (c .slice-known3 .given) .0)) (Clauses.atExit
+          .before .before .before .before .before .before .before .before .κs) (m110 (c .before) (c .slice-known3 .given) .0)) (Clauses.atExit
           (Kinds.endedOf 9 ps r) (c .before .before .before .before .before .before .before .before .before .before .before .before .before .before
           .before .before .κs) (dens (c .before .before .before .before .before .before .before .before .before .before .before .before .before
           .before .before .before .κs) (c .before .before .before .before .before .before .before .before .before .before .before .before .before
           .before .before .before .args)) (Enter.lastsP (c .before .before .before .before .before .before .before .before .before .before .before
           .before .before .before .before .before .κs) 1 ps xs (dens (c .before .before .before .before .before .before .before .before .before
           .before .before .before .before .before .before .before .κs) (c .before .before .before .before .before .before .before .before .before
-          .before .before .before .before .before .before .before .args)) (m104 (c .before) (c .slice-known3 .given) .1)))
-      abbrev pub m105 : (before : After-out3) → (given : s94 .gives (m56 (before .before) (before .out3 .given))) → Typed.Mo T163
-      m105 = λ before given. s157 (m57 before given)
-      abbrev pub m106 : (before : After-out3) → (given : s94 .gives (m56 (before .before) (before .out3 .given))) → Typed.Mo T164
-      m106 = λ before given. s158 (m105 before given)
-      abbrev pub m107 : (before : After-out3) → (given : s94 .gives (m56 (before .before) (before .out3 .given))) → Typed.Mo T165
-      m107 = λ before given. s159 (m106 before given)
+          .before .before .before .before .before .before .before .args)) (m110 (c .before) (c .slice-known3 .given) .1)))
+      abbrev pub m111 : (before : After-out3) → (given : s97 .gives (m59 (before .before) (before .out3 .given))) → Typed.Mo T169
+      m111 = λ before given. s163 (m60 before given)
+      abbrev pub m112 : (before : After-out3) → (given : s97 .gives (m59 (before .before) (before .out3 .given))) → Typed.Mo T170
+      m112 = λ before given. s164 (m111 before given)
+      abbrev pub m113 : (before : After-out3) → (given : s97 .gives (m59 (before .before) (before .out3 .given))) → Typed.Mo T171
+      m113 = λ before given. s165 (m112 before given)
       abbrev pub Need-same-length-10 : Type 0
-      Need-same-length-10 = (c : After-slice-known4) → MutSlice.SameLen (Row.get 2 (T165 .locals) (m107 (c .before) (c .slice-known4 .given))) (dens
+      Need-same-length-10 = (c : After-slice-known4) → MutSlice.SameLen (Row.get 2 (T171 .locals) (m113 (c .before) (c .slice-known4 .given))) (dens
           (c .before .before .before .before .before .before .before .before .before .before .before .before .before .before .before .before .κs) (c
           .before .before .before .before .before .before .before .before .before .before .before .before .before .before .before .before .args) .1
           .0)
       abbrev pub Need-same-length-11 : Type 0
-      Need-same-length-11 = (c : After-slice-known4) → MutSlice.SameLen (Row.get 3 (T165 .locals) (m107 (c .before) (c .slice-known4 .given))) (dens
+      Need-same-length-11 = (c : After-slice-known4) → MutSlice.SameLen (Row.get 3 (T171 .locals) (m113 (c .before) (c .slice-known4 .given))) (dens
           (c .before .before .before .before .before .before .before .before .before .before .before .before .before .before .before .before .κs) (c
           .before .before .before .before .before .before .before .before .before .before .before .before .before .before .before .before .args) .1 .1
           .0)
       abbrev pub Need-same-length-12 : Type 0
-      Need-same-length-12 = (c : After-slice-known4) → MutSlice.SameLen (Row.get 4 (T165 .locals) (m107 (c .before) (c .slice-known4 .given))) (dens
+      Need-same-length-12 = (c : After-slice-known4) → MutSlice.SameLen (Row.get 4 (T171 .locals) (m113 (c .before) (c .slice-known4 .given))) (dens
           (c .before .before .before .before .before .before .before .before .before .before .before .before .before .before .before .before .κs) (c
           .before .before .before .before .before .before .before .before .before .before .before .before .before .before .before .before .args) .1 .1
           .1 .0)
       abbrev pub Need-same-length-13 : Type 0
-      Need-same-length-13 = (c : After-slice-known4) → MutSlice.SameLen (Row.get 5 (T165 .locals) (m107 (c .before) (c .slice-known4 .given))) (dens
+      Need-same-length-13 = (c : After-slice-known4) → MutSlice.SameLen (Row.get 5 (T171 .locals) (m113 (c .before) (c .slice-known4 .given))) (dens
           (c .before .before .before .before .before .before .before .before .before .before .before .before .before .before .before .before .κs) (c
           .before .before .before .before .before .before .before .before .before .before .before .before .before .before .before .before .args) .1 .1
           .1 .1 .0)
@@ -4731,30 +4930,30 @@ module _ (claims· : Claims) where
           .before .before .before .before .before .κs) (dens (c .before .before .before .before .before .before .before .before .before .before
           .before .before .before .before .before .before .κs) (c .before .before .before .before .before .before .before .before .before .before
           .before .before .before .before .before .before .args)) (Function.resV r (c .before .before .before .before .before .before .before .before
-          .before .before .before .before .before .before .before .before .κs) (m107 (c .before) (c .slice-known4 .given) .0)) (Clauses.atExit
+          .before .before .before .before .before .before .before .before .κs) (m113 (c .before) (c .slice-known4 .given) .0)) (Clauses.atExit
           (Kinds.endedOf 9 ps r) (c .before .before .before .before .before .before .before .before .before .before .before .before .before .before
           .before .before .κs) (dens (c .before .before .before .before .before .before .before .before .before .before .before .before .before
           .before .before .before .κs) (c .before .before .before .before .before .before .before .before .before .before .before .before .before
           .before .before .before .args)) (Enter.lastsP (c .before .before .before .before .before .before .before .before .before .before .before
           .before .before .before .before .before .κs) 1 ps xs (dens (c .before .before .before .before .before .before .before .before .before
           .before .before .before .before .before .before .before .κs) (c .before .before .before .before .before .before .before .before .before
-          .before .before .before .before .before .before .before .args)) (m107 (c .before) (c .slice-known4 .given) .1)))
-      abbrev pub m108 : (before : After-out4) → (given : s116 .gives (m69 (before .before) (before .out4 .given))) → Typed.Mo T163
-      m108 = λ before given. s157 (m70 before given)
-      abbrev pub m109 : (before : After-out4) → (given : s116 .gives (m69 (before .before) (before .out4 .given))) → Typed.Mo T164
-      m109 = λ before given. s158 (m108 before given)
-      abbrev pub m110 : (before : After-out4) → (given : s116 .gives (m69 (before .before) (before .out4 .given))) → Typed.Mo T165
-      m110 = λ before given. s159 (m109 before given)
+          .before .before .before .before .before .before .before .args)) (m113 (c .before) (c .slice-known4 .given) .1)))
+      abbrev pub m114 : (before : After-out4) → (given : s120 .gives (m73 (before .before) (before .out4 .given))) → Typed.Mo T169
+      m114 = λ before given. s163 (m74 before given)
+      abbrev pub m115 : (before : After-out4) → (given : s120 .gives (m73 (before .before) (before .out4 .given))) → Typed.Mo T170
+      m115 = λ before given. s164 (m114 before given)
+      abbrev pub m116 : (before : After-out4) → (given : s120 .gives (m73 (before .before) (before .out4 .given))) → Typed.Mo T171
+      m116 = λ before given. s165 (m115 before given)
       abbrev pub Need-same-length-14 : Type 0
-      Need-same-length-14 = (c : After-slice-known5) → MutSlice.SameLen (Row.get 2 (T165 .locals) (m110 (c .before) (c .slice-known5 .given))) (dens
+      Need-same-length-14 = (c : After-slice-known5) → MutSlice.SameLen (Row.get 2 (T171 .locals) (m116 (c .before) (c .slice-known5 .given))) (dens
           (c .before .before .before .before .before .before .before .before .before .before .before .before .before .before .κs) (c .before .before
           .before .before .before .before .before .before .before .before .before .before .before .before .args) .1 .0)
       abbrev pub Need-same-length-15 : Type 0
-      Need-same-length-15 = (c : After-slice-known5) → MutSlice.SameLen (Row.get 4 (T165 .locals) (m110 (c .before) (c .slice-known5 .given))) (dens
+      Need-same-length-15 = (c : After-slice-known5) → MutSlice.SameLen (Row.get 4 (T171 .locals) (m116 (c .before) (c .slice-known5 .given))) (dens
           (c .before .before .before .before .before .before .before .before .before .before .before .before .before .before .κs) (c .before .before
           .before .before .before .before .before .before .before .before .before .before .before .before .args) .1 .1 .1 .0)
       abbrev pub Need-same-length-16 : Type 0
-      Need-same-length-16 = (c : After-slice-known5) → MutSlice.SameLen (Row.get 5 (T165 .locals) (m110 (c .before) (c .slice-known5 .given))) (dens
+      Need-same-length-16 = (c : After-slice-known5) → MutSlice.SameLen (Row.get 5 (T171 .locals) (m116 (c .before) (c .slice-known5 .given))) (dens
           (c .before .before .before .before .before .before .before .before .before .before .before .before .before .before .κs) (c .before .before
           .before .before .before .before .before .before .before .before .before .before .before .before .args) .1 .1 .1 .1 .0)
       abbrev pub Need-returns-4 : Type 0
@@ -4762,36 +4961,36 @@ module _ (claims· : Claims) where
           .before .before .before .κs) (dens (c .before .before .before .before .before .before .before .before .before .before .before .before
           .before .before .κs) (c .before .before .before .before .before .before .before .before .before .before .before .before .before .before
           .args)) (Function.resV r (c .before .before .before .before .before .before .before .before .before .before .before .before .before .before
-          .κs) (m110 (c .before) (c .slice-known5 .given) .0)) (Clauses.atExit (Kinds.endedOf 9 ps r) (c .before .before .before .before .before
+          .κs) (m116 (c .before) (c .slice-known5 .given) .0)) (Clauses.atExit (Kinds.endedOf 9 ps r) (c .before .before .before .before .before
           .before .before .before .before .before .before .before .before .before .κs) (dens (c .before .before .before .before .before .before
           .before .before .before .before .before .before .before .before .κs) (c .before .before .before .before .before .before .before .before
           .before .before .before .before .before .before .args)) (Enter.lastsP (c .before .before .before .before .before .before .before .before
           .before .before .before .before .before .before .κs) 1 ps xs (dens (c .before .before .before .before .before .before .before .before
           .before .before .before .before .before .before .κs) (c .before .before .before .before .before .before .before .before .before .before
-          .before .before .before .before .args)) (m110 (c .before) (c .slice-known5 .given) .1)))
-      abbrev pub m111 : (before : After-out5) → (given : s151 .gives (m92 (before .before) (before .out5 .given))) → Typed.Mo T163
-      m111 = λ before given. s157 (m93 before given)
-      abbrev pub m112 : (before : After-out5) → (given : s151 .gives (m92 (before .before) (before .out5 .given))) → Typed.Mo T164
-      m112 = λ before given. s158 (m111 before given)
-      abbrev pub m113 : (before : After-out5) → (given : s151 .gives (m92 (before .before) (before .out5 .given))) → Typed.Mo T165
-      m113 = λ before given. s159 (m112 before given)
+          .before .before .before .before .args)) (m116 (c .before) (c .slice-known5 .given) .1)))
+      abbrev pub m117 : (before : After-out5) → (given : s156 .gives (m97 (before .before) (before .out5 .given))) → Typed.Mo T169
+      m117 = λ before given. s163 (m98 before given)
+      abbrev pub m118 : (before : After-out5) → (given : s156 .gives (m97 (before .before) (before .out5 .given))) → Typed.Mo T170
+      m118 = λ before given. s164 (m117 before given)
+      abbrev pub m119 : (before : After-out5) → (given : s156 .gives (m97 (before .before) (before .out5 .given))) → Typed.Mo T171
+      m119 = λ before given. s165 (m118 before given)
       abbrev pub Need-same-length-17 : Type 0
-      Need-same-length-17 = (c : After-slice-known6) → MutSlice.SameLen (Row.get 1 (T165 .locals) (m113 (c .before) (c .slice-known6 .given))) (dens
+      Need-same-length-17 = (c : After-slice-known6) → MutSlice.SameLen (Row.get 1 (T171 .locals) (m119 (c .before) (c .slice-known6 .given))) (dens
           (c .before .before .before .before .before .before .before .before .before .before .before .before .before .before .before .before .before
           .before .κs) (c .before .before .before .before .before .before .before .before .before .before .before .before .before .before .before
           .before .before .before .args) .0)
       abbrev pub Need-same-length-18 : Type 0
-      Need-same-length-18 = (c : After-slice-known6) → MutSlice.SameLen (Row.get 2 (T165 .locals) (m113 (c .before) (c .slice-known6 .given))) (dens
+      Need-same-length-18 = (c : After-slice-known6) → MutSlice.SameLen (Row.get 2 (T171 .locals) (m119 (c .before) (c .slice-known6 .given))) (dens
           (c .before .before .before .before .before .before .before .before .before .before .before .before .before .before .before .before .before
           .before .κs) (c .before .before .before .before .before .before .before .before .before .before .before .before .before .before .before
           .before .before .before .args) .1 .0)
       abbrev pub Need-same-length-19 : Type 0
-      Need-same-length-19 = (c : After-slice-known6) → MutSlice.SameLen (Row.get 4 (T165 .locals) (m113 (c .before) (c .slice-known6 .given))) (dens
+      Need-same-length-19 = (c : After-slice-known6) → MutSlice.SameLen (Row.get 4 (T171 .locals) (m119 (c .before) (c .slice-known6 .given))) (dens
           (c .before .before .before .before .before .before .before .before .before .before .before .before .before .before .before .before .before
           .before .κs) (c .before .before .before .before .before .before .before .before .before .before .before .before .before .before .before
           .before .before .before .args) .1 .1 .1 .0)
       abbrev pub Need-same-length-20 : Type 0
-      Need-same-length-20 = (c : After-slice-known6) → MutSlice.SameLen (Row.get 5 (T165 .locals) (m113 (c .before) (c .slice-known6 .given))) (dens
+      Need-same-length-20 = (c : After-slice-known6) → MutSlice.SameLen (Row.get 5 (T171 .locals) (m119 (c .before) (c .slice-known6 .given))) (dens
           (c .before .before .before .before .before .before .before .before .before .before .before .before .before .before .before .before .before
           .before .κs) (c .before .before .before .before .before .before .before .before .before .before .before .before .before .before .before
           .before .before .before .args) .1 .1 .1 .1 .0)
@@ -4800,7 +4999,7 @@ module _ (claims· : Claims) where
           .before .before .before .before .before .before .before .κs) (dens (c .before .before .before .before .before .before .before .before
           .before .before .before .before .before .before .before .before .before .before .κs) (c .before .before .before .before .before .before
           .before .before .before .before .before .before .before .before .before .before .before .before .args)) (Function.resV r (c .before .before
-          .before .before .before .before .before .before .before .before .before .before .before .before .before .before .before .before .κs) (m113
+          .before .before .before .before .before .before .before .before .before .before .before .before .before .before .before .before .κs) (m119
           (c .before) (c .slice-known6 .given) .0)) (Clauses.atExit (Kinds.endedOf 9 ps r) (c .before .before .before .before .before .before .before
           .before .before .before .before .before .before .before .before .before .before .before .κs) (dens (c .before .before .before .before
           .before .before .before .before .before .before .before .before .before .before .before .before .before .before .κs) (c .before .before
@@ -4808,21 +5007,21 @@ module _ (claims· : Claims) where
           (Enter.lastsP (c .before .before .before .before .before .before .before .before .before .before .before .before .before .before .before
           .before .before .before .κs) 1 ps xs (dens (c .before .before .before .before .before .before .before .before .before .before .before
           .before .before .before .before .before .before .before .κs) (c .before .before .before .before .before .before .before .before .before
-          .before .before .before .before .before .before .before .before .before .args)) (m113 (c .before) (c .slice-known6 .given) .1)))
-      abbrev pub m114 : (before : At-match-came) → (given : s155 .gives (m96 (before .before))) → Typed.Mo T163
-      m114 = λ before given. s157 (m98 before given)
-      abbrev pub m115 : (before : At-match-came) → (given : s155 .gives (m96 (before .before))) → Typed.Mo T164
-      m115 = λ before given. s158 (m114 before given)
-      abbrev pub m116 : (before : At-match-came) → (given : s155 .gives (m96 (before .before))) → Typed.Mo T165
-      m116 = λ before given. s159 (m115 before given)
+          .before .before .before .before .before .before .before .before .before .args)) (m119 (c .before) (c .slice-known6 .given) .1)))
+      abbrev pub m120 : (before : At-match-came) → (given : s160 .gives (m101 (before .before))) → Typed.Mo T169
+      m120 = λ before given. s163 (m104 before given)
+      abbrev pub m121 : (before : At-match-came) → (given : s160 .gives (m101 (before .before))) → Typed.Mo T170
+      m121 = λ before given. s164 (m120 before given)
+      abbrev pub m122 : (before : At-match-came) → (given : s160 .gives (m101 (before .before))) → Typed.Mo T171
+      m122 = λ before given. s165 (m121 before given)
       abbrev pub Need-returns-6 : Type 0
       Need-returns-6 = (c : After-unexpected) → Post· (c .before .before .before .before .before .before .before .κs) (dens (c .before .before .before
           .before .before .before .before .κs) (c .before .before .before .before .before .before .before .args)) (Function.resV r (c .before .before
-          .before .before .before .before .before .κs) (m116 (c .before) (After-unexpected·gave c) .0)) (Clauses.atExit (Kinds.endedOf 9 ps r) (c
+          .before .before .before .before .before .κs) (m122 (c .before) (After-unexpected·gave c) .0)) (Clauses.atExit (Kinds.endedOf 9 ps r) (c
           .before .before .before .before .before .before .before .κs) (dens (c .before .before .before .before .before .before .before .κs) (c
           .before .before .before .before .before .before .before .args)) (Enter.lastsP (c .before .before .before .before .before .before .before
           .κs) 1 ps xs (dens (c .before .before .before .before .before .before .before .κs) (c .before .before .before .before .before .before
-          .before .args)) (m116 (c .before) (After-unexpected·gave c) .1)))
+          .before .args)) (m122 (c .before) (After-unexpected·gave c) .1)))
       module _ (handle-open-requires : Need-handle-open-requires) (handle-accept-requires : Need-handle-accept-requires) (handle-data-requires :
           Need-handle-data-requires) (handle-window-requires : Need-handle-window-requires) (handle-close-requires : Need-handle-close-requires)
           (unexpected-requires : Need-unexpected-requires) (same-length : Need-same-length) (same-length-2 : Need-same-length-2) (same-length-3 :
@@ -4833,191 +5032,192 @@ module _ (claims· : Claims) where
           (same-length-15 : Need-same-length-15) (same-length-16 : Need-same-length-16) (returns-4 : Need-returns-4) (same-length-17 :
           Need-same-length-17) (same-length-18 : Need-same-length-18) (same-length-19 : Need-same-length-19) (same-length-20 : Need-same-length-20)
           (returns-5 : Need-returns-5) (returns-6 : Need-returns-6) where
-        lay18 : (c : After-unexpected) → at171 (W0 (c .before .before .before .before .before .before .before .κs) (c .before .before .before .before
-            .before .before .before .args)) (m98 (c .before) (After-unexpected·gave c))
-        lay18 = λ c. ((Path.refl, (Path.refl, (Path.refl, (Path.refl, (Path.refl, (tt, (tt, (Path.refl, (Path.refl, (Path.refl, (Path.refl,
-            tt)))))),),),),),), returns-6 record { before = c .before; unexpected = c .unexpected },)
-        lay17 : (c : After-slice-known6) → at171 (W0 (c .before .before .before .before .before .before .before .before .before .before .before
+        lay18 : (c : After-unexpected) → at176 (W0 (c .before .before .before .before .before .before .before .κs) (c .before .before .before .before
+            .before .before .before .args)) (m104 (c .before) (After-unexpected·gave c))
+        lay18 = λ c. ((Path.refl, (Path.refl, (Path.refl, (Path.refl, (Path.refl, (tt, (tt, (tt, (Path.refl, (Path.refl, (Path.refl, (Path.refl,
+            tt)))))),),),),),),), returns-6 record { before = c .before; unexpected = c .unexpected },)
+        lay17 : (c : After-slice-known6) → at176 (W0 (c .before .before .before .before .before .before .before .before .before .before .before
             .before .before .before .before .before .before .before .κs) (c .before .before .before .before .before .before .before .before .before
-            .before .before .before .before .before .before .before .before .before .args)) (m93 (c .before) (c .slice-known6 .given))
-        lay17 = λ c. ((MutSlice.fix-len (Row.get 1 (T165 .locals) (m113 (c .before) (c .slice-known6 .given)) .ptr) (Row.get 1 (T165 .locals) (m113 (c
-            .before) (c .slice-known6 .given)) .name) (Row.get 1 (T165 .locals) (m113 (c .before) (c .slice-known6 .given)) .now) (dens (c .before
+            .before .before .before .before .before .before .before .before .before .args)) (m98 (c .before) (c .slice-known6 .given))
+        lay17 = λ c. ((MutSlice.fix-len (Row.get 1 (T171 .locals) (m119 (c .before) (c .slice-known6 .given)) .ptr) (Row.get 1 (T171 .locals) (m119 (c
+            .before) (c .slice-known6 .given)) .name) (Row.get 1 (T171 .locals) (m119 (c .before) (c .slice-known6 .given)) .now) (dens (c .before
             .before .before .before .before .before .before .before .before .before .before .before .before .before .before .before .before .before
             .κs) (c .before .before .before .before .before .before .before .before .before .before .before .before .before .before .before .before
             .before .before .args) .0 .now) (same-length-17 record { before = c .before; slice-known6 = c .slice-known6 }), (MutSlice.fix-len (Row.get
-            2 (T165 .locals) (m113 (c .before) (c .slice-known6 .given)) .ptr) (Row.get 2 (T165 .locals) (m113 (c .before) (c .slice-known6 .given))
-            .name) (Row.get 2 (T165 .locals) (m113 (c .before) (c .slice-known6 .given)) .now) (dens (c .before .before .before .before .before
+            2 (T171 .locals) (m119 (c .before) (c .slice-known6 .given)) .ptr) (Row.get 2 (T171 .locals) (m119 (c .before) (c .slice-known6 .given))
+            .name) (Row.get 2 (T171 .locals) (m119 (c .before) (c .slice-known6 .given)) .now) (dens (c .before .before .before .before .before
             .before .before .before .before .before .before .before .before .before .before .before .before .before .κs) (c .before .before .before
             .before .before .before .before .before .before .before .before .before .before .before .before .before .before .before .args) .1 .0 .now)
-            (same-length-18 record { before = c .before; slice-known6 = c .slice-known6 }), (Path.refl, (MutSlice.fix-len (Row.get 4 (T165 .locals)
-            (m113 (c .before) (c .slice-known6 .given)) .ptr) (Row.get 4 (T165 .locals) (m113 (c .before) (c .slice-known6 .given)) .name) (Row.get 4
-            (T165 .locals) (m113 (c .before) (c .slice-known6 .given)) .now) (dens (c .before .before .before .before .before .before .before .before
+            (same-length-18 record { before = c .before; slice-known6 = c .slice-known6 }), (Path.refl, (MutSlice.fix-len (Row.get 4 (T171 .locals)
+            (m119 (c .before) (c .slice-known6 .given)) .ptr) (Row.get 4 (T171 .locals) (m119 (c .before) (c .slice-known6 .given)) .name) (Row.get 4
+            (T171 .locals) (m119 (c .before) (c .slice-known6 .given)) .now) (dens (c .before .before .before .before .before .before .before .before
             .before .before .before .before .before .before .before .before .before .before .κs) (c .before .before .before .before .before .before
             .before .before .before .before .before .before .before .before .before .before .before .before .args) .1 .1 .1 .0 .now) (same-length-19
-            record { before = c .before; slice-known6 = c .slice-known6 }), (MutSlice.fix-len (Row.get 5 (T165 .locals) (m113 (c .before) (c
-            .slice-known6 .given)) .ptr) (Row.get 5 (T165 .locals) (m113 (c .before) (c .slice-known6 .given)) .name) (Row.get 5 (T165 .locals) (m113
+            record { before = c .before; slice-known6 = c .slice-known6 }), (MutSlice.fix-len (Row.get 5 (T171 .locals) (m119 (c .before) (c
+            .slice-known6 .given)) .ptr) (Row.get 5 (T171 .locals) (m119 (c .before) (c .slice-known6 .given)) .name) (Row.get 5 (T171 .locals) (m119
             (c .before) (c .slice-known6 .given)) .now) (dens (c .before .before .before .before .before .before .before .before .before .before
             .before .before .before .before .before .before .before .before .κs) (c .before .before .before .before .before .before .before .before
             .before .before .before .before .before .before .before .before .before .before .args) .1 .1 .1 .1 .0 .now) (same-length-20 record {
-            before = c .before; slice-known6 = c .slice-known6 }), (tt, (tt, (Path.refl, (Path.refl, (Path.refl, (Path.refl, tt)))))),),),),),),
-            returns-5 record { before = c .before; slice-known6 = c .slice-known6 },)
-        lay16 : (c : After-slice-known5) → at171 (W0 (c .before .before .before .before .before .before .before .before .before .before .before
+            before = c .before; slice-known6 = c .slice-known6 }), (tt, (tt, (tt, (Path.refl, (Path.refl, (Path.refl, (Path.refl,
+            tt)))))),),),),),),), returns-5 record { before = c .before; slice-known6 = c .slice-known6 },)
+        lay16 : (c : After-slice-known5) → at176 (W0 (c .before .before .before .before .before .before .before .before .before .before .before
             .before .before .before .κs) (c .before .before .before .before .before .before .before .before .before .before .before .before .before
-            .before .args)) (m70 (c .before) (c .slice-known5 .given))
-        lay16 = λ c. ((Path.refl, (MutSlice.fix-len (Row.get 2 (T165 .locals) (m110 (c .before) (c .slice-known5 .given)) .ptr) (Row.get 2 (T165
-            .locals) (m110 (c .before) (c .slice-known5 .given)) .name) (Row.get 2 (T165 .locals) (m110 (c .before) (c .slice-known5 .given)) .now)
+            .before .args)) (m74 (c .before) (c .slice-known5 .given))
+        lay16 = λ c. ((Path.refl, (MutSlice.fix-len (Row.get 2 (T171 .locals) (m116 (c .before) (c .slice-known5 .given)) .ptr) (Row.get 2 (T171
+            .locals) (m116 (c .before) (c .slice-known5 .given)) .name) (Row.get 2 (T171 .locals) (m116 (c .before) (c .slice-known5 .given)) .now)
             (dens (c .before .before .before .before .before .before .before .before .before .before .before .before .before .before .κs) (c .before
             .before .before .before .before .before .before .before .before .before .before .before .before .before .args) .1 .0 .now) (same-length-14
-            record { before = c .before; slice-known5 = c .slice-known5 }), (Path.refl, (MutSlice.fix-len (Row.get 4 (T165 .locals) (m110 (c .before)
-            (c .slice-known5 .given)) .ptr) (Row.get 4 (T165 .locals) (m110 (c .before) (c .slice-known5 .given)) .name) (Row.get 4 (T165 .locals)
-            (m110 (c .before) (c .slice-known5 .given)) .now) (dens (c .before .before .before .before .before .before .before .before .before .before
+            record { before = c .before; slice-known5 = c .slice-known5 }), (Path.refl, (MutSlice.fix-len (Row.get 4 (T171 .locals) (m116 (c .before)
+            (c .slice-known5 .given)) .ptr) (Row.get 4 (T171 .locals) (m116 (c .before) (c .slice-known5 .given)) .name) (Row.get 4 (T171 .locals)
+            (m116 (c .before) (c .slice-known5 .given)) .now) (dens (c .before .before .before .before .before .before .before .before .before .before
             .before .before .before .before .κs) (c .before .before .before .before .before .before .before .before .before .before .before .before
             .before .before .args) .1 .1 .1 .0 .now) (same-length-15 record { before = c .before; slice-known5 = c .slice-known5 }), (MutSlice.fix-len
-            (Row.get 5 (T165 .locals) (m110 (c .before) (c .slice-known5 .given)) .ptr) (Row.get 5 (T165 .locals) (m110 (c .before) (c .slice-known5
-            .given)) .name) (Row.get 5 (T165 .locals) (m110 (c .before) (c .slice-known5 .given)) .now) (dens (c .before .before .before .before
+            (Row.get 5 (T171 .locals) (m116 (c .before) (c .slice-known5 .given)) .ptr) (Row.get 5 (T171 .locals) (m116 (c .before) (c .slice-known5
+            .given)) .name) (Row.get 5 (T171 .locals) (m116 (c .before) (c .slice-known5 .given)) .now) (dens (c .before .before .before .before
             .before .before .before .before .before .before .before .before .before .before .κs) (c .before .before .before .before .before .before
             .before .before .before .before .before .before .before .before .args) .1 .1 .1 .1 .0 .now) (same-length-16 record { before = c .before;
-            slice-known5 = c .slice-known5 }), (tt, (tt, (Path.refl, (Path.refl, (Path.refl, (Path.refl, tt)))))),),),),),), returns-4 record { before
-            = c .before; slice-known5 = c .slice-known5 },)
-        lay15 : (c : After-slice-known4) → at171 (W0 (c .before .before .before .before .before .before .before .before .before .before .before
+            slice-known5 = c .slice-known5 }), (tt, (tt, (tt, (Path.refl, (Path.refl, (Path.refl, (Path.refl, tt)))))),),),),),),), returns-4 record {
+            before = c .before; slice-known5 = c .slice-known5 },)
+        lay15 : (c : After-slice-known4) → at176 (W0 (c .before .before .before .before .before .before .before .before .before .before .before
             .before .before .before .before .before .κs) (c .before .before .before .before .before .before .before .before .before .before .before
-            .before .before .before .before .before .args)) (m57 (c .before) (c .slice-known4 .given))
-        lay15 = λ c. ((Path.refl, (MutSlice.fix-len (Row.get 2 (T165 .locals) (m107 (c .before) (c .slice-known4 .given)) .ptr) (Row.get 2 (T165
-            .locals) (m107 (c .before) (c .slice-known4 .given)) .name) (Row.get 2 (T165 .locals) (m107 (c .before) (c .slice-known4 .given)) .now)
+            .before .before .before .before .before .args)) (m60 (c .before) (c .slice-known4 .given))
+        lay15 = λ c. ((Path.refl, (MutSlice.fix-len (Row.get 2 (T171 .locals) (m113 (c .before) (c .slice-known4 .given)) .ptr) (Row.get 2 (T171
+            .locals) (m113 (c .before) (c .slice-known4 .given)) .name) (Row.get 2 (T171 .locals) (m113 (c .before) (c .slice-known4 .given)) .now)
             (dens (c .before .before .before .before .before .before .before .before .before .before .before .before .before .before .before .before
             .κs) (c .before .before .before .before .before .before .before .before .before .before .before .before .before .before .before .before
-            .args) .1 .0 .now) (same-length-10 record { before = c .before; slice-known4 = c .slice-known4 }), (MutSlice.fix-len (Row.get 3 (T165
-            .locals) (m107 (c .before) (c .slice-known4 .given)) .ptr) (Row.get 3 (T165 .locals) (m107 (c .before) (c .slice-known4 .given)) .name)
-            (Row.get 3 (T165 .locals) (m107 (c .before) (c .slice-known4 .given)) .now) (dens (c .before .before .before .before .before .before
+            .args) .1 .0 .now) (same-length-10 record { before = c .before; slice-known4 = c .slice-known4 }), (MutSlice.fix-len (Row.get 3 (T171
+            .locals) (m113 (c .before) (c .slice-known4 .given)) .ptr) (Row.get 3 (T171 .locals) (m113 (c .before) (c .slice-known4 .given)) .name)
+            (Row.get 3 (T171 .locals) (m113 (c .before) (c .slice-known4 .given)) .now) (dens (c .before .before .before .before .before .before
             .before .before .before .before .before .before .before .before .before .before .κs) (c .before .before .before .before .before .before
             .before .before .before .before .before .before .before .before .before .before .args) .1 .1 .0 .now) (same-length-11 record { before = c
-            .before; slice-known4 = c .slice-known4 }), (MutSlice.fix-len (Row.get 4 (T165 .locals) (m107 (c .before) (c .slice-known4 .given)) .ptr)
-            (Row.get 4 (T165 .locals) (m107 (c .before) (c .slice-known4 .given)) .name) (Row.get 4 (T165 .locals) (m107 (c .before) (c .slice-known4
+            .before; slice-known4 = c .slice-known4 }), (MutSlice.fix-len (Row.get 4 (T171 .locals) (m113 (c .before) (c .slice-known4 .given)) .ptr)
+            (Row.get 4 (T171 .locals) (m113 (c .before) (c .slice-known4 .given)) .name) (Row.get 4 (T171 .locals) (m113 (c .before) (c .slice-known4
             .given)) .now) (dens (c .before .before .before .before .before .before .before .before .before .before .before .before .before .before
             .before .before .κs) (c .before .before .before .before .before .before .before .before .before .before .before .before .before .before
             .before .before .args) .1 .1 .1 .0 .now) (same-length-12 record { before = c .before; slice-known4 = c .slice-known4 }), (MutSlice.fix-len
-            (Row.get 5 (T165 .locals) (m107 (c .before) (c .slice-known4 .given)) .ptr) (Row.get 5 (T165 .locals) (m107 (c .before) (c .slice-known4
-            .given)) .name) (Row.get 5 (T165 .locals) (m107 (c .before) (c .slice-known4 .given)) .now) (dens (c .before .before .before .before
+            (Row.get 5 (T171 .locals) (m113 (c .before) (c .slice-known4 .given)) .ptr) (Row.get 5 (T171 .locals) (m113 (c .before) (c .slice-known4
+            .given)) .name) (Row.get 5 (T171 .locals) (m113 (c .before) (c .slice-known4 .given)) .now) (dens (c .before .before .before .before
             .before .before .before .before .before .before .before .before .before .before .before .before .κs) (c .before .before .before .before
             .before .before .before .before .before .before .before .before .before .before .before .before .args) .1 .1 .1 .1 .0 .now)
-            (same-length-13 record { before = c .before; slice-known4 = c .slice-known4 }), (tt, (tt, (Path.refl, (Path.refl, (Path.refl, (Path.refl,
-            tt)))))),),),),),), returns-3 record { before = c .before; slice-known4 = c .slice-known4 },)
-        lay14 : (c : After-slice-known3) → at171 (W0 (c .before .before .before .before .before .before .before .before .before .before .before
+            (same-length-13 record { before = c .before; slice-known4 = c .slice-known4 }), (tt, (tt, (tt, (Path.refl, (Path.refl, (Path.refl,
+            (Path.refl, tt)))))),),),),),),), returns-3 record { before = c .before; slice-known4 = c .slice-known4 },)
+        lay14 : (c : After-slice-known3) → at176 (W0 (c .before .before .before .before .before .before .before .before .before .before .before
             .before .before .before .before .before .κs) (c .before .before .before .before .before .before .before .before .before .before .before
-            .before .before .before .before .before .args)) (m41 (c .before) (c .slice-known3 .given))
-        lay14 = λ c. ((MutSlice.fix-len (Row.get 1 (T165 .locals) (m104 (c .before) (c .slice-known3 .given)) .ptr) (Row.get 1 (T165 .locals) (m104 (c
-            .before) (c .slice-known3 .given)) .name) (Row.get 1 (T165 .locals) (m104 (c .before) (c .slice-known3 .given)) .now) (dens (c .before
+            .before .before .before .before .before .args)) (m43 (c .before) (c .slice-known3 .given))
+        lay14 = λ c. ((MutSlice.fix-len (Row.get 1 (T171 .locals) (m110 (c .before) (c .slice-known3 .given)) .ptr) (Row.get 1 (T171 .locals) (m110 (c
+            .before) (c .slice-known3 .given)) .name) (Row.get 1 (T171 .locals) (m110 (c .before) (c .slice-known3 .given)) .now) (dens (c .before
             .before .before .before .before .before .before .before .before .before .before .before .before .before .before .before .κs) (c .before
             .before .before .before .before .before .before .before .before .before .before .before .before .before .before .before .args) .0 .now)
-            (same-length-6 record { before = c .before; slice-known3 = c .slice-known3 }), (MutSlice.fix-len (Row.get 2 (T165 .locals) (m104 (c
-            .before) (c .slice-known3 .given)) .ptr) (Row.get 2 (T165 .locals) (m104 (c .before) (c .slice-known3 .given)) .name) (Row.get 2 (T165
-            .locals) (m104 (c .before) (c .slice-known3 .given)) .now) (dens (c .before .before .before .before .before .before .before .before
+            (same-length-6 record { before = c .before; slice-known3 = c .slice-known3 }), (MutSlice.fix-len (Row.get 2 (T171 .locals) (m110 (c
+            .before) (c .slice-known3 .given)) .ptr) (Row.get 2 (T171 .locals) (m110 (c .before) (c .slice-known3 .given)) .name) (Row.get 2 (T171
+            .locals) (m110 (c .before) (c .slice-known3 .given)) .now) (dens (c .before .before .before .before .before .before .before .before
             .before .before .before .before .before .before .before .before .κs) (c .before .before .before .before .before .before .before .before
             .before .before .before .before .before .before .before .before .args) .1 .0 .now) (same-length-7 record { before = c .before;
-            slice-known3 = c .slice-known3 }), (Path.refl, (MutSlice.fix-len (Row.get 4 (T165 .locals) (m104 (c .before) (c .slice-known3 .given))
-            .ptr) (Row.get 4 (T165 .locals) (m104 (c .before) (c .slice-known3 .given)) .name) (Row.get 4 (T165 .locals) (m104 (c .before) (c
+            slice-known3 = c .slice-known3 }), (Path.refl, (MutSlice.fix-len (Row.get 4 (T171 .locals) (m110 (c .before) (c .slice-known3 .given))
+            .ptr) (Row.get 4 (T171 .locals) (m110 (c .before) (c .slice-known3 .given)) .name) (Row.get 4 (T171 .locals) (m110 (c .before) (c
             .slice-known3 .given)) .now) (dens (c .before .before .before .before .before .before .before .before .before .before .before .before
             .before .before .before .before .κs) (c .before .before .before .before .before .before .before .before .before .before .before .before
             .before .before .before .before .args) .1 .1 .1 .0 .now) (same-length-8 record { before = c .before; slice-known3 = c .slice-known3 }),
-            (MutSlice.fix-len (Row.get 5 (T165 .locals) (m104 (c .before) (c .slice-known3 .given)) .ptr) (Row.get 5 (T165 .locals) (m104 (c .before)
-            (c .slice-known3 .given)) .name) (Row.get 5 (T165 .locals) (m104 (c .before) (c .slice-known3 .given)) .now) (dens (c .before .before
+            (MutSlice.fix-len (Row.get 5 (T171 .locals) (m110 (c .before) (c .slice-known3 .given)) .ptr) (Row.get 5 (T171 .locals) (m110 (c .before)
+            (c .slice-known3 .given)) .name) (Row.get 5 (T171 .locals) (m110 (c .before) (c .slice-known3 .given)) .now) (dens (c .before .before
             .before .before .before .before .before .before .before .before .before .before .before .before .before .before .κs) (c .before .before
             .before .before .before .before .before .before .before .before .before .before .before .before .before .before .args) .1 .1 .1 .1 .0
-            .now) (same-length-9 record { before = c .before; slice-known3 = c .slice-known3 }), (tt, (tt, (Path.refl, (Path.refl, (Path.refl,
-            (Path.refl, tt)))))),),),),),), returns-2 record { before = c .before; slice-known3 = c .slice-known3 },)
-        lay13 : (c : After-slice-known2) → at171 (W0 (c .before .before .before .before .before .before .before .before .before .before .before
+            .now) (same-length-9 record { before = c .before; slice-known3 = c .slice-known3 }), (tt, (tt, (tt, (Path.refl, (Path.refl, (Path.refl,
+            (Path.refl, tt)))))),),),),),),), returns-2 record { before = c .before; slice-known3 = c .slice-known3 },)
+        lay13 : (c : After-slice-known2) → at176 (W0 (c .before .before .before .before .before .before .before .before .before .before .before
             .before .before .before .before .before .before .before .κs) (c .before .before .before .before .before .before .before .before .before
-            .before .before .before .before .before .before .before .before .before .args)) (m25 (c .before) (c .slice-known2 .given))
-        lay13 = λ c. ((MutSlice.fix-len (Row.get 1 (T165 .locals) (m101 (c .before) (c .slice-known2 .given)) .ptr) (Row.get 1 (T165 .locals) (m101 (c
-            .before) (c .slice-known2 .given)) .name) (Row.get 1 (T165 .locals) (m101 (c .before) (c .slice-known2 .given)) .now) (dens (c .before
+            .before .before .before .before .before .before .before .before .before .args)) (m26 (c .before) (c .slice-known2 .given))
+        lay13 = λ c. ((MutSlice.fix-len (Row.get 1 (T171 .locals) (m107 (c .before) (c .slice-known2 .given)) .ptr) (Row.get 1 (T171 .locals) (m107 (c
+            .before) (c .slice-known2 .given)) .name) (Row.get 1 (T171 .locals) (m107 (c .before) (c .slice-known2 .given)) .now) (dens (c .before
             .before .before .before .before .before .before .before .before .before .before .before .before .before .before .before .before .before
             .κs) (c .before .before .before .before .before .before .before .before .before .before .before .before .before .before .before .before
             .before .before .args) .0 .now) (same-length record { before = c .before; slice-known2 = c .slice-known2 }), (MutSlice.fix-len (Row.get 2
-            (T165 .locals) (m101 (c .before) (c .slice-known2 .given)) .ptr) (Row.get 2 (T165 .locals) (m101 (c .before) (c .slice-known2 .given))
-            .name) (Row.get 2 (T165 .locals) (m101 (c .before) (c .slice-known2 .given)) .now) (dens (c .before .before .before .before .before
+            (T171 .locals) (m107 (c .before) (c .slice-known2 .given)) .ptr) (Row.get 2 (T171 .locals) (m107 (c .before) (c .slice-known2 .given))
+            .name) (Row.get 2 (T171 .locals) (m107 (c .before) (c .slice-known2 .given)) .now) (dens (c .before .before .before .before .before
             .before .before .before .before .before .before .before .before .before .before .before .before .before .κs) (c .before .before .before
             .before .before .before .before .before .before .before .before .before .before .before .before .before .before .before .args) .1 .0 .now)
-            (same-length-2 record { before = c .before; slice-known2 = c .slice-known2 }), (MutSlice.fix-len (Row.get 3 (T165 .locals) (m101 (c
-            .before) (c .slice-known2 .given)) .ptr) (Row.get 3 (T165 .locals) (m101 (c .before) (c .slice-known2 .given)) .name) (Row.get 3 (T165
-            .locals) (m101 (c .before) (c .slice-known2 .given)) .now) (dens (c .before .before .before .before .before .before .before .before
+            (same-length-2 record { before = c .before; slice-known2 = c .slice-known2 }), (MutSlice.fix-len (Row.get 3 (T171 .locals) (m107 (c
+            .before) (c .slice-known2 .given)) .ptr) (Row.get 3 (T171 .locals) (m107 (c .before) (c .slice-known2 .given)) .name) (Row.get 3 (T171
+            .locals) (m107 (c .before) (c .slice-known2 .given)) .now) (dens (c .before .before .before .before .before .before .before .before
             .before .before .before .before .before .before .before .before .before .before .κs) (c .before .before .before .before .before .before
             .before .before .before .before .before .before .before .before .before .before .before .before .args) .1 .1 .0 .now) (same-length-3
-            record { before = c .before; slice-known2 = c .slice-known2 }), (MutSlice.fix-len (Row.get 4 (T165 .locals) (m101 (c .before) (c
-            .slice-known2 .given)) .ptr) (Row.get 4 (T165 .locals) (m101 (c .before) (c .slice-known2 .given)) .name) (Row.get 4 (T165 .locals) (m101
+            record { before = c .before; slice-known2 = c .slice-known2 }), (MutSlice.fix-len (Row.get 4 (T171 .locals) (m107 (c .before) (c
+            .slice-known2 .given)) .ptr) (Row.get 4 (T171 .locals) (m107 (c .before) (c .slice-known2 .given)) .name) (Row.get 4 (T171 .locals) (m107
             (c .before) (c .slice-known2 .given)) .now) (dens (c .before .before .before .before .before .before .before .before .before .before
             .before .before .before .before .before .before .before .before .κs) (c .before .before .before .before .before .before .before .before
             .before .before .before .before .before .before .before .before .before .before .args) .1 .1 .1 .0 .now) (same-length-4 record { before =
-            c .before; slice-known2 = c .slice-known2 }), (MutSlice.fix-len (Row.get 5 (T165 .locals) (m101 (c .before) (c .slice-known2 .given))
-            .ptr) (Row.get 5 (T165 .locals) (m101 (c .before) (c .slice-known2 .given)) .name) (Row.get 5 (T165 .locals) (m101 (c .before) (c
+            c .before; slice-known2 = c .slice-known2 }), (MutSlice.fix-len (Row.get 5 (T171 .locals) (m107 (c .before) (c .slice-known2 .given))
+            .ptr) (Row.get 5 (T171 .locals) (m107 (c .before) (c .slice-known2 .given)) .name) (Row.get 5 (T171 .locals) (m107 (c .before) (c
             .slice-known2 .given)) .now) (dens (c .before .before .before .before .before .before .before .before .before .before .before .before
             .before .before .before .before .before .before .κs) (c .before .before .before .before .before .before .before .before .before .before
             .before .before .before .before .before .before .before .before .args) .1 .1 .1 .1 .0 .now) (same-length-5 record { before = c .before;
-            slice-known2 = c .slice-known2 }), (tt, (tt, (Path.refl, (Path.refl, (Path.refl, (Path.refl, tt)))))),),),),),), returns record { before =
-            c .before; slice-known2 = c .slice-known2 },)
-        lay12 : (c : At-match-came) → at165 (W2 (c .before .before) (c .before .shared-slice-known4 .given)) (m96 (c .before))
-        unfolding at165
+            slice-known2 = c .slice-known2 }), (tt, (tt, (tt, (Path.refl, (Path.refl, (Path.refl, (Path.refl, tt)))))),),),),),),), returns record {
+            before = c .before; slice-known2 = c .slice-known2 },)
+        lay12 : (c : At-match-came) → at170 (W2 (c .before .before) (c .before .shared-slice-known4 .given)) (m101 (c .before))
+        unfolding at170
         lay12 = λ c. (unexpected-requires record { before = c .before; match = c .match }, λ g. lay18 record { before = record { before = c .before;
-            match = c .match }; unexpected = Called.called ps·5 r·5 (claims· .11) T9 (record { pos = 6; st = List.[]; d = 0; at = λ x. x }, tt,) (m96
-            (c .before)) g; },)
-        lay11 : (c : Else2) → at158 (W4 (c .before .before .before .before) (c .before .before .before .shared-slice-known4 .given)) (m95 (c .before))
+            match = c .match }; unexpected = Called.called ps·5 r·5 (claims· .11) T9 (record { pos = 6; st = List.[]; d = 0; at = λ x. x }, (record {
+            pos = 7; st = List.[]; d = 0; at = λ x. x }, tt),) (m101 (c .before)) g; },)
+        lay11 : (c : Else2) → at163 (W4 (c .before .before .before .before) (c .before .before .before .shared-slice-known4 .given)) (m100 (c
+            .before))
         lay11 = λ c. lay12 record { before = record { before = c .before .before .before .before; shared-slice-known4 = c .before .before .before
             .shared-slice-known4; }; match = record { came = Logic.inr (Logic.inr (c .before .before .match, c .before .if1, c .if2)); }; }
-        lay10 : (c : Else2) → at156 (W6 (c .before .before)) (m76 (c .before .before))
+        lay10 : (c : Else2) → at161 (W6 (c .before .before)) (m80 (c .before .before))
         lay10 = λ c. lay11 record { before = c .before; if2 = c .if2 }
-        lay9 : (c : After-handle-close) → at139 (W6 (c .before .before .before .before .before .before .before)) (m86 (c .before)
+        lay9 : (c : After-handle-close) → at144 (W6 (c .before .before .before .before .before .before .before)) (m90 (c .before)
             (After-handle-close·gave c))
         lay9 = λ c. (Path.refl, λ g. (Path.refl, λ g'. (Path.refl, λ g''. (Path.refl, λ g'3. λ g'4. lay17 record { before = record { before = record {
             before = record { before = record { before = record { before = c .before; handle-close = c .handle-close }; pending3 = record { given = g
             }; }; circuits5 = record { given = g' }; }; inflight5 = record { given = g'' }; }; out5 = record { given = g'3 }; }; slice-known6 = record
             { given = g'4 }; },),),),)
-        lay8 : (c : Then2) → at153 (W6 (c .before .before)) (m76 (c .before .before))
+        lay8 : (c : Then2) → at158 (W6 (c .before .before)) (m80 (c .before .before))
         lay8 = λ c. λ g. (Path.refl, λ g'. (Path.refl, λ g''. (Path.refl, λ g'3. (Path.refl, (handle-close-requires record { before = record { before
             = record { before = record { before = record { before = c .before; if2 = c .if2 }; handle-close-arg = record { given = g }; };
             handle-close-arg2 = record { given = g' }; }; handle-close-arg3 = record { given = g'' }; }; handle-close-arg4 = record { given = g'3 };
             }, λ g'4. lay9 record { before = record { before = record { before = record { before = record { before = record { before = c .before; if2
             = c .if2 }; handle-close-arg = record { given = g }; }; handle-close-arg2 = record { given = g' }; }; handle-close-arg3 = record { given =
-            g'' }; }; handle-close-arg4 = record { given = g'3 }; }; handle-close = Called.called ps·4 r·4 (claims· .9) T142 (record { pos = 48; ty =
-            Syntax.tyRef Syntax.erased Syntax.mut RelayPending.to; ref = λ x. x; }, (record { pos = 50; ty = Syntax.tyRef Syntax.erased Syntax.mut
-            RelayCircuit.to; ref = λ x. x; }, (record { pos = 52; ty = Syntax.tyRef Syntax.erased Syntax.mut InflightAction.to; ref = λ x. x; },
-            (record { pos = 54; ty = Syntax.tyRef Syntax.erased Syntax.mut (Syntax.tyInt Syntax.w32); ref = λ x. x; }, (record { pos = 6; st =
-            List.[]; d = 0; at = λ x. x }, (record { pos = 7; st = List.[]; d = 0; at = λ x. x }, (record { pos = 8; ty = Syntax.tyRef (Syntax.named
-            5) Syntax.imm (Syntax.tyInt Syntax.w8); ref = λ x. x; }, (record { pos = 9; ty = Syntax.tyRef (Syntax.named 6) Syntax.imm (Syntax.tyInt
-            Syntax.w8); ref = λ x. x; }, tt,),),),),),),),) (m85 record { before = record { before = record { before = record { before = c .before;
-            if2 = c .if2 }; handle-close-arg = record { given = g }; }; handle-close-arg2 = record { given = g' }; }; handle-close-arg3 = record {
-            given = g'' }; } g'3) g'4; },),),),),)
-        lay7 : (c : Else1) → at160 (W4 (c .before .before .before) (c .before .before .shared-slice-known4 .given)) (m75 (c .before))
+            g'' }; }; handle-close-arg4 = record { given = g'3 }; }; handle-close = Called.called ps·4 r·4 (claims· .9) T146 (record { pos = 49; ty =
+            Syntax.tyRef Syntax.erased Syntax.mut RelayPending.to; ref = λ x. x; }, (record { pos = 51; ty = Syntax.tyRef Syntax.erased Syntax.mut
+            RelayCircuit.to; ref = λ x. x; }, (record { pos = 53; ty = Syntax.tyRef Syntax.erased Syntax.mut InflightAction.to; ref = λ x. x; },
+            (record { pos = 55; ty = Syntax.tyRef Syntax.erased Syntax.mut (Syntax.tyInt Syntax.w32); ref = λ x. x; }, (record { pos = 6; st =
+            List.[]; d = 0; at = λ x. x }, (record { pos = 7; st = List.[]; d = 0; at = λ x. x }, (record { pos = 8; st = List.[]; d = 0; at = λ x. x
+            }, (record { pos = 9; ty = Syntax.tyRef (Syntax.named 5) Syntax.imm (Syntax.tyInt Syntax.w8); ref = λ x. x; }, (record { pos = 10; ty =
+            Syntax.tyRef (Syntax.named 6) Syntax.imm (Syntax.tyInt Syntax.w8); ref = λ x. x; }, tt,),),),),),),),),) (m89 record { before = record {
+            before = record { before = record { before = c .before; if2 = c .if2 }; handle-close-arg = record { given = g }; }; handle-close-arg2 =
+            record { given = g' }; }; handle-close-arg3 = record { given = g'' }; } g'3) g'4; },),),),),)
+        lay7 : (c : Else1) → at165 (W4 (c .before .before .before) (c .before .before .shared-slice-known4 .given)) (m79 (c .before))
         lay7 = λ c. (tt, (λ taken. lay8 record { before = record { before = c .before; if1 = c .if1 }; if2 = record { taken = Tests.ltb-true (Row.get
-            12 (T124 .locals) (m75 (c .before))) 21 taken; }; }, λ left. lay10 record { before = record { before = c .before; if1 = c .if1 }; if2 =
-            record { left = Tests.ltb-false (Row.get 12 (T124 .locals) (m75 (c .before))) 21 left; }; },),)
-        lay6 : (c : Else1) → at122 (W5 (c .before .before)) (m72 (c .before .before))
+            13 (T128 .locals) (m79 (c .before))) 21 taken; }; }, λ left. lay10 record { before = record { before = c .before; if1 = c .if1 }; if2 =
+            record { left = Tests.ltb-false (Row.get 13 (T128 .locals) (m79 (c .before))) 21 left; }; },),)
+        lay6 : (c : Else1) → at126 (W5 (c .before .before)) (m76 (c .before .before))
         lay6 = λ c. lay7 record { before = c .before; if1 = c .if1 }
-        lay5 : (c : Then1) → at120 (W5 (c .before .before)) (m72 (c .before .before))
+        lay5 : (c : Then1) → at124 (W5 (c .before .before)) (m76 (c .before .before))
         lay5 = λ c. lay12 record { before = record { before = c .before .before .before; shared-slice-known4 = c .before .before .shared-slice-known4;
             }; match = record { came = Logic.inr (Logic.inl (c .before .match, c .if1)) }; }
-        lay4 : (c : After-handle-window) → at105 (W4 (c .before .before .before .before .before .before) (c .before .before .before .before .before
-            .shared-slice-known4 .given)) (m64 (c .before) (After-handle-window·gave c))
+        lay4 : (c : After-handle-window) → at109 (W4 (c .before .before .before .before .before .before) (c .before .before .before .before .before
+            .shared-slice-known4 .given)) (m67 (c .before) (After-handle-window·gave c))
         lay4 = λ c. (Path.refl, λ g. (Path.refl, λ g'. (Path.refl, λ g''. λ g'3. lay16 record { before = record { before = record { before = record {
             before = record { before = c .before; handle-window = c .handle-window }; circuits4 = record { given = g }; }; inflight4 = record { given
             = g' }; }; out4 = record { given = g'' }; }; slice-known5 = record { given = g'3 }; },),),)
-        lay3 : (c : After-handle-data) → at79 (W4 (c .before .before .before .before .before .before .before) (c .before .before .before .before
-            .before .before .shared-slice-known4 .given)) (m50 (c .before) (After-handle-data·gave c))
+        lay3 : (c : After-handle-data) → at82 (W4 (c .before .before .before .before .before .before .before) (c .before .before .before .before
+            .before .before .shared-slice-known4 .given)) (m52 (c .before) (After-handle-data·gave c))
         lay3 = λ c. (Path.refl, λ g. (Path.refl, λ g'. (Path.refl, λ g''. (Path.refl, λ g'3. λ g'4. lay15 record { before = record { before = record {
             before = record { before = record { before = record { before = c .before; handle-data = c .handle-data }; circuits3 = record { given = g
             }; }; ledger2 = record { given = g' }; }; inflight3 = record { given = g'' }; }; out3 = record { given = g'3 }; }; slice-known4 = record {
             given = g'4 }; },),),),)
-        lay2 : (c : After-handle-accept) → at50 (W4 (c .before .before .before .before .before .before .before) (c .before .before .before .before
-            .before .before .shared-slice-known4 .given)) (m34 (c .before) (After-handle-accept·gave c))
+        lay2 : (c : After-handle-accept) → at52 (W4 (c .before .before .before .before .before .before .before) (c .before .before .before .before
+            .before .before .shared-slice-known4 .given)) (m35 (c .before) (After-handle-accept·gave c))
         lay2 = λ c. (Path.refl, λ g. (Path.refl, λ g'. (Path.refl, λ g''. (Path.refl, λ g'3. λ g'4. lay14 record { before = record { before = record {
             before = record { before = record { before = record { before = c .before; handle-accept = c .handle-accept; }; pending2 = record { given =
             g }; }; circuits2 = record { given = g' }; }; inflight2 = record { given = g'' }; }; out2 = record { given = g'3 }; }; slice-known3 =
             record { given = g'4 }; },),),),)
-        lay1 : (c : After-handle-open) → at18 (W4 (c .before .before .before .before .before .before .before .before) (c .before .before .before
+        lay1 : (c : After-handle-open) → at19 (W4 (c .before .before .before .before .before .before .before .before) (c .before .before .before
             .before .before .before .before .shared-slice-known4 .given)) (m17 (c .before) (After-handle-open·gave c))
         lay1 = λ c. (Path.refl, λ g. (Path.refl, λ g'. (Path.refl, λ g''. (Path.refl, λ g'3. (Path.refl, λ g'4. λ g'5. lay13 record { before = record
             { before = record { before = record { before = record { before = record { before = record { before = c .before; handle-open = c
             .handle-open; }; pending = record { given = g }; }; circuits = record { given = g' }; }; ledger = record { given = g'' }; }; inflight =
             record { given = g'3 }; }; out = record { given = g'4 }; }; slice-known2 = record { given = g'5 }; },),),),),)
-        pub laid : (c : Start) → at178 (W0 (c .κs) (c .args)) (m0 (c .κs) (c .args))
+        pub laid : (c : Start) → at183 (W0 (c .κs) (c .args)) (m0 (c .κs) (c .args))
         laid = λ c. λ g. λ g'. λ g''. λ g'3. λ g'4. (λ k. λ g'5. (Path.refl, λ g'6. (Path.refl, λ g'7. (Path.refl, λ g'8. (Path.refl, λ g'9.
             (Path.refl, (handle-open-requires record { before = record { before = record { before = record { before = record { before = record {
             before = record { before = record { before = record { before = record { before = record { before = c; slice-known = record { given = g };
@@ -5030,57 +5230,58 @@ module _ (claims· : Claims) where
             shared-slice-known3 = record { given = g'3 }; }; shared-slice-known4 = record { given = g'4 }; }; match = record { keys1 = k }; };
             handle-open-arg = record { given = g'5 }; }; handle-open-arg2 = record { given = g'6 }; }; handle-open-arg3 = record { given = g'7 }; };
             handle-open-arg4 = record { given = g'8 }; }; handle-open-arg5 = record { given = g'9 }; }; handle-open = Called.called ps·0 r·0 (claims·
-            .1) T24 (record { pos = 15; ty = Syntax.tyRef Syntax.erased Syntax.mut RelayPending.to; ref = λ x. x; }, (record { pos = 17; ty =
-            Syntax.tyRef Syntax.erased Syntax.mut RelayCircuit.to; ref = λ x. x; }, (record { pos = 19; ty = Syntax.tyRef Syntax.erased Syntax.mut
-            ReservationUsage.to; ref = λ x. x; }, (record { pos = 21; ty = Syntax.tyRef Syntax.erased Syntax.mut InflightAction.to; ref = λ x. x; },
-            (record { pos = 23; ty = Syntax.tyRef Syntax.erased Syntax.mut (Syntax.tyInt Syntax.w32); ref = λ x. x; }, (record { pos = 6; st =
-            List.[]; d = 0; at = λ x. x }, (record { pos = 7; st = List.[]; d = 0; at = λ x. x }, (record { pos = 8; ty = Syntax.tyRef (Syntax.named
-            5) Syntax.imm (Syntax.tyInt Syntax.w8); ref = λ x. x; }, (record { pos = 9; ty = Syntax.tyRef (Syntax.named 6) Syntax.imm (Syntax.tyInt
-            Syntax.w8); ref = λ x. x; }, (record { pos = 10; ty = Syntax.tyRef (Syntax.named 7) Syntax.imm (Syntax.tyInt Syntax.w8); ref = λ x. x; },
-            (record { pos = 11; ty = Syntax.tyRef (Syntax.named 8) Syntax.imm (Syntax.tyInt Syntax.w8); ref = λ x. x; }, tt,),),),),),),),),),),) (m16
-            record { before = record { before = record { before = record { before = record { before = record { before = record { before = record {
-            before = record { before = record { before = c; slice-known = record { given = g }; }; shared-slice-known = record { given = g' }; };
-            shared-slice-known2 = record { given = g'' }; }; shared-slice-known3 = record { given = g'3 }; }; shared-slice-known4 = record { given =
-            g'4 }; }; match = record { keys1 = k }; }; handle-open-arg = record { given = g'5 }; }; handle-open-arg2 = record { given = g'6 }; };
-            handle-open-arg3 = record { given = g'7 }; }; handle-open-arg4 = record { given = g'8 }; } g'9) g'10; },),),),),),), (λ k. λ g'11.
-            (Path.refl, λ g'12. (Path.refl, λ g'13. (Path.refl, λ g'14. (Path.refl, (handle-accept-requires record { before = record { before = record
-            { before = record { before = record { before = record { before = record { before = record { before = record { before = record { before =
-            c; slice-known = record { given = g }; }; shared-slice-known = record { given = g' }; }; shared-slice-known2 = record { given = g'' }; };
-            shared-slice-known3 = record { given = g'3 }; }; shared-slice-known4 = record { given = g'4 }; }; match = record { keys2 = k }; };
-            handle-accept-arg = record { given = g'11 }; }; handle-accept-arg2 = record { given = g'12 }; }; handle-accept-arg3 = record { given =
-            g'13 }; }; handle-accept-arg4 = record { given = g'14 }; }, λ g'15. lay2 record { before = record { before = record { before = record {
-            before = record { before = record { before = record { before = record { before = record { before = record { before = record { before = c;
-            slice-known = record { given = g }; }; shared-slice-known = record { given = g' }; }; shared-slice-known2 = record { given = g'' }; };
-            shared-slice-known3 = record { given = g'3 }; }; shared-slice-known4 = record { given = g'4 }; }; match = record { keys2 = k }; };
-            handle-accept-arg = record { given = g'11 }; }; handle-accept-arg2 = record { given = g'12 }; }; handle-accept-arg3 = record { given =
-            g'13 }; }; handle-accept-arg4 = record { given = g'14 }; }; handle-accept = Called.called ps·1 r·1 (claims· .3) T55 (record { pos = 25; ty
-            = Syntax.tyRef Syntax.erased Syntax.mut RelayPending.to; ref = λ x. x; }, (record { pos = 27; ty = Syntax.tyRef Syntax.erased Syntax.mut
-            RelayCircuit.to; ref = λ x. x; }, (record { pos = 29; ty = Syntax.tyRef Syntax.erased Syntax.mut InflightAction.to; ref = λ x. x; },
-            (record { pos = 31; ty = Syntax.tyRef Syntax.erased Syntax.mut (Syntax.tyInt Syntax.w32); ref = λ x. x; }, (record { pos = 6; st =
-            List.[]; d = 0; at = λ x. x }, (record { pos = 7; st = List.[]; d = 0; at = λ x. x }, (record { pos = 8; ty = Syntax.tyRef (Syntax.named
-            5) Syntax.imm (Syntax.tyInt Syntax.w8); ref = λ x. x; }, (record { pos = 9; ty = Syntax.tyRef (Syntax.named 6) Syntax.imm (Syntax.tyInt
-            Syntax.w8); ref = λ x. x; }, tt,),),),),),),),) (m33 record { before = record { before = record { before = record { before = record {
+            .1) T24 (record { pos = 16; ty = Syntax.tyRef Syntax.erased Syntax.mut RelayPending.to; ref = λ x. x; }, (record { pos = 18; ty =
+            Syntax.tyRef Syntax.erased Syntax.mut RelayCircuit.to; ref = λ x. x; }, (record { pos = 20; ty = Syntax.tyRef Syntax.erased Syntax.mut
+            ReservationUsage.to; ref = λ x. x; }, (record { pos = 22; ty = Syntax.tyRef Syntax.erased Syntax.mut InflightAction.to; ref = λ x. x; },
+            (record { pos = 24; ty = Syntax.tyRef Syntax.erased Syntax.mut (Syntax.tyInt Syntax.w32); ref = λ x. x; }, (record { pos = 6; st =
+            List.[]; d = 0; at = λ x. x }, (record { pos = 7; st = List.[]; d = 0; at = λ x. x }, (record { pos = 8; st = List.[]; d = 0; at = λ x. x
+            }, (record { pos = 9; ty = Syntax.tyRef (Syntax.named 5) Syntax.imm (Syntax.tyInt Syntax.w8); ref = λ x. x; }, (record { pos = 10; ty =
+            Syntax.tyRef (Syntax.named 6) Syntax.imm (Syntax.tyInt Syntax.w8); ref = λ x. x; }, (record { pos = 11; ty = Syntax.tyRef (Syntax.named 7)
+            Syntax.imm (Syntax.tyInt Syntax.w8); ref = λ x. x; }, (record { pos = 12; ty = Syntax.tyRef (Syntax.named 8) Syntax.imm (Syntax.tyInt
+            Syntax.w8); ref = λ x. x; }, tt,),),),),),),),),),),),) (m16 record { before = record { before = record { before = record { before =
+            record { before = record { before = record { before = record { before = record { before = record { before = c; slice-known = record {
+            given = g }; }; shared-slice-known = record { given = g' }; }; shared-slice-known2 = record { given = g'' }; }; shared-slice-known3 =
+            record { given = g'3 }; }; shared-slice-known4 = record { given = g'4 }; }; match = record { keys1 = k }; }; handle-open-arg = record {
+            given = g'5 }; }; handle-open-arg2 = record { given = g'6 }; }; handle-open-arg3 = record { given = g'7 }; }; handle-open-arg4 = record {
+            given = g'8 }; } g'9) g'10; },),),),),),), (λ k. λ g'11. (Path.refl, λ g'12. (Path.refl, λ g'13. (Path.refl, λ g'14. (Path.refl,
+            (handle-accept-requires record { before = record { before = record { before = record { before = record { before = record { before = record
+            { before = record { before = record { before = record { before = c; slice-known = record { given = g }; }; shared-slice-known = record {
+            given = g' }; }; shared-slice-known2 = record { given = g'' }; }; shared-slice-known3 = record { given = g'3 }; }; shared-slice-known4 =
+            record { given = g'4 }; }; match = record { keys2 = k }; }; handle-accept-arg = record { given = g'11 }; }; handle-accept-arg2 = record {
+            given = g'12 }; }; handle-accept-arg3 = record { given = g'13 }; }; handle-accept-arg4 = record { given = g'14 }; }, λ g'15. lay2 record {
+            before = record { before = record { before = record { before = record { before = record { before = record { before = record { before =
+            record { before = record { before = record { before = c; slice-known = record { given = g }; }; shared-slice-known = record { given = g'
+            }; }; shared-slice-known2 = record { given = g'' }; }; shared-slice-known3 = record { given = g'3 }; }; shared-slice-known4 = record {
+            given = g'4 }; }; match = record { keys2 = k }; }; handle-accept-arg = record { given = g'11 }; }; handle-accept-arg2 = record { given =
+            g'12 }; }; handle-accept-arg3 = record { given = g'13 }; }; handle-accept-arg4 = record { given = g'14 }; }; handle-accept = Called.called
+            ps·1 r·1 (claims· .3) T56 (record { pos = 26; ty = Syntax.tyRef Syntax.erased Syntax.mut RelayPending.to; ref = λ x. x; }, (record { pos =
+            28; ty = Syntax.tyRef Syntax.erased Syntax.mut RelayCircuit.to; ref = λ x. x; }, (record { pos = 30; ty = Syntax.tyRef Syntax.erased
+            Syntax.mut InflightAction.to; ref = λ x. x; }, (record { pos = 32; ty = Syntax.tyRef Syntax.erased Syntax.mut (Syntax.tyInt Syntax.w32);
+            ref = λ x. x; }, (record { pos = 6; st = List.[]; d = 0; at = λ x. x }, (record { pos = 7; st = List.[]; d = 0; at = λ x. x }, (record {
+            pos = 8; st = List.[]; d = 0; at = λ x. x }, (record { pos = 9; ty = Syntax.tyRef (Syntax.named 5) Syntax.imm (Syntax.tyInt Syntax.w8);
+            ref = λ x. x; }, (record { pos = 10; ty = Syntax.tyRef (Syntax.named 6) Syntax.imm (Syntax.tyInt Syntax.w8); ref = λ x. x; },
+            tt,),),),),),),),),) (m34 record { before = record { before = record { before = record { before = record { before = record { before =
+            record { before = record { before = record { before = c; slice-known = record { given = g }; }; shared-slice-known = record { given = g'
+            }; }; shared-slice-known2 = record { given = g'' }; }; shared-slice-known3 = record { given = g'3 }; }; shared-slice-known4 = record {
+            given = g'4 }; }; match = record { keys2 = k }; }; handle-accept-arg = record { given = g'11 }; }; handle-accept-arg2 = record { given =
+            g'12 }; }; handle-accept-arg3 = record { given = g'13 }; } g'14) g'15; },),),),),), (λ k. λ g'16. (Path.refl, λ g'17. (Path.refl, λ g'18.
+            (Path.refl, λ g'19. (Path.refl, (handle-data-requires record { before = record { before = record { before = record { before = record {
+            before = record { before = record { before = record { before = record { before = record { before = c; slice-known = record { given = g };
+            }; shared-slice-known = record { given = g' }; }; shared-slice-known2 = record { given = g'' }; }; shared-slice-known3 = record { given =
+            g'3 }; }; shared-slice-known4 = record { given = g'4 }; }; match = record { keys3 = k }; }; handle-data-arg = record { given = g'16 }; };
+            handle-data-arg2 = record { given = g'17 }; }; handle-data-arg3 = record { given = g'18 }; }; handle-data-arg4 = record { given = g'19 };
+            }, λ g'20. lay3 record { before = record { before = record { before = record { before = record { before = record { before = record {
             before = record { before = record { before = record { before = record { before = c; slice-known = record { given = g }; };
             shared-slice-known = record { given = g' }; }; shared-slice-known2 = record { given = g'' }; }; shared-slice-known3 = record { given = g'3
-            }; }; shared-slice-known4 = record { given = g'4 }; }; match = record { keys2 = k }; }; handle-accept-arg = record { given = g'11 }; };
-            handle-accept-arg2 = record { given = g'12 }; }; handle-accept-arg3 = record { given = g'13 }; } g'14) g'15; },),),),),), (λ k. λ g'16.
-            (Path.refl, λ g'17. (Path.refl, λ g'18. (Path.refl, λ g'19. (Path.refl, (handle-data-requires record { before = record { before = record {
-            before = record { before = record { before = record { before = record { before = record { before = record { before = record { before = c;
-            slice-known = record { given = g }; }; shared-slice-known = record { given = g' }; }; shared-slice-known2 = record { given = g'' }; };
-            shared-slice-known3 = record { given = g'3 }; }; shared-slice-known4 = record { given = g'4 }; }; match = record { keys3 = k }; };
-            handle-data-arg = record { given = g'16 }; }; handle-data-arg2 = record { given = g'17 }; }; handle-data-arg3 = record { given = g'18 };
-            }; handle-data-arg4 = record { given = g'19 }; }, λ g'20. lay3 record { before = record { before = record { before = record { before =
-            record { before = record { before = record { before = record { before = record { before = record { before = record { before = c;
-            slice-known = record { given = g }; }; shared-slice-known = record { given = g' }; }; shared-slice-known2 = record { given = g'' }; };
-            shared-slice-known3 = record { given = g'3 }; }; shared-slice-known4 = record { given = g'4 }; }; match = record { keys3 = k }; };
-            handle-data-arg = record { given = g'16 }; }; handle-data-arg2 = record { given = g'17 }; }; handle-data-arg3 = record { given = g'18 };
-            }; handle-data-arg4 = record { given = g'19 }; }; handle-data = Called.called ps·2 r·2 (claims· .5) T83 (record { pos = 33; ty =
-            Syntax.tyRef Syntax.erased Syntax.mut RelayCircuit.to; ref = λ x. x; }, (record { pos = 35; ty = Syntax.tyRef Syntax.erased Syntax.mut
-            ReservationUsage.to; ref = λ x. x; }, (record { pos = 37; ty = Syntax.tyRef Syntax.erased Syntax.mut InflightAction.to; ref = λ x. x; },
-            (record { pos = 39; ty = Syntax.tyRef Syntax.erased Syntax.mut (Syntax.tyInt Syntax.w32); ref = λ x. x; }, (record { pos = 6; st =
-            List.[]; d = 0; at = λ x. x }, (record { pos = 7; st = List.[]; d = 0; at = λ x. x }, (record { pos = 8; ty = Syntax.tyRef (Syntax.named
-            5) Syntax.imm (Syntax.tyInt Syntax.w8); ref = λ x. x; }, (record { pos = 9; ty = Syntax.tyRef (Syntax.named 6) Syntax.imm (Syntax.tyInt
-            Syntax.w8); ref = λ x. x; }, tt,),),),),),),),) (m49 record { before = record { before = record { before = record { before = record {
+            }; }; shared-slice-known4 = record { given = g'4 }; }; match = record { keys3 = k }; }; handle-data-arg = record { given = g'16 }; };
+            handle-data-arg2 = record { given = g'17 }; }; handle-data-arg3 = record { given = g'18 }; }; handle-data-arg4 = record { given = g'19 };
+            }; handle-data = Called.called ps·2 r·2 (claims· .5) T85 (record { pos = 34; ty = Syntax.tyRef Syntax.erased Syntax.mut RelayCircuit.to;
+            ref = λ x. x; }, (record { pos = 36; ty = Syntax.tyRef Syntax.erased Syntax.mut ReservationUsage.to; ref = λ x. x; }, (record { pos = 38;
+            ty = Syntax.tyRef Syntax.erased Syntax.mut InflightAction.to; ref = λ x. x; }, (record { pos = 40; ty = Syntax.tyRef Syntax.erased
+            Syntax.mut (Syntax.tyInt Syntax.w32); ref = λ x. x; }, (record { pos = 6; st = List.[]; d = 0; at = λ x. x }, (record { pos = 7; st =
+            List.[]; d = 0; at = λ x. x }, (record { pos = 8; st = List.[]; d = 0; at = λ x. x }, (record { pos = 9; ty = Syntax.tyRef (Syntax.named
+            5) Syntax.imm (Syntax.tyInt Syntax.w8); ref = λ x. x; }, (record { pos = 10; ty = Syntax.tyRef (Syntax.named 6) Syntax.imm (Syntax.tyInt
+            Syntax.w8); ref = λ x. x; }, tt,),),),),),),),),) (m51 record { before = record { before = record { before = record { before = record {
             before = record { before = record { before = record { before = record { before = c; slice-known = record { given = g }; };
             shared-slice-known = record { given = g' }; }; shared-slice-known2 = record { given = g'' }; }; shared-slice-known3 = record { given = g'3
             }; }; shared-slice-known4 = record { given = g'4 }; }; match = record { keys3 = k }; }; handle-data-arg = record { given = g'16 }; };
@@ -5094,37 +5295,38 @@ module _ (claims· : Claims) where
             record { before = c; slice-known = record { given = g }; }; shared-slice-known = record { given = g' }; }; shared-slice-known2 = record {
             given = g'' }; }; shared-slice-known3 = record { given = g'3 }; }; shared-slice-known4 = record { given = g'4 }; }; match = record { keys4
             = k }; }; handle-window-arg = record { given = g'21 }; }; handle-window-arg2 = record { given = g'22 }; }; handle-window-arg3 = record {
-            given = g'23 }; }; handle-window = Called.called ps·3 r·3 (claims· .7) T108 (record { pos = 41; ty = Syntax.tyRef Syntax.erased Syntax.mut
-            RelayCircuit.to; ref = λ x. x; }, (record { pos = 43; ty = Syntax.tyRef Syntax.erased Syntax.mut InflightAction.to; ref = λ x. x; },
-            (record { pos = 45; ty = Syntax.tyRef Syntax.erased Syntax.mut (Syntax.tyInt Syntax.w32); ref = λ x. x; }, (record { pos = 6; st =
-            List.[]; d = 0; at = λ x. x }, (record { pos = 7; st = List.[]; d = 0; at = λ x. x }, (record { pos = 8; ty = Syntax.tyRef (Syntax.named
-            5) Syntax.imm (Syntax.tyInt Syntax.w8); ref = λ x. x; }, (record { pos = 9; ty = Syntax.tyRef (Syntax.named 6) Syntax.imm (Syntax.tyInt
-            Syntax.w8); ref = λ x. x; }, tt,),),),),),),) (m63 record { before = record { before = record { before = record { before = record { before
-            = record { before = record { before = record { before = c; slice-known = record { given = g }; }; shared-slice-known = record { given = g'
-            }; }; shared-slice-known2 = record { given = g'' }; }; shared-slice-known3 = record { given = g'3 }; }; shared-slice-known4 = record {
-            given = g'4 }; }; match = record { keys4 = k }; }; handle-window-arg = record { given = g'21 }; }; handle-window-arg2 = record { given =
-            g'22 }; } g'23) g'24; },),),),), (λ k. lay12 record { before = record { before = record { before = record { before = record { before =
-            record { before = c; slice-known = record { given = g } }; shared-slice-known = record { given = g' }; }; shared-slice-known2 = record {
-            given = g'' }; }; shared-slice-known3 = record { given = g'3 }; }; shared-slice-known4 = record { given = g'4 }; }; match = record { came
-            = Logic.inl record { keys5 = k } }; }, λ k. (tt, (λ taken. lay5 record { before = record { before = record { before = record { before =
-            record { before = record { before = record { before = c; slice-known = record { given = g }; }; shared-slice-known = record { given = g'
-            }; }; shared-slice-known2 = record { given = g'' }; }; shared-slice-known3 = record { given = g'3 }; }; shared-slice-known4 = record {
-            given = g'4 }; }; match = record { rest = k }; }; if1 = record { taken = Tests.ltb-true (Row.get 12 (T7 .locals) (m6 record { before =
-            record { before = record { before = record { before = c; slice-known = record { given = g }; }; shared-slice-known = record { given = g'
-            }; }; shared-slice-known2 = record { given = g'' }; }; shared-slice-known3 = record { given = g'3 }; } g'4)) 13 taken; }; }, λ left. lay6
-            record { before = record { before = record { before = record { before = record { before = record { before = record { before = c;
-            slice-known = record { given = g }; }; shared-slice-known = record { given = g' }; }; shared-slice-known2 = record { given = g'' }; };
+            given = g'23 }; }; handle-window = Called.called ps·3 r·3 (claims· .7) T111 (record { pos = 42; ty = Syntax.tyRef Syntax.erased Syntax.mut
+            RelayCircuit.to; ref = λ x. x; }, (record { pos = 44; ty = Syntax.tyRef Syntax.erased Syntax.mut InflightAction.to; ref = λ x. x; },
+            (record { pos = 46; ty = Syntax.tyRef Syntax.erased Syntax.mut (Syntax.tyInt Syntax.w32); ref = λ x. x; }, (record { pos = 6; st =
+            List.[]; d = 0; at = λ x. x }, (record { pos = 7; st = List.[]; d = 0; at = λ x. x }, (record { pos = 8; st = List.[]; d = 0; at = λ x. x
+            }, (record { pos = 9; ty = Syntax.tyRef (Syntax.named 5) Syntax.imm (Syntax.tyInt Syntax.w8); ref = λ x. x; }, (record { pos = 10; ty =
+            Syntax.tyRef (Syntax.named 6) Syntax.imm (Syntax.tyInt Syntax.w8); ref = λ x. x; }, tt,),),),),),),),) (m66 record { before = record {
+            before = record { before = record { before = record { before = record { before = record { before = record { before = c; slice-known =
+            record { given = g }; }; shared-slice-known = record { given = g' }; }; shared-slice-known2 = record { given = g'' }; };
+            shared-slice-known3 = record { given = g'3 }; }; shared-slice-known4 = record { given = g'4 }; }; match = record { keys4 = k }; };
+            handle-window-arg = record { given = g'21 }; }; handle-window-arg2 = record { given = g'22 }; } g'23) g'24; },),),),), (λ k. lay12 record
+            { before = record { before = record { before = record { before = record { before = record { before = c; slice-known = record { given = g }
+            }; shared-slice-known = record { given = g' }; }; shared-slice-known2 = record { given = g'' }; }; shared-slice-known3 = record { given =
+            g'3 }; }; shared-slice-known4 = record { given = g'4 }; }; match = record { came = Logic.inl record { keys5 = k } }; }, λ k. (tt, (λ
+            taken. lay5 record { before = record { before = record { before = record { before = record { before = record { before = record { before =
+            c; slice-known = record { given = g }; }; shared-slice-known = record { given = g' }; }; shared-slice-known2 = record { given = g'' }; };
             shared-slice-known3 = record { given = g'3 }; }; shared-slice-known4 = record { given = g'4 }; }; match = record { rest = k }; }; if1 =
-            record { left = Tests.ltb-false (Row.get 12 (T7 .locals) (m6 record { before = record { before = record { before = record { before = c;
+            record { taken = Tests.ltb-true (Row.get 13 (T7 .locals) (m6 record { before = record { before = record { before = record { before = c;
             slice-known = record { given = g }; }; shared-slice-known = record { given = g' }; }; shared-slice-known2 = record { given = g'' }; };
-            shared-slice-known3 = record { given = g'3 }; } g'4)) 13 left; }; },),),),),),),)
+            shared-slice-known3 = record { given = g'3 }; } g'4)) 13 taken; }; }, λ left. lay6 record { before = record { before = record { before =
+            record { before = record { before = record { before = record { before = c; slice-known = record { given = g }; }; shared-slice-known =
+            record { given = g' }; }; shared-slice-known2 = record { given = g'' }; }; shared-slice-known3 = record { given = g'3 }; };
+            shared-slice-known4 = record { given = g'4 }; }; match = record { rest = k }; }; if1 = record { left = Tests.ltb-false (Row.get 13 (T7
+            .locals) (m6 record { before = record { before = record { before = record { before = c; slice-known = record { given = g }; };
+            shared-slice-known = record { given = g' }; }; shared-slice-known2 = record { given = g'' }; }; shared-slice-known3 = record { given = g'3
+            }; } g'4)) 13 left; }; },),),),),),),)
         module _ (κs : Lifetimes.Lfts 9) (qs : Lifetimes.Shares 9) where
           pub asked : (a : Kinds.Dens κs ps) → (good : Kinds.GoodsP κs ps a) → (pre : Pre· κs a) → (bs : List.List Nat.ℕ) → Φ (Any.wantQ 9 ps r xs m
               κs qs a (Post· κs a)) (Function.init 9 ps r xs m κs qs a)
           asked = λ a good pre bs. laid record { κs = κs; args = record { pending = a .0; circuits = a .1 .0; ledger = a .1 .1 .0; inflight = a .1 .1
-              .1 .0; out = a .1 .1 .1 .1 .0; relay = a .1 .1 .1 .1 .1 .0; packet = a .1 .1 .1 .1 .1 .1 .0; peer = a .1 .1 .1 .1 .1 .1 .1 .0; body = a
-              .1 .1 .1 .1 .1 .1 .1 .1 .0; endpoint = a .1 .1 .1 .1 .1 .1 .1 .1 .1 .0; random = a .1 .1 .1 .1 .1 .1 .1 .1 .1 .1 .0; }; good = good; pre
-              = pre; }
+              .1 .0; out = a .1 .1 .1 .1 .0; relay = a .1 .1 .1 .1 .1 .0; places = a .1 .1 .1 .1 .1 .1 .0; packet = a .1 .1 .1 .1 .1 .1 .1 .0; peer =
+              a .1 .1 .1 .1 .1 .1 .1 .1 .0; body = a .1 .1 .1 .1 .1 .1 .1 .1 .1 .0; endpoint = a .1 .1 .1 .1 .1 .1 .1 .1 .1 .1 .0; random = a .1 .1 .1
+              .1 .1 .1 .1 .1 .1 .1 .1 .0; }; good = good; pre = pre; }
         module _ { M : Type 1 } (𝓤 : URA.URA M) (H : Wp.Heap 𝓤) (A : Atoms.Atoms 𝓤) (W : Kit.Given 𝓤 H A) (𝓣 : Wp.Tables 𝓤 H) (known0 : Plain.Known 𝓤
             H A W 𝓣 9 ps·0 r·0 (claims· .0) (claims· .1) "hnsr_circuit::handle_open::handle_open") (known1 : Plain.Known 𝓤 H A W 𝓣 6 ps·1 r·1 (claims·
             .2) (claims· .3) "hnsr_circuit::handle_accept::handle_accept") (known2 : Plain.Known 𝓤 H A W 𝓣 6 ps·2 r·2 (claims· .4) (claims· .5)

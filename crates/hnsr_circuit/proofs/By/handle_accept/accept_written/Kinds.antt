@@ -4,6 +4,8 @@ use Rattle.hnsr_circuit.proofs.By.RelayCircuit
 use Rattle.hnsr_circuit.proofs.By.RelayPending
 use Rattle.hnsr_circuit.proofs.accept.AcceptPlan
 use Rattle.hnsr_circuit.proofs.accept.AcceptPlan.Laws
+use Rattle.hnsr_circuit.proofs.places.Places
+use Rattle.hnsr_circuit.proofs.places.Places.Laws as Laws'
 use borrow.Fn.Kinds
 use borrow.Kind.MutSlice
 use borrow.Kind.Value
@@ -11,17 +13,23 @@ use borrow.Rule.Local
 use borrow.Table.Rows
 use denote.Exit
 use denote.Struct.Declared
-use denote.Struct.Laws as Laws'
+use denote.Struct.Laws as Laws''
 use mathlib.Core.List
 use mathlib.Core.Path
+use mir.Syntax
 use mathlib.Core.List.{_∷_}
 
 abbrev pub ps : List.List (Kinds.PK 3)
 ps = (MutSlice.pMutS RelayPending.row 0 tt) ∷ (MutSlice.pMutS RelayCircuit.row 1 tt) ∷ (MutSlice.pMutS InflightAction.row 2 tt) ∷ (Value.pVal record {
-    ty = Declared.row AcceptPlan.the-type; one = Path.refl; val = Laws'.val AcceptPlan.the-type Laws.the-laws; tells = Laws'.tells AcceptPlan.the-type
-    Laws.the-laws; still = Laws'.still AcceptPlan.the-type Laws.the-copy Exit.yes; row = Rows.whole (Declared.row AcceptPlan.the-type); rd = λ x. x;
-    mk = λ x. x; } λ M 𝓤 H A W. record { copies = Laws'.copy AcceptPlan.the-type Laws.the-copy 𝓤 H A W; lawful = Laws'.lawful AcceptPlan.the-type
-    Laws.the-laws 𝓤 H A W; makes = Laws'.makes AcceptPlan.the-type Laws.the-plain 𝓤 H A; in-mem = Local.mem-whole 𝓤 H A W (Declared.row
-    AcceptPlan.the-type); of-mem = Local.whole-mem 𝓤 H A W (Declared.row AcceptPlan.the-type); }) ∷ RelayPending.param ∷ RelayCircuit.param ∷ List.[]
+    ty = Declared.row Places.the-type; one = Path.refl; val = Laws''.val Places.the-type Laws'.the-laws; tells = Laws''.tells Places.the-type
+    Laws'.the-laws; still = Laws''.still Places.the-type Laws'.the-copy Exit.yes; row = Rows.whole (Declared.row Places.the-type); rd = λ x. x; mk = λ
+    x. x; } λ M 𝓤 H A W. record { copies = Laws''.copy Places.the-type Laws'.the-copy 𝓤 H A W; lawful = Laws''.lawful Places.the-type Laws'.the-laws 𝓤
+    H A W; makes = Laws''.makes Places.the-type Laws'.the-plain 𝓤 H A; in-mem = Local.mem-whole 𝓤 H A W (Declared.row Places.the-type); of-mem =
+    Local.whole-mem 𝓤 H A W (Declared.row Places.the-type); }) ∷ (Value.pVal record { ty = Declared.row AcceptPlan.the-type; one = Path.refl; val =
+    Laws''.val AcceptPlan.the-type Laws.the-laws; tells = Laws''.tells AcceptPlan.the-type Laws.the-laws; still = Laws''.still AcceptPlan.the-type
+    Laws.the-copy Exit.yes; row = Rows.whole (Declared.row AcceptPlan.the-type); rd = λ x. x; mk = λ x. x; } λ M 𝓤 H A W. record { copies =
+    Laws''.copy AcceptPlan.the-type Laws.the-copy 𝓤 H A W; lawful = Laws''.lawful AcceptPlan.the-type Laws.the-laws 𝓤 H A W; makes = Laws''.makes
+    AcceptPlan.the-type Laws.the-plain 𝓤 H A; in-mem = Local.mem-whole 𝓤 H A W (Declared.row AcceptPlan.the-type); of-mem = Local.whole-mem 𝓤 H A W
+    (Declared.row AcceptPlan.the-type); }) ∷ RelayPending.param ∷ RelayCircuit.param ∷ List.[]
 abbrev pub r : Kinds.RK 3
-r = Kinds.rUnit
+r = Kinds.rNum Syntax.w64

@@ -5,6 +5,8 @@ use Rattle.hnsr_circuit.proofs.By.RelayCircuit
 use Rattle.hnsr_circuit.proofs.By.RelayPending
 use Rattle.hnsr_circuit.proofs.accept.AcceptPlan
 use Rattle.hnsr_circuit.proofs.accept.AcceptPlan.Laws
+use Rattle.hnsr_circuit.proofs.places.Places
+use Rattle.hnsr_circuit.proofs.places.Places.Laws as Laws'
 use borrow.Author.Called
 use borrow.Fn.Any
 use borrow.Fn.Call
@@ -26,6 +28,7 @@ use borrow.Rule.Slice.Relend
 use borrow.Rule.Slice.Shared
 use borrow.Rule.Yields
 use borrow.Struct.Reads
+use borrow.Table.Copies
 use borrow.Table.Reads as Reads'
 use borrow.Table.Row
 use borrow.Table.Rows
@@ -33,7 +36,7 @@ use borrow.Table.Typed
 use contract.Lifetimes
 use denote.Exit
 use denote.Struct.Declared
-use denote.Struct.Laws as Laws'
+use denote.Struct.Laws as Laws''
 use denote.Triple.Clauses
 use denote.Triple.Statement
 use ghost.Atoms
@@ -60,17 +63,23 @@ abbrev ref5 : Syntax.Ty
 ref5 = Syntax.tyRef (Syntax.named 2) Syntax.mut InflightAction.to
 abbrev pub ps : List.List (Kinds.PK 3)
 ps = (MutSlice.pMutS RelayPending.row 0 tt) ∷ (MutSlice.pMutS RelayCircuit.row 1 tt) ∷ (MutSlice.pMutS InflightAction.row 2 tt) ∷ (Value.pVal record {
-    ty = Declared.row AcceptPlan.the-type; one = Path.refl; val = Laws'.val AcceptPlan.the-type Laws.the-laws; tells = Laws'.tells AcceptPlan.the-type
-    Laws.the-laws; still = Laws'.still AcceptPlan.the-type Laws.the-copy Exit.yes; row = Rows.whole (Declared.row AcceptPlan.the-type); rd = λ x. x;
-    mk = λ x. x; } λ M 𝓤 H A W. record { copies = Laws'.copy AcceptPlan.the-type Laws.the-copy 𝓤 H A W; lawful = Laws'.lawful AcceptPlan.the-type
-    Laws.the-laws 𝓤 H A W; makes = Laws'.makes AcceptPlan.the-type Laws.the-plain 𝓤 H A; in-mem = Local.mem-whole 𝓤 H A W (Declared.row
-    AcceptPlan.the-type); of-mem = Local.whole-mem 𝓤 H A W (Declared.row AcceptPlan.the-type); }) ∷ RelayPending.param ∷ RelayCircuit.param ∷ List.[]
+    ty = Declared.row Places.the-type; one = Path.refl; val = Laws''.val Places.the-type Laws'.the-laws; tells = Laws''.tells Places.the-type
+    Laws'.the-laws; still = Laws''.still Places.the-type Laws'.the-copy Exit.yes; row = Rows.whole (Declared.row Places.the-type); rd = λ x. x; mk = λ
+    x. x; } λ M 𝓤 H A W. record { copies = Laws''.copy Places.the-type Laws'.the-copy 𝓤 H A W; lawful = Laws''.lawful Places.the-type Laws'.the-laws 𝓤
+    H A W; makes = Laws''.makes Places.the-type Laws'.the-plain 𝓤 H A; in-mem = Local.mem-whole 𝓤 H A W (Declared.row Places.the-type); of-mem =
+    Local.whole-mem 𝓤 H A W (Declared.row Places.the-type); }) ∷ (Value.pVal record { ty = Declared.row AcceptPlan.the-type; one = Path.refl; val =
+    Laws''.val AcceptPlan.the-type Laws.the-laws; tells = Laws''.tells AcceptPlan.the-type Laws.the-laws; still = Laws''.still AcceptPlan.the-type
+    Laws.the-copy Exit.yes; row = Rows.whole (Declared.row AcceptPlan.the-type); rd = λ x. x; mk = λ x. x; } λ M 𝓤 H A W. record { copies =
+    Laws''.copy AcceptPlan.the-type Laws.the-copy 𝓤 H A W; lawful = Laws''.lawful AcceptPlan.the-type Laws.the-laws 𝓤 H A W; makes = Laws''.makes
+    AcceptPlan.the-type Laws.the-plain 𝓤 H A; in-mem = Local.mem-whole 𝓤 H A W (Declared.row AcceptPlan.the-type); of-mem = Local.whole-mem 𝓤 H A W
+    (Declared.row AcceptPlan.the-type); }) ∷ RelayPending.param ∷ RelayCircuit.param ∷ List.[]
 abbrev pub r : Kinds.RK 3
-r = Unit.rUnit
+r = Num.rNum Syntax.w64
 abbrev pub xs : List.List Syntax.Ty
-xs = Syntax.tyUnit ∷ ref0 ∷ (Syntax.tyStruct (38 ∷ 91 ∷ 93 ∷ List.[]) (Syntax.tcons ref0 (Syntax.tcons (Syntax.tyInt Syntax.w64) Syntax.tnil))) ∷ ref1
-    ∷ (Syntax.tyStruct (38 ∷ 91 ∷ 93 ∷ List.[]) (Syntax.tcons ref1 (Syntax.tcons (Syntax.tyInt Syntax.w64) Syntax.tnil))) ∷ ref2 ∷ (Syntax.tyStruct
-    (38 ∷ 91 ∷ 93 ∷ List.[]) (Syntax.tcons ref2 (Syntax.tcons (Syntax.tyInt Syntax.w64) Syntax.tnil))) ∷ List.[]
+xs = (Syntax.tyInt Syntax.w64) ∷ Syntax.tyUnit ∷ ref0 ∷ (Syntax.tyStruct (38 ∷ 91 ∷ 93 ∷ List.[]) (Syntax.tcons ref0 (Syntax.tcons (Syntax.tyInt
+    Syntax.w64) Syntax.tnil))) ∷ ref1 ∷ (Syntax.tyStruct (38 ∷ 91 ∷ 93 ∷ List.[]) (Syntax.tcons ref1 (Syntax.tcons (Syntax.tyInt Syntax.w64)
+    Syntax.tnil))) ∷ ref2 ∷ (Syntax.tyStruct (38 ∷ 91 ∷ 93 ∷ List.[]) (Syntax.tcons ref2 (Syntax.tcons (Syntax.tyInt Syntax.w64) Syntax.tnil))) ∷
+    List.[]
 abbrev pub m : Nat.ℕ
 m = 3
 abbrev pub ps·0 : List.List (Kinds.PK 1)
@@ -78,45 +87,55 @@ ps·0 = (MutSlice.pMutS RelayPending.row 0 tt) ∷ Bool.pBool ∷ (Num.pNum Synt
 abbrev pub r·0 : Kinds.RK 1
 r·0 = Unit.rUnit
 abbrev pub ps·1 : List.List (Kinds.PK 1)
-ps·1 = (MutSlice.pMutS RelayCircuit.row 0 tt) ∷ Bool.pBool ∷ (Num.pNum Syntax.w64) ∷ RelayCircuit.param ∷ List.[]
+ps·1 = (MutSlice.pMutS RelayCircuit.row 0 tt) ∷ (Value.pVal record { ty = Declared.row Places.the-type; one = Path.refl; val = Laws''.val
+    Places.the-type Laws'.the-laws; tells = Laws''.tells Places.the-type Laws'.the-laws; still = Laws''.still Places.the-type Laws'.the-copy Exit.yes;
+    row = Rows.whole (Declared.row Places.the-type); rd = λ x. x; mk = λ x. x; } λ M 𝓤 H A W. record { copies = Laws''.copy Places.the-type
+    Laws'.the-copy 𝓤 H A W; lawful = Laws''.lawful Places.the-type Laws'.the-laws 𝓤 H A W; makes = Laws''.makes Places.the-type Laws'.the-plain 𝓤 H A;
+    in-mem = Local.mem-whole 𝓤 H A W (Declared.row Places.the-type); of-mem = Local.whole-mem 𝓤 H A W (Declared.row Places.the-type); }) ∷ Bool.pBool
+    ∷ (Num.pNum Syntax.w64) ∷ RelayCircuit.param ∷ List.[]
 abbrev pub r·1 : Kinds.RK 1
-r·1 = Unit.rUnit
+r·1 = Num.rNum Syntax.w64
 abbrev pub ps·2 : List.List (Kinds.PK 1)
-ps·2 = (MutSlice.pMutS InflightAction.row 0 tt) ∷ Bool.pBool ∷ (Num.pNum Syntax.w64) ∷ List.[]
+ps·2 = (MutSlice.pMutS InflightAction.row 0 tt) ∷ (Value.pVal record { ty = Declared.row Places.the-type; one = Path.refl; val = Laws''.val
+    Places.the-type Laws'.the-laws; tells = Laws''.tells Places.the-type Laws'.the-laws; still = Laws''.still Places.the-type Laws'.the-copy Exit.yes;
+    row = Rows.whole (Declared.row Places.the-type); rd = λ x. x; mk = λ x. x; } λ M 𝓤 H A W. record { copies = Laws''.copy Places.the-type
+    Laws'.the-copy 𝓤 H A W; lawful = Laws''.lawful Places.the-type Laws'.the-laws 𝓤 H A W; makes = Laws''.makes Places.the-type Laws'.the-plain 𝓤 H A;
+    in-mem = Local.mem-whole 𝓤 H A W (Declared.row Places.the-type); of-mem = Local.whole-mem 𝓤 H A W (Declared.row Places.the-type); }) ∷ Bool.pBool
+    ∷ (Num.pNum Syntax.w64) ∷ List.[]
 abbrev pub r·2 : Kinds.RK 1
 r·2 = Unit.rUnit
 abbrev pub hs : List.List Syntax.Home
 hs = Syntax.valueLocal ∷ Syntax.valueLocal ∷ Syntax.valueLocal ∷ Syntax.valueLocal ∷ Syntax.valueLocal ∷ Syntax.valueLocal ∷ Syntax.valueLocal ∷
     Syntax.valueLocal ∷ Syntax.valueLocal ∷ Syntax.valueLocal ∷ Syntax.valueLocal ∷ Syntax.valueLocal ∷ Syntax.valueLocal ∷ Syntax.valueLocal ∷
-    List.[]
+    Syntax.valueLocal ∷ Syntax.valueLocal ∷ List.[]
 abbrev b0 : Syntax.Body
-b0 = Syntax.assign (Syntax.place 8 List.[]) (Syntax.addrOf (Syntax.place 1 ((Syntax.field 0) ∷ (Syntax.deref RelayPending.ty) ∷ List.[])))
+b0 = Syntax.assign (Syntax.place 10 List.[]) (Syntax.addrOf (Syntax.place 1 ((Syntax.field 0) ∷ (Syntax.deref RelayPending.ty) ∷ List.[])))
 abbrev b1 : Syntax.Body
-b1 = Syntax.assign (Syntax.place 9 List.[]) (Syntax.aggregate ((Syntax.copy (Syntax.place 8 List.[])) ∷ (Syntax.copy (Syntax.place 1 ((Syntax.field 1)
-    ∷ List.[]))) ∷ List.[]))
+b1 = Syntax.assign (Syntax.place 11 List.[]) (Syntax.aggregate ((Syntax.copy (Syntax.place 10 List.[])) ∷ (Syntax.copy (Syntax.place 1 ((Syntax.field
+    1) ∷ List.[]))) ∷ List.[]))
 abbrev b2 : Syntax.Body
-b2 = Syntax.call "hnsr_circuit::tables::pending::set_pending" ((Syntax.copy (Syntax.place 9 List.[])) ∷ (Syntax.copy (Syntax.place 4 ((Syntax.field 0)
-    ∷ List.[]))) ∷ (Syntax.copy (Syntax.place 4 ((Syntax.field 1) ∷ List.[]))) ∷ (Syntax.copy (Syntax.place 5 List.[])) ∷ List.[]) (Syntax.place 7
+b2 = Syntax.call "hnsr_circuit::tables::pending::set_pending" ((Syntax.copy (Syntax.place 11 List.[])) ∷ (Syntax.copy (Syntax.place 5 ((Syntax.field
+    0) ∷ List.[]))) ∷ (Syntax.copy (Syntax.place 5 ((Syntax.field 1) ∷ List.[]))) ∷ (Syntax.copy (Syntax.place 6 List.[])) ∷ List.[]) (Syntax.place 9
     List.[])
 abbrev b3 : Syntax.Body
-b3 = Syntax.assign (Syntax.place 10 List.[]) (Syntax.addrOf (Syntax.place 2 ((Syntax.field 0) ∷ (Syntax.deref RelayCircuit.ty) ∷ List.[])))
+b3 = Syntax.assign (Syntax.place 12 List.[]) (Syntax.addrOf (Syntax.place 2 ((Syntax.field 0) ∷ (Syntax.deref RelayCircuit.ty) ∷ List.[])))
 abbrev b4 : Syntax.Body
-b4 = Syntax.assign (Syntax.place 11 List.[]) (Syntax.aggregate ((Syntax.copy (Syntax.place 10 List.[])) ∷ (Syntax.copy (Syntax.place 2 ((Syntax.field
+b4 = Syntax.assign (Syntax.place 13 List.[]) (Syntax.aggregate ((Syntax.copy (Syntax.place 12 List.[])) ∷ (Syntax.copy (Syntax.place 2 ((Syntax.field
     1) ∷ List.[]))) ∷ List.[]))
 abbrev b5 : Syntax.Body
-b5 = Syntax.call "hnsr_circuit::handle_accept::put_circuit" ((Syntax.copy (Syntax.place 11 List.[])) ∷ (Syntax.copy (Syntax.place 4 ((Syntax.field 0)
-    ∷ List.[]))) ∷ (Syntax.copy (Syntax.place 4 ((Syntax.field 2) ∷ List.[]))) ∷ (Syntax.copy (Syntax.place 6 List.[])) ∷ List.[]) (Syntax.place 7
-    List.[])
+b5 = Syntax.call "hnsr_circuit::handle_accept::put_circuit" ((Syntax.copy (Syntax.place 13 List.[])) ∷ (Syntax.copy (Syntax.place 4 List.[])) ∷
+    (Syntax.copy (Syntax.place 5 ((Syntax.field 0) ∷ List.[]))) ∷ (Syntax.copy (Syntax.place 5 ((Syntax.field 2) ∷ List.[]))) ∷ (Syntax.copy
+    (Syntax.place 7 List.[])) ∷ List.[]) (Syntax.place 8 List.[])
 abbrev b6 : Syntax.Body
-b6 = Syntax.assign (Syntax.place 12 List.[]) (Syntax.addrOf (Syntax.place 3 ((Syntax.field 0) ∷ (Syntax.deref InflightAction.ty) ∷ List.[])))
+b6 = Syntax.assign (Syntax.place 14 List.[]) (Syntax.addrOf (Syntax.place 3 ((Syntax.field 0) ∷ (Syntax.deref InflightAction.ty) ∷ List.[])))
 abbrev b7 : Syntax.Body
-b7 = Syntax.assign (Syntax.place 13 List.[]) (Syntax.aggregate ((Syntax.copy (Syntax.place 12 List.[])) ∷ (Syntax.copy (Syntax.place 3 ((Syntax.field
+b7 = Syntax.assign (Syntax.place 15 List.[]) (Syntax.aggregate ((Syntax.copy (Syntax.place 14 List.[])) ∷ (Syntax.copy (Syntax.place 3 ((Syntax.field
     1) ∷ List.[]))) ∷ List.[]))
 abbrev b8 : Syntax.Body
-b8 = Syntax.call "hnsr_circuit::lookup::drop_actions" ((Syntax.copy (Syntax.place 13 List.[])) ∷ (Syntax.copy (Syntax.place 4 ((Syntax.field 0) ∷
-    List.[]))) ∷ (Syntax.copy (Syntax.place 4 ((Syntax.field 2) ∷ List.[]))) ∷ List.[]) (Syntax.place 7 List.[])
+b8 = Syntax.call "hnsr_circuit::lookup::drop_actions" ((Syntax.copy (Syntax.place 15 List.[])) ∷ (Syntax.copy (Syntax.place 4 List.[])) ∷ (Syntax.copy
+    (Syntax.place 5 ((Syntax.field 0) ∷ List.[]))) ∷ (Syntax.copy (Syntax.place 5 ((Syntax.field 2) ∷ List.[]))) ∷ List.[]) (Syntax.place 9 List.[])
 abbrev b9 : Syntax.Body
-b9 = Syntax.assign (Syntax.place 0 List.[]) (Syntax.rvOpd Syntax.opdUnit)
+b9 = Syntax.assign (Syntax.place 0 List.[]) (Syntax.rvOpd (Syntax.copy (Syntax.place 8 List.[])))
 abbrev b10 : Syntax.Body
 b10 = Syntax.return
 abbrev b11 : Syntax.Body
@@ -144,7 +163,7 @@ body = b20
 abbrev pub Claims : Type 1
 Claims = Kinds.In 1 ps·0 × Kinds.Out 1 ps·0 r·0 × Kinds.In 1 ps·1 × Kinds.Out 1 ps·1 r·1 × Kinds.In 1 ps·2 × Kinds.Out 1 ps·2 r·2
 abbrev e0 : Row.Entry
-e0 = (0, Rows.any-gone Syntax.tyUnit)
+e0 = (0, Rows.any-gone (Syntax.tyInt Syntax.w64))
 abbrev e1 : Row.Entry
 e1 = (1, Mut.mslice RelayPending.row ref3 0)
 abbrev e2 : Row.Entry
@@ -152,99 +171,109 @@ e2 = (2, Mut.mslice RelayCircuit.row ref4 1)
 abbrev e3 : Row.Entry
 e3 = (3, Mut.mslice InflightAction.row ref5 2)
 abbrev e4 : Row.Entry
-e4 = (4, Rows.whole (Declared.row AcceptPlan.the-type))
+e4 = (4, Rows.whole (Declared.row Places.the-type))
 abbrev e5 : Row.Entry
-e5 = (5, RelayPending.held)
+e5 = (5, Rows.whole (Declared.row AcceptPlan.the-type))
 abbrev e6 : Row.Entry
-e6 = (6, RelayCircuit.held)
+e6 = (6, RelayPending.held)
 abbrev e7 : Row.Entry
-e7 = (7, Rows.any-gone Syntax.tyUnit)
+e7 = (7, RelayCircuit.held)
 abbrev e8 : Row.Entry
-e8 = (8, Rows.any-gone ref0)
+e8 = (8, Rows.any-gone (Syntax.tyInt Syntax.w64))
 abbrev e9 : Row.Entry
-e9 = (9, Rows.any-gone (Syntax.tyStruct (38 ∷ 91 ∷ 93 ∷ List.[]) (Syntax.tcons ref0 (Syntax.tcons (Syntax.tyInt Syntax.w64) Syntax.tnil))))
+e9 = (9, Rows.any-gone Syntax.tyUnit)
 abbrev e10 : Row.Entry
-e10 = (10, Rows.any-gone ref1)
+e10 = (10, Rows.any-gone ref0)
 abbrev e11 : Row.Entry
-e11 = (11, Rows.any-gone (Syntax.tyStruct (38 ∷ 91 ∷ 93 ∷ List.[]) (Syntax.tcons ref1 (Syntax.tcons (Syntax.tyInt Syntax.w64) Syntax.tnil))))
+e11 = (11, Rows.any-gone (Syntax.tyStruct (38 ∷ 91 ∷ 93 ∷ List.[]) (Syntax.tcons ref0 (Syntax.tcons (Syntax.tyInt Syntax.w64) Syntax.tnil))))
 abbrev e12 : Row.Entry
-e12 = (12, Rows.any-gone ref2)
+e12 = (12, Rows.any-gone ref1)
 abbrev e13 : Row.Entry
-e13 = (13, Rows.any-gone (Syntax.tyStruct (38 ∷ 91 ∷ 93 ∷ List.[]) (Syntax.tcons ref2 (Syntax.tcons (Syntax.tyInt Syntax.w64) Syntax.tnil))))
+e13 = (13, Rows.any-gone (Syntax.tyStruct (38 ∷ 91 ∷ 93 ∷ List.[]) (Syntax.tcons ref1 (Syntax.tcons (Syntax.tyInt Syntax.w64) Syntax.tnil))))
+abbrev e14 : Row.Entry
+e14 = (14, Rows.any-gone ref2)
+abbrev e15 : Row.Entry
+e15 = (15, Rows.any-gone (Syntax.tyStruct (38 ∷ 91 ∷ 93 ∷ List.[]) (Syntax.tcons ref2 (Syntax.tcons (Syntax.tyInt Syntax.w64) Syntax.tnil))))
 abbrev e0·1 : Row.Entry
-e0·1 = (0, Rows.sc-here Row.sUnit)
+e0·1 = (0, Rows.sc-here (Row.sInt Syntax.w64))
 abbrev e4·1 : Row.Entry
-e4·1 = (4, Rows.any-gone Laws.mir)
+e4·1 = (4, Rows.any-gone Laws'.mir)
 abbrev e5·1 : Row.Entry
-e5·1 = (5, Rows.any-gone RelayPending.ty)
+e5·1 = (5, Rows.any-gone Laws.mir)
 abbrev e6·1 : Row.Entry
-e6·1 = (6, Rows.any-gone RelayCircuit.ty)
+e6·1 = (6, Rows.any-gone RelayPending.ty)
+abbrev e7·1 : Row.Entry
+e7·1 = (7, Rows.any-gone RelayCircuit.ty)
 abbrev e1·1 : Row.Entry
 e1·1 = (1, Relend.mslice-owed RelayPending.row ref3 0 3 Row.off)
-abbrev e8·1 : Row.Entry
-e8·1 = (8, Relend.msptr RelayPending.row ref0 3)
+abbrev e10·1 : Row.Entry
+e10·1 = (10, Relend.msptr RelayPending.row ref0 3)
+abbrev e11·1 : Row.Entry
+e11·1 = (11, Mut.mslice RelayPending.row ref0 3)
 abbrev e9·1 : Row.Entry
-e9·1 = (9, Mut.mslice RelayPending.row ref0 3)
-abbrev e7·1 : Row.Entry
-e7·1 = (7, Rows.sc-here Row.sUnit)
-abbrev e9·2 : Row.Entry
-e9·2 = (9, Mut.msleft RelayPending.row ref0)
+e9·1 = (9, Rows.sc-here Row.sUnit)
+abbrev e11·2 : Row.Entry
+e11·2 = (11, Mut.msleft RelayPending.row ref0)
 abbrev e2·1 : Row.Entry
 e2·1 = (2, Relend.mslice-owed RelayCircuit.row ref4 1 4 Row.off)
-abbrev e10·1 : Row.Entry
-e10·1 = (10, Relend.msptr RelayCircuit.row ref1 4)
-abbrev e11·1 : Row.Entry
-e11·1 = (11, Mut.mslice RelayCircuit.row ref1 4)
-abbrev e11·2 : Row.Entry
-e11·2 = (11, Mut.msleft RelayCircuit.row ref1)
+abbrev e12·1 : Row.Entry
+e12·1 = (12, Relend.msptr RelayCircuit.row ref1 4)
+abbrev e13·1 : Row.Entry
+e13·1 = (13, Mut.mslice RelayCircuit.row ref1 4)
+abbrev e8·1 : Row.Entry
+e8·1 = (8, Rows.sc-here (Row.sInt Syntax.w64))
+abbrev e13·2 : Row.Entry
+e13·2 = (13, Mut.msleft RelayCircuit.row ref1)
 abbrev e3·1 : Row.Entry
 e3·1 = (3, Relend.mslice-owed InflightAction.row ref5 2 5 Row.off)
-abbrev e12·1 : Row.Entry
-e12·1 = (12, Relend.msptr InflightAction.row ref2 5)
-abbrev e13·1 : Row.Entry
-e13·1 = (13, Mut.mslice InflightAction.row ref2 5)
-abbrev e13·2 : Row.Entry
-e13·2 = (13, Mut.msleft InflightAction.row ref2)
+abbrev e14·1 : Row.Entry
+e14·1 = (14, Relend.msptr InflightAction.row ref2 5)
+abbrev e15·1 : Row.Entry
+e15·1 = (15, Mut.mslice InflightAction.row ref2 5)
+abbrev e15·2 : Row.Entry
+e15·2 = (15, Mut.msleft InflightAction.row ref2)
 abbrev pub t0 : List.List Row.Entry
-t0 = e0 ∷ e1 ∷ e2 ∷ e3 ∷ e4 ∷ e5 ∷ e6 ∷ e7 ∷ e8 ∷ e9 ∷ e10 ∷ e11 ∷ e12 ∷ e13 ∷ List.[]
+t0 = e0 ∷ e1 ∷ e2 ∷ e3 ∷ e4 ∷ e5 ∷ e6 ∷ e7 ∷ e8 ∷ e9 ∷ e10 ∷ e11 ∷ e12 ∷ e13 ∷ e14 ∷ e15 ∷ List.[]
 abbrev pub t1 : List.List Row.Entry
-t1 = e0·1 ∷ e1 ∷ e2 ∷ e3 ∷ e4·1 ∷ e5·1 ∷ e6·1 ∷ e7 ∷ e8 ∷ e9 ∷ e10 ∷ e11 ∷ e12 ∷ e13 ∷ List.[]
+t1 = e0·1 ∷ e1 ∷ e2 ∷ e3 ∷ e4·1 ∷ e5·1 ∷ e6·1 ∷ e7·1 ∷ e8 ∷ e9 ∷ e10 ∷ e11 ∷ e12 ∷ e13 ∷ e14 ∷ e15 ∷ List.[]
 abbrev pub t2 : List.List Row.Entry
-t2 = e0 ∷ e1·1 ∷ e2 ∷ e3 ∷ e4 ∷ e5 ∷ e6 ∷ e7 ∷ e8·1 ∷ e9 ∷ e10 ∷ e11 ∷ e12 ∷ e13 ∷ List.[]
+t2 = e0 ∷ e1·1 ∷ e2 ∷ e3 ∷ e4 ∷ e5 ∷ e6 ∷ e7 ∷ e8 ∷ e9 ∷ e10·1 ∷ e11 ∷ e12 ∷ e13 ∷ e14 ∷ e15 ∷ List.[]
 abbrev pub t3 : List.List Row.Entry
-t3 = e0 ∷ e1·1 ∷ e2 ∷ e3 ∷ e4 ∷ e5 ∷ e6 ∷ e7 ∷ e8 ∷ e9·1 ∷ e10 ∷ e11 ∷ e12 ∷ e13 ∷ List.[]
+t3 = e0 ∷ e1·1 ∷ e2 ∷ e3 ∷ e4 ∷ e5 ∷ e6 ∷ e7 ∷ e8 ∷ e9 ∷ e10 ∷ e11·1 ∷ e12 ∷ e13 ∷ e14 ∷ e15 ∷ List.[]
 abbrev pub t4 : List.List Row.Entry
-t4 = e0 ∷ e1·1 ∷ e2 ∷ e3 ∷ e4 ∷ e5 ∷ e6 ∷ e7·1 ∷ e8 ∷ e9·2 ∷ e10 ∷ e11 ∷ e12 ∷ e13 ∷ List.[]
+t4 = e0 ∷ e1·1 ∷ e2 ∷ e3 ∷ e4 ∷ e5 ∷ e6 ∷ e7 ∷ e8 ∷ e9·1 ∷ e10 ∷ e11·2 ∷ e12 ∷ e13 ∷ e14 ∷ e15 ∷ List.[]
 abbrev pub t5 : List.List Row.Entry
-t5 = e0 ∷ e1·1 ∷ e2 ∷ e3 ∷ e4 ∷ e5·1 ∷ e6 ∷ e7·1 ∷ e8 ∷ e9·2 ∷ e10 ∷ e11 ∷ e12 ∷ e13 ∷ List.[]
+t5 = e0 ∷ e1·1 ∷ e2 ∷ e3 ∷ e4 ∷ e5 ∷ e6·1 ∷ e7 ∷ e8 ∷ e9·1 ∷ e10 ∷ e11·2 ∷ e12 ∷ e13 ∷ e14 ∷ e15 ∷ List.[]
 abbrev pub t6 : List.List Row.Entry
-t6 = e0 ∷ e1·1 ∷ e2 ∷ e3 ∷ e4 ∷ e5·1 ∷ e6 ∷ e7 ∷ e8 ∷ e9·2 ∷ e10 ∷ e11 ∷ e12 ∷ e13 ∷ List.[]
+t6 = e0 ∷ e1·1 ∷ e2 ∷ e3 ∷ e4 ∷ e5 ∷ e6·1 ∷ e7 ∷ e8 ∷ e9 ∷ e10 ∷ e11·2 ∷ e12 ∷ e13 ∷ e14 ∷ e15 ∷ List.[]
 abbrev pub t7 : List.List Row.Entry
-t7 = e0 ∷ e1 ∷ e2 ∷ e3 ∷ e4 ∷ e5·1 ∷ e6 ∷ e7 ∷ e8 ∷ e9 ∷ e10 ∷ e11 ∷ e12 ∷ e13 ∷ List.[]
+t7 = e0 ∷ e1 ∷ e2 ∷ e3 ∷ e4 ∷ e5 ∷ e6·1 ∷ e7 ∷ e8 ∷ e9 ∷ e10 ∷ e11 ∷ e12 ∷ e13 ∷ e14 ∷ e15 ∷ List.[]
 abbrev pub t8 : List.List Row.Entry
-t8 = e0 ∷ e1 ∷ e2·1 ∷ e3 ∷ e4 ∷ e5·1 ∷ e6 ∷ e7 ∷ e8 ∷ e9 ∷ e10·1 ∷ e11 ∷ e12 ∷ e13 ∷ List.[]
+t8 = e0 ∷ e1 ∷ e2·1 ∷ e3 ∷ e4 ∷ e5 ∷ e6·1 ∷ e7 ∷ e8 ∷ e9 ∷ e10 ∷ e11 ∷ e12·1 ∷ e13 ∷ e14 ∷ e15 ∷ List.[]
 abbrev pub t9 : List.List Row.Entry
-t9 = e0 ∷ e1 ∷ e2·1 ∷ e3 ∷ e4 ∷ e5·1 ∷ e6 ∷ e7 ∷ e8 ∷ e9 ∷ e10 ∷ e11·1 ∷ e12 ∷ e13 ∷ List.[]
+t9 = e0 ∷ e1 ∷ e2·1 ∷ e3 ∷ e4 ∷ e5 ∷ e6·1 ∷ e7 ∷ e8 ∷ e9 ∷ e10 ∷ e11 ∷ e12 ∷ e13·1 ∷ e14 ∷ e15 ∷ List.[]
 abbrev pub t10 : List.List Row.Entry
-t10 = e0 ∷ e1 ∷ e2·1 ∷ e3 ∷ e4 ∷ e5·1 ∷ e6 ∷ e7·1 ∷ e8 ∷ e9 ∷ e10 ∷ e11·2 ∷ e12 ∷ e13 ∷ List.[]
+t10 = e0 ∷ e1 ∷ e2·1 ∷ e3 ∷ e4 ∷ e5 ∷ e6·1 ∷ e7 ∷ e8·1 ∷ e9 ∷ e10 ∷ e11 ∷ e12 ∷ e13·2 ∷ e14 ∷ e15 ∷ List.[]
 abbrev pub t11 : List.List Row.Entry
-t11 = e0 ∷ e1 ∷ e2·1 ∷ e3 ∷ e4 ∷ e5·1 ∷ e6·1 ∷ e7·1 ∷ e8 ∷ e9 ∷ e10 ∷ e11·2 ∷ e12 ∷ e13 ∷ List.[]
+t11 = e0 ∷ e1 ∷ e2·1 ∷ e3 ∷ e4 ∷ e5 ∷ e6·1 ∷ e7·1 ∷ e8·1 ∷ e9 ∷ e10 ∷ e11 ∷ e12 ∷ e13·2 ∷ e14 ∷ e15 ∷ List.[]
 abbrev pub t12 : List.List Row.Entry
-t12 = e0 ∷ e1 ∷ e2·1 ∷ e3 ∷ e4 ∷ e5·1 ∷ e6·1 ∷ e7 ∷ e8 ∷ e9 ∷ e10 ∷ e11·2 ∷ e12 ∷ e13 ∷ List.[]
+t12 = e0 ∷ e1 ∷ e2 ∷ e3 ∷ e4 ∷ e5 ∷ e6·1 ∷ e7·1 ∷ e8·1 ∷ e9 ∷ e10 ∷ e11 ∷ e12 ∷ e13 ∷ e14 ∷ e15 ∷ List.[]
 abbrev pub t13 : List.List Row.Entry
-t13 = e0 ∷ e1 ∷ e2 ∷ e3 ∷ e4 ∷ e5·1 ∷ e6·1 ∷ e7 ∷ e8 ∷ e9 ∷ e10 ∷ e11 ∷ e12 ∷ e13 ∷ List.[]
+t13 = e0 ∷ e1 ∷ e2 ∷ e3·1 ∷ e4 ∷ e5 ∷ e6·1 ∷ e7·1 ∷ e8·1 ∷ e9 ∷ e10 ∷ e11 ∷ e12 ∷ e13 ∷ e14·1 ∷ e15 ∷ List.[]
 abbrev pub t14 : List.List Row.Entry
-t14 = e0 ∷ e1 ∷ e2 ∷ e3·1 ∷ e4 ∷ e5·1 ∷ e6·1 ∷ e7 ∷ e8 ∷ e9 ∷ e10 ∷ e11 ∷ e12·1 ∷ e13 ∷ List.[]
+t14 = e0 ∷ e1 ∷ e2 ∷ e3·1 ∷ e4 ∷ e5 ∷ e6·1 ∷ e7·1 ∷ e8·1 ∷ e9 ∷ e10 ∷ e11 ∷ e12 ∷ e13 ∷ e14 ∷ e15·1 ∷ List.[]
 abbrev pub t15 : List.List Row.Entry
-t15 = e0 ∷ e1 ∷ e2 ∷ e3·1 ∷ e4 ∷ e5·1 ∷ e6·1 ∷ e7 ∷ e8 ∷ e9 ∷ e10 ∷ e11 ∷ e12 ∷ e13·1 ∷ List.[]
+t15 = e0 ∷ e1 ∷ e2 ∷ e3·1 ∷ e4 ∷ e5 ∷ e6·1 ∷ e7·1 ∷ e8·1 ∷ e9·1 ∷ e10 ∷ e11 ∷ e12 ∷ e13 ∷ e14 ∷ e15·2 ∷ List.[]
 abbrev pub t16 : List.List Row.Entry
-t16 = e0 ∷ e1 ∷ e2 ∷ e3·1 ∷ e4 ∷ e5·1 ∷ e6·1 ∷ e7·1 ∷ e8 ∷ e9 ∷ e10 ∷ e11 ∷ e12 ∷ e13·2 ∷ List.[]
+t16 = e0 ∷ e1 ∷ e2 ∷ e3·1 ∷ e4·1 ∷ e5 ∷ e6·1 ∷ e7·1 ∷ e8·1 ∷ e9·1 ∷ e10 ∷ e11 ∷ e12 ∷ e13 ∷ e14 ∷ e15·2 ∷ List.[]
 abbrev pub t17 : List.List Row.Entry
-t17 = e0 ∷ e1 ∷ e2 ∷ e3·1 ∷ e4·1 ∷ e5·1 ∷ e6·1 ∷ e7·1 ∷ e8 ∷ e9 ∷ e10 ∷ e11 ∷ e12 ∷ e13·2 ∷ List.[]
+t17 = e0 ∷ e1 ∷ e2 ∷ e3·1 ∷ e4·1 ∷ e5·1 ∷ e6·1 ∷ e7·1 ∷ e8·1 ∷ e9·1 ∷ e10 ∷ e11 ∷ e12 ∷ e13 ∷ e14 ∷ e15·2 ∷ List.[]
 abbrev pub t18 : List.List Row.Entry
-t18 = e0 ∷ e1 ∷ e2 ∷ e3·1 ∷ e4·1 ∷ e5·1 ∷ e6·1 ∷ e7 ∷ e8 ∷ e9 ∷ e10 ∷ e11 ∷ e12 ∷ e13·2 ∷ List.[]
+t18 = e0 ∷ e1 ∷ e2 ∷ e3·1 ∷ e4·1 ∷ e5·1 ∷ e6·1 ∷ e7·1 ∷ e8·1 ∷ e9 ∷ e10 ∷ e11 ∷ e12 ∷ e13 ∷ e14 ∷ e15·2 ∷ List.[]
 abbrev pub t19 : List.List Row.Entry
-t19 = e0 ∷ e1 ∷ e2 ∷ e3 ∷ e4·1 ∷ e5·1 ∷ e6·1 ∷ e7 ∷ e8 ∷ e9 ∷ e10 ∷ e11 ∷ e12 ∷ e13 ∷ List.[]
+t19 = e0 ∷ e1 ∷ e2 ∷ e3 ∷ e4·1 ∷ e5·1 ∷ e6·1 ∷ e7·1 ∷ e8·1 ∷ e9 ∷ e10 ∷ e11 ∷ e12 ∷ e13 ∷ e14 ∷ e15 ∷ List.[]
+abbrev pub t20 : List.List Row.Entry
+t20 = e0·1 ∷ e1 ∷ e2 ∷ e3 ∷ e4·1 ∷ e5·1 ∷ e6·1 ∷ e7·1 ∷ e8·1 ∷ e9 ∷ e10 ∷ e11 ∷ e12 ∷ e13 ∷ e14 ∷ e15 ∷ List.[]
 abbrev pub T0 : Row.Cx
 T0 = record { locals = t0; slots = List.[] }
 abbrev pub T1 : Row.Cx
@@ -269,10 +298,10 @@ abbrev pub T14 : Row.Cx
 T14 = record { locals = t10; slots = List.[] }
 abbrev pub T15 : Row.Cx
 T15 = record { locals = t11; slots = List.[] }
-abbrev pub T16 : Row.Cx
-T16 = record { locals = t12; slots = List.[] }
-abbrev pub T18 : Row.Cx
-T18 = record { locals = t13; slots = List.[] }
+abbrev pub T17 : Row.Cx
+T17 = record { locals = t12; slots = List.[] }
+abbrev pub T20 : Row.Cx
+T20 = record { locals = t13; slots = List.[] }
 abbrev pub T21 : Row.Cx
 T21 = record { locals = t14; slots = List.[] }
 abbrev pub T22 : Row.Cx
@@ -286,57 +315,63 @@ T25 = record { locals = t18; slots = List.[] }
 abbrev pub T27 : Row.Cx
 T27 = record { locals = t19; slots = List.[] }
 abbrev pub T29 : Row.Cx
-T29 = record { locals = t1; slots = List.[] }
+T29 = record { locals = t20; slots = List.[] }
+abbrev pub T30 : Row.Cx
+T30 = record { locals = t1; slots = List.[] }
 abbrev pub O0 : Typed.Outs
 O0 = record { next = Option.none; exits = List.[]; returns = Option.some T1 }
 module _ (claims· : Claims) where
   abbrev s1 : Typed.Gives T0 T3
-  s1 = Relend.k-sl-relend RelayPending.row T0 1 8 0 3 ref3 ref0 Row.off λ x. x
+  s1 = Relend.k-sl-relend RelayPending.row T0 1 10 0 3 ref3 ref0 Row.off λ x. x
   abbrev s2 : Typed.Asks T3 T4
-  s2 = Relend.k-sl-aggregate RelayPending.row (Relend.asMut RelayPending.row) T3 8 9 3 ref0 ref0 (λ x. x) (Scalar.oFld 1 ((Syntax.field 1) ∷ List.[])
-      (Syntax.tyInt Syntax.w64) 8 λ v. Shared.lenV (v .0))
+  s2 = Relend.k-sl-aggregate RelayPending.row (Relend.asMut RelayPending.row) T3 10 11 3 ref0 ref0 (λ x. x) (Scalar.oFld 1 ((Syntax.field 1) ∷
+      List.[]) (Syntax.tyInt Syntax.w64) 8 λ v. Shared.lenV (v .0))
   abbrev s3 : Typed.Both T4 T5
-  s3 = Call.callB ps·0 r·0 (claims· .0) (claims· .1) T4 (record { pos = 9; ty = Syntax.tyRef Syntax.erased Syntax.mut RelayPending.to; ref = λ x. x;
-      }, (Bool.bFld 4 ((Syntax.field 0) ∷ List.[]) 0 λ x. AcceptPlan.struct .as-values x .0, (Num.vFld 4 ((Syntax.field 1) ∷ List.[]) 8 λ x.
-      AcceptPlan.struct .as-values x .1 .0, (record { pos = 5; st = List.[]; d = 0; at = λ x. x }, tt),),),) 7 (3 ∷ List.[]) Syntax.tyUnit
+  s3 = Call.callB ps·0 r·0 (claims· .0) (claims· .1) T4 (record { pos = 11; ty = Syntax.tyRef Syntax.erased Syntax.mut RelayPending.to; ref = λ x. x;
+      }, (Bool.bFld 5 ((Syntax.field 0) ∷ List.[]) 0 λ x. AcceptPlan.struct .as-values x .0, (Num.vFld 5 ((Syntax.field 1) ∷ List.[]) 8 λ x.
+      AcceptPlan.struct .as-values x .1 .0, (record { pos = 6; st = List.[]; d = 0; at = λ x. x }, tt),),),) 9 (3 ∷ List.[]) Syntax.tyUnit
   abbrev s4 : Typed.Mo T5 → Typed.Mo T6
-  s4 = Scalar.n-room T5 5 RelayPending.ty
+  s4 = Scalar.n-room T5 6 RelayPending.ty
   abbrev s5 : Typed.Mo T6 → Typed.Mo T7
-  s5 = Scalar.n-room T6 7 Syntax.tyUnit
+  s5 = Scalar.n-room T6 9 Syntax.tyUnit
   abbrev s7 : Typed.Both T7 T9
-  s7 = Relend.k-back-sl RelayPending.row T7 9 1 0 3 ref3 ref0 Row.off (λ x. x) λ x. x
+  s7 = Relend.k-back-sl RelayPending.row T7 11 1 0 3 ref3 ref0 Row.off (λ x. x) λ x. x
   abbrev s10 : Typed.Gives T9 T12
-  s10 = Relend.k-sl-relend RelayCircuit.row T9 2 10 1 4 ref4 ref1 Row.off λ x. x
+  s10 = Relend.k-sl-relend RelayCircuit.row T9 2 12 1 4 ref4 ref1 Row.off λ x. x
   abbrev s11 : Typed.Asks T12 T13
-  s11 = Relend.k-sl-aggregate RelayCircuit.row (Relend.asMut RelayCircuit.row) T12 10 11 4 ref1 ref1 (λ x. x) (Scalar.oFld 2 ((Syntax.field 1) ∷
+  s11 = Relend.k-sl-aggregate RelayCircuit.row (Relend.asMut RelayCircuit.row) T12 12 13 4 ref1 ref1 (λ x. x) (Scalar.oFld 2 ((Syntax.field 1) ∷
       List.[]) (Syntax.tyInt Syntax.w64) 8 λ v. Shared.lenV (v .0))
   abbrev s12 : Typed.Both T13 T14
-  s12 = Call.callB ps·1 r·1 (claims· .2) (claims· .3) T13 (record { pos = 11; ty = Syntax.tyRef Syntax.erased Syntax.mut RelayCircuit.to; ref = λ x.
-      x; }, (Bool.bFld 4 ((Syntax.field 0) ∷ List.[]) 0 λ x. AcceptPlan.struct .as-values x .0, (Num.vFld 4 ((Syntax.field 2) ∷ List.[]) 16 λ x.
-      AcceptPlan.struct .as-values x .1 .1 .0, (record { pos = 6; st = List.[]; d = 0; at = λ x. x }, tt),),),) 7 (4 ∷ List.[]) Syntax.tyUnit
+  s12 = Call.callB ps·1 r·1 (claims· .2) (claims· .3) T13 (record { pos = 13; ty = Syntax.tyRef Syntax.erased Syntax.mut RelayCircuit.to; ref = λ x.
+      x; }, (record { pos = 4; st = List.[]; d = 0; at = λ x. x }, (Bool.bFld 5 ((Syntax.field 0) ∷ List.[]) 0 λ x. AcceptPlan.struct .as-values x .0,
+      (Num.vFld 5 ((Syntax.field 2) ∷ List.[]) 16 λ x. AcceptPlan.struct .as-values x .1 .1 .0, (record { pos = 7; st = List.[]; d = 0; at = λ x. x },
+      tt),),),),) 8 (4 ∷ List.[]) (Syntax.tyInt Syntax.w64)
   abbrev s13 : Typed.Mo T14 → Typed.Mo T15
-  s13 = Scalar.n-room T14 6 RelayCircuit.ty
-  abbrev s14 : Typed.Mo T15 → Typed.Mo T16
-  s14 = Scalar.n-room T15 7 Syntax.tyUnit
-  abbrev s16 : Typed.Both T16 T18
-  s16 = Relend.k-back-sl RelayCircuit.row T16 11 2 1 4 ref4 ref1 Row.off (λ x. x) λ x. x
-  abbrev s19 : Typed.Gives T18 T21
-  s19 = Relend.k-sl-relend InflightAction.row T18 3 12 2 5 ref5 ref2 Row.off λ x. x
-  abbrev s20 : Typed.Asks T21 T22
-  s20 = Relend.k-sl-aggregate InflightAction.row (Relend.asMut InflightAction.row) T21 12 13 5 ref2 ref2 (λ x. x) (Scalar.oFld 3 ((Syntax.field 1) ∷
+  s13 = Scalar.n-room T14 7 RelayCircuit.ty
+  abbrev s15 : Typed.Both T15 T17
+  s15 = Relend.k-back-sl RelayCircuit.row T15 13 2 1 4 ref4 ref1 Row.off (λ x. x) λ x. x
+  abbrev s18 : Typed.Gives T17 T20
+  s18 = Relend.k-sl-relend InflightAction.row T17 3 14 2 5 ref5 ref2 Row.off λ x. x
+  abbrev s19 : Typed.Asks T20 T21
+  s19 = Relend.k-sl-aggregate InflightAction.row (Relend.asMut InflightAction.row) T20 14 15 5 ref2 ref2 (λ x. x) (Scalar.oFld 3 ((Syntax.field 1) ∷
       List.[]) (Syntax.tyInt Syntax.w64) 8 λ v. Shared.lenV (v .0))
-  abbrev s21 : Typed.Both T22 T23
-  s21 = Call.callB ps·2 r·2 (claims· .4) (claims· .5) T22 (record { pos = 13; ty = Syntax.tyRef Syntax.erased Syntax.mut InflightAction.to; ref = λ x.
-      x; }, (Bool.bFld 4 ((Syntax.field 0) ∷ List.[]) 0 λ x. AcceptPlan.struct .as-values x .0, (Num.vFld 4 ((Syntax.field 2) ∷ List.[]) 16 λ x.
-      AcceptPlan.struct .as-values x .1 .1 .0, tt,),),) 7 (5 ∷ List.[]) Syntax.tyUnit
+  abbrev s20 : Typed.Both T21 T22
+  s20 = Call.callB ps·2 r·2 (claims· .4) (claims· .5) T21 (record { pos = 15; ty = Syntax.tyRef Syntax.erased Syntax.mut InflightAction.to; ref = λ x.
+      x; }, (record { pos = 4; st = List.[]; d = 0; at = λ x. x }, (Bool.bFld 5 ((Syntax.field 0) ∷ List.[]) 0 λ x. AcceptPlan.struct .as-values x .0,
+      (Num.vFld 5 ((Syntax.field 2) ∷ List.[]) 16 λ x. AcceptPlan.struct .as-values x .1 .1 .0, tt,),),),) 9 (5 ∷ List.[]) Syntax.tyUnit
+  abbrev s21 : Typed.Mo T22 → Typed.Mo T23
+  s21 = Scalar.n-room T22 4 Laws'.mir
   abbrev s22 : Typed.Mo T23 → Typed.Mo T24
-  s22 = Scalar.n-room T23 4 Laws.mir
+  s22 = Scalar.n-room T23 5 Laws.mir
   abbrev s23 : Typed.Mo T24 → Typed.Mo T25
-  s23 = Scalar.n-room T24 7 Syntax.tyUnit
+  s23 = Scalar.n-room T24 9 Syntax.tyUnit
   abbrev s25 : Typed.Both T25 T27
-  s25 = Relend.k-back-sl InflightAction.row T25 13 3 2 5 ref5 ref2 Row.off (λ x. x) λ x. x
+  s25 = Relend.k-back-sl InflightAction.row T25 15 3 2 5 ref5 ref2 Row.off (λ x. x) λ x. x
   abbrev s27 : Typed.Mo T27 → Typed.Mo T29
-  s27 = Scalar.n-use T27 Scalar.oUnit 0 (Rows.sc-here Row.sUnit) (Row.sUnit .of)
+  s27 = Scalar.n-use T27 (Scalar.oAt 8 (Syntax.tyInt Syntax.w64) (Row.valS (Row.sInt Syntax.w64))) 0 (Rows.sc-here (Row.sInt Syntax.w64)) (Row.sInt
+      Syntax.w64 .of)
+  abbrev s28 : Typed.Mo T29 → Typed.Mo T30
+  s28 = Scalar.n-room T29 8 (Syntax.tyInt Syntax.w64)
   module _ (Pre· : (κs : Lifetimes.Lfts 3) → Kinds.Dens κs ps → Type 0) (Post· : (κs : Lifetimes.Lfts 3) → (a : Kinds.Dens κs ps) → Kinds.Plain 3 ps r
       κs) where
     module _ (M : Type 1) where
@@ -347,66 +382,68 @@ module _ (claims· : Claims) where
           "hnsr_circuit::lookup::drop_actions") → Statement.Triple 𝓤 (Wp.WpFn 𝓤 H (𝓣 .C) (𝓣 .Λ) (Function.fnOf 3 ps r xs m hs body)) (Function.plainOf
           𝓤 H A 3 ps r Pre· Post·)
     module _ where
-      abbrev at0 : Typed.TF T29 O0
+      abbrev at0 : Typed.TF T30 O0
       at0 = Typed.atRet O0
-      abbrev at1 : Typed.TF T27 O0
-      at1 = λ Ψ. Typed.pass T27 T29 s27 (at0 Ψ)
+      abbrev at1 : Typed.TF T29 O0
+      at1 = λ Ψ. Typed.pass T29 T30 s28 (at0 Ψ)
       abbrev at2 : Typed.TF T27 O0
-      at2 = λ Ψ. at1 Ψ
-      abbrev at3 : Typed.TF T25 O0
-      at3 = λ Ψ. Typed.both s25 (at2 Ψ)
+      at2 = λ Ψ. Typed.pass T27 T29 s27 (at1 Ψ)
+      abbrev at3 : Typed.TF T27 O0
+      at3 = λ Ψ. at2 Ψ
       abbrev at4 : Typed.TF T25 O0
-      at4 = λ Ψ. at3 Ψ
-      abbrev at5 : Typed.TF T24 O0
-      at5 = λ Ψ. Typed.pass T24 T25 s23 (at4 Ψ)
-      abbrev at6 : Typed.TF T23 O0
-      at6 = λ Ψ. Typed.pass T23 T24 s22 (at5 Ψ)
-      abbrev at7 : Typed.TF T22 O0
-      at7 = λ Ψ. Typed.both s21 (at6 Ψ)
-      abbrev at8 : Typed.TF T21 O0
-      at8 = λ Ψ. Typed.ask s20 (at7 Ψ)
-      abbrev at9 : Typed.TF T18 O0
-      at9 = λ Ψ. Typed.give s19 (at8 Ψ)
-      abbrev at10 : Typed.TF T18 O0
-      at10 = λ Ψ. at9 Ψ
-      abbrev at11 : Typed.TF T18 O0
-      at11 = λ Ψ. at10 Ψ
-      abbrev at12 : Typed.TF T16 O0
-      at12 = λ Ψ. Typed.both s16 (at11 Ψ)
-      abbrev at13 : Typed.TF T16 O0
+      at4 = λ Ψ. Typed.both s25 (at3 Ψ)
+      abbrev at5 : Typed.TF T25 O0
+      at5 = λ Ψ. at4 Ψ
+      abbrev at6 : Typed.TF T24 O0
+      at6 = λ Ψ. Typed.pass T24 T25 s23 (at5 Ψ)
+      abbrev at7 : Typed.TF T23 O0
+      at7 = λ Ψ. Typed.pass T23 T24 s22 (at6 Ψ)
+      abbrev at8 : Typed.TF T22 O0
+      at8 = λ Ψ. Typed.pass T22 T23 s21 (at7 Ψ)
+      abbrev at9 : Typed.TF T21 O0
+      at9 = λ Ψ. Typed.both s20 (at8 Ψ)
+      abbrev at10 : Typed.TF T20 O0
+      at10 = λ Ψ. Typed.ask s19 (at9 Ψ)
+      abbrev at11 : Typed.TF T17 O0
+      at11 = λ Ψ. Typed.give s18 (at10 Ψ)
+      abbrev at12 : Typed.TF T17 O0
+      at12 = λ Ψ. at11 Ψ
+      abbrev at13 : Typed.TF T17 O0
       at13 = λ Ψ. at12 Ψ
       abbrev at14 : Typed.TF T15 O0
-      at14 = λ Ψ. Typed.pass T15 T16 s14 (at13 Ψ)
-      abbrev at15 : Typed.TF T14 O0
-      at15 = λ Ψ. Typed.pass T14 T15 s13 (at14 Ψ)
-      abbrev at16 : Typed.TF T13 O0
-      at16 = λ Ψ. Typed.both s12 (at15 Ψ)
-      abbrev at17 : Typed.TF T12 O0
-      at17 = λ Ψ. Typed.ask s11 (at16 Ψ)
-      abbrev at18 : Typed.TF T9 O0
-      at18 = λ Ψ. Typed.give s10 (at17 Ψ)
+      at14 = λ Ψ. Typed.both s15 (at13 Ψ)
+      abbrev at15 : Typed.TF T15 O0
+      at15 = λ Ψ. at14 Ψ
+      abbrev at16 : Typed.TF T14 O0
+      at16 = λ Ψ. Typed.pass T14 T15 s13 (at15 Ψ)
+      abbrev at17 : Typed.TF T13 O0
+      at17 = λ Ψ. Typed.both s12 (at16 Ψ)
+      abbrev at18 : Typed.TF T12 O0
+      at18 = λ Ψ. Typed.ask s11 (at17 Ψ)
       abbrev at19 : Typed.TF T9 O0
-      at19 = λ Ψ. at18 Ψ
+      at19 = λ Ψ. Typed.give s10 (at18 Ψ)
       abbrev at20 : Typed.TF T9 O0
       at20 = λ Ψ. at19 Ψ
-      abbrev at21 : Typed.TF T7 O0
-      at21 = λ Ψ. Typed.both s7 (at20 Ψ)
+      abbrev at21 : Typed.TF T9 O0
+      at21 = λ Ψ. at20 Ψ
       abbrev at22 : Typed.TF T7 O0
-      at22 = λ Ψ. at21 Ψ
-      abbrev at23 : Typed.TF T6 O0
-      at23 = λ Ψ. Typed.pass T6 T7 s5 (at22 Ψ)
-      abbrev at24 : Typed.TF T5 O0
-      at24 = λ Ψ. Typed.pass T5 T6 s4 (at23 Ψ)
-      abbrev at25 : Typed.TF T4 O0
-      at25 = λ Ψ. Typed.both s3 (at24 Ψ)
-      abbrev at26 : Typed.TF T3 O0
-      at26 = λ Ψ. Typed.ask s2 (at25 Ψ)
-      abbrev at27 : Typed.TF T0 O0
-      at27 = λ Ψ. Typed.give s1 (at26 Ψ)
+      at22 = λ Ψ. Typed.both s7 (at21 Ψ)
+      abbrev at23 : Typed.TF T7 O0
+      at23 = λ Ψ. at22 Ψ
+      abbrev at24 : Typed.TF T6 O0
+      at24 = λ Ψ. Typed.pass T6 T7 s5 (at23 Ψ)
+      abbrev at25 : Typed.TF T5 O0
+      at25 = λ Ψ. Typed.pass T5 T6 s4 (at24 Ψ)
+      abbrev at26 : Typed.TF T4 O0
+      at26 = λ Ψ. Typed.both s3 (at25 Ψ)
+      abbrev at27 : Typed.TF T3 O0
+      at27 = λ Ψ. Typed.ask s2 (at26 Ψ)
       abbrev at28 : Typed.TF T0 O0
-      at28 = λ Ψ. at27 Ψ
+      at28 = λ Ψ. Typed.give s1 (at27 Ψ)
+      abbrev at29 : Typed.TF T0 O0
+      at29 = λ Ψ. at28 Ψ
       abbrev pub Φ : Typed.TF T0 O0
-      Φ = at28
+      Φ = at29
       module _ { M : Type 1 } (𝓤 : URA.URA M) (H : Wp.Heap 𝓤) (A : Atoms.Atoms 𝓤) (W : Kit.Given 𝓤 H A) (𝓣 : Wp.Tables 𝓤 H) where
         abbrev Knowns : Type 1
         Knowns = Plain.Known 𝓤 H A W 𝓣 1 ps·0 r·0 (claims· .0) (claims· .1) "hnsr_circuit::tables::pending::set_pending" × Plain.Known 𝓤 H A W 𝓣 1
@@ -420,113 +457,126 @@ module _ (claims· : Claims) where
         abbrev life2 : Row.Life
         life2 = Row.lease (κs .1 .1 .0) (qs .1 .1 .0)
         abbrev g2 : List.List Row.Entry
-        g2 = (0, Rows.any-gone Syntax.tyUnit) ∷ (1, Relend.mslice-owed RelayPending.row ref3 0 3 life0,) ∷ (2, Mut.mslice RelayCircuit.row ref4 1,) ∷
-            (3, Mut.mslice InflightAction.row ref5 2,) ∷ (4, Rows.whole (Declared.row AcceptPlan.the-type)) ∷ (5, RelayPending.held,) ∷ (6,
-            RelayCircuit.held) ∷ (7, Rows.any-gone Syntax.tyUnit,) ∷ (8, Relend.msptr RelayPending.row ref0 3,) ∷ (9, Rows.any-gone (Syntax.tyStruct
-            (38 ∷ 91 ∷ 93 ∷ List.[]) (Syntax.tcons ref0 (Syntax.tcons (Syntax.tyInt Syntax.w64) Syntax.tnil))),) ∷ (10, Rows.any-gone ref1,) ∷ (11,
-            Rows.any-gone (Syntax.tyStruct (38 ∷ 91 ∷ 93 ∷ List.[]) (Syntax.tcons ref1 (Syntax.tcons (Syntax.tyInt Syntax.w64) Syntax.tnil))),) ∷ (12,
-            Rows.any-gone ref2,) ∷ (13, Rows.any-gone (Syntax.tyStruct (38 ∷ 91 ∷ 93 ∷ List.[]) (Syntax.tcons ref2 (Syntax.tcons (Syntax.tyInt
-            Syntax.w64) Syntax.tnil))),) ∷ List.[]
+        g2 = (0, Rows.any-gone (Syntax.tyInt Syntax.w64)) ∷ (1, Relend.mslice-owed RelayPending.row ref3 0 3 life0,) ∷ (2, Mut.mslice RelayCircuit.row
+            ref4 1,) ∷ (3, Mut.mslice InflightAction.row ref5 2,) ∷ (4, Rows.whole (Declared.row Places.the-type)) ∷ (5, Rows.whole (Declared.row
+            AcceptPlan.the-type),) ∷ (6, RelayPending.held) ∷ (7, RelayCircuit.held,) ∷ (8, Rows.any-gone (Syntax.tyInt Syntax.w64)) ∷ (9,
+            Rows.any-gone Syntax.tyUnit,) ∷ (10, Relend.msptr RelayPending.row ref0 3,) ∷ (11, Rows.any-gone (Syntax.tyStruct (38 ∷ 91 ∷ 93 ∷ List.[])
+            (Syntax.tcons ref0 (Syntax.tcons (Syntax.tyInt Syntax.w64) Syntax.tnil))),) ∷ (12, Rows.any-gone ref1,) ∷ (13, Rows.any-gone
+            (Syntax.tyStruct (38 ∷ 91 ∷ 93 ∷ List.[]) (Syntax.tcons ref1 (Syntax.tcons (Syntax.tyInt Syntax.w64) Syntax.tnil))),) ∷ (14, Rows.any-gone
+            ref2,) ∷ (15, Rows.any-gone (Syntax.tyStruct (38 ∷ 91 ∷ 93 ∷ List.[]) (Syntax.tcons ref2 (Syntax.tcons (Syntax.tyInt Syntax.w64)
+            Syntax.tnil))),) ∷ List.[]
         abbrev g3 : List.List Row.Entry
-        g3 = (0, Rows.any-gone Syntax.tyUnit) ∷ (1, Relend.mslice-owed RelayPending.row ref3 0 3 life0,) ∷ (2, Mut.mslice RelayCircuit.row ref4 1,) ∷
-            (3, Mut.mslice InflightAction.row ref5 2,) ∷ (4, Rows.whole (Declared.row AcceptPlan.the-type)) ∷ (5, RelayPending.held,) ∷ (6,
-            RelayCircuit.held) ∷ (7, Rows.any-gone Syntax.tyUnit,) ∷ (8, Rows.any-gone ref0,) ∷ (9, Mut.mslice RelayPending.row ref0 3,) ∷ (10,
-            Rows.any-gone ref1,) ∷ (11, Rows.any-gone (Syntax.tyStruct (38 ∷ 91 ∷ 93 ∷ List.[]) (Syntax.tcons ref1 (Syntax.tcons (Syntax.tyInt
-            Syntax.w64) Syntax.tnil))),) ∷ (12, Rows.any-gone ref2,) ∷ (13, Rows.any-gone (Syntax.tyStruct (38 ∷ 91 ∷ 93 ∷ List.[]) (Syntax.tcons ref2
-            (Syntax.tcons (Syntax.tyInt Syntax.w64) Syntax.tnil))),) ∷ List.[]
-        abbrev g4 : List.List Row.Entry
-        g4 = (0, Rows.any-gone Syntax.tyUnit) ∷ (1, Relend.mslice-owed RelayPending.row ref3 0 3 life0,) ∷ (2, Mut.mslice RelayCircuit.row ref4 1,) ∷
-            (3, Mut.mslice InflightAction.row ref5 2,) ∷ (4, Rows.whole (Declared.row AcceptPlan.the-type)) ∷ (5, RelayPending.held,) ∷ (6,
-            RelayCircuit.held) ∷ (7, Rows.sc-here Row.sUnit,) ∷ (8, Rows.any-gone ref0,) ∷ (9, Mut.msleft RelayPending.row ref0,) ∷ (10, Rows.any-gone
-            ref1,) ∷ (11, Rows.any-gone (Syntax.tyStruct (38 ∷ 91 ∷ 93 ∷ List.[]) (Syntax.tcons ref1 (Syntax.tcons (Syntax.tyInt Syntax.w64)
-            Syntax.tnil))),) ∷ (12, Rows.any-gone ref2,) ∷ (13, Rows.any-gone (Syntax.tyStruct (38 ∷ 91 ∷ 93 ∷ List.[]) (Syntax.tcons ref2
-            (Syntax.tcons (Syntax.tyInt Syntax.w64) Syntax.tnil))),) ∷ List.[]
-        abbrev g5 : List.List Row.Entry
-        g5 = (0, Rows.any-gone Syntax.tyUnit) ∷ (1, Relend.mslice-owed RelayPending.row ref3 0 3 life0,) ∷ (2, Mut.mslice RelayCircuit.row ref4 1,) ∷
-            (3, Mut.mslice InflightAction.row ref5 2,) ∷ (4, Rows.whole (Declared.row AcceptPlan.the-type)) ∷ (5, Rows.any-gone RelayPending.ty,) ∷
-            (6, RelayCircuit.held) ∷ (7, Rows.sc-here Row.sUnit,) ∷ (8, Rows.any-gone ref0,) ∷ (9, Mut.msleft RelayPending.row ref0,) ∷ (10,
-            Rows.any-gone ref1,) ∷ (11, Rows.any-gone (Syntax.tyStruct (38 ∷ 91 ∷ 93 ∷ List.[]) (Syntax.tcons ref1 (Syntax.tcons (Syntax.tyInt
-            Syntax.w64) Syntax.tnil))),) ∷ (12, Rows.any-gone ref2,) ∷ (13, Rows.any-gone (Syntax.tyStruct (38 ∷ 91 ∷ 93 ∷ List.[]) (Syntax.tcons ref2
-            (Syntax.tcons (Syntax.tyInt Syntax.w64) Syntax.tnil))),) ∷ List.[]
-        abbrev g6 : List.List Row.Entry
-        g6 = (0, Rows.any-gone Syntax.tyUnit) ∷ (1, Relend.mslice-owed RelayPending.row ref3 0 3 life0,) ∷ (2, Mut.mslice RelayCircuit.row ref4 1,) ∷
-            (3, Mut.mslice InflightAction.row ref5 2,) ∷ (4, Rows.whole (Declared.row AcceptPlan.the-type)) ∷ (5, Rows.any-gone RelayPending.ty,) ∷
-            (6, RelayCircuit.held) ∷ (7, Rows.any-gone Syntax.tyUnit,) ∷ (8, Rows.any-gone ref0,) ∷ (9, Mut.msleft RelayPending.row ref0,) ∷ (10,
-            Rows.any-gone ref1,) ∷ (11, Rows.any-gone (Syntax.tyStruct (38 ∷ 91 ∷ 93 ∷ List.[]) (Syntax.tcons ref1 (Syntax.tcons (Syntax.tyInt
-            Syntax.w64) Syntax.tnil))),) ∷ (12, Rows.any-gone ref2,) ∷ (13, Rows.any-gone (Syntax.tyStruct (38 ∷ 91 ∷ 93 ∷ List.[]) (Syntax.tcons ref2
-            (Syntax.tcons (Syntax.tyInt Syntax.w64) Syntax.tnil))),) ∷ List.[]
-        abbrev g8 : List.List Row.Entry
-        g8 = (0, Rows.any-gone Syntax.tyUnit) ∷ (1, Mut.mslice RelayPending.row ref3 0,) ∷ (2, Relend.mslice-owed RelayCircuit.row ref4 1 4 life1,) ∷
-            (3, Mut.mslice InflightAction.row ref5 2,) ∷ (4, Rows.whole (Declared.row AcceptPlan.the-type)) ∷ (5, Rows.any-gone RelayPending.ty,) ∷
-            (6, RelayCircuit.held) ∷ (7, Rows.any-gone Syntax.tyUnit,) ∷ (8, Rows.any-gone ref0,) ∷ (9, Rows.any-gone (Syntax.tyStruct (38 ∷ 91 ∷ 93 ∷
-            List.[]) (Syntax.tcons ref0 (Syntax.tcons (Syntax.tyInt Syntax.w64) Syntax.tnil))),) ∷ (10, Relend.msptr RelayCircuit.row ref1 4,) ∷ (11,
-            Rows.any-gone (Syntax.tyStruct (38 ∷ 91 ∷ 93 ∷ List.[]) (Syntax.tcons ref1 (Syntax.tcons (Syntax.tyInt Syntax.w64) Syntax.tnil))),) ∷ (12,
-            Rows.any-gone ref2,) ∷ (13, Rows.any-gone (Syntax.tyStruct (38 ∷ 91 ∷ 93 ∷ List.[]) (Syntax.tcons ref2 (Syntax.tcons (Syntax.tyInt
+        g3 = (0, Rows.any-gone (Syntax.tyInt Syntax.w64)) ∷ (1, Relend.mslice-owed RelayPending.row ref3 0 3 life0,) ∷ (2, Mut.mslice RelayCircuit.row
+            ref4 1,) ∷ (3, Mut.mslice InflightAction.row ref5 2,) ∷ (4, Rows.whole (Declared.row Places.the-type)) ∷ (5, Rows.whole (Declared.row
+            AcceptPlan.the-type),) ∷ (6, RelayPending.held) ∷ (7, RelayCircuit.held,) ∷ (8, Rows.any-gone (Syntax.tyInt Syntax.w64)) ∷ (9,
+            Rows.any-gone Syntax.tyUnit,) ∷ (10, Rows.any-gone ref0,) ∷ (11, Mut.mslice RelayPending.row ref0 3,) ∷ (12, Rows.any-gone ref1,) ∷ (13,
+            Rows.any-gone (Syntax.tyStruct (38 ∷ 91 ∷ 93 ∷ List.[]) (Syntax.tcons ref1 (Syntax.tcons (Syntax.tyInt Syntax.w64) Syntax.tnil))),) ∷ (14,
+            Rows.any-gone ref2,) ∷ (15, Rows.any-gone (Syntax.tyStruct (38 ∷ 91 ∷ 93 ∷ List.[]) (Syntax.tcons ref2 (Syntax.tcons (Syntax.tyInt
             Syntax.w64) Syntax.tnil))),) ∷ List.[]
+        abbrev g4 : List.List Row.Entry
+        g4 = (0, Rows.any-gone (Syntax.tyInt Syntax.w64)) ∷ (1, Relend.mslice-owed RelayPending.row ref3 0 3 life0,) ∷ (2, Mut.mslice RelayCircuit.row
+            ref4 1,) ∷ (3, Mut.mslice InflightAction.row ref5 2,) ∷ (4, Rows.whole (Declared.row Places.the-type)) ∷ (5, Rows.whole (Declared.row
+            AcceptPlan.the-type),) ∷ (6, RelayPending.held) ∷ (7, RelayCircuit.held,) ∷ (8, Rows.any-gone (Syntax.tyInt Syntax.w64)) ∷ (9,
+            Rows.sc-here Row.sUnit,) ∷ (10, Rows.any-gone ref0,) ∷ (11, Mut.msleft RelayPending.row ref0,) ∷ (12, Rows.any-gone ref1,) ∷ (13,
+            Rows.any-gone (Syntax.tyStruct (38 ∷ 91 ∷ 93 ∷ List.[]) (Syntax.tcons ref1 (Syntax.tcons (Syntax.tyInt Syntax.w64) Syntax.tnil))),) ∷ (14,
+            Rows.any-gone ref2,) ∷ (15, Rows.any-gone (Syntax.tyStruct (38 ∷ 91 ∷ 93 ∷ List.[]) (Syntax.tcons ref2 (Syntax.tcons (Syntax.tyInt
+            Syntax.w64) Syntax.tnil))),) ∷ List.[]
+        abbrev g5 : List.List Row.Entry
+        g5 = (0, Rows.any-gone (Syntax.tyInt Syntax.w64)) ∷ (1, Relend.mslice-owed RelayPending.row ref3 0 3 life0,) ∷ (2, Mut.mslice RelayCircuit.row
+            ref4 1,) ∷ (3, Mut.mslice InflightAction.row ref5 2,) ∷ (4, Rows.whole (Declared.row Places.the-type)) ∷ (5, Rows.whole (Declared.row
+            AcceptPlan.the-type),) ∷ (6, Rows.any-gone RelayPending.ty) ∷ (7, RelayCircuit.held,) ∷ (8, Rows.any-gone (Syntax.tyInt Syntax.w64)) ∷ (9,
+            Rows.sc-here Row.sUnit,) ∷ (10, Rows.any-gone ref0,) ∷ (11, Mut.msleft RelayPending.row ref0,) ∷ (12, Rows.any-gone ref1,) ∷ (13,
+            Rows.any-gone (Syntax.tyStruct (38 ∷ 91 ∷ 93 ∷ List.[]) (Syntax.tcons ref1 (Syntax.tcons (Syntax.tyInt Syntax.w64) Syntax.tnil))),) ∷ (14,
+            Rows.any-gone ref2,) ∷ (15, Rows.any-gone (Syntax.tyStruct (38 ∷ 91 ∷ 93 ∷ List.[]) (Syntax.tcons ref2 (Syntax.tcons (Syntax.tyInt
+            Syntax.w64) Syntax.tnil))),) ∷ List.[]
+        abbrev g6 : List.List Row.Entry
+        g6 = (0, Rows.any-gone (Syntax.tyInt Syntax.w64)) ∷ (1, Relend.mslice-owed RelayPending.row ref3 0 3 life0,) ∷ (2, Mut.mslice RelayCircuit.row
+            ref4 1,) ∷ (3, Mut.mslice InflightAction.row ref5 2,) ∷ (4, Rows.whole (Declared.row Places.the-type)) ∷ (5, Rows.whole (Declared.row
+            AcceptPlan.the-type),) ∷ (6, Rows.any-gone RelayPending.ty) ∷ (7, RelayCircuit.held,) ∷ (8, Rows.any-gone (Syntax.tyInt Syntax.w64)) ∷ (9,
+            Rows.any-gone Syntax.tyUnit,) ∷ (10, Rows.any-gone ref0,) ∷ (11, Mut.msleft RelayPending.row ref0,) ∷ (12, Rows.any-gone ref1,) ∷ (13,
+            Rows.any-gone (Syntax.tyStruct (38 ∷ 91 ∷ 93 ∷ List.[]) (Syntax.tcons ref1 (Syntax.tcons (Syntax.tyInt Syntax.w64) Syntax.tnil))),) ∷ (14,
+            Rows.any-gone ref2,) ∷ (15, Rows.any-gone (Syntax.tyStruct (38 ∷ 91 ∷ 93 ∷ List.[]) (Syntax.tcons ref2 (Syntax.tcons (Syntax.tyInt
+            Syntax.w64) Syntax.tnil))),) ∷ List.[]
+        abbrev g8 : List.List Row.Entry
+        g8 = (0, Rows.any-gone (Syntax.tyInt Syntax.w64)) ∷ (1, Mut.mslice RelayPending.row ref3 0,) ∷ (2, Relend.mslice-owed RelayCircuit.row ref4 1
+            4 life1,) ∷ (3, Mut.mslice InflightAction.row ref5 2,) ∷ (4, Rows.whole (Declared.row Places.the-type)) ∷ (5, Rows.whole (Declared.row
+            AcceptPlan.the-type),) ∷ (6, Rows.any-gone RelayPending.ty) ∷ (7, RelayCircuit.held,) ∷ (8, Rows.any-gone (Syntax.tyInt Syntax.w64)) ∷ (9,
+            Rows.any-gone Syntax.tyUnit,) ∷ (10, Rows.any-gone ref0,) ∷ (11, Rows.any-gone (Syntax.tyStruct (38 ∷ 91 ∷ 93 ∷ List.[]) (Syntax.tcons
+            ref0 (Syntax.tcons (Syntax.tyInt Syntax.w64) Syntax.tnil))),) ∷ (12, Relend.msptr RelayCircuit.row ref1 4,) ∷ (13, Rows.any-gone
+            (Syntax.tyStruct (38 ∷ 91 ∷ 93 ∷ List.[]) (Syntax.tcons ref1 (Syntax.tcons (Syntax.tyInt Syntax.w64) Syntax.tnil))),) ∷ (14, Rows.any-gone
+            ref2,) ∷ (15, Rows.any-gone (Syntax.tyStruct (38 ∷ 91 ∷ 93 ∷ List.[]) (Syntax.tcons ref2 (Syntax.tcons (Syntax.tyInt Syntax.w64)
+            Syntax.tnil))),) ∷ List.[]
         abbrev g9 : List.List Row.Entry
-        g9 = (0, Rows.any-gone Syntax.tyUnit) ∷ (1, Mut.mslice RelayPending.row ref3 0,) ∷ (2, Relend.mslice-owed RelayCircuit.row ref4 1 4 life1,) ∷
-            (3, Mut.mslice InflightAction.row ref5 2,) ∷ (4, Rows.whole (Declared.row AcceptPlan.the-type)) ∷ (5, Rows.any-gone RelayPending.ty,) ∷
-            (6, RelayCircuit.held) ∷ (7, Rows.any-gone Syntax.tyUnit,) ∷ (8, Rows.any-gone ref0,) ∷ (9, Rows.any-gone (Syntax.tyStruct (38 ∷ 91 ∷ 93 ∷
-            List.[]) (Syntax.tcons ref0 (Syntax.tcons (Syntax.tyInt Syntax.w64) Syntax.tnil))),) ∷ (10, Rows.any-gone ref1,) ∷ (11, Mut.mslice
-            RelayCircuit.row ref1 4,) ∷ (12, Rows.any-gone ref2,) ∷ (13, Rows.any-gone (Syntax.tyStruct (38 ∷ 91 ∷ 93 ∷ List.[]) (Syntax.tcons ref2
-            (Syntax.tcons (Syntax.tyInt Syntax.w64) Syntax.tnil))),) ∷ List.[]
+        g9 = (0, Rows.any-gone (Syntax.tyInt Syntax.w64)) ∷ (1, Mut.mslice RelayPending.row ref3 0,) ∷ (2, Relend.mslice-owed RelayCircuit.row ref4 1
+            4 life1,) ∷ (3, Mut.mslice InflightAction.row ref5 2,) ∷ (4, Rows.whole (Declared.row Places.the-type)) ∷ (5, Rows.whole (Declared.row
+            AcceptPlan.the-type),) ∷ (6, Rows.any-gone RelayPending.ty) ∷ (7, RelayCircuit.held,) ∷ (8, Rows.any-gone (Syntax.tyInt Syntax.w64)) ∷ (9,
+            Rows.any-gone Syntax.tyUnit,) ∷ (10, Rows.any-gone ref0,) ∷ (11, Rows.any-gone (Syntax.tyStruct (38 ∷ 91 ∷ 93 ∷ List.[]) (Syntax.tcons
+            ref0 (Syntax.tcons (Syntax.tyInt Syntax.w64) Syntax.tnil))),) ∷ (12, Rows.any-gone ref1,) ∷ (13, Mut.mslice RelayCircuit.row ref1 4,) ∷
+            (14, Rows.any-gone ref2,) ∷ (15, Rows.any-gone (Syntax.tyStruct (38 ∷ 91 ∷ 93 ∷ List.[]) (Syntax.tcons ref2 (Syntax.tcons (Syntax.tyInt
+            Syntax.w64) Syntax.tnil))),) ∷ List.[]
         abbrev g10 : List.List Row.Entry
-        g10 = (0, Rows.any-gone Syntax.tyUnit) ∷ (1, Mut.mslice RelayPending.row ref3 0,) ∷ (2, Relend.mslice-owed RelayCircuit.row ref4 1 4 life1,) ∷
-            (3, Mut.mslice InflightAction.row ref5 2,) ∷ (4, Rows.whole (Declared.row AcceptPlan.the-type)) ∷ (5, Rows.any-gone RelayPending.ty,) ∷
-            (6, RelayCircuit.held) ∷ (7, Rows.sc-here Row.sUnit,) ∷ (8, Rows.any-gone ref0,) ∷ (9, Rows.any-gone (Syntax.tyStruct (38 ∷ 91 ∷ 93 ∷
-            List.[]) (Syntax.tcons ref0 (Syntax.tcons (Syntax.tyInt Syntax.w64) Syntax.tnil))),) ∷ (10, Rows.any-gone ref1,) ∷ (11, Mut.msleft
-            RelayCircuit.row ref1,) ∷ (12, Rows.any-gone ref2,) ∷ (13, Rows.any-gone (Syntax.tyStruct (38 ∷ 91 ∷ 93 ∷ List.[]) (Syntax.tcons ref2
-            (Syntax.tcons (Syntax.tyInt Syntax.w64) Syntax.tnil))),) ∷ List.[]
+        g10 = (0, Rows.any-gone (Syntax.tyInt Syntax.w64)) ∷ (1, Mut.mslice RelayPending.row ref3 0,) ∷ (2, Relend.mslice-owed RelayCircuit.row ref4 1
+            4 life1,) ∷ (3, Mut.mslice InflightAction.row ref5 2,) ∷ (4, Rows.whole (Declared.row Places.the-type)) ∷ (5, Rows.whole (Declared.row
+            AcceptPlan.the-type),) ∷ (6, Rows.any-gone RelayPending.ty) ∷ (7, RelayCircuit.held,) ∷ (8, Rows.sc-here (Row.sInt Syntax.w64)) ∷ (9,
+            Rows.any-gone Syntax.tyUnit,) ∷ (10, Rows.any-gone ref0,) ∷ (11, Rows.any-gone (Syntax.tyStruct (38 ∷ 91 ∷ 93 ∷ List.[]) (Syntax.tcons
+            ref0 (Syntax.tcons (Syntax.tyInt Syntax.w64) Syntax.tnil))),) ∷ (12, Rows.any-gone ref1,) ∷ (13, Mut.msleft RelayCircuit.row ref1,) ∷ (14,
+            Rows.any-gone ref2,) ∷ (15, Rows.any-gone (Syntax.tyStruct (38 ∷ 91 ∷ 93 ∷ List.[]) (Syntax.tcons ref2 (Syntax.tcons (Syntax.tyInt
+            Syntax.w64) Syntax.tnil))),) ∷ List.[]
         abbrev g11 : List.List Row.Entry
-        g11 = (0, Rows.any-gone Syntax.tyUnit) ∷ (1, Mut.mslice RelayPending.row ref3 0,) ∷ (2, Relend.mslice-owed RelayCircuit.row ref4 1 4 life1,) ∷
-            (3, Mut.mslice InflightAction.row ref5 2,) ∷ (4, Rows.whole (Declared.row AcceptPlan.the-type)) ∷ (5, Rows.any-gone RelayPending.ty,) ∷
-            (6, Rows.any-gone RelayCircuit.ty) ∷ (7, Rows.sc-here Row.sUnit,) ∷ (8, Rows.any-gone ref0,) ∷ (9, Rows.any-gone (Syntax.tyStruct (38 ∷ 91
-            ∷ 93 ∷ List.[]) (Syntax.tcons ref0 (Syntax.tcons (Syntax.tyInt Syntax.w64) Syntax.tnil))),) ∷ (10, Rows.any-gone ref1,) ∷ (11, Mut.msleft
-            RelayCircuit.row ref1,) ∷ (12, Rows.any-gone ref2,) ∷ (13, Rows.any-gone (Syntax.tyStruct (38 ∷ 91 ∷ 93 ∷ List.[]) (Syntax.tcons ref2
+        g11 = (0, Rows.any-gone (Syntax.tyInt Syntax.w64)) ∷ (1, Mut.mslice RelayPending.row ref3 0,) ∷ (2, Relend.mslice-owed RelayCircuit.row ref4 1
+            4 life1,) ∷ (3, Mut.mslice InflightAction.row ref5 2,) ∷ (4, Rows.whole (Declared.row Places.the-type)) ∷ (5, Rows.whole (Declared.row
+            AcceptPlan.the-type),) ∷ (6, Rows.any-gone RelayPending.ty) ∷ (7, Rows.any-gone RelayCircuit.ty,) ∷ (8, Rows.sc-here (Row.sInt
+            Syntax.w64)) ∷ (9, Rows.any-gone Syntax.tyUnit,) ∷ (10, Rows.any-gone ref0,) ∷ (11, Rows.any-gone (Syntax.tyStruct (38 ∷ 91 ∷ 93 ∷
+            List.[]) (Syntax.tcons ref0 (Syntax.tcons (Syntax.tyInt Syntax.w64) Syntax.tnil))),) ∷ (12, Rows.any-gone ref1,) ∷ (13, Mut.msleft
+            RelayCircuit.row ref1,) ∷ (14, Rows.any-gone ref2,) ∷ (15, Rows.any-gone (Syntax.tyStruct (38 ∷ 91 ∷ 93 ∷ List.[]) (Syntax.tcons ref2
             (Syntax.tcons (Syntax.tyInt Syntax.w64) Syntax.tnil))),) ∷ List.[]
-        abbrev g12 : List.List Row.Entry
-        g12 = (0, Rows.any-gone Syntax.tyUnit) ∷ (1, Mut.mslice RelayPending.row ref3 0,) ∷ (2, Relend.mslice-owed RelayCircuit.row ref4 1 4 life1,) ∷
-            (3, Mut.mslice InflightAction.row ref5 2,) ∷ (4, Rows.whole (Declared.row AcceptPlan.the-type)) ∷ (5, Rows.any-gone RelayPending.ty,) ∷
-            (6, Rows.any-gone RelayCircuit.ty) ∷ (7, Rows.any-gone Syntax.tyUnit,) ∷ (8, Rows.any-gone ref0,) ∷ (9, Rows.any-gone (Syntax.tyStruct (38
-            ∷ 91 ∷ 93 ∷ List.[]) (Syntax.tcons ref0 (Syntax.tcons (Syntax.tyInt Syntax.w64) Syntax.tnil))),) ∷ (10, Rows.any-gone ref1,) ∷ (11,
-            Mut.msleft RelayCircuit.row ref1,) ∷ (12, Rows.any-gone ref2,) ∷ (13, Rows.any-gone (Syntax.tyStruct (38 ∷ 91 ∷ 93 ∷ List.[])
-            (Syntax.tcons ref2 (Syntax.tcons (Syntax.tyInt Syntax.w64) Syntax.tnil))),) ∷ List.[]
+        abbrev g13 : List.List Row.Entry
+        g13 = (0, Rows.any-gone (Syntax.tyInt Syntax.w64)) ∷ (1, Mut.mslice RelayPending.row ref3 0,) ∷ (2, Mut.mslice RelayCircuit.row ref4 1,) ∷ (3,
+            Relend.mslice-owed InflightAction.row ref5 2 5 life2,) ∷ (4, Rows.whole (Declared.row Places.the-type)) ∷ (5, Rows.whole (Declared.row
+            AcceptPlan.the-type),) ∷ (6, Rows.any-gone RelayPending.ty) ∷ (7, Rows.any-gone RelayCircuit.ty,) ∷ (8, Rows.sc-here (Row.sInt
+            Syntax.w64)) ∷ (9, Rows.any-gone Syntax.tyUnit,) ∷ (10, Rows.any-gone ref0,) ∷ (11, Rows.any-gone (Syntax.tyStruct (38 ∷ 91 ∷ 93 ∷
+            List.[]) (Syntax.tcons ref0 (Syntax.tcons (Syntax.tyInt Syntax.w64) Syntax.tnil))),) ∷ (12, Rows.any-gone ref1,) ∷ (13, Rows.any-gone
+            (Syntax.tyStruct (38 ∷ 91 ∷ 93 ∷ List.[]) (Syntax.tcons ref1 (Syntax.tcons (Syntax.tyInt Syntax.w64) Syntax.tnil))),) ∷ (14, Relend.msptr
+            InflightAction.row ref2 5,) ∷ (15, Rows.any-gone (Syntax.tyStruct (38 ∷ 91 ∷ 93 ∷ List.[]) (Syntax.tcons ref2 (Syntax.tcons (Syntax.tyInt
+            Syntax.w64) Syntax.tnil))),) ∷ List.[]
         abbrev g14 : List.List Row.Entry
-        g14 = (0, Rows.any-gone Syntax.tyUnit) ∷ (1, Mut.mslice RelayPending.row ref3 0,) ∷ (2, Mut.mslice RelayCircuit.row ref4 1,) ∷ (3,
-            Relend.mslice-owed InflightAction.row ref5 2 5 life2,) ∷ (4, Rows.whole (Declared.row AcceptPlan.the-type)) ∷ (5, Rows.any-gone
-            RelayPending.ty,) ∷ (6, Rows.any-gone RelayCircuit.ty) ∷ (7, Rows.any-gone Syntax.tyUnit,) ∷ (8, Rows.any-gone ref0,) ∷ (9, Rows.any-gone
-            (Syntax.tyStruct (38 ∷ 91 ∷ 93 ∷ List.[]) (Syntax.tcons ref0 (Syntax.tcons (Syntax.tyInt Syntax.w64) Syntax.tnil))),) ∷ (10, Rows.any-gone
-            ref1,) ∷ (11, Rows.any-gone (Syntax.tyStruct (38 ∷ 91 ∷ 93 ∷ List.[]) (Syntax.tcons ref1 (Syntax.tcons (Syntax.tyInt Syntax.w64)
-            Syntax.tnil))),) ∷ (12, Relend.msptr InflightAction.row ref2 5,) ∷ (13, Rows.any-gone (Syntax.tyStruct (38 ∷ 91 ∷ 93 ∷ List.[])
-            (Syntax.tcons ref2 (Syntax.tcons (Syntax.tyInt Syntax.w64) Syntax.tnil))),) ∷ List.[]
+        g14 = (0, Rows.any-gone (Syntax.tyInt Syntax.w64)) ∷ (1, Mut.mslice RelayPending.row ref3 0,) ∷ (2, Mut.mslice RelayCircuit.row ref4 1,) ∷ (3,
+            Relend.mslice-owed InflightAction.row ref5 2 5 life2,) ∷ (4, Rows.whole (Declared.row Places.the-type)) ∷ (5, Rows.whole (Declared.row
+            AcceptPlan.the-type),) ∷ (6, Rows.any-gone RelayPending.ty) ∷ (7, Rows.any-gone RelayCircuit.ty,) ∷ (8, Rows.sc-here (Row.sInt
+            Syntax.w64)) ∷ (9, Rows.any-gone Syntax.tyUnit,) ∷ (10, Rows.any-gone ref0,) ∷ (11, Rows.any-gone (Syntax.tyStruct (38 ∷ 91 ∷ 93 ∷
+            List.[]) (Syntax.tcons ref0 (Syntax.tcons (Syntax.tyInt Syntax.w64) Syntax.tnil))),) ∷ (12, Rows.any-gone ref1,) ∷ (13, Rows.any-gone
+            (Syntax.tyStruct (38 ∷ 91 ∷ 93 ∷ List.[]) (Syntax.tcons ref1 (Syntax.tcons (Syntax.tyInt Syntax.w64) Syntax.tnil))),) ∷ (14, Rows.any-gone
+            ref2,) ∷ (15, Mut.mslice InflightAction.row ref2 5,) ∷ List.[]
         abbrev g15 : List.List Row.Entry
-        g15 = (0, Rows.any-gone Syntax.tyUnit) ∷ (1, Mut.mslice RelayPending.row ref3 0,) ∷ (2, Mut.mslice RelayCircuit.row ref4 1,) ∷ (3,
-            Relend.mslice-owed InflightAction.row ref5 2 5 life2,) ∷ (4, Rows.whole (Declared.row AcceptPlan.the-type)) ∷ (5, Rows.any-gone
-            RelayPending.ty,) ∷ (6, Rows.any-gone RelayCircuit.ty) ∷ (7, Rows.any-gone Syntax.tyUnit,) ∷ (8, Rows.any-gone ref0,) ∷ (9, Rows.any-gone
-            (Syntax.tyStruct (38 ∷ 91 ∷ 93 ∷ List.[]) (Syntax.tcons ref0 (Syntax.tcons (Syntax.tyInt Syntax.w64) Syntax.tnil))),) ∷ (10, Rows.any-gone
-            ref1,) ∷ (11, Rows.any-gone (Syntax.tyStruct (38 ∷ 91 ∷ 93 ∷ List.[]) (Syntax.tcons ref1 (Syntax.tcons (Syntax.tyInt Syntax.w64)
-            Syntax.tnil))),) ∷ (12, Rows.any-gone ref2,) ∷ (13, Mut.mslice InflightAction.row ref2 5,) ∷ List.[]
+        g15 = (0, Rows.any-gone (Syntax.tyInt Syntax.w64)) ∷ (1, Mut.mslice RelayPending.row ref3 0,) ∷ (2, Mut.mslice RelayCircuit.row ref4 1,) ∷ (3,
+            Relend.mslice-owed InflightAction.row ref5 2 5 life2,) ∷ (4, Rows.whole (Declared.row Places.the-type)) ∷ (5, Rows.whole (Declared.row
+            AcceptPlan.the-type),) ∷ (6, Rows.any-gone RelayPending.ty) ∷ (7, Rows.any-gone RelayCircuit.ty,) ∷ (8, Rows.sc-here (Row.sInt
+            Syntax.w64)) ∷ (9, Rows.sc-here Row.sUnit,) ∷ (10, Rows.any-gone ref0,) ∷ (11, Rows.any-gone (Syntax.tyStruct (38 ∷ 91 ∷ 93 ∷ List.[])
+            (Syntax.tcons ref0 (Syntax.tcons (Syntax.tyInt Syntax.w64) Syntax.tnil))),) ∷ (12, Rows.any-gone ref1,) ∷ (13, Rows.any-gone
+            (Syntax.tyStruct (38 ∷ 91 ∷ 93 ∷ List.[]) (Syntax.tcons ref1 (Syntax.tcons (Syntax.tyInt Syntax.w64) Syntax.tnil))),) ∷ (14, Rows.any-gone
+            ref2,) ∷ (15, Mut.msleft InflightAction.row ref2,) ∷ List.[]
         abbrev g16 : List.List Row.Entry
-        g16 = (0, Rows.any-gone Syntax.tyUnit) ∷ (1, Mut.mslice RelayPending.row ref3 0,) ∷ (2, Mut.mslice RelayCircuit.row ref4 1,) ∷ (3,
-            Relend.mslice-owed InflightAction.row ref5 2 5 life2,) ∷ (4, Rows.whole (Declared.row AcceptPlan.the-type)) ∷ (5, Rows.any-gone
-            RelayPending.ty,) ∷ (6, Rows.any-gone RelayCircuit.ty) ∷ (7, Rows.sc-here Row.sUnit,) ∷ (8, Rows.any-gone ref0,) ∷ (9, Rows.any-gone
-            (Syntax.tyStruct (38 ∷ 91 ∷ 93 ∷ List.[]) (Syntax.tcons ref0 (Syntax.tcons (Syntax.tyInt Syntax.w64) Syntax.tnil))),) ∷ (10, Rows.any-gone
-            ref1,) ∷ (11, Rows.any-gone (Syntax.tyStruct (38 ∷ 91 ∷ 93 ∷ List.[]) (Syntax.tcons ref1 (Syntax.tcons (Syntax.tyInt Syntax.w64)
-            Syntax.tnil))),) ∷ (12, Rows.any-gone ref2,) ∷ (13, Mut.msleft InflightAction.row ref2,) ∷ List.[]
+        g16 = (0, Rows.any-gone (Syntax.tyInt Syntax.w64)) ∷ (1, Mut.mslice RelayPending.row ref3 0,) ∷ (2, Mut.mslice RelayCircuit.row ref4 1,) ∷ (3,
+            Relend.mslice-owed InflightAction.row ref5 2 5 life2,) ∷ (4, Rows.any-gone Laws'.mir,) ∷ (5, Rows.whole (Declared.row
+            AcceptPlan.the-type)) ∷ (6, Rows.any-gone RelayPending.ty,) ∷ (7, Rows.any-gone RelayCircuit.ty) ∷ (8, Rows.sc-here (Row.sInt
+            Syntax.w64),) ∷ (9, Rows.sc-here Row.sUnit) ∷ (10, Rows.any-gone ref0,) ∷ (11, Rows.any-gone (Syntax.tyStruct (38 ∷ 91 ∷ 93 ∷ List.[])
+            (Syntax.tcons ref0 (Syntax.tcons (Syntax.tyInt Syntax.w64) Syntax.tnil))),) ∷ (12, Rows.any-gone ref1,) ∷ (13, Rows.any-gone
+            (Syntax.tyStruct (38 ∷ 91 ∷ 93 ∷ List.[]) (Syntax.tcons ref1 (Syntax.tcons (Syntax.tyInt Syntax.w64) Syntax.tnil))),) ∷ (14, Rows.any-gone
+            ref2,) ∷ (15, Mut.msleft InflightAction.row ref2,) ∷ List.[]
         abbrev g17 : List.List Row.Entry
-        g17 = (0, Rows.any-gone Syntax.tyUnit) ∷ (1, Mut.mslice RelayPending.row ref3 0,) ∷ (2, Mut.mslice RelayCircuit.row ref4 1,) ∷ (3,
-            Relend.mslice-owed InflightAction.row ref5 2 5 life2,) ∷ (4, Rows.any-gone Laws.mir,) ∷ (5, Rows.any-gone RelayPending.ty) ∷ (6,
-            Rows.any-gone RelayCircuit.ty,) ∷ (7, Rows.sc-here Row.sUnit) ∷ (8, Rows.any-gone ref0,) ∷ (9, Rows.any-gone (Syntax.tyStruct (38 ∷ 91 ∷
-            93 ∷ List.[]) (Syntax.tcons ref0 (Syntax.tcons (Syntax.tyInt Syntax.w64) Syntax.tnil))),) ∷ (10, Rows.any-gone ref1,) ∷ (11, Rows.any-gone
-            (Syntax.tyStruct (38 ∷ 91 ∷ 93 ∷ List.[]) (Syntax.tcons ref1 (Syntax.tcons (Syntax.tyInt Syntax.w64) Syntax.tnil))),) ∷ (12, Rows.any-gone
-            ref2,) ∷ (13, Mut.msleft InflightAction.row ref2,) ∷ List.[]
+        g17 = (0, Rows.any-gone (Syntax.tyInt Syntax.w64)) ∷ (1, Mut.mslice RelayPending.row ref3 0,) ∷ (2, Mut.mslice RelayCircuit.row ref4 1,) ∷ (3,
+            Relend.mslice-owed InflightAction.row ref5 2 5 life2,) ∷ (4, Rows.any-gone Laws'.mir,) ∷ (5, Rows.any-gone Laws.mir,) ∷ (6, Rows.any-gone
+            RelayPending.ty) ∷ (7, Rows.any-gone RelayCircuit.ty,) ∷ (8, Rows.sc-here (Row.sInt Syntax.w64)) ∷ (9, Rows.sc-here Row.sUnit,) ∷ (10,
+            Rows.any-gone ref0,) ∷ (11, Rows.any-gone (Syntax.tyStruct (38 ∷ 91 ∷ 93 ∷ List.[]) (Syntax.tcons ref0 (Syntax.tcons (Syntax.tyInt
+            Syntax.w64) Syntax.tnil))),) ∷ (12, Rows.any-gone ref1,) ∷ (13, Rows.any-gone (Syntax.tyStruct (38 ∷ 91 ∷ 93 ∷ List.[]) (Syntax.tcons ref1
+            (Syntax.tcons (Syntax.tyInt Syntax.w64) Syntax.tnil))),) ∷ (14, Rows.any-gone ref2,) ∷ (15, Mut.msleft InflightAction.row ref2,) ∷ List.[]
         abbrev g18 : List.List Row.Entry
-        g18 = (0, Rows.any-gone Syntax.tyUnit) ∷ (1, Mut.mslice RelayPending.row ref3 0,) ∷ (2, Mut.mslice RelayCircuit.row ref4 1,) ∷ (3,
-            Relend.mslice-owed InflightAction.row ref5 2 5 life2,) ∷ (4, Rows.any-gone Laws.mir,) ∷ (5, Rows.any-gone RelayPending.ty) ∷ (6,
-            Rows.any-gone RelayCircuit.ty,) ∷ (7, Rows.any-gone Syntax.tyUnit) ∷ (8, Rows.any-gone ref0,) ∷ (9, Rows.any-gone (Syntax.tyStruct (38 ∷
-            91 ∷ 93 ∷ List.[]) (Syntax.tcons ref0 (Syntax.tcons (Syntax.tyInt Syntax.w64) Syntax.tnil))),) ∷ (10, Rows.any-gone ref1,) ∷ (11,
-            Rows.any-gone (Syntax.tyStruct (38 ∷ 91 ∷ 93 ∷ List.[]) (Syntax.tcons ref1 (Syntax.tcons (Syntax.tyInt Syntax.w64) Syntax.tnil))),) ∷ (12,
-            Rows.any-gone ref2,) ∷ (13, Mut.msleft InflightAction.row ref2,) ∷ List.[]
+        g18 = (0, Rows.any-gone (Syntax.tyInt Syntax.w64)) ∷ (1, Mut.mslice RelayPending.row ref3 0,) ∷ (2, Mut.mslice RelayCircuit.row ref4 1,) ∷ (3,
+            Relend.mslice-owed InflightAction.row ref5 2 5 life2,) ∷ (4, Rows.any-gone Laws'.mir,) ∷ (5, Rows.any-gone Laws.mir,) ∷ (6, Rows.any-gone
+            RelayPending.ty) ∷ (7, Rows.any-gone RelayCircuit.ty,) ∷ (8, Rows.sc-here (Row.sInt Syntax.w64)) ∷ (9, Rows.any-gone Syntax.tyUnit,) ∷
+            (10, Rows.any-gone ref0,) ∷ (11, Rows.any-gone (Syntax.tyStruct (38 ∷ 91 ∷ 93 ∷ List.[]) (Syntax.tcons ref0 (Syntax.tcons (Syntax.tyInt
+            Syntax.w64) Syntax.tnil))),) ∷ (12, Rows.any-gone ref1,) ∷ (13, Rows.any-gone (Syntax.tyStruct (38 ∷ 91 ∷ 93 ∷ List.[]) (Syntax.tcons ref1
+            (Syntax.tcons (Syntax.tyInt Syntax.w64) Syntax.tnil))),) ∷ (14, Rows.any-gone ref2,) ∷ (15, Mut.msleft InflightAction.row ref2,) ∷ List.[]
         abbrev G0 : Row.Cx
         G0 = record { locals = t0; slots = life0 ∷ life1 ∷ life2 ∷ Row.off ∷ Row.off ∷ Row.off ∷ List.[]; }
         abbrev G1 : Row.Cx
@@ -560,15 +610,15 @@ module _ (claims· : Claims) where
         abbrev G15 : Row.Cx
         G15 = record { locals = g11; slots = life0 ∷ Row.off ∷ life2 ∷ Row.off ∷ Row.alive ∷ Row.off ∷ List.[]; }
         abbrev G16 : Row.Cx
-        G16 = record { locals = g12; slots = life0 ∷ Row.off ∷ life2 ∷ Row.off ∷ Row.alive ∷ Row.off ∷ List.[]; }
+        G16 = record { locals = g11; slots = life0 ∷ Row.off ∷ life2 ∷ Row.off ∷ Row.dead ∷ Row.off ∷ List.[]; }
         abbrev G17 : Row.Cx
-        G17 = record { locals = g12; slots = life0 ∷ Row.off ∷ life2 ∷ Row.off ∷ Row.dead ∷ Row.off ∷ List.[]; }
+        G17 = record { locals = t12; slots = life0 ∷ life1 ∷ life2 ∷ Row.off ∷ Row.dead ∷ Row.off ∷ List.[]; }
         abbrev G18 : Row.Cx
-        G18 = record { locals = t13; slots = life0 ∷ life1 ∷ life2 ∷ Row.off ∷ Row.dead ∷ Row.off ∷ List.[]; }
+        G18 = record { locals = t12; slots = life0 ∷ life1 ∷ life2 ∷ Row.off ∷ Row.off ∷ Row.off ∷ List.[]; }
         abbrev G19 : Row.Cx
-        G19 = record { locals = t13; slots = life0 ∷ life1 ∷ life2 ∷ Row.off ∷ Row.off ∷ Row.off ∷ List.[]; }
+        G19 = record { locals = t12; slots = life0 ∷ life1 ∷ life2 ∷ Row.off ∷ Row.off ∷ Row.alive ∷ List.[]; }
         abbrev G20 : Row.Cx
-        G20 = record { locals = t13; slots = life0 ∷ life1 ∷ life2 ∷ Row.off ∷ Row.off ∷ Row.alive ∷ List.[]; }
+        G20 = record { locals = g13; slots = life0 ∷ life1 ∷ Row.off ∷ Row.off ∷ Row.off ∷ Row.alive ∷ List.[]; }
         abbrev G21 : Row.Cx
         G21 = record { locals = g14; slots = life0 ∷ life1 ∷ Row.off ∷ Row.off ∷ Row.off ∷ Row.alive ∷ List.[]; }
         abbrev G22 : Row.Cx
@@ -586,148 +636,166 @@ module _ (claims· : Claims) where
         abbrev G28 : Row.Cx
         G28 = record { locals = t19; slots = life0 ∷ life1 ∷ life2 ∷ Row.off ∷ Row.off ∷ Row.off ∷ List.[]; }
         abbrev G29 : Row.Cx
-        G29 = record { locals = t1; slots = life0 ∷ life1 ∷ life2 ∷ Row.off ∷ Row.off ∷ Row.off ∷ List.[]; }
+        G29 = record { locals = t20; slots = life0 ∷ life1 ∷ life2 ∷ Row.off ∷ Row.off ∷ Row.off ∷ List.[]; }
+        abbrev G30 : Row.Cx
+        G30 = record { locals = t1; slots = life0 ∷ life1 ∷ life2 ∷ Row.off ∷ Row.off ∷ Row.off ∷ List.[]; }
         abbrev Δ0 : Typed.Outs
         Δ0 = record { next = Option.none; exits = List.[]; returns = Option.some G1 }
         module _ { M : Type 1 } (𝓤 : URA.URA M) (H : Wp.Heap 𝓤) (A : Atoms.Atoms 𝓤) (W : Kit.Given 𝓤 H A) (𝓣 : Wp.Tables 𝓤 H) (known : Knowns 𝓤 H A W
             𝓣) (bs : List.List Nat.ℕ) (bd : Lifetimes.AllOutlive 3 (Kinds.osR r) κs) where
           abbrev E : Wp.Env 𝓤 H
           E = Frame.EnvOf 𝓤 H ((Kinds.tyR r) ∷ (Enter.tysP ps xs)) bs
-          d0 : Typed.Typed 𝓤 H A 𝓣 E G29 b10 Δ0 at0
+          d0 : Typed.Typed 𝓤 H A 𝓣 E G30 b10 Δ0 at0
           d0 = Typed.t-return 𝓤 H A W 𝓣 E Δ0 tt
-          d1 : Typed.Typed 𝓤 H A 𝓣 E G28 b11 Δ0 at1
-          d1 = Typed.s-seq 𝓤 H A W 𝓣 E G28 G29 b9 b10 Δ0 (Typed.pass T27 T29 s27) at0 (Scalar.t-use 𝓤 H A W E 𝓣 G28 Scalar.oUnit 0 (Rows.sc-here
-              Row.sUnit) Syntax.tyUnit (Row.valS Row.sUnit) (Row.sUnit .of) tt (Reads'.room-gone 𝓤 H A Syntax.tyUnit) (Scalar.holds-sc 𝓤 H A W
-              Row.sUnit) Path.refl (λ u. Path.refl) λ u. tt) d0
-          d2 : Typed.Typed 𝓤 H A 𝓣 E G27 b11 Δ0 at2
-          d2 = Typed.g-pre 𝓤 H A W 𝓣 E G27 G28 b11 Δ0 (λ Ψ. Ψ) at1 (Lifetime.g-forget 𝓤 H A W E G27 5 Row.dead Path.refl) d1
-          d3 : Typed.Typed 𝓤 H A 𝓣 E G26 b11 Δ0 at3
-          d3 = Typed.g-pre 𝓤 H A W 𝓣 E G26 G27 b11 Δ0 (Typed.both s25) at2 (Relend.g-back-sl 𝓤 H A W E InflightAction.row G26 13 3 2 5 ref5 ref2 life2
+          d1 : Typed.Typed 𝓤 H A 𝓣 E G29 b10 Δ0 at1
+          d1 = Typed.g-pre 𝓤 H A W 𝓣 E G29 G30 b10 Δ0 (Typed.pass T29 T30 s28) at0 (Scalar.g-room 𝓤 H A W E G29 8 (Syntax.tyInt Syntax.w64)
+              (Scalar.room-sc 𝓤 H A W (Row.sInt Syntax.w64))) d0
+          d2 : Typed.Typed 𝓤 H A 𝓣 E G28 b11 Δ0 at2
+          d2 = Typed.s-seq 𝓤 H A W 𝓣 E G28 G29 b9 b10 Δ0 (Typed.pass T27 T29 s27) at1 (Scalar.t-use 𝓤 H A W E 𝓣 G28 (Scalar.oAt 8 (Syntax.tyInt
+              Syntax.w64) (Row.valS (Row.sInt Syntax.w64))) 0 (Rows.sc-here (Row.sInt Syntax.w64)) (Syntax.tyInt Syntax.w64) (Row.valS (Row.sInt
+              Syntax.w64)) (Row.sInt Syntax.w64 .of) (Scalar.reads-sc 𝓤 H A W (Row.sInt Syntax.w64), Path.refl) (Reads'.room-gone 𝓤 H A (Syntax.tyInt
+              Syntax.w64)) (Scalar.holds-sc 𝓤 H A W (Row.sInt Syntax.w64)) Path.refl (λ u. Path.refl) λ u. tt) d1
+          d3 : Typed.Typed 𝓤 H A 𝓣 E G27 b11 Δ0 at3
+          d3 = Typed.g-pre 𝓤 H A W 𝓣 E G27 G28 b11 Δ0 (λ Ψ. Ψ) at2 (Lifetime.g-forget 𝓤 H A W E G27 5 Row.dead Path.refl) d2
+          d4 : Typed.Typed 𝓤 H A 𝓣 E G26 b11 Δ0 at4
+          d4 = Typed.g-pre 𝓤 H A W 𝓣 E G26 G27 b11 Δ0 (Typed.both s25) at3 (Relend.g-back-sl 𝓤 H A W E InflightAction.row G26 15 3 2 5 ref5 ref2 life2
               (λ x. x) (λ x. x) (Reads'.as-is 𝓤 H A (Mut.msleft InflightAction.row ref2)) (Reads'.as-is 𝓤 H A (Relend.mslice-owed InflightAction.row
-              ref5 2 5 life2)) Path.refl Path.refl) d2
-          d4 : Typed.Typed 𝓤 H A 𝓣 E G25 b11 Δ0 at4
-          d4 = Typed.g-pre 𝓤 H A W 𝓣 E G25 G26 b11 Δ0 (λ Ψ. Ψ) at3 (Lifetime.g-end 𝓤 H A W E G25 5 Path.refl) d3
-          d5 : Typed.Typed 𝓤 H A 𝓣 E G24 b11 Δ0 at5
-          d5 = Typed.g-pre 𝓤 H A W 𝓣 E G24 G25 b11 Δ0 (Typed.pass T24 T25 s23) at4 (Scalar.g-room 𝓤 H A W E G24 7 Syntax.tyUnit (Scalar.room-sc 𝓤 H A
-              W Row.sUnit)) d4
-          d6 : Typed.Typed 𝓤 H A 𝓣 E G23 b11 Δ0 at6
-          d6 = Typed.g-pre 𝓤 H A W 𝓣 E G23 G24 b11 Δ0 (Typed.pass T23 T24 s22) at5 (Scalar.g-room 𝓤 H A W E G23 4 Laws.mir (Local.room-whole 𝓤 H A W
-              (Declared.row AcceptPlan.the-type) Laws.mir Path.refl)) d5
-          d7 : Typed.Typed 𝓤 H A 𝓣 E G22 b12 Δ0 at7
-          d7 = Typed.s-seq 𝓤 H A W 𝓣 E G22 G23 b8 b11 Δ0 (Typed.both s21) at6 (Plain.t-call-plain 𝓤 H A W 𝓣 1 ps·2 r·2 (claims· .4) (claims· .5)
-              "hnsr_circuit::lookup::drop_actions" (known .2) E (λ pos β. β) G22 (record { pos = 13; ty = Syntax.tyRef Syntax.erased Syntax.mut
-              InflightAction.to; ref = λ x. x; }, (Bool.bFld 4 ((Syntax.field 0) ∷ List.[]) 0 λ x. AcceptPlan.struct .as-values x .0, (Num.vFld 4
-              ((Syntax.field 2) ∷ List.[]) 16 λ x. AcceptPlan.struct .as-values x .1 .1 .0, tt,),),) 7 (5 ∷ List.[]) (Call.sub-id 𝓤 H A W (G22
-              .slots)) (Reads'.as-is 𝓤 H A (Mut.mslice InflightAction.row ref2 5), Mut.reads-mslice 𝓤 H A W InflightAction.row ref2 5, Path.refl,
-              ((Reads.reads-field 𝓤 H A W AcceptPlan.the-type Laws.the-laws 0 Syntax.tyBool 0 Path.refl, Path.refl,), ((Reads.reads-field 𝓤 H A W
-              AcceptPlan.the-type Laws.the-laws 2 (Syntax.tyInt Syntax.w64) 16 Path.refl, Path.refl,), tt,),),) (Reads'.room-gone 𝓤 H A Syntax.tyUnit)
-              (tt, tt) Path.refl) d6
-          d8 : Typed.Typed 𝓤 H A 𝓣 E G21 b13 Δ0 at8
-          d8 = Typed.s-seq 𝓤 H A W 𝓣 E G21 G22 b7 b12 Δ0 (Typed.ask s20) at7 (Relend.t-sl-aggregate 𝓤 H A W E InflightAction.row 𝓣 (Relend.asMut
-              InflightAction.row) G21 12 13 5 ref2 ref2 (λ x. x) (Scalar.oFld 3 ((Syntax.field 1) ∷ List.[]) (Syntax.tyInt Syntax.w64) 8 λ v.
+              ref5 2 5 life2)) Path.refl Path.refl) d3
+          d5 : Typed.Typed 𝓤 H A 𝓣 E G25 b11 Δ0 at5
+          d5 = Typed.g-pre 𝓤 H A W 𝓣 E G25 G26 b11 Δ0 (λ Ψ. Ψ) at4 (Lifetime.g-end 𝓤 H A W E G25 5 Path.refl) d4
+          d6 : Typed.Typed 𝓤 H A 𝓣 E G24 b11 Δ0 at6
+          d6 = Typed.g-pre 𝓤 H A W 𝓣 E G24 G25 b11 Δ0 (Typed.pass T24 T25 s23) at5 (Scalar.g-room 𝓤 H A W E G24 9 Syntax.tyUnit (Scalar.room-sc 𝓤 H A
+              W Row.sUnit)) d5
+          d7 : Typed.Typed 𝓤 H A 𝓣 E G23 b11 Δ0 at7
+          d7 = Typed.g-pre 𝓤 H A W 𝓣 E G23 G24 b11 Δ0 (Typed.pass T23 T24 s22) at6 (Scalar.g-room 𝓤 H A W E G23 5 Laws.mir (Local.room-whole 𝓤 H A W
+              (Declared.row AcceptPlan.the-type) Laws.mir Path.refl)) d6
+          d8 : Typed.Typed 𝓤 H A 𝓣 E G22 b11 Δ0 at8
+          d8 = Typed.g-pre 𝓤 H A W 𝓣 E G22 G23 b11 Δ0 (Typed.pass T22 T23 s21) at7 (Scalar.g-room 𝓤 H A W E G22 4 Laws'.mir (Local.room-whole 𝓤 H A W
+              (Declared.row Places.the-type) Laws'.mir Path.refl)) d7
+          d9 : Typed.Typed 𝓤 H A 𝓣 E G21 b12 Δ0 at9
+          d9 = Typed.s-seq 𝓤 H A W 𝓣 E G21 G22 b8 b11 Δ0 (Typed.both s20) at8 (Plain.t-call-plain 𝓤 H A W 𝓣 1 ps·2 r·2 (claims· .4) (claims· .5)
+              "hnsr_circuit::lookup::drop_actions" (known .2) E (λ pos β. β) G21 (record { pos = 15; ty = Syntax.tyRef Syntax.erased Syntax.mut
+              InflightAction.to; ref = λ x. x; }, (record { pos = 4; st = List.[]; d = 0; at = λ x. x }, (Bool.bFld 5 ((Syntax.field 0) ∷ List.[]) 0 λ
+              x. AcceptPlan.struct .as-values x .0, (Num.vFld 5 ((Syntax.field 2) ∷ List.[]) 16 λ x. AcceptPlan.struct .as-values x .1 .1 .0,
+              tt,),),),) 9 (5 ∷ List.[]) (Call.sub-id 𝓤 H A W (G21 .slots)) (Reads'.as-is 𝓤 H A (Mut.mslice InflightAction.row ref2 5),
+              Mut.reads-mslice 𝓤 H A W InflightAction.row ref2 5, Path.refl, ((Yields.yields-copy 𝓤 H A W (λ ρ. Unit) (Declared.row Places.the-type)
+              Path.refl (Copies.cStruct Places.the-type Laws'.the-laws Laws'.the-copy .copy 𝓤 H A W) (Rows.whole (Declared.row Places.the-type)) (λ x.
+              x) (λ x. x) (λ ρ told. Local.mem-whole 𝓤 H A W (Declared.row Places.the-type) ρ) λ ρ told. Local.whole-mem 𝓤 H A W (Declared.row
+              Places.the-type) ρ, Path.refl,), ((Reads.reads-field 𝓤 H A W AcceptPlan.the-type Laws.the-laws 0 Syntax.tyBool 0 Path.refl, Path.refl,),
+              ((Reads.reads-field 𝓤 H A W AcceptPlan.the-type Laws.the-laws 2 (Syntax.tyInt Syntax.w64) 16 Path.refl, Path.refl,), tt,),),),)
+              (Reads'.room-gone 𝓤 H A Syntax.tyUnit) (tt, tt) Path.refl) d8
+          d10 : Typed.Typed 𝓤 H A 𝓣 E G20 b13 Δ0 at10
+          d10 = Typed.s-seq 𝓤 H A W 𝓣 E G20 G21 b7 b12 Δ0 (Typed.ask s19) at9 (Relend.t-sl-aggregate 𝓤 H A W E InflightAction.row 𝓣 (Relend.asMut
+              InflightAction.row) G20 14 15 5 ref2 ref2 (λ x. x) (Scalar.oFld 3 ((Syntax.field 1) ∷ List.[]) (Syntax.tyInt Syntax.w64) 8 λ v.
               Shared.lenV (v .0)) (Reads'.as-is 𝓤 H A (Relend.msptr InflightAction.row ref2 5)) (Reads'.room-gone 𝓤 H A (Syntax.tyStruct (38 ∷ 91 ∷ 93
               ∷ List.[]) (Syntax.tcons ref2 (Syntax.tcons (Syntax.tyInt Syntax.w64) Syntax.tnil)))) (Relend.reads-owed-len 𝓤 H A W InflightAction.row
-              ref5 2 5 life2 8 Path.refl, Path.refl,) Path.refl Path.refl λ b o k. tt) d7
-          d9 : Typed.Typed 𝓤 H A 𝓣 E G20 b14 Δ0 at9
-          d9 = Typed.s-seq 𝓤 H A W 𝓣 E G20 G21 b6 b13 Δ0 (Typed.give s19) at8 (Relend.t-sl-relend 𝓤 H A W E InflightAction.row 𝓣 G20 3 12 2 5 ref5
+              ref5 2 5 life2 8 Path.refl, Path.refl,) Path.refl Path.refl λ b o k. tt) d9
+          d11 : Typed.Typed 𝓤 H A 𝓣 E G19 b14 Δ0 at11
+          d11 = Typed.s-seq 𝓤 H A W 𝓣 E G19 G20 b6 b13 Δ0 (Typed.give s18) at10 (Relend.t-sl-relend 𝓤 H A W E InflightAction.row 𝓣 G19 3 14 2 5 ref5
               ref2 life2 0 (λ x. x) (Reads'.as-is 𝓤 H A (Mut.mslice InflightAction.row ref5 2)) (Reads'.room-gone 𝓤 H A ref2) Path.refl tt Path.refl
-              Path.refl Path.refl λ b o. tt) d8
-          d10 : Typed.Typed 𝓤 H A 𝓣 E G19 b14 Δ0 at10
-          d10 = Typed.g-pre 𝓤 H A W 𝓣 E G19 G20 b14 Δ0 (λ Ψ. Ψ) at9 (Lifetime.g-begin 𝓤 H A W E G19 5 (tt, (tt, (tt, (tt, (tt, (tt, (tt, (tt, (tt,
-              (tt, (tt, (tt, (tt, (tt, tt))))))))))),),),)) d9
-          d11 : Typed.Typed 𝓤 H A 𝓣 E G18 b14 Δ0 at11
-          d11 = Typed.g-pre 𝓤 H A W 𝓣 E G18 G19 b14 Δ0 (λ Ψ. Ψ) at10 (Lifetime.g-forget 𝓤 H A W E G18 4 Row.dead Path.refl) d10
-          d12 : Typed.Typed 𝓤 H A 𝓣 E G17 b14 Δ0 at12
-          d12 = Typed.g-pre 𝓤 H A W 𝓣 E G17 G18 b14 Δ0 (Typed.both s16) at11 (Relend.g-back-sl 𝓤 H A W E RelayCircuit.row G17 11 2 1 4 ref4 ref1 life1
+              Path.refl Path.refl λ b o. tt) d10
+          d12 : Typed.Typed 𝓤 H A 𝓣 E G18 b14 Δ0 at12
+          d12 = Typed.g-pre 𝓤 H A W 𝓣 E G18 G19 b14 Δ0 (λ Ψ. Ψ) at11 (Lifetime.g-begin 𝓤 H A W E G18 5 (tt, (tt, (tt, (tt, (tt, (tt, (tt, (tt, (tt,
+              (tt, (tt, (tt, (tt, (tt, (tt, (tt, tt)))))))))),),),),),),)) d11
+          d13 : Typed.Typed 𝓤 H A 𝓣 E G17 b14 Δ0 at13
+          d13 = Typed.g-pre 𝓤 H A W 𝓣 E G17 G18 b14 Δ0 (λ Ψ. Ψ) at12 (Lifetime.g-forget 𝓤 H A W E G17 4 Row.dead Path.refl) d12
+          d14 : Typed.Typed 𝓤 H A 𝓣 E G16 b14 Δ0 at14
+          d14 = Typed.g-pre 𝓤 H A W 𝓣 E G16 G17 b14 Δ0 (Typed.both s15) at13 (Relend.g-back-sl 𝓤 H A W E RelayCircuit.row G16 13 2 1 4 ref4 ref1 life1
               (λ x. x) (λ x. x) (Reads'.as-is 𝓤 H A (Mut.msleft RelayCircuit.row ref1)) (Reads'.as-is 𝓤 H A (Relend.mslice-owed RelayCircuit.row ref4
-              1 4 life1)) Path.refl Path.refl) d11
-          d13 : Typed.Typed 𝓤 H A 𝓣 E G16 b14 Δ0 at13
-          d13 = Typed.g-pre 𝓤 H A W 𝓣 E G16 G17 b14 Δ0 (λ Ψ. Ψ) at12 (Lifetime.g-end 𝓤 H A W E G16 4 Path.refl) d12
-          d14 : Typed.Typed 𝓤 H A 𝓣 E G15 b14 Δ0 at14
-          d14 = Typed.g-pre 𝓤 H A W 𝓣 E G15 G16 b14 Δ0 (Typed.pass T15 T16 s14) at13 (Scalar.g-room 𝓤 H A W E G15 7 Syntax.tyUnit (Scalar.room-sc 𝓤 H
-              A W Row.sUnit)) d13
-          d15 : Typed.Typed 𝓤 H A 𝓣 E G14 b14 Δ0 at15
-          d15 = Typed.g-pre 𝓤 H A W 𝓣 E G14 G15 b14 Δ0 (Typed.pass T14 T15 s13) at14 (Scalar.g-room 𝓤 H A W E G14 6 RelayCircuit.ty (Local.room-whole
-              𝓤 H A W RelayCircuit.row RelayCircuit.ty Path.refl)) d14
-          d16 : Typed.Typed 𝓤 H A 𝓣 E G13 b15 Δ0 at16
-          d16 = Typed.s-seq 𝓤 H A W 𝓣 E G13 G14 b5 b14 Δ0 (Typed.both s12) at15 (Plain.t-call-plain 𝓤 H A W 𝓣 1 ps·1 r·1 (claims· .2) (claims· .3)
-              "hnsr_circuit::handle_accept::put_circuit" (known .1) E (λ pos β. β) G13 (record { pos = 11; ty = Syntax.tyRef Syntax.erased Syntax.mut
-              RelayCircuit.to; ref = λ x. x; }, (Bool.bFld 4 ((Syntax.field 0) ∷ List.[]) 0 λ x. AcceptPlan.struct .as-values x .0, (Num.vFld 4
-              ((Syntax.field 2) ∷ List.[]) 16 λ x. AcceptPlan.struct .as-values x .1 .1 .0, (record { pos = 6; st = List.[]; d = 0; at = λ x. x },
-              tt),),),) 7 (4 ∷ List.[]) (Call.sub-id 𝓤 H A W (G13 .slots)) (Reads'.as-is 𝓤 H A (Mut.mslice RelayCircuit.row ref1 4), Mut.reads-mslice
-              𝓤 H A W RelayCircuit.row ref1 4, Path.refl, ((Reads.reads-field 𝓤 H A W AcceptPlan.the-type Laws.the-laws 0 Syntax.tyBool 0 Path.refl,
-              Path.refl,), ((Reads.reads-field 𝓤 H A W AcceptPlan.the-type Laws.the-laws 2 (Syntax.tyInt Syntax.w64) 16 Path.refl, Path.refl,),
-              ((Yields.yields-copy 𝓤 H A W (λ ρ. Unit) RelayCircuit.row Path.refl (RelayCircuit.copies .copy 𝓤 H A W) RelayCircuit.held (λ x. x) (λ x.
-              x) (λ ρ told. Local.mem-whole 𝓤 H A W RelayCircuit.row ρ) λ ρ told. Local.whole-mem 𝓤 H A W RelayCircuit.row ρ, Path.refl,), tt,),),),)
-              (Reads'.room-gone 𝓤 H A Syntax.tyUnit) (tt, tt) Path.refl) d15
-          d17 : Typed.Typed 𝓤 H A 𝓣 E G12 b16 Δ0 at17
-          d17 = Typed.s-seq 𝓤 H A W 𝓣 E G12 G13 b4 b15 Δ0 (Typed.ask s11) at16 (Relend.t-sl-aggregate 𝓤 H A W E RelayCircuit.row 𝓣 (Relend.asMut
-              RelayCircuit.row) G12 10 11 4 ref1 ref1 (λ x. x) (Scalar.oFld 2 ((Syntax.field 1) ∷ List.[]) (Syntax.tyInt Syntax.w64) 8 λ v.
+              1 4 life1)) Path.refl Path.refl) d13
+          d15 : Typed.Typed 𝓤 H A 𝓣 E G15 b14 Δ0 at15
+          d15 = Typed.g-pre 𝓤 H A W 𝓣 E G15 G16 b14 Δ0 (λ Ψ. Ψ) at14 (Lifetime.g-end 𝓤 H A W E G15 4 Path.refl) d14
+          d16 : Typed.Typed 𝓤 H A 𝓣 E G14 b14 Δ0 at16
+          d16 = Typed.g-pre 𝓤 H A W 𝓣 E G14 G15 b14 Δ0 (Typed.pass T14 T15 s13) at15 (Scalar.g-room 𝓤 H A W E G14 7 RelayCircuit.ty (Local.room-whole
+              𝓤 H A W RelayCircuit.row RelayCircuit.ty Path.refl)) d15
+          d17 : Typed.Typed 𝓤 H A 𝓣 E G13 b15 Δ0 at17
+          d17 = Typed.s-seq 𝓤 H A W 𝓣 E G13 G14 b5 b14 Δ0 (Typed.both s12) at16 (Plain.t-call-plain 𝓤 H A W 𝓣 1 ps·1 r·1 (claims· .2) (claims· .3)
+              "hnsr_circuit::handle_accept::put_circuit" (known .1) E (λ pos β. β) G13 (record { pos = 13; ty = Syntax.tyRef Syntax.erased Syntax.mut
+              RelayCircuit.to; ref = λ x. x; }, (record { pos = 4; st = List.[]; d = 0; at = λ x. x }, (Bool.bFld 5 ((Syntax.field 0) ∷ List.[]) 0 λ
+              x. AcceptPlan.struct .as-values x .0, (Num.vFld 5 ((Syntax.field 2) ∷ List.[]) 16 λ x. AcceptPlan.struct .as-values x .1 .1 .0, (record
+              { pos = 7; st = List.[]; d = 0; at = λ x. x }, tt),),),),) 8 (4 ∷ List.[]) (Call.sub-id 𝓤 H A W (G13 .slots)) (Reads'.as-is 𝓤 H A
+              (Mut.mslice RelayCircuit.row ref1 4), Mut.reads-mslice 𝓤 H A W RelayCircuit.row ref1 4, Path.refl, ((Yields.yields-copy 𝓤 H A W (λ ρ.
+              Unit) (Declared.row Places.the-type) Path.refl (Copies.cStruct Places.the-type Laws'.the-laws Laws'.the-copy .copy 𝓤 H A W) (Rows.whole
+              (Declared.row Places.the-type)) (λ x. x) (λ x. x) (λ ρ told. Local.mem-whole 𝓤 H A W (Declared.row Places.the-type) ρ) λ ρ told.
+              Local.whole-mem 𝓤 H A W (Declared.row Places.the-type) ρ, Path.refl,), ((Reads.reads-field 𝓤 H A W AcceptPlan.the-type Laws.the-laws 0
+              Syntax.tyBool 0 Path.refl, Path.refl,), ((Reads.reads-field 𝓤 H A W AcceptPlan.the-type Laws.the-laws 2 (Syntax.tyInt Syntax.w64) 16
+              Path.refl, Path.refl,), ((Yields.yields-copy 𝓤 H A W (λ ρ. Unit) RelayCircuit.row Path.refl (RelayCircuit.copies .copy 𝓤 H A W)
+              RelayCircuit.held (λ x. x) (λ x. x) (λ ρ told. Local.mem-whole 𝓤 H A W RelayCircuit.row ρ) λ ρ told. Local.whole-mem 𝓤 H A W
+              RelayCircuit.row ρ, Path.refl,), tt,),),),),) (Reads'.room-gone 𝓤 H A (Syntax.tyInt Syntax.w64)) (tt, tt) Path.refl) d16
+          d18 : Typed.Typed 𝓤 H A 𝓣 E G12 b16 Δ0 at18
+          d18 = Typed.s-seq 𝓤 H A W 𝓣 E G12 G13 b4 b15 Δ0 (Typed.ask s11) at17 (Relend.t-sl-aggregate 𝓤 H A W E RelayCircuit.row 𝓣 (Relend.asMut
+              RelayCircuit.row) G12 12 13 4 ref1 ref1 (λ x. x) (Scalar.oFld 2 ((Syntax.field 1) ∷ List.[]) (Syntax.tyInt Syntax.w64) 8 λ v.
               Shared.lenV (v .0)) (Reads'.as-is 𝓤 H A (Relend.msptr RelayCircuit.row ref1 4)) (Reads'.room-gone 𝓤 H A (Syntax.tyStruct (38 ∷ 91 ∷ 93 ∷
               List.[]) (Syntax.tcons ref1 (Syntax.tcons (Syntax.tyInt Syntax.w64) Syntax.tnil)))) (Relend.reads-owed-len 𝓤 H A W RelayCircuit.row ref4
-              1 4 life1 8 Path.refl, Path.refl,) Path.refl Path.refl λ b o k. tt) d16
-          d18 : Typed.Typed 𝓤 H A 𝓣 E G11 b17 Δ0 at18
-          d18 = Typed.s-seq 𝓤 H A W 𝓣 E G11 G12 b3 b16 Δ0 (Typed.give s10) at17 (Relend.t-sl-relend 𝓤 H A W E RelayCircuit.row 𝓣 G11 2 10 1 4 ref4
+              1 4 life1 8 Path.refl, Path.refl,) Path.refl Path.refl λ b o k. tt) d17
+          d19 : Typed.Typed 𝓤 H A 𝓣 E G11 b17 Δ0 at19
+          d19 = Typed.s-seq 𝓤 H A W 𝓣 E G11 G12 b3 b16 Δ0 (Typed.give s10) at18 (Relend.t-sl-relend 𝓤 H A W E RelayCircuit.row 𝓣 G11 2 12 1 4 ref4
               ref1 life1 0 (λ x. x) (Reads'.as-is 𝓤 H A (Mut.mslice RelayCircuit.row ref4 1)) (Reads'.room-gone 𝓤 H A ref1) Path.refl tt Path.refl
-              Path.refl Path.refl λ b o. tt) d17
-          d19 : Typed.Typed 𝓤 H A 𝓣 E G10 b17 Δ0 at19
-          d19 = Typed.g-pre 𝓤 H A W 𝓣 E G10 G11 b17 Δ0 (λ Ψ. Ψ) at18 (Lifetime.g-begin 𝓤 H A W E G10 4 (tt, (tt, (tt, (tt, (tt, (tt, (tt, (tt, (tt,
-              (tt, (tt, (tt, (tt, (tt, tt))))))))))),),),)) d18
-          d20 : Typed.Typed 𝓤 H A 𝓣 E G9 b17 Δ0 at20
-          d20 = Typed.g-pre 𝓤 H A W 𝓣 E G9 G10 b17 Δ0 (λ Ψ. Ψ) at19 (Lifetime.g-forget 𝓤 H A W E G9 3 Row.dead Path.refl) d19
-          d21 : Typed.Typed 𝓤 H A 𝓣 E G8 b17 Δ0 at21
-          d21 = Typed.g-pre 𝓤 H A W 𝓣 E G8 G9 b17 Δ0 (Typed.both s7) at20 (Relend.g-back-sl 𝓤 H A W E RelayPending.row G8 9 1 0 3 ref3 ref0 life0 (λ
+              Path.refl Path.refl λ b o. tt) d18
+          d20 : Typed.Typed 𝓤 H A 𝓣 E G10 b17 Δ0 at20
+          d20 = Typed.g-pre 𝓤 H A W 𝓣 E G10 G11 b17 Δ0 (λ Ψ. Ψ) at19 (Lifetime.g-begin 𝓤 H A W E G10 4 (tt, (tt, (tt, (tt, (tt, (tt, (tt, (tt, (tt,
+              (tt, (tt, (tt, (tt, (tt, (tt, (tt, tt)))))))))),),),),),),)) d19
+          d21 : Typed.Typed 𝓤 H A 𝓣 E G9 b17 Δ0 at21
+          d21 = Typed.g-pre 𝓤 H A W 𝓣 E G9 G10 b17 Δ0 (λ Ψ. Ψ) at20 (Lifetime.g-forget 𝓤 H A W E G9 3 Row.dead Path.refl) d20
+          d22 : Typed.Typed 𝓤 H A 𝓣 E G8 b17 Δ0 at22
+          d22 = Typed.g-pre 𝓤 H A W 𝓣 E G8 G9 b17 Δ0 (Typed.both s7) at21 (Relend.g-back-sl 𝓤 H A W E RelayPending.row G8 11 1 0 3 ref3 ref0 life0 (λ
               x. x) (λ x. x) (Reads'.as-is 𝓤 H A (Mut.msleft RelayPending.row ref0)) (Reads'.as-is 𝓤 H A (Relend.mslice-owed RelayPending.row ref3 0 3
-              life0)) Path.refl Path.refl) d20
-          d22 : Typed.Typed 𝓤 H A 𝓣 E G7 b17 Δ0 at22
-          d22 = Typed.g-pre 𝓤 H A W 𝓣 E G7 G8 b17 Δ0 (λ Ψ. Ψ) at21 (Lifetime.g-end 𝓤 H A W E G7 3 Path.refl) d21
-          d23 : Typed.Typed 𝓤 H A 𝓣 E G6 b17 Δ0 at23
-          d23 = Typed.g-pre 𝓤 H A W 𝓣 E G6 G7 b17 Δ0 (Typed.pass T6 T7 s5) at22 (Scalar.g-room 𝓤 H A W E G6 7 Syntax.tyUnit (Scalar.room-sc 𝓤 H A W
-              Row.sUnit)) d22
-          d24 : Typed.Typed 𝓤 H A 𝓣 E G5 b17 Δ0 at24
-          d24 = Typed.g-pre 𝓤 H A W 𝓣 E G5 G6 b17 Δ0 (Typed.pass T5 T6 s4) at23 (Scalar.g-room 𝓤 H A W E G5 5 RelayPending.ty (Local.room-whole 𝓤 H A
-              W RelayPending.row RelayPending.ty Path.refl)) d23
-          d25 : Typed.Typed 𝓤 H A 𝓣 E G4 b18 Δ0 at25
-          d25 = Typed.s-seq 𝓤 H A W 𝓣 E G4 G5 b2 b17 Δ0 (Typed.both s3) at24 (Plain.t-call-plain 𝓤 H A W 𝓣 1 ps·0 r·0 (claims· .0) (claims· .1)
-              "hnsr_circuit::tables::pending::set_pending" (known .0) E (λ pos β. β) G4 (record { pos = 9; ty = Syntax.tyRef Syntax.erased Syntax.mut
-              RelayPending.to; ref = λ x. x; }, (Bool.bFld 4 ((Syntax.field 0) ∷ List.[]) 0 λ x. AcceptPlan.struct .as-values x .0, (Num.vFld 4
-              ((Syntax.field 1) ∷ List.[]) 8 λ x. AcceptPlan.struct .as-values x .1 .0, (record { pos = 5; st = List.[]; d = 0; at = λ x. x },
-              tt),),),) 7 (3 ∷ List.[]) (Call.sub-id 𝓤 H A W (G4 .slots)) (Reads'.as-is 𝓤 H A (Mut.mslice RelayPending.row ref0 3), Mut.reads-mslice 𝓤
+              life0)) Path.refl Path.refl) d21
+          d23 : Typed.Typed 𝓤 H A 𝓣 E G7 b17 Δ0 at23
+          d23 = Typed.g-pre 𝓤 H A W 𝓣 E G7 G8 b17 Δ0 (λ Ψ. Ψ) at22 (Lifetime.g-end 𝓤 H A W E G7 3 Path.refl) d22
+          d24 : Typed.Typed 𝓤 H A 𝓣 E G6 b17 Δ0 at24
+          d24 = Typed.g-pre 𝓤 H A W 𝓣 E G6 G7 b17 Δ0 (Typed.pass T6 T7 s5) at23 (Scalar.g-room 𝓤 H A W E G6 9 Syntax.tyUnit (Scalar.room-sc 𝓤 H A W
+              Row.sUnit)) d23
+          d25 : Typed.Typed 𝓤 H A 𝓣 E G5 b17 Δ0 at25
+          d25 = Typed.g-pre 𝓤 H A W 𝓣 E G5 G6 b17 Δ0 (Typed.pass T5 T6 s4) at24 (Scalar.g-room 𝓤 H A W E G5 6 RelayPending.ty (Local.room-whole 𝓤 H A
+              W RelayPending.row RelayPending.ty Path.refl)) d24
+          d26 : Typed.Typed 𝓤 H A 𝓣 E G4 b18 Δ0 at26
+          d26 = Typed.s-seq 𝓤 H A W 𝓣 E G4 G5 b2 b17 Δ0 (Typed.both s3) at25 (Plain.t-call-plain 𝓤 H A W 𝓣 1 ps·0 r·0 (claims· .0) (claims· .1)
+              "hnsr_circuit::tables::pending::set_pending" (known .0) E (λ pos β. β) G4 (record { pos = 11; ty = Syntax.tyRef Syntax.erased Syntax.mut
+              RelayPending.to; ref = λ x. x; }, (Bool.bFld 5 ((Syntax.field 0) ∷ List.[]) 0 λ x. AcceptPlan.struct .as-values x .0, (Num.vFld 5
+              ((Syntax.field 1) ∷ List.[]) 8 λ x. AcceptPlan.struct .as-values x .1 .0, (record { pos = 6; st = List.[]; d = 0; at = λ x. x },
+              tt),),),) 9 (3 ∷ List.[]) (Call.sub-id 𝓤 H A W (G4 .slots)) (Reads'.as-is 𝓤 H A (Mut.mslice RelayPending.row ref0 3), Mut.reads-mslice 𝓤
               H A W RelayPending.row ref0 3, Path.refl, ((Reads.reads-field 𝓤 H A W AcceptPlan.the-type Laws.the-laws 0 Syntax.tyBool 0 Path.refl,
               Path.refl,), ((Reads.reads-field 𝓤 H A W AcceptPlan.the-type Laws.the-laws 1 (Syntax.tyInt Syntax.w64) 8 Path.refl, Path.refl,),
               ((Yields.yields-copy 𝓤 H A W (λ ρ. Unit) RelayPending.row Path.refl (RelayPending.copies .copy 𝓤 H A W) RelayPending.held (λ x. x) (λ x.
               x) (λ ρ told. Local.mem-whole 𝓤 H A W RelayPending.row ρ) λ ρ told. Local.whole-mem 𝓤 H A W RelayPending.row ρ, Path.refl,), tt,),),),)
-              (Reads'.room-gone 𝓤 H A Syntax.tyUnit) (tt, tt) Path.refl) d24
-          d26 : Typed.Typed 𝓤 H A 𝓣 E G3 b19 Δ0 at26
-          d26 = Typed.s-seq 𝓤 H A W 𝓣 E G3 G4 b1 b18 Δ0 (Typed.ask s2) at25 (Relend.t-sl-aggregate 𝓤 H A W E RelayPending.row 𝓣 (Relend.asMut
-              RelayPending.row) G3 8 9 3 ref0 ref0 (λ x. x) (Scalar.oFld 1 ((Syntax.field 1) ∷ List.[]) (Syntax.tyInt Syntax.w64) 8 λ v. Shared.lenV
+              (Reads'.room-gone 𝓤 H A Syntax.tyUnit) (tt, tt) Path.refl) d25
+          d27 : Typed.Typed 𝓤 H A 𝓣 E G3 b19 Δ0 at27
+          d27 = Typed.s-seq 𝓤 H A W 𝓣 E G3 G4 b1 b18 Δ0 (Typed.ask s2) at26 (Relend.t-sl-aggregate 𝓤 H A W E RelayPending.row 𝓣 (Relend.asMut
+              RelayPending.row) G3 10 11 3 ref0 ref0 (λ x. x) (Scalar.oFld 1 ((Syntax.field 1) ∷ List.[]) (Syntax.tyInt Syntax.w64) 8 λ v. Shared.lenV
               (v .0)) (Reads'.as-is 𝓤 H A (Relend.msptr RelayPending.row ref0 3)) (Reads'.room-gone 𝓤 H A (Syntax.tyStruct (38 ∷ 91 ∷ 93 ∷ List.[])
               (Syntax.tcons ref0 (Syntax.tcons (Syntax.tyInt Syntax.w64) Syntax.tnil)))) (Relend.reads-owed-len 𝓤 H A W RelayPending.row ref3 0 3
-              life0 8 Path.refl, Path.refl,) Path.refl Path.refl λ b o k. tt) d25
-          d27 : Typed.Typed 𝓤 H A 𝓣 E G2 b20 Δ0 at27
-          d27 = Typed.s-seq 𝓤 H A W 𝓣 E G2 G3 b0 b19 Δ0 (Typed.give s1) at26 (Relend.t-sl-relend 𝓤 H A W E RelayPending.row 𝓣 G2 1 8 0 3 ref3 ref0
+              life0 8 Path.refl, Path.refl,) Path.refl Path.refl λ b o k. tt) d26
+          d28 : Typed.Typed 𝓤 H A 𝓣 E G2 b20 Δ0 at28
+          d28 = Typed.s-seq 𝓤 H A W 𝓣 E G2 G3 b0 b19 Δ0 (Typed.give s1) at27 (Relend.t-sl-relend 𝓤 H A W E RelayPending.row 𝓣 G2 1 10 0 3 ref3 ref0
               life0 0 (λ x. x) (Reads'.as-is 𝓤 H A (Mut.mslice RelayPending.row ref3 0)) (Reads'.room-gone 𝓤 H A ref0) Path.refl tt Path.refl
-              Path.refl Path.refl λ b o. tt) d26
-          d28 : Typed.Typed 𝓤 H A 𝓣 E G0 b20 Δ0 at28
-          d28 = Typed.g-pre 𝓤 H A W 𝓣 E G0 G2 b20 Δ0 (λ Ψ. Ψ) at27 (Lifetime.g-begin 𝓤 H A W E G0 3 (tt, (tt, (tt, (tt, (tt, (tt, (tt, (tt, (tt, (tt,
-              (tt, (tt, (tt, (tt, tt))))))))))),),),)) d27
+              Path.refl Path.refl λ b o. tt) d27
+          d29 : Typed.Typed 𝓤 H A 𝓣 E G0 b20 Δ0 at29
+          d29 = Typed.g-pre 𝓤 H A W 𝓣 E G0 G2 b20 Δ0 (λ Ψ. Ψ) at28 (Lifetime.g-begin 𝓤 H A W E G0 3 (tt, (tt, (tt, (tt, (tt, (tt, (tt, (tt, (tt, (tt,
+              (tt, (tt, (tt, (tt, (tt, (tt, tt)))))))))),),),),),),)) d28
           pub typed : Typed.Typed 𝓤 H A 𝓣 E (Function.Γin 3 ps r xs m κs qs) b20 (Function.Δret 3 ps r xs m κs qs) Φ
-          typed = d28
+          typed = d29
       module _ (κs : Lifetimes.Lfts 3) where
         pub record Args : Type 0 where
           pub pending : Kinds.Den { n = 3 } κs (MutSlice.pMutS RelayPending.row 0 tt)
           pub circuits : Kinds.Den { n = 3 } κs (MutSlice.pMutS RelayCircuit.row 1 tt)
           pub inflight : Kinds.Den { n = 3 } κs (MutSlice.pMutS InflightAction.row 2 tt)
-          pub plan : Kinds.Den { n = 3 } κs (Value.pVal record { ty = Declared.row AcceptPlan.the-type; one = Path.refl; val = Laws'.val
-              AcceptPlan.the-type Laws.the-laws; tells = Laws'.tells AcceptPlan.the-type Laws.the-laws; still = Laws'.still AcceptPlan.the-type
+          pub places : Kinds.Den { n = 3 } κs (Value.pVal record { ty = Declared.row Places.the-type; one = Path.refl; val = Laws''.val
+              Places.the-type Laws'.the-laws; tells = Laws''.tells Places.the-type Laws'.the-laws; still = Laws''.still Places.the-type Laws'.the-copy
+              Exit.yes; row = Rows.whole (Declared.row Places.the-type); rd = λ x. x; mk = λ x. x; } λ M 𝓤 H A W. record { copies = Laws''.copy
+              Places.the-type Laws'.the-copy 𝓤 H A W; lawful = Laws''.lawful Places.the-type Laws'.the-laws 𝓤 H A W; makes = Laws''.makes
+              Places.the-type Laws'.the-plain 𝓤 H A; in-mem = Local.mem-whole 𝓤 H A W (Declared.row Places.the-type); of-mem = Local.whole-mem 𝓤 H A W
+              (Declared.row Places.the-type); })
+          pub plan : Kinds.Den { n = 3 } κs (Value.pVal record { ty = Declared.row AcceptPlan.the-type; one = Path.refl; val = Laws''.val
+              AcceptPlan.the-type Laws.the-laws; tells = Laws''.tells AcceptPlan.the-type Laws.the-laws; still = Laws''.still AcceptPlan.the-type
               Laws.the-copy Exit.yes; row = Rows.whole (Declared.row AcceptPlan.the-type); rd = λ x. x; mk = λ x. x; } λ M 𝓤 H A W. record { copies =
-              Laws'.copy AcceptPlan.the-type Laws.the-copy 𝓤 H A W; lawful = Laws'.lawful AcceptPlan.the-type Laws.the-laws 𝓤 H A W; makes =
-              Laws'.makes AcceptPlan.the-type Laws.the-plain 𝓤 H A; in-mem = Local.mem-whole 𝓤 H A W (Declared.row AcceptPlan.the-type); of-mem =
+              Laws''.copy AcceptPlan.the-type Laws.the-copy 𝓤 H A W; lawful = Laws''.lawful AcceptPlan.the-type Laws.the-laws 𝓤 H A W; makes =
+              Laws''.makes AcceptPlan.the-type Laws.the-plain 𝓤 H A; in-mem = Local.mem-whole 𝓤 H A W (Declared.row AcceptPlan.the-type); of-mem =
               Local.whole-mem 𝓤 H A W (Declared.row AcceptPlan.the-type); })
           pub unmarked : Kinds.Den { n = 3 } κs RelayPending.param
           pub circuit : Kinds.Den { n = 3 } κs RelayCircuit.param
         abbrev pub dens : (a : Args) → Kinds.Dens κs ps
-        dens = λ a. (a .pending, (a .circuits, (a .inflight, (a .plan, (a .unmarked, (a .circuit, tt))))),)
+        dens = λ a. (a .pending, (a .circuits, (a .inflight, (a .places, (a .plan, (a .unmarked, (a .circuit, tt))))),),)
       abbrev pub m0 : (κs : Lifetimes.Lfts 3) → (args : Args κs) → Typed.Mo T0
       m0 = λ κs args. (tt, Enter.partsP κs 1 ps xs (dens κs args))
       abbrev W0 : (κs : Lifetimes.Lfts 3) → (args : Args κs) → Typed.Want O0
@@ -754,17 +822,17 @@ module _ (claims· : Claims) where
       m3 = λ before given. s3 .next (m2 (before .before) (before .set-pending-arg .given)) given
       module _ (before· : After-set-pending-arg) where
         abbrev pub After-set-pending·own : Type 0
-        After-set-pending·own = Called.Called ps·0 r·0 (claims· .1) T4 (record { pos = 9; ty = Syntax.tyRef Syntax.erased Syntax.mut RelayPending.to;
-            ref = λ x. x; }, (Bool.bFld 4 ((Syntax.field 0) ∷ List.[]) 0 λ x. AcceptPlan.struct .as-values x .0, (Num.vFld 4 ((Syntax.field 1) ∷
-            List.[]) 8 λ x. AcceptPlan.struct .as-values x .1 .0, (record { pos = 5; st = List.[]; d = 0; at = λ x. x }, tt),),),) (m2 (before·
+        After-set-pending·own = Called.Called ps·0 r·0 (claims· .1) T4 (record { pos = 11; ty = Syntax.tyRef Syntax.erased Syntax.mut RelayPending.to;
+            ref = λ x. x; }, (Bool.bFld 5 ((Syntax.field 0) ∷ List.[]) 0 λ x. AcceptPlan.struct .as-values x .0, (Num.vFld 5 ((Syntax.field 1) ∷
+            List.[]) 8 λ x. AcceptPlan.struct .as-values x .1 .0, (record { pos = 6; st = List.[]; d = 0; at = λ x. x }, tt),),),) (m2 (before·
             .before) (before· .set-pending-arg .given))
       pub record After-set-pending : Type 0 where
         pub before : After-set-pending-arg
         pub set-pending : After-set-pending·own before
       abbrev pub After-set-pending·gave : (c : After-set-pending) → s3 .gives (m2 (c .before .before) (c .before .set-pending-arg .given))
-      After-set-pending·gave = λ c. Called.given ps·0 r·0 (claims· .1) T4 (record { pos = 9; ty = Syntax.tyRef Syntax.erased Syntax.mut
-          RelayPending.to; ref = λ x. x; }, (Bool.bFld 4 ((Syntax.field 0) ∷ List.[]) 0 λ x. AcceptPlan.struct .as-values x .0, (Num.vFld 4
-          ((Syntax.field 1) ∷ List.[]) 8 λ x. AcceptPlan.struct .as-values x .1 .0, (record { pos = 5; st = List.[]; d = 0; at = λ x. x }, tt),),),)
+      After-set-pending·gave = λ c. Called.given ps·0 r·0 (claims· .1) T4 (record { pos = 11; ty = Syntax.tyRef Syntax.erased Syntax.mut
+          RelayPending.to; ref = λ x. x; }, (Bool.bFld 5 ((Syntax.field 0) ∷ List.[]) 0 λ x. AcceptPlan.struct .as-values x .0, (Num.vFld 5
+          ((Syntax.field 1) ∷ List.[]) 8 λ x. AcceptPlan.struct .as-values x .1 .0, (record { pos = 6; st = List.[]; d = 0; at = λ x. x }, tt),),),)
           (m2 (c .before .before) (c .before .set-pending-arg .given)) (c .set-pending)
       abbrev pub m4 : (before : After-set-pending-arg) → (given : s3 .gives (m2 (before .before) (before .set-pending-arg .given))) → Typed.Mo T6
       m4 = λ before given. s4 (m3 before given)
@@ -794,69 +862,72 @@ module _ (claims· : Claims) where
       m9 = λ before given. s12 .next (m8 (before .before) (before .put-circuit-arg .given)) given
       module _ (before· : After-put-circuit-arg) where
         abbrev pub After-put-circuit·own : Type 0
-        After-put-circuit·own = Called.Called ps·1 r·1 (claims· .3) T13 (record { pos = 11; ty = Syntax.tyRef Syntax.erased Syntax.mut
-            RelayCircuit.to; ref = λ x. x; }, (Bool.bFld 4 ((Syntax.field 0) ∷ List.[]) 0 λ x. AcceptPlan.struct .as-values x .0, (Num.vFld 4
-            ((Syntax.field 2) ∷ List.[]) 16 λ x. AcceptPlan.struct .as-values x .1 .1 .0, (record { pos = 6; st = List.[]; d = 0; at = λ x. x },
-            tt),),),) (m8 (before· .before) (before· .put-circuit-arg .given))
+        After-put-circuit·own = Called.Called ps·1 r·1 (claims· .3) T13 (record { pos = 13; ty = Syntax.tyRef Syntax.erased Syntax.mut
+            RelayCircuit.to; ref = λ x. x; }, (record { pos = 4; st = List.[]; d = 0; at = λ x. x }, (Bool.bFld 5 ((Syntax.field 0) ∷ List.[]) 0 λ x.
+            AcceptPlan.struct .as-values x .0, (Num.vFld 5 ((Syntax.field 2) ∷ List.[]) 16 λ x. AcceptPlan.struct .as-values x .1 .1 .0, (record { pos
+            = 7; st = List.[]; d = 0; at = λ x. x }, tt),),),),) (m8 (before· .before) (before· .put-circuit-arg .given))
       pub record After-put-circuit : Type 0 where
         pub before : After-put-circuit-arg
         pub put-circuit : After-put-circuit·own before
       abbrev pub After-put-circuit·gave : (c : After-put-circuit) → s12 .gives (m8 (c .before .before) (c .before .put-circuit-arg .given))
-      After-put-circuit·gave = λ c. Called.given ps·1 r·1 (claims· .3) T13 (record { pos = 11; ty = Syntax.tyRef Syntax.erased Syntax.mut
-          RelayCircuit.to; ref = λ x. x; }, (Bool.bFld 4 ((Syntax.field 0) ∷ List.[]) 0 λ x. AcceptPlan.struct .as-values x .0, (Num.vFld 4
-          ((Syntax.field 2) ∷ List.[]) 16 λ x. AcceptPlan.struct .as-values x .1 .1 .0, (record { pos = 6; st = List.[]; d = 0; at = λ x. x },
-          tt),),),) (m8 (c .before .before) (c .before .put-circuit-arg .given)) (c .put-circuit)
+      After-put-circuit·gave = λ c. Called.given ps·1 r·1 (claims· .3) T13 (record { pos = 13; ty = Syntax.tyRef Syntax.erased Syntax.mut
+          RelayCircuit.to; ref = λ x. x; }, (record { pos = 4; st = List.[]; d = 0; at = λ x. x }, (Bool.bFld 5 ((Syntax.field 0) ∷ List.[]) 0 λ x.
+          AcceptPlan.struct .as-values x .0, (Num.vFld 5 ((Syntax.field 2) ∷ List.[]) 16 λ x. AcceptPlan.struct .as-values x .1 .1 .0, (record { pos =
+          7; st = List.[]; d = 0; at = λ x. x }, tt),),),),) (m8 (c .before .before) (c .before .put-circuit-arg .given)) (c .put-circuit)
       abbrev pub m10 : (before : After-put-circuit-arg) → (given : s12 .gives (m8 (before .before) (before .put-circuit-arg .given))) → Typed.Mo T15
       m10 = λ before given. s13 (m9 before given)
-      abbrev pub m11 : (before : After-put-circuit-arg) → (given : s12 .gives (m8 (before .before) (before .put-circuit-arg .given))) → Typed.Mo T16
-      m11 = λ before given. s14 (m10 before given)
-      abbrev pub m12 : (before : After-put-circuit) → (given : s16 .gives (m11 (before .before) (After-put-circuit·gave before))) → Typed.Mo T18
-      m12 = λ before given. s16 .next (m11 (before .before) (After-put-circuit·gave before)) given
+      abbrev pub m11 : (before : After-put-circuit) → (given : s15 .gives (m10 (before .before) (After-put-circuit·gave before))) → Typed.Mo T17
+      m11 = λ before given. s15 .next (m10 (before .before) (After-put-circuit·gave before)) given
       module _ (before· : After-put-circuit) where
         pub record After-circuits·own : Type 0 where
-          pub given : s16 .gives (m11 (before· .before) (After-put-circuit·gave before·))
+          pub given : s15 .gives (m10 (before· .before) (After-put-circuit·gave before·))
       pub record After-circuits : Type 0 where
         pub before : After-put-circuit
         pub circuits : After-circuits·own before
-      abbrev pub m13 : (before : After-circuits) → (given : s19 .gives (m12 (before .before) (before .circuits .given))) → Typed.Mo T21
-      m13 = λ before given. s19 .next (m12 (before .before) (before .circuits .given)) given
-      abbrev pub m14 : (before : After-circuits) → (given : s19 .gives (m12 (before .before) (before .circuits .given))) → Typed.Mo T22
-      m14 = λ before given. s20 .next (m13 before given)
+      abbrev pub m12 : (before : After-circuits) → (given : s18 .gives (m11 (before .before) (before .circuits .given))) → Typed.Mo T20
+      m12 = λ before given. s18 .next (m11 (before .before) (before .circuits .given)) given
+      abbrev pub m13 : (before : After-circuits) → (given : s18 .gives (m11 (before .before) (before .circuits .given))) → Typed.Mo T21
+      m13 = λ before given. s19 .next (m12 before given)
       module _ (before· : After-circuits) where
         pub record After-drop-actions-arg·own : Type 0 where
-          pub given : s19 .gives (m12 (before· .before) (before· .circuits .given))
+          pub given : s18 .gives (m11 (before· .before) (before· .circuits .given))
       pub record After-drop-actions-arg : Type 0 where
         pub before : After-circuits
         pub drop-actions-arg : After-drop-actions-arg·own before
       abbrev pub Need-drop-actions-requires : Type 0
-      Need-drop-actions-requires = (c : After-drop-actions-arg) → s21 .asks (m14 (c .before) (c .drop-actions-arg .given))
-      abbrev pub m15 : (before : After-drop-actions-arg) → (given : s21 .gives (m14 (before .before) (before .drop-actions-arg .given))) → Typed.Mo
-          T23
-      m15 = λ before given. s21 .next (m14 (before .before) (before .drop-actions-arg .given)) given
+      Need-drop-actions-requires = (c : After-drop-actions-arg) → s20 .asks (m13 (c .before) (c .drop-actions-arg .given))
+      abbrev pub m14 : (before : After-drop-actions-arg) → (given : s20 .gives (m13 (before .before) (before .drop-actions-arg .given))) → Typed.Mo
+          T22
+      m14 = λ before given. s20 .next (m13 (before .before) (before .drop-actions-arg .given)) given
       module _ (before· : After-drop-actions-arg) where
         abbrev pub After-drop-actions·own : Type 0
-        After-drop-actions·own = Called.Called ps·2 r·2 (claims· .5) T22 (record { pos = 13; ty = Syntax.tyRef Syntax.erased Syntax.mut
-            InflightAction.to; ref = λ x. x; }, (Bool.bFld 4 ((Syntax.field 0) ∷ List.[]) 0 λ x. AcceptPlan.struct .as-values x .0, (Num.vFld 4
-            ((Syntax.field 2) ∷ List.[]) 16 λ x. AcceptPlan.struct .as-values x .1 .1 .0, tt,),),) (m14 (before· .before) (before· .drop-actions-arg
-            .given))
+        After-drop-actions·own = Called.Called ps·2 r·2 (claims· .5) T21 (record { pos = 15; ty = Syntax.tyRef Syntax.erased Syntax.mut
+            InflightAction.to; ref = λ x. x; }, (record { pos = 4; st = List.[]; d = 0; at = λ x. x }, (Bool.bFld 5 ((Syntax.field 0) ∷ List.[]) 0 λ
+            x. AcceptPlan.struct .as-values x .0, (Num.vFld 5 ((Syntax.field 2) ∷ List.[]) 16 λ x. AcceptPlan.struct .as-values x .1 .1 .0, tt,),),),)
+            (m13 (before· .before) (before· .drop-actions-arg .given))
       pub record After-drop-actions : Type 0 where
         pub before : After-drop-actions-arg
         pub drop-actions : After-drop-actions·own before
-      abbrev pub After-drop-actions·gave : (c : After-drop-actions) → s21 .gives (m14 (c .before .before) (c .before .drop-actions-arg .given))
-      After-drop-actions·gave = λ c. Called.given ps·2 r·2 (claims· .5) T22 (record { pos = 13; ty = Syntax.tyRef Syntax.erased Syntax.mut
-          InflightAction.to; ref = λ x. x; }, (Bool.bFld 4 ((Syntax.field 0) ∷ List.[]) 0 λ x. AcceptPlan.struct .as-values x .0, (Num.vFld 4
-          ((Syntax.field 2) ∷ List.[]) 16 λ x. AcceptPlan.struct .as-values x .1 .1 .0, tt,),),) (m14 (c .before .before) (c .before .drop-actions-arg
-          .given)) (c .drop-actions)
-      abbrev pub m16 : (before : After-drop-actions-arg) → (given : s21 .gives (m14 (before .before) (before .drop-actions-arg .given))) → Typed.Mo
+      abbrev pub After-drop-actions·gave : (c : After-drop-actions) → s20 .gives (m13 (c .before .before) (c .before .drop-actions-arg .given))
+      After-drop-actions·gave = λ c. Called.given ps·2 r·2 (claims· .5) T21 (record { pos = 15; ty = Syntax.tyRef Syntax.erased Syntax.mut
+          InflightAction.to; ref = λ x. x; }, (record { pos = 4; st = List.[]; d = 0; at = λ x. x }, (Bool.bFld 5 ((Syntax.field 0) ∷ List.[]) 0 λ x.
+          AcceptPlan.struct .as-values x .0, (Num.vFld 5 ((Syntax.field 2) ∷ List.[]) 16 λ x. AcceptPlan.struct .as-values x .1 .1 .0, tt,),),),) (m13
+          (c .before .before) (c .before .drop-actions-arg .given)) (c .drop-actions)
+      abbrev pub m15 : (before : After-drop-actions-arg) → (given : s20 .gives (m13 (before .before) (before .drop-actions-arg .given))) → Typed.Mo
+          T23
+      m15 = λ before given. s21 (m14 before given)
+      abbrev pub m16 : (before : After-drop-actions-arg) → (given : s20 .gives (m13 (before .before) (before .drop-actions-arg .given))) → Typed.Mo
           T24
       m16 = λ before given. s22 (m15 before given)
-      abbrev pub m17 : (before : After-drop-actions-arg) → (given : s21 .gives (m14 (before .before) (before .drop-actions-arg .given))) → Typed.Mo
+      abbrev pub m17 : (before : After-drop-actions-arg) → (given : s20 .gives (m13 (before .before) (before .drop-actions-arg .given))) → Typed.Mo
           T25
       m17 = λ before given. s23 (m16 before given)
       abbrev pub m18 : (before : After-drop-actions) → (given : s25 .gives (m17 (before .before) (After-drop-actions·gave before))) → Typed.Mo T27
       m18 = λ before given. s25 .next (m17 (before .before) (After-drop-actions·gave before)) given
       abbrev pub m19 : (before : After-drop-actions) → (given : s25 .gives (m17 (before .before) (After-drop-actions·gave before))) → Typed.Mo T29
       m19 = λ before given. s27 (m18 before given)
+      abbrev pub m20 : (before : After-drop-actions) → (given : s25 .gives (m17 (before .before) (After-drop-actions·gave before))) → Typed.Mo T30
+      m20 = λ before given. s28 (m19 before given)
       module _ (before· : After-drop-actions) where
         pub record After-inflight·own : Type 0 where
           pub given : s25 .gives (m17 (before· .before) (After-drop-actions·gave before·))
@@ -864,76 +935,77 @@ module _ (claims· : Claims) where
         pub before : After-drop-actions
         pub inflight : After-inflight·own before
       abbrev pub Need-same-length : Type 0
-      Need-same-length = (c : After-inflight) → MutSlice.SameLen (Row.get 1 (T29 .locals) (m19 (c .before) (c .inflight .given))) (dens (c .before
+      Need-same-length = (c : After-inflight) → MutSlice.SameLen (Row.get 1 (T30 .locals) (m20 (c .before) (c .inflight .given))) (dens (c .before
           .before .before .before .before .before .before .before .before .κs) (c .before .before .before .before .before .before .before .before
           .before .args) .0)
       abbrev pub Need-same-length-2 : Type 0
-      Need-same-length-2 = (c : After-inflight) → MutSlice.SameLen (Row.get 2 (T29 .locals) (m19 (c .before) (c .inflight .given))) (dens (c .before
+      Need-same-length-2 = (c : After-inflight) → MutSlice.SameLen (Row.get 2 (T30 .locals) (m20 (c .before) (c .inflight .given))) (dens (c .before
           .before .before .before .before .before .before .before .before .κs) (c .before .before .before .before .before .before .before .before
           .before .args) .1 .0)
       abbrev pub Need-same-length-3 : Type 0
-      Need-same-length-3 = (c : After-inflight) → MutSlice.SameLen (Row.get 3 (T29 .locals) (m19 (c .before) (c .inflight .given))) (dens (c .before
+      Need-same-length-3 = (c : After-inflight) → MutSlice.SameLen (Row.get 3 (T30 .locals) (m20 (c .before) (c .inflight .given))) (dens (c .before
           .before .before .before .before .before .before .before .before .κs) (c .before .before .before .before .before .before .before .before
           .before .args) .1 .1 .0)
       abbrev pub Need-returns : Type 0
       Need-returns = (c : After-inflight) → Post· (c .before .before .before .before .before .before .before .before .before .κs) (dens (c .before
           .before .before .before .before .before .before .before .before .κs) (c .before .before .before .before .before .before .before .before
-          .before .args)) (Function.resV r (c .before .before .before .before .before .before .before .before .before .κs) (m19 (c .before) (c
+          .before .args)) (Function.resV r (c .before .before .before .before .before .before .before .before .before .κs) (m20 (c .before) (c
           .inflight .given) .0)) (Clauses.atExit (Kinds.endedOf 3 ps r) (c .before .before .before .before .before .before .before .before .before
           .κs) (dens (c .before .before .before .before .before .before .before .before .before .κs) (c .before .before .before .before .before
           .before .before .before .before .args)) (Enter.lastsP (c .before .before .before .before .before .before .before .before .before .κs) 1 ps
           xs (dens (c .before .before .before .before .before .before .before .before .before .κs) (c .before .before .before .before .before .before
-          .before .before .before .args)) (m19 (c .before) (c .inflight .given) .1)))
+          .before .before .before .args)) (m20 (c .before) (c .inflight .given) .1)))
       module _ (set-pending-requires : Need-set-pending-requires) (put-circuit-requires : Need-put-circuit-requires) (drop-actions-requires :
           Need-drop-actions-requires) (same-length : Need-same-length) (same-length-2 : Need-same-length-2) (same-length-3 : Need-same-length-3)
           (returns : Need-returns) where
-        lay3 : (c : After-drop-actions) → at6 (W0 (c .before .before .before .before .before .before .before .before .κs) (c .before .before .before
-            .before .before .before .before .before .args)) (m15 (c .before) (After-drop-actions·gave c))
-        lay3 = λ c. (Path.refl, λ g. ((MutSlice.fix-len (Row.get 1 (T29 .locals) (m19 record { before = c .before; drop-actions = c .drop-actions; }
-            g) .ptr) (Row.get 1 (T29 .locals) (m19 record { before = c .before; drop-actions = c .drop-actions; } g) .name) (Row.get 1 (T29 .locals)
-            (m19 record { before = c .before; drop-actions = c .drop-actions; } g) .now) (dens (c .before .before .before .before .before .before
+        lay3 : (c : After-drop-actions) → at8 (W0 (c .before .before .before .before .before .before .before .before .κs) (c .before .before .before
+            .before .before .before .before .before .args)) (m14 (c .before) (After-drop-actions·gave c))
+        lay3 = λ c. (Path.refl, λ g. ((MutSlice.fix-len (Row.get 1 (T30 .locals) (m20 record { before = c .before; drop-actions = c .drop-actions; }
+            g) .ptr) (Row.get 1 (T30 .locals) (m20 record { before = c .before; drop-actions = c .drop-actions; } g) .name) (Row.get 1 (T30 .locals)
+            (m20 record { before = c .before; drop-actions = c .drop-actions; } g) .now) (dens (c .before .before .before .before .before .before
             .before .before .κs) (c .before .before .before .before .before .before .before .before .args) .0 .now) (same-length record { before =
-            record { before = c .before; drop-actions = c .drop-actions }; inflight = record { given = g }; }), (MutSlice.fix-len (Row.get 2 (T29
-            .locals) (m19 record { before = c .before; drop-actions = c .drop-actions; } g) .ptr) (Row.get 2 (T29 .locals) (m19 record { before = c
-            .before; drop-actions = c .drop-actions; } g) .name) (Row.get 2 (T29 .locals) (m19 record { before = c .before; drop-actions = c
+            record { before = c .before; drop-actions = c .drop-actions }; inflight = record { given = g }; }), (MutSlice.fix-len (Row.get 2 (T30
+            .locals) (m20 record { before = c .before; drop-actions = c .drop-actions; } g) .ptr) (Row.get 2 (T30 .locals) (m20 record { before = c
+            .before; drop-actions = c .drop-actions; } g) .name) (Row.get 2 (T30 .locals) (m20 record { before = c .before; drop-actions = c
             .drop-actions; } g) .now) (dens (c .before .before .before .before .before .before .before .before .κs) (c .before .before .before .before
             .before .before .before .before .args) .1 .0 .now) (same-length-2 record { before = record { before = c .before; drop-actions = c
-            .drop-actions }; inflight = record { given = g }; }), (MutSlice.fix-len (Row.get 3 (T29 .locals) (m19 record { before = c .before;
-            drop-actions = c .drop-actions; } g) .ptr) (Row.get 3 (T29 .locals) (m19 record { before = c .before; drop-actions = c .drop-actions; } g)
-            .name) (Row.get 3 (T29 .locals) (m19 record { before = c .before; drop-actions = c .drop-actions; } g) .now) (dens (c .before .before
+            .drop-actions }; inflight = record { given = g }; }), (MutSlice.fix-len (Row.get 3 (T30 .locals) (m20 record { before = c .before;
+            drop-actions = c .drop-actions; } g) .ptr) (Row.get 3 (T30 .locals) (m20 record { before = c .before; drop-actions = c .drop-actions; } g)
+            .name) (Row.get 3 (T30 .locals) (m20 record { before = c .before; drop-actions = c .drop-actions; } g) .now) (dens (c .before .before
             .before .before .before .before .before .before .κs) (c .before .before .before .before .before .before .before .before .args) .1 .1 .0
             .now) (same-length-3 record { before = record { before = c .before; drop-actions = c .drop-actions }; inflight = record { given = g }; }),
-            (tt, (tt, (tt, tt))),),),), returns record { before = record { before = c .before; drop-actions = c .drop-actions }; inflight = record {
-            given = g }; },),)
-        lay2 : (c : After-put-circuit) → at15 (W0 (c .before .before .before .before .before .κs) (c .before .before .before .before .before .args))
+            (tt, (tt, (tt, (tt, tt)))),),),), returns record { before = record { before = c .before; drop-actions = c .drop-actions }; inflight =
+            record { given = g }; },),)
+        lay2 : (c : After-put-circuit) → at16 (W0 (c .before .before .before .before .before .κs) (c .before .before .before .before .before .args))
             (m9 (c .before) (After-put-circuit·gave c))
         lay2 = λ c. (Path.refl, λ g. λ g'. (Path.refl, (drop-actions-requires record { before = record { before = record { before = c .before;
             put-circuit = c .put-circuit }; circuits = record { given = g }; }; drop-actions-arg = record { given = g' }; }, λ g''. lay3 record {
             before = record { before = record { before = record { before = c .before; put-circuit = c .put-circuit }; circuits = record { given = g };
-            }; drop-actions-arg = record { given = g' }; }; drop-actions = Called.called ps·2 r·2 (claims· .5) T22 (record { pos = 13; ty =
-            Syntax.tyRef Syntax.erased Syntax.mut InflightAction.to; ref = λ x. x; }, (Bool.bFld 4 ((Syntax.field 0) ∷ List.[]) 0 λ x.
-            AcceptPlan.struct .as-values x .0, (Num.vFld 4 ((Syntax.field 2) ∷ List.[]) 16 λ x. AcceptPlan.struct .as-values x .1 .1 .0, tt,),),) (m14
-            record { before = record { before = c .before; put-circuit = c .put-circuit }; circuits = record { given = g }; } g') g''; },),),)
-        lay1 : (c : After-set-pending) → at24 (W0 (c .before .before .κs) (c .before .before .args)) (m3 (c .before) (After-set-pending·gave c))
+            }; drop-actions-arg = record { given = g' }; }; drop-actions = Called.called ps·2 r·2 (claims· .5) T21 (record { pos = 15; ty =
+            Syntax.tyRef Syntax.erased Syntax.mut InflightAction.to; ref = λ x. x; }, (record { pos = 4; st = List.[]; d = 0; at = λ x. x },
+            (Bool.bFld 5 ((Syntax.field 0) ∷ List.[]) 0 λ x. AcceptPlan.struct .as-values x .0, (Num.vFld 5 ((Syntax.field 2) ∷ List.[]) 16 λ x.
+            AcceptPlan.struct .as-values x .1 .1 .0, tt,),),),) (m13 record { before = record { before = c .before; put-circuit = c .put-circuit };
+            circuits = record { given = g }; } g') g''; },),),)
+        lay1 : (c : After-set-pending) → at25 (W0 (c .before .before .κs) (c .before .before .args)) (m3 (c .before) (After-set-pending·gave c))
         lay1 = λ c. (Path.refl, λ g. λ g'. (Path.refl, (put-circuit-requires record { before = record { before = record { before = c .before;
             set-pending = c .set-pending }; pending = record { given = g }; }; put-circuit-arg = record { given = g' }; }, λ g''. lay2 record { before
             = record { before = record { before = record { before = c .before; set-pending = c .set-pending }; pending = record { given = g }; };
-            put-circuit-arg = record { given = g' }; }; put-circuit = Called.called ps·1 r·1 (claims· .3) T13 (record { pos = 11; ty = Syntax.tyRef
-            Syntax.erased Syntax.mut RelayCircuit.to; ref = λ x. x; }, (Bool.bFld 4 ((Syntax.field 0) ∷ List.[]) 0 λ x. AcceptPlan.struct .as-values x
-            .0, (Num.vFld 4 ((Syntax.field 2) ∷ List.[]) 16 λ x. AcceptPlan.struct .as-values x .1 .1 .0, (record { pos = 6; st = List.[]; d = 0; at =
-            λ x. x }, tt),),),) (m8 record { before = record { before = c .before; set-pending = c .set-pending }; pending = record { given = g }; }
-            g') g''; },),),)
-        pub laid : (c : Start) → at28 (W0 (c .κs) (c .args)) (m0 (c .κs) (c .args))
+            put-circuit-arg = record { given = g' }; }; put-circuit = Called.called ps·1 r·1 (claims· .3) T13 (record { pos = 13; ty = Syntax.tyRef
+            Syntax.erased Syntax.mut RelayCircuit.to; ref = λ x. x; }, (record { pos = 4; st = List.[]; d = 0; at = λ x. x }, (Bool.bFld 5
+            ((Syntax.field 0) ∷ List.[]) 0 λ x. AcceptPlan.struct .as-values x .0, (Num.vFld 5 ((Syntax.field 2) ∷ List.[]) 16 λ x. AcceptPlan.struct
+            .as-values x .1 .1 .0, (record { pos = 7; st = List.[]; d = 0; at = λ x. x }, tt),),),),) (m8 record { before = record { before = c
+            .before; set-pending = c .set-pending }; pending = record { given = g }; } g') g''; },),),)
+        pub laid : (c : Start) → at29 (W0 (c .κs) (c .args)) (m0 (c .κs) (c .args))
         laid = λ c. λ g. (Path.refl, (set-pending-requires record { before = c; set-pending-arg = record { given = g } }, λ g'. lay1 record { before =
-            record { before = c; set-pending-arg = record { given = g } }; set-pending = Called.called ps·0 r·0 (claims· .1) T4 (record { pos = 9; ty
-            = Syntax.tyRef Syntax.erased Syntax.mut RelayPending.to; ref = λ x. x; }, (Bool.bFld 4 ((Syntax.field 0) ∷ List.[]) 0 λ x.
-            AcceptPlan.struct .as-values x .0, (Num.vFld 4 ((Syntax.field 1) ∷ List.[]) 8 λ x. AcceptPlan.struct .as-values x .1 .0, (record { pos =
-            5; st = List.[]; d = 0; at = λ x. x }, tt),),),) (m2 c g) g'; },),)
+            record { before = c; set-pending-arg = record { given = g } }; set-pending = Called.called ps·0 r·0 (claims· .1) T4 (record { pos = 11; ty
+            = Syntax.tyRef Syntax.erased Syntax.mut RelayPending.to; ref = λ x. x; }, (Bool.bFld 5 ((Syntax.field 0) ∷ List.[]) 0 λ x.
+            AcceptPlan.struct .as-values x .0, (Num.vFld 5 ((Syntax.field 1) ∷ List.[]) 8 λ x. AcceptPlan.struct .as-values x .1 .0, (record { pos =
+            6; st = List.[]; d = 0; at = λ x. x }, tt),),),) (m2 c g) g'; },),)
         module _ (κs : Lifetimes.Lfts 3) (qs : Lifetimes.Shares 3) where
           pub asked : (a : Kinds.Dens κs ps) → (good : Kinds.GoodsP κs ps a) → (pre : Pre· κs a) → (bs : List.List Nat.ℕ) → Φ (Any.wantQ 3 ps r xs m
               κs qs a (Post· κs a)) (Function.init 3 ps r xs m κs qs a)
-          asked = λ a good pre bs. laid record { κs = κs; args = record { pending = a .0; circuits = a .1 .0; inflight = a .1 .1 .0; plan = a .1 .1 .1
-              .0; unmarked = a .1 .1 .1 .1 .0; circuit = a .1 .1 .1 .1 .1 .0; }; good = good; pre = pre; }
+          asked = λ a good pre bs. laid record { κs = κs; args = record { pending = a .0; circuits = a .1 .0; inflight = a .1 .1 .0; places = a .1 .1
+              .1 .0; plan = a .1 .1 .1 .1 .0; unmarked = a .1 .1 .1 .1 .1 .0; circuit = a .1 .1 .1 .1 .1 .1 .0; }; good = good; pre = pre; }
         module _ { M : Type 1 } (𝓤 : URA.URA M) (H : Wp.Heap 𝓤) (A : Atoms.Atoms 𝓤) (W : Kit.Given 𝓤 H A) (𝓣 : Wp.Tables 𝓤 H) (known0 : Plain.Known 𝓤
             H A W 𝓣 1 ps·0 r·0 (claims· .0) (claims· .1) "hnsr_circuit::tables::pending::set_pending") (known1 : Plain.Known 𝓤 H A W 𝓣 1 ps·1 r·1
             (claims· .2) (claims· .3) "hnsr_circuit::handle_accept::put_circuit") (known2 : Plain.Known 𝓤 H A W 𝓣 1 ps·2 r·2 (claims· .4) (claims· .5)

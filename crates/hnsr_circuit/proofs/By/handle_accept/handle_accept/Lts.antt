@@ -13,18 +13,20 @@ use Rattle.hnsr_circuit.proofs.answer.HnsrAnswer
 use Rattle.hnsr_circuit.proofs.answer.HnsrAnswer.Laws as Laws'''
 use Rattle.hnsr_circuit.proofs.config.OpaqueRelayConfig
 use Rattle.hnsr_circuit.proofs.config.OpaqueRelayConfig.Laws as Laws''''
+use Rattle.hnsr_circuit.proofs.places.Places
+use Rattle.hnsr_circuit.proofs.places.Places.Laws as Laws'''''
 use Rattle.hnsr_circuit.proofs.records.Outgoing
-use Rattle.hnsr_circuit.proofs.records.Outgoing.Laws as Laws'''''
+use Rattle.hnsr_circuit.proofs.records.Outgoing.Laws as Laws''''''
 use Rattle.hnsr_circuit.proofs.records.PendingFound
-use Rattle.hnsr_circuit.proofs.records.PendingFound.Laws as Laws''''''
+use Rattle.hnsr_circuit.proofs.records.PendingFound.Laws as Laws'''''''
 use Rattle.hnsr_circuit.proofs.records.Question
-use Rattle.hnsr_circuit.proofs.records.Question.Laws as Laws'''''''
+use Rattle.hnsr_circuit.proofs.records.Question.Laws as Laws''''''''
 use Rattle.hnsr_circuit.proofs.records.RelayPacket
-use Rattle.hnsr_circuit.proofs.records.RelayPacket.Laws as Laws''''''''
+use Rattle.hnsr_circuit.proofs.records.RelayPacket.Laws as Laws'''''''''
 use Rattle.hnsr_circuit.proofs.runtime.OpaqueRelayRuntime
-use Rattle.hnsr_circuit.proofs.runtime.OpaqueRelayRuntime.Laws as Laws'''''''''
+use Rattle.hnsr_circuit.proofs.runtime.OpaqueRelayRuntime.Laws as Laws''''''''''
 use Rattle.hnsr_circuit.proofs.runtime.Relayed
-use Rattle.hnsr_circuit.proofs.runtime.Relayed.Laws as Laws''''''''''
+use Rattle.hnsr_circuit.proofs.runtime.Relayed.Laws as Laws'''''''''''
 use borrow.Author.Called
 use borrow.Fn.Any
 use borrow.Fn.Call
@@ -36,7 +38,6 @@ use borrow.Fn.Plain
 use borrow.Kind.MutSlice
 use borrow.Kind.Num
 use borrow.Kind.ShrSlice
-use borrow.Kind.Unit
 use borrow.Kind.Value
 use borrow.Rule.DerefMove
 use borrow.Rule.Lifetime
@@ -63,11 +64,11 @@ use borrow.Table.Rows
 use borrow.Table.Typed
 use contract.Lifetimes
 use denote.Enum.Declared
-use denote.Enum.Laws as Laws'''''''''''
+use denote.Enum.Laws as Laws''''''''''''
 use denote.Exit
 use denote.Struct.At
 use denote.Struct.Declared as Declared'
-use denote.Struct.Laws as Laws''''''''''''
+use denote.Struct.Laws as Laws'''''''''''''
 use denote.Triple.Clauses
 use denote.Triple.Statement
 use ghost.Atoms
@@ -110,368 +111,418 @@ ref12 = Syntax.tyRef (Syntax.named 5) Syntax.imm (Syntax.tyInt Syntax.w8)
 abbrev pub ps : List.List (Kinds.PK 6)
 ps = (MutSlice.pMutS RelayPending.row 0 tt) ∷ (MutSlice.pMutS RelayCircuit.row 1 tt) ∷ (MutSlice.pMutS InflightAction.row 2 tt) ∷ (MutSlice.pMutS
     (Referent.rtF (Referent.fInt Syntax.w32)) 3 tt) ∷ (Value.pVal record { ty = Declared'.row OpaqueRelayRuntime.the-type; one = Path.refl; val =
-    Laws''''''''''''.val OpaqueRelayRuntime.the-type Laws'''''''''.the-laws; tells = Laws''''''''''''.tells OpaqueRelayRuntime.the-type
-    Laws'''''''''.the-laws; still = Laws''''''''''''.still OpaqueRelayRuntime.the-type Laws'''''''''.the-copy Exit.yes; row = Rows.whole
-    (Declared'.row OpaqueRelayRuntime.the-type); rd = λ x. x; mk = λ x. x; } λ M 𝓤 H A W. record { copies = Laws''''''''''''.copy
-    OpaqueRelayRuntime.the-type Laws'''''''''.the-copy 𝓤 H A W; lawful = Laws''''''''''''.lawful OpaqueRelayRuntime.the-type Laws'''''''''.the-laws 𝓤
-    H A W; makes = Laws''''''''''''.makes OpaqueRelayRuntime.the-type Laws'''''''''.the-plain 𝓤 H A; in-mem = Local.mem-whole 𝓤 H A W (Declared'.row
-    OpaqueRelayRuntime.the-type); of-mem = Local.whole-mem 𝓤 H A W (Declared'.row OpaqueRelayRuntime.the-type); }) ∷ (Value.pVal record { ty =
-    Declared'.row RelayPacket.the-type; one = Path.refl; val = Laws''''''''''''.val RelayPacket.the-type Laws''''''''.the-laws; tells =
-    Laws''''''''''''.tells RelayPacket.the-type Laws''''''''.the-laws; still = Laws''''''''''''.still RelayPacket.the-type Laws''''''''.the-copy
-    Exit.yes; row = Rows.whole (Declared'.row RelayPacket.the-type); rd = λ x. x; mk = λ x. x; } λ M 𝓤 H A W. record { copies = Laws''''''''''''.copy
-    RelayPacket.the-type Laws''''''''.the-copy 𝓤 H A W; lawful = Laws''''''''''''.lawful RelayPacket.the-type Laws''''''''.the-laws 𝓤 H A W; makes =
-    Laws''''''''''''.makes RelayPacket.the-type Laws''''''''.the-plain 𝓤 H A; in-mem = Local.mem-whole 𝓤 H A W (Declared'.row RelayPacket.the-type);
-    of-mem = Local.whole-mem 𝓤 H A W (Declared'.row RelayPacket.the-type); }) ∷ (ShrSlice.pShrS (Referent.rtF (Referent.fInt Syntax.w8)) 4 tt) ∷
-    (ShrSlice.pShrS (Referent.rtF (Referent.fInt Syntax.w8)) 5 tt) ∷ List.[]
+    Laws'''''''''''''.val OpaqueRelayRuntime.the-type Laws''''''''''.the-laws; tells = Laws'''''''''''''.tells OpaqueRelayRuntime.the-type
+    Laws''''''''''.the-laws; still = Laws'''''''''''''.still OpaqueRelayRuntime.the-type Laws''''''''''.the-copy Exit.yes; row = Rows.whole
+    (Declared'.row OpaqueRelayRuntime.the-type); rd = λ x. x; mk = λ x. x; } λ M 𝓤 H A W. record { copies = Laws'''''''''''''.copy
+    OpaqueRelayRuntime.the-type Laws''''''''''.the-copy 𝓤 H A W; lawful = Laws'''''''''''''.lawful OpaqueRelayRuntime.the-type Laws''''''''''.the-laws
+    𝓤 H A W; makes = Laws'''''''''''''.makes OpaqueRelayRuntime.the-type Laws''''''''''.the-plain 𝓤 H A; in-mem = Local.mem-whole 𝓤 H A W
+    (Declared'.row OpaqueRelayRuntime.the-type); of-mem = Local.whole-mem 𝓤 H A W (Declared'.row OpaqueRelayRuntime.the-type); }) ∷ (Value.pVal record
+    { ty = Declared'.row Places.the-type; one = Path.refl; val = Laws'''''''''''''.val Places.the-type Laws'''''.the-laws; tells =
+    Laws'''''''''''''.tells Places.the-type Laws'''''.the-laws; still = Laws'''''''''''''.still Places.the-type Laws'''''.the-copy Exit.yes; row =
+    Rows.whole (Declared'.row Places.the-type); rd = λ x. x; mk = λ x. x; } λ M 𝓤 H A W. record { copies = Laws'''''''''''''.copy Places.the-type
+    Laws'''''.the-copy 𝓤 H A W; lawful = Laws'''''''''''''.lawful Places.the-type Laws'''''.the-laws 𝓤 H A W; makes = Laws'''''''''''''.makes
+    Places.the-type Laws'''''.the-plain 𝓤 H A; in-mem = Local.mem-whole 𝓤 H A W (Declared'.row Places.the-type); of-mem = Local.whole-mem 𝓤 H A W
+    (Declared'.row Places.the-type); }) ∷ (Value.pVal record { ty = Declared'.row RelayPacket.the-type; one = Path.refl; val = Laws'''''''''''''.val
+    RelayPacket.the-type Laws'''''''''.the-laws; tells = Laws'''''''''''''.tells RelayPacket.the-type Laws'''''''''.the-laws; still =
+    Laws'''''''''''''.still RelayPacket.the-type Laws'''''''''.the-copy Exit.yes; row = Rows.whole (Declared'.row RelayPacket.the-type); rd = λ x. x;
+    mk = λ x. x; } λ M 𝓤 H A W. record { copies = Laws'''''''''''''.copy RelayPacket.the-type Laws'''''''''.the-copy 𝓤 H A W; lawful =
+    Laws'''''''''''''.lawful RelayPacket.the-type Laws'''''''''.the-laws 𝓤 H A W; makes = Laws'''''''''''''.makes RelayPacket.the-type
+    Laws'''''''''.the-plain 𝓤 H A; in-mem = Local.mem-whole 𝓤 H A W (Declared'.row RelayPacket.the-type); of-mem = Local.whole-mem 𝓤 H A W
+    (Declared'.row RelayPacket.the-type); }) ∷ (ShrSlice.pShrS (Referent.rtF (Referent.fInt Syntax.w8)) 4 tt) ∷ (ShrSlice.pShrS (Referent.rtF
+    (Referent.fInt Syntax.w8)) 5 tt) ∷ List.[]
 abbrev pub r : Kinds.RK 6
-r = Value.rVal record { ty = Declared'.row Relayed.the-type; one = Path.refl; val = Laws''''''''''''.val Relayed.the-type Laws''''''''''.the-laws;
-    tells = Laws''''''''''''.tells Relayed.the-type Laws''''''''''.the-laws; still = Laws''''''''''''.still Relayed.the-type Laws''''''''''.the-copy
-    Exit.yes; row = Rows.whole (Declared'.row Relayed.the-type); rd = λ x. x; mk = λ x. x; } λ M 𝓤 H A W. record { copies = Laws''''''''''''.copy
-    Relayed.the-type Laws''''''''''.the-copy 𝓤 H A W; lawful = Laws''''''''''''.lawful Relayed.the-type Laws''''''''''.the-laws 𝓤 H A W; makes =
-    Laws''''''''''''.makes Relayed.the-type Laws''''''''''.the-plain 𝓤 H A; in-mem = Local.mem-whole 𝓤 H A W (Declared'.row Relayed.the-type); of-mem
-    = Local.whole-mem 𝓤 H A W (Declared'.row Relayed.the-type); }
+r = Value.rVal record { ty = Declared'.row Relayed.the-type; one = Path.refl; val = Laws'''''''''''''.val Relayed.the-type Laws'''''''''''.the-laws;
+    tells = Laws'''''''''''''.tells Relayed.the-type Laws'''''''''''.the-laws; still = Laws'''''''''''''.still Relayed.the-type
+    Laws'''''''''''.the-copy Exit.yes; row = Rows.whole (Declared'.row Relayed.the-type); rd = λ x. x; mk = λ x. x; } λ M 𝓤 H A W. record { copies =
+    Laws'''''''''''''.copy Relayed.the-type Laws'''''''''''.the-copy 𝓤 H A W; lawful = Laws'''''''''''''.lawful Relayed.the-type
+    Laws'''''''''''.the-laws 𝓤 H A W; makes = Laws'''''''''''''.makes Relayed.the-type Laws'''''''''''.the-plain 𝓤 H A; in-mem = Local.mem-whole 𝓤 H A
+    W (Declared'.row Relayed.the-type); of-mem = Local.whole-mem 𝓤 H A W (Declared'.row Relayed.the-type); }
 abbrev pub xs : List.List Syntax.Ty
-xs = Laws'''''''.mir ∷ Laws''''''.mir ∷ Laws.mir ∷ Laws''''.mir ∷ Laws'''.mir ∷ Laws''.mir ∷ RelayPending.ty ∷ RelayCircuit.ty ∷ Laws'''''''''.mir ∷
-    Laws'''''.mir ∷ Laws'.mir ∷ ref0 ∷ (Syntax.tyStruct (38 ∷ 91 ∷ 93 ∷ List.[]) (Syntax.tcons ref0 (Syntax.tcons (Syntax.tyInt Syntax.w64)
-    Syntax.tnil))) ∷ ref0 ∷ (Syntax.tyStruct (38 ∷ 91 ∷ 93 ∷ List.[]) (Syntax.tcons ref0 (Syntax.tcons (Syntax.tyInt Syntax.w64) Syntax.tnil))) ∷ ref1
-    ∷ (Syntax.tyStruct (38 ∷ 91 ∷ 93 ∷ List.[]) (Syntax.tcons ref1 (Syntax.tcons (Syntax.tyInt Syntax.w64) Syntax.tnil))) ∷ ref2 ∷ (Syntax.tyStruct
-    (38 ∷ 91 ∷ 93 ∷ List.[]) (Syntax.tcons ref2 (Syntax.tcons (Syntax.tyInt Syntax.w64) Syntax.tnil))) ∷ Syntax.tyUnit ∷ ref3 ∷ (Syntax.tyStruct (38 ∷
-    91 ∷ 93 ∷ List.[]) (Syntax.tcons ref3 (Syntax.tcons (Syntax.tyInt Syntax.w64) Syntax.tnil))) ∷ ref4 ∷ (Syntax.tyStruct (38 ∷ 91 ∷ 93 ∷ List.[])
-    (Syntax.tcons ref4 (Syntax.tcons (Syntax.tyInt Syntax.w64) Syntax.tnil))) ∷ ref5 ∷ (Syntax.tyStruct (38 ∷ 91 ∷ 93 ∷ List.[]) (Syntax.tcons ref5
-    (Syntax.tcons (Syntax.tyInt Syntax.w64) Syntax.tnil))) ∷ ref5 ∷ (Syntax.tyStruct (38 ∷ 91 ∷ 93 ∷ List.[]) (Syntax.tcons ref5 (Syntax.tcons
-    (Syntax.tyInt Syntax.w64) Syntax.tnil))) ∷ ref6 ∷ (Syntax.tyStruct (38 ∷ 91 ∷ 93 ∷ List.[]) (Syntax.tcons ref6 (Syntax.tcons (Syntax.tyInt
-    Syntax.w64) Syntax.tnil))) ∷ List.[]
+xs = Laws''''''''.mir ∷ Laws'''''''.mir ∷ Laws.mir ∷ Laws''''.mir ∷ Laws'''.mir ∷ Laws''.mir ∷ RelayPending.ty ∷ RelayCircuit.ty ∷ Laws''''''''''.mir
+    ∷ Laws''''''.mir ∷ Laws'.mir ∷ (Syntax.tyInt Syntax.w64) ∷ Laws'''''.mir ∷ ref0 ∷ (Syntax.tyStruct (38 ∷ 91 ∷ 93 ∷ List.[]) (Syntax.tcons ref0
+    (Syntax.tcons (Syntax.tyInt Syntax.w64) Syntax.tnil))) ∷ ref0 ∷ (Syntax.tyStruct (38 ∷ 91 ∷ 93 ∷ List.[]) (Syntax.tcons ref0 (Syntax.tcons
+    (Syntax.tyInt Syntax.w64) Syntax.tnil))) ∷ ref1 ∷ (Syntax.tyStruct (38 ∷ 91 ∷ 93 ∷ List.[]) (Syntax.tcons ref1 (Syntax.tcons (Syntax.tyInt
+    Syntax.w64) Syntax.tnil))) ∷ ref2 ∷ (Syntax.tyStruct (38 ∷ 91 ∷ 93 ∷ List.[]) (Syntax.tcons ref2 (Syntax.tcons (Syntax.tyInt Syntax.w64)
+    Syntax.tnil))) ∷ ref3 ∷ (Syntax.tyStruct (38 ∷ 91 ∷ 93 ∷ List.[]) (Syntax.tcons ref3 (Syntax.tcons (Syntax.tyInt Syntax.w64) Syntax.tnil))) ∷ ref4
+    ∷ (Syntax.tyStruct (38 ∷ 91 ∷ 93 ∷ List.[]) (Syntax.tcons ref4 (Syntax.tcons (Syntax.tyInt Syntax.w64) Syntax.tnil))) ∷ ref5 ∷ (Syntax.tyStruct
+    (38 ∷ 91 ∷ 93 ∷ List.[]) (Syntax.tcons ref5 (Syntax.tcons (Syntax.tyInt Syntax.w64) Syntax.tnil))) ∷ ref5 ∷ (Syntax.tyStruct (38 ∷ 91 ∷ 93 ∷
+    List.[]) (Syntax.tcons ref5 (Syntax.tcons (Syntax.tyInt Syntax.w64) Syntax.tnil))) ∷ ref6 ∷ (Syntax.tyStruct (38 ∷ 91 ∷ 93 ∷ List.[])
+    (Syntax.tcons ref6 (Syntax.tcons (Syntax.tyInt Syntax.w64) Syntax.tnil))) ∷ List.[]
 abbrev pub m : Nat.ℕ
 m = 9
 abbrev pub ps·0 : List.List (Kinds.PK 0)
 ps·0 = (Num.pNum Syntax.w64) ∷ (Num.pNum Syntax.w64) ∷ List.[]
 abbrev pub r·0 : Kinds.RK 0
-r·0 = Value.rVal record { ty = Declared'.row Question.the-type; one = Path.refl; val = Laws''''''''''''.val Question.the-type Laws'''''''.the-laws;
-    tells = Laws''''''''''''.tells Question.the-type Laws'''''''.the-laws; still = Laws''''''''''''.still Question.the-type Laws'''''''.the-copy
-    Exit.yes; row = Rows.whole (Declared'.row Question.the-type); rd = λ x. x; mk = λ x. x; } λ M 𝓤 H A W. record { copies = Laws''''''''''''.copy
-    Question.the-type Laws'''''''.the-copy 𝓤 H A W; lawful = Laws''''''''''''.lawful Question.the-type Laws'''''''.the-laws 𝓤 H A W; makes =
-    Laws''''''''''''.makes Question.the-type Laws'''''''.the-plain 𝓤 H A; in-mem = Local.mem-whole 𝓤 H A W (Declared'.row Question.the-type); of-mem =
-    Local.whole-mem 𝓤 H A W (Declared'.row Question.the-type); }
+r·0 = Value.rVal record { ty = Declared'.row Question.the-type; one = Path.refl; val = Laws'''''''''''''.val Question.the-type Laws''''''''.the-laws;
+    tells = Laws'''''''''''''.tells Question.the-type Laws''''''''.the-laws; still = Laws'''''''''''''.still Question.the-type Laws''''''''.the-copy
+    Exit.yes; row = Rows.whole (Declared'.row Question.the-type); rd = λ x. x; mk = λ x. x; } λ M 𝓤 H A W. record { copies = Laws'''''''''''''.copy
+    Question.the-type Laws''''''''.the-copy 𝓤 H A W; lawful = Laws'''''''''''''.lawful Question.the-type Laws''''''''.the-laws 𝓤 H A W; makes =
+    Laws'''''''''''''.makes Question.the-type Laws''''''''.the-plain 𝓤 H A; in-mem = Local.mem-whole 𝓤 H A W (Declared'.row Question.the-type); of-mem
+    = Local.whole-mem 𝓤 H A W (Declared'.row Question.the-type); }
 abbrev pub ps·1 : List.List (Kinds.PK 1)
-ps·1 = (ShrSlice.pShrS RelayPending.row 0 tt) ∷ (Value.pVal record { ty = Declared'.row Question.the-type; one = Path.refl; val = Laws''''''''''''.val
-    Question.the-type Laws'''''''.the-laws; tells = Laws''''''''''''.tells Question.the-type Laws'''''''.the-laws; still = Laws''''''''''''.still
-    Question.the-type Laws'''''''.the-copy Exit.yes; row = Rows.whole (Declared'.row Question.the-type); rd = λ x. x; mk = λ x. x; } λ M 𝓤 H A W.
-    record { copies = Laws''''''''''''.copy Question.the-type Laws'''''''.the-copy 𝓤 H A W; lawful = Laws''''''''''''.lawful Question.the-type
-    Laws'''''''.the-laws 𝓤 H A W; makes = Laws''''''''''''.makes Question.the-type Laws'''''''.the-plain 𝓤 H A; in-mem = Local.mem-whole 𝓤 H A W
-    (Declared'.row Question.the-type); of-mem = Local.whole-mem 𝓤 H A W (Declared'.row Question.the-type); }) ∷ List.[]
+ps·1 = (ShrSlice.pShrS RelayPending.row 0 tt) ∷ (Value.pVal record { ty = Declared'.row Places.the-type; one = Path.refl; val = Laws'''''''''''''.val
+    Places.the-type Laws'''''.the-laws; tells = Laws'''''''''''''.tells Places.the-type Laws'''''.the-laws; still = Laws'''''''''''''.still
+    Places.the-type Laws'''''.the-copy Exit.yes; row = Rows.whole (Declared'.row Places.the-type); rd = λ x. x; mk = λ x. x; } λ M 𝓤 H A W. record {
+    copies = Laws'''''''''''''.copy Places.the-type Laws'''''.the-copy 𝓤 H A W; lawful = Laws'''''''''''''.lawful Places.the-type Laws'''''.the-laws 𝓤
+    H A W; makes = Laws'''''''''''''.makes Places.the-type Laws'''''.the-plain 𝓤 H A; in-mem = Local.mem-whole 𝓤 H A W (Declared'.row
+    Places.the-type); of-mem = Local.whole-mem 𝓤 H A W (Declared'.row Places.the-type); }) ∷ (Value.pVal record { ty = Declared'.row
+    Question.the-type; one = Path.refl; val = Laws'''''''''''''.val Question.the-type Laws''''''''.the-laws; tells = Laws'''''''''''''.tells
+    Question.the-type Laws''''''''.the-laws; still = Laws'''''''''''''.still Question.the-type Laws''''''''.the-copy Exit.yes; row = Rows.whole
+    (Declared'.row Question.the-type); rd = λ x. x; mk = λ x. x; } λ M 𝓤 H A W. record { copies = Laws'''''''''''''.copy Question.the-type
+    Laws''''''''.the-copy 𝓤 H A W; lawful = Laws'''''''''''''.lawful Question.the-type Laws''''''''.the-laws 𝓤 H A W; makes = Laws'''''''''''''.makes
+    Question.the-type Laws''''''''.the-plain 𝓤 H A; in-mem = Local.mem-whole 𝓤 H A W (Declared'.row Question.the-type); of-mem = Local.whole-mem 𝓤 H A
+    W (Declared'.row Question.the-type); }) ∷ List.[]
 abbrev pub r·1 : Kinds.RK 1
-r·1 = Value.rVal record { ty = Declared'.row PendingFound.the-type; one = Path.refl; val = Laws''''''''''''.val PendingFound.the-type
-    Laws''''''.the-laws; tells = Laws''''''''''''.tells PendingFound.the-type Laws''''''.the-laws; still = Laws''''''''''''.still
-    PendingFound.the-type Laws''''''.the-copy Exit.yes; row = Rows.whole (Declared'.row PendingFound.the-type); rd = λ x. x; mk = λ x. x; } λ M 𝓤 H A
-    W. record { copies = Laws''''''''''''.copy PendingFound.the-type Laws''''''.the-copy 𝓤 H A W; lawful = Laws''''''''''''.lawful
-    PendingFound.the-type Laws''''''.the-laws 𝓤 H A W; makes = Laws''''''''''''.makes PendingFound.the-type Laws''''''.the-plain 𝓤 H A; in-mem =
+r·1 = Value.rVal record { ty = Declared'.row PendingFound.the-type; one = Path.refl; val = Laws'''''''''''''.val PendingFound.the-type
+    Laws'''''''.the-laws; tells = Laws'''''''''''''.tells PendingFound.the-type Laws'''''''.the-laws; still = Laws'''''''''''''.still
+    PendingFound.the-type Laws'''''''.the-copy Exit.yes; row = Rows.whole (Declared'.row PendingFound.the-type); rd = λ x. x; mk = λ x. x; } λ M 𝓤 H A
+    W. record { copies = Laws'''''''''''''.copy PendingFound.the-type Laws'''''''.the-copy 𝓤 H A W; lawful = Laws'''''''''''''.lawful
+    PendingFound.the-type Laws'''''''.the-laws 𝓤 H A W; makes = Laws'''''''''''''.makes PendingFound.the-type Laws'''''''.the-plain 𝓤 H A; in-mem =
     Local.mem-whole 𝓤 H A W (Declared'.row PendingFound.the-type); of-mem = Local.whole-mem 𝓤 H A W (Declared'.row PendingFound.the-type); }
 abbrev pub ps·2 : List.List (Kinds.PK 1)
 ps·2 = (ShrSlice.pShrS (Referent.rtF (Referent.fInt Syntax.w8)) 0 tt) ∷ List.[]
 abbrev pub r·2 : Kinds.RK 1
-r·2 = Value.rVal record { ty = Declared'.row AcceptRead.the-type; one = Path.refl; val = Laws''''''''''''.val AcceptRead.the-type Laws.the-laws; tells
-    = Laws''''''''''''.tells AcceptRead.the-type Laws.the-laws; still = Laws''''''''''''.still AcceptRead.the-type Laws.the-copy Exit.yes; row =
-    Rows.whole (Declared'.row AcceptRead.the-type); rd = λ x. x; mk = λ x. x; } λ M 𝓤 H A W. record { copies = Laws''''''''''''.copy
-    AcceptRead.the-type Laws.the-copy 𝓤 H A W; lawful = Laws''''''''''''.lawful AcceptRead.the-type Laws.the-laws 𝓤 H A W; makes =
-    Laws''''''''''''.makes AcceptRead.the-type Laws.the-plain 𝓤 H A; in-mem = Local.mem-whole 𝓤 H A W (Declared'.row AcceptRead.the-type); of-mem =
+r·2 = Value.rVal record { ty = Declared'.row AcceptRead.the-type; one = Path.refl; val = Laws'''''''''''''.val AcceptRead.the-type Laws.the-laws;
+    tells = Laws'''''''''''''.tells AcceptRead.the-type Laws.the-laws; still = Laws'''''''''''''.still AcceptRead.the-type Laws.the-copy Exit.yes; row
+    = Rows.whole (Declared'.row AcceptRead.the-type); rd = λ x. x; mk = λ x. x; } λ M 𝓤 H A W. record { copies = Laws'''''''''''''.copy
+    AcceptRead.the-type Laws.the-copy 𝓤 H A W; lawful = Laws'''''''''''''.lawful AcceptRead.the-type Laws.the-laws 𝓤 H A W; makes =
+    Laws'''''''''''''.makes AcceptRead.the-type Laws.the-plain 𝓤 H A; in-mem = Local.mem-whole 𝓤 H A W (Declared'.row AcceptRead.the-type); of-mem =
     Local.whole-mem 𝓤 H A W (Declared'.row AcceptRead.the-type); }
 abbrev pub ps·3 : List.List (Kinds.PK 4)
 ps·3 = (ShrSlice.pShrS RelayPending.row 0 tt) ∷ (ShrSlice.pShrS RelayCircuit.row 1 tt) ∷ (ShrSlice.pShrS InflightAction.row 2 tt) ∷ (Value.pVal record
-    { ty = Declared'.row OpaqueRelayConfig.the-type; one = Path.refl; val = Laws''''''''''''.val OpaqueRelayConfig.the-type Laws''''.the-laws; tells =
-    Laws''''''''''''.tells OpaqueRelayConfig.the-type Laws''''.the-laws; still = Laws''''''''''''.still OpaqueRelayConfig.the-type Laws''''.the-copy
-    Exit.yes; row = Rows.whole (Declared'.row OpaqueRelayConfig.the-type); rd = λ x. x; mk = λ x. x; } λ M 𝓤 H A W. record { copies =
-    Laws''''''''''''.copy OpaqueRelayConfig.the-type Laws''''.the-copy 𝓤 H A W; lawful = Laws''''''''''''.lawful OpaqueRelayConfig.the-type
-    Laws''''.the-laws 𝓤 H A W; makes = Laws''''''''''''.makes OpaqueRelayConfig.the-type Laws''''.the-plain 𝓤 H A; in-mem = Local.mem-whole 𝓤 H A W
-    (Declared'.row OpaqueRelayConfig.the-type); of-mem = Local.whole-mem 𝓤 H A W (Declared'.row OpaqueRelayConfig.the-type); }) ∷ (Value.pVal record {
-    ty = Declared'.row RelayPacket.the-type; one = Path.refl; val = Laws''''''''''''.val RelayPacket.the-type Laws''''''''.the-laws; tells =
-    Laws''''''''''''.tells RelayPacket.the-type Laws''''''''.the-laws; still = Laws''''''''''''.still RelayPacket.the-type Laws''''''''.the-copy
-    Exit.yes; row = Rows.whole (Declared'.row RelayPacket.the-type); rd = λ x. x; mk = λ x. x; } λ M 𝓤 H A W. record { copies = Laws''''''''''''.copy
-    RelayPacket.the-type Laws''''''''.the-copy 𝓤 H A W; lawful = Laws''''''''''''.lawful RelayPacket.the-type Laws''''''''.the-laws 𝓤 H A W; makes =
-    Laws''''''''''''.makes RelayPacket.the-type Laws''''''''.the-plain 𝓤 H A; in-mem = Local.mem-whole 𝓤 H A W (Declared'.row RelayPacket.the-type);
+    { ty = Declared'.row Places.the-type; one = Path.refl; val = Laws'''''''''''''.val Places.the-type Laws'''''.the-laws; tells =
+    Laws'''''''''''''.tells Places.the-type Laws'''''.the-laws; still = Laws'''''''''''''.still Places.the-type Laws'''''.the-copy Exit.yes; row =
+    Rows.whole (Declared'.row Places.the-type); rd = λ x. x; mk = λ x. x; } λ M 𝓤 H A W. record { copies = Laws'''''''''''''.copy Places.the-type
+    Laws'''''.the-copy 𝓤 H A W; lawful = Laws'''''''''''''.lawful Places.the-type Laws'''''.the-laws 𝓤 H A W; makes = Laws'''''''''''''.makes
+    Places.the-type Laws'''''.the-plain 𝓤 H A; in-mem = Local.mem-whole 𝓤 H A W (Declared'.row Places.the-type); of-mem = Local.whole-mem 𝓤 H A W
+    (Declared'.row Places.the-type); }) ∷ (Value.pVal record { ty = Declared'.row OpaqueRelayConfig.the-type; one = Path.refl; val =
+    Laws'''''''''''''.val OpaqueRelayConfig.the-type Laws''''.the-laws; tells = Laws'''''''''''''.tells OpaqueRelayConfig.the-type Laws''''.the-laws;
+    still = Laws'''''''''''''.still OpaqueRelayConfig.the-type Laws''''.the-copy Exit.yes; row = Rows.whole (Declared'.row
+    OpaqueRelayConfig.the-type); rd = λ x. x; mk = λ x. x; } λ M 𝓤 H A W. record { copies = Laws'''''''''''''.copy OpaqueRelayConfig.the-type
+    Laws''''.the-copy 𝓤 H A W; lawful = Laws'''''''''''''.lawful OpaqueRelayConfig.the-type Laws''''.the-laws 𝓤 H A W; makes = Laws'''''''''''''.makes
+    OpaqueRelayConfig.the-type Laws''''.the-plain 𝓤 H A; in-mem = Local.mem-whole 𝓤 H A W (Declared'.row OpaqueRelayConfig.the-type); of-mem =
+    Local.whole-mem 𝓤 H A W (Declared'.row OpaqueRelayConfig.the-type); }) ∷ (Value.pVal record { ty = Declared'.row RelayPacket.the-type; one =
+    Path.refl; val = Laws'''''''''''''.val RelayPacket.the-type Laws'''''''''.the-laws; tells = Laws'''''''''''''.tells RelayPacket.the-type
+    Laws'''''''''.the-laws; still = Laws'''''''''''''.still RelayPacket.the-type Laws'''''''''.the-copy Exit.yes; row = Rows.whole (Declared'.row
+    RelayPacket.the-type); rd = λ x. x; mk = λ x. x; } λ M 𝓤 H A W. record { copies = Laws'''''''''''''.copy RelayPacket.the-type
+    Laws'''''''''.the-copy 𝓤 H A W; lawful = Laws'''''''''''''.lawful RelayPacket.the-type Laws'''''''''.the-laws 𝓤 H A W; makes =
+    Laws'''''''''''''.makes RelayPacket.the-type Laws'''''''''.the-plain 𝓤 H A; in-mem = Local.mem-whole 𝓤 H A W (Declared'.row RelayPacket.the-type);
     of-mem = Local.whole-mem 𝓤 H A W (Declared'.row RelayPacket.the-type); }) ∷ (Value.pVal record { ty = Declared'.row PendingFound.the-type; one =
-    Path.refl; val = Laws''''''''''''.val PendingFound.the-type Laws''''''.the-laws; tells = Laws''''''''''''.tells PendingFound.the-type
-    Laws''''''.the-laws; still = Laws''''''''''''.still PendingFound.the-type Laws''''''.the-copy Exit.yes; row = Rows.whole (Declared'.row
-    PendingFound.the-type); rd = λ x. x; mk = λ x. x; } λ M 𝓤 H A W. record { copies = Laws''''''''''''.copy PendingFound.the-type Laws''''''.the-copy
-    𝓤 H A W; lawful = Laws''''''''''''.lawful PendingFound.the-type Laws''''''.the-laws 𝓤 H A W; makes = Laws''''''''''''.makes PendingFound.the-type
-    Laws''''''.the-plain 𝓤 H A; in-mem = Local.mem-whole 𝓤 H A W (Declared'.row PendingFound.the-type); of-mem = Local.whole-mem 𝓤 H A W
-    (Declared'.row PendingFound.the-type); }) ∷ (Value.pVal record { ty = Declared'.row AcceptRead.the-type; one = Path.refl; val =
-    Laws''''''''''''.val AcceptRead.the-type Laws.the-laws; tells = Laws''''''''''''.tells AcceptRead.the-type Laws.the-laws; still =
-    Laws''''''''''''.still AcceptRead.the-type Laws.the-copy Exit.yes; row = Rows.whole (Declared'.row AcceptRead.the-type); rd = λ x. x; mk = λ x. x;
-    } λ M 𝓤 H A W. record { copies = Laws''''''''''''.copy AcceptRead.the-type Laws.the-copy 𝓤 H A W; lawful = Laws''''''''''''.lawful
-    AcceptRead.the-type Laws.the-laws 𝓤 H A W; makes = Laws''''''''''''.makes AcceptRead.the-type Laws.the-plain 𝓤 H A; in-mem = Local.mem-whole 𝓤 H A
-    W (Declared'.row AcceptRead.the-type); of-mem = Local.whole-mem 𝓤 H A W (Declared'.row AcceptRead.the-type); }) ∷ (ShrSlice.pShrS (Referent.rtF
+    Path.refl; val = Laws'''''''''''''.val PendingFound.the-type Laws'''''''.the-laws; tells = Laws'''''''''''''.tells PendingFound.the-type
+    Laws'''''''.the-laws; still = Laws'''''''''''''.still PendingFound.the-type Laws'''''''.the-copy Exit.yes; row = Rows.whole (Declared'.row
+    PendingFound.the-type); rd = λ x. x; mk = λ x. x; } λ M 𝓤 H A W. record { copies = Laws'''''''''''''.copy PendingFound.the-type
+    Laws'''''''.the-copy 𝓤 H A W; lawful = Laws'''''''''''''.lawful PendingFound.the-type Laws'''''''.the-laws 𝓤 H A W; makes =
+    Laws'''''''''''''.makes PendingFound.the-type Laws'''''''.the-plain 𝓤 H A; in-mem = Local.mem-whole 𝓤 H A W (Declared'.row PendingFound.the-type);
+    of-mem = Local.whole-mem 𝓤 H A W (Declared'.row PendingFound.the-type); }) ∷ (Value.pVal record { ty = Declared'.row AcceptRead.the-type; one =
+    Path.refl; val = Laws'''''''''''''.val AcceptRead.the-type Laws.the-laws; tells = Laws'''''''''''''.tells AcceptRead.the-type Laws.the-laws; still
+    = Laws'''''''''''''.still AcceptRead.the-type Laws.the-copy Exit.yes; row = Rows.whole (Declared'.row AcceptRead.the-type); rd = λ x. x; mk = λ x.
+    x; } λ M 𝓤 H A W. record { copies = Laws'''''''''''''.copy AcceptRead.the-type Laws.the-copy 𝓤 H A W; lawful = Laws'''''''''''''.lawful
+    AcceptRead.the-type Laws.the-laws 𝓤 H A W; makes = Laws'''''''''''''.makes AcceptRead.the-type Laws.the-plain 𝓤 H A; in-mem = Local.mem-whole 𝓤 H
+    A W (Declared'.row AcceptRead.the-type); of-mem = Local.whole-mem 𝓤 H A W (Declared'.row AcceptRead.the-type); }) ∷ (ShrSlice.pShrS (Referent.rtF
     (Referent.fInt Syntax.w8)) 3 tt) ∷ List.[]
 abbrev pub r·3 : Kinds.RK 4
-r·3 = Value.rVal record { ty = Declared.row HnsrAnswer.the-type; one = Path.refl; val = Laws'''''''''''.val HnsrAnswer.the-type Laws'''.the-laws;
-    tells = Laws'''''''''''.tells HnsrAnswer.the-type Laws'''.the-laws; still = Laws'''''''''''.still HnsrAnswer.the-type Laws'''.the-copy Exit.yes;
-    row = Rows.whole (Declared.row HnsrAnswer.the-type); rd = λ x. x; mk = λ x. x; } λ M 𝓤 H A W. record { copies = Laws'''''''''''.copy
-    HnsrAnswer.the-type Laws'''.the-copy 𝓤 H A W; lawful = Laws'''''''''''.lawful HnsrAnswer.the-type Laws'''.the-laws 𝓤 H A W tt; makes =
-    Laws'''''''''''.makes HnsrAnswer.the-type Laws'''.the-plain 𝓤 H A; in-mem = Local.mem-whole 𝓤 H A W (Declared.row HnsrAnswer.the-type); of-mem =
+r·3 = Value.rVal record { ty = Declared.row HnsrAnswer.the-type; one = Path.refl; val = Laws''''''''''''.val HnsrAnswer.the-type Laws'''.the-laws;
+    tells = Laws''''''''''''.tells HnsrAnswer.the-type Laws'''.the-laws; still = Laws''''''''''''.still HnsrAnswer.the-type Laws'''.the-copy Exit.yes;
+    row = Rows.whole (Declared.row HnsrAnswer.the-type); rd = λ x. x; mk = λ x. x; } λ M 𝓤 H A W. record { copies = Laws''''''''''''.copy
+    HnsrAnswer.the-type Laws'''.the-copy 𝓤 H A W; lawful = Laws''''''''''''.lawful HnsrAnswer.the-type Laws'''.the-laws 𝓤 H A W tt; makes =
+    Laws''''''''''''.makes HnsrAnswer.the-type Laws'''.the-plain 𝓤 H A; in-mem = Local.mem-whole 𝓤 H A W (Declared.row HnsrAnswer.the-type); of-mem =
     Local.whole-mem 𝓤 H A W (Declared.row HnsrAnswer.the-type); }
 abbrev pub ps·4 : List.List (Kinds.PK 0)
-ps·4 = (Value.pVal record { ty = Declared.row HnsrAnswer.the-type; one = Path.refl; val = Laws'''''''''''.val HnsrAnswer.the-type Laws'''.the-laws;
-    tells = Laws'''''''''''.tells HnsrAnswer.the-type Laws'''.the-laws; still = Laws'''''''''''.still HnsrAnswer.the-type Laws'''.the-copy Exit.yes;
-    row = Rows.whole (Declared.row HnsrAnswer.the-type); rd = λ x. x; mk = λ x. x; } λ M 𝓤 H A W. record { copies = Laws'''''''''''.copy
-    HnsrAnswer.the-type Laws'''.the-copy 𝓤 H A W; lawful = Laws'''''''''''.lawful HnsrAnswer.the-type Laws'''.the-laws 𝓤 H A W tt; makes =
-    Laws'''''''''''.makes HnsrAnswer.the-type Laws'''.the-plain 𝓤 H A; in-mem = Local.mem-whole 𝓤 H A W (Declared.row HnsrAnswer.the-type); of-mem =
+ps·4 = (Value.pVal record { ty = Declared.row HnsrAnswer.the-type; one = Path.refl; val = Laws''''''''''''.val HnsrAnswer.the-type Laws'''.the-laws;
+    tells = Laws''''''''''''.tells HnsrAnswer.the-type Laws'''.the-laws; still = Laws''''''''''''.still HnsrAnswer.the-type Laws'''.the-copy Exit.yes;
+    row = Rows.whole (Declared.row HnsrAnswer.the-type); rd = λ x. x; mk = λ x. x; } λ M 𝓤 H A W. record { copies = Laws''''''''''''.copy
+    HnsrAnswer.the-type Laws'''.the-copy 𝓤 H A W; lawful = Laws''''''''''''.lawful HnsrAnswer.the-type Laws'''.the-laws 𝓤 H A W tt; makes =
+    Laws''''''''''''.makes HnsrAnswer.the-type Laws'''.the-plain 𝓤 H A; in-mem = Local.mem-whole 𝓤 H A W (Declared.row HnsrAnswer.the-type); of-mem =
     Local.whole-mem 𝓤 H A W (Declared.row HnsrAnswer.the-type); }) ∷ (Value.pVal record { ty = Declared'.row OpaqueRelayRuntime.the-type; one =
-    Path.refl; val = Laws''''''''''''.val OpaqueRelayRuntime.the-type Laws'''''''''.the-laws; tells = Laws''''''''''''.tells
-    OpaqueRelayRuntime.the-type Laws'''''''''.the-laws; still = Laws''''''''''''.still OpaqueRelayRuntime.the-type Laws'''''''''.the-copy Exit.yes;
-    row = Rows.whole (Declared'.row OpaqueRelayRuntime.the-type); rd = λ x. x; mk = λ x. x; } λ M 𝓤 H A W. record { copies = Laws''''''''''''.copy
-    OpaqueRelayRuntime.the-type Laws'''''''''.the-copy 𝓤 H A W; lawful = Laws''''''''''''.lawful OpaqueRelayRuntime.the-type Laws'''''''''.the-laws 𝓤
-    H A W; makes = Laws''''''''''''.makes OpaqueRelayRuntime.the-type Laws'''''''''.the-plain 𝓤 H A; in-mem = Local.mem-whole 𝓤 H A W (Declared'.row
-    OpaqueRelayRuntime.the-type); of-mem = Local.whole-mem 𝓤 H A W (Declared'.row OpaqueRelayRuntime.the-type); }) ∷ (Value.pVal record { ty =
-    Declared'.row PendingFound.the-type; one = Path.refl; val = Laws''''''''''''.val PendingFound.the-type Laws''''''.the-laws; tells =
-    Laws''''''''''''.tells PendingFound.the-type Laws''''''.the-laws; still = Laws''''''''''''.still PendingFound.the-type Laws''''''.the-copy
-    Exit.yes; row = Rows.whole (Declared'.row PendingFound.the-type); rd = λ x. x; mk = λ x. x; } λ M 𝓤 H A W. record { copies = Laws''''''''''''.copy
-    PendingFound.the-type Laws''''''.the-copy 𝓤 H A W; lawful = Laws''''''''''''.lawful PendingFound.the-type Laws''''''.the-laws 𝓤 H A W; makes =
-    Laws''''''''''''.makes PendingFound.the-type Laws''''''.the-plain 𝓤 H A; in-mem = Local.mem-whole 𝓤 H A W (Declared'.row PendingFound.the-type);
-    of-mem = Local.whole-mem 𝓤 H A W (Declared'.row PendingFound.the-type); }) ∷ (Value.pVal record { ty = Declared'.row AcceptRead.the-type; one =
-    Path.refl; val = Laws''''''''''''.val AcceptRead.the-type Laws.the-laws; tells = Laws''''''''''''.tells AcceptRead.the-type Laws.the-laws; still =
-    Laws''''''''''''.still AcceptRead.the-type Laws.the-copy Exit.yes; row = Rows.whole (Declared'.row AcceptRead.the-type); rd = λ x. x; mk = λ x. x;
-    } λ M 𝓤 H A W. record { copies = Laws''''''''''''.copy AcceptRead.the-type Laws.the-copy 𝓤 H A W; lawful = Laws''''''''''''.lawful
-    AcceptRead.the-type Laws.the-laws 𝓤 H A W; makes = Laws''''''''''''.makes AcceptRead.the-type Laws.the-plain 𝓤 H A; in-mem = Local.mem-whole 𝓤 H A
-    W (Declared'.row AcceptRead.the-type); of-mem = Local.whole-mem 𝓤 H A W (Declared'.row AcceptRead.the-type); }) ∷ List.[]
+    Path.refl; val = Laws'''''''''''''.val OpaqueRelayRuntime.the-type Laws''''''''''.the-laws; tells = Laws'''''''''''''.tells
+    OpaqueRelayRuntime.the-type Laws''''''''''.the-laws; still = Laws'''''''''''''.still OpaqueRelayRuntime.the-type Laws''''''''''.the-copy Exit.yes;
+    row = Rows.whole (Declared'.row OpaqueRelayRuntime.the-type); rd = λ x. x; mk = λ x. x; } λ M 𝓤 H A W. record { copies = Laws'''''''''''''.copy
+    OpaqueRelayRuntime.the-type Laws''''''''''.the-copy 𝓤 H A W; lawful = Laws'''''''''''''.lawful OpaqueRelayRuntime.the-type Laws''''''''''.the-laws
+    𝓤 H A W; makes = Laws'''''''''''''.makes OpaqueRelayRuntime.the-type Laws''''''''''.the-plain 𝓤 H A; in-mem = Local.mem-whole 𝓤 H A W
+    (Declared'.row OpaqueRelayRuntime.the-type); of-mem = Local.whole-mem 𝓤 H A W (Declared'.row OpaqueRelayRuntime.the-type); }) ∷ (Value.pVal record
+    { ty = Declared'.row PendingFound.the-type; one = Path.refl; val = Laws'''''''''''''.val PendingFound.the-type Laws'''''''.the-laws; tells =
+    Laws'''''''''''''.tells PendingFound.the-type Laws'''''''.the-laws; still = Laws'''''''''''''.still PendingFound.the-type Laws'''''''.the-copy
+    Exit.yes; row = Rows.whole (Declared'.row PendingFound.the-type); rd = λ x. x; mk = λ x. x; } λ M 𝓤 H A W. record { copies =
+    Laws'''''''''''''.copy PendingFound.the-type Laws'''''''.the-copy 𝓤 H A W; lawful = Laws'''''''''''''.lawful PendingFound.the-type
+    Laws'''''''.the-laws 𝓤 H A W; makes = Laws'''''''''''''.makes PendingFound.the-type Laws'''''''.the-plain 𝓤 H A; in-mem = Local.mem-whole 𝓤 H A W
+    (Declared'.row PendingFound.the-type); of-mem = Local.whole-mem 𝓤 H A W (Declared'.row PendingFound.the-type); }) ∷ (Value.pVal record { ty =
+    Declared'.row AcceptRead.the-type; one = Path.refl; val = Laws'''''''''''''.val AcceptRead.the-type Laws.the-laws; tells = Laws'''''''''''''.tells
+    AcceptRead.the-type Laws.the-laws; still = Laws'''''''''''''.still AcceptRead.the-type Laws.the-copy Exit.yes; row = Rows.whole (Declared'.row
+    AcceptRead.the-type); rd = λ x. x; mk = λ x. x; } λ M 𝓤 H A W. record { copies = Laws'''''''''''''.copy AcceptRead.the-type Laws.the-copy 𝓤 H A W;
+    lawful = Laws'''''''''''''.lawful AcceptRead.the-type Laws.the-laws 𝓤 H A W; makes = Laws'''''''''''''.makes AcceptRead.the-type Laws.the-plain 𝓤
+    H A; in-mem = Local.mem-whole 𝓤 H A W (Declared'.row AcceptRead.the-type); of-mem = Local.whole-mem 𝓤 H A W (Declared'.row AcceptRead.the-type);
+    }) ∷ List.[]
 abbrev pub r·4 : Kinds.RK 0
-r·4 = Value.rVal record { ty = Declared'.row AcceptPlan.the-type; one = Path.refl; val = Laws''''''''''''.val AcceptPlan.the-type Laws''.the-laws;
-    tells = Laws''''''''''''.tells AcceptPlan.the-type Laws''.the-laws; still = Laws''''''''''''.still AcceptPlan.the-type Laws''.the-copy Exit.yes;
-    row = Rows.whole (Declared'.row AcceptPlan.the-type); rd = λ x. x; mk = λ x. x; } λ M 𝓤 H A W. record { copies = Laws''''''''''''.copy
-    AcceptPlan.the-type Laws''.the-copy 𝓤 H A W; lawful = Laws''''''''''''.lawful AcceptPlan.the-type Laws''.the-laws 𝓤 H A W; makes =
-    Laws''''''''''''.makes AcceptPlan.the-type Laws''.the-plain 𝓤 H A; in-mem = Local.mem-whole 𝓤 H A W (Declared'.row AcceptPlan.the-type); of-mem =
+r·4 = Value.rVal record { ty = Declared'.row AcceptPlan.the-type; one = Path.refl; val = Laws'''''''''''''.val AcceptPlan.the-type Laws''.the-laws;
+    tells = Laws'''''''''''''.tells AcceptPlan.the-type Laws''.the-laws; still = Laws'''''''''''''.still AcceptPlan.the-type Laws''.the-copy Exit.yes;
+    row = Rows.whole (Declared'.row AcceptPlan.the-type); rd = λ x. x; mk = λ x. x; } λ M 𝓤 H A W. record { copies = Laws'''''''''''''.copy
+    AcceptPlan.the-type Laws''.the-copy 𝓤 H A W; lawful = Laws'''''''''''''.lawful AcceptPlan.the-type Laws''.the-laws 𝓤 H A W; makes =
+    Laws'''''''''''''.makes AcceptPlan.the-type Laws''.the-plain 𝓤 H A; in-mem = Local.mem-whole 𝓤 H A W (Declared'.row AcceptPlan.the-type); of-mem =
     Local.whole-mem 𝓤 H A W (Declared'.row AcceptPlan.the-type); }
 abbrev pub ps·5 : List.List (Kinds.PK 0)
-ps·5 = (Value.pVal record { ty = Declared'.row PendingFound.the-type; one = Path.refl; val = Laws''''''''''''.val PendingFound.the-type
-    Laws''''''.the-laws; tells = Laws''''''''''''.tells PendingFound.the-type Laws''''''.the-laws; still = Laws''''''''''''.still
-    PendingFound.the-type Laws''''''.the-copy Exit.yes; row = Rows.whole (Declared'.row PendingFound.the-type); rd = λ x. x; mk = λ x. x; } λ M 𝓤 H A
-    W. record { copies = Laws''''''''''''.copy PendingFound.the-type Laws''''''.the-copy 𝓤 H A W; lawful = Laws''''''''''''.lawful
-    PendingFound.the-type Laws''''''.the-laws 𝓤 H A W; makes = Laws''''''''''''.makes PendingFound.the-type Laws''''''.the-plain 𝓤 H A; in-mem =
+ps·5 = (Value.pVal record { ty = Declared'.row PendingFound.the-type; one = Path.refl; val = Laws'''''''''''''.val PendingFound.the-type
+    Laws'''''''.the-laws; tells = Laws'''''''''''''.tells PendingFound.the-type Laws'''''''.the-laws; still = Laws'''''''''''''.still
+    PendingFound.the-type Laws'''''''.the-copy Exit.yes; row = Rows.whole (Declared'.row PendingFound.the-type); rd = λ x. x; mk = λ x. x; } λ M 𝓤 H A
+    W. record { copies = Laws'''''''''''''.copy PendingFound.the-type Laws'''''''.the-copy 𝓤 H A W; lawful = Laws'''''''''''''.lawful
+    PendingFound.the-type Laws'''''''.the-laws 𝓤 H A W; makes = Laws'''''''''''''.makes PendingFound.the-type Laws'''''''.the-plain 𝓤 H A; in-mem =
     Local.mem-whole 𝓤 H A W (Declared'.row PendingFound.the-type); of-mem = Local.whole-mem 𝓤 H A W (Declared'.row PendingFound.the-type); }) ∷
     List.[]
 abbrev pub r·5 : Kinds.RK 0
 r·5 = RelayPending.result
 abbrev pub ps·6 : List.List (Kinds.PK 0)
-ps·6 = (Value.pVal record { ty = Declared'.row OpaqueRelayConfig.the-type; one = Path.refl; val = Laws''''''''''''.val OpaqueRelayConfig.the-type
-    Laws''''.the-laws; tells = Laws''''''''''''.tells OpaqueRelayConfig.the-type Laws''''.the-laws; still = Laws''''''''''''.still
+ps·6 = (Value.pVal record { ty = Declared'.row OpaqueRelayConfig.the-type; one = Path.refl; val = Laws'''''''''''''.val OpaqueRelayConfig.the-type
+    Laws''''.the-laws; tells = Laws'''''''''''''.tells OpaqueRelayConfig.the-type Laws''''.the-laws; still = Laws'''''''''''''.still
     OpaqueRelayConfig.the-type Laws''''.the-copy Exit.yes; row = Rows.whole (Declared'.row OpaqueRelayConfig.the-type); rd = λ x. x; mk = λ x. x; } λ
-    M 𝓤 H A W. record { copies = Laws''''''''''''.copy OpaqueRelayConfig.the-type Laws''''.the-copy 𝓤 H A W; lawful = Laws''''''''''''.lawful
-    OpaqueRelayConfig.the-type Laws''''.the-laws 𝓤 H A W; makes = Laws''''''''''''.makes OpaqueRelayConfig.the-type Laws''''.the-plain 𝓤 H A; in-mem =
-    Local.mem-whole 𝓤 H A W (Declared'.row OpaqueRelayConfig.the-type); of-mem = Local.whole-mem 𝓤 H A W (Declared'.row OpaqueRelayConfig.the-type);
-    }) ∷ (Value.pVal record { ty = Declared'.row PendingFound.the-type; one = Path.refl; val = Laws''''''''''''.val PendingFound.the-type
-    Laws''''''.the-laws; tells = Laws''''''''''''.tells PendingFound.the-type Laws''''''.the-laws; still = Laws''''''''''''.still
-    PendingFound.the-type Laws''''''.the-copy Exit.yes; row = Rows.whole (Declared'.row PendingFound.the-type); rd = λ x. x; mk = λ x. x; } λ M 𝓤 H A
-    W. record { copies = Laws''''''''''''.copy PendingFound.the-type Laws''''''.the-copy 𝓤 H A W; lawful = Laws''''''''''''.lawful
-    PendingFound.the-type Laws''''''.the-laws 𝓤 H A W; makes = Laws''''''''''''.makes PendingFound.the-type Laws''''''.the-plain 𝓤 H A; in-mem =
+    M 𝓤 H A W. record { copies = Laws'''''''''''''.copy OpaqueRelayConfig.the-type Laws''''.the-copy 𝓤 H A W; lawful = Laws'''''''''''''.lawful
+    OpaqueRelayConfig.the-type Laws''''.the-laws 𝓤 H A W; makes = Laws'''''''''''''.makes OpaqueRelayConfig.the-type Laws''''.the-plain 𝓤 H A; in-mem
+    = Local.mem-whole 𝓤 H A W (Declared'.row OpaqueRelayConfig.the-type); of-mem = Local.whole-mem 𝓤 H A W (Declared'.row OpaqueRelayConfig.the-type);
+    }) ∷ (Value.pVal record { ty = Declared'.row PendingFound.the-type; one = Path.refl; val = Laws'''''''''''''.val PendingFound.the-type
+    Laws'''''''.the-laws; tells = Laws'''''''''''''.tells PendingFound.the-type Laws'''''''.the-laws; still = Laws'''''''''''''.still
+    PendingFound.the-type Laws'''''''.the-copy Exit.yes; row = Rows.whole (Declared'.row PendingFound.the-type); rd = λ x. x; mk = λ x. x; } λ M 𝓤 H A
+    W. record { copies = Laws'''''''''''''.copy PendingFound.the-type Laws'''''''.the-copy 𝓤 H A W; lawful = Laws'''''''''''''.lawful
+    PendingFound.the-type Laws'''''''.the-laws 𝓤 H A W; makes = Laws'''''''''''''.makes PendingFound.the-type Laws'''''''.the-plain 𝓤 H A; in-mem =
     Local.mem-whole 𝓤 H A W (Declared'.row PendingFound.the-type); of-mem = Local.whole-mem 𝓤 H A W (Declared'.row PendingFound.the-type); }) ∷
-    (Value.pVal record { ty = Declared'.row AcceptRead.the-type; one = Path.refl; val = Laws''''''''''''.val AcceptRead.the-type Laws.the-laws; tells
-    = Laws''''''''''''.tells AcceptRead.the-type Laws.the-laws; still = Laws''''''''''''.still AcceptRead.the-type Laws.the-copy Exit.yes; row =
-    Rows.whole (Declared'.row AcceptRead.the-type); rd = λ x. x; mk = λ x. x; } λ M 𝓤 H A W. record { copies = Laws''''''''''''.copy
-    AcceptRead.the-type Laws.the-copy 𝓤 H A W; lawful = Laws''''''''''''.lawful AcceptRead.the-type Laws.the-laws 𝓤 H A W; makes =
-    Laws''''''''''''.makes AcceptRead.the-type Laws.the-plain 𝓤 H A; in-mem = Local.mem-whole 𝓤 H A W (Declared'.row AcceptRead.the-type); of-mem =
+    (Value.pVal record { ty = Declared'.row AcceptRead.the-type; one = Path.refl; val = Laws'''''''''''''.val AcceptRead.the-type Laws.the-laws; tells
+    = Laws'''''''''''''.tells AcceptRead.the-type Laws.the-laws; still = Laws'''''''''''''.still AcceptRead.the-type Laws.the-copy Exit.yes; row =
+    Rows.whole (Declared'.row AcceptRead.the-type); rd = λ x. x; mk = λ x. x; } λ M 𝓤 H A W. record { copies = Laws'''''''''''''.copy
+    AcceptRead.the-type Laws.the-copy 𝓤 H A W; lawful = Laws'''''''''''''.lawful AcceptRead.the-type Laws.the-laws 𝓤 H A W; makes =
+    Laws'''''''''''''.makes AcceptRead.the-type Laws.the-plain 𝓤 H A; in-mem = Local.mem-whole 𝓤 H A W (Declared'.row AcceptRead.the-type); of-mem =
     Local.whole-mem 𝓤 H A W (Declared'.row AcceptRead.the-type); }) ∷ List.[]
 abbrev pub r·6 : Kinds.RK 0
 r·6 = RelayCircuit.result
 abbrev pub ps·7 : List.List (Kinds.PK 3)
 ps·7 = (MutSlice.pMutS RelayPending.row 0 tt) ∷ (MutSlice.pMutS RelayCircuit.row 1 tt) ∷ (MutSlice.pMutS InflightAction.row 2 tt) ∷ (Value.pVal record
-    { ty = Declared'.row AcceptPlan.the-type; one = Path.refl; val = Laws''''''''''''.val AcceptPlan.the-type Laws''.the-laws; tells =
-    Laws''''''''''''.tells AcceptPlan.the-type Laws''.the-laws; still = Laws''''''''''''.still AcceptPlan.the-type Laws''.the-copy Exit.yes; row =
-    Rows.whole (Declared'.row AcceptPlan.the-type); rd = λ x. x; mk = λ x. x; } λ M 𝓤 H A W. record { copies = Laws''''''''''''.copy
-    AcceptPlan.the-type Laws''.the-copy 𝓤 H A W; lawful = Laws''''''''''''.lawful AcceptPlan.the-type Laws''.the-laws 𝓤 H A W; makes =
-    Laws''''''''''''.makes AcceptPlan.the-type Laws''.the-plain 𝓤 H A; in-mem = Local.mem-whole 𝓤 H A W (Declared'.row AcceptPlan.the-type); of-mem =
-    Local.whole-mem 𝓤 H A W (Declared'.row AcceptPlan.the-type); }) ∷ RelayPending.param ∷ RelayCircuit.param ∷ List.[]
+    { ty = Declared'.row Places.the-type; one = Path.refl; val = Laws'''''''''''''.val Places.the-type Laws'''''.the-laws; tells =
+    Laws'''''''''''''.tells Places.the-type Laws'''''.the-laws; still = Laws'''''''''''''.still Places.the-type Laws'''''.the-copy Exit.yes; row =
+    Rows.whole (Declared'.row Places.the-type); rd = λ x. x; mk = λ x. x; } λ M 𝓤 H A W. record { copies = Laws'''''''''''''.copy Places.the-type
+    Laws'''''.the-copy 𝓤 H A W; lawful = Laws'''''''''''''.lawful Places.the-type Laws'''''.the-laws 𝓤 H A W; makes = Laws'''''''''''''.makes
+    Places.the-type Laws'''''.the-plain 𝓤 H A; in-mem = Local.mem-whole 𝓤 H A W (Declared'.row Places.the-type); of-mem = Local.whole-mem 𝓤 H A W
+    (Declared'.row Places.the-type); }) ∷ (Value.pVal record { ty = Declared'.row AcceptPlan.the-type; one = Path.refl; val = Laws'''''''''''''.val
+    AcceptPlan.the-type Laws''.the-laws; tells = Laws'''''''''''''.tells AcceptPlan.the-type Laws''.the-laws; still = Laws'''''''''''''.still
+    AcceptPlan.the-type Laws''.the-copy Exit.yes; row = Rows.whole (Declared'.row AcceptPlan.the-type); rd = λ x. x; mk = λ x. x; } λ M 𝓤 H A W.
+    record { copies = Laws'''''''''''''.copy AcceptPlan.the-type Laws''.the-copy 𝓤 H A W; lawful = Laws'''''''''''''.lawful AcceptPlan.the-type
+    Laws''.the-laws 𝓤 H A W; makes = Laws'''''''''''''.makes AcceptPlan.the-type Laws''.the-plain 𝓤 H A; in-mem = Local.mem-whole 𝓤 H A W
+    (Declared'.row AcceptPlan.the-type); of-mem = Local.whole-mem 𝓤 H A W (Declared'.row AcceptPlan.the-type); }) ∷ RelayPending.param ∷
+    RelayCircuit.param ∷ List.[]
 abbrev pub r·7 : Kinds.RK 3
-r·7 = Unit.rUnit
-abbrev pub ps·8 : List.List (Kinds.PK 2)
-ps·8 = (MutSlice.pMutS InflightAction.row 0 tt) ∷ (MutSlice.pMutS (Referent.rtF (Referent.fInt Syntax.w32)) 1 tt) ∷ (Value.pVal record { ty =
-    Declared.row HnsrAnswer.the-type; one = Path.refl; val = Laws'''''''''''.val HnsrAnswer.the-type Laws'''.the-laws; tells = Laws'''''''''''.tells
-    HnsrAnswer.the-type Laws'''.the-laws; still = Laws'''''''''''.still HnsrAnswer.the-type Laws'''.the-copy Exit.yes; row = Rows.whole (Declared.row
-    HnsrAnswer.the-type); rd = λ x. x; mk = λ x. x; } λ M 𝓤 H A W. record { copies = Laws'''''''''''.copy HnsrAnswer.the-type Laws'''.the-copy 𝓤 H A
-    W; lawful = Laws'''''''''''.lawful HnsrAnswer.the-type Laws'''.the-laws 𝓤 H A W tt; makes = Laws'''''''''''.makes HnsrAnswer.the-type
+r·7 = Num.rNum Syntax.w64
+abbrev pub ps·8 : List.List (Kinds.PK 0)
+ps·8 = (Value.pVal record { ty = Declared'.row Places.the-type; one = Path.refl; val = Laws'''''''''''''.val Places.the-type Laws'''''.the-laws; tells
+    = Laws'''''''''''''.tells Places.the-type Laws'''''.the-laws; still = Laws'''''''''''''.still Places.the-type Laws'''''.the-copy Exit.yes; row =
+    Rows.whole (Declared'.row Places.the-type); rd = λ x. x; mk = λ x. x; } λ M 𝓤 H A W. record { copies = Laws'''''''''''''.copy Places.the-type
+    Laws'''''.the-copy 𝓤 H A W; lawful = Laws'''''''''''''.lawful Places.the-type Laws'''''.the-laws 𝓤 H A W; makes = Laws'''''''''''''.makes
+    Places.the-type Laws'''''.the-plain 𝓤 H A; in-mem = Local.mem-whole 𝓤 H A W (Declared'.row Places.the-type); of-mem = Local.whole-mem 𝓤 H A W
+    (Declared'.row Places.the-type); }) ∷ (Num.pNum Syntax.w64) ∷ List.[]
+abbrev pub r·8 : Kinds.RK 0
+r·8 = Value.rVal record { ty = Declared'.row Places.the-type; one = Path.refl; val = Laws'''''''''''''.val Places.the-type Laws'''''.the-laws; tells =
+    Laws'''''''''''''.tells Places.the-type Laws'''''.the-laws; still = Laws'''''''''''''.still Places.the-type Laws'''''.the-copy Exit.yes; row =
+    Rows.whole (Declared'.row Places.the-type); rd = λ x. x; mk = λ x. x; } λ M 𝓤 H A W. record { copies = Laws'''''''''''''.copy Places.the-type
+    Laws'''''.the-copy 𝓤 H A W; lawful = Laws'''''''''''''.lawful Places.the-type Laws'''''.the-laws 𝓤 H A W; makes = Laws'''''''''''''.makes
+    Places.the-type Laws'''''.the-plain 𝓤 H A; in-mem = Local.mem-whole 𝓤 H A W (Declared'.row Places.the-type); of-mem = Local.whole-mem 𝓤 H A W
+    (Declared'.row Places.the-type); }
+abbrev pub ps·9 : List.List (Kinds.PK 2)
+ps·9 = (MutSlice.pMutS InflightAction.row 0 tt) ∷ (MutSlice.pMutS (Referent.rtF (Referent.fInt Syntax.w32)) 1 tt) ∷ (Value.pVal record { ty =
+    Declared.row HnsrAnswer.the-type; one = Path.refl; val = Laws''''''''''''.val HnsrAnswer.the-type Laws'''.the-laws; tells = Laws''''''''''''.tells
+    HnsrAnswer.the-type Laws'''.the-laws; still = Laws''''''''''''.still HnsrAnswer.the-type Laws'''.the-copy Exit.yes; row = Rows.whole (Declared.row
+    HnsrAnswer.the-type); rd = λ x. x; mk = λ x. x; } λ M 𝓤 H A W. record { copies = Laws''''''''''''.copy HnsrAnswer.the-type Laws'''.the-copy 𝓤 H A
+    W; lawful = Laws''''''''''''.lawful HnsrAnswer.the-type Laws'''.the-laws 𝓤 H A W tt; makes = Laws''''''''''''.makes HnsrAnswer.the-type
     Laws'''.the-plain 𝓤 H A; in-mem = Local.mem-whole 𝓤 H A W (Declared.row HnsrAnswer.the-type); of-mem = Local.whole-mem 𝓤 H A W (Declared.row
-    HnsrAnswer.the-type); }) ∷ (Value.pVal record { ty = Declared'.row OpaqueRelayRuntime.the-type; one = Path.refl; val = Laws''''''''''''.val
-    OpaqueRelayRuntime.the-type Laws'''''''''.the-laws; tells = Laws''''''''''''.tells OpaqueRelayRuntime.the-type Laws'''''''''.the-laws; still =
-    Laws''''''''''''.still OpaqueRelayRuntime.the-type Laws'''''''''.the-copy Exit.yes; row = Rows.whole (Declared'.row OpaqueRelayRuntime.the-type);
-    rd = λ x. x; mk = λ x. x; } λ M 𝓤 H A W. record { copies = Laws''''''''''''.copy OpaqueRelayRuntime.the-type Laws'''''''''.the-copy 𝓤 H A W;
-    lawful = Laws''''''''''''.lawful OpaqueRelayRuntime.the-type Laws'''''''''.the-laws 𝓤 H A W; makes = Laws''''''''''''.makes
-    OpaqueRelayRuntime.the-type Laws'''''''''.the-plain 𝓤 H A; in-mem = Local.mem-whole 𝓤 H A W (Declared'.row OpaqueRelayRuntime.the-type); of-mem =
-    Local.whole-mem 𝓤 H A W (Declared'.row OpaqueRelayRuntime.the-type); }) ∷ (Value.pVal record { ty = Declared'.row Outgoing.the-type; one =
-    Path.refl; val = Laws''''''''''''.val Outgoing.the-type Laws'''''.the-laws; tells = Laws''''''''''''.tells Outgoing.the-type Laws'''''.the-laws;
-    still = Laws''''''''''''.still Outgoing.the-type Laws'''''.the-copy Exit.yes; row = Rows.whole (Declared'.row Outgoing.the-type); rd = λ x. x; mk
-    = λ x. x; } λ M 𝓤 H A W. record { copies = Laws''''''''''''.copy Outgoing.the-type Laws'''''.the-copy 𝓤 H A W; lawful = Laws''''''''''''.lawful
-    Outgoing.the-type Laws'''''.the-laws 𝓤 H A W; makes = Laws''''''''''''.makes Outgoing.the-type Laws'''''.the-plain 𝓤 H A; in-mem = Local.mem-whole
-    𝓤 H A W (Declared'.row Outgoing.the-type); of-mem = Local.whole-mem 𝓤 H A W (Declared'.row Outgoing.the-type); }) ∷ (Value.pVal record { ty =
-    Declared'.row OpenedBody.the-type; one = Path.refl; val = Laws''''''''''''.val OpenedBody.the-type Laws'.the-laws; tells = Laws''''''''''''.tells
-    OpenedBody.the-type Laws'.the-laws; still = Laws''''''''''''.still OpenedBody.the-type Laws'.the-copy Exit.yes; row = Rows.whole (Declared'.row
-    OpenedBody.the-type); rd = λ x. x; mk = λ x. x; } λ M 𝓤 H A W. record { copies = Laws''''''''''''.copy OpenedBody.the-type Laws'.the-copy 𝓤 H A W;
-    lawful = Laws''''''''''''.lawful OpenedBody.the-type Laws'.the-laws 𝓤 H A W; makes = Laws''''''''''''.makes OpenedBody.the-type Laws'.the-plain 𝓤
-    H A; in-mem = Local.mem-whole 𝓤 H A W (Declared'.row OpenedBody.the-type); of-mem = Local.whole-mem 𝓤 H A W (Declared'.row OpenedBody.the-type);
-    }) ∷ List.[]
-abbrev pub r·8 : Kinds.RK 2
-r·8 = Value.rVal record { ty = Declared'.row Relayed.the-type; one = Path.refl; val = Laws''''''''''''.val Relayed.the-type Laws''''''''''.the-laws;
-    tells = Laws''''''''''''.tells Relayed.the-type Laws''''''''''.the-laws; still = Laws''''''''''''.still Relayed.the-type Laws''''''''''.the-copy
-    Exit.yes; row = Rows.whole (Declared'.row Relayed.the-type); rd = λ x. x; mk = λ x. x; } λ M 𝓤 H A W. record { copies = Laws''''''''''''.copy
-    Relayed.the-type Laws''''''''''.the-copy 𝓤 H A W; lawful = Laws''''''''''''.lawful Relayed.the-type Laws''''''''''.the-laws 𝓤 H A W; makes =
-    Laws''''''''''''.makes Relayed.the-type Laws''''''''''.the-plain 𝓤 H A; in-mem = Local.mem-whole 𝓤 H A W (Declared'.row Relayed.the-type); of-mem
-    = Local.whole-mem 𝓤 H A W (Declared'.row Relayed.the-type); }
+    HnsrAnswer.the-type); }) ∷ (Value.pVal record { ty = Declared'.row OpaqueRelayRuntime.the-type; one = Path.refl; val = Laws'''''''''''''.val
+    OpaqueRelayRuntime.the-type Laws''''''''''.the-laws; tells = Laws'''''''''''''.tells OpaqueRelayRuntime.the-type Laws''''''''''.the-laws; still =
+    Laws'''''''''''''.still OpaqueRelayRuntime.the-type Laws''''''''''.the-copy Exit.yes; row = Rows.whole (Declared'.row
+    OpaqueRelayRuntime.the-type); rd = λ x. x; mk = λ x. x; } λ M 𝓤 H A W. record { copies = Laws'''''''''''''.copy OpaqueRelayRuntime.the-type
+    Laws''''''''''.the-copy 𝓤 H A W; lawful = Laws'''''''''''''.lawful OpaqueRelayRuntime.the-type Laws''''''''''.the-laws 𝓤 H A W; makes =
+    Laws'''''''''''''.makes OpaqueRelayRuntime.the-type Laws''''''''''.the-plain 𝓤 H A; in-mem = Local.mem-whole 𝓤 H A W (Declared'.row
+    OpaqueRelayRuntime.the-type); of-mem = Local.whole-mem 𝓤 H A W (Declared'.row OpaqueRelayRuntime.the-type); }) ∷ (Value.pVal record { ty =
+    Declared'.row Places.the-type; one = Path.refl; val = Laws'''''''''''''.val Places.the-type Laws'''''.the-laws; tells = Laws'''''''''''''.tells
+    Places.the-type Laws'''''.the-laws; still = Laws'''''''''''''.still Places.the-type Laws'''''.the-copy Exit.yes; row = Rows.whole (Declared'.row
+    Places.the-type); rd = λ x. x; mk = λ x. x; } λ M 𝓤 H A W. record { copies = Laws'''''''''''''.copy Places.the-type Laws'''''.the-copy 𝓤 H A W;
+    lawful = Laws'''''''''''''.lawful Places.the-type Laws'''''.the-laws 𝓤 H A W; makes = Laws'''''''''''''.makes Places.the-type Laws'''''.the-plain
+    𝓤 H A; in-mem = Local.mem-whole 𝓤 H A W (Declared'.row Places.the-type); of-mem = Local.whole-mem 𝓤 H A W (Declared'.row Places.the-type); }) ∷
+    (Value.pVal record { ty = Declared'.row Outgoing.the-type; one = Path.refl; val = Laws'''''''''''''.val Outgoing.the-type Laws''''''.the-laws;
+    tells = Laws'''''''''''''.tells Outgoing.the-type Laws''''''.the-laws; still = Laws'''''''''''''.still Outgoing.the-type Laws''''''.the-copy
+    Exit.yes; row = Rows.whole (Declared'.row Outgoing.the-type); rd = λ x. x; mk = λ x. x; } λ M 𝓤 H A W. record { copies = Laws'''''''''''''.copy
+    Outgoing.the-type Laws''''''.the-copy 𝓤 H A W; lawful = Laws'''''''''''''.lawful Outgoing.the-type Laws''''''.the-laws 𝓤 H A W; makes =
+    Laws'''''''''''''.makes Outgoing.the-type Laws''''''.the-plain 𝓤 H A; in-mem = Local.mem-whole 𝓤 H A W (Declared'.row Outgoing.the-type); of-mem =
+    Local.whole-mem 𝓤 H A W (Declared'.row Outgoing.the-type); }) ∷ (Value.pVal record { ty = Declared'.row OpenedBody.the-type; one = Path.refl; val
+    = Laws'''''''''''''.val OpenedBody.the-type Laws'.the-laws; tells = Laws'''''''''''''.tells OpenedBody.the-type Laws'.the-laws; still =
+    Laws'''''''''''''.still OpenedBody.the-type Laws'.the-copy Exit.yes; row = Rows.whole (Declared'.row OpenedBody.the-type); rd = λ x. x; mk = λ x.
+    x; } λ M 𝓤 H A W. record { copies = Laws'''''''''''''.copy OpenedBody.the-type Laws'.the-copy 𝓤 H A W; lawful = Laws'''''''''''''.lawful
+    OpenedBody.the-type Laws'.the-laws 𝓤 H A W; makes = Laws'''''''''''''.makes OpenedBody.the-type Laws'.the-plain 𝓤 H A; in-mem = Local.mem-whole 𝓤
+    H A W (Declared'.row OpenedBody.the-type); of-mem = Local.whole-mem 𝓤 H A W (Declared'.row OpenedBody.the-type); }) ∷ List.[]
+abbrev pub r·9 : Kinds.RK 2
+r·9 = Value.rVal record { ty = Declared'.row Relayed.the-type; one = Path.refl; val = Laws'''''''''''''.val Relayed.the-type Laws'''''''''''.the-laws;
+    tells = Laws'''''''''''''.tells Relayed.the-type Laws'''''''''''.the-laws; still = Laws'''''''''''''.still Relayed.the-type
+    Laws'''''''''''.the-copy Exit.yes; row = Rows.whole (Declared'.row Relayed.the-type); rd = λ x. x; mk = λ x. x; } λ M 𝓤 H A W. record { copies =
+    Laws'''''''''''''.copy Relayed.the-type Laws'''''''''''.the-copy 𝓤 H A W; lawful = Laws'''''''''''''.lawful Relayed.the-type
+    Laws'''''''''''.the-laws 𝓤 H A W; makes = Laws'''''''''''''.makes Relayed.the-type Laws'''''''''''.the-plain 𝓤 H A; in-mem = Local.mem-whole 𝓤 H A
+    W (Declared'.row Relayed.the-type); of-mem = Local.whole-mem 𝓤 H A W (Declared'.row Relayed.the-type); }
 abbrev pub hs : List.List Syntax.Home
 hs = Syntax.valueLocal ∷ Syntax.valueLocal ∷ Syntax.valueLocal ∷ Syntax.valueLocal ∷ Syntax.valueLocal ∷ Syntax.valueLocal ∷ Syntax.valueLocal ∷
     Syntax.valueLocal ∷ Syntax.valueLocal ∷ Syntax.valueLocal ∷ Syntax.valueLocal ∷ Syntax.valueLocal ∷ Syntax.valueLocal ∷ Syntax.valueLocal ∷
     Syntax.valueLocal ∷ Syntax.valueLocal ∷ Syntax.valueLocal ∷ Syntax.valueLocal ∷ Syntax.valueLocal ∷ Syntax.valueLocal ∷ Syntax.valueLocal ∷
     Syntax.valueLocal ∷ Syntax.valueLocal ∷ Syntax.valueLocal ∷ Syntax.valueLocal ∷ Syntax.valueLocal ∷ Syntax.valueLocal ∷ Syntax.valueLocal ∷
     Syntax.valueLocal ∷ Syntax.valueLocal ∷ Syntax.valueLocal ∷ Syntax.valueLocal ∷ Syntax.valueLocal ∷ Syntax.valueLocal ∷ Syntax.valueLocal ∷
-    Syntax.valueLocal ∷ Syntax.valueLocal ∷ Syntax.valueLocal ∷ Syntax.valueLocal ∷ List.[]
+    Syntax.valueLocal ∷ Syntax.valueLocal ∷ Syntax.valueLocal ∷ Syntax.valueLocal ∷ Syntax.valueLocal ∷ Syntax.valueLocal ∷ List.[]
 abbrev b0 : Syntax.Body
-b0 = Syntax.call "hnsr_circuit::question::at" ((Syntax.copy (Syntax.place 6 ((Syntax.field 1) ∷ List.[]))) ∷ (Syntax.int Syntax.w64 0) ∷ List.[])
-    (Syntax.place 9 List.[])
+b0 = Syntax.call "hnsr_circuit::question::at" ((Syntax.copy (Syntax.place 7 ((Syntax.field 1) ∷ List.[]))) ∷ (Syntax.int Syntax.w64 0) ∷ List.[])
+    (Syntax.place 10 List.[])
 abbrev b1 : Syntax.Body
-b1 = Syntax.assign (Syntax.place 20 List.[]) (Syntax.addrOf (Syntax.place 1 ((Syntax.field 0) ∷ (Syntax.deref RelayPending.ty) ∷ List.[])))
+b1 = Syntax.assign (Syntax.place 23 List.[]) (Syntax.addrOf (Syntax.place 1 ((Syntax.field 0) ∷ (Syntax.deref RelayPending.ty) ∷ List.[])))
 abbrev b2 : Syntax.Body
-b2 = Syntax.assign (Syntax.place 21 List.[]) (Syntax.aggregate ((Syntax.copy (Syntax.place 20 List.[])) ∷ (Syntax.copy (Syntax.place 1 ((Syntax.field
+b2 = Syntax.assign (Syntax.place 24 List.[]) (Syntax.aggregate ((Syntax.copy (Syntax.place 23 List.[])) ∷ (Syntax.copy (Syntax.place 1 ((Syntax.field
     1) ∷ List.[]))) ∷ List.[]))
 abbrev b3 : Syntax.Body
-b3 = Syntax.call "hnsr_circuit::lookup::look_up_pending" ((Syntax.copy (Syntax.place 21 List.[])) ∷ (Syntax.copy (Syntax.place 9 List.[])) ∷ List.[])
-    (Syntax.place 10 List.[])
+b3 = Syntax.call "hnsr_circuit::lookup::look_up_pending" ((Syntax.copy (Syntax.place 24 List.[])) ∷ (Syntax.copy (Syntax.place 6 List.[])) ∷
+    (Syntax.copy (Syntax.place 10 List.[])) ∷ List.[]) (Syntax.place 11 List.[])
 abbrev b4 : Syntax.Body
-b4 = Syntax.call "hnsr_body::accept_body::AcceptBody::decode" ((Syntax.copy (Syntax.place 8 List.[])) ∷ List.[]) (Syntax.place 11 List.[])
+b4 = Syntax.call "hnsr_body::accept_body::AcceptBody::decode" ((Syntax.copy (Syntax.place 9 List.[])) ∷ List.[]) (Syntax.place 12 List.[])
 abbrev b5 : Syntax.Body
-b5 = Syntax.assign (Syntax.place 12 List.[]) (Syntax.rvOpd (Syntax.copy (Syntax.place 5 ((Syntax.field 4) ∷ List.[]))))
+b5 = Syntax.assign (Syntax.place 13 List.[]) (Syntax.rvOpd (Syntax.copy (Syntax.place 5 ((Syntax.field 4) ∷ List.[]))))
 abbrev b6 : Syntax.Body
-b6 = Syntax.assign (Syntax.place 22 List.[]) (Syntax.addrOf (Syntax.place 1 ((Syntax.field 0) ∷ (Syntax.deref RelayPending.ty) ∷ List.[])))
+b6 = Syntax.assign (Syntax.place 25 List.[]) (Syntax.addrOf (Syntax.place 1 ((Syntax.field 0) ∷ (Syntax.deref RelayPending.ty) ∷ List.[])))
 abbrev b7 : Syntax.Body
-b7 = Syntax.assign (Syntax.place 23 List.[]) (Syntax.aggregate ((Syntax.copy (Syntax.place 22 List.[])) ∷ (Syntax.copy (Syntax.place 1 ((Syntax.field
+b7 = Syntax.assign (Syntax.place 26 List.[]) (Syntax.aggregate ((Syntax.copy (Syntax.place 25 List.[])) ∷ (Syntax.copy (Syntax.place 1 ((Syntax.field
     1) ∷ List.[]))) ∷ List.[]))
 abbrev b8 : Syntax.Body
-b8 = Syntax.assign (Syntax.place 24 List.[]) (Syntax.addrOf (Syntax.place 2 ((Syntax.field 0) ∷ (Syntax.deref RelayCircuit.ty) ∷ List.[])))
+b8 = Syntax.assign (Syntax.place 27 List.[]) (Syntax.addrOf (Syntax.place 2 ((Syntax.field 0) ∷ (Syntax.deref RelayCircuit.ty) ∷ List.[])))
 abbrev b9 : Syntax.Body
-b9 = Syntax.assign (Syntax.place 25 List.[]) (Syntax.aggregate ((Syntax.copy (Syntax.place 24 List.[])) ∷ (Syntax.copy (Syntax.place 2 ((Syntax.field
+b9 = Syntax.assign (Syntax.place 28 List.[]) (Syntax.aggregate ((Syntax.copy (Syntax.place 27 List.[])) ∷ (Syntax.copy (Syntax.place 2 ((Syntax.field
     1) ∷ List.[]))) ∷ List.[]))
 abbrev b10 : Syntax.Body
-b10 = Syntax.assign (Syntax.place 26 List.[]) (Syntax.addrOf (Syntax.place 3 ((Syntax.field 0) ∷ (Syntax.deref InflightAction.ty) ∷ List.[])))
+b10 = Syntax.assign (Syntax.place 29 List.[]) (Syntax.addrOf (Syntax.place 3 ((Syntax.field 0) ∷ (Syntax.deref InflightAction.ty) ∷ List.[])))
 abbrev b11 : Syntax.Body
-b11 = Syntax.assign (Syntax.place 27 List.[]) (Syntax.aggregate ((Syntax.copy (Syntax.place 26 List.[])) ∷ (Syntax.copy (Syntax.place 3 ((Syntax.field
+b11 = Syntax.assign (Syntax.place 30 List.[]) (Syntax.aggregate ((Syntax.copy (Syntax.place 29 List.[])) ∷ (Syntax.copy (Syntax.place 3 ((Syntax.field
     1) ∷ List.[]))) ∷ List.[]))
 abbrev b12 : Syntax.Body
-b12 = Syntax.call "hnsr_circuit::handle_accept::accept_answered" ((Syntax.copy (Syntax.place 23 List.[])) ∷ (Syntax.copy (Syntax.place 25 List.[])) ∷
-    (Syntax.copy (Syntax.place 27 List.[])) ∷ (Syntax.copy (Syntax.place 12 List.[])) ∷ (Syntax.copy (Syntax.place 6 List.[])) ∷ (Syntax.copy
-    (Syntax.place 10 List.[])) ∷ (Syntax.copy (Syntax.place 11 List.[])) ∷ (Syntax.copy (Syntax.place 7 List.[])) ∷ List.[]) (Syntax.place 13 List.[])
+b12 = Syntax.call "hnsr_circuit::handle_accept::accept_answered" ((Syntax.copy (Syntax.place 26 List.[])) ∷ (Syntax.copy (Syntax.place 28 List.[])) ∷
+    (Syntax.copy (Syntax.place 30 List.[])) ∷ (Syntax.copy (Syntax.place 6 List.[])) ∷ (Syntax.copy (Syntax.place 13 List.[])) ∷ (Syntax.copy
+    (Syntax.place 7 List.[])) ∷ (Syntax.copy (Syntax.place 11 List.[])) ∷ (Syntax.copy (Syntax.place 12 List.[])) ∷ (Syntax.copy (Syntax.place 8
+    List.[])) ∷ List.[]) (Syntax.place 14 List.[])
 abbrev b13 : Syntax.Body
-b13 = Syntax.call "hnsr_circuit::accept::accept_plan" ((Syntax.copy (Syntax.place 13 List.[])) ∷ (Syntax.copy (Syntax.place 5 List.[])) ∷ (Syntax.copy
-    (Syntax.place 10 List.[])) ∷ (Syntax.copy (Syntax.place 11 List.[])) ∷ List.[]) (Syntax.place 14 List.[])
+b13 = Syntax.call "hnsr_circuit::accept::accept_plan" ((Syntax.copy (Syntax.place 14 List.[])) ∷ (Syntax.copy (Syntax.place 5 List.[])) ∷ (Syntax.copy
+    (Syntax.place 11 List.[])) ∷ (Syntax.copy (Syntax.place 12 List.[])) ∷ List.[]) (Syntax.place 15 List.[])
 abbrev b14 : Syntax.Body
-b14 = Syntax.call "hnsr_circuit::accept::found_unmarked" ((Syntax.copy (Syntax.place 10 List.[])) ∷ List.[]) (Syntax.place 15 List.[])
+b14 = Syntax.call "hnsr_circuit::accept::found_unmarked" ((Syntax.copy (Syntax.place 11 List.[])) ∷ List.[]) (Syntax.place 16 List.[])
 abbrev b15 : Syntax.Body
-b15 = Syntax.call "hnsr_circuit::accept::circuit_for" ((Syntax.copy (Syntax.place 12 List.[])) ∷ (Syntax.copy (Syntax.place 10 List.[])) ∷
-    (Syntax.copy (Syntax.place 11 List.[])) ∷ List.[]) (Syntax.place 16 List.[])
+b15 = Syntax.call "hnsr_circuit::accept::circuit_for" ((Syntax.copy (Syntax.place 13 List.[])) ∷ (Syntax.copy (Syntax.place 11 List.[])) ∷
+    (Syntax.copy (Syntax.place 12 List.[])) ∷ List.[]) (Syntax.place 17 List.[])
 abbrev b16 : Syntax.Body
-b16 = Syntax.assign (Syntax.place 17 List.[]) (Syntax.rvOpd (Syntax.copy (Syntax.place 14 ((Syntax.field 3) ∷ List.[]))))
+b16 = Syntax.assign (Syntax.place 18 List.[]) (Syntax.rvOpd (Syntax.copy (Syntax.place 15 ((Syntax.field 3) ∷ List.[]))))
 abbrev b17 : Syntax.Body
-b17 = Syntax.assign (Syntax.place 18 List.[]) (Syntax.rvOpd (Syntax.copy (Syntax.place 14 ((Syntax.field 4) ∷ List.[]))))
+b17 = Syntax.assign (Syntax.place 19 List.[]) (Syntax.rvOpd (Syntax.copy (Syntax.place 15 ((Syntax.field 4) ∷ List.[]))))
 abbrev b18 : Syntax.Body
-b18 = Syntax.assign (Syntax.place 19 List.[]) (Syntax.rvOpd (Syntax.copy (Syntax.place 14 ((Syntax.field 5) ∷ List.[]))))
+b18 = Syntax.assign (Syntax.place 20 List.[]) (Syntax.rvOpd (Syntax.copy (Syntax.place 15 ((Syntax.field 5) ∷ List.[]))))
 abbrev b19 : Syntax.Body
-b19 = Syntax.assign (Syntax.place 29 List.[]) (Syntax.addrOf (Syntax.place 1 ((Syntax.field 0) ∷ (Syntax.deref RelayPending.ty) ∷ List.[])))
+b19 = Syntax.assign (Syntax.place 31 List.[]) (Syntax.addrOf (Syntax.place 1 ((Syntax.field 0) ∷ (Syntax.deref RelayPending.ty) ∷ List.[])))
 abbrev b20 : Syntax.Body
-b20 = Syntax.assign (Syntax.place 30 List.[]) (Syntax.aggregate ((Syntax.copy (Syntax.place 29 List.[])) ∷ (Syntax.copy (Syntax.place 1 ((Syntax.field
+b20 = Syntax.assign (Syntax.place 32 List.[]) (Syntax.aggregate ((Syntax.copy (Syntax.place 31 List.[])) ∷ (Syntax.copy (Syntax.place 1 ((Syntax.field
     1) ∷ List.[]))) ∷ List.[]))
 abbrev b21 : Syntax.Body
-b21 = Syntax.assign (Syntax.place 31 List.[]) (Syntax.addrOf (Syntax.place 2 ((Syntax.field 0) ∷ (Syntax.deref RelayCircuit.ty) ∷ List.[])))
+b21 = Syntax.assign (Syntax.place 33 List.[]) (Syntax.addrOf (Syntax.place 2 ((Syntax.field 0) ∷ (Syntax.deref RelayCircuit.ty) ∷ List.[])))
 abbrev b22 : Syntax.Body
-b22 = Syntax.assign (Syntax.place 32 List.[]) (Syntax.aggregate ((Syntax.copy (Syntax.place 31 List.[])) ∷ (Syntax.copy (Syntax.place 2 ((Syntax.field
+b22 = Syntax.assign (Syntax.place 34 List.[]) (Syntax.aggregate ((Syntax.copy (Syntax.place 33 List.[])) ∷ (Syntax.copy (Syntax.place 2 ((Syntax.field
     1) ∷ List.[]))) ∷ List.[]))
 abbrev b23 : Syntax.Body
-b23 = Syntax.assign (Syntax.place 33 List.[]) (Syntax.addrOf (Syntax.place 3 ((Syntax.field 0) ∷ (Syntax.deref InflightAction.ty) ∷ List.[])))
+b23 = Syntax.assign (Syntax.place 35 List.[]) (Syntax.addrOf (Syntax.place 3 ((Syntax.field 0) ∷ (Syntax.deref InflightAction.ty) ∷ List.[])))
 abbrev b24 : Syntax.Body
-b24 = Syntax.assign (Syntax.place 34 List.[]) (Syntax.aggregate ((Syntax.copy (Syntax.place 33 List.[])) ∷ (Syntax.copy (Syntax.place 3 ((Syntax.field
+b24 = Syntax.assign (Syntax.place 36 List.[]) (Syntax.aggregate ((Syntax.copy (Syntax.place 35 List.[])) ∷ (Syntax.copy (Syntax.place 3 ((Syntax.field
     1) ∷ List.[]))) ∷ List.[]))
 abbrev b25 : Syntax.Body
-b25 = Syntax.call "hnsr_circuit::handle_accept::accept_written" ((Syntax.copy (Syntax.place 30 List.[])) ∷ (Syntax.copy (Syntax.place 32 List.[])) ∷
-    (Syntax.copy (Syntax.place 34 List.[])) ∷ (Syntax.copy (Syntax.place 14 List.[])) ∷ (Syntax.copy (Syntax.place 15 List.[])) ∷ (Syntax.copy
-    (Syntax.place 16 List.[])) ∷ List.[]) (Syntax.place 28 List.[])
+b25 = Syntax.call "hnsr_circuit::handle_accept::accept_written" ((Syntax.copy (Syntax.place 32 List.[])) ∷ (Syntax.copy (Syntax.place 34 List.[])) ∷
+    (Syntax.copy (Syntax.place 36 List.[])) ∷ (Syntax.copy (Syntax.place 6 List.[])) ∷ (Syntax.copy (Syntax.place 15 List.[])) ∷ (Syntax.copy
+    (Syntax.place 16 List.[])) ∷ (Syntax.copy (Syntax.place 17 List.[])) ∷ List.[]) (Syntax.place 21 List.[])
 abbrev b26 : Syntax.Body
-b26 = Syntax.assign (Syntax.place 35 List.[]) (Syntax.addrOf (Syntax.place 3 ((Syntax.field 0) ∷ (Syntax.deref InflightAction.ty) ∷ List.[])))
+b26 = Syntax.call "hnsr_circuit::places::with_circuits" ((Syntax.copy (Syntax.place 6 List.[])) ∷ (Syntax.copy (Syntax.place 21 List.[])) ∷ List.[])
+    (Syntax.place 22 List.[])
 abbrev b27 : Syntax.Body
-b27 = Syntax.assign (Syntax.place 36 List.[]) (Syntax.aggregate ((Syntax.copy (Syntax.place 35 List.[])) ∷ (Syntax.copy (Syntax.place 3 ((Syntax.field
-    1) ∷ List.[]))) ∷ List.[]))
+b27 = Syntax.assign (Syntax.place 37 List.[]) (Syntax.addrOf (Syntax.place 3 ((Syntax.field 0) ∷ (Syntax.deref InflightAction.ty) ∷ List.[])))
 abbrev b28 : Syntax.Body
-b28 = Syntax.assign (Syntax.place 37 List.[]) (Syntax.addrOf (Syntax.place 4 ((Syntax.field 0) ∷ (Syntax.deref (Syntax.tyInt Syntax.w32)) ∷ List.[])))
-abbrev b29 : Syntax.Body
-b29 = Syntax.assign (Syntax.place 38 List.[]) (Syntax.aggregate ((Syntax.copy (Syntax.place 37 List.[])) ∷ (Syntax.copy (Syntax.place 4 ((Syntax.field
+b28 = Syntax.assign (Syntax.place 38 List.[]) (Syntax.aggregate ((Syntax.copy (Syntax.place 37 List.[])) ∷ (Syntax.copy (Syntax.place 3 ((Syntax.field
     1) ∷ List.[]))) ∷ List.[]))
+abbrev b29 : Syntax.Body
+b29 = Syntax.assign (Syntax.place 39 List.[]) (Syntax.addrOf (Syntax.place 4 ((Syntax.field 0) ∷ (Syntax.deref (Syntax.tyInt Syntax.w32)) ∷ List.[])))
 abbrev b30 : Syntax.Body
-b30 = Syntax.call "hnsr_circuit::handle_accept::send_opened" ((Syntax.copy (Syntax.place 36 List.[])) ∷ (Syntax.copy (Syntax.place 38 List.[])) ∷
-    (Syntax.copy (Syntax.place 13 List.[])) ∷ (Syntax.copy (Syntax.place 17 List.[])) ∷ (Syntax.copy (Syntax.place 18 List.[])) ∷ (Syntax.copy
-    (Syntax.place 19 List.[])) ∷ List.[]) (Syntax.place 0 List.[])
+b30 = Syntax.assign (Syntax.place 40 List.[]) (Syntax.aggregate ((Syntax.copy (Syntax.place 39 List.[])) ∷ (Syntax.copy (Syntax.place 4 ((Syntax.field
+    1) ∷ List.[]))) ∷ List.[]))
 abbrev b31 : Syntax.Body
-b31 = Syntax.return
+b31 = Syntax.call "hnsr_circuit::handle_accept::send_opened" ((Syntax.copy (Syntax.place 38 List.[])) ∷ (Syntax.copy (Syntax.place 40 List.[])) ∷
+    (Syntax.copy (Syntax.place 14 List.[])) ∷ (Syntax.copy (Syntax.place 18 List.[])) ∷ (Syntax.copy (Syntax.place 22 List.[])) ∷ (Syntax.copy
+    (Syntax.place 19 List.[])) ∷ (Syntax.copy (Syntax.place 20 List.[])) ∷ List.[]) (Syntax.place 0 List.[])
 abbrev b32 : Syntax.Body
-b32 = Syntax.seq b30 b31
+b32 = Syntax.return
 abbrev b33 : Syntax.Body
-b33 = Syntax.seq b29 b32
+b33 = Syntax.seq b31 b32
 abbrev b34 : Syntax.Body
-b34 = Syntax.seq b28 b33
+b34 = Syntax.seq b30 b33
 abbrev b35 : Syntax.Body
-b35 = Syntax.seq b27 b34
+b35 = Syntax.seq b29 b34
 abbrev b36 : Syntax.Body
-b36 = Syntax.seq b26 b35
+b36 = Syntax.seq b28 b35
 abbrev b37 : Syntax.Body
-b37 = Syntax.seq b25 b36
+b37 = Syntax.seq b27 b36
 abbrev b38 : Syntax.Body
-b38 = Syntax.seq b24 b37
+b38 = Syntax.seq b26 b37
 abbrev b39 : Syntax.Body
-b39 = Syntax.seq b23 b38
+b39 = Syntax.seq b25 b38
 abbrev b40 : Syntax.Body
-b40 = Syntax.seq b22 b39
+b40 = Syntax.seq b24 b39
 abbrev b41 : Syntax.Body
-b41 = Syntax.seq b21 b40
+b41 = Syntax.seq b23 b40
 abbrev b42 : Syntax.Body
-b42 = Syntax.seq b20 b41
+b42 = Syntax.seq b22 b41
 abbrev b43 : Syntax.Body
-b43 = Syntax.seq b19 b42
+b43 = Syntax.seq b21 b42
 abbrev b44 : Syntax.Body
-b44 = Syntax.seq b18 b43
+b44 = Syntax.seq b20 b43
 abbrev b45 : Syntax.Body
-b45 = Syntax.seq b17 b44
+b45 = Syntax.seq b19 b44
 abbrev b46 : Syntax.Body
-b46 = Syntax.seq b16 b45
+b46 = Syntax.seq b18 b45
 abbrev b47 : Syntax.Body
-b47 = Syntax.seq b15 b46
+b47 = Syntax.seq b17 b46
 abbrev b48 : Syntax.Body
-b48 = Syntax.seq b14 b47
+b48 = Syntax.seq b16 b47
 abbrev b49 : Syntax.Body
-b49 = Syntax.seq b13 b48
+b49 = Syntax.seq b15 b48
 abbrev b50 : Syntax.Body
-b50 = Syntax.seq b12 b49
+b50 = Syntax.seq b14 b49
 abbrev b51 : Syntax.Body
-b51 = Syntax.seq b11 b50
+b51 = Syntax.seq b13 b50
 abbrev b52 : Syntax.Body
-b52 = Syntax.seq b10 b51
+b52 = Syntax.seq b12 b51
 abbrev b53 : Syntax.Body
-b53 = Syntax.seq b9 b52
+b53 = Syntax.seq b11 b52
 abbrev b54 : Syntax.Body
-b54 = Syntax.seq b8 b53
+b54 = Syntax.seq b10 b53
 abbrev b55 : Syntax.Body
-b55 = Syntax.seq b7 b54
+b55 = Syntax.seq b9 b54
 abbrev b56 : Syntax.Body
-b56 = Syntax.seq b6 b55
+b56 = Syntax.seq b8 b55
 abbrev b57 : Syntax.Body
-b57 = Syntax.seq b5 b56
+b57 = Syntax.seq b7 b56
 abbrev b58 : Syntax.Body
-b58 = Syntax.seq b4 b57
+b58 = Syntax.seq b6 b57
 abbrev b59 : Syntax.Body
-b59 = Syntax.seq b3 b58
+b59 = Syntax.seq b5 b58
 abbrev b60 : Syntax.Body
-b60 = Syntax.seq b2 b59
+b60 = Syntax.seq b4 b59
 abbrev b61 : Syntax.Body
-b61 = Syntax.seq b1 b60
+b61 = Syntax.seq b3 b60
 abbrev b62 : Syntax.Body
-b62 = Syntax.seq b0 b61
+b62 = Syntax.seq b2 b61
+abbrev b63 : Syntax.Body
+b63 = Syntax.seq b1 b62
+abbrev b64 : Syntax.Body
+b64 = Syntax.seq b0 b63
 abbrev pub body : Syntax.Body
-body = b62
+body = b64
 abbrev pub Claims : Type 1
 Claims = Kinds.In 0 ps·0 × Kinds.Out 0 ps·0 r·0 × Kinds.In 1 ps·1 × Kinds.Out 1 ps·1 r·1 × Kinds.In 1 ps·2 × Kinds.Out 1 ps·2 r·2 × Kinds.In 4 ps·3 ×
     Kinds.Out 4 ps·3 r·3 × Kinds.In 0 ps·4 × Kinds.Out 0 ps·4 r·4 × Kinds.In 0 ps·5 × Kinds.Out 0 ps·5 r·5 × Kinds.In 0 ps·6 × Kinds.Out 0 ps·6 r·6 ×
-    Kinds.In 3 ps·7 × Kinds.Out 3 ps·7 r·7 × Kinds.In 2 ps·8 × Kinds.Out 2 ps·8 r·8
+    Kinds.In 3 ps·7 × Kinds.Out 3 ps·7 r·7 × Kinds.In 0 ps·8 × Kinds.Out 0 ps·8 r·8 × Kinds.In 2 ps·9 × Kinds.Out 2 ps·9 r·9
 abbrev e0 : Row.Entry
-e0 = (0, Rows.any-gone Laws''''''''''.mir)
+e0 = (0, Rows.any-gone Laws'''''''''''.mir)
 abbrev e1 : Row.Entry
 e1 = (1, Mut.mslice RelayPending.row ref7 0)
 abbrev e2 : Row.Entry
@@ -483,309 +534,323 @@ e4 = (4, Mut.mslice (Referent.rtF (Referent.fInt Syntax.w32)) ref10 3)
 abbrev e5 : Row.Entry
 e5 = (5, Rows.whole (Declared'.row OpaqueRelayRuntime.the-type))
 abbrev e6 : Row.Entry
-e6 = (6, Rows.whole (Declared'.row RelayPacket.the-type))
+e6 = (6, Rows.whole (Declared'.row Places.the-type))
 abbrev e7 : Row.Entry
-e7 = (7, Rows.sslice (Referent.rtF (Referent.fInt Syntax.w8)) ref11 4)
+e7 = (7, Rows.whole (Declared'.row RelayPacket.the-type))
 abbrev e8 : Row.Entry
-e8 = (8, Rows.sslice (Referent.rtF (Referent.fInt Syntax.w8)) ref12 5)
+e8 = (8, Rows.sslice (Referent.rtF (Referent.fInt Syntax.w8)) ref11 4)
 abbrev e9 : Row.Entry
-e9 = (9, Rows.any-gone Laws'''''''.mir)
+e9 = (9, Rows.sslice (Referent.rtF (Referent.fInt Syntax.w8)) ref12 5)
 abbrev e10 : Row.Entry
-e10 = (10, Rows.any-gone Laws''''''.mir)
+e10 = (10, Rows.any-gone Laws''''''''.mir)
 abbrev e11 : Row.Entry
-e11 = (11, Rows.any-gone Laws.mir)
+e11 = (11, Rows.any-gone Laws'''''''.mir)
 abbrev e12 : Row.Entry
-e12 = (12, Rows.any-gone Laws''''.mir)
+e12 = (12, Rows.any-gone Laws.mir)
 abbrev e13 : Row.Entry
-e13 = (13, Rows.any-gone Laws'''.mir)
+e13 = (13, Rows.any-gone Laws''''.mir)
 abbrev e14 : Row.Entry
-e14 = (14, Rows.any-gone Laws''.mir)
+e14 = (14, Rows.any-gone Laws'''.mir)
 abbrev e15 : Row.Entry
-e15 = (15, Rows.any-gone RelayPending.ty)
+e15 = (15, Rows.any-gone Laws''.mir)
 abbrev e16 : Row.Entry
-e16 = (16, Rows.any-gone RelayCircuit.ty)
+e16 = (16, Rows.any-gone RelayPending.ty)
 abbrev e17 : Row.Entry
-e17 = (17, Rows.any-gone Laws'''''''''.mir)
+e17 = (17, Rows.any-gone RelayCircuit.ty)
 abbrev e18 : Row.Entry
-e18 = (18, Rows.any-gone Laws'''''.mir)
+e18 = (18, Rows.any-gone Laws''''''''''.mir)
 abbrev e19 : Row.Entry
-e19 = (19, Rows.any-gone Laws'.mir)
+e19 = (19, Rows.any-gone Laws''''''.mir)
 abbrev e20 : Row.Entry
-e20 = (20, Rows.any-gone ref0)
+e20 = (20, Rows.any-gone Laws'.mir)
 abbrev e21 : Row.Entry
-e21 = (21, Rows.any-gone (Syntax.tyStruct (38 ∷ 91 ∷ 93 ∷ List.[]) (Syntax.tcons ref0 (Syntax.tcons (Syntax.tyInt Syntax.w64) Syntax.tnil))))
+e21 = (21, Rows.any-gone (Syntax.tyInt Syntax.w64))
 abbrev e22 : Row.Entry
-e22 = (22, Rows.any-gone ref0)
+e22 = (22, Rows.any-gone Laws'''''.mir)
 abbrev e23 : Row.Entry
-e23 = (23, Rows.any-gone (Syntax.tyStruct (38 ∷ 91 ∷ 93 ∷ List.[]) (Syntax.tcons ref0 (Syntax.tcons (Syntax.tyInt Syntax.w64) Syntax.tnil))))
+e23 = (23, Rows.any-gone ref0)
 abbrev e24 : Row.Entry
-e24 = (24, Rows.any-gone ref1)
+e24 = (24, Rows.any-gone (Syntax.tyStruct (38 ∷ 91 ∷ 93 ∷ List.[]) (Syntax.tcons ref0 (Syntax.tcons (Syntax.tyInt Syntax.w64) Syntax.tnil))))
 abbrev e25 : Row.Entry
-e25 = (25, Rows.any-gone (Syntax.tyStruct (38 ∷ 91 ∷ 93 ∷ List.[]) (Syntax.tcons ref1 (Syntax.tcons (Syntax.tyInt Syntax.w64) Syntax.tnil))))
+e25 = (25, Rows.any-gone ref0)
 abbrev e26 : Row.Entry
-e26 = (26, Rows.any-gone ref2)
+e26 = (26, Rows.any-gone (Syntax.tyStruct (38 ∷ 91 ∷ 93 ∷ List.[]) (Syntax.tcons ref0 (Syntax.tcons (Syntax.tyInt Syntax.w64) Syntax.tnil))))
 abbrev e27 : Row.Entry
-e27 = (27, Rows.any-gone (Syntax.tyStruct (38 ∷ 91 ∷ 93 ∷ List.[]) (Syntax.tcons ref2 (Syntax.tcons (Syntax.tyInt Syntax.w64) Syntax.tnil))))
+e27 = (27, Rows.any-gone ref1)
 abbrev e28 : Row.Entry
-e28 = (28, Rows.any-gone Syntax.tyUnit)
+e28 = (28, Rows.any-gone (Syntax.tyStruct (38 ∷ 91 ∷ 93 ∷ List.[]) (Syntax.tcons ref1 (Syntax.tcons (Syntax.tyInt Syntax.w64) Syntax.tnil))))
 abbrev e29 : Row.Entry
-e29 = (29, Rows.any-gone ref3)
+e29 = (29, Rows.any-gone ref2)
 abbrev e30 : Row.Entry
-e30 = (30, Rows.any-gone (Syntax.tyStruct (38 ∷ 91 ∷ 93 ∷ List.[]) (Syntax.tcons ref3 (Syntax.tcons (Syntax.tyInt Syntax.w64) Syntax.tnil))))
+e30 = (30, Rows.any-gone (Syntax.tyStruct (38 ∷ 91 ∷ 93 ∷ List.[]) (Syntax.tcons ref2 (Syntax.tcons (Syntax.tyInt Syntax.w64) Syntax.tnil))))
 abbrev e31 : Row.Entry
-e31 = (31, Rows.any-gone ref4)
+e31 = (31, Rows.any-gone ref3)
 abbrev e32 : Row.Entry
-e32 = (32, Rows.any-gone (Syntax.tyStruct (38 ∷ 91 ∷ 93 ∷ List.[]) (Syntax.tcons ref4 (Syntax.tcons (Syntax.tyInt Syntax.w64) Syntax.tnil))))
+e32 = (32, Rows.any-gone (Syntax.tyStruct (38 ∷ 91 ∷ 93 ∷ List.[]) (Syntax.tcons ref3 (Syntax.tcons (Syntax.tyInt Syntax.w64) Syntax.tnil))))
 abbrev e33 : Row.Entry
-e33 = (33, Rows.any-gone ref5)
+e33 = (33, Rows.any-gone ref4)
 abbrev e34 : Row.Entry
-e34 = (34, Rows.any-gone (Syntax.tyStruct (38 ∷ 91 ∷ 93 ∷ List.[]) (Syntax.tcons ref5 (Syntax.tcons (Syntax.tyInt Syntax.w64) Syntax.tnil))))
+e34 = (34, Rows.any-gone (Syntax.tyStruct (38 ∷ 91 ∷ 93 ∷ List.[]) (Syntax.tcons ref4 (Syntax.tcons (Syntax.tyInt Syntax.w64) Syntax.tnil))))
 abbrev e35 : Row.Entry
 e35 = (35, Rows.any-gone ref5)
 abbrev e36 : Row.Entry
 e36 = (36, Rows.any-gone (Syntax.tyStruct (38 ∷ 91 ∷ 93 ∷ List.[]) (Syntax.tcons ref5 (Syntax.tcons (Syntax.tyInt Syntax.w64) Syntax.tnil))))
 abbrev e37 : Row.Entry
-e37 = (37, Rows.any-gone ref6)
+e37 = (37, Rows.any-gone ref5)
 abbrev e38 : Row.Entry
-e38 = (38, Rows.any-gone (Syntax.tyStruct (38 ∷ 91 ∷ 93 ∷ List.[]) (Syntax.tcons ref6 (Syntax.tcons (Syntax.tyInt Syntax.w64) Syntax.tnil))))
+e38 = (38, Rows.any-gone (Syntax.tyStruct (38 ∷ 91 ∷ 93 ∷ List.[]) (Syntax.tcons ref5 (Syntax.tcons (Syntax.tyInt Syntax.w64) Syntax.tnil))))
+abbrev e39 : Row.Entry
+e39 = (39, Rows.any-gone ref6)
+abbrev e40 : Row.Entry
+e40 = (40, Rows.any-gone (Syntax.tyStruct (38 ∷ 91 ∷ 93 ∷ List.[]) (Syntax.tcons ref6 (Syntax.tcons (Syntax.tyInt Syntax.w64) Syntax.tnil))))
 abbrev e0·1 : Row.Entry
 e0·1 = (0, Rows.whole (Declared'.row Relayed.the-type))
 abbrev e5·1 : Row.Entry
-e5·1 = (5, Rows.any-gone Laws'''''''''.mir)
+e5·1 = (5, Rows.any-gone Laws''''''''''.mir)
 abbrev e6·1 : Row.Entry
-e6·1 = (6, Rows.any-gone Laws''''''''.mir)
-abbrev e9·1 : Row.Entry
-e9·1 = (9, Rows.whole (Declared'.row Question.the-type))
+e6·1 = (6, Rows.any-gone Laws'''''.mir)
+abbrev e7·1 : Row.Entry
+e7·1 = (7, Rows.any-gone Laws'''''''''.mir)
+abbrev e10·1 : Row.Entry
+e10·1 = (10, Rows.whole (Declared'.row Question.the-type))
 abbrev e1·1 : Row.Entry
 e1·1 = (1, Reshare.mslice-owedS RelayPending.row ref7 0 6 Row.off)
-abbrev e20·1 : Row.Entry
-e20·1 = (20, Relend.ssptr RelayPending.row ref0 6)
-abbrev e21·1 : Row.Entry
-e21·1 = (21, Rows.sslice RelayPending.row ref0 6)
-abbrev e10·1 : Row.Entry
-e10·1 = (10, Rows.whole (Declared'.row PendingFound.the-type))
+abbrev e23·1 : Row.Entry
+e23·1 = (23, Relend.ssptr RelayPending.row ref0 6)
+abbrev e24·1 : Row.Entry
+e24·1 = (24, Rows.sslice RelayPending.row ref0 6)
 abbrev e11·1 : Row.Entry
-e11·1 = (11, Rows.whole (Declared'.row AcceptRead.the-type))
+e11·1 = (11, Rows.whole (Declared'.row PendingFound.the-type))
 abbrev e12·1 : Row.Entry
-e12·1 = (12, Rows.whole (Declared'.row OpaqueRelayConfig.the-type))
+e12·1 = (12, Rows.whole (Declared'.row AcceptRead.the-type))
+abbrev e13·1 : Row.Entry
+e13·1 = (13, Rows.whole (Declared'.row OpaqueRelayConfig.the-type))
 abbrev e1·2 : Row.Entry
 e1·2 = (1, Reshare.mslice-owedS RelayPending.row ref7 0 7 Row.off)
-abbrev e22·1 : Row.Entry
-e22·1 = (22, Relend.ssptr RelayPending.row ref0 7)
-abbrev e23·1 : Row.Entry
-e23·1 = (23, Rows.sslice RelayPending.row ref0 7)
+abbrev e25·1 : Row.Entry
+e25·1 = (25, Relend.ssptr RelayPending.row ref0 7)
+abbrev e26·1 : Row.Entry
+e26·1 = (26, Rows.sslice RelayPending.row ref0 7)
 abbrev e2·1 : Row.Entry
 e2·1 = (2, Reshare.mslice-owedS RelayCircuit.row ref8 1 8 Row.off)
-abbrev e24·1 : Row.Entry
-e24·1 = (24, Relend.ssptr RelayCircuit.row ref1 8)
-abbrev e25·1 : Row.Entry
-e25·1 = (25, Rows.sslice RelayCircuit.row ref1 8)
+abbrev e27·1 : Row.Entry
+e27·1 = (27, Relend.ssptr RelayCircuit.row ref1 8)
+abbrev e28·1 : Row.Entry
+e28·1 = (28, Rows.sslice RelayCircuit.row ref1 8)
 abbrev e3·1 : Row.Entry
 e3·1 = (3, Reshare.mslice-owedS InflightAction.row ref9 2 9 Row.off)
-abbrev e26·1 : Row.Entry
-e26·1 = (26, Relend.ssptr InflightAction.row ref2 9)
-abbrev e27·1 : Row.Entry
-e27·1 = (27, Rows.sslice InflightAction.row ref2 9)
-abbrev e13·1 : Row.Entry
-e13·1 = (13, Rows.whole (Declared.row HnsrAnswer.the-type))
+abbrev e29·1 : Row.Entry
+e29·1 = (29, Relend.ssptr InflightAction.row ref2 9)
+abbrev e30·1 : Row.Entry
+e30·1 = (30, Rows.sslice InflightAction.row ref2 9)
 abbrev e14·1 : Row.Entry
-e14·1 = (14, Rows.whole (Declared'.row AcceptPlan.the-type))
+e14·1 = (14, Rows.whole (Declared.row HnsrAnswer.the-type))
 abbrev e15·1 : Row.Entry
-e15·1 = (15, RelayPending.held)
+e15·1 = (15, Rows.whole (Declared'.row AcceptPlan.the-type))
 abbrev e16·1 : Row.Entry
-e16·1 = (16, RelayCircuit.held)
+e16·1 = (16, RelayPending.held)
 abbrev e17·1 : Row.Entry
-e17·1 = (17, Rows.whole (Declared'.row OpaqueRelayRuntime.the-type))
+e17·1 = (17, RelayCircuit.held)
 abbrev e18·1 : Row.Entry
-e18·1 = (18, Rows.whole (Declared'.row Outgoing.the-type))
+e18·1 = (18, Rows.whole (Declared'.row OpaqueRelayRuntime.the-type))
 abbrev e19·1 : Row.Entry
-e19·1 = (19, Rows.whole (Declared'.row OpenedBody.the-type))
+e19·1 = (19, Rows.whole (Declared'.row Outgoing.the-type))
+abbrev e20·1 : Row.Entry
+e20·1 = (20, Rows.whole (Declared'.row OpenedBody.the-type))
 abbrev e1·3 : Row.Entry
 e1·3 = (1, Relend.mslice-owed RelayPending.row ref7 0 10 Row.off)
-abbrev e29·1 : Row.Entry
-e29·1 = (29, Relend.msptr RelayPending.row ref3 10)
-abbrev e30·1 : Row.Entry
-e30·1 = (30, Mut.mslice RelayPending.row ref3 10)
+abbrev e31·1 : Row.Entry
+e31·1 = (31, Relend.msptr RelayPending.row ref3 10)
+abbrev e32·1 : Row.Entry
+e32·1 = (32, Mut.mslice RelayPending.row ref3 10)
 abbrev e2·2 : Row.Entry
 e2·2 = (2, Relend.mslice-owed RelayCircuit.row ref8 1 11 Row.off)
-abbrev e31·1 : Row.Entry
-e31·1 = (31, Relend.msptr RelayCircuit.row ref4 11)
-abbrev e32·1 : Row.Entry
-e32·1 = (32, Mut.mslice RelayCircuit.row ref4 11)
+abbrev e33·1 : Row.Entry
+e33·1 = (33, Relend.msptr RelayCircuit.row ref4 11)
+abbrev e34·1 : Row.Entry
+e34·1 = (34, Mut.mslice RelayCircuit.row ref4 11)
 abbrev e3·2 : Row.Entry
 e3·2 = (3, Relend.mslice-owed InflightAction.row ref9 2 12 Row.off)
-abbrev e33·1 : Row.Entry
-e33·1 = (33, Relend.msptr InflightAction.row ref5 12)
-abbrev e34·1 : Row.Entry
-e34·1 = (34, Mut.mslice InflightAction.row ref5 12)
-abbrev e28·1 : Row.Entry
-e28·1 = (28, Rows.sc-here Row.sUnit)
-abbrev e30·2 : Row.Entry
-e30·2 = (30, Mut.msleft RelayPending.row ref3)
-abbrev e32·2 : Row.Entry
-e32·2 = (32, Mut.msleft RelayCircuit.row ref4)
-abbrev e34·2 : Row.Entry
-e34·2 = (34, Mut.msleft InflightAction.row ref5)
-abbrev e3·3 : Row.Entry
-e3·3 = (3, Relend.mslice-owed InflightAction.row ref9 2 13 Row.off)
 abbrev e35·1 : Row.Entry
-e35·1 = (35, Relend.msptr InflightAction.row ref5 13)
+e35·1 = (35, Relend.msptr InflightAction.row ref5 12)
 abbrev e36·1 : Row.Entry
-e36·1 = (36, Mut.mslice InflightAction.row ref5 13)
-abbrev e4·1 : Row.Entry
-e4·1 = (4, Relend.mslice-owed (Referent.rtF (Referent.fInt Syntax.w32)) ref10 3 14 Row.off)
-abbrev e37·1 : Row.Entry
-e37·1 = (37, Relend.msptr (Referent.rtF (Referent.fInt Syntax.w32)) ref6 14)
-abbrev e38·1 : Row.Entry
-e38·1 = (38, Mut.mslice (Referent.rtF (Referent.fInt Syntax.w32)) ref6 14)
+e36·1 = (36, Mut.mslice InflightAction.row ref5 12)
+abbrev e21·1 : Row.Entry
+e21·1 = (21, Rows.sc-here (Row.sInt Syntax.w64))
+abbrev e32·2 : Row.Entry
+e32·2 = (32, Mut.msleft RelayPending.row ref3)
+abbrev e34·2 : Row.Entry
+e34·2 = (34, Mut.msleft RelayCircuit.row ref4)
 abbrev e36·2 : Row.Entry
 e36·2 = (36, Mut.msleft InflightAction.row ref5)
+abbrev e22·1 : Row.Entry
+e22·1 = (22, Rows.whole (Declared'.row Places.the-type))
+abbrev e3·3 : Row.Entry
+e3·3 = (3, Relend.mslice-owed InflightAction.row ref9 2 13 Row.off)
+abbrev e37·1 : Row.Entry
+e37·1 = (37, Relend.msptr InflightAction.row ref5 13)
+abbrev e38·1 : Row.Entry
+e38·1 = (38, Mut.mslice InflightAction.row ref5 13)
+abbrev e4·1 : Row.Entry
+e4·1 = (4, Relend.mslice-owed (Referent.rtF (Referent.fInt Syntax.w32)) ref10 3 14 Row.off)
+abbrev e39·1 : Row.Entry
+e39·1 = (39, Relend.msptr (Referent.rtF (Referent.fInt Syntax.w32)) ref6 14)
+abbrev e40·1 : Row.Entry
+e40·1 = (40, Mut.mslice (Referent.rtF (Referent.fInt Syntax.w32)) ref6 14)
 abbrev e38·2 : Row.Entry
-e38·2 = (38, Mut.msleft (Referent.rtF (Referent.fInt Syntax.w32)) ref6)
+e38·2 = (38, Mut.msleft InflightAction.row ref5)
+abbrev e40·2 : Row.Entry
+e40·2 = (40, Mut.msleft (Referent.rtF (Referent.fInt Syntax.w32)) ref6)
 abbrev pub t0 : List.List Row.Entry
 t0 = e0 ∷ e1 ∷ e2 ∷ e3 ∷ e4 ∷ e5 ∷ e6 ∷ e7 ∷ e8 ∷ e9 ∷ e10 ∷ e11 ∷ e12 ∷ e13 ∷ e14 ∷ e15 ∷ List.[]
 abbrev pub t1 : List.List Row.Entry
 t1 = e16 ∷ e17 ∷ e18 ∷ e19 ∷ e20 ∷ e21 ∷ e22 ∷ e23 ∷ e24 ∷ e25 ∷ e26 ∷ e27 ∷ e28 ∷ e29 ∷ e30 ∷ e31 ∷ List.[]
 abbrev pub t2 : List.List Row.Entry
-t2 = e32 ∷ e33 ∷ e34 ∷ e35 ∷ e36 ∷ e37 ∷ e38 ∷ List.[]
+t2 = e32 ∷ e33 ∷ e34 ∷ e35 ∷ e36 ∷ e37 ∷ e38 ∷ e39 ∷ e40 ∷ List.[]
 abbrev pub t3 : List.List Row.Entry
-t3 = e0·1 ∷ e1 ∷ e2 ∷ e3 ∷ e4 ∷ e5·1 ∷ e6·1 ∷ e7 ∷ e8 ∷ e9 ∷ e10 ∷ e11 ∷ e12 ∷ e13 ∷ e14 ∷ e15 ∷ List.[]
+t3 = e0·1 ∷ e1 ∷ e2 ∷ e3 ∷ e4 ∷ e5·1 ∷ e6·1 ∷ e7·1 ∷ e8 ∷ e9 ∷ e10 ∷ e11 ∷ e12 ∷ e13 ∷ e14 ∷ e15 ∷ List.[]
 abbrev pub t4 : List.List Row.Entry
-t4 = e0 ∷ e1 ∷ e2 ∷ e3 ∷ e4 ∷ e5 ∷ e6 ∷ e7 ∷ e8 ∷ e9·1 ∷ e10 ∷ e11 ∷ e12 ∷ e13 ∷ e14 ∷ e15 ∷ List.[]
+t4 = e0 ∷ e1 ∷ e2 ∷ e3 ∷ e4 ∷ e5 ∷ e6 ∷ e7 ∷ e8 ∷ e9 ∷ e10·1 ∷ e11 ∷ e12 ∷ e13 ∷ e14 ∷ e15 ∷ List.[]
 abbrev pub t5 : List.List Row.Entry
-t5 = e0 ∷ e1·1 ∷ e2 ∷ e3 ∷ e4 ∷ e5 ∷ e6 ∷ e7 ∷ e8 ∷ e9·1 ∷ e10 ∷ e11 ∷ e12 ∷ e13 ∷ e14 ∷ e15 ∷ List.[]
+t5 = e0 ∷ e1·1 ∷ e2 ∷ e3 ∷ e4 ∷ e5 ∷ e6 ∷ e7 ∷ e8 ∷ e9 ∷ e10·1 ∷ e11 ∷ e12 ∷ e13 ∷ e14 ∷ e15 ∷ List.[]
 abbrev pub t6 : List.List Row.Entry
-t6 = e16 ∷ e17 ∷ e18 ∷ e19 ∷ e20·1 ∷ e21 ∷ e22 ∷ e23 ∷ e24 ∷ e25 ∷ e26 ∷ e27 ∷ e28 ∷ e29 ∷ e30 ∷ e31 ∷ List.[]
+t6 = e16 ∷ e17 ∷ e18 ∷ e19 ∷ e20 ∷ e21 ∷ e22 ∷ e23·1 ∷ e24 ∷ e25 ∷ e26 ∷ e27 ∷ e28 ∷ e29 ∷ e30 ∷ e31 ∷ List.[]
 abbrev pub t7 : List.List Row.Entry
-t7 = e16 ∷ e17 ∷ e18 ∷ e19 ∷ e20 ∷ e21·1 ∷ e22 ∷ e23 ∷ e24 ∷ e25 ∷ e26 ∷ e27 ∷ e28 ∷ e29 ∷ e30 ∷ e31 ∷ List.[]
+t7 = e16 ∷ e17 ∷ e18 ∷ e19 ∷ e20 ∷ e21 ∷ e22 ∷ e23 ∷ e24·1 ∷ e25 ∷ e26 ∷ e27 ∷ e28 ∷ e29 ∷ e30 ∷ e31 ∷ List.[]
 abbrev pub t8 : List.List Row.Entry
-t8 = e0 ∷ e1·1 ∷ e2 ∷ e3 ∷ e4 ∷ e5 ∷ e6 ∷ e7 ∷ e8 ∷ e9·1 ∷ e10·1 ∷ e11 ∷ e12 ∷ e13 ∷ e14 ∷ e15 ∷ List.[]
+t8 = e0 ∷ e1·1 ∷ e2 ∷ e3 ∷ e4 ∷ e5 ∷ e6 ∷ e7 ∷ e8 ∷ e9 ∷ e10·1 ∷ e11·1 ∷ e12 ∷ e13 ∷ e14 ∷ e15 ∷ List.[]
 abbrev pub t9 : List.List Row.Entry
-t9 = e0 ∷ e1·1 ∷ e2 ∷ e3 ∷ e4 ∷ e5 ∷ e6 ∷ e7 ∷ e8 ∷ e9 ∷ e10·1 ∷ e11 ∷ e12 ∷ e13 ∷ e14 ∷ e15 ∷ List.[]
+t9 = e0 ∷ e1·1 ∷ e2 ∷ e3 ∷ e4 ∷ e5 ∷ e6 ∷ e7 ∷ e8 ∷ e9 ∷ e10 ∷ e11·1 ∷ e12 ∷ e13 ∷ e14 ∷ e15 ∷ List.[]
 abbrev pub t10 : List.List Row.Entry
-t10 = e0 ∷ e1 ∷ e2 ∷ e3 ∷ e4 ∷ e5 ∷ e6 ∷ e7 ∷ e8 ∷ e9 ∷ e10·1 ∷ e11 ∷ e12 ∷ e13 ∷ e14 ∷ e15 ∷ List.[]
+t10 = e0 ∷ e1 ∷ e2 ∷ e3 ∷ e4 ∷ e5 ∷ e6 ∷ e7 ∷ e8 ∷ e9 ∷ e10 ∷ e11·1 ∷ e12 ∷ e13 ∷ e14 ∷ e15 ∷ List.[]
 abbrev pub t11 : List.List Row.Entry
-t11 = e0 ∷ e1 ∷ e2 ∷ e3 ∷ e4 ∷ e5 ∷ e6 ∷ e7 ∷ e8 ∷ e9 ∷ e10·1 ∷ e11·1 ∷ e12 ∷ e13 ∷ e14 ∷ e15 ∷ List.[]
+t11 = e0 ∷ e1 ∷ e2 ∷ e3 ∷ e4 ∷ e5 ∷ e6 ∷ e7 ∷ e8 ∷ e9 ∷ e10 ∷ e11·1 ∷ e12·1 ∷ e13 ∷ e14 ∷ e15 ∷ List.[]
 abbrev pub t12 : List.List Row.Entry
-t12 = e0 ∷ e1 ∷ e2 ∷ e3 ∷ e4 ∷ e5 ∷ e6 ∷ e7 ∷ e8 ∷ e9 ∷ e10·1 ∷ e11·1 ∷ e12·1 ∷ e13 ∷ e14 ∷ e15 ∷ List.[]
+t12 = e0 ∷ e1 ∷ e2 ∷ e3 ∷ e4 ∷ e5 ∷ e6 ∷ e7 ∷ e8 ∷ e9 ∷ e10 ∷ e11·1 ∷ e12·1 ∷ e13·1 ∷ e14 ∷ e15 ∷ List.[]
 abbrev pub t13 : List.List Row.Entry
-t13 = e0 ∷ e1·2 ∷ e2 ∷ e3 ∷ e4 ∷ e5 ∷ e6 ∷ e7 ∷ e8 ∷ e9 ∷ e10·1 ∷ e11·1 ∷ e12·1 ∷ e13 ∷ e14 ∷ e15 ∷ List.[]
+t13 = e0 ∷ e1·2 ∷ e2 ∷ e3 ∷ e4 ∷ e5 ∷ e6 ∷ e7 ∷ e8 ∷ e9 ∷ e10 ∷ e11·1 ∷ e12·1 ∷ e13·1 ∷ e14 ∷ e15 ∷ List.[]
 abbrev pub t14 : List.List Row.Entry
-t14 = e16 ∷ e17 ∷ e18 ∷ e19 ∷ e20 ∷ e21 ∷ e22·1 ∷ e23 ∷ e24 ∷ e25 ∷ e26 ∷ e27 ∷ e28 ∷ e29 ∷ e30 ∷ e31 ∷ List.[]
+t14 = e16 ∷ e17 ∷ e18 ∷ e19 ∷ e20 ∷ e21 ∷ e22 ∷ e23 ∷ e24 ∷ e25·1 ∷ e26 ∷ e27 ∷ e28 ∷ e29 ∷ e30 ∷ e31 ∷ List.[]
 abbrev pub t15 : List.List Row.Entry
-t15 = e16 ∷ e17 ∷ e18 ∷ e19 ∷ e20 ∷ e21 ∷ e22 ∷ e23·1 ∷ e24 ∷ e25 ∷ e26 ∷ e27 ∷ e28 ∷ e29 ∷ e30 ∷ e31 ∷ List.[]
+t15 = e16 ∷ e17 ∷ e18 ∷ e19 ∷ e20 ∷ e21 ∷ e22 ∷ e23 ∷ e24 ∷ e25 ∷ e26·1 ∷ e27 ∷ e28 ∷ e29 ∷ e30 ∷ e31 ∷ List.[]
 abbrev pub t16 : List.List Row.Entry
-t16 = e0 ∷ e1·2 ∷ e2·1 ∷ e3 ∷ e4 ∷ e5 ∷ e6 ∷ e7 ∷ e8 ∷ e9 ∷ e10·1 ∷ e11·1 ∷ e12·1 ∷ e13 ∷ e14 ∷ e15 ∷ List.[]
+t16 = e0 ∷ e1·2 ∷ e2·1 ∷ e3 ∷ e4 ∷ e5 ∷ e6 ∷ e7 ∷ e8 ∷ e9 ∷ e10 ∷ e11·1 ∷ e12·1 ∷ e13·1 ∷ e14 ∷ e15 ∷ List.[]
 abbrev pub t17 : List.List Row.Entry
-t17 = e16 ∷ e17 ∷ e18 ∷ e19 ∷ e20 ∷ e21 ∷ e22 ∷ e23·1 ∷ e24·1 ∷ e25 ∷ e26 ∷ e27 ∷ e28 ∷ e29 ∷ e30 ∷ e31 ∷ List.[]
+t17 = e16 ∷ e17 ∷ e18 ∷ e19 ∷ e20 ∷ e21 ∷ e22 ∷ e23 ∷ e24 ∷ e25 ∷ e26·1 ∷ e27·1 ∷ e28 ∷ e29 ∷ e30 ∷ e31 ∷ List.[]
 abbrev pub t18 : List.List Row.Entry
-t18 = e16 ∷ e17 ∷ e18 ∷ e19 ∷ e20 ∷ e21 ∷ e22 ∷ e23·1 ∷ e24 ∷ e25·1 ∷ e26 ∷ e27 ∷ e28 ∷ e29 ∷ e30 ∷ e31 ∷ List.[]
+t18 = e16 ∷ e17 ∷ e18 ∷ e19 ∷ e20 ∷ e21 ∷ e22 ∷ e23 ∷ e24 ∷ e25 ∷ e26·1 ∷ e27 ∷ e28·1 ∷ e29 ∷ e30 ∷ e31 ∷ List.[]
 abbrev pub t19 : List.List Row.Entry
-t19 = e0 ∷ e1·2 ∷ e2·1 ∷ e3·1 ∷ e4 ∷ e5 ∷ e6 ∷ e7 ∷ e8 ∷ e9 ∷ e10·1 ∷ e11·1 ∷ e12·1 ∷ e13 ∷ e14 ∷ e15 ∷ List.[]
+t19 = e0 ∷ e1·2 ∷ e2·1 ∷ e3·1 ∷ e4 ∷ e5 ∷ e6 ∷ e7 ∷ e8 ∷ e9 ∷ e10 ∷ e11·1 ∷ e12·1 ∷ e13·1 ∷ e14 ∷ e15 ∷ List.[]
 abbrev pub t20 : List.List Row.Entry
-t20 = e16 ∷ e17 ∷ e18 ∷ e19 ∷ e20 ∷ e21 ∷ e22 ∷ e23·1 ∷ e24 ∷ e25·1 ∷ e26·1 ∷ e27 ∷ e28 ∷ e29 ∷ e30 ∷ e31 ∷ List.[]
+t20 = e16 ∷ e17 ∷ e18 ∷ e19 ∷ e20 ∷ e21 ∷ e22 ∷ e23 ∷ e24 ∷ e25 ∷ e26·1 ∷ e27 ∷ e28·1 ∷ e29·1 ∷ e30 ∷ e31 ∷ List.[]
 abbrev pub t21 : List.List Row.Entry
-t21 = e16 ∷ e17 ∷ e18 ∷ e19 ∷ e20 ∷ e21 ∷ e22 ∷ e23·1 ∷ e24 ∷ e25·1 ∷ e26 ∷ e27·1 ∷ e28 ∷ e29 ∷ e30 ∷ e31 ∷ List.[]
+t21 = e16 ∷ e17 ∷ e18 ∷ e19 ∷ e20 ∷ e21 ∷ e22 ∷ e23 ∷ e24 ∷ e25 ∷ e26·1 ∷ e27 ∷ e28·1 ∷ e29 ∷ e30·1 ∷ e31 ∷ List.[]
 abbrev pub t22 : List.List Row.Entry
-t22 = e0 ∷ e1·2 ∷ e2·1 ∷ e3·1 ∷ e4 ∷ e5 ∷ e6 ∷ e7 ∷ e8 ∷ e9 ∷ e10·1 ∷ e11·1 ∷ e12·1 ∷ e13·1 ∷ e14 ∷ e15 ∷ List.[]
+t22 = e0 ∷ e1·2 ∷ e2·1 ∷ e3·1 ∷ e4 ∷ e5 ∷ e6 ∷ e7 ∷ e8 ∷ e9 ∷ e10 ∷ e11·1 ∷ e12·1 ∷ e13·1 ∷ e14·1 ∷ e15 ∷ List.[]
 abbrev pub t23 : List.List Row.Entry
-t23 = e16 ∷ e17 ∷ e18 ∷ e19 ∷ e20 ∷ e21 ∷ e22 ∷ e23 ∷ e24 ∷ e25·1 ∷ e26 ∷ e27·1 ∷ e28 ∷ e29 ∷ e30 ∷ e31 ∷ List.[]
+t23 = e16 ∷ e17 ∷ e18 ∷ e19 ∷ e20 ∷ e21 ∷ e22 ∷ e23 ∷ e24 ∷ e25 ∷ e26 ∷ e27 ∷ e28·1 ∷ e29 ∷ e30·1 ∷ e31 ∷ List.[]
 abbrev pub t24 : List.List Row.Entry
-t24 = e16 ∷ e17 ∷ e18 ∷ e19 ∷ e20 ∷ e21 ∷ e22 ∷ e23 ∷ e24 ∷ e25 ∷ e26 ∷ e27·1 ∷ e28 ∷ e29 ∷ e30 ∷ e31 ∷ List.[]
+t24 = e16 ∷ e17 ∷ e18 ∷ e19 ∷ e20 ∷ e21 ∷ e22 ∷ e23 ∷ e24 ∷ e25 ∷ e26 ∷ e27 ∷ e28 ∷ e29 ∷ e30·1 ∷ e31 ∷ List.[]
 abbrev pub t25 : List.List Row.Entry
-t25 = e0 ∷ e1·2 ∷ e2·1 ∷ e3·1 ∷ e4 ∷ e5 ∷ e6·1 ∷ e7 ∷ e8 ∷ e9 ∷ e10·1 ∷ e11·1 ∷ e12·1 ∷ e13·1 ∷ e14 ∷ e15 ∷ List.[]
+t25 = e0 ∷ e1·2 ∷ e2·1 ∷ e3·1 ∷ e4 ∷ e5 ∷ e6 ∷ e7·1 ∷ e8 ∷ e9 ∷ e10 ∷ e11·1 ∷ e12·1 ∷ e13·1 ∷ e14·1 ∷ e15 ∷ List.[]
 abbrev pub t26 : List.List Row.Entry
-t26 = e0 ∷ e1 ∷ e2·1 ∷ e3·1 ∷ e4 ∷ e5 ∷ e6·1 ∷ e7 ∷ e8 ∷ e9 ∷ e10·1 ∷ e11·1 ∷ e12·1 ∷ e13·1 ∷ e14 ∷ e15 ∷ List.[]
+t26 = e0 ∷ e1 ∷ e2·1 ∷ e3·1 ∷ e4 ∷ e5 ∷ e6 ∷ e7·1 ∷ e8 ∷ e9 ∷ e10 ∷ e11·1 ∷ e12·1 ∷ e13·1 ∷ e14·1 ∷ e15 ∷ List.[]
 abbrev pub t27 : List.List Row.Entry
-t27 = e0 ∷ e1 ∷ e2 ∷ e3·1 ∷ e4 ∷ e5 ∷ e6·1 ∷ e7 ∷ e8 ∷ e9 ∷ e10·1 ∷ e11·1 ∷ e12·1 ∷ e13·1 ∷ e14 ∷ e15 ∷ List.[]
+t27 = e0 ∷ e1 ∷ e2 ∷ e3·1 ∷ e4 ∷ e5 ∷ e6 ∷ e7·1 ∷ e8 ∷ e9 ∷ e10 ∷ e11·1 ∷ e12·1 ∷ e13·1 ∷ e14·1 ∷ e15 ∷ List.[]
 abbrev pub t28 : List.List Row.Entry
-t28 = e0 ∷ e1 ∷ e2 ∷ e3 ∷ e4 ∷ e5 ∷ e6·1 ∷ e7 ∷ e8 ∷ e9 ∷ e10·1 ∷ e11·1 ∷ e12·1 ∷ e13·1 ∷ e14 ∷ e15 ∷ List.[]
+t28 = e0 ∷ e1 ∷ e2 ∷ e3 ∷ e4 ∷ e5 ∷ e6 ∷ e7·1 ∷ e8 ∷ e9 ∷ e10 ∷ e11·1 ∷ e12·1 ∷ e13·1 ∷ e14·1 ∷ e15 ∷ List.[]
 abbrev pub t29 : List.List Row.Entry
-t29 = e0 ∷ e1 ∷ e2 ∷ e3 ∷ e4 ∷ e5 ∷ e6·1 ∷ e7 ∷ e8 ∷ e9 ∷ e10·1 ∷ e11·1 ∷ e12·1 ∷ e13·1 ∷ e14·1 ∷ e15 ∷ List.[]
+t29 = e0 ∷ e1 ∷ e2 ∷ e3 ∷ e4 ∷ e5 ∷ e6 ∷ e7·1 ∷ e8 ∷ e9 ∷ e10 ∷ e11·1 ∷ e12·1 ∷ e13·1 ∷ e14·1 ∷ e15·1 ∷ List.[]
 abbrev pub t30 : List.List Row.Entry
-t30 = e0 ∷ e1 ∷ e2 ∷ e3 ∷ e4 ∷ e5·1 ∷ e6·1 ∷ e7 ∷ e8 ∷ e9 ∷ e10·1 ∷ e11·1 ∷ e12·1 ∷ e13·1 ∷ e14·1 ∷ e15 ∷ List.[]
+t30 = e0 ∷ e1 ∷ e2 ∷ e3 ∷ e4 ∷ e5·1 ∷ e6 ∷ e7·1 ∷ e8 ∷ e9 ∷ e10 ∷ e11·1 ∷ e12·1 ∷ e13·1 ∷ e14·1 ∷ e15·1 ∷ List.[]
 abbrev pub t31 : List.List Row.Entry
-t31 = e0 ∷ e1 ∷ e2 ∷ e3 ∷ e4 ∷ e5·1 ∷ e6·1 ∷ e7 ∷ e8 ∷ e9 ∷ e10·1 ∷ e11·1 ∷ e12·1 ∷ e13·1 ∷ e14·1 ∷ e15·1 ∷ List.[]
+t31 = e16·1 ∷ e17 ∷ e18 ∷ e19 ∷ e20 ∷ e21 ∷ e22 ∷ e23 ∷ e24 ∷ e25 ∷ e26 ∷ e27 ∷ e28 ∷ e29 ∷ e30 ∷ e31 ∷ List.[]
 abbrev pub t32 : List.List Row.Entry
-t32 = e16·1 ∷ e17 ∷ e18 ∷ e19 ∷ e20 ∷ e21 ∷ e22 ∷ e23 ∷ e24 ∷ e25 ∷ e26 ∷ e27 ∷ e28 ∷ e29 ∷ e30 ∷ e31 ∷ List.[]
+t32 = e16·1 ∷ e17·1 ∷ e18 ∷ e19 ∷ e20 ∷ e21 ∷ e22 ∷ e23 ∷ e24 ∷ e25 ∷ e26 ∷ e27 ∷ e28 ∷ e29 ∷ e30 ∷ e31 ∷ List.[]
 abbrev pub t33 : List.List Row.Entry
-t33 = e0 ∷ e1 ∷ e2 ∷ e3 ∷ e4 ∷ e5·1 ∷ e6·1 ∷ e7 ∷ e8 ∷ e9 ∷ e10 ∷ e11·1 ∷ e12·1 ∷ e13·1 ∷ e14·1 ∷ e15·1 ∷ List.[]
+t33 = e0 ∷ e1 ∷ e2 ∷ e3 ∷ e4 ∷ e5·1 ∷ e6 ∷ e7·1 ∷ e8 ∷ e9 ∷ e10 ∷ e11 ∷ e12·1 ∷ e13·1 ∷ e14·1 ∷ e15·1 ∷ List.[]
 abbrev pub t34 : List.List Row.Entry
-t34 = e0 ∷ e1 ∷ e2 ∷ e3 ∷ e4 ∷ e5·1 ∷ e6·1 ∷ e7 ∷ e8 ∷ e9 ∷ e10 ∷ e11 ∷ e12·1 ∷ e13·1 ∷ e14·1 ∷ e15·1 ∷ List.[]
+t34 = e0 ∷ e1 ∷ e2 ∷ e3 ∷ e4 ∷ e5·1 ∷ e6 ∷ e7·1 ∷ e8 ∷ e9 ∷ e10 ∷ e11 ∷ e12 ∷ e13·1 ∷ e14·1 ∷ e15·1 ∷ List.[]
 abbrev pub t35 : List.List Row.Entry
-t35 = e0 ∷ e1 ∷ e2 ∷ e3 ∷ e4 ∷ e5·1 ∷ e6·1 ∷ e7 ∷ e8 ∷ e9 ∷ e10 ∷ e11 ∷ e12 ∷ e13·1 ∷ e14·1 ∷ e15·1 ∷ List.[]
+t35 = e0 ∷ e1 ∷ e2 ∷ e3 ∷ e4 ∷ e5·1 ∷ e6 ∷ e7·1 ∷ e8 ∷ e9 ∷ e10 ∷ e11 ∷ e12 ∷ e13 ∷ e14·1 ∷ e15·1 ∷ List.[]
 abbrev pub t36 : List.List Row.Entry
-t36 = e16·1 ∷ e17·1 ∷ e18 ∷ e19 ∷ e20 ∷ e21 ∷ e22 ∷ e23 ∷ e24 ∷ e25 ∷ e26 ∷ e27 ∷ e28 ∷ e29 ∷ e30 ∷ e31 ∷ List.[]
+t36 = e16·1 ∷ e17·1 ∷ e18·1 ∷ e19 ∷ e20 ∷ e21 ∷ e22 ∷ e23 ∷ e24 ∷ e25 ∷ e26 ∷ e27 ∷ e28 ∷ e29 ∷ e30 ∷ e31 ∷ List.[]
 abbrev pub t37 : List.List Row.Entry
-t37 = e16·1 ∷ e17·1 ∷ e18·1 ∷ e19 ∷ e20 ∷ e21 ∷ e22 ∷ e23 ∷ e24 ∷ e25 ∷ e26 ∷ e27 ∷ e28 ∷ e29 ∷ e30 ∷ e31 ∷ List.[]
+t37 = e16·1 ∷ e17·1 ∷ e18·1 ∷ e19·1 ∷ e20 ∷ e21 ∷ e22 ∷ e23 ∷ e24 ∷ e25 ∷ e26 ∷ e27 ∷ e28 ∷ e29 ∷ e30 ∷ e31 ∷ List.[]
 abbrev pub t38 : List.List Row.Entry
-t38 = e16·1 ∷ e17·1 ∷ e18·1 ∷ e19·1 ∷ e20 ∷ e21 ∷ e22 ∷ e23 ∷ e24 ∷ e25 ∷ e26 ∷ e27 ∷ e28 ∷ e29 ∷ e30 ∷ e31 ∷ List.[]
+t38 = e16·1 ∷ e17·1 ∷ e18·1 ∷ e19·1 ∷ e20·1 ∷ e21 ∷ e22 ∷ e23 ∷ e24 ∷ e25 ∷ e26 ∷ e27 ∷ e28 ∷ e29 ∷ e30 ∷ e31 ∷ List.[]
 abbrev pub t39 : List.List Row.Entry
-t39 = e0 ∷ e1·3 ∷ e2 ∷ e3 ∷ e4 ∷ e5·1 ∷ e6·1 ∷ e7 ∷ e8 ∷ e9 ∷ e10 ∷ e11 ∷ e12 ∷ e13·1 ∷ e14·1 ∷ e15·1 ∷ List.[]
+t39 = e0 ∷ e1·3 ∷ e2 ∷ e3 ∷ e4 ∷ e5·1 ∷ e6 ∷ e7·1 ∷ e8 ∷ e9 ∷ e10 ∷ e11 ∷ e12 ∷ e13 ∷ e14·1 ∷ e15·1 ∷ List.[]
 abbrev pub t40 : List.List Row.Entry
-t40 = e16·1 ∷ e17·1 ∷ e18·1 ∷ e19·1 ∷ e20 ∷ e21 ∷ e22 ∷ e23 ∷ e24 ∷ e25 ∷ e26 ∷ e27 ∷ e28 ∷ e29·1 ∷ e30 ∷ e31 ∷ List.[]
+t40 = e16·1 ∷ e17·1 ∷ e18·1 ∷ e19·1 ∷ e20·1 ∷ e21 ∷ e22 ∷ e23 ∷ e24 ∷ e25 ∷ e26 ∷ e27 ∷ e28 ∷ e29 ∷ e30 ∷ e31·1 ∷ List.[]
 abbrev pub t41 : List.List Row.Entry
-t41 = e16·1 ∷ e17·1 ∷ e18·1 ∷ e19·1 ∷ e20 ∷ e21 ∷ e22 ∷ e23 ∷ e24 ∷ e25 ∷ e26 ∷ e27 ∷ e28 ∷ e29 ∷ e30·1 ∷ e31 ∷ List.[]
+t41 = e32·1 ∷ e33 ∷ e34 ∷ e35 ∷ e36 ∷ e37 ∷ e38 ∷ e39 ∷ e40 ∷ List.[]
 abbrev pub t42 : List.List Row.Entry
-t42 = e0 ∷ e1·3 ∷ e2·2 ∷ e3 ∷ e4 ∷ e5·1 ∷ e6·1 ∷ e7 ∷ e8 ∷ e9 ∷ e10 ∷ e11 ∷ e12 ∷ e13·1 ∷ e14·1 ∷ e15·1 ∷ List.[]
+t42 = e0 ∷ e1·3 ∷ e2·2 ∷ e3 ∷ e4 ∷ e5·1 ∷ e6 ∷ e7·1 ∷ e8 ∷ e9 ∷ e10 ∷ e11 ∷ e12 ∷ e13 ∷ e14·1 ∷ e15·1 ∷ List.[]
 abbrev pub t43 : List.List Row.Entry
-t43 = e16·1 ∷ e17·1 ∷ e18·1 ∷ e19·1 ∷ e20 ∷ e21 ∷ e22 ∷ e23 ∷ e24 ∷ e25 ∷ e26 ∷ e27 ∷ e28 ∷ e29 ∷ e30·1 ∷ e31·1 ∷ List.[]
+t43 = e32·1 ∷ e33·1 ∷ e34 ∷ e35 ∷ e36 ∷ e37 ∷ e38 ∷ e39 ∷ e40 ∷ List.[]
 abbrev pub t44 : List.List Row.Entry
-t44 = e32·1 ∷ e33 ∷ e34 ∷ e35 ∷ e36 ∷ e37 ∷ e38 ∷ List.[]
+t44 = e32·1 ∷ e33 ∷ e34·1 ∷ e35 ∷ e36 ∷ e37 ∷ e38 ∷ e39 ∷ e40 ∷ List.[]
 abbrev pub t45 : List.List Row.Entry
-t45 = e0 ∷ e1·3 ∷ e2·2 ∷ e3·2 ∷ e4 ∷ e5·1 ∷ e6·1 ∷ e7 ∷ e8 ∷ e9 ∷ e10 ∷ e11 ∷ e12 ∷ e13·1 ∷ e14·1 ∷ e15·1 ∷ List.[]
+t45 = e0 ∷ e1·3 ∷ e2·2 ∷ e3·2 ∷ e4 ∷ e5·1 ∷ e6 ∷ e7·1 ∷ e8 ∷ e9 ∷ e10 ∷ e11 ∷ e12 ∷ e13 ∷ e14·1 ∷ e15·1 ∷ List.[]
 abbrev pub t46 : List.List Row.Entry
-t46 = e32·1 ∷ e33·1 ∷ e34 ∷ e35 ∷ e36 ∷ e37 ∷ e38 ∷ List.[]
+t46 = e32·1 ∷ e33 ∷ e34·1 ∷ e35·1 ∷ e36 ∷ e37 ∷ e38 ∷ e39 ∷ e40 ∷ List.[]
 abbrev pub t47 : List.List Row.Entry
-t47 = e32·1 ∷ e33 ∷ e34·1 ∷ e35 ∷ e36 ∷ e37 ∷ e38 ∷ List.[]
+t47 = e32·1 ∷ e33 ∷ e34·1 ∷ e35 ∷ e36·1 ∷ e37 ∷ e38 ∷ e39 ∷ e40 ∷ List.[]
 abbrev pub t48 : List.List Row.Entry
-t48 = e16·1 ∷ e17·1 ∷ e18·1 ∷ e19·1 ∷ e20 ∷ e21 ∷ e22 ∷ e23 ∷ e24 ∷ e25 ∷ e26 ∷ e27 ∷ e28·1 ∷ e29 ∷ e30·2 ∷ e31 ∷ List.[]
+t48 = e16·1 ∷ e17·1 ∷ e18·1 ∷ e19·1 ∷ e20·1 ∷ e21·1 ∷ e22 ∷ e23 ∷ e24 ∷ e25 ∷ e26 ∷ e27 ∷ e28 ∷ e29 ∷ e30 ∷ e31 ∷ List.[]
 abbrev pub t49 : List.List Row.Entry
-t49 = e32·2 ∷ e33 ∷ e34·2 ∷ e35 ∷ e36 ∷ e37 ∷ e38 ∷ List.[]
+t49 = e32·2 ∷ e33 ∷ e34·2 ∷ e35 ∷ e36·2 ∷ e37 ∷ e38 ∷ e39 ∷ e40 ∷ List.[]
 abbrev pub t50 : List.List Row.Entry
-t50 = e0 ∷ e1·3 ∷ e2·2 ∷ e3·2 ∷ e4 ∷ e5·1 ∷ e6·1 ∷ e7 ∷ e8 ∷ e9 ∷ e10 ∷ e11 ∷ e12 ∷ e13·1 ∷ e14 ∷ e15·1 ∷ List.[]
+t50 = e0 ∷ e1·3 ∷ e2·2 ∷ e3·2 ∷ e4 ∷ e5·1 ∷ e6 ∷ e7·1 ∷ e8 ∷ e9 ∷ e10 ∷ e11 ∷ e12 ∷ e13 ∷ e14·1 ∷ e15 ∷ List.[]
 abbrev pub t51 : List.List Row.Entry
-t51 = e0 ∷ e1·3 ∷ e2·2 ∷ e3·2 ∷ e4 ∷ e5·1 ∷ e6·1 ∷ e7 ∷ e8 ∷ e9 ∷ e10 ∷ e11 ∷ e12 ∷ e13·1 ∷ e14 ∷ e15 ∷ List.[]
+t51 = e16 ∷ e17·1 ∷ e18·1 ∷ e19·1 ∷ e20·1 ∷ e21·1 ∷ e22 ∷ e23 ∷ e24 ∷ e25 ∷ e26 ∷ e27 ∷ e28 ∷ e29 ∷ e30 ∷ e31 ∷ List.[]
 abbrev pub t52 : List.List Row.Entry
-t52 = e16 ∷ e17·1 ∷ e18·1 ∷ e19·1 ∷ e20 ∷ e21 ∷ e22 ∷ e23 ∷ e24 ∷ e25 ∷ e26 ∷ e27 ∷ e28·1 ∷ e29 ∷ e30·2 ∷ e31 ∷ List.[]
+t52 = e16 ∷ e17 ∷ e18·1 ∷ e19·1 ∷ e20·1 ∷ e21·1 ∷ e22 ∷ e23 ∷ e24 ∷ e25 ∷ e26 ∷ e27 ∷ e28 ∷ e29 ∷ e30 ∷ e31 ∷ List.[]
 abbrev pub t53 : List.List Row.Entry
-t53 = e16 ∷ e17·1 ∷ e18·1 ∷ e19·1 ∷ e20 ∷ e21 ∷ e22 ∷ e23 ∷ e24 ∷ e25 ∷ e26 ∷ e27 ∷ e28 ∷ e29 ∷ e30·2 ∷ e31 ∷ List.[]
+t53 = e0 ∷ e1 ∷ e2·2 ∷ e3·2 ∷ e4 ∷ e5·1 ∷ e6 ∷ e7·1 ∷ e8 ∷ e9 ∷ e10 ∷ e11 ∷ e12 ∷ e13 ∷ e14·1 ∷ e15 ∷ List.[]
 abbrev pub t54 : List.List Row.Entry
-t54 = e0 ∷ e1 ∷ e2·2 ∷ e3·2 ∷ e4 ∷ e5·1 ∷ e6·1 ∷ e7 ∷ e8 ∷ e9 ∷ e10 ∷ e11 ∷ e12 ∷ e13·1 ∷ e14 ∷ e15 ∷ List.[]
+t54 = e32 ∷ e33 ∷ e34·2 ∷ e35 ∷ e36·2 ∷ e37 ∷ e38 ∷ e39 ∷ e40 ∷ List.[]
 abbrev pub t55 : List.List Row.Entry
-t55 = e16 ∷ e17·1 ∷ e18·1 ∷ e19·1 ∷ e20 ∷ e21 ∷ e22 ∷ e23 ∷ e24 ∷ e25 ∷ e26 ∷ e27 ∷ e28 ∷ e29 ∷ e30 ∷ e31 ∷ List.[]
+t55 = e0 ∷ e1 ∷ e2 ∷ e3·2 ∷ e4 ∷ e5·1 ∷ e6 ∷ e7·1 ∷ e8 ∷ e9 ∷ e10 ∷ e11 ∷ e12 ∷ e13 ∷ e14·1 ∷ e15 ∷ List.[]
 abbrev pub t56 : List.List Row.Entry
-t56 = e0 ∷ e1 ∷ e2 ∷ e3·2 ∷ e4 ∷ e5·1 ∷ e6·1 ∷ e7 ∷ e8 ∷ e9 ∷ e10 ∷ e11 ∷ e12 ∷ e13·1 ∷ e14 ∷ e15 ∷ List.[]
+t56 = e32 ∷ e33 ∷ e34 ∷ e35 ∷ e36·2 ∷ e37 ∷ e38 ∷ e39 ∷ e40 ∷ List.[]
 abbrev pub t57 : List.List Row.Entry
-t57 = e32 ∷ e33 ∷ e34·2 ∷ e35 ∷ e36 ∷ e37 ∷ e38 ∷ List.[]
+t57 = e0 ∷ e1 ∷ e2 ∷ e3 ∷ e4 ∷ e5·1 ∷ e6 ∷ e7·1 ∷ e8 ∷ e9 ∷ e10 ∷ e11 ∷ e12 ∷ e13 ∷ e14·1 ∷ e15 ∷ List.[]
 abbrev pub t58 : List.List Row.Entry
-t58 = e0 ∷ e1 ∷ e2 ∷ e3 ∷ e4 ∷ e5·1 ∷ e6·1 ∷ e7 ∷ e8 ∷ e9 ∷ e10 ∷ e11 ∷ e12 ∷ e13·1 ∷ e14 ∷ e15 ∷ List.[]
+t58 = e16 ∷ e17 ∷ e18·1 ∷ e19·1 ∷ e20·1 ∷ e21·1 ∷ e22·1 ∷ e23 ∷ e24 ∷ e25 ∷ e26 ∷ e27 ∷ e28 ∷ e29 ∷ e30 ∷ e31 ∷ List.[]
 abbrev pub t59 : List.List Row.Entry
-t59 = e0 ∷ e1 ∷ e2 ∷ e3·3 ∷ e4 ∷ e5·1 ∷ e6·1 ∷ e7 ∷ e8 ∷ e9 ∷ e10 ∷ e11 ∷ e12 ∷ e13·1 ∷ e14 ∷ e15 ∷ List.[]
+t59 = e0 ∷ e1 ∷ e2 ∷ e3 ∷ e4 ∷ e5·1 ∷ e6·1 ∷ e7·1 ∷ e8 ∷ e9 ∷ e10 ∷ e11 ∷ e12 ∷ e13 ∷ e14·1 ∷ e15 ∷ List.[]
 abbrev pub t60 : List.List Row.Entry
-t60 = e32 ∷ e33 ∷ e34 ∷ e35·1 ∷ e36 ∷ e37 ∷ e38 ∷ List.[]
+t60 = e0 ∷ e1 ∷ e2 ∷ e3·3 ∷ e4 ∷ e5·1 ∷ e6·1 ∷ e7·1 ∷ e8 ∷ e9 ∷ e10 ∷ e11 ∷ e12 ∷ e13 ∷ e14·1 ∷ e15 ∷ List.[]
 abbrev pub t61 : List.List Row.Entry
-t61 = e32 ∷ e33 ∷ e34 ∷ e35 ∷ e36·1 ∷ e37 ∷ e38 ∷ List.[]
+t61 = e32 ∷ e33 ∷ e34 ∷ e35 ∷ e36 ∷ e37·1 ∷ e38 ∷ e39 ∷ e40 ∷ List.[]
 abbrev pub t62 : List.List Row.Entry
-t62 = e0 ∷ e1 ∷ e2 ∷ e3·3 ∷ e4·1 ∷ e5·1 ∷ e6·1 ∷ e7 ∷ e8 ∷ e9 ∷ e10 ∷ e11 ∷ e12 ∷ e13·1 ∷ e14 ∷ e15 ∷ List.[]
+t62 = e32 ∷ e33 ∷ e34 ∷ e35 ∷ e36 ∷ e37 ∷ e38·1 ∷ e39 ∷ e40 ∷ List.[]
 abbrev pub t63 : List.List Row.Entry
-t63 = e32 ∷ e33 ∷ e34 ∷ e35 ∷ e36·1 ∷ e37·1 ∷ e38 ∷ List.[]
+t63 = e0 ∷ e1 ∷ e2 ∷ e3·3 ∷ e4·1 ∷ e5·1 ∷ e6·1 ∷ e7·1 ∷ e8 ∷ e9 ∷ e10 ∷ e11 ∷ e12 ∷ e13 ∷ e14·1 ∷ e15 ∷ List.[]
 abbrev pub t64 : List.List Row.Entry
-t64 = e32 ∷ e33 ∷ e34 ∷ e35 ∷ e36·1 ∷ e37 ∷ e38·1 ∷ List.[]
+t64 = e32 ∷ e33 ∷ e34 ∷ e35 ∷ e36 ∷ e37 ∷ e38·1 ∷ e39·1 ∷ e40 ∷ List.[]
 abbrev pub t65 : List.List Row.Entry
-t65 = e0·1 ∷ e1 ∷ e2 ∷ e3·3 ∷ e4·1 ∷ e5·1 ∷ e6·1 ∷ e7 ∷ e8 ∷ e9 ∷ e10 ∷ e11 ∷ e12 ∷ e13·1 ∷ e14 ∷ e15 ∷ List.[]
+t65 = e32 ∷ e33 ∷ e34 ∷ e35 ∷ e36 ∷ e37 ∷ e38·1 ∷ e39 ∷ e40·1 ∷ List.[]
 abbrev pub t66 : List.List Row.Entry
-t66 = e32 ∷ e33 ∷ e34 ∷ e35 ∷ e36·2 ∷ e37 ∷ e38·2 ∷ List.[]
+t66 = e0·1 ∷ e1 ∷ e2 ∷ e3·3 ∷ e4·1 ∷ e5·1 ∷ e6·1 ∷ e7·1 ∷ e8 ∷ e9 ∷ e10 ∷ e11 ∷ e12 ∷ e13 ∷ e14·1 ∷ e15 ∷ List.[]
 abbrev pub t67 : List.List Row.Entry
-t67 = e0·1 ∷ e1 ∷ e2 ∷ e3·3 ∷ e4·1 ∷ e5·1 ∷ e6·1 ∷ e7 ∷ e8 ∷ e9 ∷ e10 ∷ e11 ∷ e12 ∷ e13 ∷ e14 ∷ e15 ∷ List.[]
+t67 = e32 ∷ e33 ∷ e34 ∷ e35 ∷ e36 ∷ e37 ∷ e38·2 ∷ e39 ∷ e40·2 ∷ List.[]
 abbrev pub t68 : List.List Row.Entry
-t68 = e16 ∷ e17 ∷ e18·1 ∷ e19·1 ∷ e20 ∷ e21 ∷ e22 ∷ e23 ∷ e24 ∷ e25 ∷ e26 ∷ e27 ∷ e28 ∷ e29 ∷ e30 ∷ e31 ∷ List.[]
+t68 = e0·1 ∷ e1 ∷ e2 ∷ e3·3 ∷ e4·1 ∷ e5·1 ∷ e6·1 ∷ e7·1 ∷ e8 ∷ e9 ∷ e10 ∷ e11 ∷ e12 ∷ e13 ∷ e14 ∷ e15 ∷ List.[]
 abbrev pub t69 : List.List Row.Entry
-t69 = e16 ∷ e17 ∷ e18 ∷ e19·1 ∷ e20 ∷ e21 ∷ e22 ∷ e23 ∷ e24 ∷ e25 ∷ e26 ∷ e27 ∷ e28 ∷ e29 ∷ e30 ∷ e31 ∷ List.[]
+t69 = e16 ∷ e17 ∷ e18 ∷ e19·1 ∷ e20·1 ∷ e21·1 ∷ e22·1 ∷ e23 ∷ e24 ∷ e25 ∷ e26 ∷ e27 ∷ e28 ∷ e29 ∷ e30 ∷ e31 ∷ List.[]
 abbrev pub t70 : List.List Row.Entry
-t70 = e0·1 ∷ e1 ∷ e2 ∷ e3 ∷ e4·1 ∷ e5·1 ∷ e6·1 ∷ e7 ∷ e8 ∷ e9 ∷ e10 ∷ e11 ∷ e12 ∷ e13 ∷ e14 ∷ e15 ∷ List.[]
+t70 = e16 ∷ e17 ∷ e18 ∷ e19 ∷ e20·1 ∷ e21·1 ∷ e22·1 ∷ e23 ∷ e24 ∷ e25 ∷ e26 ∷ e27 ∷ e28 ∷ e29 ∷ e30 ∷ e31 ∷ List.[]
 abbrev pub t71 : List.List Row.Entry
-t71 = e32 ∷ e33 ∷ e34 ∷ e35 ∷ e36 ∷ e37 ∷ e38·2 ∷ List.[]
+t71 = e16 ∷ e17 ∷ e18 ∷ e19 ∷ e20 ∷ e21·1 ∷ e22·1 ∷ e23 ∷ e24 ∷ e25 ∷ e26 ∷ e27 ∷ e28 ∷ e29 ∷ e30 ∷ e31 ∷ List.[]
+abbrev pub t72 : List.List Row.Entry
+t72 = e16 ∷ e17 ∷ e18 ∷ e19 ∷ e20 ∷ e21 ∷ e22·1 ∷ e23 ∷ e24 ∷ e25 ∷ e26 ∷ e27 ∷ e28 ∷ e29 ∷ e30 ∷ e31 ∷ List.[]
+abbrev pub t73 : List.List Row.Entry
+t73 = e0·1 ∷ e1 ∷ e2 ∷ e3 ∷ e4·1 ∷ e5·1 ∷ e6·1 ∷ e7·1 ∷ e8 ∷ e9 ∷ e10 ∷ e11 ∷ e12 ∷ e13 ∷ e14 ∷ e15 ∷ List.[]
+abbrev pub t74 : List.List Row.Entry
+t74 = e32 ∷ e33 ∷ e34 ∷ e35 ∷ e36 ∷ e37 ∷ e38 ∷ e39 ∷ e40·2 ∷ List.[]
 abbrev pub T0 : Row.Cx
 T0 = record { locals = List._++_ t0 (List._++_ t1 t2); slots = List.[] }
 abbrev pub T1 : Row.Cx
@@ -847,9 +912,9 @@ T40 = record { locals = List._++_ t29 (List._++_ t1 t2); slots = List.[] }
 abbrev pub T41 : Row.Cx
 T41 = record { locals = List._++_ t30 (List._++_ t1 t2); slots = List.[] }
 abbrev pub T42 : Row.Cx
-T42 = record { locals = List._++_ t31 (List._++_ t1 t2); slots = List.[] }
+T42 = record { locals = List._++_ t30 (List._++_ t31 t2); slots = List.[] }
 abbrev pub T43 : Row.Cx
-T43 = record { locals = List._++_ t31 (List._++_ t32 t2); slots = List.[] }
+T43 = record { locals = List._++_ t30 (List._++_ t32 t2); slots = List.[] }
 abbrev pub T44 : Row.Cx
 T44 = record { locals = List._++_ t33 (List._++_ t32 t2); slots = List.[] }
 abbrev pub T45 : Row.Cx
@@ -865,119 +930,126 @@ T49 = record { locals = List._++_ t35 (List._++_ t38 t2); slots = List.[] }
 abbrev pub T51 : Row.Cx
 T51 = record { locals = List._++_ t39 (List._++_ t40 t2); slots = List.[] }
 abbrev pub T52 : Row.Cx
-T52 = record { locals = List._++_ t39 (List._++_ t41 t2); slots = List.[] }
+T52 = record { locals = List._++_ t39 (List._++_ t38 t41); slots = List.[] }
 abbrev pub T54 : Row.Cx
-T54 = record { locals = List._++_ t42 (List._++_ t43 t2); slots = List.[] }
+T54 = record { locals = List._++_ t42 (List._++_ t38 t43); slots = List.[] }
 abbrev pub T55 : Row.Cx
-T55 = record { locals = List._++_ t42 (List._++_ t41 t44); slots = List.[] }
+T55 = record { locals = List._++_ t42 (List._++_ t38 t44); slots = List.[] }
 abbrev pub T57 : Row.Cx
-T57 = record { locals = List._++_ t45 (List._++_ t41 t46); slots = List.[] }
+T57 = record { locals = List._++_ t45 (List._++_ t38 t46); slots = List.[] }
 abbrev pub T58 : Row.Cx
-T58 = record { locals = List._++_ t45 (List._++_ t41 t47); slots = List.[] }
+T58 = record { locals = List._++_ t45 (List._++_ t38 t47); slots = List.[] }
 abbrev pub T59 : Row.Cx
 T59 = record { locals = List._++_ t45 (List._++_ t48 t49); slots = List.[] }
 abbrev pub T60 : Row.Cx
 T60 = record { locals = List._++_ t50 (List._++_ t48 t49); slots = List.[] }
 abbrev pub T61 : Row.Cx
-T61 = record { locals = List._++_ t51 (List._++_ t48 t49); slots = List.[] }
+T61 = record { locals = List._++_ t50 (List._++_ t51 t49); slots = List.[] }
 abbrev pub T62 : Row.Cx
-T62 = record { locals = List._++_ t51 (List._++_ t52 t49); slots = List.[] }
-abbrev pub T63 : Row.Cx
-T63 = record { locals = List._++_ t51 (List._++_ t53 t49); slots = List.[] }
-abbrev pub T65 : Row.Cx
-T65 = record { locals = List._++_ t54 (List._++_ t55 t49); slots = List.[] }
-abbrev pub T68 : Row.Cx
-T68 = record { locals = List._++_ t56 (List._++_ t55 t57); slots = List.[] }
-abbrev pub T71 : Row.Cx
-T71 = record { locals = List._++_ t58 (List._++_ t55 t2); slots = List.[] }
-abbrev pub T74 : Row.Cx
-T74 = record { locals = List._++_ t59 (List._++_ t55 t60); slots = List.[] }
+T62 = record { locals = List._++_ t50 (List._++_ t52 t49); slots = List.[] }
+abbrev pub T64 : Row.Cx
+T64 = record { locals = List._++_ t53 (List._++_ t52 t54); slots = List.[] }
+abbrev pub T67 : Row.Cx
+T67 = record { locals = List._++_ t55 (List._++_ t52 t56); slots = List.[] }
+abbrev pub T70 : Row.Cx
+T70 = record { locals = List._++_ t57 (List._++_ t52 t2); slots = List.[] }
+abbrev pub T72 : Row.Cx
+T72 = record { locals = List._++_ t57 (List._++_ t58 t2); slots = List.[] }
+abbrev pub T73 : Row.Cx
+T73 = record { locals = List._++_ t59 (List._++_ t58 t2); slots = List.[] }
 abbrev pub T75 : Row.Cx
-T75 = record { locals = List._++_ t59 (List._++_ t55 t61); slots = List.[] }
-abbrev pub T77 : Row.Cx
-T77 = record { locals = List._++_ t62 (List._++_ t55 t63); slots = List.[] }
+T75 = record { locals = List._++_ t60 (List._++_ t58 t61); slots = List.[] }
+abbrev pub T76 : Row.Cx
+T76 = record { locals = List._++_ t60 (List._++_ t58 t62); slots = List.[] }
 abbrev pub T78 : Row.Cx
-T78 = record { locals = List._++_ t62 (List._++_ t55 t64); slots = List.[] }
+T78 = record { locals = List._++_ t63 (List._++_ t58 t64); slots = List.[] }
 abbrev pub T79 : Row.Cx
-T79 = record { locals = List._++_ t65 (List._++_ t55 t66); slots = List.[] }
+T79 = record { locals = List._++_ t63 (List._++_ t58 t65); slots = List.[] }
 abbrev pub T80 : Row.Cx
-T80 = record { locals = List._++_ t67 (List._++_ t55 t66); slots = List.[] }
+T80 = record { locals = List._++_ t66 (List._++_ t58 t67); slots = List.[] }
 abbrev pub T81 : Row.Cx
-T81 = record { locals = List._++_ t67 (List._++_ t68 t66); slots = List.[] }
+T81 = record { locals = List._++_ t68 (List._++_ t58 t67); slots = List.[] }
 abbrev pub T82 : Row.Cx
-T82 = record { locals = List._++_ t67 (List._++_ t69 t66); slots = List.[] }
+T82 = record { locals = List._++_ t68 (List._++_ t69 t67); slots = List.[] }
 abbrev pub T83 : Row.Cx
-T83 = record { locals = List._++_ t67 (List._++_ t1 t66); slots = List.[] }
+T83 = record { locals = List._++_ t68 (List._++_ t70 t67); slots = List.[] }
+abbrev pub T84 : Row.Cx
+T84 = record { locals = List._++_ t68 (List._++_ t71 t67); slots = List.[] }
 abbrev pub T85 : Row.Cx
-T85 = record { locals = List._++_ t70 (List._++_ t1 t71); slots = List.[] }
+T85 = record { locals = List._++_ t68 (List._++_ t72 t67); slots = List.[] }
+abbrev pub T86 : Row.Cx
+T86 = record { locals = List._++_ t68 (List._++_ t1 t67); slots = List.[] }
 abbrev pub T88 : Row.Cx
-T88 = record { locals = List._++_ t3 (List._++_ t1 t2); slots = List.[] }
-abbrev pub T89 : Row.Cx
-T89 = record { locals = List._++_ t3 (List._++_ t1 t2); slots = List.[] }
+T88 = record { locals = List._++_ t73 (List._++_ t1 t74); slots = List.[] }
+abbrev pub T91 : Row.Cx
+T91 = record { locals = List._++_ t3 (List._++_ t1 t2); slots = List.[] }
+abbrev pub T92 : Row.Cx
+T92 = record { locals = List._++_ t3 (List._++_ t1 t2); slots = List.[] }
 abbrev pub O0 : Typed.Outs
 O0 = record { next = Option.none; exits = List.[]; returns = Option.some T1 }
 module _ (claims· : Claims) where
   abbrev s0 : (bs : List.List Nat.ℕ) → Typed.Gives T0 T2
   s0 = λ bs. Know.k-sl-known (Referent.fInt Syntax.w32) T0 4 3 ref10 Row.off 0 λ x. x
   abbrev s1 : (bs : List.List Nat.ℕ) → Typed.Gives T2 T3
-  s1 = λ bs. Know.k-shs-known (Referent.fInt Syntax.w8) T2 7 4 ref11 Row.off 0 λ x. x
+  s1 = λ bs. Know.k-shs-known (Referent.fInt Syntax.w8) T2 8 4 ref11 Row.off 0 λ x. x
   abbrev s2 : (bs : List.List Nat.ℕ) → Typed.Gives T3 T4
-  s2 = λ bs. Know.k-shs-known (Referent.fInt Syntax.w8) T3 8 5 ref12 Row.off 0 λ x. x
+  s2 = λ bs. Know.k-shs-known (Referent.fInt Syntax.w8) T3 9 5 ref12 Row.off 0 λ x. x
   abbrev s3 : (bs : List.List Nat.ℕ) → Typed.Both T4 T5
-  s3 = λ bs. Call.callB ps·0 r·0 (claims· .0) (claims· .1) T4 (Num.vFld 6 ((Syntax.field 1) ∷ List.[]) 8 λ x. RelayPacket.struct .as-values x .1 .0,
-      (Num.vLit 0, tt),) 9 List.[] Laws'''''''.mir
+  s3 = λ bs. Call.callB ps·0 r·0 (claims· .0) (claims· .1) T4 (Num.vFld 7 ((Syntax.field 1) ∷ List.[]) 8 λ x. RelayPacket.struct .as-values x .1 .0,
+      (Num.vLit 0, tt),) 10 List.[] Laws''''''''.mir
   abbrev s5 : (bs : List.List Nat.ℕ) → Typed.Gives T5 T7
-  s5 = λ bs. Reshare.k-sl-reshare RelayPending.row T5 1 20 0 6 ref7 ref0 Row.off λ x. x
+  s5 = λ bs. Reshare.k-sl-reshare RelayPending.row T5 1 23 0 6 ref7 ref0 Row.off λ x. x
   abbrev s6 : (bs : List.List Nat.ℕ) → Typed.Asks T7 T8
-  s6 = λ bs. Relend.k-sl-aggregate RelayPending.row (Relend.asShr RelayPending.row) T7 20 21 6 ref0 ref0 (λ x. x) (Scalar.oFld 1 ((Syntax.field 1) ∷
+  s6 = λ bs. Relend.k-sl-aggregate RelayPending.row (Relend.asShr RelayPending.row) T7 23 24 6 ref0 ref0 (λ x. x) (Scalar.oFld 1 ((Syntax.field 1) ∷
       List.[]) (Syntax.tyInt Syntax.w64) 8 λ v. Shared.lenV (v .0))
   abbrev s7 : (bs : List.List Nat.ℕ) → Typed.Both T8 T9
-  s7 = λ bs. Call.callB ps·1 r·1 (claims· .2) (claims· .3) T8 (record { pos = 21; ty = Syntax.tyRef Syntax.erased Syntax.imm RelayPending.to; ref = λ
-      x. x; }, (record { pos = 9; st = List.[]; d = 0; at = λ x. x }, tt),) 10 (6 ∷ List.[]) Laws''''''.mir
+  s7 = λ bs. Call.callB ps·1 r·1 (claims· .2) (claims· .3) T8 (record { pos = 24; ty = Syntax.tyRef Syntax.erased Syntax.imm RelayPending.to; ref = λ
+      x. x; }, (record { pos = 6; st = List.[]; d = 0; at = λ x. x }, (record { pos = 10; st = List.[]; d = 0; at = λ x. x }, tt),),) 11 (6 ∷ List.[])
+      Laws'''''''.mir
   abbrev s8 : (bs : List.List Nat.ℕ) → Typed.Mo T9 → Typed.Mo T10
-  s8 = λ bs. Scalar.n-room T9 21 (Syntax.tyStruct (38 ∷ 91 ∷ 93 ∷ List.[]) (Syntax.tcons ref0 (Syntax.tcons (Syntax.tyInt Syntax.w64) Syntax.tnil)))
+  s8 = λ bs. Scalar.n-room T9 24 (Syntax.tyStruct (38 ∷ 91 ∷ 93 ∷ List.[]) (Syntax.tcons ref0 (Syntax.tcons (Syntax.tyInt Syntax.w64) Syntax.tnil)))
   abbrev s9 : (bs : List.List Nat.ℕ) → Typed.Mo T10 → Typed.Mo T11
-  s9 = λ bs. Scalar.n-room T10 9 Laws'''''''.mir
+  s9 = λ bs. Scalar.n-room T10 10 Laws''''''''.mir
   abbrev s11 : (bs : List.List Nat.ℕ) → Typed.Mo T11 → Typed.Mo T13
   s11 = λ bs. Reshare.n-back-sl-shr RelayPending.row T11 1 0 6 ref7 Row.off λ x. x
   abbrev s13 : (bs : List.List Nat.ℕ) → Typed.Both T13 T15
-  s13 = λ bs. Call.callB ps·2 r·2 (claims· .4) (claims· .5) T13 (record { pos = 8; ty = Syntax.tyRef (Syntax.named 5) Syntax.imm (Syntax.tyInt
-      Syntax.w8); ref = λ x. x; }, tt,) 11 (5 ∷ List.[]) Laws.mir
+  s13 = λ bs. Call.callB ps·2 r·2 (claims· .4) (claims· .5) T13 (record { pos = 9; ty = Syntax.tyRef (Syntax.named 5) Syntax.imm (Syntax.tyInt
+      Syntax.w8); ref = λ x. x; }, tt,) 12 (5 ∷ List.[]) Laws.mir
   abbrev s14 : (bs : List.List Nat.ℕ) → Typed.Both T15 T16
-  s14 = λ bs. WayStmt.k-way-copy-out T15 (Row.out 5 (T15 .locals)) (λ u. Row.drop 5 (T15 .locals) u) 12 (Rows.whole (Declared'.row
+  s14 = λ bs. WayStmt.k-way-copy-out T15 (Row.out 5 (T15 .locals)) (λ u. Row.drop 5 (T15 .locals) u) 13 (Rows.whole (Declared'.row
       OpaqueRelayConfig.the-type)) (λ u. At.getAt (OpaqueRelayRuntime.the-type .parts) 4 (OpaqueRelayRuntime.struct .as-values (u .1 .1 .1 .1 .1 .0)))
       (λ T′. record { locals = Row.setRow 5 (5, Rows.whole (Declared'.row OpaqueRelayRuntime.the-type)) T′; slots = List.[]; }) (λ u T′ m′. Row.set 5
       (5, Rows.whole (Declared'.row OpaqueRelayRuntime.the-type)) (u .1 .1 .1 .1 .1 .0) T′ m′) (λ u. Unit) λ u. Unit
   abbrev s16 : (bs : List.List Nat.ℕ) → Typed.Gives T16 T18
-  s16 = λ bs. Reshare.k-sl-reshare RelayPending.row T16 1 22 0 7 ref7 ref0 Row.off λ x. x
+  s16 = λ bs. Reshare.k-sl-reshare RelayPending.row T16 1 25 0 7 ref7 ref0 Row.off λ x. x
   abbrev s17 : (bs : List.List Nat.ℕ) → Typed.Asks T18 T19
-  s17 = λ bs. Relend.k-sl-aggregate RelayPending.row (Relend.asShr RelayPending.row) T18 22 23 7 ref0 ref0 (λ x. x) (Scalar.oFld 1 ((Syntax.field 1) ∷
+  s17 = λ bs. Relend.k-sl-aggregate RelayPending.row (Relend.asShr RelayPending.row) T18 25 26 7 ref0 ref0 (λ x. x) (Scalar.oFld 1 ((Syntax.field 1) ∷
       List.[]) (Syntax.tyInt Syntax.w64) 8 λ v. Shared.lenV (v .0))
   abbrev s19 : (bs : List.List Nat.ℕ) → Typed.Gives T19 T21
-  s19 = λ bs. Reshare.k-sl-reshare RelayCircuit.row T19 2 24 1 8 ref8 ref1 Row.off λ x. x
+  s19 = λ bs. Reshare.k-sl-reshare RelayCircuit.row T19 2 27 1 8 ref8 ref1 Row.off λ x. x
   abbrev s20 : (bs : List.List Nat.ℕ) → Typed.Asks T21 T22
-  s20 = λ bs. Relend.k-sl-aggregate RelayCircuit.row (Relend.asShr RelayCircuit.row) T21 24 25 8 ref1 ref1 (λ x. x) (Scalar.oFld 2 ((Syntax.field 1) ∷
+  s20 = λ bs. Relend.k-sl-aggregate RelayCircuit.row (Relend.asShr RelayCircuit.row) T21 27 28 8 ref1 ref1 (λ x. x) (Scalar.oFld 2 ((Syntax.field 1) ∷
       List.[]) (Syntax.tyInt Syntax.w64) 8 λ v. Shared.lenV (v .0))
   abbrev s22 : (bs : List.List Nat.ℕ) → Typed.Gives T22 T24
-  s22 = λ bs. Reshare.k-sl-reshare InflightAction.row T22 3 26 2 9 ref9 ref2 Row.off λ x. x
+  s22 = λ bs. Reshare.k-sl-reshare InflightAction.row T22 3 29 2 9 ref9 ref2 Row.off λ x. x
   abbrev s23 : (bs : List.List Nat.ℕ) → Typed.Asks T24 T25
-  s23 = λ bs. Relend.k-sl-aggregate InflightAction.row (Relend.asShr InflightAction.row) T24 26 27 9 ref2 ref2 (λ x. x) (Scalar.oFld 3 ((Syntax.field
+  s23 = λ bs. Relend.k-sl-aggregate InflightAction.row (Relend.asShr InflightAction.row) T24 29 30 9 ref2 ref2 (λ x. x) (Scalar.oFld 3 ((Syntax.field
       1) ∷ List.[]) (Syntax.tyInt Syntax.w64) 8 λ v. Shared.lenV (v .0))
   abbrev s24 : (bs : List.List Nat.ℕ) → Typed.Both T25 T26
-  s24 = λ bs. Call.callB ps·3 r·3 (claims· .6) (claims· .7) T25 (record { pos = 23; ty = Syntax.tyRef Syntax.erased Syntax.imm RelayPending.to; ref =
-      λ x. x; }, (record { pos = 25; ty = Syntax.tyRef Syntax.erased Syntax.imm RelayCircuit.to; ref = λ x. x; }, (record { pos = 27; ty =
-      Syntax.tyRef Syntax.erased Syntax.imm InflightAction.to; ref = λ x. x; }, (record { pos = 12; st = List.[]; d = 0; at = λ x. x }, (record { pos
-      = 6; st = List.[]; d = 0; at = λ x. x }, (record { pos = 10; st = List.[]; d = 0; at = λ x. x }, (record { pos = 11; st = List.[]; d = 0; at = λ
-      x. x }, (record { pos = 7; ty = Syntax.tyRef (Syntax.named 4) Syntax.imm (Syntax.tyInt Syntax.w8); ref = λ x. x; }, tt,),),),),),),),) 13 (7 ∷ 8
-      ∷ 9 ∷ 4 ∷ List.[]) Laws'''.mir
+  s24 = λ bs. Call.callB ps·3 r·3 (claims· .6) (claims· .7) T25 (record { pos = 26; ty = Syntax.tyRef Syntax.erased Syntax.imm RelayPending.to; ref =
+      λ x. x; }, (record { pos = 28; ty = Syntax.tyRef Syntax.erased Syntax.imm RelayCircuit.to; ref = λ x. x; }, (record { pos = 30; ty =
+      Syntax.tyRef Syntax.erased Syntax.imm InflightAction.to; ref = λ x. x; }, (record { pos = 6; st = List.[]; d = 0; at = λ x. x }, (record { pos =
+      13; st = List.[]; d = 0; at = λ x. x }, (record { pos = 7; st = List.[]; d = 0; at = λ x. x }, (record { pos = 11; st = List.[]; d = 0; at = λ
+      x. x }, (record { pos = 12; st = List.[]; d = 0; at = λ x. x }, (record { pos = 8; ty = Syntax.tyRef (Syntax.named 4) Syntax.imm (Syntax.tyInt
+      Syntax.w8); ref = λ x. x; }, tt,),),),),),),),),) 14 (7 ∷ 8 ∷ 9 ∷ 4 ∷ List.[]) Laws'''.mir
   abbrev s25 : (bs : List.List Nat.ℕ) → Typed.Mo T26 → Typed.Mo T27
-  s25 = λ bs. Scalar.n-room T26 23 (Syntax.tyStruct (38 ∷ 91 ∷ 93 ∷ List.[]) (Syntax.tcons ref0 (Syntax.tcons (Syntax.tyInt Syntax.w64) Syntax.tnil)))
+  s25 = λ bs. Scalar.n-room T26 26 (Syntax.tyStruct (38 ∷ 91 ∷ 93 ∷ List.[]) (Syntax.tcons ref0 (Syntax.tcons (Syntax.tyInt Syntax.w64) Syntax.tnil)))
   abbrev s26 : (bs : List.List Nat.ℕ) → Typed.Mo T27 → Typed.Mo T28
-  s26 = λ bs. Scalar.n-room T27 25 (Syntax.tyStruct (38 ∷ 91 ∷ 93 ∷ List.[]) (Syntax.tcons ref1 (Syntax.tcons (Syntax.tyInt Syntax.w64) Syntax.tnil)))
+  s26 = λ bs. Scalar.n-room T27 28 (Syntax.tyStruct (38 ∷ 91 ∷ 93 ∷ List.[]) (Syntax.tcons ref1 (Syntax.tcons (Syntax.tyInt Syntax.w64) Syntax.tnil)))
   abbrev s27 : (bs : List.List Nat.ℕ) → Typed.Mo T28 → Typed.Mo T29
-  s27 = λ bs. Scalar.n-room T28 27 (Syntax.tyStruct (38 ∷ 91 ∷ 93 ∷ List.[]) (Syntax.tcons ref2 (Syntax.tcons (Syntax.tyInt Syntax.w64) Syntax.tnil)))
+  s27 = λ bs. Scalar.n-room T28 30 (Syntax.tyStruct (38 ∷ 91 ∷ 93 ∷ List.[]) (Syntax.tcons ref2 (Syntax.tcons (Syntax.tyInt Syntax.w64) Syntax.tnil)))
   abbrev s28 : (bs : List.List Nat.ℕ) → Typed.Mo T29 → Typed.Mo T30
-  s28 = λ bs. Scalar.n-room T29 6 Laws''''''''.mir
+  s28 = λ bs. Scalar.n-room T29 7 Laws'''''''''.mir
   abbrev s30 : (bs : List.List Nat.ℕ) → Typed.Mo T30 → Typed.Mo T32
   s30 = λ bs. Reshare.n-back-sl-shr RelayPending.row T30 1 0 7 ref7 Row.off λ x. x
   abbrev s33 : (bs : List.List Nat.ℕ) → Typed.Mo T32 → Typed.Mo T35
@@ -985,102 +1057,110 @@ module _ (claims· : Claims) where
   abbrev s36 : (bs : List.List Nat.ℕ) → Typed.Mo T35 → Typed.Mo T38
   s36 = λ bs. Reshare.n-back-sl-shr InflightAction.row T35 3 2 9 ref9 Row.off λ x. x
   abbrev s38 : (bs : List.List Nat.ℕ) → Typed.Both T38 T40
-  s38 = λ bs. Call.callB ps·4 r·4 (claims· .8) (claims· .9) T38 (record { pos = 13; st = List.[]; d = 0; at = λ x. x }, (record { pos = 5; st =
-      List.[]; d = 0; at = λ x. x }, (record { pos = 10; st = List.[]; d = 0; at = λ x. x }, (record { pos = 11; st = List.[]; d = 0; at = λ x. x },
-      tt),),),) 14 List.[] Laws''.mir
+  s38 = λ bs. Call.callB ps·4 r·4 (claims· .8) (claims· .9) T38 (record { pos = 14; st = List.[]; d = 0; at = λ x. x }, (record { pos = 5; st =
+      List.[]; d = 0; at = λ x. x }, (record { pos = 11; st = List.[]; d = 0; at = λ x. x }, (record { pos = 12; st = List.[]; d = 0; at = λ x. x },
+      tt),),),) 15 List.[] Laws''.mir
   abbrev s39 : (bs : List.List Nat.ℕ) → Typed.Mo T40 → Typed.Mo T41
-  s39 = λ bs. Scalar.n-room T40 5 Laws'''''''''.mir
+  s39 = λ bs. Scalar.n-room T40 5 Laws''''''''''.mir
   abbrev s40 : (bs : List.List Nat.ℕ) → Typed.Both T41 T42
-  s40 = λ bs. Call.callB ps·5 r·5 (claims· .10) (claims· .11) T41 (record { pos = 10; st = List.[]; d = 0; at = λ x. x }, tt,) 15 List.[]
+  s40 = λ bs. Call.callB ps·5 r·5 (claims· .10) (claims· .11) T41 (record { pos = 11; st = List.[]; d = 0; at = λ x. x }, tt,) 16 List.[]
       RelayPending.ty
   abbrev s41 : (bs : List.List Nat.ℕ) → Typed.Both T42 T43
-  s41 = λ bs. Call.callB ps·6 r·6 (claims· .12) (claims· .13) T42 (record { pos = 12; st = List.[]; d = 0; at = λ x. x }, (record { pos = 10; st =
-      List.[]; d = 0; at = λ x. x }, (record { pos = 11; st = List.[]; d = 0; at = λ x. x }, tt),),) 16 List.[] RelayCircuit.ty
+  s41 = λ bs. Call.callB ps·6 r·6 (claims· .12) (claims· .13) T42 (record { pos = 13; st = List.[]; d = 0; at = λ x. x }, (record { pos = 11; st =
+      List.[]; d = 0; at = λ x. x }, (record { pos = 12; st = List.[]; d = 0; at = λ x. x }, tt),),) 17 List.[] RelayCircuit.ty
   abbrev s42 : (bs : List.List Nat.ℕ) → Typed.Mo T43 → Typed.Mo T44
-  s42 = λ bs. Scalar.n-room T43 10 Laws''''''.mir
+  s42 = λ bs. Scalar.n-room T43 11 Laws'''''''.mir
   abbrev s43 : (bs : List.List Nat.ℕ) → Typed.Mo T44 → Typed.Mo T45
-  s43 = λ bs. Scalar.n-room T44 11 Laws.mir
+  s43 = λ bs. Scalar.n-room T44 12 Laws.mir
   abbrev s44 : (bs : List.List Nat.ℕ) → Typed.Mo T45 → Typed.Mo T46
-  s44 = λ bs. Scalar.n-room T45 12 Laws''''.mir
+  s44 = λ bs. Scalar.n-room T45 13 Laws''''.mir
   abbrev s45 : (bs : List.List Nat.ℕ) → Typed.Both T46 T47
-  s45 = λ bs. WayStmt.k-way-copy-out T46 (Row.out 14 (T46 .locals)) (λ u. Row.drop 14 (T46 .locals) u) 17 (Rows.whole (Declared'.row
+  s45 = λ bs. WayStmt.k-way-copy-out T46 (Row.out 15 (T46 .locals)) (λ u. Row.drop 15 (T46 .locals) u) 18 (Rows.whole (Declared'.row
       OpaqueRelayRuntime.the-type)) (λ u. At.getAt (AcceptPlan.the-type .parts) 3 (AcceptPlan.struct .as-values (u .1 .1 .1 .1 .1 .1 .1 .1 .1 .1 .1 .1
-      .1 .1 .0))) (λ T′. record { locals = Row.setRow 14 (14, Rows.whole (Declared'.row AcceptPlan.the-type)) T′; slots = List.[]; }) (λ u T′ m′.
-      Row.set 14 (14, Rows.whole (Declared'.row AcceptPlan.the-type)) (u .1 .1 .1 .1 .1 .1 .1 .1 .1 .1 .1 .1 .1 .1 .0) T′ m′) (λ u. Unit) λ u. Unit
+      .1 .1 .1 .0))) (λ T′. record { locals = Row.setRow 15 (15, Rows.whole (Declared'.row AcceptPlan.the-type)) T′; slots = List.[]; }) (λ u T′ m′.
+      Row.set 15 (15, Rows.whole (Declared'.row AcceptPlan.the-type)) (u .1 .1 .1 .1 .1 .1 .1 .1 .1 .1 .1 .1 .1 .1 .1 .0) T′ m′) (λ u. Unit) λ u. Unit
   abbrev s46 : (bs : List.List Nat.ℕ) → Typed.Both T47 T48
-  s46 = λ bs. WayStmt.k-way-copy-out T47 (Row.out 14 (T47 .locals)) (λ u. Row.drop 14 (T47 .locals) u) 18 (Rows.whole (Declared'.row
-      Outgoing.the-type)) (λ u. At.getAt (AcceptPlan.the-type .parts) 4 (AcceptPlan.struct .as-values (u .1 .1 .1 .1 .1 .1 .1 .1 .1 .1 .1 .1 .1 .1
-      .0))) (λ T′. record { locals = Row.setRow 14 (14, Rows.whole (Declared'.row AcceptPlan.the-type)) T′; slots = List.[]; }) (λ u T′ m′. Row.set 14
-      (14, Rows.whole (Declared'.row AcceptPlan.the-type)) (u .1 .1 .1 .1 .1 .1 .1 .1 .1 .1 .1 .1 .1 .1 .0) T′ m′) (λ u. Unit) λ u. Unit
+  s46 = λ bs. WayStmt.k-way-copy-out T47 (Row.out 15 (T47 .locals)) (λ u. Row.drop 15 (T47 .locals) u) 19 (Rows.whole (Declared'.row
+      Outgoing.the-type)) (λ u. At.getAt (AcceptPlan.the-type .parts) 4 (AcceptPlan.struct .as-values (u .1 .1 .1 .1 .1 .1 .1 .1 .1 .1 .1 .1 .1 .1 .1
+      .0))) (λ T′. record { locals = Row.setRow 15 (15, Rows.whole (Declared'.row AcceptPlan.the-type)) T′; slots = List.[]; }) (λ u T′ m′. Row.set 15
+      (15, Rows.whole (Declared'.row AcceptPlan.the-type)) (u .1 .1 .1 .1 .1 .1 .1 .1 .1 .1 .1 .1 .1 .1 .1 .0) T′ m′) (λ u. Unit) λ u. Unit
   abbrev s47 : (bs : List.List Nat.ℕ) → Typed.Both T48 T49
-  s47 = λ bs. WayStmt.k-way-copy-out T48 (Row.out 14 (T48 .locals)) (λ u. Row.drop 14 (T48 .locals) u) 19 (Rows.whole (Declared'.row
+  s47 = λ bs. WayStmt.k-way-copy-out T48 (Row.out 15 (T48 .locals)) (λ u. Row.drop 15 (T48 .locals) u) 20 (Rows.whole (Declared'.row
       OpenedBody.the-type)) (λ u. At.getAt (AcceptPlan.the-type .parts) 5 (AcceptPlan.struct .as-values (u .1 .1 .1 .1 .1 .1 .1 .1 .1 .1 .1 .1 .1 .1
-      .0))) (λ T′. record { locals = Row.setRow 14 (14, Rows.whole (Declared'.row AcceptPlan.the-type)) T′; slots = List.[]; }) (λ u T′ m′. Row.set 14
-      (14, Rows.whole (Declared'.row AcceptPlan.the-type)) (u .1 .1 .1 .1 .1 .1 .1 .1 .1 .1 .1 .1 .1 .1 .0) T′ m′) (λ u. Unit) λ u. Unit
+      .1 .0))) (λ T′. record { locals = Row.setRow 15 (15, Rows.whole (Declared'.row AcceptPlan.the-type)) T′; slots = List.[]; }) (λ u T′ m′. Row.set
+      15 (15, Rows.whole (Declared'.row AcceptPlan.the-type)) (u .1 .1 .1 .1 .1 .1 .1 .1 .1 .1 .1 .1 .1 .1 .1 .0) T′ m′) (λ u. Unit) λ u. Unit
   abbrev s49 : (bs : List.List Nat.ℕ) → Typed.Gives T49 T51
-  s49 = λ bs. Relend.k-sl-relend RelayPending.row T49 1 29 0 10 ref7 ref3 Row.off λ x. x
+  s49 = λ bs. Relend.k-sl-relend RelayPending.row T49 1 31 0 10 ref7 ref3 Row.off λ x. x
   abbrev s50 : (bs : List.List Nat.ℕ) → Typed.Asks T51 T52
-  s50 = λ bs. Relend.k-sl-aggregate RelayPending.row (Relend.asMut RelayPending.row) T51 29 30 10 ref3 ref3 (λ x. x) (Scalar.oFld 1 ((Syntax.field 1)
+  s50 = λ bs. Relend.k-sl-aggregate RelayPending.row (Relend.asMut RelayPending.row) T51 31 32 10 ref3 ref3 (λ x. x) (Scalar.oFld 1 ((Syntax.field 1)
       ∷ List.[]) (Syntax.tyInt Syntax.w64) 8 λ v. Shared.lenV (v .0))
   abbrev s52 : (bs : List.List Nat.ℕ) → Typed.Gives T52 T54
-  s52 = λ bs. Relend.k-sl-relend RelayCircuit.row T52 2 31 1 11 ref8 ref4 Row.off λ x. x
+  s52 = λ bs. Relend.k-sl-relend RelayCircuit.row T52 2 33 1 11 ref8 ref4 Row.off λ x. x
   abbrev s53 : (bs : List.List Nat.ℕ) → Typed.Asks T54 T55
-  s53 = λ bs. Relend.k-sl-aggregate RelayCircuit.row (Relend.asMut RelayCircuit.row) T54 31 32 11 ref4 ref4 (λ x. x) (Scalar.oFld 2 ((Syntax.field 1)
+  s53 = λ bs. Relend.k-sl-aggregate RelayCircuit.row (Relend.asMut RelayCircuit.row) T54 33 34 11 ref4 ref4 (λ x. x) (Scalar.oFld 2 ((Syntax.field 1)
       ∷ List.[]) (Syntax.tyInt Syntax.w64) 8 λ v. Shared.lenV (v .0))
   abbrev s55 : (bs : List.List Nat.ℕ) → Typed.Gives T55 T57
-  s55 = λ bs. Relend.k-sl-relend InflightAction.row T55 3 33 2 12 ref9 ref5 Row.off λ x. x
+  s55 = λ bs. Relend.k-sl-relend InflightAction.row T55 3 35 2 12 ref9 ref5 Row.off λ x. x
   abbrev s56 : (bs : List.List Nat.ℕ) → Typed.Asks T57 T58
-  s56 = λ bs. Relend.k-sl-aggregate InflightAction.row (Relend.asMut InflightAction.row) T57 33 34 12 ref5 ref5 (λ x. x) (Scalar.oFld 3 ((Syntax.field
+  s56 = λ bs. Relend.k-sl-aggregate InflightAction.row (Relend.asMut InflightAction.row) T57 35 36 12 ref5 ref5 (λ x. x) (Scalar.oFld 3 ((Syntax.field
       1) ∷ List.[]) (Syntax.tyInt Syntax.w64) 8 λ v. Shared.lenV (v .0))
   abbrev s57 : (bs : List.List Nat.ℕ) → Typed.Both T58 T59
-  s57 = λ bs. Call.callB ps·7 r·7 (claims· .14) (claims· .15) T58 (record { pos = 30; ty = Syntax.tyRef Syntax.erased Syntax.mut RelayPending.to; ref
-      = λ x. x; }, (record { pos = 32; ty = Syntax.tyRef Syntax.erased Syntax.mut RelayCircuit.to; ref = λ x. x; }, (record { pos = 34; ty =
-      Syntax.tyRef Syntax.erased Syntax.mut InflightAction.to; ref = λ x. x; }, (record { pos = 14; st = List.[]; d = 0; at = λ x. x }, (record { pos
-      = 15; st = List.[]; d = 0; at = λ x. x }, (record { pos = 16; st = List.[]; d = 0; at = λ x. x }, tt),),),),),) 28 (10 ∷ 11 ∷ 12 ∷ List.[])
-      Syntax.tyUnit
+  s57 = λ bs. Call.callB ps·7 r·7 (claims· .14) (claims· .15) T58 (record { pos = 32; ty = Syntax.tyRef Syntax.erased Syntax.mut RelayPending.to; ref
+      = λ x. x; }, (record { pos = 34; ty = Syntax.tyRef Syntax.erased Syntax.mut RelayCircuit.to; ref = λ x. x; }, (record { pos = 36; ty =
+      Syntax.tyRef Syntax.erased Syntax.mut InflightAction.to; ref = λ x. x; }, (record { pos = 6; st = List.[]; d = 0; at = λ x. x }, (record { pos =
+      15; st = List.[]; d = 0; at = λ x. x }, (record { pos = 16; st = List.[]; d = 0; at = λ x. x }, (record { pos = 17; st = List.[]; d = 0; at = λ
+      x. x }, tt),),),),),),) 21 (10 ∷ 11 ∷ 12 ∷ List.[]) (Syntax.tyInt Syntax.w64)
   abbrev s58 : (bs : List.List Nat.ℕ) → Typed.Mo T59 → Typed.Mo T60
-  s58 = λ bs. Scalar.n-room T59 14 Laws''.mir
+  s58 = λ bs. Scalar.n-room T59 15 Laws''.mir
   abbrev s59 : (bs : List.List Nat.ℕ) → Typed.Mo T60 → Typed.Mo T61
-  s59 = λ bs. Scalar.n-room T60 15 RelayPending.ty
+  s59 = λ bs. Scalar.n-room T60 16 RelayPending.ty
   abbrev s60 : (bs : List.List Nat.ℕ) → Typed.Mo T61 → Typed.Mo T62
-  s60 = λ bs. Scalar.n-room T61 16 RelayCircuit.ty
-  abbrev s61 : (bs : List.List Nat.ℕ) → Typed.Mo T62 → Typed.Mo T63
-  s61 = λ bs. Scalar.n-room T62 28 Syntax.tyUnit
-  abbrev s63 : (bs : List.List Nat.ℕ) → Typed.Both T63 T65
-  s63 = λ bs. Relend.k-back-sl RelayPending.row T63 30 1 0 10 ref7 ref3 Row.off (λ x. x) λ x. x
-  abbrev s66 : (bs : List.List Nat.ℕ) → Typed.Both T65 T68
-  s66 = λ bs. Relend.k-back-sl RelayCircuit.row T65 32 2 1 11 ref8 ref4 Row.off (λ x. x) λ x. x
-  abbrev s69 : (bs : List.List Nat.ℕ) → Typed.Both T68 T71
-  s69 = λ bs. Relend.k-back-sl InflightAction.row T68 34 3 2 12 ref9 ref5 Row.off (λ x. x) λ x. x
-  abbrev s72 : (bs : List.List Nat.ℕ) → Typed.Gives T71 T74
-  s72 = λ bs. Relend.k-sl-relend InflightAction.row T71 3 35 2 13 ref9 ref5 Row.off λ x. x
-  abbrev s73 : (bs : List.List Nat.ℕ) → Typed.Asks T74 T75
-  s73 = λ bs. Relend.k-sl-aggregate InflightAction.row (Relend.asMut InflightAction.row) T74 35 36 13 ref5 ref5 (λ x. x) (Scalar.oFld 3 ((Syntax.field
+  s60 = λ bs. Scalar.n-room T61 17 RelayCircuit.ty
+  abbrev s62 : (bs : List.List Nat.ℕ) → Typed.Both T62 T64
+  s62 = λ bs. Relend.k-back-sl RelayPending.row T62 32 1 0 10 ref7 ref3 Row.off (λ x. x) λ x. x
+  abbrev s65 : (bs : List.List Nat.ℕ) → Typed.Both T64 T67
+  s65 = λ bs. Relend.k-back-sl RelayCircuit.row T64 34 2 1 11 ref8 ref4 Row.off (λ x. x) λ x. x
+  abbrev s68 : (bs : List.List Nat.ℕ) → Typed.Both T67 T70
+  s68 = λ bs. Relend.k-back-sl InflightAction.row T67 36 3 2 12 ref9 ref5 Row.off (λ x. x) λ x. x
+  abbrev s70 : (bs : List.List Nat.ℕ) → Typed.Both T70 T72
+  s70 = λ bs. Call.callB ps·8 r·8 (claims· .16) (claims· .17) T70 (record { pos = 6; st = List.[]; d = 0; at = λ x. x }, (Num.vAt 21 λ x. x, tt),) 22
+      List.[] Laws'''''.mir
+  abbrev s71 : (bs : List.List Nat.ℕ) → Typed.Mo T72 → Typed.Mo T73
+  s71 = λ bs. Scalar.n-room T72 6 Laws'''''.mir
+  abbrev s73 : (bs : List.List Nat.ℕ) → Typed.Gives T73 T75
+  s73 = λ bs. Relend.k-sl-relend InflightAction.row T73 3 37 2 13 ref9 ref5 Row.off λ x. x
+  abbrev s74 : (bs : List.List Nat.ℕ) → Typed.Asks T75 T76
+  s74 = λ bs. Relend.k-sl-aggregate InflightAction.row (Relend.asMut InflightAction.row) T75 37 38 13 ref5 ref5 (λ x. x) (Scalar.oFld 3 ((Syntax.field
       1) ∷ List.[]) (Syntax.tyInt Syntax.w64) 8 λ v. Shared.lenV (v .0))
-  abbrev s75 : (bs : List.List Nat.ℕ) → Typed.Gives T75 T77
-  s75 = λ bs. Relend.k-sl-relend (Referent.rtF (Referent.fInt Syntax.w32)) T75 4 37 3 14 ref10 ref6 Row.off λ x. x
-  abbrev s76 : (bs : List.List Nat.ℕ) → Typed.Asks T77 T78
-  s76 = λ bs. Relend.k-sl-aggregate (Referent.rtF (Referent.fInt Syntax.w32)) (Relend.asMut (Referent.rtF (Referent.fInt Syntax.w32))) T77 37 38 14
+  abbrev s76 : (bs : List.List Nat.ℕ) → Typed.Gives T76 T78
+  s76 = λ bs. Relend.k-sl-relend (Referent.rtF (Referent.fInt Syntax.w32)) T76 4 39 3 14 ref10 ref6 Row.off λ x. x
+  abbrev s77 : (bs : List.List Nat.ℕ) → Typed.Asks T78 T79
+  s77 = λ bs. Relend.k-sl-aggregate (Referent.rtF (Referent.fInt Syntax.w32)) (Relend.asMut (Referent.rtF (Referent.fInt Syntax.w32))) T78 39 40 14
       ref6 ref6 (λ x. x) (Scalar.oFld 4 ((Syntax.field 1) ∷ List.[]) (Syntax.tyInt Syntax.w64) 8 λ v. Shared.lenV (v .0))
-  abbrev s77 : (bs : List.List Nat.ℕ) → Typed.Both T78 T79
-  s77 = λ bs. Call.callB ps·8 r·8 (claims· .16) (claims· .17) T78 (record { pos = 36; ty = Syntax.tyRef Syntax.erased Syntax.mut InflightAction.to;
-      ref = λ x. x; }, (record { pos = 38; ty = Syntax.tyRef Syntax.erased Syntax.mut (Syntax.tyInt Syntax.w32); ref = λ x. x; }, (record { pos = 13;
-      st = List.[]; d = 0; at = λ x. x }, (record { pos = 17; st = List.[]; d = 0; at = λ x. x }, (record { pos = 18; st = List.[]; d = 0; at = λ x. x
-      }, (record { pos = 19; st = List.[]; d = 0; at = λ x. x }, tt),),),),),) 0 (13 ∷ 14 ∷ List.[]) Laws''''''''''.mir
-  abbrev s78 : (bs : List.List Nat.ℕ) → Typed.Mo T79 → Typed.Mo T80
-  s78 = λ bs. Scalar.n-room T79 13 Laws'''.mir
+  abbrev s78 : (bs : List.List Nat.ℕ) → Typed.Both T79 T80
+  s78 = λ bs. Call.callB ps·9 r·9 (claims· .18) (claims· .19) T79 (record { pos = 38; ty = Syntax.tyRef Syntax.erased Syntax.mut InflightAction.to;
+      ref = λ x. x; }, (record { pos = 40; ty = Syntax.tyRef Syntax.erased Syntax.mut (Syntax.tyInt Syntax.w32); ref = λ x. x; }, (record { pos = 14;
+      st = List.[]; d = 0; at = λ x. x }, (record { pos = 18; st = List.[]; d = 0; at = λ x. x }, (record { pos = 22; st = List.[]; d = 0; at = λ x. x
+      }, (record { pos = 19; st = List.[]; d = 0; at = λ x. x }, (record { pos = 20; st = List.[]; d = 0; at = λ x. x }, tt),),),),),),) 0 (13 ∷ 14 ∷
+      List.[]) Laws'''''''''''.mir
   abbrev s79 : (bs : List.List Nat.ℕ) → Typed.Mo T80 → Typed.Mo T81
-  s79 = λ bs. Scalar.n-room T80 17 Laws'''''''''.mir
+  s79 = λ bs. Scalar.n-room T80 14 Laws'''.mir
   abbrev s80 : (bs : List.List Nat.ℕ) → Typed.Mo T81 → Typed.Mo T82
-  s80 = λ bs. Scalar.n-room T81 18 Laws'''''.mir
+  s80 = λ bs. Scalar.n-room T81 18 Laws''''''''''.mir
   abbrev s81 : (bs : List.List Nat.ℕ) → Typed.Mo T82 → Typed.Mo T83
-  s81 = λ bs. Scalar.n-room T82 19 Laws'.mir
-  abbrev s83 : (bs : List.List Nat.ℕ) → Typed.Both T83 T85
-  s83 = λ bs. Relend.k-back-sl InflightAction.row T83 36 3 2 13 ref9 ref5 Row.off (λ x. x) λ x. x
-  abbrev s86 : (bs : List.List Nat.ℕ) → Typed.Both T85 T88
-  s86 = λ bs. Relend.k-back-sl (Referent.rtF (Referent.fInt Syntax.w32)) T85 38 4 3 14 ref10 ref6 Row.off (λ x. x) λ x. x
-  abbrev s87 : (bs : List.List Nat.ℕ) → Typed.Gives T88 T89
-  s87 = λ bs. Know.k-sl-known (Referent.fInt Syntax.w32) T88 4 3 ref10 Row.off 0 λ x. x
+  s81 = λ bs. Scalar.n-room T82 19 Laws''''''.mir
+  abbrev s82 : (bs : List.List Nat.ℕ) → Typed.Mo T83 → Typed.Mo T84
+  s82 = λ bs. Scalar.n-room T83 20 Laws'.mir
+  abbrev s83 : (bs : List.List Nat.ℕ) → Typed.Mo T84 → Typed.Mo T85
+  s83 = λ bs. Scalar.n-room T84 21 (Syntax.tyInt Syntax.w64)
+  abbrev s84 : (bs : List.List Nat.ℕ) → Typed.Mo T85 → Typed.Mo T86
+  s84 = λ bs. Scalar.n-room T85 22 Laws'''''.mir
+  abbrev s86 : (bs : List.List Nat.ℕ) → Typed.Both T86 T88
+  s86 = λ bs. Relend.k-back-sl InflightAction.row T86 38 3 2 13 ref9 ref5 Row.off (λ x. x) λ x. x
+  abbrev s89 : (bs : List.List Nat.ℕ) → Typed.Both T88 T91
+  s89 = λ bs. Relend.k-back-sl (Referent.rtF (Referent.fInt Syntax.w32)) T88 40 4 3 14 ref10 ref6 Row.off (λ x. x) λ x. x
+  abbrev s90 : (bs : List.List Nat.ℕ) → Typed.Gives T91 T92
+  s90 = λ bs. Know.k-sl-known (Referent.fInt Syntax.w32) T91 4 3 ref10 Row.off 0 λ x. x
   module _ (Pre· : (κs : Lifetimes.Lfts 6) → Kinds.Dens κs ps → Type 0) (Post· : (κs : Lifetimes.Lfts 6) → (a : Kinds.Dens κs ps) → Kinds.Plain 6 ps r
       κs) where
     module _ (M : Type 1) where
@@ -1093,192 +1173,199 @@ module _ (claims· : Claims) where
           "hnsr_circuit::accept::accept_plan") (known5 : Plain.Known 𝓤 H A W 𝓣 0 ps·5 r·5 (claims· .10) (claims· .11)
           "hnsr_circuit::accept::found_unmarked") (known6 : Plain.Known 𝓤 H A W 𝓣 0 ps·6 r·6 (claims· .12) (claims· .13)
           "hnsr_circuit::accept::circuit_for") (known7 : Plain.Known 𝓤 H A W 𝓣 3 ps·7 r·7 (claims· .14) (claims· .15)
-          "hnsr_circuit::handle_accept::accept_written") (known8 : Plain.Known 𝓤 H A W 𝓣 2 ps·8 r·8 (claims· .16) (claims· .17)
+          "hnsr_circuit::handle_accept::accept_written") (known8 : Plain.Known 𝓤 H A W 𝓣 0 ps·8 r·8 (claims· .16) (claims· .17)
+          "hnsr_circuit::places::with_circuits") (known9 : Plain.Known 𝓤 H A W 𝓣 2 ps·9 r·9 (claims· .18) (claims· .19)
           "hnsr_circuit::handle_accept::send_opened") → Statement.Triple 𝓤 (Wp.WpFn 𝓤 H (𝓣 .C) (𝓣 .Λ) (Function.fnOf 6 ps r xs m hs body))
           (Function.plainOf 𝓤 H A 6 ps r Pre· Post·)
     module _ where
-      abbrev at0 : (bs : List.List Nat.ℕ) → Typed.TF T89 O0
+      abbrev at0 : (bs : List.List Nat.ℕ) → Typed.TF T92 O0
       at0 = λ bs. Typed.atRet O0
-      abbrev at1 : (bs : List.List Nat.ℕ) → Typed.TF T89 O0
+      abbrev at1 : (bs : List.List Nat.ℕ) → Typed.TF T92 O0
       at1 = λ bs. λ Ψ. at0 bs Ψ
-      abbrev at2 : (bs : List.List Nat.ℕ) → Typed.TF T88 O0
-      at2 = λ bs. λ Ψ. Typed.give (s87 bs) (at1 bs Ψ)
-      abbrev at3 : (bs : List.List Nat.ℕ) → Typed.TF T85 O0
-      at3 = λ bs. λ Ψ. Typed.both (s86 bs) (at2 bs Ψ)
-      abbrev at4 : (bs : List.List Nat.ℕ) → Typed.TF T85 O0
+      abbrev at2 : (bs : List.List Nat.ℕ) → Typed.TF T91 O0
+      at2 = λ bs. λ Ψ. Typed.give (s90 bs) (at1 bs Ψ)
+      abbrev at3 : (bs : List.List Nat.ℕ) → Typed.TF T88 O0
+      at3 = λ bs. λ Ψ. Typed.both (s89 bs) (at2 bs Ψ)
+      abbrev at4 : (bs : List.List Nat.ℕ) → Typed.TF T88 O0
       at4 = λ bs. λ Ψ. at3 bs Ψ
-      abbrev at5 : (bs : List.List Nat.ℕ) → Typed.TF T85 O0
+      abbrev at5 : (bs : List.List Nat.ℕ) → Typed.TF T88 O0
       at5 = λ bs. λ Ψ. at4 bs Ψ
-      abbrev at6 : (bs : List.List Nat.ℕ) → Typed.TF T83 O0
-      at6 = λ bs. λ Ψ. Typed.both (s83 bs) (at5 bs Ψ)
-      abbrev at7 : (bs : List.List Nat.ℕ) → Typed.TF T83 O0
+      abbrev at6 : (bs : List.List Nat.ℕ) → Typed.TF T86 O0
+      at6 = λ bs. λ Ψ. Typed.both (s86 bs) (at5 bs Ψ)
+      abbrev at7 : (bs : List.List Nat.ℕ) → Typed.TF T86 O0
       at7 = λ bs. λ Ψ. at6 bs Ψ
-      abbrev at8 : (bs : List.List Nat.ℕ) → Typed.TF T82 O0
-      at8 = λ bs. λ Ψ. Typed.pass T82 T83 (s81 bs) (at7 bs Ψ)
-      abbrev at9 : (bs : List.List Nat.ℕ) → Typed.TF T81 O0
-      at9 = λ bs. λ Ψ. Typed.pass T81 T82 (s80 bs) (at8 bs Ψ)
-      abbrev at10 : (bs : List.List Nat.ℕ) → Typed.TF T80 O0
-      at10 = λ bs. λ Ψ. Typed.pass T80 T81 (s79 bs) (at9 bs Ψ)
-      abbrev at11 : (bs : List.List Nat.ℕ) → Typed.TF T79 O0
-      at11 = λ bs. λ Ψ. Typed.pass T79 T80 (s78 bs) (at10 bs Ψ)
-      abbrev at12 : (bs : List.List Nat.ℕ) → Typed.TF T78 O0
-      at12 = λ bs. λ Ψ. Typed.both (s77 bs) (at11 bs Ψ)
-      abbrev at13 : (bs : List.List Nat.ℕ) → Typed.TF T77 O0
-      at13 = λ bs. λ Ψ. Typed.ask (s76 bs) (at12 bs Ψ)
-      abbrev at14 : (bs : List.List Nat.ℕ) → Typed.TF T75 O0
-      at14 = λ bs. λ Ψ. Typed.give (s75 bs) (at13 bs Ψ)
-      abbrev at15 : (bs : List.List Nat.ℕ) → Typed.TF T75 O0
-      at15 = λ bs. λ Ψ. at14 bs Ψ
-      abbrev at16 : (bs : List.List Nat.ℕ) → Typed.TF T74 O0
-      at16 = λ bs. λ Ψ. Typed.ask (s73 bs) (at15 bs Ψ)
-      abbrev at17 : (bs : List.List Nat.ℕ) → Typed.TF T71 O0
-      at17 = λ bs. λ Ψ. Typed.give (s72 bs) (at16 bs Ψ)
-      abbrev at18 : (bs : List.List Nat.ℕ) → Typed.TF T71 O0
-      at18 = λ bs. λ Ψ. at17 bs Ψ
-      abbrev at19 : (bs : List.List Nat.ℕ) → Typed.TF T71 O0
-      at19 = λ bs. λ Ψ. at18 bs Ψ
-      abbrev at20 : (bs : List.List Nat.ℕ) → Typed.TF T68 O0
-      at20 = λ bs. λ Ψ. Typed.both (s69 bs) (at19 bs Ψ)
-      abbrev at21 : (bs : List.List Nat.ℕ) → Typed.TF T68 O0
-      at21 = λ bs. λ Ψ. at20 bs Ψ
-      abbrev at22 : (bs : List.List Nat.ℕ) → Typed.TF T68 O0
-      at22 = λ bs. λ Ψ. at21 bs Ψ
-      abbrev at23 : (bs : List.List Nat.ℕ) → Typed.TF T65 O0
-      at23 = λ bs. λ Ψ. Typed.both (s66 bs) (at22 bs Ψ)
-      abbrev at24 : (bs : List.List Nat.ℕ) → Typed.TF T65 O0
-      at24 = λ bs. λ Ψ. at23 bs Ψ
-      abbrev at25 : (bs : List.List Nat.ℕ) → Typed.TF T65 O0
+      abbrev at8 : (bs : List.List Nat.ℕ) → Typed.TF T85 O0
+      at8 = λ bs. λ Ψ. Typed.pass T85 T86 (s84 bs) (at7 bs Ψ)
+      abbrev at9 : (bs : List.List Nat.ℕ) → Typed.TF T84 O0
+      at9 = λ bs. λ Ψ. Typed.pass T84 T85 (s83 bs) (at8 bs Ψ)
+      abbrev at10 : (bs : List.List Nat.ℕ) → Typed.TF T83 O0
+      at10 = λ bs. λ Ψ. Typed.pass T83 T84 (s82 bs) (at9 bs Ψ)
+      abbrev at11 : (bs : List.List Nat.ℕ) → Typed.TF T82 O0
+      at11 = λ bs. λ Ψ. Typed.pass T82 T83 (s81 bs) (at10 bs Ψ)
+      abbrev at12 : (bs : List.List Nat.ℕ) → Typed.TF T81 O0
+      at12 = λ bs. λ Ψ. Typed.pass T81 T82 (s80 bs) (at11 bs Ψ)
+      abbrev at13 : (bs : List.List Nat.ℕ) → Typed.TF T80 O0
+      at13 = λ bs. λ Ψ. Typed.pass T80 T81 (s79 bs) (at12 bs Ψ)
+      abbrev at14 : (bs : List.List Nat.ℕ) → Typed.TF T79 O0
+      at14 = λ bs. λ Ψ. Typed.both (s78 bs) (at13 bs Ψ)
+      abbrev at15 : (bs : List.List Nat.ℕ) → Typed.TF T78 O0
+      at15 = λ bs. λ Ψ. Typed.ask (s77 bs) (at14 bs Ψ)
+      abbrev at16 : (bs : List.List Nat.ℕ) → Typed.TF T76 O0
+      at16 = λ bs. λ Ψ. Typed.give (s76 bs) (at15 bs Ψ)
+      abbrev at17 : (bs : List.List Nat.ℕ) → Typed.TF T76 O0
+      at17 = λ bs. λ Ψ. at16 bs Ψ
+      abbrev at18 : (bs : List.List Nat.ℕ) → Typed.TF T75 O0
+      at18 = λ bs. λ Ψ. Typed.ask (s74 bs) (at17 bs Ψ)
+      abbrev at19 : (bs : List.List Nat.ℕ) → Typed.TF T73 O0
+      at19 = λ bs. λ Ψ. Typed.give (s73 bs) (at18 bs Ψ)
+      abbrev at20 : (bs : List.List Nat.ℕ) → Typed.TF T73 O0
+      at20 = λ bs. λ Ψ. at19 bs Ψ
+      abbrev at21 : (bs : List.List Nat.ℕ) → Typed.TF T72 O0
+      at21 = λ bs. λ Ψ. Typed.pass T72 T73 (s71 bs) (at20 bs Ψ)
+      abbrev at22 : (bs : List.List Nat.ℕ) → Typed.TF T70 O0
+      at22 = λ bs. λ Ψ. Typed.both (s70 bs) (at21 bs Ψ)
+      abbrev at23 : (bs : List.List Nat.ℕ) → Typed.TF T70 O0
+      at23 = λ bs. λ Ψ. at22 bs Ψ
+      abbrev at24 : (bs : List.List Nat.ℕ) → Typed.TF T67 O0
+      at24 = λ bs. λ Ψ. Typed.both (s68 bs) (at23 bs Ψ)
+      abbrev at25 : (bs : List.List Nat.ℕ) → Typed.TF T67 O0
       at25 = λ bs. λ Ψ. at24 bs Ψ
-      abbrev at26 : (bs : List.List Nat.ℕ) → Typed.TF T63 O0
-      at26 = λ bs. λ Ψ. Typed.both (s63 bs) (at25 bs Ψ)
-      abbrev at27 : (bs : List.List Nat.ℕ) → Typed.TF T63 O0
-      at27 = λ bs. λ Ψ. at26 bs Ψ
-      abbrev at28 : (bs : List.List Nat.ℕ) → Typed.TF T62 O0
-      at28 = λ bs. λ Ψ. Typed.pass T62 T63 (s61 bs) (at27 bs Ψ)
-      abbrev at29 : (bs : List.List Nat.ℕ) → Typed.TF T61 O0
-      at29 = λ bs. λ Ψ. Typed.pass T61 T62 (s60 bs) (at28 bs Ψ)
-      abbrev at30 : (bs : List.List Nat.ℕ) → Typed.TF T60 O0
-      at30 = λ bs. λ Ψ. Typed.pass T60 T61 (s59 bs) (at29 bs Ψ)
-      abbrev at31 : (bs : List.List Nat.ℕ) → Typed.TF T59 O0
-      at31 = λ bs. λ Ψ. Typed.pass T59 T60 (s58 bs) (at30 bs Ψ)
-      abbrev at32 : (bs : List.List Nat.ℕ) → Typed.TF T58 O0
-      at32 = λ bs. λ Ψ. Typed.both (s57 bs) (at31 bs Ψ)
-      abbrev at33 : (bs : List.List Nat.ℕ) → Typed.TF T57 O0
-      at33 = λ bs. λ Ψ. Typed.ask (s56 bs) (at32 bs Ψ)
-      abbrev at34 : (bs : List.List Nat.ℕ) → Typed.TF T55 O0
-      at34 = λ bs. λ Ψ. Typed.give (s55 bs) (at33 bs Ψ)
-      abbrev at35 : (bs : List.List Nat.ℕ) → Typed.TF T55 O0
-      at35 = λ bs. λ Ψ. at34 bs Ψ
-      abbrev at36 : (bs : List.List Nat.ℕ) → Typed.TF T54 O0
-      at36 = λ bs. λ Ψ. Typed.ask (s53 bs) (at35 bs Ψ)
-      abbrev at37 : (bs : List.List Nat.ℕ) → Typed.TF T52 O0
-      at37 = λ bs. λ Ψ. Typed.give (s52 bs) (at36 bs Ψ)
-      abbrev at38 : (bs : List.List Nat.ℕ) → Typed.TF T52 O0
+      abbrev at26 : (bs : List.List Nat.ℕ) → Typed.TF T67 O0
+      at26 = λ bs. λ Ψ. at25 bs Ψ
+      abbrev at27 : (bs : List.List Nat.ℕ) → Typed.TF T64 O0
+      at27 = λ bs. λ Ψ. Typed.both (s65 bs) (at26 bs Ψ)
+      abbrev at28 : (bs : List.List Nat.ℕ) → Typed.TF T64 O0
+      at28 = λ bs. λ Ψ. at27 bs Ψ
+      abbrev at29 : (bs : List.List Nat.ℕ) → Typed.TF T64 O0
+      at29 = λ bs. λ Ψ. at28 bs Ψ
+      abbrev at30 : (bs : List.List Nat.ℕ) → Typed.TF T62 O0
+      at30 = λ bs. λ Ψ. Typed.both (s62 bs) (at29 bs Ψ)
+      abbrev at31 : (bs : List.List Nat.ℕ) → Typed.TF T62 O0
+      at31 = λ bs. λ Ψ. at30 bs Ψ
+      abbrev at32 : (bs : List.List Nat.ℕ) → Typed.TF T61 O0
+      at32 = λ bs. λ Ψ. Typed.pass T61 T62 (s60 bs) (at31 bs Ψ)
+      abbrev at33 : (bs : List.List Nat.ℕ) → Typed.TF T60 O0
+      at33 = λ bs. λ Ψ. Typed.pass T60 T61 (s59 bs) (at32 bs Ψ)
+      abbrev at34 : (bs : List.List Nat.ℕ) → Typed.TF T59 O0
+      at34 = λ bs. λ Ψ. Typed.pass T59 T60 (s58 bs) (at33 bs Ψ)
+      abbrev at35 : (bs : List.List Nat.ℕ) → Typed.TF T58 O0
+      at35 = λ bs. λ Ψ. Typed.both (s57 bs) (at34 bs Ψ)
+      abbrev at36 : (bs : List.List Nat.ℕ) → Typed.TF T57 O0
+      at36 = λ bs. λ Ψ. Typed.ask (s56 bs) (at35 bs Ψ)
+      abbrev at37 : (bs : List.List Nat.ℕ) → Typed.TF T55 O0
+      at37 = λ bs. λ Ψ. Typed.give (s55 bs) (at36 bs Ψ)
+      abbrev at38 : (bs : List.List Nat.ℕ) → Typed.TF T55 O0
       at38 = λ bs. λ Ψ. at37 bs Ψ
-      abbrev at39 : (bs : List.List Nat.ℕ) → Typed.TF T51 O0
-      at39 = λ bs. λ Ψ. Typed.ask (s50 bs) (at38 bs Ψ)
-      abbrev at40 : (bs : List.List Nat.ℕ) → Typed.TF T49 O0
-      at40 = λ bs. λ Ψ. Typed.give (s49 bs) (at39 bs Ψ)
-      abbrev at41 : (bs : List.List Nat.ℕ) → Typed.TF T49 O0
+      abbrev at39 : (bs : List.List Nat.ℕ) → Typed.TF T54 O0
+      at39 = λ bs. λ Ψ. Typed.ask (s53 bs) (at38 bs Ψ)
+      abbrev at40 : (bs : List.List Nat.ℕ) → Typed.TF T52 O0
+      at40 = λ bs. λ Ψ. Typed.give (s52 bs) (at39 bs Ψ)
+      abbrev at41 : (bs : List.List Nat.ℕ) → Typed.TF T52 O0
       at41 = λ bs. λ Ψ. at40 bs Ψ
-      abbrev at42 : (bs : List.List Nat.ℕ) → Typed.TF T48 O0
-      at42 = λ bs. λ Ψ. Typed.both (s47 bs) (at41 bs Ψ)
-      abbrev at43 : (bs : List.List Nat.ℕ) → Typed.TF T47 O0
-      at43 = λ bs. λ Ψ. Typed.both (s46 bs) (at42 bs Ψ)
-      abbrev at44 : (bs : List.List Nat.ℕ) → Typed.TF T46 O0
-      at44 = λ bs. λ Ψ. Typed.both (s45 bs) (at43 bs Ψ)
-      abbrev at45 : (bs : List.List Nat.ℕ) → Typed.TF T45 O0
-      at45 = λ bs. λ Ψ. Typed.pass T45 T46 (s44 bs) (at44 bs Ψ)
-      abbrev at46 : (bs : List.List Nat.ℕ) → Typed.TF T44 O0
-      at46 = λ bs. λ Ψ. Typed.pass T44 T45 (s43 bs) (at45 bs Ψ)
-      abbrev at47 : (bs : List.List Nat.ℕ) → Typed.TF T43 O0
-      at47 = λ bs. λ Ψ. Typed.pass T43 T44 (s42 bs) (at46 bs Ψ)
-      abbrev at48 : (bs : List.List Nat.ℕ) → Typed.TF T42 O0
-      at48 = λ bs. λ Ψ. Typed.both (s41 bs) (at47 bs Ψ)
-      abbrev at49 : (bs : List.List Nat.ℕ) → Typed.TF T41 O0
-      at49 = λ bs. λ Ψ. Typed.both (s40 bs) (at48 bs Ψ)
-      abbrev at50 : (bs : List.List Nat.ℕ) → Typed.TF T40 O0
-      at50 = λ bs. λ Ψ. Typed.pass T40 T41 (s39 bs) (at49 bs Ψ)
-      abbrev at51 : (bs : List.List Nat.ℕ) → Typed.TF T38 O0
-      at51 = λ bs. λ Ψ. Typed.both (s38 bs) (at50 bs Ψ)
-      abbrev at52 : (bs : List.List Nat.ℕ) → Typed.TF T38 O0
-      at52 = λ bs. λ Ψ. at51 bs Ψ
-      abbrev at53 : (bs : List.List Nat.ℕ) → Typed.TF T35 O0
-      at53 = λ bs. λ Ψ. Typed.pass T35 T38 (s36 bs) (at52 bs Ψ)
-      abbrev at54 : (bs : List.List Nat.ℕ) → Typed.TF T35 O0
-      at54 = λ bs. λ Ψ. at53 bs Ψ
-      abbrev at55 : (bs : List.List Nat.ℕ) → Typed.TF T35 O0
+      abbrev at42 : (bs : List.List Nat.ℕ) → Typed.TF T51 O0
+      at42 = λ bs. λ Ψ. Typed.ask (s50 bs) (at41 bs Ψ)
+      abbrev at43 : (bs : List.List Nat.ℕ) → Typed.TF T49 O0
+      at43 = λ bs. λ Ψ. Typed.give (s49 bs) (at42 bs Ψ)
+      abbrev at44 : (bs : List.List Nat.ℕ) → Typed.TF T49 O0
+      at44 = λ bs. λ Ψ. at43 bs Ψ
+      abbrev at45 : (bs : List.List Nat.ℕ) → Typed.TF T48 O0
+      at45 = λ bs. λ Ψ. Typed.both (s47 bs) (at44 bs Ψ)
+      abbrev at46 : (bs : List.List Nat.ℕ) → Typed.TF T47 O0
+      at46 = λ bs. λ Ψ. Typed.both (s46 bs) (at45 bs Ψ)
+      abbrev at47 : (bs : List.List Nat.ℕ) → Typed.TF T46 O0
+      at47 = λ bs. λ Ψ. Typed.both (s45 bs) (at46 bs Ψ)
+      abbrev at48 : (bs : List.List Nat.ℕ) → Typed.TF T45 O0
+      at48 = λ bs. λ Ψ. Typed.pass T45 T46 (s44 bs) (at47 bs Ψ)
+      abbrev at49 : (bs : List.List Nat.ℕ) → Typed.TF T44 O0
+      at49 = λ bs. λ Ψ. Typed.pass T44 T45 (s43 bs) (at48 bs Ψ)
+      abbrev at50 : (bs : List.List Nat.ℕ) → Typed.TF T43 O0
+      at50 = λ bs. λ Ψ. Typed.pass T43 T44 (s42 bs) (at49 bs Ψ)
+      abbrev at51 : (bs : List.List Nat.ℕ) → Typed.TF T42 O0
+      at51 = λ bs. λ Ψ. Typed.both (s41 bs) (at50 bs Ψ)
+      abbrev at52 : (bs : List.List Nat.ℕ) → Typed.TF T41 O0
+      at52 = λ bs. λ Ψ. Typed.both (s40 bs) (at51 bs Ψ)
+      abbrev at53 : (bs : List.List Nat.ℕ) → Typed.TF T40 O0
+      at53 = λ bs. λ Ψ. Typed.pass T40 T41 (s39 bs) (at52 bs Ψ)
+      abbrev at54 : (bs : List.List Nat.ℕ) → Typed.TF T38 O0
+      at54 = λ bs. λ Ψ. Typed.both (s38 bs) (at53 bs Ψ)
+      abbrev at55 : (bs : List.List Nat.ℕ) → Typed.TF T38 O0
       at55 = λ bs. λ Ψ. at54 bs Ψ
-      abbrev at56 : (bs : List.List Nat.ℕ) → Typed.TF T32 O0
-      at56 = λ bs. λ Ψ. Typed.pass T32 T35 (s33 bs) (at55 bs Ψ)
-      abbrev at57 : (bs : List.List Nat.ℕ) → Typed.TF T32 O0
+      abbrev at56 : (bs : List.List Nat.ℕ) → Typed.TF T35 O0
+      at56 = λ bs. λ Ψ. Typed.pass T35 T38 (s36 bs) (at55 bs Ψ)
+      abbrev at57 : (bs : List.List Nat.ℕ) → Typed.TF T35 O0
       at57 = λ bs. λ Ψ. at56 bs Ψ
-      abbrev at58 : (bs : List.List Nat.ℕ) → Typed.TF T32 O0
+      abbrev at58 : (bs : List.List Nat.ℕ) → Typed.TF T35 O0
       at58 = λ bs. λ Ψ. at57 bs Ψ
-      abbrev at59 : (bs : List.List Nat.ℕ) → Typed.TF T30 O0
-      at59 = λ bs. λ Ψ. Typed.pass T30 T32 (s30 bs) (at58 bs Ψ)
-      abbrev at60 : (bs : List.List Nat.ℕ) → Typed.TF T30 O0
+      abbrev at59 : (bs : List.List Nat.ℕ) → Typed.TF T32 O0
+      at59 = λ bs. λ Ψ. Typed.pass T32 T35 (s33 bs) (at58 bs Ψ)
+      abbrev at60 : (bs : List.List Nat.ℕ) → Typed.TF T32 O0
       at60 = λ bs. λ Ψ. at59 bs Ψ
-      abbrev at61 : (bs : List.List Nat.ℕ) → Typed.TF T29 O0
-      at61 = λ bs. λ Ψ. Typed.pass T29 T30 (s28 bs) (at60 bs Ψ)
-      abbrev at62 : (bs : List.List Nat.ℕ) → Typed.TF T28 O0
-      at62 = λ bs. λ Ψ. Typed.pass T28 T29 (s27 bs) (at61 bs Ψ)
-      abbrev at63 : (bs : List.List Nat.ℕ) → Typed.TF T27 O0
-      at63 = λ bs. λ Ψ. Typed.pass T27 T28 (s26 bs) (at62 bs Ψ)
-      abbrev at64 : (bs : List.List Nat.ℕ) → Typed.TF T26 O0
-      at64 = λ bs. λ Ψ. Typed.pass T26 T27 (s25 bs) (at63 bs Ψ)
-      abbrev at65 : (bs : List.List Nat.ℕ) → Typed.TF T25 O0
-      at65 = λ bs. λ Ψ. Typed.both (s24 bs) (at64 bs Ψ)
-      abbrev at66 : (bs : List.List Nat.ℕ) → Typed.TF T24 O0
-      at66 = λ bs. λ Ψ. Typed.ask (s23 bs) (at65 bs Ψ)
-      abbrev at67 : (bs : List.List Nat.ℕ) → Typed.TF T22 O0
-      at67 = λ bs. λ Ψ. Typed.give (s22 bs) (at66 bs Ψ)
-      abbrev at68 : (bs : List.List Nat.ℕ) → Typed.TF T22 O0
-      at68 = λ bs. λ Ψ. at67 bs Ψ
-      abbrev at69 : (bs : List.List Nat.ℕ) → Typed.TF T21 O0
-      at69 = λ bs. λ Ψ. Typed.ask (s20 bs) (at68 bs Ψ)
-      abbrev at70 : (bs : List.List Nat.ℕ) → Typed.TF T19 O0
-      at70 = λ bs. λ Ψ. Typed.give (s19 bs) (at69 bs Ψ)
-      abbrev at71 : (bs : List.List Nat.ℕ) → Typed.TF T19 O0
+      abbrev at61 : (bs : List.List Nat.ℕ) → Typed.TF T32 O0
+      at61 = λ bs. λ Ψ. at60 bs Ψ
+      abbrev at62 : (bs : List.List Nat.ℕ) → Typed.TF T30 O0
+      at62 = λ bs. λ Ψ. Typed.pass T30 T32 (s30 bs) (at61 bs Ψ)
+      abbrev at63 : (bs : List.List Nat.ℕ) → Typed.TF T30 O0
+      at63 = λ bs. λ Ψ. at62 bs Ψ
+      abbrev at64 : (bs : List.List Nat.ℕ) → Typed.TF T29 O0
+      at64 = λ bs. λ Ψ. Typed.pass T29 T30 (s28 bs) (at63 bs Ψ)
+      abbrev at65 : (bs : List.List Nat.ℕ) → Typed.TF T28 O0
+      at65 = λ bs. λ Ψ. Typed.pass T28 T29 (s27 bs) (at64 bs Ψ)
+      abbrev at66 : (bs : List.List Nat.ℕ) → Typed.TF T27 O0
+      at66 = λ bs. λ Ψ. Typed.pass T27 T28 (s26 bs) (at65 bs Ψ)
+      abbrev at67 : (bs : List.List Nat.ℕ) → Typed.TF T26 O0
+      at67 = λ bs. λ Ψ. Typed.pass T26 T27 (s25 bs) (at66 bs Ψ)
+      abbrev at68 : (bs : List.List Nat.ℕ) → Typed.TF T25 O0
+      at68 = λ bs. λ Ψ. Typed.both (s24 bs) (at67 bs Ψ)
+      abbrev at69 : (bs : List.List Nat.ℕ) → Typed.TF T24 O0
+      at69 = λ bs. λ Ψ. Typed.ask (s23 bs) (at68 bs Ψ)
+      abbrev at70 : (bs : List.List Nat.ℕ) → Typed.TF T22 O0
+      at70 = λ bs. λ Ψ. Typed.give (s22 bs) (at69 bs Ψ)
+      abbrev at71 : (bs : List.List Nat.ℕ) → Typed.TF T22 O0
       at71 = λ bs. λ Ψ. at70 bs Ψ
-      abbrev at72 : (bs : List.List Nat.ℕ) → Typed.TF T18 O0
-      at72 = λ bs. λ Ψ. Typed.ask (s17 bs) (at71 bs Ψ)
-      abbrev at73 : (bs : List.List Nat.ℕ) → Typed.TF T16 O0
-      at73 = λ bs. λ Ψ. Typed.give (s16 bs) (at72 bs Ψ)
-      abbrev at74 : (bs : List.List Nat.ℕ) → Typed.TF T16 O0
+      abbrev at72 : (bs : List.List Nat.ℕ) → Typed.TF T21 O0
+      at72 = λ bs. λ Ψ. Typed.ask (s20 bs) (at71 bs Ψ)
+      abbrev at73 : (bs : List.List Nat.ℕ) → Typed.TF T19 O0
+      at73 = λ bs. λ Ψ. Typed.give (s19 bs) (at72 bs Ψ)
+      abbrev at74 : (bs : List.List Nat.ℕ) → Typed.TF T19 O0
       at74 = λ bs. λ Ψ. at73 bs Ψ
-      abbrev at75 : (bs : List.List Nat.ℕ) → Typed.TF T15 O0
-      at75 = λ bs. λ Ψ. Typed.both (s14 bs) (at74 bs Ψ)
-      abbrev at76 : (bs : List.List Nat.ℕ) → Typed.TF T13 O0
-      at76 = λ bs. λ Ψ. Typed.both (s13 bs) (at75 bs Ψ)
-      abbrev at77 : (bs : List.List Nat.ℕ) → Typed.TF T13 O0
+      abbrev at75 : (bs : List.List Nat.ℕ) → Typed.TF T18 O0
+      at75 = λ bs. λ Ψ. Typed.ask (s17 bs) (at74 bs Ψ)
+      abbrev at76 : (bs : List.List Nat.ℕ) → Typed.TF T16 O0
+      at76 = λ bs. λ Ψ. Typed.give (s16 bs) (at75 bs Ψ)
+      abbrev at77 : (bs : List.List Nat.ℕ) → Typed.TF T16 O0
       at77 = λ bs. λ Ψ. at76 bs Ψ
-      abbrev at78 : (bs : List.List Nat.ℕ) → Typed.TF T11 O0
-      at78 = λ bs. λ Ψ. Typed.pass T11 T13 (s11 bs) (at77 bs Ψ)
-      abbrev at79 : (bs : List.List Nat.ℕ) → Typed.TF T11 O0
-      at79 = λ bs. λ Ψ. at78 bs Ψ
-      abbrev at80 : (bs : List.List Nat.ℕ) → Typed.TF T10 O0
-      at80 = λ bs. λ Ψ. Typed.pass T10 T11 (s9 bs) (at79 bs Ψ)
-      abbrev at81 : (bs : List.List Nat.ℕ) → Typed.TF T9 O0
-      at81 = λ bs. λ Ψ. Typed.pass T9 T10 (s8 bs) (at80 bs Ψ)
-      abbrev at82 : (bs : List.List Nat.ℕ) → Typed.TF T8 O0
-      at82 = λ bs. λ Ψ. Typed.both (s7 bs) (at81 bs Ψ)
-      abbrev at83 : (bs : List.List Nat.ℕ) → Typed.TF T7 O0
-      at83 = λ bs. λ Ψ. Typed.ask (s6 bs) (at82 bs Ψ)
-      abbrev at84 : (bs : List.List Nat.ℕ) → Typed.TF T5 O0
-      at84 = λ bs. λ Ψ. Typed.give (s5 bs) (at83 bs Ψ)
-      abbrev at85 : (bs : List.List Nat.ℕ) → Typed.TF T5 O0
-      at85 = λ bs. λ Ψ. at84 bs Ψ
-      abbrev at86 : (bs : List.List Nat.ℕ) → Typed.TF T4 O0
-      at86 = λ bs. λ Ψ. Typed.both (s3 bs) (at85 bs Ψ)
-      abbrev at87 : (bs : List.List Nat.ℕ) → Typed.TF T3 O0
-      at87 = λ bs. λ Ψ. Typed.give (s2 bs) (at86 bs Ψ)
-      abbrev at88 : (bs : List.List Nat.ℕ) → Typed.TF T2 O0
-      at88 = λ bs. λ Ψ. Typed.give (s1 bs) (at87 bs Ψ)
-      abbrev at89 : (bs : List.List Nat.ℕ) → Typed.TF T0 O0
-      at89 = λ bs. λ Ψ. Typed.give (s0 bs) (at88 bs Ψ)
+      abbrev at78 : (bs : List.List Nat.ℕ) → Typed.TF T15 O0
+      at78 = λ bs. λ Ψ. Typed.both (s14 bs) (at77 bs Ψ)
+      abbrev at79 : (bs : List.List Nat.ℕ) → Typed.TF T13 O0
+      at79 = λ bs. λ Ψ. Typed.both (s13 bs) (at78 bs Ψ)
+      abbrev at80 : (bs : List.List Nat.ℕ) → Typed.TF T13 O0
+      at80 = λ bs. λ Ψ. at79 bs Ψ
+      abbrev at81 : (bs : List.List Nat.ℕ) → Typed.TF T11 O0
+      at81 = λ bs. λ Ψ. Typed.pass T11 T13 (s11 bs) (at80 bs Ψ)
+      abbrev at82 : (bs : List.List Nat.ℕ) → Typed.TF T11 O0
+      at82 = λ bs. λ Ψ. at81 bs Ψ
+      abbrev at83 : (bs : List.List Nat.ℕ) → Typed.TF T10 O0
+      at83 = λ bs. λ Ψ. Typed.pass T10 T11 (s9 bs) (at82 bs Ψ)
+      abbrev at84 : (bs : List.List Nat.ℕ) → Typed.TF T9 O0
+      at84 = λ bs. λ Ψ. Typed.pass T9 T10 (s8 bs) (at83 bs Ψ)
+      abbrev at85 : (bs : List.List Nat.ℕ) → Typed.TF T8 O0
+      at85 = λ bs. λ Ψ. Typed.both (s7 bs) (at84 bs Ψ)
+      abbrev at86 : (bs : List.List Nat.ℕ) → Typed.TF T7 O0
+      at86 = λ bs. λ Ψ. Typed.ask (s6 bs) (at85 bs Ψ)
+      abbrev at87 : (bs : List.List Nat.ℕ) → Typed.TF T5 O0
+      at87 = λ bs. λ Ψ. Typed.give (s5 bs) (at86 bs Ψ)
+      abbrev at88 : (bs : List.List Nat.ℕ) → Typed.TF T5 O0
+      at88 = λ bs. λ Ψ. at87 bs Ψ
+      abbrev at89 : (bs : List.List Nat.ℕ) → Typed.TF T4 O0
+      at89 = λ bs. λ Ψ. Typed.both (s3 bs) (at88 bs Ψ)
+      abbrev at90 : (bs : List.List Nat.ℕ) → Typed.TF T3 O0
+      at90 = λ bs. λ Ψ. Typed.give (s2 bs) (at89 bs Ψ)
+      abbrev at91 : (bs : List.List Nat.ℕ) → Typed.TF T2 O0
+      at91 = λ bs. λ Ψ. Typed.give (s1 bs) (at90 bs Ψ)
+      abbrev at92 : (bs : List.List Nat.ℕ) → Typed.TF T0 O0
+      at92 = λ bs. λ Ψ. Typed.give (s0 bs) (at91 bs Ψ)
       abbrev pub Φ : (bs : List.List Nat.ℕ) → Typed.TF T0 O0
-      Φ = λ bs. at89 bs
+      Φ = λ bs. at92 bs
       module _ { M : Type 1 } (𝓤 : URA.URA M) (H : Wp.Heap 𝓤) (A : Atoms.Atoms 𝓤) (W : Kit.Given 𝓤 H A) (𝓣 : Wp.Tables 𝓤 H) where
         abbrev Knowns : Type 1
         Knowns = Plain.Known 𝓤 H A W 𝓣 0 ps·0 r·0 (claims· .0) (claims· .1) "hnsr_circuit::question::at" × Plain.Known 𝓤 H A W 𝓣 1 ps·1 r·1 (claims·
@@ -1287,7 +1374,8 @@ module _ (claims· : Claims) where
             "hnsr_circuit::handle_accept::accept_answered" × Plain.Known 𝓤 H A W 𝓣 0 ps·4 r·4 (claims· .8) (claims· .9)
             "hnsr_circuit::accept::accept_plan" × Plain.Known 𝓤 H A W 𝓣 0 ps·5 r·5 (claims· .10) (claims· .11) "hnsr_circuit::accept::found_unmarked"
             × Plain.Known 𝓤 H A W 𝓣 0 ps·6 r·6 (claims· .12) (claims· .13) "hnsr_circuit::accept::circuit_for" × Plain.Known 𝓤 H A W 𝓣 3 ps·7 r·7
-            (claims· .14) (claims· .15) "hnsr_circuit::handle_accept::accept_written" × Plain.Known 𝓤 H A W 𝓣 2 ps·8 r·8 (claims· .16) (claims· .17)
+            (claims· .14) (claims· .15) "hnsr_circuit::handle_accept::accept_written" × Plain.Known 𝓤 H A W 𝓣 0 ps·8 r·8 (claims· .16) (claims· .17)
+            "hnsr_circuit::places::with_circuits" × Plain.Known 𝓤 H A W 𝓣 2 ps·9 r·9 (claims· .18) (claims· .19)
             "hnsr_circuit::handle_accept::send_opened"
       module _ (κs : Lifetimes.Lfts 6) (qs : Lifetimes.Shares 6) where
         abbrev life0 : Row.Life
@@ -1303,169 +1391,164 @@ module _ (claims· : Claims) where
         abbrev life5 : Row.Life
         life5 = Row.lease (κs .1 .1 .1 .1 .1 .0) (qs .1 .1 .1 .1 .1 .0)
         abbrev g5 : List.List Row.Entry
-        g5 = (0, Rows.any-gone Laws''''''''''.mir,) ∷ (1, Reshare.mslice-owedS RelayPending.row ref7 0 6 life0,) ∷ (2, Mut.mslice RelayCircuit.row
+        g5 = (0, Rows.any-gone Laws'''''''''''.mir,) ∷ (1, Reshare.mslice-owedS RelayPending.row ref7 0 6 life0,) ∷ (2, Mut.mslice RelayCircuit.row
             ref8 1,) ∷ (3, Mut.mslice InflightAction.row ref9 2,) ∷ (4, Mut.mslice (Referent.rtF (Referent.fInt Syntax.w32)) ref10 3,) ∷ (5,
-            Rows.whole (Declared'.row OpaqueRelayRuntime.the-type)) ∷ (6, Rows.whole (Declared'.row RelayPacket.the-type),) ∷ (7, Rows.sslice
-            (Referent.rtF (Referent.fInt Syntax.w8)) ref11 4,) ∷ (8, Rows.sslice (Referent.rtF (Referent.fInt Syntax.w8)) ref12 5,) ∷ (9, Rows.whole
-            (Declared'.row Question.the-type)) ∷ (10, Rows.any-gone Laws''''''.mir,) ∷ (11, Rows.any-gone Laws.mir,) ∷ (12, Rows.any-gone
-            Laws''''.mir,) ∷ (13, Rows.any-gone Laws'''.mir,) ∷ (14, Rows.any-gone Laws''.mir,) ∷ (15, Rows.any-gone RelayPending.ty) ∷ List.[]
+            Rows.whole (Declared'.row OpaqueRelayRuntime.the-type)) ∷ (6, Rows.whole (Declared'.row Places.the-type),) ∷ (7, Rows.whole (Declared'.row
+            RelayPacket.the-type)) ∷ (8, Rows.sslice (Referent.rtF (Referent.fInt Syntax.w8)) ref11 4,) ∷ (9, Rows.sslice (Referent.rtF (Referent.fInt
+            Syntax.w8)) ref12 5,) ∷ (10, Rows.whole (Declared'.row Question.the-type)) ∷ (11, Rows.any-gone Laws'''''''.mir,) ∷ (12, Rows.any-gone
+            Laws.mir,) ∷ (13, Rows.any-gone Laws''''.mir,) ∷ (14, Rows.any-gone Laws'''.mir,) ∷ (15, Rows.any-gone Laws''.mir,) ∷ List.[]
         abbrev g8 : List.List Row.Entry
-        g8 = (0, Rows.any-gone Laws''''''''''.mir,) ∷ (1, Reshare.mslice-owedS RelayPending.row ref7 0 6 life0,) ∷ (2, Mut.mslice RelayCircuit.row
+        g8 = (0, Rows.any-gone Laws'''''''''''.mir,) ∷ (1, Reshare.mslice-owedS RelayPending.row ref7 0 6 life0,) ∷ (2, Mut.mslice RelayCircuit.row
             ref8 1,) ∷ (3, Mut.mslice InflightAction.row ref9 2,) ∷ (4, Mut.mslice (Referent.rtF (Referent.fInt Syntax.w32)) ref10 3,) ∷ (5,
-            Rows.whole (Declared'.row OpaqueRelayRuntime.the-type)) ∷ (6, Rows.whole (Declared'.row RelayPacket.the-type),) ∷ (7, Rows.sslice
-            (Referent.rtF (Referent.fInt Syntax.w8)) ref11 4,) ∷ (8, Rows.sslice (Referent.rtF (Referent.fInt Syntax.w8)) ref12 5,) ∷ (9, Rows.whole
-            (Declared'.row Question.the-type)) ∷ (10, Rows.whole (Declared'.row PendingFound.the-type),) ∷ (11, Rows.any-gone Laws.mir,) ∷ (12,
-            Rows.any-gone Laws''''.mir,) ∷ (13, Rows.any-gone Laws'''.mir,) ∷ (14, Rows.any-gone Laws''.mir,) ∷ (15, Rows.any-gone RelayPending.ty) ∷
+            Rows.whole (Declared'.row OpaqueRelayRuntime.the-type)) ∷ (6, Rows.whole (Declared'.row Places.the-type),) ∷ (7, Rows.whole (Declared'.row
+            RelayPacket.the-type)) ∷ (8, Rows.sslice (Referent.rtF (Referent.fInt Syntax.w8)) ref11 4,) ∷ (9, Rows.sslice (Referent.rtF (Referent.fInt
+            Syntax.w8)) ref12 5,) ∷ (10, Rows.whole (Declared'.row Question.the-type)) ∷ (11, Rows.whole (Declared'.row PendingFound.the-type),) ∷
+            (12, Rows.any-gone Laws.mir,) ∷ (13, Rows.any-gone Laws''''.mir,) ∷ (14, Rows.any-gone Laws'''.mir,) ∷ (15, Rows.any-gone Laws''.mir,) ∷
             List.[]
         abbrev g9 : List.List Row.Entry
-        g9 = (0, Rows.any-gone Laws''''''''''.mir,) ∷ (1, Reshare.mslice-owedS RelayPending.row ref7 0 6 life0,) ∷ (2, Mut.mslice RelayCircuit.row
+        g9 = (0, Rows.any-gone Laws'''''''''''.mir,) ∷ (1, Reshare.mslice-owedS RelayPending.row ref7 0 6 life0,) ∷ (2, Mut.mslice RelayCircuit.row
             ref8 1,) ∷ (3, Mut.mslice InflightAction.row ref9 2,) ∷ (4, Mut.mslice (Referent.rtF (Referent.fInt Syntax.w32)) ref10 3,) ∷ (5,
-            Rows.whole (Declared'.row OpaqueRelayRuntime.the-type)) ∷ (6, Rows.whole (Declared'.row RelayPacket.the-type),) ∷ (7, Rows.sslice
-            (Referent.rtF (Referent.fInt Syntax.w8)) ref11 4,) ∷ (8, Rows.sslice (Referent.rtF (Referent.fInt Syntax.w8)) ref12 5,) ∷ (9,
-            Rows.any-gone Laws'''''''.mir,) ∷ (10, Rows.whole (Declared'.row PendingFound.the-type)) ∷ (11, Rows.any-gone Laws.mir,) ∷ (12,
-            Rows.any-gone Laws''''.mir,) ∷ (13, Rows.any-gone Laws'''.mir,) ∷ (14, Rows.any-gone Laws''.mir,) ∷ (15, Rows.any-gone RelayPending.ty) ∷
+            Rows.whole (Declared'.row OpaqueRelayRuntime.the-type)) ∷ (6, Rows.whole (Declared'.row Places.the-type),) ∷ (7, Rows.whole (Declared'.row
+            RelayPacket.the-type)) ∷ (8, Rows.sslice (Referent.rtF (Referent.fInt Syntax.w8)) ref11 4,) ∷ (9, Rows.sslice (Referent.rtF (Referent.fInt
+            Syntax.w8)) ref12 5,) ∷ (10, Rows.any-gone Laws''''''''.mir,) ∷ (11, Rows.whole (Declared'.row PendingFound.the-type)) ∷ (12,
+            Rows.any-gone Laws.mir,) ∷ (13, Rows.any-gone Laws''''.mir,) ∷ (14, Rows.any-gone Laws'''.mir,) ∷ (15, Rows.any-gone Laws''.mir,) ∷
             List.[]
         abbrev g13 : List.List Row.Entry
-        g13 = (0, Rows.any-gone Laws''''''''''.mir,) ∷ (1, Reshare.mslice-owedS RelayPending.row ref7 0 7 life0,) ∷ (2, Mut.mslice RelayCircuit.row
+        g13 = (0, Rows.any-gone Laws'''''''''''.mir,) ∷ (1, Reshare.mslice-owedS RelayPending.row ref7 0 7 life0,) ∷ (2, Mut.mslice RelayCircuit.row
             ref8 1,) ∷ (3, Mut.mslice InflightAction.row ref9 2,) ∷ (4, Mut.mslice (Referent.rtF (Referent.fInt Syntax.w32)) ref10 3,) ∷ (5,
-            Rows.whole (Declared'.row OpaqueRelayRuntime.the-type)) ∷ (6, Rows.whole (Declared'.row RelayPacket.the-type),) ∷ (7, Rows.sslice
-            (Referent.rtF (Referent.fInt Syntax.w8)) ref11 4,) ∷ (8, Rows.sslice (Referent.rtF (Referent.fInt Syntax.w8)) ref12 5,) ∷ (9,
-            Rows.any-gone Laws'''''''.mir,) ∷ (10, Rows.whole (Declared'.row PendingFound.the-type)) ∷ (11, Rows.whole (Declared'.row
-            AcceptRead.the-type),) ∷ (12, Rows.whole (Declared'.row OpaqueRelayConfig.the-type)) ∷ (13, Rows.any-gone Laws'''.mir,) ∷ (14,
-            Rows.any-gone Laws''.mir,) ∷ (15, Rows.any-gone RelayPending.ty) ∷ List.[]
+            Rows.whole (Declared'.row OpaqueRelayRuntime.the-type)) ∷ (6, Rows.whole (Declared'.row Places.the-type),) ∷ (7, Rows.whole (Declared'.row
+            RelayPacket.the-type)) ∷ (8, Rows.sslice (Referent.rtF (Referent.fInt Syntax.w8)) ref11 4,) ∷ (9, Rows.sslice (Referent.rtF (Referent.fInt
+            Syntax.w8)) ref12 5,) ∷ (10, Rows.any-gone Laws''''''''.mir,) ∷ (11, Rows.whole (Declared'.row PendingFound.the-type)) ∷ (12, Rows.whole
+            (Declared'.row AcceptRead.the-type),) ∷ (13, Rows.whole (Declared'.row OpaqueRelayConfig.the-type)) ∷ (14, Rows.any-gone Laws'''.mir,) ∷
+            (15, Rows.any-gone Laws''.mir,) ∷ List.[]
         abbrev g16 : List.List Row.Entry
-        g16 = (0, Rows.any-gone Laws''''''''''.mir,) ∷ (1, Reshare.mslice-owedS RelayPending.row ref7 0 7 life0,) ∷ (2, Reshare.mslice-owedS
+        g16 = (0, Rows.any-gone Laws'''''''''''.mir,) ∷ (1, Reshare.mslice-owedS RelayPending.row ref7 0 7 life0,) ∷ (2, Reshare.mslice-owedS
             RelayCircuit.row ref8 1 8 life1,) ∷ (3, Mut.mslice InflightAction.row ref9 2,) ∷ (4, Mut.mslice (Referent.rtF (Referent.fInt Syntax.w32))
-            ref10 3,) ∷ (5, Rows.whole (Declared'.row OpaqueRelayRuntime.the-type)) ∷ (6, Rows.whole (Declared'.row RelayPacket.the-type),) ∷ (7,
-            Rows.sslice (Referent.rtF (Referent.fInt Syntax.w8)) ref11 4,) ∷ (8, Rows.sslice (Referent.rtF (Referent.fInt Syntax.w8)) ref12 5,) ∷ (9,
-            Rows.any-gone Laws'''''''.mir,) ∷ (10, Rows.whole (Declared'.row PendingFound.the-type)) ∷ (11, Rows.whole (Declared'.row
-            AcceptRead.the-type),) ∷ (12, Rows.whole (Declared'.row OpaqueRelayConfig.the-type)) ∷ (13, Rows.any-gone Laws'''.mir,) ∷ (14,
-            Rows.any-gone Laws''.mir,) ∷ (15, Rows.any-gone RelayPending.ty) ∷ List.[]
+            ref10 3,) ∷ (5, Rows.whole (Declared'.row OpaqueRelayRuntime.the-type)) ∷ (6, Rows.whole (Declared'.row Places.the-type),) ∷ (7,
+            Rows.whole (Declared'.row RelayPacket.the-type)) ∷ (8, Rows.sslice (Referent.rtF (Referent.fInt Syntax.w8)) ref11 4,) ∷ (9, Rows.sslice
+            (Referent.rtF (Referent.fInt Syntax.w8)) ref12 5,) ∷ (10, Rows.any-gone Laws''''''''.mir,) ∷ (11, Rows.whole (Declared'.row
+            PendingFound.the-type)) ∷ (12, Rows.whole (Declared'.row AcceptRead.the-type),) ∷ (13, Rows.whole (Declared'.row
+            OpaqueRelayConfig.the-type)) ∷ (14, Rows.any-gone Laws'''.mir,) ∷ (15, Rows.any-gone Laws''.mir,) ∷ List.[]
         abbrev g19 : List.List Row.Entry
-        g19 = (0, Rows.any-gone Laws''''''''''.mir,) ∷ (1, Reshare.mslice-owedS RelayPending.row ref7 0 7 life0,) ∷ (2, Reshare.mslice-owedS
+        g19 = (0, Rows.any-gone Laws'''''''''''.mir,) ∷ (1, Reshare.mslice-owedS RelayPending.row ref7 0 7 life0,) ∷ (2, Reshare.mslice-owedS
             RelayCircuit.row ref8 1 8 life1,) ∷ (3, Reshare.mslice-owedS InflightAction.row ref9 2 9 life2,) ∷ (4, Mut.mslice (Referent.rtF
             (Referent.fInt Syntax.w32)) ref10 3,) ∷ (5, Rows.whole (Declared'.row OpaqueRelayRuntime.the-type)) ∷ (6, Rows.whole (Declared'.row
-            RelayPacket.the-type),) ∷ (7, Rows.sslice (Referent.rtF (Referent.fInt Syntax.w8)) ref11 4,) ∷ (8, Rows.sslice (Referent.rtF
-            (Referent.fInt Syntax.w8)) ref12 5,) ∷ (9, Rows.any-gone Laws'''''''.mir,) ∷ (10, Rows.whole (Declared'.row PendingFound.the-type)) ∷ (11,
-            Rows.whole (Declared'.row AcceptRead.the-type),) ∷ (12, Rows.whole (Declared'.row OpaqueRelayConfig.the-type)) ∷ (13, Rows.any-gone
-            Laws'''.mir,) ∷ (14, Rows.any-gone Laws''.mir,) ∷ (15, Rows.any-gone RelayPending.ty) ∷ List.[]
+            Places.the-type),) ∷ (7, Rows.whole (Declared'.row RelayPacket.the-type)) ∷ (8, Rows.sslice (Referent.rtF (Referent.fInt Syntax.w8)) ref11
+            4,) ∷ (9, Rows.sslice (Referent.rtF (Referent.fInt Syntax.w8)) ref12 5,) ∷ (10, Rows.any-gone Laws''''''''.mir,) ∷ (11, Rows.whole
+            (Declared'.row PendingFound.the-type)) ∷ (12, Rows.whole (Declared'.row AcceptRead.the-type),) ∷ (13, Rows.whole (Declared'.row
+            OpaqueRelayConfig.the-type)) ∷ (14, Rows.any-gone Laws'''.mir,) ∷ (15, Rows.any-gone Laws''.mir,) ∷ List.[]
         abbrev g22 : List.List Row.Entry
-        g22 = (0, Rows.any-gone Laws''''''''''.mir,) ∷ (1, Reshare.mslice-owedS RelayPending.row ref7 0 7 life0,) ∷ (2, Reshare.mslice-owedS
+        g22 = (0, Rows.any-gone Laws'''''''''''.mir,) ∷ (1, Reshare.mslice-owedS RelayPending.row ref7 0 7 life0,) ∷ (2, Reshare.mslice-owedS
             RelayCircuit.row ref8 1 8 life1,) ∷ (3, Reshare.mslice-owedS InflightAction.row ref9 2 9 life2,) ∷ (4, Mut.mslice (Referent.rtF
             (Referent.fInt Syntax.w32)) ref10 3,) ∷ (5, Rows.whole (Declared'.row OpaqueRelayRuntime.the-type)) ∷ (6, Rows.whole (Declared'.row
-            RelayPacket.the-type),) ∷ (7, Rows.sslice (Referent.rtF (Referent.fInt Syntax.w8)) ref11 4,) ∷ (8, Rows.sslice (Referent.rtF
-            (Referent.fInt Syntax.w8)) ref12 5,) ∷ (9, Rows.any-gone Laws'''''''.mir,) ∷ (10, Rows.whole (Declared'.row PendingFound.the-type)) ∷ (11,
-            Rows.whole (Declared'.row AcceptRead.the-type),) ∷ (12, Rows.whole (Declared'.row OpaqueRelayConfig.the-type)) ∷ (13, Rows.whole
-            (Declared.row HnsrAnswer.the-type),) ∷ (14, Rows.any-gone Laws''.mir,) ∷ (15, Rows.any-gone RelayPending.ty) ∷ List.[]
+            Places.the-type),) ∷ (7, Rows.whole (Declared'.row RelayPacket.the-type)) ∷ (8, Rows.sslice (Referent.rtF (Referent.fInt Syntax.w8)) ref11
+            4,) ∷ (9, Rows.sslice (Referent.rtF (Referent.fInt Syntax.w8)) ref12 5,) ∷ (10, Rows.any-gone Laws''''''''.mir,) ∷ (11, Rows.whole
+            (Declared'.row PendingFound.the-type)) ∷ (12, Rows.whole (Declared'.row AcceptRead.the-type),) ∷ (13, Rows.whole (Declared'.row
+            OpaqueRelayConfig.the-type)) ∷ (14, Rows.whole (Declared.row HnsrAnswer.the-type),) ∷ (15, Rows.any-gone Laws''.mir,) ∷ List.[]
         abbrev g25 : List.List Row.Entry
-        g25 = (0, Rows.any-gone Laws''''''''''.mir,) ∷ (1, Reshare.mslice-owedS RelayPending.row ref7 0 7 life0,) ∷ (2, Reshare.mslice-owedS
+        g25 = (0, Rows.any-gone Laws'''''''''''.mir,) ∷ (1, Reshare.mslice-owedS RelayPending.row ref7 0 7 life0,) ∷ (2, Reshare.mslice-owedS
             RelayCircuit.row ref8 1 8 life1,) ∷ (3, Reshare.mslice-owedS InflightAction.row ref9 2 9 life2,) ∷ (4, Mut.mslice (Referent.rtF
-            (Referent.fInt Syntax.w32)) ref10 3,) ∷ (5, Rows.whole (Declared'.row OpaqueRelayRuntime.the-type)) ∷ (6, Rows.any-gone Laws''''''''.mir,)
-            ∷ (7, Rows.sslice (Referent.rtF (Referent.fInt Syntax.w8)) ref11 4,) ∷ (8, Rows.sslice (Referent.rtF (Referent.fInt Syntax.w8)) ref12 5,)
-            ∷ (9, Rows.any-gone Laws'''''''.mir,) ∷ (10, Rows.whole (Declared'.row PendingFound.the-type)) ∷ (11, Rows.whole (Declared'.row
-            AcceptRead.the-type),) ∷ (12, Rows.whole (Declared'.row OpaqueRelayConfig.the-type)) ∷ (13, Rows.whole (Declared.row
-            HnsrAnswer.the-type),) ∷ (14, Rows.any-gone Laws''.mir,) ∷ (15, Rows.any-gone RelayPending.ty) ∷ List.[]
+            (Referent.fInt Syntax.w32)) ref10 3,) ∷ (5, Rows.whole (Declared'.row OpaqueRelayRuntime.the-type)) ∷ (6, Rows.whole (Declared'.row
+            Places.the-type),) ∷ (7, Rows.any-gone Laws'''''''''.mir,) ∷ (8, Rows.sslice (Referent.rtF (Referent.fInt Syntax.w8)) ref11 4,) ∷ (9,
+            Rows.sslice (Referent.rtF (Referent.fInt Syntax.w8)) ref12 5,) ∷ (10, Rows.any-gone Laws''''''''.mir,) ∷ (11, Rows.whole (Declared'.row
+            PendingFound.the-type)) ∷ (12, Rows.whole (Declared'.row AcceptRead.the-type),) ∷ (13, Rows.whole (Declared'.row
+            OpaqueRelayConfig.the-type)) ∷ (14, Rows.whole (Declared.row HnsrAnswer.the-type),) ∷ (15, Rows.any-gone Laws''.mir,) ∷ List.[]
         abbrev g26 : List.List Row.Entry
-        g26 = (0, Rows.any-gone Laws''''''''''.mir,) ∷ (1, Mut.mslice RelayPending.row ref7 0,) ∷ (2, Reshare.mslice-owedS RelayCircuit.row ref8 1 8
+        g26 = (0, Rows.any-gone Laws'''''''''''.mir,) ∷ (1, Mut.mslice RelayPending.row ref7 0,) ∷ (2, Reshare.mslice-owedS RelayCircuit.row ref8 1 8
             life1,) ∷ (3, Reshare.mslice-owedS InflightAction.row ref9 2 9 life2,) ∷ (4, Mut.mslice (Referent.rtF (Referent.fInt Syntax.w32)) ref10
-            3,) ∷ (5, Rows.whole (Declared'.row OpaqueRelayRuntime.the-type)) ∷ (6, Rows.any-gone Laws''''''''.mir,) ∷ (7, Rows.sslice (Referent.rtF
-            (Referent.fInt Syntax.w8)) ref11 4,) ∷ (8, Rows.sslice (Referent.rtF (Referent.fInt Syntax.w8)) ref12 5,) ∷ (9, Rows.any-gone
-            Laws'''''''.mir,) ∷ (10, Rows.whole (Declared'.row PendingFound.the-type)) ∷ (11, Rows.whole (Declared'.row AcceptRead.the-type),) ∷ (12,
-            Rows.whole (Declared'.row OpaqueRelayConfig.the-type)) ∷ (13, Rows.whole (Declared.row HnsrAnswer.the-type),) ∷ (14, Rows.any-gone
-            Laws''.mir,) ∷ (15, Rows.any-gone RelayPending.ty) ∷ List.[]
+            3,) ∷ (5, Rows.whole (Declared'.row OpaqueRelayRuntime.the-type)) ∷ (6, Rows.whole (Declared'.row Places.the-type),) ∷ (7, Rows.any-gone
+            Laws'''''''''.mir,) ∷ (8, Rows.sslice (Referent.rtF (Referent.fInt Syntax.w8)) ref11 4,) ∷ (9, Rows.sslice (Referent.rtF (Referent.fInt
+            Syntax.w8)) ref12 5,) ∷ (10, Rows.any-gone Laws''''''''.mir,) ∷ (11, Rows.whole (Declared'.row PendingFound.the-type)) ∷ (12, Rows.whole
+            (Declared'.row AcceptRead.the-type),) ∷ (13, Rows.whole (Declared'.row OpaqueRelayConfig.the-type)) ∷ (14, Rows.whole (Declared.row
+            HnsrAnswer.the-type),) ∷ (15, Rows.any-gone Laws''.mir,) ∷ List.[]
         abbrev g27 : List.List Row.Entry
-        g27 = (0, Rows.any-gone Laws''''''''''.mir,) ∷ (1, Mut.mslice RelayPending.row ref7 0,) ∷ (2, Mut.mslice RelayCircuit.row ref8 1,) ∷ (3,
+        g27 = (0, Rows.any-gone Laws'''''''''''.mir,) ∷ (1, Mut.mslice RelayPending.row ref7 0,) ∷ (2, Mut.mslice RelayCircuit.row ref8 1,) ∷ (3,
             Reshare.mslice-owedS InflightAction.row ref9 2 9 life2,) ∷ (4, Mut.mslice (Referent.rtF (Referent.fInt Syntax.w32)) ref10 3,) ∷ (5,
-            Rows.whole (Declared'.row OpaqueRelayRuntime.the-type)) ∷ (6, Rows.any-gone Laws''''''''.mir,) ∷ (7, Rows.sslice (Referent.rtF
-            (Referent.fInt Syntax.w8)) ref11 4,) ∷ (8, Rows.sslice (Referent.rtF (Referent.fInt Syntax.w8)) ref12 5,) ∷ (9, Rows.any-gone
-            Laws'''''''.mir,) ∷ (10, Rows.whole (Declared'.row PendingFound.the-type)) ∷ (11, Rows.whole (Declared'.row AcceptRead.the-type),) ∷ (12,
-            Rows.whole (Declared'.row OpaqueRelayConfig.the-type)) ∷ (13, Rows.whole (Declared.row HnsrAnswer.the-type),) ∷ (14, Rows.any-gone
-            Laws''.mir,) ∷ (15, Rows.any-gone RelayPending.ty) ∷ List.[]
+            Rows.whole (Declared'.row OpaqueRelayRuntime.the-type)) ∷ (6, Rows.whole (Declared'.row Places.the-type),) ∷ (7, Rows.any-gone
+            Laws'''''''''.mir,) ∷ (8, Rows.sslice (Referent.rtF (Referent.fInt Syntax.w8)) ref11 4,) ∷ (9, Rows.sslice (Referent.rtF (Referent.fInt
+            Syntax.w8)) ref12 5,) ∷ (10, Rows.any-gone Laws''''''''.mir,) ∷ (11, Rows.whole (Declared'.row PendingFound.the-type)) ∷ (12, Rows.whole
+            (Declared'.row AcceptRead.the-type),) ∷ (13, Rows.whole (Declared'.row OpaqueRelayConfig.the-type)) ∷ (14, Rows.whole (Declared.row
+            HnsrAnswer.the-type),) ∷ (15, Rows.any-gone Laws''.mir,) ∷ List.[]
         abbrev g39 : List.List Row.Entry
-        g39 = (0, Rows.any-gone Laws''''''''''.mir,) ∷ (1, Relend.mslice-owed RelayPending.row ref7 0 10 life0,) ∷ (2, Mut.mslice RelayCircuit.row
+        g39 = (0, Rows.any-gone Laws'''''''''''.mir,) ∷ (1, Relend.mslice-owed RelayPending.row ref7 0 10 life0,) ∷ (2, Mut.mslice RelayCircuit.row
             ref8 1,) ∷ (3, Mut.mslice InflightAction.row ref9 2,) ∷ (4, Mut.mslice (Referent.rtF (Referent.fInt Syntax.w32)) ref10 3,) ∷ (5,
-            Rows.any-gone Laws'''''''''.mir,) ∷ (6, Rows.any-gone Laws''''''''.mir,) ∷ (7, Rows.sslice (Referent.rtF (Referent.fInt Syntax.w8)) ref11
-            4,) ∷ (8, Rows.sslice (Referent.rtF (Referent.fInt Syntax.w8)) ref12 5,) ∷ (9, Rows.any-gone Laws'''''''.mir,) ∷ (10, Rows.any-gone
-            Laws''''''.mir,) ∷ (11, Rows.any-gone Laws.mir,) ∷ (12, Rows.any-gone Laws''''.mir,) ∷ (13, Rows.whole (Declared.row HnsrAnswer.the-type))
-            ∷ (14, Rows.whole (Declared'.row AcceptPlan.the-type),) ∷ (15, RelayPending.held) ∷ List.[]
+            Rows.any-gone Laws''''''''''.mir,) ∷ (6, Rows.whole (Declared'.row Places.the-type)) ∷ (7, Rows.any-gone Laws'''''''''.mir,) ∷ (8,
+            Rows.sslice (Referent.rtF (Referent.fInt Syntax.w8)) ref11 4,) ∷ (9, Rows.sslice (Referent.rtF (Referent.fInt Syntax.w8)) ref12 5,) ∷ (10,
+            Rows.any-gone Laws''''''''.mir,) ∷ (11, Rows.any-gone Laws'''''''.mir,) ∷ (12, Rows.any-gone Laws.mir,) ∷ (13, Rows.any-gone
+            Laws''''.mir,) ∷ (14, Rows.whole (Declared.row HnsrAnswer.the-type)) ∷ (15, Rows.whole (Declared'.row AcceptPlan.the-type),) ∷ List.[]
         abbrev g42 : List.List Row.Entry
-        g42 = (0, Rows.any-gone Laws''''''''''.mir,) ∷ (1, Relend.mslice-owed RelayPending.row ref7 0 10 life0,) ∷ (2, Relend.mslice-owed
+        g42 = (0, Rows.any-gone Laws'''''''''''.mir,) ∷ (1, Relend.mslice-owed RelayPending.row ref7 0 10 life0,) ∷ (2, Relend.mslice-owed
             RelayCircuit.row ref8 1 11 life1,) ∷ (3, Mut.mslice InflightAction.row ref9 2,) ∷ (4, Mut.mslice (Referent.rtF (Referent.fInt Syntax.w32))
-            ref10 3,) ∷ (5, Rows.any-gone Laws'''''''''.mir,) ∷ (6, Rows.any-gone Laws''''''''.mir,) ∷ (7, Rows.sslice (Referent.rtF (Referent.fInt
-            Syntax.w8)) ref11 4,) ∷ (8, Rows.sslice (Referent.rtF (Referent.fInt Syntax.w8)) ref12 5,) ∷ (9, Rows.any-gone Laws'''''''.mir,) ∷ (10,
-            Rows.any-gone Laws''''''.mir,) ∷ (11, Rows.any-gone Laws.mir,) ∷ (12, Rows.any-gone Laws''''.mir,) ∷ (13, Rows.whole (Declared.row
-            HnsrAnswer.the-type)) ∷ (14, Rows.whole (Declared'.row AcceptPlan.the-type),) ∷ (15, RelayPending.held) ∷ List.[]
+            ref10 3,) ∷ (5, Rows.any-gone Laws''''''''''.mir,) ∷ (6, Rows.whole (Declared'.row Places.the-type)) ∷ (7, Rows.any-gone
+            Laws'''''''''.mir,) ∷ (8, Rows.sslice (Referent.rtF (Referent.fInt Syntax.w8)) ref11 4,) ∷ (9, Rows.sslice (Referent.rtF (Referent.fInt
+            Syntax.w8)) ref12 5,) ∷ (10, Rows.any-gone Laws''''''''.mir,) ∷ (11, Rows.any-gone Laws'''''''.mir,) ∷ (12, Rows.any-gone Laws.mir,) ∷
+            (13, Rows.any-gone Laws''''.mir,) ∷ (14, Rows.whole (Declared.row HnsrAnswer.the-type)) ∷ (15, Rows.whole (Declared'.row
+            AcceptPlan.the-type),) ∷ List.[]
         abbrev g45 : List.List Row.Entry
-        g45 = (0, Rows.any-gone Laws''''''''''.mir,) ∷ (1, Relend.mslice-owed RelayPending.row ref7 0 10 life0,) ∷ (2, Relend.mslice-owed
+        g45 = (0, Rows.any-gone Laws'''''''''''.mir,) ∷ (1, Relend.mslice-owed RelayPending.row ref7 0 10 life0,) ∷ (2, Relend.mslice-owed
             RelayCircuit.row ref8 1 11 life1,) ∷ (3, Relend.mslice-owed InflightAction.row ref9 2 12 life2,) ∷ (4, Mut.mslice (Referent.rtF
-            (Referent.fInt Syntax.w32)) ref10 3,) ∷ (5, Rows.any-gone Laws'''''''''.mir,) ∷ (6, Rows.any-gone Laws''''''''.mir,) ∷ (7, Rows.sslice
-            (Referent.rtF (Referent.fInt Syntax.w8)) ref11 4,) ∷ (8, Rows.sslice (Referent.rtF (Referent.fInt Syntax.w8)) ref12 5,) ∷ (9,
-            Rows.any-gone Laws'''''''.mir,) ∷ (10, Rows.any-gone Laws''''''.mir,) ∷ (11, Rows.any-gone Laws.mir,) ∷ (12, Rows.any-gone Laws''''.mir,)
-            ∷ (13, Rows.whole (Declared.row HnsrAnswer.the-type)) ∷ (14, Rows.whole (Declared'.row AcceptPlan.the-type),) ∷ (15, RelayPending.held) ∷
-            List.[]
+            (Referent.fInt Syntax.w32)) ref10 3,) ∷ (5, Rows.any-gone Laws''''''''''.mir,) ∷ (6, Rows.whole (Declared'.row Places.the-type)) ∷ (7,
+            Rows.any-gone Laws'''''''''.mir,) ∷ (8, Rows.sslice (Referent.rtF (Referent.fInt Syntax.w8)) ref11 4,) ∷ (9, Rows.sslice (Referent.rtF
+            (Referent.fInt Syntax.w8)) ref12 5,) ∷ (10, Rows.any-gone Laws''''''''.mir,) ∷ (11, Rows.any-gone Laws'''''''.mir,) ∷ (12, Rows.any-gone
+            Laws.mir,) ∷ (13, Rows.any-gone Laws''''.mir,) ∷ (14, Rows.whole (Declared.row HnsrAnswer.the-type)) ∷ (15, Rows.whole (Declared'.row
+            AcceptPlan.the-type),) ∷ List.[]
         abbrev g50 : List.List Row.Entry
-        g50 = (0, Rows.any-gone Laws''''''''''.mir,) ∷ (1, Relend.mslice-owed RelayPending.row ref7 0 10 life0,) ∷ (2, Relend.mslice-owed
+        g50 = (0, Rows.any-gone Laws'''''''''''.mir,) ∷ (1, Relend.mslice-owed RelayPending.row ref7 0 10 life0,) ∷ (2, Relend.mslice-owed
             RelayCircuit.row ref8 1 11 life1,) ∷ (3, Relend.mslice-owed InflightAction.row ref9 2 12 life2,) ∷ (4, Mut.mslice (Referent.rtF
-            (Referent.fInt Syntax.w32)) ref10 3,) ∷ (5, Rows.any-gone Laws'''''''''.mir,) ∷ (6, Rows.any-gone Laws''''''''.mir,) ∷ (7, Rows.sslice
-            (Referent.rtF (Referent.fInt Syntax.w8)) ref11 4,) ∷ (8, Rows.sslice (Referent.rtF (Referent.fInt Syntax.w8)) ref12 5,) ∷ (9,
-            Rows.any-gone Laws'''''''.mir,) ∷ (10, Rows.any-gone Laws''''''.mir,) ∷ (11, Rows.any-gone Laws.mir,) ∷ (12, Rows.any-gone Laws''''.mir,)
-            ∷ (13, Rows.whole (Declared.row HnsrAnswer.the-type)) ∷ (14, Rows.any-gone Laws''.mir,) ∷ (15, RelayPending.held) ∷ List.[]
-        abbrev g51 : List.List Row.Entry
-        g51 = (0, Rows.any-gone Laws''''''''''.mir,) ∷ (1, Relend.mslice-owed RelayPending.row ref7 0 10 life0,) ∷ (2, Relend.mslice-owed
-            RelayCircuit.row ref8 1 11 life1,) ∷ (3, Relend.mslice-owed InflightAction.row ref9 2 12 life2,) ∷ (4, Mut.mslice (Referent.rtF
-            (Referent.fInt Syntax.w32)) ref10 3,) ∷ (5, Rows.any-gone Laws'''''''''.mir,) ∷ (6, Rows.any-gone Laws''''''''.mir,) ∷ (7, Rows.sslice
-            (Referent.rtF (Referent.fInt Syntax.w8)) ref11 4,) ∷ (8, Rows.sslice (Referent.rtF (Referent.fInt Syntax.w8)) ref12 5,) ∷ (9,
-            Rows.any-gone Laws'''''''.mir,) ∷ (10, Rows.any-gone Laws''''''.mir,) ∷ (11, Rows.any-gone Laws.mir,) ∷ (12, Rows.any-gone Laws''''.mir,)
-            ∷ (13, Rows.whole (Declared.row HnsrAnswer.the-type)) ∷ (14, Rows.any-gone Laws''.mir,) ∷ (15, Rows.any-gone RelayPending.ty) ∷ List.[]
-        abbrev g54 : List.List Row.Entry
-        g54 = (0, Rows.any-gone Laws''''''''''.mir,) ∷ (1, Mut.mslice RelayPending.row ref7 0,) ∷ (2, Relend.mslice-owed RelayCircuit.row ref8 1 11
+            (Referent.fInt Syntax.w32)) ref10 3,) ∷ (5, Rows.any-gone Laws''''''''''.mir,) ∷ (6, Rows.whole (Declared'.row Places.the-type)) ∷ (7,
+            Rows.any-gone Laws'''''''''.mir,) ∷ (8, Rows.sslice (Referent.rtF (Referent.fInt Syntax.w8)) ref11 4,) ∷ (9, Rows.sslice (Referent.rtF
+            (Referent.fInt Syntax.w8)) ref12 5,) ∷ (10, Rows.any-gone Laws''''''''.mir,) ∷ (11, Rows.any-gone Laws'''''''.mir,) ∷ (12, Rows.any-gone
+            Laws.mir,) ∷ (13, Rows.any-gone Laws''''.mir,) ∷ (14, Rows.whole (Declared.row HnsrAnswer.the-type)) ∷ (15, Rows.any-gone Laws''.mir,) ∷
+            List.[]
+        abbrev g53 : List.List Row.Entry
+        g53 = (0, Rows.any-gone Laws'''''''''''.mir,) ∷ (1, Mut.mslice RelayPending.row ref7 0,) ∷ (2, Relend.mslice-owed RelayCircuit.row ref8 1 11
             life1,) ∷ (3, Relend.mslice-owed InflightAction.row ref9 2 12 life2,) ∷ (4, Mut.mslice (Referent.rtF (Referent.fInt Syntax.w32)) ref10 3,)
-            ∷ (5, Rows.any-gone Laws'''''''''.mir,) ∷ (6, Rows.any-gone Laws''''''''.mir,) ∷ (7, Rows.sslice (Referent.rtF (Referent.fInt Syntax.w8))
-            ref11 4,) ∷ (8, Rows.sslice (Referent.rtF (Referent.fInt Syntax.w8)) ref12 5,) ∷ (9, Rows.any-gone Laws'''''''.mir,) ∷ (10, Rows.any-gone
-            Laws''''''.mir,) ∷ (11, Rows.any-gone Laws.mir,) ∷ (12, Rows.any-gone Laws''''.mir,) ∷ (13, Rows.whole (Declared.row HnsrAnswer.the-type))
-            ∷ (14, Rows.any-gone Laws''.mir,) ∷ (15, Rows.any-gone RelayPending.ty) ∷ List.[]
-        abbrev g56 : List.List Row.Entry
-        g56 = (0, Rows.any-gone Laws''''''''''.mir,) ∷ (1, Mut.mslice RelayPending.row ref7 0,) ∷ (2, Mut.mslice RelayCircuit.row ref8 1,) ∷ (3,
+            ∷ (5, Rows.any-gone Laws''''''''''.mir,) ∷ (6, Rows.whole (Declared'.row Places.the-type)) ∷ (7, Rows.any-gone Laws'''''''''.mir,) ∷ (8,
+            Rows.sslice (Referent.rtF (Referent.fInt Syntax.w8)) ref11 4,) ∷ (9, Rows.sslice (Referent.rtF (Referent.fInt Syntax.w8)) ref12 5,) ∷ (10,
+            Rows.any-gone Laws''''''''.mir,) ∷ (11, Rows.any-gone Laws'''''''.mir,) ∷ (12, Rows.any-gone Laws.mir,) ∷ (13, Rows.any-gone
+            Laws''''.mir,) ∷ (14, Rows.whole (Declared.row HnsrAnswer.the-type)) ∷ (15, Rows.any-gone Laws''.mir,) ∷ List.[]
+        abbrev g55 : List.List Row.Entry
+        g55 = (0, Rows.any-gone Laws'''''''''''.mir,) ∷ (1, Mut.mslice RelayPending.row ref7 0,) ∷ (2, Mut.mslice RelayCircuit.row ref8 1,) ∷ (3,
             Relend.mslice-owed InflightAction.row ref9 2 12 life2,) ∷ (4, Mut.mslice (Referent.rtF (Referent.fInt Syntax.w32)) ref10 3,) ∷ (5,
-            Rows.any-gone Laws'''''''''.mir,) ∷ (6, Rows.any-gone Laws''''''''.mir,) ∷ (7, Rows.sslice (Referent.rtF (Referent.fInt Syntax.w8)) ref11
-            4,) ∷ (8, Rows.sslice (Referent.rtF (Referent.fInt Syntax.w8)) ref12 5,) ∷ (9, Rows.any-gone Laws'''''''.mir,) ∷ (10, Rows.any-gone
-            Laws''''''.mir,) ∷ (11, Rows.any-gone Laws.mir,) ∷ (12, Rows.any-gone Laws''''.mir,) ∷ (13, Rows.whole (Declared.row HnsrAnswer.the-type))
-            ∷ (14, Rows.any-gone Laws''.mir,) ∷ (15, Rows.any-gone RelayPending.ty) ∷ List.[]
-        abbrev g59 : List.List Row.Entry
-        g59 = (0, Rows.any-gone Laws''''''''''.mir,) ∷ (1, Mut.mslice RelayPending.row ref7 0,) ∷ (2, Mut.mslice RelayCircuit.row ref8 1,) ∷ (3,
+            Rows.any-gone Laws''''''''''.mir,) ∷ (6, Rows.whole (Declared'.row Places.the-type)) ∷ (7, Rows.any-gone Laws'''''''''.mir,) ∷ (8,
+            Rows.sslice (Referent.rtF (Referent.fInt Syntax.w8)) ref11 4,) ∷ (9, Rows.sslice (Referent.rtF (Referent.fInt Syntax.w8)) ref12 5,) ∷ (10,
+            Rows.any-gone Laws''''''''.mir,) ∷ (11, Rows.any-gone Laws'''''''.mir,) ∷ (12, Rows.any-gone Laws.mir,) ∷ (13, Rows.any-gone
+            Laws''''.mir,) ∷ (14, Rows.whole (Declared.row HnsrAnswer.the-type)) ∷ (15, Rows.any-gone Laws''.mir,) ∷ List.[]
+        abbrev g60 : List.List Row.Entry
+        g60 = (0, Rows.any-gone Laws'''''''''''.mir,) ∷ (1, Mut.mslice RelayPending.row ref7 0,) ∷ (2, Mut.mslice RelayCircuit.row ref8 1,) ∷ (3,
             Relend.mslice-owed InflightAction.row ref9 2 13 life2,) ∷ (4, Mut.mslice (Referent.rtF (Referent.fInt Syntax.w32)) ref10 3,) ∷ (5,
-            Rows.any-gone Laws'''''''''.mir,) ∷ (6, Rows.any-gone Laws''''''''.mir,) ∷ (7, Rows.sslice (Referent.rtF (Referent.fInt Syntax.w8)) ref11
-            4,) ∷ (8, Rows.sslice (Referent.rtF (Referent.fInt Syntax.w8)) ref12 5,) ∷ (9, Rows.any-gone Laws'''''''.mir,) ∷ (10, Rows.any-gone
-            Laws''''''.mir,) ∷ (11, Rows.any-gone Laws.mir,) ∷ (12, Rows.any-gone Laws''''.mir,) ∷ (13, Rows.whole (Declared.row HnsrAnswer.the-type))
-            ∷ (14, Rows.any-gone Laws''.mir,) ∷ (15, Rows.any-gone RelayPending.ty) ∷ List.[]
-        abbrev g62 : List.List Row.Entry
-        g62 = (0, Rows.any-gone Laws''''''''''.mir,) ∷ (1, Mut.mslice RelayPending.row ref7 0,) ∷ (2, Mut.mslice RelayCircuit.row ref8 1,) ∷ (3,
+            Rows.any-gone Laws''''''''''.mir,) ∷ (6, Rows.any-gone Laws'''''.mir,) ∷ (7, Rows.any-gone Laws'''''''''.mir,) ∷ (8, Rows.sslice
+            (Referent.rtF (Referent.fInt Syntax.w8)) ref11 4,) ∷ (9, Rows.sslice (Referent.rtF (Referent.fInt Syntax.w8)) ref12 5,) ∷ (10,
+            Rows.any-gone Laws''''''''.mir,) ∷ (11, Rows.any-gone Laws'''''''.mir,) ∷ (12, Rows.any-gone Laws.mir,) ∷ (13, Rows.any-gone
+            Laws''''.mir,) ∷ (14, Rows.whole (Declared.row HnsrAnswer.the-type)) ∷ (15, Rows.any-gone Laws''.mir,) ∷ List.[]
+        abbrev g63 : List.List Row.Entry
+        g63 = (0, Rows.any-gone Laws'''''''''''.mir,) ∷ (1, Mut.mslice RelayPending.row ref7 0,) ∷ (2, Mut.mslice RelayCircuit.row ref8 1,) ∷ (3,
             Relend.mslice-owed InflightAction.row ref9 2 13 life2,) ∷ (4, Relend.mslice-owed (Referent.rtF (Referent.fInt Syntax.w32)) ref10 3 14
-            life3,) ∷ (5, Rows.any-gone Laws'''''''''.mir,) ∷ (6, Rows.any-gone Laws''''''''.mir,) ∷ (7, Rows.sslice (Referent.rtF (Referent.fInt
-            Syntax.w8)) ref11 4,) ∷ (8, Rows.sslice (Referent.rtF (Referent.fInt Syntax.w8)) ref12 5,) ∷ (9, Rows.any-gone Laws'''''''.mir,) ∷ (10,
-            Rows.any-gone Laws''''''.mir,) ∷ (11, Rows.any-gone Laws.mir,) ∷ (12, Rows.any-gone Laws''''.mir,) ∷ (13, Rows.whole (Declared.row
-            HnsrAnswer.the-type)) ∷ (14, Rows.any-gone Laws''.mir,) ∷ (15, Rows.any-gone RelayPending.ty) ∷ List.[]
-        abbrev g65 : List.List Row.Entry
-        g65 = (0, Rows.whole (Declared'.row Relayed.the-type)) ∷ (1, Mut.mslice RelayPending.row ref7 0,) ∷ (2, Mut.mslice RelayCircuit.row ref8 1,) ∷
+            life3,) ∷ (5, Rows.any-gone Laws''''''''''.mir,) ∷ (6, Rows.any-gone Laws'''''.mir,) ∷ (7, Rows.any-gone Laws'''''''''.mir,) ∷ (8,
+            Rows.sslice (Referent.rtF (Referent.fInt Syntax.w8)) ref11 4,) ∷ (9, Rows.sslice (Referent.rtF (Referent.fInt Syntax.w8)) ref12 5,) ∷ (10,
+            Rows.any-gone Laws''''''''.mir,) ∷ (11, Rows.any-gone Laws'''''''.mir,) ∷ (12, Rows.any-gone Laws.mir,) ∷ (13, Rows.any-gone
+            Laws''''.mir,) ∷ (14, Rows.whole (Declared.row HnsrAnswer.the-type)) ∷ (15, Rows.any-gone Laws''.mir,) ∷ List.[]
+        abbrev g66 : List.List Row.Entry
+        g66 = (0, Rows.whole (Declared'.row Relayed.the-type)) ∷ (1, Mut.mslice RelayPending.row ref7 0,) ∷ (2, Mut.mslice RelayCircuit.row ref8 1,) ∷
             (3, Relend.mslice-owed InflightAction.row ref9 2 13 life2,) ∷ (4, Relend.mslice-owed (Referent.rtF (Referent.fInt Syntax.w32)) ref10 3 14
-            life3,) ∷ (5, Rows.any-gone Laws'''''''''.mir,) ∷ (6, Rows.any-gone Laws''''''''.mir,) ∷ (7, Rows.sslice (Referent.rtF (Referent.fInt
-            Syntax.w8)) ref11 4,) ∷ (8, Rows.sslice (Referent.rtF (Referent.fInt Syntax.w8)) ref12 5,) ∷ (9, Rows.any-gone Laws'''''''.mir,) ∷ (10,
-            Rows.any-gone Laws''''''.mir,) ∷ (11, Rows.any-gone Laws.mir,) ∷ (12, Rows.any-gone Laws''''.mir,) ∷ (13, Rows.whole (Declared.row
-            HnsrAnswer.the-type)) ∷ (14, Rows.any-gone Laws''.mir,) ∷ (15, Rows.any-gone RelayPending.ty) ∷ List.[]
-        abbrev g67 : List.List Row.Entry
-        g67 = (0, Rows.whole (Declared'.row Relayed.the-type)) ∷ (1, Mut.mslice RelayPending.row ref7 0,) ∷ (2, Mut.mslice RelayCircuit.row ref8 1,) ∷
+            life3,) ∷ (5, Rows.any-gone Laws''''''''''.mir,) ∷ (6, Rows.any-gone Laws'''''.mir,) ∷ (7, Rows.any-gone Laws'''''''''.mir,) ∷ (8,
+            Rows.sslice (Referent.rtF (Referent.fInt Syntax.w8)) ref11 4,) ∷ (9, Rows.sslice (Referent.rtF (Referent.fInt Syntax.w8)) ref12 5,) ∷ (10,
+            Rows.any-gone Laws''''''''.mir,) ∷ (11, Rows.any-gone Laws'''''''.mir,) ∷ (12, Rows.any-gone Laws.mir,) ∷ (13, Rows.any-gone
+            Laws''''.mir,) ∷ (14, Rows.whole (Declared.row HnsrAnswer.the-type)) ∷ (15, Rows.any-gone Laws''.mir,) ∷ List.[]
+        abbrev g68 : List.List Row.Entry
+        g68 = (0, Rows.whole (Declared'.row Relayed.the-type)) ∷ (1, Mut.mslice RelayPending.row ref7 0,) ∷ (2, Mut.mslice RelayCircuit.row ref8 1,) ∷
             (3, Relend.mslice-owed InflightAction.row ref9 2 13 life2,) ∷ (4, Relend.mslice-owed (Referent.rtF (Referent.fInt Syntax.w32)) ref10 3 14
-            life3,) ∷ (5, Rows.any-gone Laws'''''''''.mir,) ∷ (6, Rows.any-gone Laws''''''''.mir,) ∷ (7, Rows.sslice (Referent.rtF (Referent.fInt
-            Syntax.w8)) ref11 4,) ∷ (8, Rows.sslice (Referent.rtF (Referent.fInt Syntax.w8)) ref12 5,) ∷ (9, Rows.any-gone Laws'''''''.mir,) ∷ (10,
-            Rows.any-gone Laws''''''.mir,) ∷ (11, Rows.any-gone Laws.mir,) ∷ (12, Rows.any-gone Laws''''.mir,) ∷ (13, Rows.any-gone Laws'''.mir,) ∷
-            (14, Rows.any-gone Laws''.mir,) ∷ (15, Rows.any-gone RelayPending.ty) ∷ List.[]
-        abbrev g70 : List.List Row.Entry
-        g70 = (0, Rows.whole (Declared'.row Relayed.the-type)) ∷ (1, Mut.mslice RelayPending.row ref7 0,) ∷ (2, Mut.mslice RelayCircuit.row ref8 1,) ∷
+            life3,) ∷ (5, Rows.any-gone Laws''''''''''.mir,) ∷ (6, Rows.any-gone Laws'''''.mir,) ∷ (7, Rows.any-gone Laws'''''''''.mir,) ∷ (8,
+            Rows.sslice (Referent.rtF (Referent.fInt Syntax.w8)) ref11 4,) ∷ (9, Rows.sslice (Referent.rtF (Referent.fInt Syntax.w8)) ref12 5,) ∷ (10,
+            Rows.any-gone Laws''''''''.mir,) ∷ (11, Rows.any-gone Laws'''''''.mir,) ∷ (12, Rows.any-gone Laws.mir,) ∷ (13, Rows.any-gone
+            Laws''''.mir,) ∷ (14, Rows.any-gone Laws'''.mir,) ∷ (15, Rows.any-gone Laws''.mir,) ∷ List.[]
+        abbrev g73 : List.List Row.Entry
+        g73 = (0, Rows.whole (Declared'.row Relayed.the-type)) ∷ (1, Mut.mslice RelayPending.row ref7 0,) ∷ (2, Mut.mslice RelayCircuit.row ref8 1,) ∷
             (3, Mut.mslice InflightAction.row ref9 2,) ∷ (4, Relend.mslice-owed (Referent.rtF (Referent.fInt Syntax.w32)) ref10 3 14 life3,) ∷ (5,
-            Rows.any-gone Laws'''''''''.mir,) ∷ (6, Rows.any-gone Laws''''''''.mir,) ∷ (7, Rows.sslice (Referent.rtF (Referent.fInt Syntax.w8)) ref11
-            4,) ∷ (8, Rows.sslice (Referent.rtF (Referent.fInt Syntax.w8)) ref12 5,) ∷ (9, Rows.any-gone Laws'''''''.mir,) ∷ (10, Rows.any-gone
-            Laws''''''.mir,) ∷ (11, Rows.any-gone Laws.mir,) ∷ (12, Rows.any-gone Laws''''.mir,) ∷ (13, Rows.any-gone Laws'''.mir,) ∷ (14,
-            Rows.any-gone Laws''.mir,) ∷ (15, Rows.any-gone RelayPending.ty) ∷ List.[]
+            Rows.any-gone Laws''''''''''.mir,) ∷ (6, Rows.any-gone Laws'''''.mir,) ∷ (7, Rows.any-gone Laws'''''''''.mir,) ∷ (8, Rows.sslice
+            (Referent.rtF (Referent.fInt Syntax.w8)) ref11 4,) ∷ (9, Rows.sslice (Referent.rtF (Referent.fInt Syntax.w8)) ref12 5,) ∷ (10,
+            Rows.any-gone Laws''''''''.mir,) ∷ (11, Rows.any-gone Laws'''''''.mir,) ∷ (12, Rows.any-gone Laws.mir,) ∷ (13, Rows.any-gone
+            Laws''''.mir,) ∷ (14, Rows.any-gone Laws'''.mir,) ∷ (15, Rows.any-gone Laws''.mir,) ∷ List.[]
         abbrev G0 : Row.Cx
         G0 = record { locals = List._++_ t0 (List._++_ t1 t2); slots = life0 ∷ life1 ∷ life2 ∷ life3 ∷ life4 ∷ life5 ∷ Row.off ∷ Row.off ∷ Row.off ∷
             Row.off ∷ Row.off ∷ Row.off ∷ Row.off ∷ Row.off ∷ Row.off ∷ List.[]; }
@@ -1593,10 +1676,10 @@ module _ (claims· : Claims) where
         G41 = record { locals = List._++_ t30 (List._++_ t1 t2); slots = life0 ∷ life1 ∷ life2 ∷ life3 ∷ life4 ∷ life5 ∷ Row.off ∷ Row.off ∷ Row.off ∷
             Row.off ∷ Row.off ∷ Row.off ∷ Row.off ∷ Row.off ∷ Row.off ∷ List.[]; }
         abbrev G42 : Row.Cx
-        G42 = record { locals = List._++_ t31 (List._++_ t1 t2); slots = life0 ∷ life1 ∷ life2 ∷ life3 ∷ life4 ∷ life5 ∷ Row.off ∷ Row.off ∷ Row.off ∷
-            Row.off ∷ Row.off ∷ Row.off ∷ Row.off ∷ Row.off ∷ Row.off ∷ List.[]; }
+        G42 = record { locals = List._++_ t30 (List._++_ t31 t2); slots = life0 ∷ life1 ∷ life2 ∷ life3 ∷ life4 ∷ life5 ∷ Row.off ∷ Row.off ∷ Row.off
+            ∷ Row.off ∷ Row.off ∷ Row.off ∷ Row.off ∷ Row.off ∷ Row.off ∷ List.[]; }
         abbrev G43 : Row.Cx
-        G43 = record { locals = List._++_ t31 (List._++_ t32 t2); slots = life0 ∷ life1 ∷ life2 ∷ life3 ∷ life4 ∷ life5 ∷ Row.off ∷ Row.off ∷ Row.off
+        G43 = record { locals = List._++_ t30 (List._++_ t32 t2); slots = life0 ∷ life1 ∷ life2 ∷ life3 ∷ life4 ∷ life5 ∷ Row.off ∷ Row.off ∷ Row.off
             ∷ Row.off ∷ Row.off ∷ Row.off ∷ Row.off ∷ Row.off ∷ Row.off ∷ List.[]; }
         abbrev G44 : Row.Cx
         G44 = record { locals = List._++_ t33 (List._++_ t32 t2); slots = life0 ∷ life1 ∷ life2 ∷ life3 ∷ life4 ∷ life5 ∷ Row.off ∷ Row.off ∷ Row.off
@@ -1623,25 +1706,25 @@ module _ (claims· : Claims) where
         G51 = record { locals = List._++_ g39 (List._++_ t40 t2); slots = Row.off ∷ life1 ∷ life2 ∷ life3 ∷ life4 ∷ life5 ∷ Row.off ∷ Row.off ∷
             Row.off ∷ Row.off ∷ Row.alive ∷ Row.off ∷ Row.off ∷ Row.off ∷ Row.off ∷ List.[]; }
         abbrev G52 : Row.Cx
-        G52 = record { locals = List._++_ g39 (List._++_ t41 t2); slots = Row.off ∷ life1 ∷ life2 ∷ life3 ∷ life4 ∷ life5 ∷ Row.off ∷ Row.off ∷
+        G52 = record { locals = List._++_ g39 (List._++_ t38 t41); slots = Row.off ∷ life1 ∷ life2 ∷ life3 ∷ life4 ∷ life5 ∷ Row.off ∷ Row.off ∷
             Row.off ∷ Row.off ∷ Row.alive ∷ Row.off ∷ Row.off ∷ Row.off ∷ Row.off ∷ List.[]; }
         abbrev G53 : Row.Cx
-        G53 = record { locals = List._++_ g39 (List._++_ t41 t2); slots = Row.off ∷ life1 ∷ life2 ∷ life3 ∷ life4 ∷ life5 ∷ Row.off ∷ Row.off ∷
+        G53 = record { locals = List._++_ g39 (List._++_ t38 t41); slots = Row.off ∷ life1 ∷ life2 ∷ life3 ∷ life4 ∷ life5 ∷ Row.off ∷ Row.off ∷
             Row.off ∷ Row.off ∷ Row.alive ∷ Row.alive ∷ Row.off ∷ Row.off ∷ Row.off ∷ List.[]; }
         abbrev G54 : Row.Cx
-        G54 = record { locals = List._++_ g42 (List._++_ t43 t2); slots = Row.off ∷ Row.off ∷ life2 ∷ life3 ∷ life4 ∷ life5 ∷ Row.off ∷ Row.off ∷
+        G54 = record { locals = List._++_ g42 (List._++_ t38 t43); slots = Row.off ∷ Row.off ∷ life2 ∷ life3 ∷ life4 ∷ life5 ∷ Row.off ∷ Row.off ∷
             Row.off ∷ Row.off ∷ Row.alive ∷ Row.alive ∷ Row.off ∷ Row.off ∷ Row.off ∷ List.[]; }
         abbrev G55 : Row.Cx
-        G55 = record { locals = List._++_ g42 (List._++_ t41 t44); slots = Row.off ∷ Row.off ∷ life2 ∷ life3 ∷ life4 ∷ life5 ∷ Row.off ∷ Row.off ∷
+        G55 = record { locals = List._++_ g42 (List._++_ t38 t44); slots = Row.off ∷ Row.off ∷ life2 ∷ life3 ∷ life4 ∷ life5 ∷ Row.off ∷ Row.off ∷
             Row.off ∷ Row.off ∷ Row.alive ∷ Row.alive ∷ Row.off ∷ Row.off ∷ Row.off ∷ List.[]; }
         abbrev G56 : Row.Cx
-        G56 = record { locals = List._++_ g42 (List._++_ t41 t44); slots = Row.off ∷ Row.off ∷ life2 ∷ life3 ∷ life4 ∷ life5 ∷ Row.off ∷ Row.off ∷
+        G56 = record { locals = List._++_ g42 (List._++_ t38 t44); slots = Row.off ∷ Row.off ∷ life2 ∷ life3 ∷ life4 ∷ life5 ∷ Row.off ∷ Row.off ∷
             Row.off ∷ Row.off ∷ Row.alive ∷ Row.alive ∷ Row.alive ∷ Row.off ∷ Row.off ∷ List.[]; }
         abbrev G57 : Row.Cx
-        G57 = record { locals = List._++_ g45 (List._++_ t41 t46); slots = Row.off ∷ Row.off ∷ Row.off ∷ life3 ∷ life4 ∷ life5 ∷ Row.off ∷ Row.off ∷
+        G57 = record { locals = List._++_ g45 (List._++_ t38 t46); slots = Row.off ∷ Row.off ∷ Row.off ∷ life3 ∷ life4 ∷ life5 ∷ Row.off ∷ Row.off ∷
             Row.off ∷ Row.off ∷ Row.alive ∷ Row.alive ∷ Row.alive ∷ Row.off ∷ Row.off ∷ List.[]; }
         abbrev G58 : Row.Cx
-        G58 = record { locals = List._++_ g45 (List._++_ t41 t47); slots = Row.off ∷ Row.off ∷ Row.off ∷ life3 ∷ life4 ∷ life5 ∷ Row.off ∷ Row.off ∷
+        G58 = record { locals = List._++_ g45 (List._++_ t38 t47); slots = Row.off ∷ Row.off ∷ Row.off ∷ life3 ∷ life4 ∷ life5 ∷ Row.off ∷ Row.off ∷
             Row.off ∷ Row.off ∷ Row.alive ∷ Row.alive ∷ Row.alive ∷ Row.off ∷ Row.off ∷ List.[]; }
         abbrev G59 : Row.Cx
         G59 = record { locals = List._++_ g45 (List._++_ t48 t49); slots = Row.off ∷ Row.off ∷ Row.off ∷ life3 ∷ life4 ∷ life5 ∷ Row.off ∷ Row.off ∷
@@ -1650,94 +1733,103 @@ module _ (claims· : Claims) where
         G60 = record { locals = List._++_ g50 (List._++_ t48 t49); slots = Row.off ∷ Row.off ∷ Row.off ∷ life3 ∷ life4 ∷ life5 ∷ Row.off ∷ Row.off ∷
             Row.off ∷ Row.off ∷ Row.alive ∷ Row.alive ∷ Row.alive ∷ Row.off ∷ Row.off ∷ List.[]; }
         abbrev G61 : Row.Cx
-        G61 = record { locals = List._++_ g51 (List._++_ t48 t49); slots = Row.off ∷ Row.off ∷ Row.off ∷ life3 ∷ life4 ∷ life5 ∷ Row.off ∷ Row.off ∷
+        G61 = record { locals = List._++_ g50 (List._++_ t51 t49); slots = Row.off ∷ Row.off ∷ Row.off ∷ life3 ∷ life4 ∷ life5 ∷ Row.off ∷ Row.off ∷
             Row.off ∷ Row.off ∷ Row.alive ∷ Row.alive ∷ Row.alive ∷ Row.off ∷ Row.off ∷ List.[]; }
         abbrev G62 : Row.Cx
-        G62 = record { locals = List._++_ g51 (List._++_ t52 t49); slots = Row.off ∷ Row.off ∷ Row.off ∷ life3 ∷ life4 ∷ life5 ∷ Row.off ∷ Row.off ∷
+        G62 = record { locals = List._++_ g50 (List._++_ t52 t49); slots = Row.off ∷ Row.off ∷ Row.off ∷ life3 ∷ life4 ∷ life5 ∷ Row.off ∷ Row.off ∷
             Row.off ∷ Row.off ∷ Row.alive ∷ Row.alive ∷ Row.alive ∷ Row.off ∷ Row.off ∷ List.[]; }
         abbrev G63 : Row.Cx
-        G63 = record { locals = List._++_ g51 (List._++_ t53 t49); slots = Row.off ∷ Row.off ∷ Row.off ∷ life3 ∷ life4 ∷ life5 ∷ Row.off ∷ Row.off ∷
-            Row.off ∷ Row.off ∷ Row.alive ∷ Row.alive ∷ Row.alive ∷ Row.off ∷ Row.off ∷ List.[]; }
+        G63 = record { locals = List._++_ g50 (List._++_ t52 t49); slots = Row.off ∷ Row.off ∷ Row.off ∷ life3 ∷ life4 ∷ life5 ∷ Row.off ∷ Row.off ∷
+            Row.off ∷ Row.off ∷ Row.dead ∷ Row.alive ∷ Row.alive ∷ Row.off ∷ Row.off ∷ List.[]; }
         abbrev G64 : Row.Cx
-        G64 = record { locals = List._++_ g51 (List._++_ t53 t49); slots = Row.off ∷ Row.off ∷ Row.off ∷ life3 ∷ life4 ∷ life5 ∷ Row.off ∷ Row.off ∷
+        G64 = record { locals = List._++_ g53 (List._++_ t52 t54); slots = life0 ∷ Row.off ∷ Row.off ∷ life3 ∷ life4 ∷ life5 ∷ Row.off ∷ Row.off ∷
             Row.off ∷ Row.off ∷ Row.dead ∷ Row.alive ∷ Row.alive ∷ Row.off ∷ Row.off ∷ List.[]; }
         abbrev G65 : Row.Cx
-        G65 = record { locals = List._++_ g54 (List._++_ t55 t49); slots = life0 ∷ Row.off ∷ Row.off ∷ life3 ∷ life4 ∷ life5 ∷ Row.off ∷ Row.off ∷
-            Row.off ∷ Row.off ∷ Row.dead ∷ Row.alive ∷ Row.alive ∷ Row.off ∷ Row.off ∷ List.[]; }
-        abbrev G66 : Row.Cx
-        G66 = record { locals = List._++_ g54 (List._++_ t55 t49); slots = life0 ∷ Row.off ∷ Row.off ∷ life3 ∷ life4 ∷ life5 ∷ Row.off ∷ Row.off ∷
+        G65 = record { locals = List._++_ g53 (List._++_ t52 t54); slots = life0 ∷ Row.off ∷ Row.off ∷ life3 ∷ life4 ∷ life5 ∷ Row.off ∷ Row.off ∷
             Row.off ∷ Row.off ∷ Row.off ∷ Row.alive ∷ Row.alive ∷ Row.off ∷ Row.off ∷ List.[]; }
+        abbrev G66 : Row.Cx
+        G66 = record { locals = List._++_ g53 (List._++_ t52 t54); slots = life0 ∷ Row.off ∷ Row.off ∷ life3 ∷ life4 ∷ life5 ∷ Row.off ∷ Row.off ∷
+            Row.off ∷ Row.off ∷ Row.off ∷ Row.dead ∷ Row.alive ∷ Row.off ∷ Row.off ∷ List.[]; }
         abbrev G67 : Row.Cx
-        G67 = record { locals = List._++_ g54 (List._++_ t55 t49); slots = life0 ∷ Row.off ∷ Row.off ∷ life3 ∷ life4 ∷ life5 ∷ Row.off ∷ Row.off ∷
+        G67 = record { locals = List._++_ g55 (List._++_ t52 t56); slots = life0 ∷ life1 ∷ Row.off ∷ life3 ∷ life4 ∷ life5 ∷ Row.off ∷ Row.off ∷
             Row.off ∷ Row.off ∷ Row.off ∷ Row.dead ∷ Row.alive ∷ Row.off ∷ Row.off ∷ List.[]; }
         abbrev G68 : Row.Cx
-        G68 = record { locals = List._++_ g56 (List._++_ t55 t57); slots = life0 ∷ life1 ∷ Row.off ∷ life3 ∷ life4 ∷ life5 ∷ Row.off ∷ Row.off ∷
-            Row.off ∷ Row.off ∷ Row.off ∷ Row.dead ∷ Row.alive ∷ Row.off ∷ Row.off ∷ List.[]; }
-        abbrev G69 : Row.Cx
-        G69 = record { locals = List._++_ g56 (List._++_ t55 t57); slots = life0 ∷ life1 ∷ Row.off ∷ life3 ∷ life4 ∷ life5 ∷ Row.off ∷ Row.off ∷
+        G68 = record { locals = List._++_ g55 (List._++_ t52 t56); slots = life0 ∷ life1 ∷ Row.off ∷ life3 ∷ life4 ∷ life5 ∷ Row.off ∷ Row.off ∷
             Row.off ∷ Row.off ∷ Row.off ∷ Row.off ∷ Row.alive ∷ Row.off ∷ Row.off ∷ List.[]; }
-        abbrev G70 : Row.Cx
-        G70 = record { locals = List._++_ g56 (List._++_ t55 t57); slots = life0 ∷ life1 ∷ Row.off ∷ life3 ∷ life4 ∷ life5 ∷ Row.off ∷ Row.off ∷
+        abbrev G69 : Row.Cx
+        G69 = record { locals = List._++_ g55 (List._++_ t52 t56); slots = life0 ∷ life1 ∷ Row.off ∷ life3 ∷ life4 ∷ life5 ∷ Row.off ∷ Row.off ∷
             Row.off ∷ Row.off ∷ Row.off ∷ Row.off ∷ Row.dead ∷ Row.off ∷ Row.off ∷ List.[]; }
-        abbrev G71 : Row.Cx
-        G71 = record { locals = List._++_ t58 (List._++_ t55 t2); slots = life0 ∷ life1 ∷ life2 ∷ life3 ∷ life4 ∷ life5 ∷ Row.off ∷ Row.off ∷ Row.off
+        abbrev G70 : Row.Cx
+        G70 = record { locals = List._++_ t57 (List._++_ t52 t2); slots = life0 ∷ life1 ∷ life2 ∷ life3 ∷ life4 ∷ life5 ∷ Row.off ∷ Row.off ∷ Row.off
             ∷ Row.off ∷ Row.off ∷ Row.off ∷ Row.dead ∷ Row.off ∷ Row.off ∷ List.[]; }
+        abbrev G71 : Row.Cx
+        G71 = record { locals = List._++_ t57 (List._++_ t52 t2); slots = life0 ∷ life1 ∷ life2 ∷ life3 ∷ life4 ∷ life5 ∷ Row.off ∷ Row.off ∷ Row.off
+            ∷ Row.off ∷ Row.off ∷ Row.off ∷ Row.off ∷ Row.off ∷ Row.off ∷ List.[]; }
         abbrev G72 : Row.Cx
-        G72 = record { locals = List._++_ t58 (List._++_ t55 t2); slots = life0 ∷ life1 ∷ life2 ∷ life3 ∷ life4 ∷ life5 ∷ Row.off ∷ Row.off ∷ Row.off
+        G72 = record { locals = List._++_ t57 (List._++_ t58 t2); slots = life0 ∷ life1 ∷ life2 ∷ life3 ∷ life4 ∷ life5 ∷ Row.off ∷ Row.off ∷ Row.off
             ∷ Row.off ∷ Row.off ∷ Row.off ∷ Row.off ∷ Row.off ∷ Row.off ∷ List.[]; }
         abbrev G73 : Row.Cx
-        G73 = record { locals = List._++_ t58 (List._++_ t55 t2); slots = life0 ∷ life1 ∷ life2 ∷ life3 ∷ life4 ∷ life5 ∷ Row.off ∷ Row.off ∷ Row.off
-            ∷ Row.off ∷ Row.off ∷ Row.off ∷ Row.off ∷ Row.alive ∷ Row.off ∷ List.[]; }
+        G73 = record { locals = List._++_ t59 (List._++_ t58 t2); slots = life0 ∷ life1 ∷ life2 ∷ life3 ∷ life4 ∷ life5 ∷ Row.off ∷ Row.off ∷ Row.off
+            ∷ Row.off ∷ Row.off ∷ Row.off ∷ Row.off ∷ Row.off ∷ Row.off ∷ List.[]; }
         abbrev G74 : Row.Cx
-        G74 = record { locals = List._++_ g59 (List._++_ t55 t60); slots = life0 ∷ life1 ∷ Row.off ∷ life3 ∷ life4 ∷ life5 ∷ Row.off ∷ Row.off ∷
-            Row.off ∷ Row.off ∷ Row.off ∷ Row.off ∷ Row.off ∷ Row.alive ∷ Row.off ∷ List.[]; }
+        G74 = record { locals = List._++_ t59 (List._++_ t58 t2); slots = life0 ∷ life1 ∷ life2 ∷ life3 ∷ life4 ∷ life5 ∷ Row.off ∷ Row.off ∷ Row.off
+            ∷ Row.off ∷ Row.off ∷ Row.off ∷ Row.off ∷ Row.alive ∷ Row.off ∷ List.[]; }
         abbrev G75 : Row.Cx
-        G75 = record { locals = List._++_ g59 (List._++_ t55 t61); slots = life0 ∷ life1 ∷ Row.off ∷ life3 ∷ life4 ∷ life5 ∷ Row.off ∷ Row.off ∷
+        G75 = record { locals = List._++_ g60 (List._++_ t58 t61); slots = life0 ∷ life1 ∷ Row.off ∷ life3 ∷ life4 ∷ life5 ∷ Row.off ∷ Row.off ∷
             Row.off ∷ Row.off ∷ Row.off ∷ Row.off ∷ Row.off ∷ Row.alive ∷ Row.off ∷ List.[]; }
         abbrev G76 : Row.Cx
-        G76 = record { locals = List._++_ g59 (List._++_ t55 t61); slots = life0 ∷ life1 ∷ Row.off ∷ life3 ∷ life4 ∷ life5 ∷ Row.off ∷ Row.off ∷
-            Row.off ∷ Row.off ∷ Row.off ∷ Row.off ∷ Row.off ∷ Row.alive ∷ Row.alive ∷ List.[]; }
+        G76 = record { locals = List._++_ g60 (List._++_ t58 t62); slots = life0 ∷ life1 ∷ Row.off ∷ life3 ∷ life4 ∷ life5 ∷ Row.off ∷ Row.off ∷
+            Row.off ∷ Row.off ∷ Row.off ∷ Row.off ∷ Row.off ∷ Row.alive ∷ Row.off ∷ List.[]; }
         abbrev G77 : Row.Cx
-        G77 = record { locals = List._++_ g62 (List._++_ t55 t63); slots = life0 ∷ life1 ∷ Row.off ∷ Row.off ∷ life4 ∷ life5 ∷ Row.off ∷ Row.off ∷
+        G77 = record { locals = List._++_ g60 (List._++_ t58 t62); slots = life0 ∷ life1 ∷ Row.off ∷ life3 ∷ life4 ∷ life5 ∷ Row.off ∷ Row.off ∷
             Row.off ∷ Row.off ∷ Row.off ∷ Row.off ∷ Row.off ∷ Row.alive ∷ Row.alive ∷ List.[]; }
         abbrev G78 : Row.Cx
-        G78 = record { locals = List._++_ g62 (List._++_ t55 t64); slots = life0 ∷ life1 ∷ Row.off ∷ Row.off ∷ life4 ∷ life5 ∷ Row.off ∷ Row.off ∷
+        G78 = record { locals = List._++_ g63 (List._++_ t58 t64); slots = life0 ∷ life1 ∷ Row.off ∷ Row.off ∷ life4 ∷ life5 ∷ Row.off ∷ Row.off ∷
             Row.off ∷ Row.off ∷ Row.off ∷ Row.off ∷ Row.off ∷ Row.alive ∷ Row.alive ∷ List.[]; }
         abbrev G79 : Row.Cx
-        G79 = record { locals = List._++_ g65 (List._++_ t55 t66); slots = life0 ∷ life1 ∷ Row.off ∷ Row.off ∷ life4 ∷ life5 ∷ Row.off ∷ Row.off ∷
+        G79 = record { locals = List._++_ g63 (List._++_ t58 t65); slots = life0 ∷ life1 ∷ Row.off ∷ Row.off ∷ life4 ∷ life5 ∷ Row.off ∷ Row.off ∷
             Row.off ∷ Row.off ∷ Row.off ∷ Row.off ∷ Row.off ∷ Row.alive ∷ Row.alive ∷ List.[]; }
         abbrev G80 : Row.Cx
-        G80 = record { locals = List._++_ g67 (List._++_ t55 t66); slots = life0 ∷ life1 ∷ Row.off ∷ Row.off ∷ life4 ∷ life5 ∷ Row.off ∷ Row.off ∷
+        G80 = record { locals = List._++_ g66 (List._++_ t58 t67); slots = life0 ∷ life1 ∷ Row.off ∷ Row.off ∷ life4 ∷ life5 ∷ Row.off ∷ Row.off ∷
             Row.off ∷ Row.off ∷ Row.off ∷ Row.off ∷ Row.off ∷ Row.alive ∷ Row.alive ∷ List.[]; }
         abbrev G81 : Row.Cx
-        G81 = record { locals = List._++_ g67 (List._++_ t68 t66); slots = life0 ∷ life1 ∷ Row.off ∷ Row.off ∷ life4 ∷ life5 ∷ Row.off ∷ Row.off ∷
+        G81 = record { locals = List._++_ g68 (List._++_ t58 t67); slots = life0 ∷ life1 ∷ Row.off ∷ Row.off ∷ life4 ∷ life5 ∷ Row.off ∷ Row.off ∷
             Row.off ∷ Row.off ∷ Row.off ∷ Row.off ∷ Row.off ∷ Row.alive ∷ Row.alive ∷ List.[]; }
         abbrev G82 : Row.Cx
-        G82 = record { locals = List._++_ g67 (List._++_ t69 t66); slots = life0 ∷ life1 ∷ Row.off ∷ Row.off ∷ life4 ∷ life5 ∷ Row.off ∷ Row.off ∷
+        G82 = record { locals = List._++_ g68 (List._++_ t69 t67); slots = life0 ∷ life1 ∷ Row.off ∷ Row.off ∷ life4 ∷ life5 ∷ Row.off ∷ Row.off ∷
             Row.off ∷ Row.off ∷ Row.off ∷ Row.off ∷ Row.off ∷ Row.alive ∷ Row.alive ∷ List.[]; }
         abbrev G83 : Row.Cx
-        G83 = record { locals = List._++_ g67 (List._++_ t1 t66); slots = life0 ∷ life1 ∷ Row.off ∷ Row.off ∷ life4 ∷ life5 ∷ Row.off ∷ Row.off ∷
+        G83 = record { locals = List._++_ g68 (List._++_ t70 t67); slots = life0 ∷ life1 ∷ Row.off ∷ Row.off ∷ life4 ∷ life5 ∷ Row.off ∷ Row.off ∷
             Row.off ∷ Row.off ∷ Row.off ∷ Row.off ∷ Row.off ∷ Row.alive ∷ Row.alive ∷ List.[]; }
         abbrev G84 : Row.Cx
-        G84 = record { locals = List._++_ g67 (List._++_ t1 t66); slots = life0 ∷ life1 ∷ Row.off ∷ Row.off ∷ life4 ∷ life5 ∷ Row.off ∷ Row.off ∷
-            Row.off ∷ Row.off ∷ Row.off ∷ Row.off ∷ Row.off ∷ Row.dead ∷ Row.alive ∷ List.[]; }
+        G84 = record { locals = List._++_ g68 (List._++_ t71 t67); slots = life0 ∷ life1 ∷ Row.off ∷ Row.off ∷ life4 ∷ life5 ∷ Row.off ∷ Row.off ∷
+            Row.off ∷ Row.off ∷ Row.off ∷ Row.off ∷ Row.off ∷ Row.alive ∷ Row.alive ∷ List.[]; }
         abbrev G85 : Row.Cx
-        G85 = record { locals = List._++_ g70 (List._++_ t1 t71); slots = life0 ∷ life1 ∷ life2 ∷ Row.off ∷ life4 ∷ life5 ∷ Row.off ∷ Row.off ∷
-            Row.off ∷ Row.off ∷ Row.off ∷ Row.off ∷ Row.off ∷ Row.dead ∷ Row.alive ∷ List.[]; }
+        G85 = record { locals = List._++_ g68 (List._++_ t72 t67); slots = life0 ∷ life1 ∷ Row.off ∷ Row.off ∷ life4 ∷ life5 ∷ Row.off ∷ Row.off ∷
+            Row.off ∷ Row.off ∷ Row.off ∷ Row.off ∷ Row.off ∷ Row.alive ∷ Row.alive ∷ List.[]; }
         abbrev G86 : Row.Cx
-        G86 = record { locals = List._++_ g70 (List._++_ t1 t71); slots = life0 ∷ life1 ∷ life2 ∷ Row.off ∷ life4 ∷ life5 ∷ Row.off ∷ Row.off ∷
-            Row.off ∷ Row.off ∷ Row.off ∷ Row.off ∷ Row.off ∷ Row.off ∷ Row.alive ∷ List.[]; }
+        G86 = record { locals = List._++_ g68 (List._++_ t1 t67); slots = life0 ∷ life1 ∷ Row.off ∷ Row.off ∷ life4 ∷ life5 ∷ Row.off ∷ Row.off ∷
+            Row.off ∷ Row.off ∷ Row.off ∷ Row.off ∷ Row.off ∷ Row.alive ∷ Row.alive ∷ List.[]; }
         abbrev G87 : Row.Cx
-        G87 = record { locals = List._++_ g70 (List._++_ t1 t71); slots = life0 ∷ life1 ∷ life2 ∷ Row.off ∷ life4 ∷ life5 ∷ Row.off ∷ Row.off ∷
-            Row.off ∷ Row.off ∷ Row.off ∷ Row.off ∷ Row.off ∷ Row.off ∷ Row.dead ∷ List.[]; }
+        G87 = record { locals = List._++_ g68 (List._++_ t1 t67); slots = life0 ∷ life1 ∷ Row.off ∷ Row.off ∷ life4 ∷ life5 ∷ Row.off ∷ Row.off ∷
+            Row.off ∷ Row.off ∷ Row.off ∷ Row.off ∷ Row.off ∷ Row.dead ∷ Row.alive ∷ List.[]; }
         abbrev G88 : Row.Cx
-        G88 = record { locals = List._++_ t3 (List._++_ t1 t2); slots = life0 ∷ life1 ∷ life2 ∷ life3 ∷ life4 ∷ life5 ∷ Row.off ∷ Row.off ∷ Row.off ∷
-            Row.off ∷ Row.off ∷ Row.off ∷ Row.off ∷ Row.off ∷ Row.dead ∷ List.[]; }
+        G88 = record { locals = List._++_ g73 (List._++_ t1 t74); slots = life0 ∷ life1 ∷ life2 ∷ Row.off ∷ life4 ∷ life5 ∷ Row.off ∷ Row.off ∷
+            Row.off ∷ Row.off ∷ Row.off ∷ Row.off ∷ Row.off ∷ Row.dead ∷ Row.alive ∷ List.[]; }
         abbrev G89 : Row.Cx
-        G89 = record { locals = List._++_ t3 (List._++_ t1 t2); slots = life0 ∷ life1 ∷ life2 ∷ life3 ∷ life4 ∷ life5 ∷ Row.off ∷ Row.off ∷ Row.off ∷
-            Row.off ∷ Row.off ∷ Row.off ∷ Row.off ∷ Row.off ∷ Row.dead ∷ List.[]; }
+        G89 = record { locals = List._++_ g73 (List._++_ t1 t74); slots = life0 ∷ life1 ∷ life2 ∷ Row.off ∷ life4 ∷ life5 ∷ Row.off ∷ Row.off ∷
+            Row.off ∷ Row.off ∷ Row.off ∷ Row.off ∷ Row.off ∷ Row.off ∷ Row.alive ∷ List.[]; }
         abbrev G90 : Row.Cx
-        G90 = record { locals = List._++_ t3 (List._++_ t1 t2); slots = life0 ∷ life1 ∷ life2 ∷ life3 ∷ life4 ∷ life5 ∷ Row.off ∷ Row.off ∷ Row.off ∷
+        G90 = record { locals = List._++_ g73 (List._++_ t1 t74); slots = life0 ∷ life1 ∷ life2 ∷ Row.off ∷ life4 ∷ life5 ∷ Row.off ∷ Row.off ∷
+            Row.off ∷ Row.off ∷ Row.off ∷ Row.off ∷ Row.off ∷ Row.off ∷ Row.dead ∷ List.[]; }
+        abbrev G91 : Row.Cx
+        G91 = record { locals = List._++_ t3 (List._++_ t1 t2); slots = life0 ∷ life1 ∷ life2 ∷ life3 ∷ life4 ∷ life5 ∷ Row.off ∷ Row.off ∷ Row.off ∷
+            Row.off ∷ Row.off ∷ Row.off ∷ Row.off ∷ Row.off ∷ Row.dead ∷ List.[]; }
+        abbrev G92 : Row.Cx
+        G92 = record { locals = List._++_ t3 (List._++_ t1 t2); slots = life0 ∷ life1 ∷ life2 ∷ life3 ∷ life4 ∷ life5 ∷ Row.off ∷ Row.off ∷ Row.off ∷
+            Row.off ∷ Row.off ∷ Row.off ∷ Row.off ∷ Row.off ∷ Row.dead ∷ List.[]; }
+        abbrev G93 : Row.Cx
+        G93 = record { locals = List._++_ t3 (List._++_ t1 t2); slots = life0 ∷ life1 ∷ life2 ∷ life3 ∷ life4 ∷ life5 ∷ Row.off ∷ Row.off ∷ Row.off ∷
             Row.off ∷ Row.off ∷ Row.off ∷ Row.off ∷ Row.off ∷ Row.off ∷ List.[]; }
         abbrev Δ0 : Typed.Outs
         Δ0 = record { next = Option.none; exits = List.[]; returns = Option.some G1 }
@@ -1745,441 +1837,468 @@ module _ (claims· : Claims) where
             𝓣) (bs : List.List Nat.ℕ) (bd : Lifetimes.AllOutlive 6 (Kinds.osR r) κs) where
           abbrev E : Wp.Env 𝓤 H
           E = Frame.EnvOf 𝓤 H ((Kinds.tyR r) ∷ (Enter.tysP ps xs)) bs
-          d0 : Typed.Typed 𝓤 H A 𝓣 E G90 b31 Δ0 (at0 bs)
+          d0 : Typed.Typed 𝓤 H A 𝓣 E G93 b32 Δ0 (at0 bs)
           d0 = Typed.t-return 𝓤 H A W 𝓣 E Δ0 tt
-          d1 : Typed.Typed 𝓤 H A 𝓣 E G89 b31 Δ0 (at1 bs)
-          d1 = Typed.g-pre 𝓤 H A W 𝓣 E G89 G90 b31 Δ0 (λ Ψ. Ψ) (at0 bs) (Lifetime.g-forget 𝓤 H A W E G89 14 Row.dead Path.refl) d0
-          d2 : Typed.Typed 𝓤 H A 𝓣 E G88 b31 Δ0 (at2 bs)
-          d2 = Typed.g-pre 𝓤 H A W 𝓣 E G88 G89 b31 Δ0 (Typed.give (s87 bs)) (at1 bs) (Know.g-sl-known 𝓤 H A W (Referent.fInt Syntax.w32) E G88 4 3
+          d1 : Typed.Typed 𝓤 H A 𝓣 E G92 b32 Δ0 (at1 bs)
+          d1 = Typed.g-pre 𝓤 H A W 𝓣 E G92 G93 b32 Δ0 (λ Ψ. Ψ) (at0 bs) (Lifetime.g-forget 𝓤 H A W E G92 14 Row.dead Path.refl) d0
+          d2 : Typed.Typed 𝓤 H A 𝓣 E G91 b32 Δ0 (at2 bs)
+          d2 = Typed.g-pre 𝓤 H A W 𝓣 E G91 G92 b32 Δ0 (Typed.give (s90 bs)) (at1 bs) (Know.g-sl-known 𝓤 H A W (Referent.fInt Syntax.w32) E G91 4 3
               ref10 life3 0 (λ x. x) record { fits = Dec.lit< tt } (Reads'.as-is 𝓤 H A (Mut.mslice (Referent.rtF (Referent.fInt Syntax.w32)) ref10 3))
               Path.refl tt) d1
-          d3 : Typed.Typed 𝓤 H A 𝓣 E G87 b31 Δ0 (at3 bs)
-          d3 = Typed.g-pre 𝓤 H A W 𝓣 E G87 G88 b31 Δ0 (Typed.both (s86 bs)) (at2 bs) (Relend.g-back-sl 𝓤 H A W E (Referent.rtF (Referent.fInt
-              Syntax.w32)) G87 38 4 3 14 ref10 ref6 life3 (λ x. x) (λ x. x) (Reads'.as-is 𝓤 H A (Mut.msleft (Referent.rtF (Referent.fInt Syntax.w32))
+          d3 : Typed.Typed 𝓤 H A 𝓣 E G90 b32 Δ0 (at3 bs)
+          d3 = Typed.g-pre 𝓤 H A W 𝓣 E G90 G91 b32 Δ0 (Typed.both (s89 bs)) (at2 bs) (Relend.g-back-sl 𝓤 H A W E (Referent.rtF (Referent.fInt
+              Syntax.w32)) G90 40 4 3 14 ref10 ref6 life3 (λ x. x) (λ x. x) (Reads'.as-is 𝓤 H A (Mut.msleft (Referent.rtF (Referent.fInt Syntax.w32))
               ref6)) (Reads'.as-is 𝓤 H A (Relend.mslice-owed (Referent.rtF (Referent.fInt Syntax.w32)) ref10 3 14 life3)) Path.refl Path.refl) d2
-          d4 : Typed.Typed 𝓤 H A 𝓣 E G86 b31 Δ0 (at4 bs)
-          d4 = Typed.g-pre 𝓤 H A W 𝓣 E G86 G87 b31 Δ0 (λ Ψ. Ψ) (at3 bs) (Lifetime.g-end 𝓤 H A W E G86 14 Path.refl) d3
-          d5 : Typed.Typed 𝓤 H A 𝓣 E G85 b31 Δ0 (at5 bs)
-          d5 = Typed.g-pre 𝓤 H A W 𝓣 E G85 G86 b31 Δ0 (λ Ψ. Ψ) (at4 bs) (Lifetime.g-forget 𝓤 H A W E G85 13 Row.dead Path.refl) d4
-          d6 : Typed.Typed 𝓤 H A 𝓣 E G84 b31 Δ0 (at6 bs)
-          d6 = Typed.g-pre 𝓤 H A W 𝓣 E G84 G85 b31 Δ0 (Typed.both (s83 bs)) (at5 bs) (Relend.g-back-sl 𝓤 H A W E InflightAction.row G84 36 3 2 13 ref9
+          d4 : Typed.Typed 𝓤 H A 𝓣 E G89 b32 Δ0 (at4 bs)
+          d4 = Typed.g-pre 𝓤 H A W 𝓣 E G89 G90 b32 Δ0 (λ Ψ. Ψ) (at3 bs) (Lifetime.g-end 𝓤 H A W E G89 14 Path.refl) d3
+          d5 : Typed.Typed 𝓤 H A 𝓣 E G88 b32 Δ0 (at5 bs)
+          d5 = Typed.g-pre 𝓤 H A W 𝓣 E G88 G89 b32 Δ0 (λ Ψ. Ψ) (at4 bs) (Lifetime.g-forget 𝓤 H A W E G88 13 Row.dead Path.refl) d4
+          d6 : Typed.Typed 𝓤 H A 𝓣 E G87 b32 Δ0 (at6 bs)
+          d6 = Typed.g-pre 𝓤 H A W 𝓣 E G87 G88 b32 Δ0 (Typed.both (s86 bs)) (at5 bs) (Relend.g-back-sl 𝓤 H A W E InflightAction.row G87 38 3 2 13 ref9
               ref5 life2 (λ x. x) (λ x. x) (Reads'.as-is 𝓤 H A (Mut.msleft InflightAction.row ref5)) (Reads'.as-is 𝓤 H A (Relend.mslice-owed
               InflightAction.row ref9 2 13 life2)) Path.refl Path.refl) d5
-          d7 : Typed.Typed 𝓤 H A 𝓣 E G83 b31 Δ0 (at7 bs)
-          d7 = Typed.g-pre 𝓤 H A W 𝓣 E G83 G84 b31 Δ0 (λ Ψ. Ψ) (at6 bs) (Lifetime.g-end 𝓤 H A W E G83 13 Path.refl) d6
-          d8 : Typed.Typed 𝓤 H A 𝓣 E G82 b31 Δ0 (at8 bs)
-          d8 = Typed.g-pre 𝓤 H A W 𝓣 E G82 G83 b31 Δ0 (Typed.pass T82 T83 (s81 bs)) (at7 bs) (Scalar.g-room 𝓤 H A W E G82 19 Laws'.mir
-              (Local.room-whole 𝓤 H A W (Declared'.row OpenedBody.the-type) Laws'.mir Path.refl)) d7
-          d9 : Typed.Typed 𝓤 H A 𝓣 E G81 b31 Δ0 (at9 bs)
-          d9 = Typed.g-pre 𝓤 H A W 𝓣 E G81 G82 b31 Δ0 (Typed.pass T81 T82 (s80 bs)) (at8 bs) (Scalar.g-room 𝓤 H A W E G81 18 Laws'''''.mir
-              (Local.room-whole 𝓤 H A W (Declared'.row Outgoing.the-type) Laws'''''.mir Path.refl)) d8
-          d10 : Typed.Typed 𝓤 H A 𝓣 E G80 b31 Δ0 (at10 bs)
-          d10 = Typed.g-pre 𝓤 H A W 𝓣 E G80 G81 b31 Δ0 (Typed.pass T80 T81 (s79 bs)) (at9 bs) (Scalar.g-room 𝓤 H A W E G80 17 Laws'''''''''.mir
-              (Local.room-whole 𝓤 H A W (Declared'.row OpaqueRelayRuntime.the-type) Laws'''''''''.mir Path.refl)) d9
-          d11 : Typed.Typed 𝓤 H A 𝓣 E G79 b31 Δ0 (at11 bs)
-          d11 = Typed.g-pre 𝓤 H A W 𝓣 E G79 G80 b31 Δ0 (Typed.pass T79 T80 (s78 bs)) (at10 bs) (Scalar.g-room 𝓤 H A W E G79 13 Laws'''.mir
-              (Local.room-whole 𝓤 H A W (Declared.row HnsrAnswer.the-type) Laws'''.mir Path.refl)) d10
-          d12 : Typed.Typed 𝓤 H A 𝓣 E G78 b32 Δ0 (at12 bs)
-          d12 = Typed.s-seq 𝓤 H A W 𝓣 E G78 G79 b30 b31 Δ0 (Typed.both (s77 bs)) (at11 bs) (Plain.t-call-plain 𝓤 H A W 𝓣 2 ps·8 r·8 (claims· .16)
-              (claims· .17) "hnsr_circuit::handle_accept::send_opened" (known .8) E (λ pos β. β) G78 (record { pos = 36; ty = Syntax.tyRef
-              Syntax.erased Syntax.mut InflightAction.to; ref = λ x. x; }, (record { pos = 38; ty = Syntax.tyRef Syntax.erased Syntax.mut
-              (Syntax.tyInt Syntax.w32); ref = λ x. x; }, (record { pos = 13; st = List.[]; d = 0; at = λ x. x }, (record { pos = 17; st = List.[]; d
-              = 0; at = λ x. x }, (record { pos = 18; st = List.[]; d = 0; at = λ x. x }, (record { pos = 19; st = List.[]; d = 0; at = λ x. x },
-              tt),),),),),) 0 (13 ∷ 14 ∷ List.[]) (Call.sub-id 𝓤 H A W (G78 .slots)) (Reads'.as-is 𝓤 H A (Mut.mslice InflightAction.row ref5 13),
-              Mut.reads-mslice 𝓤 H A W InflightAction.row ref5 13, Path.refl, (Reads'.as-is 𝓤 H A (Mut.mslice (Referent.rtF (Referent.fInt
-              Syntax.w32)) ref6 14), Mut.reads-mslice 𝓤 H A W (Referent.rtF (Referent.fInt Syntax.w32)) ref6 14, Path.refl, ((Yields.yields-copy 𝓤 H A
-              W (λ ρ. Unit) (Declared.row HnsrAnswer.the-type) Path.refl (Copies.cEnum HnsrAnswer.the-type Laws'''.the-laws Laws'''.the-copy .copy 𝓤 H
-              A W) (Rows.whole (Declared.row HnsrAnswer.the-type)) (λ x. x) (λ x. x) (λ ρ told. Local.mem-whole 𝓤 H A W (Declared.row
-              HnsrAnswer.the-type) ρ) λ ρ told. Local.whole-mem 𝓤 H A W (Declared.row HnsrAnswer.the-type) ρ, Path.refl,), ((Yields.yields-copy 𝓤 H A
-              W (λ ρ. Unit) (Declared'.row OpaqueRelayRuntime.the-type) Path.refl (Copies.cStruct OpaqueRelayRuntime.the-type Laws'''''''''.the-laws
-              Laws'''''''''.the-copy .copy 𝓤 H A W) (Rows.whole (Declared'.row OpaqueRelayRuntime.the-type)) (λ x. x) (λ x. x) (λ ρ told.
-              Local.mem-whole 𝓤 H A W (Declared'.row OpaqueRelayRuntime.the-type) ρ) λ ρ told. Local.whole-mem 𝓤 H A W (Declared'.row
-              OpaqueRelayRuntime.the-type) ρ, Path.refl,), ((Yields.yields-copy 𝓤 H A W (λ ρ. Unit) (Declared'.row Outgoing.the-type) Path.refl
-              (Copies.cStruct Outgoing.the-type Laws'''''.the-laws Laws'''''.the-copy .copy 𝓤 H A W) (Rows.whole (Declared'.row Outgoing.the-type)) (λ
-              x. x) (λ x. x) (λ ρ told. Local.mem-whole 𝓤 H A W (Declared'.row Outgoing.the-type) ρ) λ ρ told. Local.whole-mem 𝓤 H A W (Declared'.row
-              Outgoing.the-type) ρ, Path.refl,), ((Yields.yields-copy 𝓤 H A W (λ ρ. Unit) (Declared'.row OpenedBody.the-type) Path.refl
-              (Copies.cStruct OpenedBody.the-type Laws'.the-laws Laws'.the-copy .copy 𝓤 H A W) (Rows.whole (Declared'.row OpenedBody.the-type)) (λ x.
-              x) (λ x. x) (λ ρ told. Local.mem-whole 𝓤 H A W (Declared'.row OpenedBody.the-type) ρ) λ ρ told. Local.whole-mem 𝓤 H A W (Declared'.row
-              OpenedBody.the-type) ρ, Path.refl,), tt,),),),),),) (Reads'.room-gone 𝓤 H A Laws''''''''''.mir) (tt, (tt, tt)) Path.refl) d11
-          d13 : Typed.Typed 𝓤 H A 𝓣 E G77 b33 Δ0 (at13 bs)
-          d13 = Typed.s-seq 𝓤 H A W 𝓣 E G77 G78 b29 b32 Δ0 (Typed.ask (s76 bs)) (at12 bs) (Relend.t-sl-aggregate 𝓤 H A W E (Referent.rtF
-              (Referent.fInt Syntax.w32)) 𝓣 (Relend.asMut (Referent.rtF (Referent.fInt Syntax.w32))) G77 37 38 14 ref6 ref6 (λ x. x) (Scalar.oFld 4
+          d7 : Typed.Typed 𝓤 H A 𝓣 E G86 b32 Δ0 (at7 bs)
+          d7 = Typed.g-pre 𝓤 H A W 𝓣 E G86 G87 b32 Δ0 (λ Ψ. Ψ) (at6 bs) (Lifetime.g-end 𝓤 H A W E G86 13 Path.refl) d6
+          d8 : Typed.Typed 𝓤 H A 𝓣 E G85 b32 Δ0 (at8 bs)
+          d8 = Typed.g-pre 𝓤 H A W 𝓣 E G85 G86 b32 Δ0 (Typed.pass T85 T86 (s84 bs)) (at7 bs) (Scalar.g-room 𝓤 H A W E G85 22 Laws'''''.mir
+              (Local.room-whole 𝓤 H A W (Declared'.row Places.the-type) Laws'''''.mir Path.refl)) d7
+          d9 : Typed.Typed 𝓤 H A 𝓣 E G84 b32 Δ0 (at9 bs)
+          d9 = Typed.g-pre 𝓤 H A W 𝓣 E G84 G85 b32 Δ0 (Typed.pass T84 T85 (s83 bs)) (at8 bs) (Scalar.g-room 𝓤 H A W E G84 21 (Syntax.tyInt Syntax.w64)
+              (Scalar.room-sc 𝓤 H A W (Row.sInt Syntax.w64))) d8
+          d10 : Typed.Typed 𝓤 H A 𝓣 E G83 b32 Δ0 (at10 bs)
+          d10 = Typed.g-pre 𝓤 H A W 𝓣 E G83 G84 b32 Δ0 (Typed.pass T83 T84 (s82 bs)) (at9 bs) (Scalar.g-room 𝓤 H A W E G83 20 Laws'.mir
+              (Local.room-whole 𝓤 H A W (Declared'.row OpenedBody.the-type) Laws'.mir Path.refl)) d9
+          d11 : Typed.Typed 𝓤 H A 𝓣 E G82 b32 Δ0 (at11 bs)
+          d11 = Typed.g-pre 𝓤 H A W 𝓣 E G82 G83 b32 Δ0 (Typed.pass T82 T83 (s81 bs)) (at10 bs) (Scalar.g-room 𝓤 H A W E G82 19 Laws''''''.mir
+              (Local.room-whole 𝓤 H A W (Declared'.row Outgoing.the-type) Laws''''''.mir Path.refl)) d10
+          d12 : Typed.Typed 𝓤 H A 𝓣 E G81 b32 Δ0 (at12 bs)
+          d12 = Typed.g-pre 𝓤 H A W 𝓣 E G81 G82 b32 Δ0 (Typed.pass T81 T82 (s80 bs)) (at11 bs) (Scalar.g-room 𝓤 H A W E G81 18 Laws''''''''''.mir
+              (Local.room-whole 𝓤 H A W (Declared'.row OpaqueRelayRuntime.the-type) Laws''''''''''.mir Path.refl)) d11
+          d13 : Typed.Typed 𝓤 H A 𝓣 E G80 b32 Δ0 (at13 bs)
+          d13 = Typed.g-pre 𝓤 H A W 𝓣 E G80 G81 b32 Δ0 (Typed.pass T80 T81 (s79 bs)) (at12 bs) (Scalar.g-room 𝓤 H A W E G80 14 Laws'''.mir
+              (Local.room-whole 𝓤 H A W (Declared.row HnsrAnswer.the-type) Laws'''.mir Path.refl)) d12
+          d14 : Typed.Typed 𝓤 H A 𝓣 E G79 b33 Δ0 (at14 bs)
+          d14 = Typed.s-seq 𝓤 H A W 𝓣 E G79 G80 b31 b32 Δ0 (Typed.both (s78 bs)) (at13 bs) (Plain.t-call-plain 𝓤 H A W 𝓣 2 ps·9 r·9 (claims· .18)
+              (claims· .19) "hnsr_circuit::handle_accept::send_opened" (known .9) E (λ pos β. β) G79 (record { pos = 38; ty = Syntax.tyRef
+              Syntax.erased Syntax.mut InflightAction.to; ref = λ x. x; }, (record { pos = 40; ty = Syntax.tyRef Syntax.erased Syntax.mut
+              (Syntax.tyInt Syntax.w32); ref = λ x. x; }, (record { pos = 14; st = List.[]; d = 0; at = λ x. x }, (record { pos = 18; st = List.[]; d
+              = 0; at = λ x. x }, (record { pos = 22; st = List.[]; d = 0; at = λ x. x }, (record { pos = 19; st = List.[]; d = 0; at = λ x. x },
+              (record { pos = 20; st = List.[]; d = 0; at = λ x. x }, tt),),),),),),) 0 (13 ∷ 14 ∷ List.[]) (Call.sub-id 𝓤 H A W (G79 .slots))
+              (Reads'.as-is 𝓤 H A (Mut.mslice InflightAction.row ref5 13), Mut.reads-mslice 𝓤 H A W InflightAction.row ref5 13, Path.refl,
+              (Reads'.as-is 𝓤 H A (Mut.mslice (Referent.rtF (Referent.fInt Syntax.w32)) ref6 14), Mut.reads-mslice 𝓤 H A W (Referent.rtF
+              (Referent.fInt Syntax.w32)) ref6 14, Path.refl, ((Yields.yields-copy 𝓤 H A W (λ ρ. Unit) (Declared.row HnsrAnswer.the-type) Path.refl
+              (Copies.cEnum HnsrAnswer.the-type Laws'''.the-laws Laws'''.the-copy .copy 𝓤 H A W) (Rows.whole (Declared.row HnsrAnswer.the-type)) (λ x.
+              x) (λ x. x) (λ ρ told. Local.mem-whole 𝓤 H A W (Declared.row HnsrAnswer.the-type) ρ) λ ρ told. Local.whole-mem 𝓤 H A W (Declared.row
+              HnsrAnswer.the-type) ρ, Path.refl,), ((Yields.yields-copy 𝓤 H A W (λ ρ. Unit) (Declared'.row OpaqueRelayRuntime.the-type) Path.refl
+              (Copies.cStruct OpaqueRelayRuntime.the-type Laws''''''''''.the-laws Laws''''''''''.the-copy .copy 𝓤 H A W) (Rows.whole (Declared'.row
+              OpaqueRelayRuntime.the-type)) (λ x. x) (λ x. x) (λ ρ told. Local.mem-whole 𝓤 H A W (Declared'.row OpaqueRelayRuntime.the-type) ρ) λ ρ
+              told. Local.whole-mem 𝓤 H A W (Declared'.row OpaqueRelayRuntime.the-type) ρ, Path.refl,), ((Yields.yields-copy 𝓤 H A W (λ ρ. Unit)
+              (Declared'.row Places.the-type) Path.refl (Copies.cStruct Places.the-type Laws'''''.the-laws Laws'''''.the-copy .copy 𝓤 H A W)
+              (Rows.whole (Declared'.row Places.the-type)) (λ x. x) (λ x. x) (λ ρ told. Local.mem-whole 𝓤 H A W (Declared'.row Places.the-type) ρ) λ ρ
+              told. Local.whole-mem 𝓤 H A W (Declared'.row Places.the-type) ρ, Path.refl,), ((Yields.yields-copy 𝓤 H A W (λ ρ. Unit) (Declared'.row
+              Outgoing.the-type) Path.refl (Copies.cStruct Outgoing.the-type Laws''''''.the-laws Laws''''''.the-copy .copy 𝓤 H A W) (Rows.whole
+              (Declared'.row Outgoing.the-type)) (λ x. x) (λ x. x) (λ ρ told. Local.mem-whole 𝓤 H A W (Declared'.row Outgoing.the-type) ρ) λ ρ told.
+              Local.whole-mem 𝓤 H A W (Declared'.row Outgoing.the-type) ρ, Path.refl,), ((Yields.yields-copy 𝓤 H A W (λ ρ. Unit) (Declared'.row
+              OpenedBody.the-type) Path.refl (Copies.cStruct OpenedBody.the-type Laws'.the-laws Laws'.the-copy .copy 𝓤 H A W) (Rows.whole
+              (Declared'.row OpenedBody.the-type)) (λ x. x) (λ x. x) (λ ρ told. Local.mem-whole 𝓤 H A W (Declared'.row OpenedBody.the-type) ρ) λ ρ
+              told. Local.whole-mem 𝓤 H A W (Declared'.row OpenedBody.the-type) ρ, Path.refl,), tt,),),),),),),) (Reads'.room-gone 𝓤 H A
+              Laws'''''''''''.mir) (tt, (tt, tt)) Path.refl) d13
+          d15 : Typed.Typed 𝓤 H A 𝓣 E G78 b34 Δ0 (at15 bs)
+          d15 = Typed.s-seq 𝓤 H A W 𝓣 E G78 G79 b30 b33 Δ0 (Typed.ask (s77 bs)) (at14 bs) (Relend.t-sl-aggregate 𝓤 H A W E (Referent.rtF
+              (Referent.fInt Syntax.w32)) 𝓣 (Relend.asMut (Referent.rtF (Referent.fInt Syntax.w32))) G78 39 40 14 ref6 ref6 (λ x. x) (Scalar.oFld 4
               ((Syntax.field 1) ∷ List.[]) (Syntax.tyInt Syntax.w64) 8 λ v. Shared.lenV (v .0)) (Reads'.as-is 𝓤 H A (Relend.msptr (Referent.rtF
               (Referent.fInt Syntax.w32)) ref6 14)) (Reads'.room-gone 𝓤 H A (Syntax.tyStruct (38 ∷ 91 ∷ 93 ∷ List.[]) (Syntax.tcons ref6 (Syntax.tcons
               (Syntax.tyInt Syntax.w64) Syntax.tnil)))) (Relend.reads-owed-len 𝓤 H A W (Referent.rtF (Referent.fInt Syntax.w32)) ref10 3 14 life3 8
-              Path.refl, Path.refl,) Path.refl Path.refl λ b o k. tt) d12
-          d14 : Typed.Typed 𝓤 H A 𝓣 E G76 b34 Δ0 (at14 bs)
-          d14 = Typed.s-seq 𝓤 H A W 𝓣 E G76 G77 b28 b33 Δ0 (Typed.give (s75 bs)) (at13 bs) (Relend.t-sl-relend 𝓤 H A W E (Referent.rtF (Referent.fInt
-              Syntax.w32)) 𝓣 G76 4 37 3 14 ref10 ref6 life3 0 (λ x. x) (Reads'.as-is 𝓤 H A (Mut.mslice (Referent.rtF (Referent.fInt Syntax.w32)) ref10
-              3)) (Reads'.room-gone 𝓤 H A ref6) Path.refl tt Path.refl Path.refl Path.refl λ b o. tt) d13
-          d15 : Typed.Typed 𝓤 H A 𝓣 E G75 b34 Δ0 (at15 bs)
-          d15 = Typed.g-pre 𝓤 H A W 𝓣 E G75 G76 b34 Δ0 (λ Ψ. Ψ) (at14 bs) (Lifetime.g-begin 𝓤 H A W E G75 14 (tt, (tt, (tt, ((tt, tt), (tt, (tt, (tt,
+              Path.refl, Path.refl,) Path.refl Path.refl λ b o k. tt) d14
+          d16 : Typed.Typed 𝓤 H A 𝓣 E G77 b35 Δ0 (at16 bs)
+          d16 = Typed.s-seq 𝓤 H A W 𝓣 E G77 G78 b29 b34 Δ0 (Typed.give (s76 bs)) (at15 bs) (Relend.t-sl-relend 𝓤 H A W E (Referent.rtF (Referent.fInt
+              Syntax.w32)) 𝓣 G77 4 39 3 14 ref10 ref6 life3 0 (λ x. x) (Reads'.as-is 𝓤 H A (Mut.mslice (Referent.rtF (Referent.fInt Syntax.w32)) ref10
+              3)) (Reads'.room-gone 𝓤 H A ref6) Path.refl tt Path.refl Path.refl Path.refl λ b o. tt) d15
+          d17 : Typed.Typed 𝓤 H A 𝓣 E G76 b35 Δ0 (at17 bs)
+          d17 = Typed.g-pre 𝓤 H A W 𝓣 E G76 G77 b35 Δ0 (λ Ψ. Ψ) (at16 bs) (Lifetime.g-begin 𝓤 H A W E G76 14 (tt, (tt, (tt, ((tt, tt), (tt, (tt, (tt,
               (tt, (tt, (tt, (tt, (tt, (tt, (tt, (tt, (tt, (tt, (tt, (tt, (tt, (tt, (tt, (tt, (tt, (tt, (tt, (tt, (tt, (tt, (tt, (tt, (tt, (tt, (tt,
-              (tt, (tt, (tt, (tt, (tt, tt),),),),),),),),),),),),),),),),),),),),),),),),),),),),),),),),),),),),),),)) d14
-          d16 : Typed.Typed 𝓤 H A 𝓣 E G74 b35 Δ0 (at16 bs)
-          d16 = Typed.s-seq 𝓤 H A W 𝓣 E G74 G75 b27 b34 Δ0 (Typed.ask (s73 bs)) (at15 bs) (Relend.t-sl-aggregate 𝓤 H A W E InflightAction.row 𝓣
-              (Relend.asMut InflightAction.row) G74 35 36 13 ref5 ref5 (λ x. x) (Scalar.oFld 3 ((Syntax.field 1) ∷ List.[]) (Syntax.tyInt Syntax.w64)
+              (tt, (tt, (tt, (tt, (tt, (tt, (tt, tt,),),),),),),),),),),),),),),),),),),),),),),),),),),),),),),),),),),),),),),),),)) d16
+          d18 : Typed.Typed 𝓤 H A 𝓣 E G75 b36 Δ0 (at18 bs)
+          d18 = Typed.s-seq 𝓤 H A W 𝓣 E G75 G76 b28 b35 Δ0 (Typed.ask (s74 bs)) (at17 bs) (Relend.t-sl-aggregate 𝓤 H A W E InflightAction.row 𝓣
+              (Relend.asMut InflightAction.row) G75 37 38 13 ref5 ref5 (λ x. x) (Scalar.oFld 3 ((Syntax.field 1) ∷ List.[]) (Syntax.tyInt Syntax.w64)
               8 λ v. Shared.lenV (v .0)) (Reads'.as-is 𝓤 H A (Relend.msptr InflightAction.row ref5 13)) (Reads'.room-gone 𝓤 H A (Syntax.tyStruct (38 ∷
               91 ∷ 93 ∷ List.[]) (Syntax.tcons ref5 (Syntax.tcons (Syntax.tyInt Syntax.w64) Syntax.tnil)))) (Relend.reads-owed-len 𝓤 H A W
-              InflightAction.row ref9 2 13 life2 8 Path.refl, Path.refl,) Path.refl Path.refl λ b o k. tt) d15
-          d17 : Typed.Typed 𝓤 H A 𝓣 E G73 b36 Δ0 (at17 bs)
-          d17 = Typed.s-seq 𝓤 H A W 𝓣 E G73 G74 b26 b35 Δ0 (Typed.give (s72 bs)) (at16 bs) (Relend.t-sl-relend 𝓤 H A W E InflightAction.row 𝓣 G73 3 35
+              InflightAction.row ref9 2 13 life2 8 Path.refl, Path.refl,) Path.refl Path.refl λ b o k. tt) d17
+          d19 : Typed.Typed 𝓤 H A 𝓣 E G74 b37 Δ0 (at19 bs)
+          d19 = Typed.s-seq 𝓤 H A W 𝓣 E G74 G75 b27 b36 Δ0 (Typed.give (s73 bs)) (at18 bs) (Relend.t-sl-relend 𝓤 H A W E InflightAction.row 𝓣 G74 3 37
               2 13 ref9 ref5 life2 0 (λ x. x) (Reads'.as-is 𝓤 H A (Mut.mslice InflightAction.row ref9 2)) (Reads'.room-gone 𝓤 H A ref5) Path.refl tt
-              Path.refl Path.refl Path.refl λ b o. tt) d16
-          d18 : Typed.Typed 𝓤 H A 𝓣 E G72 b36 Δ0 (at18 bs)
-          d18 = Typed.g-pre 𝓤 H A W 𝓣 E G72 G73 b36 Δ0 (λ Ψ. Ψ) (at17 bs) (Lifetime.g-begin 𝓤 H A W E G72 13 (tt, (tt, (tt, (tt, (tt, (tt, (tt, (tt,
+              Path.refl Path.refl Path.refl λ b o. tt) d18
+          d20 : Typed.Typed 𝓤 H A 𝓣 E G73 b37 Δ0 (at20 bs)
+          d20 = Typed.g-pre 𝓤 H A W 𝓣 E G73 G74 b37 Δ0 (λ Ψ. Ψ) (at19 bs) (Lifetime.g-begin 𝓤 H A W E G73 13 (tt, (tt, (tt, (tt, (tt, (tt, (tt, (tt,
               (tt, (tt, (tt, (tt, (tt, (tt, (tt, (tt, (tt, (tt, (tt, (tt, (tt, (tt, (tt, (tt, (tt, (tt, (tt, (tt, (tt, (tt, (tt, (tt, (tt, (tt, (tt,
-              (tt, (tt, (tt, (tt, tt),),),),),),),),),),),),),),),),),),),),),),),),),),),),),),),),),),),),),),)) d17
-          d19 : Typed.Typed 𝓤 H A 𝓣 E G71 b36 Δ0 (at19 bs)
-          d19 = Typed.g-pre 𝓤 H A W 𝓣 E G71 G72 b36 Δ0 (λ Ψ. Ψ) (at18 bs) (Lifetime.g-forget 𝓤 H A W E G71 12 Row.dead Path.refl) d18
-          d20 : Typed.Typed 𝓤 H A 𝓣 E G70 b36 Δ0 (at20 bs)
-          d20 = Typed.g-pre 𝓤 H A W 𝓣 E G70 G71 b36 Δ0 (Typed.both (s69 bs)) (at19 bs) (Relend.g-back-sl 𝓤 H A W E InflightAction.row G70 34 3 2 12
+              (tt, (tt, (tt, (tt, (tt, (tt, tt,),),),),),),),),),),),),),),),),),),),),),),),),),),),),),),),),),),),),),),),),)) d19
+          d21 : Typed.Typed 𝓤 H A 𝓣 E G72 b37 Δ0 (at21 bs)
+          d21 = Typed.g-pre 𝓤 H A W 𝓣 E G72 G73 b37 Δ0 (Typed.pass T72 T73 (s71 bs)) (at20 bs) (Scalar.g-room 𝓤 H A W E G72 6 Laws'''''.mir
+              (Local.room-whole 𝓤 H A W (Declared'.row Places.the-type) Laws'''''.mir Path.refl)) d20
+          d22 : Typed.Typed 𝓤 H A 𝓣 E G71 b38 Δ0 (at22 bs)
+          d22 = Typed.s-seq 𝓤 H A W 𝓣 E G71 G72 b26 b37 Δ0 (Typed.both (s70 bs)) (at21 bs) (Plain.t-call-plain 𝓤 H A W 𝓣 0 ps·8 r·8 (claims· .16)
+              (claims· .17) "hnsr_circuit::places::with_circuits" (known .8) E (λ pos β. β) G71 (record { pos = 6; st = List.[]; d = 0; at = λ x. x },
+              (Num.vAt 21 λ x. x, tt)) 22 List.[] (Call.sub-id 𝓤 H A W (G71 .slots)) ((Yields.yields-copy 𝓤 H A W (λ ρ. Unit) (Declared'.row
+              Places.the-type) Path.refl (Copies.cStruct Places.the-type Laws'''''.the-laws Laws'''''.the-copy .copy 𝓤 H A W) (Rows.whole
+              (Declared'.row Places.the-type)) (λ x. x) (λ x. x) (λ ρ told. Local.mem-whole 𝓤 H A W (Declared'.row Places.the-type) ρ) λ ρ told.
+              Local.whole-mem 𝓤 H A W (Declared'.row Places.the-type) ρ, Path.refl,), ((Scalar.reads-sc 𝓤 H A W (Row.sInt Syntax.w64), Path.refl),
+              tt),) (Reads'.room-gone 𝓤 H A Laws'''''.mir) tt Path.refl) d21
+          d23 : Typed.Typed 𝓤 H A 𝓣 E G70 b38 Δ0 (at23 bs)
+          d23 = Typed.g-pre 𝓤 H A W 𝓣 E G70 G71 b38 Δ0 (λ Ψ. Ψ) (at22 bs) (Lifetime.g-forget 𝓤 H A W E G70 12 Row.dead Path.refl) d22
+          d24 : Typed.Typed 𝓤 H A 𝓣 E G69 b38 Δ0 (at24 bs)
+          d24 = Typed.g-pre 𝓤 H A W 𝓣 E G69 G70 b38 Δ0 (Typed.both (s68 bs)) (at23 bs) (Relend.g-back-sl 𝓤 H A W E InflightAction.row G69 36 3 2 12
               ref9 ref5 life2 (λ x. x) (λ x. x) (Reads'.as-is 𝓤 H A (Mut.msleft InflightAction.row ref5)) (Reads'.as-is 𝓤 H A (Relend.mslice-owed
-              InflightAction.row ref9 2 12 life2)) Path.refl Path.refl) d19
-          d21 : Typed.Typed 𝓤 H A 𝓣 E G69 b36 Δ0 (at21 bs)
-          d21 = Typed.g-pre 𝓤 H A W 𝓣 E G69 G70 b36 Δ0 (λ Ψ. Ψ) (at20 bs) (Lifetime.g-end 𝓤 H A W E G69 12 Path.refl) d20
-          d22 : Typed.Typed 𝓤 H A 𝓣 E G68 b36 Δ0 (at22 bs)
-          d22 = Typed.g-pre 𝓤 H A W 𝓣 E G68 G69 b36 Δ0 (λ Ψ. Ψ) (at21 bs) (Lifetime.g-forget 𝓤 H A W E G68 11 Row.dead Path.refl) d21
-          d23 : Typed.Typed 𝓤 H A 𝓣 E G67 b36 Δ0 (at23 bs)
-          d23 = Typed.g-pre 𝓤 H A W 𝓣 E G67 G68 b36 Δ0 (Typed.both (s66 bs)) (at22 bs) (Relend.g-back-sl 𝓤 H A W E RelayCircuit.row G67 32 2 1 11 ref8
+              InflightAction.row ref9 2 12 life2)) Path.refl Path.refl) d23
+          d25 : Typed.Typed 𝓤 H A 𝓣 E G68 b38 Δ0 (at25 bs)
+          d25 = Typed.g-pre 𝓤 H A W 𝓣 E G68 G69 b38 Δ0 (λ Ψ. Ψ) (at24 bs) (Lifetime.g-end 𝓤 H A W E G68 12 Path.refl) d24
+          d26 : Typed.Typed 𝓤 H A 𝓣 E G67 b38 Δ0 (at26 bs)
+          d26 = Typed.g-pre 𝓤 H A W 𝓣 E G67 G68 b38 Δ0 (λ Ψ. Ψ) (at25 bs) (Lifetime.g-forget 𝓤 H A W E G67 11 Row.dead Path.refl) d25
+          d27 : Typed.Typed 𝓤 H A 𝓣 E G66 b38 Δ0 (at27 bs)
+          d27 = Typed.g-pre 𝓤 H A W 𝓣 E G66 G67 b38 Δ0 (Typed.both (s65 bs)) (at26 bs) (Relend.g-back-sl 𝓤 H A W E RelayCircuit.row G66 34 2 1 11 ref8
               ref4 life1 (λ x. x) (λ x. x) (Reads'.as-is 𝓤 H A (Mut.msleft RelayCircuit.row ref4)) (Reads'.as-is 𝓤 H A (Relend.mslice-owed
-              RelayCircuit.row ref8 1 11 life1)) Path.refl Path.refl) d22
-          d24 : Typed.Typed 𝓤 H A 𝓣 E G66 b36 Δ0 (at24 bs)
-          d24 = Typed.g-pre 𝓤 H A W 𝓣 E G66 G67 b36 Δ0 (λ Ψ. Ψ) (at23 bs) (Lifetime.g-end 𝓤 H A W E G66 11 Path.refl) d23
-          d25 : Typed.Typed 𝓤 H A 𝓣 E G65 b36 Δ0 (at25 bs)
-          d25 = Typed.g-pre 𝓤 H A W 𝓣 E G65 G66 b36 Δ0 (λ Ψ. Ψ) (at24 bs) (Lifetime.g-forget 𝓤 H A W E G65 10 Row.dead Path.refl) d24
-          d26 : Typed.Typed 𝓤 H A 𝓣 E G64 b36 Δ0 (at26 bs)
-          d26 = Typed.g-pre 𝓤 H A W 𝓣 E G64 G65 b36 Δ0 (Typed.both (s63 bs)) (at25 bs) (Relend.g-back-sl 𝓤 H A W E RelayPending.row G64 30 1 0 10 ref7
+              RelayCircuit.row ref8 1 11 life1)) Path.refl Path.refl) d26
+          d28 : Typed.Typed 𝓤 H A 𝓣 E G65 b38 Δ0 (at28 bs)
+          d28 = Typed.g-pre 𝓤 H A W 𝓣 E G65 G66 b38 Δ0 (λ Ψ. Ψ) (at27 bs) (Lifetime.g-end 𝓤 H A W E G65 11 Path.refl) d27
+          d29 : Typed.Typed 𝓤 H A 𝓣 E G64 b38 Δ0 (at29 bs)
+          d29 = Typed.g-pre 𝓤 H A W 𝓣 E G64 G65 b38 Δ0 (λ Ψ. Ψ) (at28 bs) (Lifetime.g-forget 𝓤 H A W E G64 10 Row.dead Path.refl) d28
+          d30 : Typed.Typed 𝓤 H A 𝓣 E G63 b38 Δ0 (at30 bs)
+          d30 = Typed.g-pre 𝓤 H A W 𝓣 E G63 G64 b38 Δ0 (Typed.both (s62 bs)) (at29 bs) (Relend.g-back-sl 𝓤 H A W E RelayPending.row G63 32 1 0 10 ref7
               ref3 life0 (λ x. x) (λ x. x) (Reads'.as-is 𝓤 H A (Mut.msleft RelayPending.row ref3)) (Reads'.as-is 𝓤 H A (Relend.mslice-owed
-              RelayPending.row ref7 0 10 life0)) Path.refl Path.refl) d25
-          d27 : Typed.Typed 𝓤 H A 𝓣 E G63 b36 Δ0 (at27 bs)
-          d27 = Typed.g-pre 𝓤 H A W 𝓣 E G63 G64 b36 Δ0 (λ Ψ. Ψ) (at26 bs) (Lifetime.g-end 𝓤 H A W E G63 10 Path.refl) d26
-          d28 : Typed.Typed 𝓤 H A 𝓣 E G62 b36 Δ0 (at28 bs)
-          d28 = Typed.g-pre 𝓤 H A W 𝓣 E G62 G63 b36 Δ0 (Typed.pass T62 T63 (s61 bs)) (at27 bs) (Scalar.g-room 𝓤 H A W E G62 28 Syntax.tyUnit
-              (Scalar.room-sc 𝓤 H A W Row.sUnit)) d27
-          d29 : Typed.Typed 𝓤 H A 𝓣 E G61 b36 Δ0 (at29 bs)
-          d29 = Typed.g-pre 𝓤 H A W 𝓣 E G61 G62 b36 Δ0 (Typed.pass T61 T62 (s60 bs)) (at28 bs) (Scalar.g-room 𝓤 H A W E G61 16 RelayCircuit.ty
-              (Local.room-whole 𝓤 H A W RelayCircuit.row RelayCircuit.ty Path.refl)) d28
-          d30 : Typed.Typed 𝓤 H A 𝓣 E G60 b36 Δ0 (at30 bs)
-          d30 = Typed.g-pre 𝓤 H A W 𝓣 E G60 G61 b36 Δ0 (Typed.pass T60 T61 (s59 bs)) (at29 bs) (Scalar.g-room 𝓤 H A W E G60 15 RelayPending.ty
-              (Local.room-whole 𝓤 H A W RelayPending.row RelayPending.ty Path.refl)) d29
-          d31 : Typed.Typed 𝓤 H A 𝓣 E G59 b36 Δ0 (at31 bs)
-          d31 = Typed.g-pre 𝓤 H A W 𝓣 E G59 G60 b36 Δ0 (Typed.pass T59 T60 (s58 bs)) (at30 bs) (Scalar.g-room 𝓤 H A W E G59 14 Laws''.mir
-              (Local.room-whole 𝓤 H A W (Declared'.row AcceptPlan.the-type) Laws''.mir Path.refl)) d30
-          d32 : Typed.Typed 𝓤 H A 𝓣 E G58 b37 Δ0 (at32 bs)
-          d32 = Typed.s-seq 𝓤 H A W 𝓣 E G58 G59 b25 b36 Δ0 (Typed.both (s57 bs)) (at31 bs) (Plain.t-call-plain 𝓤 H A W 𝓣 3 ps·7 r·7 (claims· .14)
-              (claims· .15) "hnsr_circuit::handle_accept::accept_written" (known .7) E (λ pos β. β) G58 (record { pos = 30; ty = Syntax.tyRef
-              Syntax.erased Syntax.mut RelayPending.to; ref = λ x. x; }, (record { pos = 32; ty = Syntax.tyRef Syntax.erased Syntax.mut
-              RelayCircuit.to; ref = λ x. x; }, (record { pos = 34; ty = Syntax.tyRef Syntax.erased Syntax.mut InflightAction.to; ref = λ x. x; },
-              (record { pos = 14; st = List.[]; d = 0; at = λ x. x }, (record { pos = 15; st = List.[]; d = 0; at = λ x. x }, (record { pos = 16; st =
-              List.[]; d = 0; at = λ x. x }, tt),),),),),) 28 (10 ∷ 11 ∷ 12 ∷ List.[]) (Call.sub-id 𝓤 H A W (G58 .slots)) (Reads'.as-is 𝓤 H A
-              (Mut.mslice RelayPending.row ref3 10), Mut.reads-mslice 𝓤 H A W RelayPending.row ref3 10, Path.refl, (Reads'.as-is 𝓤 H A (Mut.mslice
-              RelayCircuit.row ref4 11), Mut.reads-mslice 𝓤 H A W RelayCircuit.row ref4 11, Path.refl, (Reads'.as-is 𝓤 H A (Mut.mslice
-              InflightAction.row ref5 12), Mut.reads-mslice 𝓤 H A W InflightAction.row ref5 12, Path.refl, ((Yields.yields-copy 𝓤 H A W (λ ρ. Unit)
-              (Declared'.row AcceptPlan.the-type) Path.refl (Copies.cStruct AcceptPlan.the-type Laws''.the-laws Laws''.the-copy .copy 𝓤 H A W)
-              (Rows.whole (Declared'.row AcceptPlan.the-type)) (λ x. x) (λ x. x) (λ ρ told. Local.mem-whole 𝓤 H A W (Declared'.row
-              AcceptPlan.the-type) ρ) λ ρ told. Local.whole-mem 𝓤 H A W (Declared'.row AcceptPlan.the-type) ρ, Path.refl,), ((Yields.yields-copy 𝓤 H A
-              W (λ ρ. Unit) RelayPending.row Path.refl (RelayPending.copies .copy 𝓤 H A W) RelayPending.held (λ x. x) (λ x. x) (λ ρ told.
-              Local.mem-whole 𝓤 H A W RelayPending.row ρ) λ ρ told. Local.whole-mem 𝓤 H A W RelayPending.row ρ, Path.refl,), ((Yields.yields-copy 𝓤 H
-              A W (λ ρ. Unit) RelayCircuit.row Path.refl (RelayCircuit.copies .copy 𝓤 H A W) RelayCircuit.held (λ x. x) (λ x. x) (λ ρ told.
-              Local.mem-whole 𝓤 H A W RelayCircuit.row ρ) λ ρ told. Local.whole-mem 𝓤 H A W RelayCircuit.row ρ, Path.refl,), tt,),),),),),)
-              (Reads'.room-gone 𝓤 H A Syntax.tyUnit) (tt, (tt, (tt, tt))) Path.refl) d31
-          d33 : Typed.Typed 𝓤 H A 𝓣 E G57 b38 Δ0 (at33 bs)
-          d33 = Typed.s-seq 𝓤 H A W 𝓣 E G57 G58 b24 b37 Δ0 (Typed.ask (s56 bs)) (at32 bs) (Relend.t-sl-aggregate 𝓤 H A W E InflightAction.row 𝓣
-              (Relend.asMut InflightAction.row) G57 33 34 12 ref5 ref5 (λ x. x) (Scalar.oFld 3 ((Syntax.field 1) ∷ List.[]) (Syntax.tyInt Syntax.w64)
+              RelayPending.row ref7 0 10 life0)) Path.refl Path.refl) d29
+          d31 : Typed.Typed 𝓤 H A 𝓣 E G62 b38 Δ0 (at31 bs)
+          d31 = Typed.g-pre 𝓤 H A W 𝓣 E G62 G63 b38 Δ0 (λ Ψ. Ψ) (at30 bs) (Lifetime.g-end 𝓤 H A W E G62 10 Path.refl) d30
+          d32 : Typed.Typed 𝓤 H A 𝓣 E G61 b38 Δ0 (at32 bs)
+          d32 = Typed.g-pre 𝓤 H A W 𝓣 E G61 G62 b38 Δ0 (Typed.pass T61 T62 (s60 bs)) (at31 bs) (Scalar.g-room 𝓤 H A W E G61 17 RelayCircuit.ty
+              (Local.room-whole 𝓤 H A W RelayCircuit.row RelayCircuit.ty Path.refl)) d31
+          d33 : Typed.Typed 𝓤 H A 𝓣 E G60 b38 Δ0 (at33 bs)
+          d33 = Typed.g-pre 𝓤 H A W 𝓣 E G60 G61 b38 Δ0 (Typed.pass T60 T61 (s59 bs)) (at32 bs) (Scalar.g-room 𝓤 H A W E G60 16 RelayPending.ty
+              (Local.room-whole 𝓤 H A W RelayPending.row RelayPending.ty Path.refl)) d32
+          d34 : Typed.Typed 𝓤 H A 𝓣 E G59 b38 Δ0 (at34 bs)
+          d34 = Typed.g-pre 𝓤 H A W 𝓣 E G59 G60 b38 Δ0 (Typed.pass T59 T60 (s58 bs)) (at33 bs) (Scalar.g-room 𝓤 H A W E G59 15 Laws''.mir
+              (Local.room-whole 𝓤 H A W (Declared'.row AcceptPlan.the-type) Laws''.mir Path.refl)) d33
+          d35 : Typed.Typed 𝓤 H A 𝓣 E G58 b39 Δ0 (at35 bs)
+          d35 = Typed.s-seq 𝓤 H A W 𝓣 E G58 G59 b25 b38 Δ0 (Typed.both (s57 bs)) (at34 bs) (Plain.t-call-plain 𝓤 H A W 𝓣 3 ps·7 r·7 (claims· .14)
+              (claims· .15) "hnsr_circuit::handle_accept::accept_written" (known .7) E (λ pos β. β) G58 (record { pos = 32; ty = Syntax.tyRef
+              Syntax.erased Syntax.mut RelayPending.to; ref = λ x. x; }, (record { pos = 34; ty = Syntax.tyRef Syntax.erased Syntax.mut
+              RelayCircuit.to; ref = λ x. x; }, (record { pos = 36; ty = Syntax.tyRef Syntax.erased Syntax.mut InflightAction.to; ref = λ x. x; },
+              (record { pos = 6; st = List.[]; d = 0; at = λ x. x }, (record { pos = 15; st = List.[]; d = 0; at = λ x. x }, (record { pos = 16; st =
+              List.[]; d = 0; at = λ x. x }, (record { pos = 17; st = List.[]; d = 0; at = λ x. x }, tt),),),),),),) 21 (10 ∷ 11 ∷ 12 ∷ List.[])
+              (Call.sub-id 𝓤 H A W (G58 .slots)) (Reads'.as-is 𝓤 H A (Mut.mslice RelayPending.row ref3 10), Mut.reads-mslice 𝓤 H A W RelayPending.row
+              ref3 10, Path.refl, (Reads'.as-is 𝓤 H A (Mut.mslice RelayCircuit.row ref4 11), Mut.reads-mslice 𝓤 H A W RelayCircuit.row ref4 11,
+              Path.refl, (Reads'.as-is 𝓤 H A (Mut.mslice InflightAction.row ref5 12), Mut.reads-mslice 𝓤 H A W InflightAction.row ref5 12, Path.refl,
+              ((Yields.yields-copy 𝓤 H A W (λ ρ. Unit) (Declared'.row Places.the-type) Path.refl (Copies.cStruct Places.the-type Laws'''''.the-laws
+              Laws'''''.the-copy .copy 𝓤 H A W) (Rows.whole (Declared'.row Places.the-type)) (λ x. x) (λ x. x) (λ ρ told. Local.mem-whole 𝓤 H A W
+              (Declared'.row Places.the-type) ρ) λ ρ told. Local.whole-mem 𝓤 H A W (Declared'.row Places.the-type) ρ, Path.refl,),
+              ((Yields.yields-copy 𝓤 H A W (λ ρ. Unit) (Declared'.row AcceptPlan.the-type) Path.refl (Copies.cStruct AcceptPlan.the-type
+              Laws''.the-laws Laws''.the-copy .copy 𝓤 H A W) (Rows.whole (Declared'.row AcceptPlan.the-type)) (λ x. x) (λ x. x) (λ ρ told.
+              Local.mem-whole 𝓤 H A W (Declared'.row AcceptPlan.the-type) ρ) λ ρ told. Local.whole-mem 𝓤 H A W (Declared'.row AcceptPlan.the-type) ρ,
+              Path.refl,), ((Yields.yields-copy 𝓤 H A W (λ ρ. Unit) RelayPending.row Path.refl (RelayPending.copies .copy 𝓤 H A W) RelayPending.held
+              (λ x. x) (λ x. x) (λ ρ told. Local.mem-whole 𝓤 H A W RelayPending.row ρ) λ ρ told. Local.whole-mem 𝓤 H A W RelayPending.row ρ,
+              Path.refl,), ((Yields.yields-copy 𝓤 H A W (λ ρ. Unit) RelayCircuit.row Path.refl (RelayCircuit.copies .copy 𝓤 H A W) RelayCircuit.held
+              (λ x. x) (λ x. x) (λ ρ told. Local.mem-whole 𝓤 H A W RelayCircuit.row ρ) λ ρ told. Local.whole-mem 𝓤 H A W RelayCircuit.row ρ,
+              Path.refl,), tt,),),),),),),) (Reads'.room-gone 𝓤 H A (Syntax.tyInt Syntax.w64)) (tt, (tt, (tt, tt))) Path.refl) d34
+          d36 : Typed.Typed 𝓤 H A 𝓣 E G57 b40 Δ0 (at36 bs)
+          d36 = Typed.s-seq 𝓤 H A W 𝓣 E G57 G58 b24 b39 Δ0 (Typed.ask (s56 bs)) (at35 bs) (Relend.t-sl-aggregate 𝓤 H A W E InflightAction.row 𝓣
+              (Relend.asMut InflightAction.row) G57 35 36 12 ref5 ref5 (λ x. x) (Scalar.oFld 3 ((Syntax.field 1) ∷ List.[]) (Syntax.tyInt Syntax.w64)
               8 λ v. Shared.lenV (v .0)) (Reads'.as-is 𝓤 H A (Relend.msptr InflightAction.row ref5 12)) (Reads'.room-gone 𝓤 H A (Syntax.tyStruct (38 ∷
               91 ∷ 93 ∷ List.[]) (Syntax.tcons ref5 (Syntax.tcons (Syntax.tyInt Syntax.w64) Syntax.tnil)))) (Relend.reads-owed-len 𝓤 H A W
-              InflightAction.row ref9 2 12 life2 8 Path.refl, Path.refl,) Path.refl Path.refl λ b o k. tt) d32
-          d34 : Typed.Typed 𝓤 H A 𝓣 E G56 b39 Δ0 (at34 bs)
-          d34 = Typed.s-seq 𝓤 H A W 𝓣 E G56 G57 b23 b38 Δ0 (Typed.give (s55 bs)) (at33 bs) (Relend.t-sl-relend 𝓤 H A W E InflightAction.row 𝓣 G56 3 33
+              InflightAction.row ref9 2 12 life2 8 Path.refl, Path.refl,) Path.refl Path.refl λ b o k. tt) d35
+          d37 : Typed.Typed 𝓤 H A 𝓣 E G56 b41 Δ0 (at37 bs)
+          d37 = Typed.s-seq 𝓤 H A W 𝓣 E G56 G57 b23 b40 Δ0 (Typed.give (s55 bs)) (at36 bs) (Relend.t-sl-relend 𝓤 H A W E InflightAction.row 𝓣 G56 3 35
               2 12 ref9 ref5 life2 0 (λ x. x) (Reads'.as-is 𝓤 H A (Mut.mslice InflightAction.row ref9 2)) (Reads'.room-gone 𝓤 H A ref5) Path.refl tt
-              Path.refl Path.refl Path.refl λ b o. tt) d33
-          d35 : Typed.Typed 𝓤 H A 𝓣 E G55 b39 Δ0 (at35 bs)
-          d35 = Typed.g-pre 𝓤 H A W 𝓣 E G55 G56 b39 Δ0 (λ Ψ. Ψ) (at34 bs) (Lifetime.g-begin 𝓤 H A W E G55 12 (tt, ((tt, tt), ((tt, tt), (tt, (tt, (tt,
+              Path.refl Path.refl Path.refl λ b o. tt) d36
+          d38 : Typed.Typed 𝓤 H A 𝓣 E G55 b41 Δ0 (at38 bs)
+          d38 = Typed.g-pre 𝓤 H A W 𝓣 E G55 G56 b41 Δ0 (λ Ψ. Ψ) (at37 bs) (Lifetime.g-begin 𝓤 H A W E G55 12 (tt, ((tt, tt), ((tt, tt), (tt, (tt, (tt,
               (tt, (tt, (tt, (tt, (tt, (tt, (tt, (tt, (tt, (tt, (tt, (tt, (tt, (tt, (tt, (tt, (tt, (tt, (tt, (tt, (tt, (tt, (tt, (tt, (tt, (tt, (tt,
-              (tt, (tt, (tt, (tt, (tt, (tt, tt),),),),),),),),),),),),),),),),),),),),),),),),),),),),),),),),),),),),),),)) d34
-          d36 : Typed.Typed 𝓤 H A 𝓣 E G54 b40 Δ0 (at36 bs)
-          d36 = Typed.s-seq 𝓤 H A W 𝓣 E G54 G55 b22 b39 Δ0 (Typed.ask (s53 bs)) (at35 bs) (Relend.t-sl-aggregate 𝓤 H A W E RelayCircuit.row 𝓣
-              (Relend.asMut RelayCircuit.row) G54 31 32 11 ref4 ref4 (λ x. x) (Scalar.oFld 2 ((Syntax.field 1) ∷ List.[]) (Syntax.tyInt Syntax.w64) 8
+              (tt, (tt, (tt, (tt, (tt, (tt, (tt, (tt, tt,),),),),),),),),),),),),),),),),),),),),),),),),),),),),),),),),),),),),),),),),)) d37
+          d39 : Typed.Typed 𝓤 H A 𝓣 E G54 b42 Δ0 (at39 bs)
+          d39 = Typed.s-seq 𝓤 H A W 𝓣 E G54 G55 b22 b41 Δ0 (Typed.ask (s53 bs)) (at38 bs) (Relend.t-sl-aggregate 𝓤 H A W E RelayCircuit.row 𝓣
+              (Relend.asMut RelayCircuit.row) G54 33 34 11 ref4 ref4 (λ x. x) (Scalar.oFld 2 ((Syntax.field 1) ∷ List.[]) (Syntax.tyInt Syntax.w64) 8
               λ v. Shared.lenV (v .0)) (Reads'.as-is 𝓤 H A (Relend.msptr RelayCircuit.row ref4 11)) (Reads'.room-gone 𝓤 H A (Syntax.tyStruct (38 ∷ 91
               ∷ 93 ∷ List.[]) (Syntax.tcons ref4 (Syntax.tcons (Syntax.tyInt Syntax.w64) Syntax.tnil)))) (Relend.reads-owed-len 𝓤 H A W
-              RelayCircuit.row ref8 1 11 life1 8 Path.refl, Path.refl,) Path.refl Path.refl λ b o k. tt) d35
-          d37 : Typed.Typed 𝓤 H A 𝓣 E G53 b41 Δ0 (at37 bs)
-          d37 = Typed.s-seq 𝓤 H A W 𝓣 E G53 G54 b21 b40 Δ0 (Typed.give (s52 bs)) (at36 bs) (Relend.t-sl-relend 𝓤 H A W E RelayCircuit.row 𝓣 G53 2 31 1
+              RelayCircuit.row ref8 1 11 life1 8 Path.refl, Path.refl,) Path.refl Path.refl λ b o k. tt) d38
+          d40 : Typed.Typed 𝓤 H A 𝓣 E G53 b43 Δ0 (at40 bs)
+          d40 = Typed.s-seq 𝓤 H A W 𝓣 E G53 G54 b21 b42 Δ0 (Typed.give (s52 bs)) (at39 bs) (Relend.t-sl-relend 𝓤 H A W E RelayCircuit.row 𝓣 G53 2 33 1
               11 ref8 ref4 life1 0 (λ x. x) (Reads'.as-is 𝓤 H A (Mut.mslice RelayCircuit.row ref8 1)) (Reads'.room-gone 𝓤 H A ref4) Path.refl tt
-              Path.refl Path.refl Path.refl λ b o. tt) d36
-          d38 : Typed.Typed 𝓤 H A 𝓣 E G52 b41 Δ0 (at38 bs)
-          d38 = Typed.g-pre 𝓤 H A W 𝓣 E G52 G53 b41 Δ0 (λ Ψ. Ψ) (at37 bs) (Lifetime.g-begin 𝓤 H A W E G52 11 (tt, ((tt, tt), (tt, (tt, (tt, (tt, (tt,
+              Path.refl Path.refl Path.refl λ b o. tt) d39
+          d41 : Typed.Typed 𝓤 H A 𝓣 E G52 b43 Δ0 (at41 bs)
+          d41 = Typed.g-pre 𝓤 H A W 𝓣 E G52 G53 b43 Δ0 (λ Ψ. Ψ) (at40 bs) (Lifetime.g-begin 𝓤 H A W E G52 11 (tt, ((tt, tt), (tt, (tt, (tt, (tt, (tt,
               (tt, (tt, (tt, (tt, (tt, (tt, (tt, (tt, (tt, (tt, (tt, (tt, (tt, (tt, (tt, (tt, (tt, (tt, (tt, (tt, (tt, (tt, (tt, (tt, (tt, (tt, (tt,
-              (tt, (tt, (tt, (tt, (tt, tt),),),),),),),),),),),),),),),),),),),),),),),),),),),),),),),),),),),),),),)) d37
-          d39 : Typed.Typed 𝓤 H A 𝓣 E G51 b42 Δ0 (at39 bs)
-          d39 = Typed.s-seq 𝓤 H A W 𝓣 E G51 G52 b20 b41 Δ0 (Typed.ask (s50 bs)) (at38 bs) (Relend.t-sl-aggregate 𝓤 H A W E RelayPending.row 𝓣
-              (Relend.asMut RelayPending.row) G51 29 30 10 ref3 ref3 (λ x. x) (Scalar.oFld 1 ((Syntax.field 1) ∷ List.[]) (Syntax.tyInt Syntax.w64) 8
+              (tt, (tt, (tt, (tt, (tt, (tt, (tt, tt,),),),),),),),),),),),),),),),),),),),),),),),),),),),),),),),),),),),),),),),),)) d40
+          d42 : Typed.Typed 𝓤 H A 𝓣 E G51 b44 Δ0 (at42 bs)
+          d42 = Typed.s-seq 𝓤 H A W 𝓣 E G51 G52 b20 b43 Δ0 (Typed.ask (s50 bs)) (at41 bs) (Relend.t-sl-aggregate 𝓤 H A W E RelayPending.row 𝓣
+              (Relend.asMut RelayPending.row) G51 31 32 10 ref3 ref3 (λ x. x) (Scalar.oFld 1 ((Syntax.field 1) ∷ List.[]) (Syntax.tyInt Syntax.w64) 8
               λ v. Shared.lenV (v .0)) (Reads'.as-is 𝓤 H A (Relend.msptr RelayPending.row ref3 10)) (Reads'.room-gone 𝓤 H A (Syntax.tyStruct (38 ∷ 91
               ∷ 93 ∷ List.[]) (Syntax.tcons ref3 (Syntax.tcons (Syntax.tyInt Syntax.w64) Syntax.tnil)))) (Relend.reads-owed-len 𝓤 H A W
-              RelayPending.row ref7 0 10 life0 8 Path.refl, Path.refl,) Path.refl Path.refl λ b o k. tt) d38
-          d40 : Typed.Typed 𝓤 H A 𝓣 E G50 b43 Δ0 (at40 bs)
-          d40 = Typed.s-seq 𝓤 H A W 𝓣 E G50 G51 b19 b42 Δ0 (Typed.give (s49 bs)) (at39 bs) (Relend.t-sl-relend 𝓤 H A W E RelayPending.row 𝓣 G50 1 29 0
+              RelayPending.row ref7 0 10 life0 8 Path.refl, Path.refl,) Path.refl Path.refl λ b o k. tt) d41
+          d43 : Typed.Typed 𝓤 H A 𝓣 E G50 b45 Δ0 (at43 bs)
+          d43 = Typed.s-seq 𝓤 H A W 𝓣 E G50 G51 b19 b44 Δ0 (Typed.give (s49 bs)) (at42 bs) (Relend.t-sl-relend 𝓤 H A W E RelayPending.row 𝓣 G50 1 31 0
               10 ref7 ref3 life0 0 (λ x. x) (Reads'.as-is 𝓤 H A (Mut.mslice RelayPending.row ref7 0)) (Reads'.room-gone 𝓤 H A ref3) Path.refl tt
-              Path.refl Path.refl Path.refl λ b o. tt) d39
-          d41 : Typed.Typed 𝓤 H A 𝓣 E G49 b43 Δ0 (at41 bs)
-          d41 = Typed.g-pre 𝓤 H A W 𝓣 E G49 G50 b43 Δ0 (λ Ψ. Ψ) (at40 bs) (Lifetime.g-begin 𝓤 H A W E G49 10 (tt, (tt, (tt, (tt, (tt, (tt, (tt, (tt,
+              Path.refl Path.refl Path.refl λ b o. tt) d42
+          d44 : Typed.Typed 𝓤 H A 𝓣 E G49 b45 Δ0 (at44 bs)
+          d44 = Typed.g-pre 𝓤 H A W 𝓣 E G49 G50 b45 Δ0 (λ Ψ. Ψ) (at43 bs) (Lifetime.g-begin 𝓤 H A W E G49 10 (tt, (tt, (tt, (tt, (tt, (tt, (tt, (tt,
               (tt, (tt, (tt, (tt, (tt, (tt, (tt, (tt, (tt, (tt, (tt, (tt, (tt, (tt, (tt, (tt, (tt, (tt, (tt, (tt, (tt, (tt, (tt, (tt, (tt, (tt, (tt,
-              (tt, (tt, (tt, (tt, tt),),),),),),),),),),),),),),),),),),),),),),),),),),),),),),),),),),),),),),)) d40
-          d42 : Typed.Typed 𝓤 H A 𝓣 E G48 b44 Δ0 (at42 bs)
-          d42 = Typed.s-seq 𝓤 H A W 𝓣 E G48 G49 b18 b43 Δ0 (Typed.both (s47 bs)) (at41 bs) (WayStmt.t-way-copy-out 𝓤 H A W E 𝓣 (Declared'.row
+              (tt, (tt, (tt, (tt, (tt, (tt, tt,),),),),),),),),),),),),),),),),),),),),),),),),),),),),),),),),),),),),),),),),)) d43
+          d45 : Typed.Typed 𝓤 H A 𝓣 E G48 b46 Δ0 (at45 bs)
+          d45 = Typed.s-seq 𝓤 H A W 𝓣 E G48 G49 b18 b45 Δ0 (Typed.both (s47 bs)) (at44 bs) (WayStmt.t-way-copy-out 𝓤 H A W E 𝓣 (Declared'.row
               OpenedBody.the-type) Path.refl (Copies.cStruct OpenedBody.the-type Laws'.the-laws Laws'.the-copy .copy 𝓤 H A W) (λ ρ. Unit) G48 (Row.out
-              14 (G48 .locals)) (λ u. Row.drop 14 (G48 .locals) u) (G48 .slots) 14 (λ t. (Syntax.field 5) ∷ t) Laws'.mir Laws'.mir 19 (Rows.whole
+              15 (G48 .locals)) (λ u. Row.drop 15 (G48 .locals) u) (G48 .slots) 15 (λ t. (Syntax.field 5) ∷ t) Laws'.mir Laws'.mir 20 (Rows.whole
               (Declared'.row OpenedBody.the-type)) (λ x. x) (λ u. At.getAt (AcceptPlan.the-type .parts) 5 (AcceptPlan.struct .as-values (u .1 .1 .1 .1
-              .1 .1 .1 .1 .1 .1 .1 .1 .1 .1 .0))) (λ u. (Row.hd 0 (Row.tl (Row.tl (Row.tl (Row.tl (Row.tl (Row.tl (Row.tl (Row.tl (Row.tl (Row.tl
-              (Row.tl (Row.tl (Row.tl (Row.tl bs)))))))))))))), Nat._+_ 0 360,)) (λ T′. record { locals = Row.setRow 14 (14, Rows.whole (Declared'.row
-              AcceptPlan.the-type)) T′; slots = G48 .slots; }) (λ u T′ m′. Row.set 14 (14, Rows.whole (Declared'.row AcceptPlan.the-type)) (u .1 .1 .1
-              .1 .1 .1 .1 .1 .1 .1 .1 .1 .1 .1 .0) T′ m′) (λ u. Unit) (λ x. Unit) (Own.told-none 𝓤 H A (G48 .slots)) (DerefMove.learns-nothing 𝓤 H A
-              (Declared'.row OpenedBody.the-type)) (λ ρ told u asked. Way'.w-partˢ 𝓤 H A W E (Declared'.row AcceptPlan.the-type) (Declared'.row
-              OpenedBody.the-type) Laws''.mir Laws'.mir 5 360 (u .1 .1 .1 .1 .1 .1 .1 .1 .1 .1 .1 .1 .1 .1 .0) (At.getAt (AcceptPlan.the-type .parts)
-              5 (AcceptPlan.struct .as-values (u .1 .1 .1 .1 .1 .1 .1 .1 .1 .1 .1 .1 .1 .1 .0))) (Row.hd 0 (Row.tl (Row.tl (Row.tl (Row.tl (Row.tl
-              (Row.tl (Row.tl (Row.tl (Row.tl (Row.tl (Row.tl (Row.tl (Row.tl (Row.tl bs)))))))))))))), 0,) (Way.w-look 𝓤 H A W E (Way.w-local 𝓤 H A W
-              E G48 ρ u (G48 .slots) 14 (Declared'.row AcceptPlan.the-type) (Rows.whole (Declared'.row AcceptPlan.the-type)) (λ x. x) (λ x. x) (u .1
-              .1 .1 .1 .1 .1 .1 .1 .1 .1 .1 .1 .1 .1 .0) (Local.mem-whole 𝓤 H A W (Declared'.row AcceptPlan.the-type) ρ (u .1 .1 .1 .1 .1 .1 .1 .1 .1
-              .1 .1 .1 .1 .1 .0) (Row.hd 0 (Row.tl (Row.tl (Row.tl (Row.tl (Row.tl (Row.tl (Row.tl (Row.tl (Row.tl (Row.tl (Row.tl (Row.tl (Row.tl
-              (Row.tl bs)))))))))))))))) (Local.whole-mem 𝓤 H A W (Declared'.row AcceptPlan.the-type) ρ (u .1 .1 .1 .1 .1 .1 .1 .1 .1 .1 .1 .1 .1 .1
-              .0) (Row.hd 0 (Row.tl (Row.tl (Row.tl (Row.tl (Row.tl (Row.tl (Row.tl (Row.tl (Row.tl (Row.tl (Row.tl (Row.tl (Row.tl (Row.tl
-              bs)))))))))))))))))) Path.refl λ q. Inner.cut-record 𝓤 H A q (Declared'.row AcceptPlan.the-type) OpenedBody.the-type 360 (u .1 .1 .1 .1
-              .1 .1 .1 .1 .1 .1 .1 .1 .1 .1 .0) (u .1 .1 .1 .1 .1 .1 .1 .1 .1 .1 .1 .1 .1 .1 .0) (At.getAt (AcceptPlan.the-type .parts) 5
-              (AcceptPlan.struct .as-values (u .1 .1 .1 .1 .1 .1 .1 .1 .1 .1 .1 .1 .1 .1 .0))) (At.getAt (AcceptPlan.the-type .parts) 5
-              (AcceptPlan.struct .as-values (u .1 .1 .1 .1 .1 .1 .1 .1 .1 .1 .1 .1 .1 .1 .0))) (Row.hd 0 (Row.tl (Row.tl (Row.tl (Row.tl (Row.tl
-              (Row.tl (Row.tl (Row.tl (Row.tl (Row.tl (Row.tl (Row.tl (Row.tl (Row.tl bs)))))))))))))), 0,) (Behind.look-at 𝓤 H A W q
-              AcceptPlan.the-type Laws''.the-laws 5 360 Path.refl Path.refl (Row.hd 0 (Row.tl (Row.tl (Row.tl (Row.tl (Row.tl (Row.tl (Row.tl (Row.tl
-              (Row.tl (Row.tl (Row.tl (Row.tl (Row.tl (Row.tl bs)))))))))))))), 0,) (u .1 .1 .1 .1 .1 .1 .1 .1 .1 .1 .1 .1 .1 .1 .0)
-              (AcceptPlan.struct .as-values (u .1 .1 .1 .1 .1 .1 .1 .1 .1 .1 .1 .1 .1 .1 .0)) Path.refl)) (Reads'.room-gone 𝓤 H A Laws'.mir)
-              (Yields.makes-mem 𝓤 H A W (λ ρ. Unit) (Declared'.row OpenedBody.the-type) Path.refl (Rows.whole (Declared'.row OpenedBody.the-type)) (λ
-              x. x) λ ρ told. Local.whole-mem 𝓤 H A W (Declared'.row OpenedBody.the-type) ρ) Path.refl Path.refl Path.refl) d41
-          d43 : Typed.Typed 𝓤 H A 𝓣 E G47 b45 Δ0 (at43 bs)
-          d43 = Typed.s-seq 𝓤 H A W 𝓣 E G47 G48 b17 b44 Δ0 (Typed.both (s46 bs)) (at42 bs) (WayStmt.t-way-copy-out 𝓤 H A W E 𝓣 (Declared'.row
-              Outgoing.the-type) Path.refl (Copies.cStruct Outgoing.the-type Laws'''''.the-laws Laws'''''.the-copy .copy 𝓤 H A W) (λ ρ. Unit) G47
-              (Row.out 14 (G47 .locals)) (λ u. Row.drop 14 (G47 .locals) u) (G47 .slots) 14 (λ t. (Syntax.field 4) ∷ t) Laws'''''.mir Laws'''''.mir 18
-              (Rows.whole (Declared'.row Outgoing.the-type)) (λ x. x) (λ u. At.getAt (AcceptPlan.the-type .parts) 4 (AcceptPlan.struct .as-values (u
-              .1 .1 .1 .1 .1 .1 .1 .1 .1 .1 .1 .1 .1 .1 .0))) (λ u. (Row.hd 0 (Row.tl (Row.tl (Row.tl (Row.tl (Row.tl (Row.tl (Row.tl (Row.tl (Row.tl
-              (Row.tl (Row.tl (Row.tl (Row.tl (Row.tl bs)))))))))))))), Nat._+_ 0 184,)) (λ T′. record { locals = Row.setRow 14 (14, Rows.whole
-              (Declared'.row AcceptPlan.the-type)) T′; slots = G47 .slots; }) (λ u T′ m′. Row.set 14 (14, Rows.whole (Declared'.row
-              AcceptPlan.the-type)) (u .1 .1 .1 .1 .1 .1 .1 .1 .1 .1 .1 .1 .1 .1 .0) T′ m′) (λ u. Unit) (λ x. Unit) (Own.told-none 𝓤 H A (G47 .slots))
-              (DerefMove.learns-nothing 𝓤 H A (Declared'.row Outgoing.the-type)) (λ ρ told u asked. Way'.w-partˢ 𝓤 H A W E (Declared'.row
-              AcceptPlan.the-type) (Declared'.row Outgoing.the-type) Laws''.mir Laws'''''.mir 4 184 (u .1 .1 .1 .1 .1 .1 .1 .1 .1 .1 .1 .1 .1 .1 .0)
-              (At.getAt (AcceptPlan.the-type .parts) 4 (AcceptPlan.struct .as-values (u .1 .1 .1 .1 .1 .1 .1 .1 .1 .1 .1 .1 .1 .1 .0))) (Row.hd 0
-              (Row.tl (Row.tl (Row.tl (Row.tl (Row.tl (Row.tl (Row.tl (Row.tl (Row.tl (Row.tl (Row.tl (Row.tl (Row.tl (Row.tl bs)))))))))))))), 0,)
-              (Way.w-look 𝓤 H A W E (Way.w-local 𝓤 H A W E G47 ρ u (G47 .slots) 14 (Declared'.row AcceptPlan.the-type) (Rows.whole (Declared'.row
-              AcceptPlan.the-type)) (λ x. x) (λ x. x) (u .1 .1 .1 .1 .1 .1 .1 .1 .1 .1 .1 .1 .1 .1 .0) (Local.mem-whole 𝓤 H A W (Declared'.row
-              AcceptPlan.the-type) ρ (u .1 .1 .1 .1 .1 .1 .1 .1 .1 .1 .1 .1 .1 .1 .0) (Row.hd 0 (Row.tl (Row.tl (Row.tl (Row.tl (Row.tl (Row.tl
-              (Row.tl (Row.tl (Row.tl (Row.tl (Row.tl (Row.tl (Row.tl (Row.tl bs)))))))))))))))) (Local.whole-mem 𝓤 H A W (Declared'.row
-              AcceptPlan.the-type) ρ (u .1 .1 .1 .1 .1 .1 .1 .1 .1 .1 .1 .1 .1 .1 .0) (Row.hd 0 (Row.tl (Row.tl (Row.tl (Row.tl (Row.tl (Row.tl
-              (Row.tl (Row.tl (Row.tl (Row.tl (Row.tl (Row.tl (Row.tl (Row.tl bs)))))))))))))))))) Path.refl λ q. Inner.cut-record 𝓤 H A q
-              (Declared'.row AcceptPlan.the-type) Outgoing.the-type 184 (u .1 .1 .1 .1 .1 .1 .1 .1 .1 .1 .1 .1 .1 .1 .0) (u .1 .1 .1 .1 .1 .1 .1 .1 .1
-              .1 .1 .1 .1 .1 .0) (At.getAt (AcceptPlan.the-type .parts) 4 (AcceptPlan.struct .as-values (u .1 .1 .1 .1 .1 .1 .1 .1 .1 .1 .1 .1 .1 .1
-              .0))) (At.getAt (AcceptPlan.the-type .parts) 4 (AcceptPlan.struct .as-values (u .1 .1 .1 .1 .1 .1 .1 .1 .1 .1 .1 .1 .1 .1 .0))) (Row.hd
-              0 (Row.tl (Row.tl (Row.tl (Row.tl (Row.tl (Row.tl (Row.tl (Row.tl (Row.tl (Row.tl (Row.tl (Row.tl (Row.tl (Row.tl bs)))))))))))))), 0,)
-              (Behind.look-at 𝓤 H A W q AcceptPlan.the-type Laws''.the-laws 4 184 Path.refl Path.refl (Row.hd 0 (Row.tl (Row.tl (Row.tl (Row.tl
-              (Row.tl (Row.tl (Row.tl (Row.tl (Row.tl (Row.tl (Row.tl (Row.tl (Row.tl (Row.tl bs)))))))))))))), 0,) (u .1 .1 .1 .1 .1 .1 .1 .1 .1 .1
-              .1 .1 .1 .1 .0) (AcceptPlan.struct .as-values (u .1 .1 .1 .1 .1 .1 .1 .1 .1 .1 .1 .1 .1 .1 .0)) Path.refl)) (Reads'.room-gone 𝓤 H A
-              Laws'''''.mir) (Yields.makes-mem 𝓤 H A W (λ ρ. Unit) (Declared'.row Outgoing.the-type) Path.refl (Rows.whole (Declared'.row
-              Outgoing.the-type)) (λ x. x) λ ρ told. Local.whole-mem 𝓤 H A W (Declared'.row Outgoing.the-type) ρ) Path.refl Path.refl Path.refl) d42
-          d44 : Typed.Typed 𝓤 H A 𝓣 E G46 b46 Δ0 (at44 bs)
-          d44 = Typed.s-seq 𝓤 H A W 𝓣 E G46 G47 b16 b45 Δ0 (Typed.both (s45 bs)) (at43 bs) (WayStmt.t-way-copy-out 𝓤 H A W E 𝓣 (Declared'.row
-              OpaqueRelayRuntime.the-type) Path.refl (Copies.cStruct OpaqueRelayRuntime.the-type Laws'''''''''.the-laws Laws'''''''''.the-copy .copy 𝓤
-              H A W) (λ ρ. Unit) G46 (Row.out 14 (G46 .locals)) (λ u. Row.drop 14 (G46 .locals) u) (G46 .slots) 14 (λ t. (Syntax.field 3) ∷ t)
-              Laws'''''''''.mir Laws'''''''''.mir 17 (Rows.whole (Declared'.row OpaqueRelayRuntime.the-type)) (λ x. x) (λ u. At.getAt
-              (AcceptPlan.the-type .parts) 3 (AcceptPlan.struct .as-values (u .1 .1 .1 .1 .1 .1 .1 .1 .1 .1 .1 .1 .1 .1 .0))) (λ u. (Row.hd 0 (Row.tl
-              (Row.tl (Row.tl (Row.tl (Row.tl (Row.tl (Row.tl (Row.tl (Row.tl (Row.tl (Row.tl (Row.tl (Row.tl (Row.tl bs)))))))))))))), Nat._+_ 0
-              24,)) (λ T′. record { locals = Row.setRow 14 (14, Rows.whole (Declared'.row AcceptPlan.the-type)) T′; slots = G46 .slots; }) (λ u T′ m′.
-              Row.set 14 (14, Rows.whole (Declared'.row AcceptPlan.the-type)) (u .1 .1 .1 .1 .1 .1 .1 .1 .1 .1 .1 .1 .1 .1 .0) T′ m′) (λ u. Unit) (λ
-              x. Unit) (Own.told-none 𝓤 H A (G46 .slots)) (DerefMove.learns-nothing 𝓤 H A (Declared'.row OpaqueRelayRuntime.the-type)) (λ ρ told u
-              asked. Way'.w-partˢ 𝓤 H A W E (Declared'.row AcceptPlan.the-type) (Declared'.row OpaqueRelayRuntime.the-type) Laws''.mir
-              Laws'''''''''.mir 3 24 (u .1 .1 .1 .1 .1 .1 .1 .1 .1 .1 .1 .1 .1 .1 .0) (At.getAt (AcceptPlan.the-type .parts) 3 (AcceptPlan.struct
-              .as-values (u .1 .1 .1 .1 .1 .1 .1 .1 .1 .1 .1 .1 .1 .1 .0))) (Row.hd 0 (Row.tl (Row.tl (Row.tl (Row.tl (Row.tl (Row.tl (Row.tl (Row.tl
-              (Row.tl (Row.tl (Row.tl (Row.tl (Row.tl (Row.tl bs)))))))))))))), 0,) (Way.w-look 𝓤 H A W E (Way.w-local 𝓤 H A W E G46 ρ u (G46 .slots)
-              14 (Declared'.row AcceptPlan.the-type) (Rows.whole (Declared'.row AcceptPlan.the-type)) (λ x. x) (λ x. x) (u .1 .1 .1 .1 .1 .1 .1 .1 .1
-              .1 .1 .1 .1 .1 .0) (Local.mem-whole 𝓤 H A W (Declared'.row AcceptPlan.the-type) ρ (u .1 .1 .1 .1 .1 .1 .1 .1 .1 .1 .1 .1 .1 .1 .0)
-              (Row.hd 0 (Row.tl (Row.tl (Row.tl (Row.tl (Row.tl (Row.tl (Row.tl (Row.tl (Row.tl (Row.tl (Row.tl (Row.tl (Row.tl (Row.tl
-              bs)))))))))))))))) (Local.whole-mem 𝓤 H A W (Declared'.row AcceptPlan.the-type) ρ (u .1 .1 .1 .1 .1 .1 .1 .1 .1 .1 .1 .1 .1 .1 .0)
-              (Row.hd 0 (Row.tl (Row.tl (Row.tl (Row.tl (Row.tl (Row.tl (Row.tl (Row.tl (Row.tl (Row.tl (Row.tl (Row.tl (Row.tl (Row.tl
-              bs)))))))))))))))))) Path.refl λ q. Inner.cut-record 𝓤 H A q (Declared'.row AcceptPlan.the-type) OpaqueRelayRuntime.the-type 24 (u .1 .1
-              .1 .1 .1 .1 .1 .1 .1 .1 .1 .1 .1 .1 .0) (u .1 .1 .1 .1 .1 .1 .1 .1 .1 .1 .1 .1 .1 .1 .0) (At.getAt (AcceptPlan.the-type .parts) 3
-              (AcceptPlan.struct .as-values (u .1 .1 .1 .1 .1 .1 .1 .1 .1 .1 .1 .1 .1 .1 .0))) (At.getAt (AcceptPlan.the-type .parts) 3
-              (AcceptPlan.struct .as-values (u .1 .1 .1 .1 .1 .1 .1 .1 .1 .1 .1 .1 .1 .1 .0))) (Row.hd 0 (Row.tl (Row.tl (Row.tl (Row.tl (Row.tl
-              (Row.tl (Row.tl (Row.tl (Row.tl (Row.tl (Row.tl (Row.tl (Row.tl (Row.tl bs)))))))))))))), 0,) (Behind.look-at 𝓤 H A W q
-              AcceptPlan.the-type Laws''.the-laws 3 24 Path.refl Path.refl (Row.hd 0 (Row.tl (Row.tl (Row.tl (Row.tl (Row.tl (Row.tl (Row.tl (Row.tl
-              (Row.tl (Row.tl (Row.tl (Row.tl (Row.tl (Row.tl bs)))))))))))))), 0,) (u .1 .1 .1 .1 .1 .1 .1 .1 .1 .1 .1 .1 .1 .1 .0)
-              (AcceptPlan.struct .as-values (u .1 .1 .1 .1 .1 .1 .1 .1 .1 .1 .1 .1 .1 .1 .0)) Path.refl)) (Reads'.room-gone 𝓤 H A Laws'''''''''.mir)
-              (Yields.makes-mem 𝓤 H A W (λ ρ. Unit) (Declared'.row OpaqueRelayRuntime.the-type) Path.refl (Rows.whole (Declared'.row
-              OpaqueRelayRuntime.the-type)) (λ x. x) λ ρ told. Local.whole-mem 𝓤 H A W (Declared'.row OpaqueRelayRuntime.the-type) ρ) Path.refl
-              Path.refl Path.refl) d43
-          d45 : Typed.Typed 𝓤 H A 𝓣 E G45 b46 Δ0 (at45 bs)
-          d45 = Typed.g-pre 𝓤 H A W 𝓣 E G45 G46 b46 Δ0 (Typed.pass T45 T46 (s44 bs)) (at44 bs) (Scalar.g-room 𝓤 H A W E G45 12 Laws''''.mir
-              (Local.room-whole 𝓤 H A W (Declared'.row OpaqueRelayConfig.the-type) Laws''''.mir Path.refl)) d44
-          d46 : Typed.Typed 𝓤 H A 𝓣 E G44 b46 Δ0 (at46 bs)
-          d46 = Typed.g-pre 𝓤 H A W 𝓣 E G44 G45 b46 Δ0 (Typed.pass T44 T45 (s43 bs)) (at45 bs) (Scalar.g-room 𝓤 H A W E G44 11 Laws.mir
-              (Local.room-whole 𝓤 H A W (Declared'.row AcceptRead.the-type) Laws.mir Path.refl)) d45
-          d47 : Typed.Typed 𝓤 H A 𝓣 E G43 b46 Δ0 (at47 bs)
-          d47 = Typed.g-pre 𝓤 H A W 𝓣 E G43 G44 b46 Δ0 (Typed.pass T43 T44 (s42 bs)) (at46 bs) (Scalar.g-room 𝓤 H A W E G43 10 Laws''''''.mir
-              (Local.room-whole 𝓤 H A W (Declared'.row PendingFound.the-type) Laws''''''.mir Path.refl)) d46
-          d48 : Typed.Typed 𝓤 H A 𝓣 E G42 b47 Δ0 (at48 bs)
-          d48 = Typed.s-seq 𝓤 H A W 𝓣 E G42 G43 b15 b46 Δ0 (Typed.both (s41 bs)) (at47 bs) (Plain.t-call-plain 𝓤 H A W 𝓣 0 ps·6 r·6 (claims· .12)
-              (claims· .13) "hnsr_circuit::accept::circuit_for" (known .6) E (λ pos β. β) G42 (record { pos = 12; st = List.[]; d = 0; at = λ x. x },
-              (record { pos = 10; st = List.[]; d = 0; at = λ x. x }, (record { pos = 11; st = List.[]; d = 0; at = λ x. x }, tt),),) 16 List.[]
+              .1 .1 .1 .1 .1 .1 .1 .1 .1 .1 .1 .0))) (λ u. (Row.hd 0 (Row.tl (Row.tl (Row.tl (Row.tl (Row.tl (Row.tl (Row.tl (Row.tl (Row.tl (Row.tl
+              (Row.tl (Row.tl (Row.tl (Row.tl (Row.tl bs))))))))))))))), Nat._+_ 0 360,)) (λ T′. record { locals = Row.setRow 15 (15, Rows.whole
+              (Declared'.row AcceptPlan.the-type)) T′; slots = G48 .slots; }) (λ u T′ m′. Row.set 15 (15, Rows.whole (Declared'.row
+              AcceptPlan.the-type)) (u .1 .1 .1 .1 .1 .1 .1 .1 .1 .1 .1 .1 .1 .1 .1 .0) T′ m′) (λ u. Unit) (λ x. Unit) (Own.told-none 𝓤 H A (G48
+              .slots)) (DerefMove.learns-nothing 𝓤 H A (Declared'.row OpenedBody.the-type)) (λ ρ told u asked. Way'.w-partˢ 𝓤 H A W E (Declared'.row
+              AcceptPlan.the-type) (Declared'.row OpenedBody.the-type) Laws''.mir Laws'.mir 5 360 (u .1 .1 .1 .1 .1 .1 .1 .1 .1 .1 .1 .1 .1 .1 .1 .0)
+              (At.getAt (AcceptPlan.the-type .parts) 5 (AcceptPlan.struct .as-values (u .1 .1 .1 .1 .1 .1 .1 .1 .1 .1 .1 .1 .1 .1 .1 .0))) (Row.hd 0
+              (Row.tl (Row.tl (Row.tl (Row.tl (Row.tl (Row.tl (Row.tl (Row.tl (Row.tl (Row.tl (Row.tl (Row.tl (Row.tl (Row.tl (Row.tl
+              bs))))))))))))))), 0,) (Way.w-look 𝓤 H A W E (Way.w-local 𝓤 H A W E G48 ρ u (G48 .slots) 15 (Declared'.row AcceptPlan.the-type)
+              (Rows.whole (Declared'.row AcceptPlan.the-type)) (λ x. x) (λ x. x) (u .1 .1 .1 .1 .1 .1 .1 .1 .1 .1 .1 .1 .1 .1 .1 .0) (Local.mem-whole
+              𝓤 H A W (Declared'.row AcceptPlan.the-type) ρ (u .1 .1 .1 .1 .1 .1 .1 .1 .1 .1 .1 .1 .1 .1 .1 .0) (Row.hd 0 (Row.tl (Row.tl (Row.tl
+              (Row.tl (Row.tl (Row.tl (Row.tl (Row.tl (Row.tl (Row.tl (Row.tl (Row.tl (Row.tl (Row.tl (Row.tl bs))))))))))))))))) (Local.whole-mem 𝓤 H
+              A W (Declared'.row AcceptPlan.the-type) ρ (u .1 .1 .1 .1 .1 .1 .1 .1 .1 .1 .1 .1 .1 .1 .1 .0) (Row.hd 0 (Row.tl (Row.tl (Row.tl (Row.tl
+              (Row.tl (Row.tl (Row.tl (Row.tl (Row.tl (Row.tl (Row.tl (Row.tl (Row.tl (Row.tl (Row.tl bs))))))))))))))))))) Path.refl λ q.
+              Inner.cut-record 𝓤 H A q (Declared'.row AcceptPlan.the-type) OpenedBody.the-type 360 (u .1 .1 .1 .1 .1 .1 .1 .1 .1 .1 .1 .1 .1 .1 .1 .0)
+              (u .1 .1 .1 .1 .1 .1 .1 .1 .1 .1 .1 .1 .1 .1 .1 .0) (At.getAt (AcceptPlan.the-type .parts) 5 (AcceptPlan.struct .as-values (u .1 .1 .1
+              .1 .1 .1 .1 .1 .1 .1 .1 .1 .1 .1 .1 .0))) (At.getAt (AcceptPlan.the-type .parts) 5 (AcceptPlan.struct .as-values (u .1 .1 .1 .1 .1 .1 .1
+              .1 .1 .1 .1 .1 .1 .1 .1 .0))) (Row.hd 0 (Row.tl (Row.tl (Row.tl (Row.tl (Row.tl (Row.tl (Row.tl (Row.tl (Row.tl (Row.tl (Row.tl (Row.tl
+              (Row.tl (Row.tl (Row.tl bs))))))))))))))), 0,) (Behind.look-at 𝓤 H A W q AcceptPlan.the-type Laws''.the-laws 5 360 Path.refl Path.refl
+              (Row.hd 0 (Row.tl (Row.tl (Row.tl (Row.tl (Row.tl (Row.tl (Row.tl (Row.tl (Row.tl (Row.tl (Row.tl (Row.tl (Row.tl (Row.tl (Row.tl
+              bs))))))))))))))), 0,) (u .1 .1 .1 .1 .1 .1 .1 .1 .1 .1 .1 .1 .1 .1 .1 .0) (AcceptPlan.struct .as-values (u .1 .1 .1 .1 .1 .1 .1 .1 .1
+              .1 .1 .1 .1 .1 .1 .0)) Path.refl)) (Reads'.room-gone 𝓤 H A Laws'.mir) (Yields.makes-mem 𝓤 H A W (λ ρ. Unit) (Declared'.row
+              OpenedBody.the-type) Path.refl (Rows.whole (Declared'.row OpenedBody.the-type)) (λ x. x) λ ρ told. Local.whole-mem 𝓤 H A W
+              (Declared'.row OpenedBody.the-type) ρ) Path.refl Path.refl Path.refl) d44
+          d46 : Typed.Typed 𝓤 H A 𝓣 E G47 b47 Δ0 (at46 bs)
+          d46 = Typed.s-seq 𝓤 H A W 𝓣 E G47 G48 b17 b46 Δ0 (Typed.both (s46 bs)) (at45 bs) (WayStmt.t-way-copy-out 𝓤 H A W E 𝓣 (Declared'.row
+              Outgoing.the-type) Path.refl (Copies.cStruct Outgoing.the-type Laws''''''.the-laws Laws''''''.the-copy .copy 𝓤 H A W) (λ ρ. Unit) G47
+              (Row.out 15 (G47 .locals)) (λ u. Row.drop 15 (G47 .locals) u) (G47 .slots) 15 (λ t. (Syntax.field 4) ∷ t) Laws''''''.mir Laws''''''.mir
+              19 (Rows.whole (Declared'.row Outgoing.the-type)) (λ x. x) (λ u. At.getAt (AcceptPlan.the-type .parts) 4 (AcceptPlan.struct .as-values
+              (u .1 .1 .1 .1 .1 .1 .1 .1 .1 .1 .1 .1 .1 .1 .1 .0))) (λ u. (Row.hd 0 (Row.tl (Row.tl (Row.tl (Row.tl (Row.tl (Row.tl (Row.tl (Row.tl
+              (Row.tl (Row.tl (Row.tl (Row.tl (Row.tl (Row.tl (Row.tl bs))))))))))))))), Nat._+_ 0 184,)) (λ T′. record { locals = Row.setRow 15 (15,
+              Rows.whole (Declared'.row AcceptPlan.the-type)) T′; slots = G47 .slots; }) (λ u T′ m′. Row.set 15 (15, Rows.whole (Declared'.row
+              AcceptPlan.the-type)) (u .1 .1 .1 .1 .1 .1 .1 .1 .1 .1 .1 .1 .1 .1 .1 .0) T′ m′) (λ u. Unit) (λ x. Unit) (Own.told-none 𝓤 H A (G47
+              .slots)) (DerefMove.learns-nothing 𝓤 H A (Declared'.row Outgoing.the-type)) (λ ρ told u asked. Way'.w-partˢ 𝓤 H A W E (Declared'.row
+              AcceptPlan.the-type) (Declared'.row Outgoing.the-type) Laws''.mir Laws''''''.mir 4 184 (u .1 .1 .1 .1 .1 .1 .1 .1 .1 .1 .1 .1 .1 .1 .1
+              .0) (At.getAt (AcceptPlan.the-type .parts) 4 (AcceptPlan.struct .as-values (u .1 .1 .1 .1 .1 .1 .1 .1 .1 .1 .1 .1 .1 .1 .1 .0))) (Row.hd
+              0 (Row.tl (Row.tl (Row.tl (Row.tl (Row.tl (Row.tl (Row.tl (Row.tl (Row.tl (Row.tl (Row.tl (Row.tl (Row.tl (Row.tl (Row.tl
+              bs))))))))))))))), 0,) (Way.w-look 𝓤 H A W E (Way.w-local 𝓤 H A W E G47 ρ u (G47 .slots) 15 (Declared'.row AcceptPlan.the-type)
+              (Rows.whole (Declared'.row AcceptPlan.the-type)) (λ x. x) (λ x. x) (u .1 .1 .1 .1 .1 .1 .1 .1 .1 .1 .1 .1 .1 .1 .1 .0) (Local.mem-whole
+              𝓤 H A W (Declared'.row AcceptPlan.the-type) ρ (u .1 .1 .1 .1 .1 .1 .1 .1 .1 .1 .1 .1 .1 .1 .1 .0) (Row.hd 0 (Row.tl (Row.tl (Row.tl
+              (Row.tl (Row.tl (Row.tl (Row.tl (Row.tl (Row.tl (Row.tl (Row.tl (Row.tl (Row.tl (Row.tl (Row.tl bs))))))))))))))))) (Local.whole-mem 𝓤 H
+              A W (Declared'.row AcceptPlan.the-type) ρ (u .1 .1 .1 .1 .1 .1 .1 .1 .1 .1 .1 .1 .1 .1 .1 .0) (Row.hd 0 (Row.tl (Row.tl (Row.tl (Row.tl
+              (Row.tl (Row.tl (Row.tl (Row.tl (Row.tl (Row.tl (Row.tl (Row.tl (Row.tl (Row.tl (Row.tl bs))))))))))))))))))) Path.refl λ q.
+              Inner.cut-record 𝓤 H A q (Declared'.row AcceptPlan.the-type) Outgoing.the-type 184 (u .1 .1 .1 .1 .1 .1 .1 .1 .1 .1 .1 .1 .1 .1 .1 .0)
+              (u .1 .1 .1 .1 .1 .1 .1 .1 .1 .1 .1 .1 .1 .1 .1 .0) (At.getAt (AcceptPlan.the-type .parts) 4 (AcceptPlan.struct .as-values (u .1 .1 .1
+              .1 .1 .1 .1 .1 .1 .1 .1 .1 .1 .1 .1 .0))) (At.getAt (AcceptPlan.the-type .parts) 4 (AcceptPlan.struct .as-values (u .1 .1 .1 .1 .1 .1 .1
+              .1 .1 .1 .1 .1 .1 .1 .1 .0))) (Row.hd 0 (Row.tl (Row.tl (Row.tl (Row.tl (Row.tl (Row.tl (Row.tl (Row.tl (Row.tl (Row.tl (Row.tl (Row.tl
+              (Row.tl (Row.tl (Row.tl bs))))))))))))))), 0,) (Behind.look-at 𝓤 H A W q AcceptPlan.the-type Laws''.the-laws 4 184 Path.refl Path.refl
+              (Row.hd 0 (Row.tl (Row.tl (Row.tl (Row.tl (Row.tl (Row.tl (Row.tl (Row.tl (Row.tl (Row.tl (Row.tl (Row.tl (Row.tl (Row.tl (Row.tl
+              bs))))))))))))))), 0,) (u .1 .1 .1 .1 .1 .1 .1 .1 .1 .1 .1 .1 .1 .1 .1 .0) (AcceptPlan.struct .as-values (u .1 .1 .1 .1 .1 .1 .1 .1 .1
+              .1 .1 .1 .1 .1 .1 .0)) Path.refl)) (Reads'.room-gone 𝓤 H A Laws''''''.mir) (Yields.makes-mem 𝓤 H A W (λ ρ. Unit) (Declared'.row
+              Outgoing.the-type) Path.refl (Rows.whole (Declared'.row Outgoing.the-type)) (λ x. x) λ ρ told. Local.whole-mem 𝓤 H A W (Declared'.row
+              Outgoing.the-type) ρ) Path.refl Path.refl Path.refl) d45
+          d47 : Typed.Typed 𝓤 H A 𝓣 E G46 b48 Δ0 (at47 bs)
+          d47 = Typed.s-seq 𝓤 H A W 𝓣 E G46 G47 b16 b47 Δ0 (Typed.both (s45 bs)) (at46 bs) (WayStmt.t-way-copy-out 𝓤 H A W E 𝓣 (Declared'.row
+              OpaqueRelayRuntime.the-type) Path.refl (Copies.cStruct OpaqueRelayRuntime.the-type Laws''''''''''.the-laws Laws''''''''''.the-copy .copy
+              𝓤 H A W) (λ ρ. Unit) G46 (Row.out 15 (G46 .locals)) (λ u. Row.drop 15 (G46 .locals) u) (G46 .slots) 15 (λ t. (Syntax.field 3) ∷ t)
+              Laws''''''''''.mir Laws''''''''''.mir 18 (Rows.whole (Declared'.row OpaqueRelayRuntime.the-type)) (λ x. x) (λ u. At.getAt
+              (AcceptPlan.the-type .parts) 3 (AcceptPlan.struct .as-values (u .1 .1 .1 .1 .1 .1 .1 .1 .1 .1 .1 .1 .1 .1 .1 .0))) (λ u. (Row.hd 0
+              (Row.tl (Row.tl (Row.tl (Row.tl (Row.tl (Row.tl (Row.tl (Row.tl (Row.tl (Row.tl (Row.tl (Row.tl (Row.tl (Row.tl (Row.tl
+              bs))))))))))))))), Nat._+_ 0 24,)) (λ T′. record { locals = Row.setRow 15 (15, Rows.whole (Declared'.row AcceptPlan.the-type)) T′; slots
+              = G46 .slots; }) (λ u T′ m′. Row.set 15 (15, Rows.whole (Declared'.row AcceptPlan.the-type)) (u .1 .1 .1 .1 .1 .1 .1 .1 .1 .1 .1 .1 .1
+              .1 .1 .0) T′ m′) (λ u. Unit) (λ x. Unit) (Own.told-none 𝓤 H A (G46 .slots)) (DerefMove.learns-nothing 𝓤 H A (Declared'.row
+              OpaqueRelayRuntime.the-type)) (λ ρ told u asked. Way'.w-partˢ 𝓤 H A W E (Declared'.row AcceptPlan.the-type) (Declared'.row
+              OpaqueRelayRuntime.the-type) Laws''.mir Laws''''''''''.mir 3 24 (u .1 .1 .1 .1 .1 .1 .1 .1 .1 .1 .1 .1 .1 .1 .1 .0) (At.getAt
+              (AcceptPlan.the-type .parts) 3 (AcceptPlan.struct .as-values (u .1 .1 .1 .1 .1 .1 .1 .1 .1 .1 .1 .1 .1 .1 .1 .0))) (Row.hd 0 (Row.tl
+              (Row.tl (Row.tl (Row.tl (Row.tl (Row.tl (Row.tl (Row.tl (Row.tl (Row.tl (Row.tl (Row.tl (Row.tl (Row.tl (Row.tl bs))))))))))))))), 0,)
+              (Way.w-look 𝓤 H A W E (Way.w-local 𝓤 H A W E G46 ρ u (G46 .slots) 15 (Declared'.row AcceptPlan.the-type) (Rows.whole (Declared'.row
+              AcceptPlan.the-type)) (λ x. x) (λ x. x) (u .1 .1 .1 .1 .1 .1 .1 .1 .1 .1 .1 .1 .1 .1 .1 .0) (Local.mem-whole 𝓤 H A W (Declared'.row
+              AcceptPlan.the-type) ρ (u .1 .1 .1 .1 .1 .1 .1 .1 .1 .1 .1 .1 .1 .1 .1 .0) (Row.hd 0 (Row.tl (Row.tl (Row.tl (Row.tl (Row.tl (Row.tl
+              (Row.tl (Row.tl (Row.tl (Row.tl (Row.tl (Row.tl (Row.tl (Row.tl (Row.tl bs))))))))))))))))) (Local.whole-mem 𝓤 H A W (Declared'.row
+              AcceptPlan.the-type) ρ (u .1 .1 .1 .1 .1 .1 .1 .1 .1 .1 .1 .1 .1 .1 .1 .0) (Row.hd 0 (Row.tl (Row.tl (Row.tl (Row.tl (Row.tl (Row.tl
+              (Row.tl (Row.tl (Row.tl (Row.tl (Row.tl (Row.tl (Row.tl (Row.tl (Row.tl bs))))))))))))))))))) Path.refl λ q. Inner.cut-record 𝓤 H A q
+              (Declared'.row AcceptPlan.the-type) OpaqueRelayRuntime.the-type 24 (u .1 .1 .1 .1 .1 .1 .1 .1 .1 .1 .1 .1 .1 .1 .1 .0) (u .1 .1 .1 .1 .1
+              .1 .1 .1 .1 .1 .1 .1 .1 .1 .1 .0) (At.getAt (AcceptPlan.the-type .parts) 3 (AcceptPlan.struct .as-values (u .1 .1 .1 .1 .1 .1 .1 .1 .1
+              .1 .1 .1 .1 .1 .1 .0))) (At.getAt (AcceptPlan.the-type .parts) 3 (AcceptPlan.struct .as-values (u .1 .1 .1 .1 .1 .1 .1 .1 .1 .1 .1 .1 .1
+              .1 .1 .0))) (Row.hd 0 (Row.tl (Row.tl (Row.tl (Row.tl (Row.tl (Row.tl (Row.tl (Row.tl (Row.tl (Row.tl (Row.tl (Row.tl (Row.tl (Row.tl
+              (Row.tl bs))))))))))))))), 0,) (Behind.look-at 𝓤 H A W q AcceptPlan.the-type Laws''.the-laws 3 24 Path.refl Path.refl (Row.hd 0 (Row.tl
+              (Row.tl (Row.tl (Row.tl (Row.tl (Row.tl (Row.tl (Row.tl (Row.tl (Row.tl (Row.tl (Row.tl (Row.tl (Row.tl (Row.tl bs))))))))))))))), 0,)
+              (u .1 .1 .1 .1 .1 .1 .1 .1 .1 .1 .1 .1 .1 .1 .1 .0) (AcceptPlan.struct .as-values (u .1 .1 .1 .1 .1 .1 .1 .1 .1 .1 .1 .1 .1 .1 .1 .0))
+              Path.refl)) (Reads'.room-gone 𝓤 H A Laws''''''''''.mir) (Yields.makes-mem 𝓤 H A W (λ ρ. Unit) (Declared'.row
+              OpaqueRelayRuntime.the-type) Path.refl (Rows.whole (Declared'.row OpaqueRelayRuntime.the-type)) (λ x. x) λ ρ told. Local.whole-mem 𝓤 H A
+              W (Declared'.row OpaqueRelayRuntime.the-type) ρ) Path.refl Path.refl Path.refl) d46
+          d48 : Typed.Typed 𝓤 H A 𝓣 E G45 b48 Δ0 (at48 bs)
+          d48 = Typed.g-pre 𝓤 H A W 𝓣 E G45 G46 b48 Δ0 (Typed.pass T45 T46 (s44 bs)) (at47 bs) (Scalar.g-room 𝓤 H A W E G45 13 Laws''''.mir
+              (Local.room-whole 𝓤 H A W (Declared'.row OpaqueRelayConfig.the-type) Laws''''.mir Path.refl)) d47
+          d49 : Typed.Typed 𝓤 H A 𝓣 E G44 b48 Δ0 (at49 bs)
+          d49 = Typed.g-pre 𝓤 H A W 𝓣 E G44 G45 b48 Δ0 (Typed.pass T44 T45 (s43 bs)) (at48 bs) (Scalar.g-room 𝓤 H A W E G44 12 Laws.mir
+              (Local.room-whole 𝓤 H A W (Declared'.row AcceptRead.the-type) Laws.mir Path.refl)) d48
+          d50 : Typed.Typed 𝓤 H A 𝓣 E G43 b48 Δ0 (at50 bs)
+          d50 = Typed.g-pre 𝓤 H A W 𝓣 E G43 G44 b48 Δ0 (Typed.pass T43 T44 (s42 bs)) (at49 bs) (Scalar.g-room 𝓤 H A W E G43 11 Laws'''''''.mir
+              (Local.room-whole 𝓤 H A W (Declared'.row PendingFound.the-type) Laws'''''''.mir Path.refl)) d49
+          d51 : Typed.Typed 𝓤 H A 𝓣 E G42 b49 Δ0 (at51 bs)
+          d51 = Typed.s-seq 𝓤 H A W 𝓣 E G42 G43 b15 b48 Δ0 (Typed.both (s41 bs)) (at50 bs) (Plain.t-call-plain 𝓤 H A W 𝓣 0 ps·6 r·6 (claims· .12)
+              (claims· .13) "hnsr_circuit::accept::circuit_for" (known .6) E (λ pos β. β) G42 (record { pos = 13; st = List.[]; d = 0; at = λ x. x },
+              (record { pos = 11; st = List.[]; d = 0; at = λ x. x }, (record { pos = 12; st = List.[]; d = 0; at = λ x. x }, tt),),) 17 List.[]
               (Call.sub-id 𝓤 H A W (G42 .slots)) ((Yields.yields-copy 𝓤 H A W (λ ρ. Unit) (Declared'.row OpaqueRelayConfig.the-type) Path.refl
               (Copies.cStruct OpaqueRelayConfig.the-type Laws''''.the-laws Laws''''.the-copy .copy 𝓤 H A W) (Rows.whole (Declared'.row
               OpaqueRelayConfig.the-type)) (λ x. x) (λ x. x) (λ ρ told. Local.mem-whole 𝓤 H A W (Declared'.row OpaqueRelayConfig.the-type) ρ) λ ρ
               told. Local.whole-mem 𝓤 H A W (Declared'.row OpaqueRelayConfig.the-type) ρ, Path.refl,), ((Yields.yields-copy 𝓤 H A W (λ ρ. Unit)
-              (Declared'.row PendingFound.the-type) Path.refl (Copies.cStruct PendingFound.the-type Laws''''''.the-laws Laws''''''.the-copy .copy 𝓤 H
-              A W) (Rows.whole (Declared'.row PendingFound.the-type)) (λ x. x) (λ x. x) (λ ρ told. Local.mem-whole 𝓤 H A W (Declared'.row
+              (Declared'.row PendingFound.the-type) Path.refl (Copies.cStruct PendingFound.the-type Laws'''''''.the-laws Laws'''''''.the-copy .copy 𝓤
+              H A W) (Rows.whole (Declared'.row PendingFound.the-type)) (λ x. x) (λ x. x) (λ ρ told. Local.mem-whole 𝓤 H A W (Declared'.row
               PendingFound.the-type) ρ) λ ρ told. Local.whole-mem 𝓤 H A W (Declared'.row PendingFound.the-type) ρ, Path.refl,), ((Yields.yields-copy 𝓤
               H A W (λ ρ. Unit) (Declared'.row AcceptRead.the-type) Path.refl (Copies.cStruct AcceptRead.the-type Laws.the-laws Laws.the-copy .copy 𝓤
               H A W) (Rows.whole (Declared'.row AcceptRead.the-type)) (λ x. x) (λ x. x) (λ ρ told. Local.mem-whole 𝓤 H A W (Declared'.row
               AcceptRead.the-type) ρ) λ ρ told. Local.whole-mem 𝓤 H A W (Declared'.row AcceptRead.the-type) ρ, Path.refl,), tt,),),) (Reads'.room-gone
-              𝓤 H A RelayCircuit.ty) tt Path.refl) d47
-          d49 : Typed.Typed 𝓤 H A 𝓣 E G41 b48 Δ0 (at49 bs)
-          d49 = Typed.s-seq 𝓤 H A W 𝓣 E G41 G42 b14 b47 Δ0 (Typed.both (s40 bs)) (at48 bs) (Plain.t-call-plain 𝓤 H A W 𝓣 0 ps·5 r·5 (claims· .10)
-              (claims· .11) "hnsr_circuit::accept::found_unmarked" (known .5) E (λ pos β. β) G41 (record { pos = 10; st = List.[]; d = 0; at = λ x. x
-              }, tt) 15 List.[] (Call.sub-id 𝓤 H A W (G41 .slots)) ((Yields.yields-copy 𝓤 H A W (λ ρ. Unit) (Declared'.row PendingFound.the-type)
-              Path.refl (Copies.cStruct PendingFound.the-type Laws''''''.the-laws Laws''''''.the-copy .copy 𝓤 H A W) (Rows.whole (Declared'.row
+              𝓤 H A RelayCircuit.ty) tt Path.refl) d50
+          d52 : Typed.Typed 𝓤 H A 𝓣 E G41 b50 Δ0 (at52 bs)
+          d52 = Typed.s-seq 𝓤 H A W 𝓣 E G41 G42 b14 b49 Δ0 (Typed.both (s40 bs)) (at51 bs) (Plain.t-call-plain 𝓤 H A W 𝓣 0 ps·5 r·5 (claims· .10)
+              (claims· .11) "hnsr_circuit::accept::found_unmarked" (known .5) E (λ pos β. β) G41 (record { pos = 11; st = List.[]; d = 0; at = λ x. x
+              }, tt) 16 List.[] (Call.sub-id 𝓤 H A W (G41 .slots)) ((Yields.yields-copy 𝓤 H A W (λ ρ. Unit) (Declared'.row PendingFound.the-type)
+              Path.refl (Copies.cStruct PendingFound.the-type Laws'''''''.the-laws Laws'''''''.the-copy .copy 𝓤 H A W) (Rows.whole (Declared'.row
               PendingFound.the-type)) (λ x. x) (λ x. x) (λ ρ told. Local.mem-whole 𝓤 H A W (Declared'.row PendingFound.the-type) ρ) λ ρ told.
               Local.whole-mem 𝓤 H A W (Declared'.row PendingFound.the-type) ρ, Path.refl,), tt,) (Reads'.room-gone 𝓤 H A RelayPending.ty) tt
-              Path.refl) d48
-          d50 : Typed.Typed 𝓤 H A 𝓣 E G40 b48 Δ0 (at50 bs)
-          d50 = Typed.g-pre 𝓤 H A W 𝓣 E G40 G41 b48 Δ0 (Typed.pass T40 T41 (s39 bs)) (at49 bs) (Scalar.g-room 𝓤 H A W E G40 5 Laws'''''''''.mir
-              (Local.room-whole 𝓤 H A W (Declared'.row OpaqueRelayRuntime.the-type) Laws'''''''''.mir Path.refl)) d49
-          d51 : Typed.Typed 𝓤 H A 𝓣 E G39 b49 Δ0 (at51 bs)
-          d51 = Typed.s-seq 𝓤 H A W 𝓣 E G39 G40 b13 b48 Δ0 (Typed.both (s38 bs)) (at50 bs) (Plain.t-call-plain 𝓤 H A W 𝓣 0 ps·4 r·4 (claims· .8)
-              (claims· .9) "hnsr_circuit::accept::accept_plan" (known .4) E (λ pos β. β) G39 (record { pos = 13; st = List.[]; d = 0; at = λ x. x },
-              (record { pos = 5; st = List.[]; d = 0; at = λ x. x }, (record { pos = 10; st = List.[]; d = 0; at = λ x. x }, (record { pos = 11; st =
-              List.[]; d = 0; at = λ x. x }, tt),),),) 14 List.[] (Call.sub-id 𝓤 H A W (G39 .slots)) ((Yields.yields-copy 𝓤 H A W (λ ρ. Unit)
+              Path.refl) d51
+          d53 : Typed.Typed 𝓤 H A 𝓣 E G40 b50 Δ0 (at53 bs)
+          d53 = Typed.g-pre 𝓤 H A W 𝓣 E G40 G41 b50 Δ0 (Typed.pass T40 T41 (s39 bs)) (at52 bs) (Scalar.g-room 𝓤 H A W E G40 5 Laws''''''''''.mir
+              (Local.room-whole 𝓤 H A W (Declared'.row OpaqueRelayRuntime.the-type) Laws''''''''''.mir Path.refl)) d52
+          d54 : Typed.Typed 𝓤 H A 𝓣 E G39 b51 Δ0 (at54 bs)
+          d54 = Typed.s-seq 𝓤 H A W 𝓣 E G39 G40 b13 b50 Δ0 (Typed.both (s38 bs)) (at53 bs) (Plain.t-call-plain 𝓤 H A W 𝓣 0 ps·4 r·4 (claims· .8)
+              (claims· .9) "hnsr_circuit::accept::accept_plan" (known .4) E (λ pos β. β) G39 (record { pos = 14; st = List.[]; d = 0; at = λ x. x },
+              (record { pos = 5; st = List.[]; d = 0; at = λ x. x }, (record { pos = 11; st = List.[]; d = 0; at = λ x. x }, (record { pos = 12; st =
+              List.[]; d = 0; at = λ x. x }, tt),),),) 15 List.[] (Call.sub-id 𝓤 H A W (G39 .slots)) ((Yields.yields-copy 𝓤 H A W (λ ρ. Unit)
               (Declared.row HnsrAnswer.the-type) Path.refl (Copies.cEnum HnsrAnswer.the-type Laws'''.the-laws Laws'''.the-copy .copy 𝓤 H A W)
               (Rows.whole (Declared.row HnsrAnswer.the-type)) (λ x. x) (λ x. x) (λ ρ told. Local.mem-whole 𝓤 H A W (Declared.row HnsrAnswer.the-type)
               ρ) λ ρ told. Local.whole-mem 𝓤 H A W (Declared.row HnsrAnswer.the-type) ρ, Path.refl,), ((Yields.yields-copy 𝓤 H A W (λ ρ. Unit)
-              (Declared'.row OpaqueRelayRuntime.the-type) Path.refl (Copies.cStruct OpaqueRelayRuntime.the-type Laws'''''''''.the-laws
-              Laws'''''''''.the-copy .copy 𝓤 H A W) (Rows.whole (Declared'.row OpaqueRelayRuntime.the-type)) (λ x. x) (λ x. x) (λ ρ told.
+              (Declared'.row OpaqueRelayRuntime.the-type) Path.refl (Copies.cStruct OpaqueRelayRuntime.the-type Laws''''''''''.the-laws
+              Laws''''''''''.the-copy .copy 𝓤 H A W) (Rows.whole (Declared'.row OpaqueRelayRuntime.the-type)) (λ x. x) (λ x. x) (λ ρ told.
               Local.mem-whole 𝓤 H A W (Declared'.row OpaqueRelayRuntime.the-type) ρ) λ ρ told. Local.whole-mem 𝓤 H A W (Declared'.row
               OpaqueRelayRuntime.the-type) ρ, Path.refl,), ((Yields.yields-copy 𝓤 H A W (λ ρ. Unit) (Declared'.row PendingFound.the-type) Path.refl
-              (Copies.cStruct PendingFound.the-type Laws''''''.the-laws Laws''''''.the-copy .copy 𝓤 H A W) (Rows.whole (Declared'.row
+              (Copies.cStruct PendingFound.the-type Laws'''''''.the-laws Laws'''''''.the-copy .copy 𝓤 H A W) (Rows.whole (Declared'.row
               PendingFound.the-type)) (λ x. x) (λ x. x) (λ ρ told. Local.mem-whole 𝓤 H A W (Declared'.row PendingFound.the-type) ρ) λ ρ told.
               Local.whole-mem 𝓤 H A W (Declared'.row PendingFound.the-type) ρ, Path.refl,), ((Yields.yields-copy 𝓤 H A W (λ ρ. Unit) (Declared'.row
               AcceptRead.the-type) Path.refl (Copies.cStruct AcceptRead.the-type Laws.the-laws Laws.the-copy .copy 𝓤 H A W) (Rows.whole (Declared'.row
               AcceptRead.the-type)) (λ x. x) (λ x. x) (λ ρ told. Local.mem-whole 𝓤 H A W (Declared'.row AcceptRead.the-type) ρ) λ ρ told.
               Local.whole-mem 𝓤 H A W (Declared'.row AcceptRead.the-type) ρ, Path.refl,), tt,),),),) (Reads'.room-gone 𝓤 H A Laws''.mir) tt Path.refl)
-              d50
-          d52 : Typed.Typed 𝓤 H A 𝓣 E G38 b49 Δ0 (at52 bs)
-          d52 = Typed.g-pre 𝓤 H A W 𝓣 E G38 G39 b49 Δ0 (λ Ψ. Ψ) (at51 bs) (Lifetime.g-forget 𝓤 H A W E G38 9 Row.dead Path.refl) d51
-          d53 : Typed.Typed 𝓤 H A 𝓣 E G37 b49 Δ0 (at53 bs)
-          d53 = Typed.g-pre 𝓤 H A W 𝓣 E G37 G38 b49 Δ0 (Typed.pass T35 T38 (s36 bs)) (at52 bs) (Reshare.g-back-sl-shr 𝓤 H A W E InflightAction.row G37
-              3 2 9 ref9 life2 (λ x. x) (Reads'.as-is 𝓤 H A (Reshare.mslice-owedS InflightAction.row ref9 2 9 life2)) Path.refl Path.refl) d52
-          d54 : Typed.Typed 𝓤 H A 𝓣 E G36 b49 Δ0 (at54 bs)
-          d54 = Typed.g-pre 𝓤 H A W 𝓣 E G36 G37 b49 Δ0 (λ Ψ. Ψ) (at53 bs) (Lifetime.g-end 𝓤 H A W E G36 9 Path.refl) d53
-          d55 : Typed.Typed 𝓤 H A 𝓣 E G35 b49 Δ0 (at55 bs)
-          d55 = Typed.g-pre 𝓤 H A W 𝓣 E G35 G36 b49 Δ0 (λ Ψ. Ψ) (at54 bs) (Lifetime.g-forget 𝓤 H A W E G35 8 Row.dead Path.refl) d54
-          d56 : Typed.Typed 𝓤 H A 𝓣 E G34 b49 Δ0 (at56 bs)
-          d56 = Typed.g-pre 𝓤 H A W 𝓣 E G34 G35 b49 Δ0 (Typed.pass T32 T35 (s33 bs)) (at55 bs) (Reshare.g-back-sl-shr 𝓤 H A W E RelayCircuit.row G34 2
-              1 8 ref8 life1 (λ x. x) (Reads'.as-is 𝓤 H A (Reshare.mslice-owedS RelayCircuit.row ref8 1 8 life1)) Path.refl Path.refl) d55
-          d57 : Typed.Typed 𝓤 H A 𝓣 E G33 b49 Δ0 (at57 bs)
-          d57 = Typed.g-pre 𝓤 H A W 𝓣 E G33 G34 b49 Δ0 (λ Ψ. Ψ) (at56 bs) (Lifetime.g-end 𝓤 H A W E G33 8 Path.refl) d56
-          d58 : Typed.Typed 𝓤 H A 𝓣 E G32 b49 Δ0 (at58 bs)
-          d58 = Typed.g-pre 𝓤 H A W 𝓣 E G32 G33 b49 Δ0 (λ Ψ. Ψ) (at57 bs) (Lifetime.g-forget 𝓤 H A W E G32 7 Row.dead Path.refl) d57
-          d59 : Typed.Typed 𝓤 H A 𝓣 E G31 b49 Δ0 (at59 bs)
-          d59 = Typed.g-pre 𝓤 H A W 𝓣 E G31 G32 b49 Δ0 (Typed.pass T30 T32 (s30 bs)) (at58 bs) (Reshare.g-back-sl-shr 𝓤 H A W E RelayPending.row G31 1
-              0 7 ref7 life0 (λ x. x) (Reads'.as-is 𝓤 H A (Reshare.mslice-owedS RelayPending.row ref7 0 7 life0)) Path.refl Path.refl) d58
-          d60 : Typed.Typed 𝓤 H A 𝓣 E G30 b49 Δ0 (at60 bs)
-          d60 = Typed.g-pre 𝓤 H A W 𝓣 E G30 G31 b49 Δ0 (λ Ψ. Ψ) (at59 bs) (Lifetime.g-end 𝓤 H A W E G30 7 Path.refl) d59
-          d61 : Typed.Typed 𝓤 H A 𝓣 E G29 b49 Δ0 (at61 bs)
-          d61 = Typed.g-pre 𝓤 H A W 𝓣 E G29 G30 b49 Δ0 (Typed.pass T29 T30 (s28 bs)) (at60 bs) (Scalar.g-room 𝓤 H A W E G29 6 Laws''''''''.mir
-              (Local.room-whole 𝓤 H A W (Declared'.row RelayPacket.the-type) Laws''''''''.mir Path.refl)) d60
-          d62 : Typed.Typed 𝓤 H A 𝓣 E G28 b49 Δ0 (at62 bs)
-          d62 = Typed.g-pre 𝓤 H A W 𝓣 E G28 G29 b49 Δ0 (Typed.pass T28 T29 (s27 bs)) (at61 bs) (Scalar.g-room 𝓤 H A W E G28 27 (Syntax.tyStruct (38 ∷
+              d53
+          d55 : Typed.Typed 𝓤 H A 𝓣 E G38 b51 Δ0 (at55 bs)
+          d55 = Typed.g-pre 𝓤 H A W 𝓣 E G38 G39 b51 Δ0 (λ Ψ. Ψ) (at54 bs) (Lifetime.g-forget 𝓤 H A W E G38 9 Row.dead Path.refl) d54
+          d56 : Typed.Typed 𝓤 H A 𝓣 E G37 b51 Δ0 (at56 bs)
+          d56 = Typed.g-pre 𝓤 H A W 𝓣 E G37 G38 b51 Δ0 (Typed.pass T35 T38 (s36 bs)) (at55 bs) (Reshare.g-back-sl-shr 𝓤 H A W E InflightAction.row G37
+              3 2 9 ref9 life2 (λ x. x) (Reads'.as-is 𝓤 H A (Reshare.mslice-owedS InflightAction.row ref9 2 9 life2)) Path.refl Path.refl) d55
+          d57 : Typed.Typed 𝓤 H A 𝓣 E G36 b51 Δ0 (at57 bs)
+          d57 = Typed.g-pre 𝓤 H A W 𝓣 E G36 G37 b51 Δ0 (λ Ψ. Ψ) (at56 bs) (Lifetime.g-end 𝓤 H A W E G36 9 Path.refl) d56
+          d58 : Typed.Typed 𝓤 H A 𝓣 E G35 b51 Δ0 (at58 bs)
+          d58 = Typed.g-pre 𝓤 H A W 𝓣 E G35 G36 b51 Δ0 (λ Ψ. Ψ) (at57 bs) (Lifetime.g-forget 𝓤 H A W E G35 8 Row.dead Path.refl) d57
+          d59 : Typed.Typed 𝓤 H A 𝓣 E G34 b51 Δ0 (at59 bs)
+          d59 = Typed.g-pre 𝓤 H A W 𝓣 E G34 G35 b51 Δ0 (Typed.pass T32 T35 (s33 bs)) (at58 bs) (Reshare.g-back-sl-shr 𝓤 H A W E RelayCircuit.row G34 2
+              1 8 ref8 life1 (λ x. x) (Reads'.as-is 𝓤 H A (Reshare.mslice-owedS RelayCircuit.row ref8 1 8 life1)) Path.refl Path.refl) d58
+          d60 : Typed.Typed 𝓤 H A 𝓣 E G33 b51 Δ0 (at60 bs)
+          d60 = Typed.g-pre 𝓤 H A W 𝓣 E G33 G34 b51 Δ0 (λ Ψ. Ψ) (at59 bs) (Lifetime.g-end 𝓤 H A W E G33 8 Path.refl) d59
+          d61 : Typed.Typed 𝓤 H A 𝓣 E G32 b51 Δ0 (at61 bs)
+          d61 = Typed.g-pre 𝓤 H A W 𝓣 E G32 G33 b51 Δ0 (λ Ψ. Ψ) (at60 bs) (Lifetime.g-forget 𝓤 H A W E G32 7 Row.dead Path.refl) d60
+          d62 : Typed.Typed 𝓤 H A 𝓣 E G31 b51 Δ0 (at62 bs)
+          d62 = Typed.g-pre 𝓤 H A W 𝓣 E G31 G32 b51 Δ0 (Typed.pass T30 T32 (s30 bs)) (at61 bs) (Reshare.g-back-sl-shr 𝓤 H A W E RelayPending.row G31 1
+              0 7 ref7 life0 (λ x. x) (Reads'.as-is 𝓤 H A (Reshare.mslice-owedS RelayPending.row ref7 0 7 life0)) Path.refl Path.refl) d61
+          d63 : Typed.Typed 𝓤 H A 𝓣 E G30 b51 Δ0 (at63 bs)
+          d63 = Typed.g-pre 𝓤 H A W 𝓣 E G30 G31 b51 Δ0 (λ Ψ. Ψ) (at62 bs) (Lifetime.g-end 𝓤 H A W E G30 7 Path.refl) d62
+          d64 : Typed.Typed 𝓤 H A 𝓣 E G29 b51 Δ0 (at64 bs)
+          d64 = Typed.g-pre 𝓤 H A W 𝓣 E G29 G30 b51 Δ0 (Typed.pass T29 T30 (s28 bs)) (at63 bs) (Scalar.g-room 𝓤 H A W E G29 7 Laws'''''''''.mir
+              (Local.room-whole 𝓤 H A W (Declared'.row RelayPacket.the-type) Laws'''''''''.mir Path.refl)) d63
+          d65 : Typed.Typed 𝓤 H A 𝓣 E G28 b51 Δ0 (at65 bs)
+          d65 = Typed.g-pre 𝓤 H A W 𝓣 E G28 G29 b51 Δ0 (Typed.pass T28 T29 (s27 bs)) (at64 bs) (Scalar.g-room 𝓤 H A W E G28 30 (Syntax.tyStruct (38 ∷
               91 ∷ 93 ∷ List.[]) (Syntax.tcons ref2 (Syntax.tcons (Syntax.tyInt Syntax.w64) Syntax.tnil))) (Shared.room-sslice 𝓤 H A W
-              InflightAction.row ref2 9)) d61
-          d63 : Typed.Typed 𝓤 H A 𝓣 E G27 b49 Δ0 (at63 bs)
-          d63 = Typed.g-pre 𝓤 H A W 𝓣 E G27 G28 b49 Δ0 (Typed.pass T27 T28 (s26 bs)) (at62 bs) (Scalar.g-room 𝓤 H A W E G27 25 (Syntax.tyStruct (38 ∷
+              InflightAction.row ref2 9)) d64
+          d66 : Typed.Typed 𝓤 H A 𝓣 E G27 b51 Δ0 (at66 bs)
+          d66 = Typed.g-pre 𝓤 H A W 𝓣 E G27 G28 b51 Δ0 (Typed.pass T27 T28 (s26 bs)) (at65 bs) (Scalar.g-room 𝓤 H A W E G27 28 (Syntax.tyStruct (38 ∷
               91 ∷ 93 ∷ List.[]) (Syntax.tcons ref1 (Syntax.tcons (Syntax.tyInt Syntax.w64) Syntax.tnil))) (Shared.room-sslice 𝓤 H A W
-              RelayCircuit.row ref1 8)) d62
-          d64 : Typed.Typed 𝓤 H A 𝓣 E G26 b49 Δ0 (at64 bs)
-          d64 = Typed.g-pre 𝓤 H A W 𝓣 E G26 G27 b49 Δ0 (Typed.pass T26 T27 (s25 bs)) (at63 bs) (Scalar.g-room 𝓤 H A W E G26 23 (Syntax.tyStruct (38 ∷
+              RelayCircuit.row ref1 8)) d65
+          d67 : Typed.Typed 𝓤 H A 𝓣 E G26 b51 Δ0 (at67 bs)
+          d67 = Typed.g-pre 𝓤 H A W 𝓣 E G26 G27 b51 Δ0 (Typed.pass T26 T27 (s25 bs)) (at66 bs) (Scalar.g-room 𝓤 H A W E G26 26 (Syntax.tyStruct (38 ∷
               91 ∷ 93 ∷ List.[]) (Syntax.tcons ref0 (Syntax.tcons (Syntax.tyInt Syntax.w64) Syntax.tnil))) (Shared.room-sslice 𝓤 H A W
-              RelayPending.row ref0 7)) d63
-          d65 : Typed.Typed 𝓤 H A 𝓣 E G25 b50 Δ0 (at65 bs)
-          d65 = Typed.s-seq 𝓤 H A W 𝓣 E G25 G26 b12 b49 Δ0 (Typed.both (s24 bs)) (at64 bs) (Plain.t-call-plain 𝓤 H A W 𝓣 4 ps·3 r·3 (claims· .6)
-              (claims· .7) "hnsr_circuit::handle_accept::accept_answered" (known .3) E (λ pos β. β) G25 (record { pos = 23; ty = Syntax.tyRef
-              Syntax.erased Syntax.imm RelayPending.to; ref = λ x. x; }, (record { pos = 25; ty = Syntax.tyRef Syntax.erased Syntax.imm
-              RelayCircuit.to; ref = λ x. x; }, (record { pos = 27; ty = Syntax.tyRef Syntax.erased Syntax.imm InflightAction.to; ref = λ x. x; },
-              (record { pos = 12; st = List.[]; d = 0; at = λ x. x }, (record { pos = 6; st = List.[]; d = 0; at = λ x. x }, (record { pos = 10; st =
-              List.[]; d = 0; at = λ x. x }, (record { pos = 11; st = List.[]; d = 0; at = λ x. x }, (record { pos = 7; ty = Syntax.tyRef
-              (Syntax.named 4) Syntax.imm (Syntax.tyInt Syntax.w8); ref = λ x. x; }, tt,),),),),),),),) 13 (7 ∷ 8 ∷ 9 ∷ 4 ∷ List.[]) (Call.sub-id 𝓤 H
-              A W (G25 .slots)) (ShrSlice.spares-sslice 𝓤 H A W RelayPending.row ref0 7, Shared.reads-sslice 𝓤 H A W RelayPending.row ref0 7,
-              Path.refl, (ShrSlice.spares-sslice 𝓤 H A W RelayCircuit.row ref1 8, Shared.reads-sslice 𝓤 H A W RelayCircuit.row ref1 8, Path.refl,
-              (ShrSlice.spares-sslice 𝓤 H A W InflightAction.row ref2 9, Shared.reads-sslice 𝓤 H A W InflightAction.row ref2 9, Path.refl,
-              ((Yields.yields-copy 𝓤 H A W (λ ρ. Unit) (Declared'.row OpaqueRelayConfig.the-type) Path.refl (Copies.cStruct OpaqueRelayConfig.the-type
-              Laws''''.the-laws Laws''''.the-copy .copy 𝓤 H A W) (Rows.whole (Declared'.row OpaqueRelayConfig.the-type)) (λ x. x) (λ x. x) (λ ρ told.
-              Local.mem-whole 𝓤 H A W (Declared'.row OpaqueRelayConfig.the-type) ρ) λ ρ told. Local.whole-mem 𝓤 H A W (Declared'.row
-              OpaqueRelayConfig.the-type) ρ, Path.refl,), ((Yields.yields-copy 𝓤 H A W (λ ρ. Unit) (Declared'.row RelayPacket.the-type) Path.refl
-              (Copies.cStruct RelayPacket.the-type Laws''''''''.the-laws Laws''''''''.the-copy .copy 𝓤 H A W) (Rows.whole (Declared'.row
-              RelayPacket.the-type)) (λ x. x) (λ x. x) (λ ρ told. Local.mem-whole 𝓤 H A W (Declared'.row RelayPacket.the-type) ρ) λ ρ told.
-              Local.whole-mem 𝓤 H A W (Declared'.row RelayPacket.the-type) ρ, Path.refl,), ((Yields.yields-copy 𝓤 H A W (λ ρ. Unit) (Declared'.row
-              PendingFound.the-type) Path.refl (Copies.cStruct PendingFound.the-type Laws''''''.the-laws Laws''''''.the-copy .copy 𝓤 H A W)
-              (Rows.whole (Declared'.row PendingFound.the-type)) (λ x. x) (λ x. x) (λ ρ told. Local.mem-whole 𝓤 H A W (Declared'.row
-              PendingFound.the-type) ρ) λ ρ told. Local.whole-mem 𝓤 H A W (Declared'.row PendingFound.the-type) ρ, Path.refl,), ((Yields.yields-copy 𝓤
-              H A W (λ ρ. Unit) (Declared'.row AcceptRead.the-type) Path.refl (Copies.cStruct AcceptRead.the-type Laws.the-laws Laws.the-copy .copy 𝓤
-              H A W) (Rows.whole (Declared'.row AcceptRead.the-type)) (λ x. x) (λ x. x) (λ ρ told. Local.mem-whole 𝓤 H A W (Declared'.row
-              AcceptRead.the-type) ρ) λ ρ told. Local.whole-mem 𝓤 H A W (Declared'.row AcceptRead.the-type) ρ, Path.refl,), (ShrSlice.spares-sslice 𝓤
-              H A W (Referent.rtF (Referent.fInt Syntax.w8)) ref11 4, Shared.reads-sslice 𝓤 H A W (Referent.rtF (Referent.fInt Syntax.w8)) ref11 4,
-              Path.refl, tt,),),),),),),),) (Reads'.room-gone 𝓤 H A Laws'''.mir) (tt, (tt, (tt, (tt, tt)))) Path.refl) d64
-          d66 : Typed.Typed 𝓤 H A 𝓣 E G24 b51 Δ0 (at66 bs)
-          d66 = Typed.s-seq 𝓤 H A W 𝓣 E G24 G25 b11 b50 Δ0 (Typed.ask (s23 bs)) (at65 bs) (Relend.t-sl-aggregate 𝓤 H A W E InflightAction.row 𝓣
-              (Relend.asShr InflightAction.row) G24 26 27 9 ref2 ref2 (λ x. x) (Scalar.oFld 3 ((Syntax.field 1) ∷ List.[]) (Syntax.tyInt Syntax.w64) 8
+              RelayPending.row ref0 7)) d66
+          d68 : Typed.Typed 𝓤 H A 𝓣 E G25 b52 Δ0 (at68 bs)
+          d68 = Typed.s-seq 𝓤 H A W 𝓣 E G25 G26 b12 b51 Δ0 (Typed.both (s24 bs)) (at67 bs) (Plain.t-call-plain 𝓤 H A W 𝓣 4 ps·3 r·3 (claims· .6)
+              (claims· .7) "hnsr_circuit::handle_accept::accept_answered" (known .3) E (λ pos β. β) G25 (record { pos = 26; ty = Syntax.tyRef
+              Syntax.erased Syntax.imm RelayPending.to; ref = λ x. x; }, (record { pos = 28; ty = Syntax.tyRef Syntax.erased Syntax.imm
+              RelayCircuit.to; ref = λ x. x; }, (record { pos = 30; ty = Syntax.tyRef Syntax.erased Syntax.imm InflightAction.to; ref = λ x. x; },
+              (record { pos = 6; st = List.[]; d = 0; at = λ x. x }, (record { pos = 13; st = List.[]; d = 0; at = λ x. x }, (record { pos = 7; st =
+              List.[]; d = 0; at = λ x. x }, (record { pos = 11; st = List.[]; d = 0; at = λ x. x }, (record { pos = 12; st = List.[]; d = 0; at = λ
+              x. x }, (record { pos = 8; ty = Syntax.tyRef (Syntax.named 4) Syntax.imm (Syntax.tyInt Syntax.w8); ref = λ x. x; }, tt,),),),),),),),),)
+              14 (7 ∷ 8 ∷ 9 ∷ 4 ∷ List.[]) (Call.sub-id 𝓤 H A W (G25 .slots)) (ShrSlice.spares-sslice 𝓤 H A W RelayPending.row ref0 7,
+              Shared.reads-sslice 𝓤 H A W RelayPending.row ref0 7, Path.refl, (ShrSlice.spares-sslice 𝓤 H A W RelayCircuit.row ref1 8,
+              Shared.reads-sslice 𝓤 H A W RelayCircuit.row ref1 8, Path.refl, (ShrSlice.spares-sslice 𝓤 H A W InflightAction.row ref2 9,
+              Shared.reads-sslice 𝓤 H A W InflightAction.row ref2 9, Path.refl, ((Yields.yields-copy 𝓤 H A W (λ ρ. Unit) (Declared'.row
+              Places.the-type) Path.refl (Copies.cStruct Places.the-type Laws'''''.the-laws Laws'''''.the-copy .copy 𝓤 H A W) (Rows.whole
+              (Declared'.row Places.the-type)) (λ x. x) (λ x. x) (λ ρ told. Local.mem-whole 𝓤 H A W (Declared'.row Places.the-type) ρ) λ ρ told.
+              Local.whole-mem 𝓤 H A W (Declared'.row Places.the-type) ρ, Path.refl,), ((Yields.yields-copy 𝓤 H A W (λ ρ. Unit) (Declared'.row
+              OpaqueRelayConfig.the-type) Path.refl (Copies.cStruct OpaqueRelayConfig.the-type Laws''''.the-laws Laws''''.the-copy .copy 𝓤 H A W)
+              (Rows.whole (Declared'.row OpaqueRelayConfig.the-type)) (λ x. x) (λ x. x) (λ ρ told. Local.mem-whole 𝓤 H A W (Declared'.row
+              OpaqueRelayConfig.the-type) ρ) λ ρ told. Local.whole-mem 𝓤 H A W (Declared'.row OpaqueRelayConfig.the-type) ρ, Path.refl,),
+              ((Yields.yields-copy 𝓤 H A W (λ ρ. Unit) (Declared'.row RelayPacket.the-type) Path.refl (Copies.cStruct RelayPacket.the-type
+              Laws'''''''''.the-laws Laws'''''''''.the-copy .copy 𝓤 H A W) (Rows.whole (Declared'.row RelayPacket.the-type)) (λ x. x) (λ x. x) (λ ρ
+              told. Local.mem-whole 𝓤 H A W (Declared'.row RelayPacket.the-type) ρ) λ ρ told. Local.whole-mem 𝓤 H A W (Declared'.row
+              RelayPacket.the-type) ρ, Path.refl,), ((Yields.yields-copy 𝓤 H A W (λ ρ. Unit) (Declared'.row PendingFound.the-type) Path.refl
+              (Copies.cStruct PendingFound.the-type Laws'''''''.the-laws Laws'''''''.the-copy .copy 𝓤 H A W) (Rows.whole (Declared'.row
+              PendingFound.the-type)) (λ x. x) (λ x. x) (λ ρ told. Local.mem-whole 𝓤 H A W (Declared'.row PendingFound.the-type) ρ) λ ρ told.
+              Local.whole-mem 𝓤 H A W (Declared'.row PendingFound.the-type) ρ, Path.refl,), ((Yields.yields-copy 𝓤 H A W (λ ρ. Unit) (Declared'.row
+              AcceptRead.the-type) Path.refl (Copies.cStruct AcceptRead.the-type Laws.the-laws Laws.the-copy .copy 𝓤 H A W) (Rows.whole (Declared'.row
+              AcceptRead.the-type)) (λ x. x) (λ x. x) (λ ρ told. Local.mem-whole 𝓤 H A W (Declared'.row AcceptRead.the-type) ρ) λ ρ told.
+              Local.whole-mem 𝓤 H A W (Declared'.row AcceptRead.the-type) ρ, Path.refl,), (ShrSlice.spares-sslice 𝓤 H A W (Referent.rtF (Referent.fInt
+              Syntax.w8)) ref11 4, Shared.reads-sslice 𝓤 H A W (Referent.rtF (Referent.fInt Syntax.w8)) ref11 4, Path.refl, tt,),),),),),),),),)
+              (Reads'.room-gone 𝓤 H A Laws'''.mir) (tt, (tt, (tt, (tt, tt)))) Path.refl) d67
+          d69 : Typed.Typed 𝓤 H A 𝓣 E G24 b53 Δ0 (at69 bs)
+          d69 = Typed.s-seq 𝓤 H A W 𝓣 E G24 G25 b11 b52 Δ0 (Typed.ask (s23 bs)) (at68 bs) (Relend.t-sl-aggregate 𝓤 H A W E InflightAction.row 𝓣
+              (Relend.asShr InflightAction.row) G24 29 30 9 ref2 ref2 (λ x. x) (Scalar.oFld 3 ((Syntax.field 1) ∷ List.[]) (Syntax.tyInt Syntax.w64) 8
               λ v. Shared.lenV (v .0)) (Reads'.as-is 𝓤 H A (Relend.ssptr InflightAction.row ref2 9)) (Reads'.room-gone 𝓤 H A (Syntax.tyStruct (38 ∷ 91
               ∷ 93 ∷ List.[]) (Syntax.tcons ref2 (Syntax.tcons (Syntax.tyInt Syntax.w64) Syntax.tnil)))) (Reshare.reads-owedS-len 𝓤 H A W
-              InflightAction.row ref9 2 9 life2 8 Path.refl, Path.refl,) Path.refl Path.refl λ b o k. tt) d65
-          d67 : Typed.Typed 𝓤 H A 𝓣 E G23 b52 Δ0 (at67 bs)
-          d67 = Typed.s-seq 𝓤 H A W 𝓣 E G23 G24 b10 b51 Δ0 (Typed.give (s22 bs)) (at66 bs) (Reshare.t-sl-reshare 𝓤 H A W E InflightAction.row 𝓣 G23 3
-              26 2 9 ref9 ref2 life2 0 (λ x. x) (Reads'.as-is 𝓤 H A (Mut.mslice InflightAction.row ref9 2)) (Reads'.room-gone 𝓤 H A ref2) Path.refl tt
-              Path.refl Path.refl Path.refl λ b o. tt) d66
-          d68 : Typed.Typed 𝓤 H A 𝓣 E G22 b52 Δ0 (at68 bs)
-          d68 = Typed.g-pre 𝓤 H A W 𝓣 E G22 G23 b52 Δ0 (λ Ψ. Ψ) (at67 bs) (Lifetime.g-begin 𝓤 H A W E G22 9 (tt, ((tt, tt), ((tt, tt), (tt, (tt, (tt,
+              InflightAction.row ref9 2 9 life2 8 Path.refl, Path.refl,) Path.refl Path.refl λ b o k. tt) d68
+          d70 : Typed.Typed 𝓤 H A 𝓣 E G23 b54 Δ0 (at70 bs)
+          d70 = Typed.s-seq 𝓤 H A W 𝓣 E G23 G24 b10 b53 Δ0 (Typed.give (s22 bs)) (at69 bs) (Reshare.t-sl-reshare 𝓤 H A W E InflightAction.row 𝓣 G23 3
+              29 2 9 ref9 ref2 life2 0 (λ x. x) (Reads'.as-is 𝓤 H A (Mut.mslice InflightAction.row ref9 2)) (Reads'.room-gone 𝓤 H A ref2) Path.refl tt
+              Path.refl Path.refl Path.refl λ b o. tt) d69
+          d71 : Typed.Typed 𝓤 H A 𝓣 E G22 b54 Δ0 (at71 bs)
+          d71 = Typed.g-pre 𝓤 H A W 𝓣 E G22 G23 b54 Δ0 (λ Ψ. Ψ) (at70 bs) (Lifetime.g-begin 𝓤 H A W E G22 9 (tt, ((tt, tt), ((tt, tt), (tt, (tt, (tt,
               (tt, (tt, (tt, (tt, (tt, (tt, (tt, (tt, (tt, (tt, (tt, (tt, (tt, (tt, (tt, (tt, (tt, (tt, (tt, (tt, (tt, (tt, (tt, (tt, (tt, (tt, (tt,
-              (tt, (tt, (tt, (tt, (tt, (tt, tt),),),),),),),),),),),),),),),),),),),),),),),),),),),),),),),),),),),),),),)) d67
-          d69 : Typed.Typed 𝓤 H A 𝓣 E G21 b53 Δ0 (at69 bs)
-          d69 = Typed.s-seq 𝓤 H A W 𝓣 E G21 G22 b9 b52 Δ0 (Typed.ask (s20 bs)) (at68 bs) (Relend.t-sl-aggregate 𝓤 H A W E RelayCircuit.row 𝓣
-              (Relend.asShr RelayCircuit.row) G21 24 25 8 ref1 ref1 (λ x. x) (Scalar.oFld 2 ((Syntax.field 1) ∷ List.[]) (Syntax.tyInt Syntax.w64) 8 λ
+              (tt, (tt, (tt, (tt, (tt, (tt, (tt, (tt, tt,),),),),),),),),),),),),),),),),),),),),),),),),),),),),),),),),),),),),),),),),)) d70
+          d72 : Typed.Typed 𝓤 H A 𝓣 E G21 b55 Δ0 (at72 bs)
+          d72 = Typed.s-seq 𝓤 H A W 𝓣 E G21 G22 b9 b54 Δ0 (Typed.ask (s20 bs)) (at71 bs) (Relend.t-sl-aggregate 𝓤 H A W E RelayCircuit.row 𝓣
+              (Relend.asShr RelayCircuit.row) G21 27 28 8 ref1 ref1 (λ x. x) (Scalar.oFld 2 ((Syntax.field 1) ∷ List.[]) (Syntax.tyInt Syntax.w64) 8 λ
               v. Shared.lenV (v .0)) (Reads'.as-is 𝓤 H A (Relend.ssptr RelayCircuit.row ref1 8)) (Reads'.room-gone 𝓤 H A (Syntax.tyStruct (38 ∷ 91 ∷
               93 ∷ List.[]) (Syntax.tcons ref1 (Syntax.tcons (Syntax.tyInt Syntax.w64) Syntax.tnil)))) (Reshare.reads-owedS-len 𝓤 H A W
-              RelayCircuit.row ref8 1 8 life1 8 Path.refl, Path.refl,) Path.refl Path.refl λ b o k. tt) d68
-          d70 : Typed.Typed 𝓤 H A 𝓣 E G20 b54 Δ0 (at70 bs)
-          d70 = Typed.s-seq 𝓤 H A W 𝓣 E G20 G21 b8 b53 Δ0 (Typed.give (s19 bs)) (at69 bs) (Reshare.t-sl-reshare 𝓤 H A W E RelayCircuit.row 𝓣 G20 2 24
+              RelayCircuit.row ref8 1 8 life1 8 Path.refl, Path.refl,) Path.refl Path.refl λ b o k. tt) d71
+          d73 : Typed.Typed 𝓤 H A 𝓣 E G20 b56 Δ0 (at73 bs)
+          d73 = Typed.s-seq 𝓤 H A W 𝓣 E G20 G21 b8 b55 Δ0 (Typed.give (s19 bs)) (at72 bs) (Reshare.t-sl-reshare 𝓤 H A W E RelayCircuit.row 𝓣 G20 2 27
               1 8 ref8 ref1 life1 0 (λ x. x) (Reads'.as-is 𝓤 H A (Mut.mslice RelayCircuit.row ref8 1)) (Reads'.room-gone 𝓤 H A ref1) Path.refl tt
-              Path.refl Path.refl Path.refl λ b o. tt) d69
-          d71 : Typed.Typed 𝓤 H A 𝓣 E G19 b54 Δ0 (at71 bs)
-          d71 = Typed.g-pre 𝓤 H A W 𝓣 E G19 G20 b54 Δ0 (λ Ψ. Ψ) (at70 bs) (Lifetime.g-begin 𝓤 H A W E G19 8 (tt, ((tt, tt), (tt, (tt, (tt, (tt, (tt,
+              Path.refl Path.refl Path.refl λ b o. tt) d72
+          d74 : Typed.Typed 𝓤 H A 𝓣 E G19 b56 Δ0 (at74 bs)
+          d74 = Typed.g-pre 𝓤 H A W 𝓣 E G19 G20 b56 Δ0 (λ Ψ. Ψ) (at73 bs) (Lifetime.g-begin 𝓤 H A W E G19 8 (tt, ((tt, tt), (tt, (tt, (tt, (tt, (tt,
               (tt, (tt, (tt, (tt, (tt, (tt, (tt, (tt, (tt, (tt, (tt, (tt, (tt, (tt, (tt, (tt, (tt, (tt, (tt, (tt, (tt, (tt, (tt, (tt, (tt, (tt, (tt,
-              (tt, (tt, (tt, (tt, (tt, tt),),),),),),),),),),),),),),),),),),),),),),),),),),),),),),),),),),),),),),)) d70
-          d72 : Typed.Typed 𝓤 H A 𝓣 E G18 b55 Δ0 (at72 bs)
-          d72 = Typed.s-seq 𝓤 H A W 𝓣 E G18 G19 b7 b54 Δ0 (Typed.ask (s17 bs)) (at71 bs) (Relend.t-sl-aggregate 𝓤 H A W E RelayPending.row 𝓣
-              (Relend.asShr RelayPending.row) G18 22 23 7 ref0 ref0 (λ x. x) (Scalar.oFld 1 ((Syntax.field 1) ∷ List.[]) (Syntax.tyInt Syntax.w64) 8 λ
+              (tt, (tt, (tt, (tt, (tt, (tt, (tt, tt,),),),),),),),),),),),),),),),),),),),),),),),),),),),),),),),),),),),),),),),),)) d73
+          d75 : Typed.Typed 𝓤 H A 𝓣 E G18 b57 Δ0 (at75 bs)
+          d75 = Typed.s-seq 𝓤 H A W 𝓣 E G18 G19 b7 b56 Δ0 (Typed.ask (s17 bs)) (at74 bs) (Relend.t-sl-aggregate 𝓤 H A W E RelayPending.row 𝓣
+              (Relend.asShr RelayPending.row) G18 25 26 7 ref0 ref0 (λ x. x) (Scalar.oFld 1 ((Syntax.field 1) ∷ List.[]) (Syntax.tyInt Syntax.w64) 8 λ
               v. Shared.lenV (v .0)) (Reads'.as-is 𝓤 H A (Relend.ssptr RelayPending.row ref0 7)) (Reads'.room-gone 𝓤 H A (Syntax.tyStruct (38 ∷ 91 ∷
               93 ∷ List.[]) (Syntax.tcons ref0 (Syntax.tcons (Syntax.tyInt Syntax.w64) Syntax.tnil)))) (Reshare.reads-owedS-len 𝓤 H A W
-              RelayPending.row ref7 0 7 life0 8 Path.refl, Path.refl,) Path.refl Path.refl λ b o k. tt) d71
-          d73 : Typed.Typed 𝓤 H A 𝓣 E G17 b56 Δ0 (at73 bs)
-          d73 = Typed.s-seq 𝓤 H A W 𝓣 E G17 G18 b6 b55 Δ0 (Typed.give (s16 bs)) (at72 bs) (Reshare.t-sl-reshare 𝓤 H A W E RelayPending.row 𝓣 G17 1 22
+              RelayPending.row ref7 0 7 life0 8 Path.refl, Path.refl,) Path.refl Path.refl λ b o k. tt) d74
+          d76 : Typed.Typed 𝓤 H A 𝓣 E G17 b58 Δ0 (at76 bs)
+          d76 = Typed.s-seq 𝓤 H A W 𝓣 E G17 G18 b6 b57 Δ0 (Typed.give (s16 bs)) (at75 bs) (Reshare.t-sl-reshare 𝓤 H A W E RelayPending.row 𝓣 G17 1 25
               0 7 ref7 ref0 life0 0 (λ x. x) (Reads'.as-is 𝓤 H A (Mut.mslice RelayPending.row ref7 0)) (Reads'.room-gone 𝓤 H A ref0) Path.refl tt
-              Path.refl Path.refl Path.refl λ b o. tt) d72
-          d74 : Typed.Typed 𝓤 H A 𝓣 E G16 b56 Δ0 (at74 bs)
-          d74 = Typed.g-pre 𝓤 H A W 𝓣 E G16 G17 b56 Δ0 (λ Ψ. Ψ) (at73 bs) (Lifetime.g-begin 𝓤 H A W E G16 7 (tt, (tt, (tt, (tt, (tt, (tt, (tt, (tt,
+              Path.refl Path.refl Path.refl λ b o. tt) d75
+          d77 : Typed.Typed 𝓤 H A 𝓣 E G16 b58 Δ0 (at77 bs)
+          d77 = Typed.g-pre 𝓤 H A W 𝓣 E G16 G17 b58 Δ0 (λ Ψ. Ψ) (at76 bs) (Lifetime.g-begin 𝓤 H A W E G16 7 (tt, (tt, (tt, (tt, (tt, (tt, (tt, (tt,
               (tt, (tt, (tt, (tt, (tt, (tt, (tt, (tt, (tt, (tt, (tt, (tt, (tt, (tt, (tt, (tt, (tt, (tt, (tt, (tt, (tt, (tt, (tt, (tt, (tt, (tt, (tt,
-              (tt, (tt, (tt, (tt, tt),),),),),),),),),),),),),),),),),),),),),),),),),),),),),),),),),),),),),),)) d73
-          d75 : Typed.Typed 𝓤 H A 𝓣 E G15 b57 Δ0 (at75 bs)
-          d75 = Typed.s-seq 𝓤 H A W 𝓣 E G15 G16 b5 b56 Δ0 (Typed.both (s14 bs)) (at74 bs) (WayStmt.t-way-copy-out 𝓤 H A W E 𝓣 (Declared'.row
+              (tt, (tt, (tt, (tt, (tt, (tt, tt,),),),),),),),),),),),),),),),),),),),),),),),),),),),),),),),),),),),),),),),),)) d76
+          d78 : Typed.Typed 𝓤 H A 𝓣 E G15 b59 Δ0 (at78 bs)
+          d78 = Typed.s-seq 𝓤 H A W 𝓣 E G15 G16 b5 b58 Δ0 (Typed.both (s14 bs)) (at77 bs) (WayStmt.t-way-copy-out 𝓤 H A W E 𝓣 (Declared'.row
               OpaqueRelayConfig.the-type) Path.refl (Copies.cStruct OpaqueRelayConfig.the-type Laws''''.the-laws Laws''''.the-copy .copy 𝓤 H A W) (λ
               ρ. Unit) G15 (Row.out 5 (G15 .locals)) (λ u. Row.drop 5 (G15 .locals) u) (G15 .slots) 5 (λ t. (Syntax.field 4) ∷ t) Laws''''.mir
-              Laws''''.mir 12 (Rows.whole (Declared'.row OpaqueRelayConfig.the-type)) (λ x. x) (λ u. At.getAt (OpaqueRelayRuntime.the-type .parts) 4
+              Laws''''.mir 13 (Rows.whole (Declared'.row OpaqueRelayConfig.the-type)) (λ x. x) (λ u. At.getAt (OpaqueRelayRuntime.the-type .parts) 4
               (OpaqueRelayRuntime.struct .as-values (u .1 .1 .1 .1 .1 .0))) (λ u. (Row.hd 0 (Row.tl (Row.tl (Row.tl (Row.tl (Row.tl bs))))), Nat._+_ 0
               40)) (λ T′. record { locals = Row.setRow 5 (5, Rows.whole (Declared'.row OpaqueRelayRuntime.the-type)) T′; slots = G15 .slots; }) (λ u
               T′ m′. Row.set 5 (5, Rows.whole (Declared'.row OpaqueRelayRuntime.the-type)) (u .1 .1 .1 .1 .1 .0) T′ m′) (λ u. Unit) (λ x. Unit)
               (Own.told-none 𝓤 H A (G15 .slots)) (DerefMove.learns-nothing 𝓤 H A (Declared'.row OpaqueRelayConfig.the-type)) (λ ρ told u asked.
-              Way'.w-partˢ 𝓤 H A W E (Declared'.row OpaqueRelayRuntime.the-type) (Declared'.row OpaqueRelayConfig.the-type) Laws'''''''''.mir
+              Way'.w-partˢ 𝓤 H A W E (Declared'.row OpaqueRelayRuntime.the-type) (Declared'.row OpaqueRelayConfig.the-type) Laws''''''''''.mir
               Laws''''.mir 4 40 (u .1 .1 .1 .1 .1 .0) (At.getAt (OpaqueRelayRuntime.the-type .parts) 4 (OpaqueRelayRuntime.struct .as-values (u .1 .1
               .1 .1 .1 .0))) (Row.hd 0 (Row.tl (Row.tl (Row.tl (Row.tl (Row.tl bs))))), 0) (Way.w-look 𝓤 H A W E (Way.w-local 𝓤 H A W E G15 ρ u (G15
               .slots) 5 (Declared'.row OpaqueRelayRuntime.the-type) (Rows.whole (Declared'.row OpaqueRelayRuntime.the-type)) (λ x. x) (λ x. x) (u .1
@@ -2189,74 +2308,77 @@ module _ (claims· : Claims) where
               OpaqueRelayConfig.the-type 40 (u .1 .1 .1 .1 .1 .0) (u .1 .1 .1 .1 .1 .0) (At.getAt (OpaqueRelayRuntime.the-type .parts) 4
               (OpaqueRelayRuntime.struct .as-values (u .1 .1 .1 .1 .1 .0))) (At.getAt (OpaqueRelayRuntime.the-type .parts) 4
               (OpaqueRelayRuntime.struct .as-values (u .1 .1 .1 .1 .1 .0))) (Row.hd 0 (Row.tl (Row.tl (Row.tl (Row.tl (Row.tl bs))))), 0)
-              (Behind.look-at 𝓤 H A W q OpaqueRelayRuntime.the-type Laws'''''''''.the-laws 4 40 Path.refl Path.refl (Row.hd 0 (Row.tl (Row.tl (Row.tl
+              (Behind.look-at 𝓤 H A W q OpaqueRelayRuntime.the-type Laws''''''''''.the-laws 4 40 Path.refl Path.refl (Row.hd 0 (Row.tl (Row.tl (Row.tl
               (Row.tl (Row.tl bs))))), 0) (u .1 .1 .1 .1 .1 .0) (OpaqueRelayRuntime.struct .as-values (u .1 .1 .1 .1 .1 .0)) Path.refl))
               (Reads'.room-gone 𝓤 H A Laws''''.mir) (Yields.makes-mem 𝓤 H A W (λ ρ. Unit) (Declared'.row OpaqueRelayConfig.the-type) Path.refl
               (Rows.whole (Declared'.row OpaqueRelayConfig.the-type)) (λ x. x) λ ρ told. Local.whole-mem 𝓤 H A W (Declared'.row
-              OpaqueRelayConfig.the-type) ρ) Path.refl Path.refl Path.refl) d74
-          d76 : Typed.Typed 𝓤 H A 𝓣 E G14 b58 Δ0 (at76 bs)
-          d76 = Typed.s-seq 𝓤 H A W 𝓣 E G14 G15 b4 b57 Δ0 (Typed.both (s13 bs)) (at75 bs) (Plain.t-call-plain 𝓤 H A W 𝓣 1 ps·2 r·2 (claims· .4)
-              (claims· .5) "hnsr_body::accept_body::AcceptBody::decode" (known .2) E (λ pos β. β) G14 (record { pos = 8; ty = Syntax.tyRef
-              (Syntax.named 5) Syntax.imm (Syntax.tyInt Syntax.w8); ref = λ x. x; }, tt,) 11 (5 ∷ List.[]) (Call.sub-id 𝓤 H A W (G14 .slots))
+              OpaqueRelayConfig.the-type) ρ) Path.refl Path.refl Path.refl) d77
+          d79 : Typed.Typed 𝓤 H A 𝓣 E G14 b60 Δ0 (at79 bs)
+          d79 = Typed.s-seq 𝓤 H A W 𝓣 E G14 G15 b4 b59 Δ0 (Typed.both (s13 bs)) (at78 bs) (Plain.t-call-plain 𝓤 H A W 𝓣 1 ps·2 r·2 (claims· .4)
+              (claims· .5) "hnsr_body::accept_body::AcceptBody::decode" (known .2) E (λ pos β. β) G14 (record { pos = 9; ty = Syntax.tyRef
+              (Syntax.named 5) Syntax.imm (Syntax.tyInt Syntax.w8); ref = λ x. x; }, tt,) 12 (5 ∷ List.[]) (Call.sub-id 𝓤 H A W (G14 .slots))
               (ShrSlice.spares-sslice 𝓤 H A W (Referent.rtF (Referent.fInt Syntax.w8)) ref12 5, Shared.reads-sslice 𝓤 H A W (Referent.rtF
-              (Referent.fInt Syntax.w8)) ref12 5, Path.refl, tt,) (Reads'.room-gone 𝓤 H A Laws.mir) (tt, tt) Path.refl) d75
-          d77 : Typed.Typed 𝓤 H A 𝓣 E G13 b58 Δ0 (at77 bs)
-          d77 = Typed.g-pre 𝓤 H A W 𝓣 E G13 G14 b58 Δ0 (λ Ψ. Ψ) (at76 bs) (Lifetime.g-forget 𝓤 H A W E G13 6 Row.dead Path.refl) d76
-          d78 : Typed.Typed 𝓤 H A 𝓣 E G12 b58 Δ0 (at78 bs)
-          d78 = Typed.g-pre 𝓤 H A W 𝓣 E G12 G13 b58 Δ0 (Typed.pass T11 T13 (s11 bs)) (at77 bs) (Reshare.g-back-sl-shr 𝓤 H A W E RelayPending.row G12 1
-              0 6 ref7 life0 (λ x. x) (Reads'.as-is 𝓤 H A (Reshare.mslice-owedS RelayPending.row ref7 0 6 life0)) Path.refl Path.refl) d77
-          d79 : Typed.Typed 𝓤 H A 𝓣 E G11 b58 Δ0 (at79 bs)
-          d79 = Typed.g-pre 𝓤 H A W 𝓣 E G11 G12 b58 Δ0 (λ Ψ. Ψ) (at78 bs) (Lifetime.g-end 𝓤 H A W E G11 6 Path.refl) d78
-          d80 : Typed.Typed 𝓤 H A 𝓣 E G10 b58 Δ0 (at80 bs)
-          d80 = Typed.g-pre 𝓤 H A W 𝓣 E G10 G11 b58 Δ0 (Typed.pass T10 T11 (s9 bs)) (at79 bs) (Scalar.g-room 𝓤 H A W E G10 9 Laws'''''''.mir
-              (Local.room-whole 𝓤 H A W (Declared'.row Question.the-type) Laws'''''''.mir Path.refl)) d79
-          d81 : Typed.Typed 𝓤 H A 𝓣 E G9 b58 Δ0 (at81 bs)
-          d81 = Typed.g-pre 𝓤 H A W 𝓣 E G9 G10 b58 Δ0 (Typed.pass T9 T10 (s8 bs)) (at80 bs) (Scalar.g-room 𝓤 H A W E G9 21 (Syntax.tyStruct (38 ∷ 91 ∷
+              (Referent.fInt Syntax.w8)) ref12 5, Path.refl, tt,) (Reads'.room-gone 𝓤 H A Laws.mir) (tt, tt) Path.refl) d78
+          d80 : Typed.Typed 𝓤 H A 𝓣 E G13 b60 Δ0 (at80 bs)
+          d80 = Typed.g-pre 𝓤 H A W 𝓣 E G13 G14 b60 Δ0 (λ Ψ. Ψ) (at79 bs) (Lifetime.g-forget 𝓤 H A W E G13 6 Row.dead Path.refl) d79
+          d81 : Typed.Typed 𝓤 H A 𝓣 E G12 b60 Δ0 (at81 bs)
+          d81 = Typed.g-pre 𝓤 H A W 𝓣 E G12 G13 b60 Δ0 (Typed.pass T11 T13 (s11 bs)) (at80 bs) (Reshare.g-back-sl-shr 𝓤 H A W E RelayPending.row G12 1
+              0 6 ref7 life0 (λ x. x) (Reads'.as-is 𝓤 H A (Reshare.mslice-owedS RelayPending.row ref7 0 6 life0)) Path.refl Path.refl) d80
+          d82 : Typed.Typed 𝓤 H A 𝓣 E G11 b60 Δ0 (at82 bs)
+          d82 = Typed.g-pre 𝓤 H A W 𝓣 E G11 G12 b60 Δ0 (λ Ψ. Ψ) (at81 bs) (Lifetime.g-end 𝓤 H A W E G11 6 Path.refl) d81
+          d83 : Typed.Typed 𝓤 H A 𝓣 E G10 b60 Δ0 (at83 bs)
+          d83 = Typed.g-pre 𝓤 H A W 𝓣 E G10 G11 b60 Δ0 (Typed.pass T10 T11 (s9 bs)) (at82 bs) (Scalar.g-room 𝓤 H A W E G10 10 Laws''''''''.mir
+              (Local.room-whole 𝓤 H A W (Declared'.row Question.the-type) Laws''''''''.mir Path.refl)) d82
+          d84 : Typed.Typed 𝓤 H A 𝓣 E G9 b60 Δ0 (at84 bs)
+          d84 = Typed.g-pre 𝓤 H A W 𝓣 E G9 G10 b60 Δ0 (Typed.pass T9 T10 (s8 bs)) (at83 bs) (Scalar.g-room 𝓤 H A W E G9 24 (Syntax.tyStruct (38 ∷ 91 ∷
               93 ∷ List.[]) (Syntax.tcons ref0 (Syntax.tcons (Syntax.tyInt Syntax.w64) Syntax.tnil))) (Shared.room-sslice 𝓤 H A W RelayPending.row
-              ref0 6)) d80
-          d82 : Typed.Typed 𝓤 H A 𝓣 E G8 b59 Δ0 (at82 bs)
-          d82 = Typed.s-seq 𝓤 H A W 𝓣 E G8 G9 b3 b58 Δ0 (Typed.both (s7 bs)) (at81 bs) (Plain.t-call-plain 𝓤 H A W 𝓣 1 ps·1 r·1 (claims· .2) (claims·
-              .3) "hnsr_circuit::lookup::look_up_pending" (known .1) E (λ pos β. β) G8 (record { pos = 21; ty = Syntax.tyRef Syntax.erased Syntax.imm
-              RelayPending.to; ref = λ x. x; }, (record { pos = 9; st = List.[]; d = 0; at = λ x. x }, tt),) 10 (6 ∷ List.[]) (Call.sub-id 𝓤 H A W (G8
-              .slots)) (ShrSlice.spares-sslice 𝓤 H A W RelayPending.row ref0 6, Shared.reads-sslice 𝓤 H A W RelayPending.row ref0 6, Path.refl,
-              ((Yields.yields-copy 𝓤 H A W (λ ρ. Unit) (Declared'.row Question.the-type) Path.refl (Copies.cStruct Question.the-type
-              Laws'''''''.the-laws Laws'''''''.the-copy .copy 𝓤 H A W) (Rows.whole (Declared'.row Question.the-type)) (λ x. x) (λ x. x) (λ ρ told.
-              Local.mem-whole 𝓤 H A W (Declared'.row Question.the-type) ρ) λ ρ told. Local.whole-mem 𝓤 H A W (Declared'.row Question.the-type) ρ,
-              Path.refl,), tt,),) (Reads'.room-gone 𝓤 H A Laws''''''.mir) (tt, tt) Path.refl) d81
-          d83 : Typed.Typed 𝓤 H A 𝓣 E G7 b60 Δ0 (at83 bs)
-          d83 = Typed.s-seq 𝓤 H A W 𝓣 E G7 G8 b2 b59 Δ0 (Typed.ask (s6 bs)) (at82 bs) (Relend.t-sl-aggregate 𝓤 H A W E RelayPending.row 𝓣
-              (Relend.asShr RelayPending.row) G7 20 21 6 ref0 ref0 (λ x. x) (Scalar.oFld 1 ((Syntax.field 1) ∷ List.[]) (Syntax.tyInt Syntax.w64) 8 λ
+              ref0 6)) d83
+          d85 : Typed.Typed 𝓤 H A 𝓣 E G8 b61 Δ0 (at85 bs)
+          d85 = Typed.s-seq 𝓤 H A W 𝓣 E G8 G9 b3 b60 Δ0 (Typed.both (s7 bs)) (at84 bs) (Plain.t-call-plain 𝓤 H A W 𝓣 1 ps·1 r·1 (claims· .2) (claims·
+              .3) "hnsr_circuit::lookup::look_up_pending" (known .1) E (λ pos β. β) G8 (record { pos = 24; ty = Syntax.tyRef Syntax.erased Syntax.imm
+              RelayPending.to; ref = λ x. x; }, (record { pos = 6; st = List.[]; d = 0; at = λ x. x }, (record { pos = 10; st = List.[]; d = 0; at = λ
+              x. x }, tt),),) 11 (6 ∷ List.[]) (Call.sub-id 𝓤 H A W (G8 .slots)) (ShrSlice.spares-sslice 𝓤 H A W RelayPending.row ref0 6,
+              Shared.reads-sslice 𝓤 H A W RelayPending.row ref0 6, Path.refl, ((Yields.yields-copy 𝓤 H A W (λ ρ. Unit) (Declared'.row Places.the-type)
+              Path.refl (Copies.cStruct Places.the-type Laws'''''.the-laws Laws'''''.the-copy .copy 𝓤 H A W) (Rows.whole (Declared'.row
+              Places.the-type)) (λ x. x) (λ x. x) (λ ρ told. Local.mem-whole 𝓤 H A W (Declared'.row Places.the-type) ρ) λ ρ told. Local.whole-mem 𝓤 H
+              A W (Declared'.row Places.the-type) ρ, Path.refl,), ((Yields.yields-copy 𝓤 H A W (λ ρ. Unit) (Declared'.row Question.the-type) Path.refl
+              (Copies.cStruct Question.the-type Laws''''''''.the-laws Laws''''''''.the-copy .copy 𝓤 H A W) (Rows.whole (Declared'.row
+              Question.the-type)) (λ x. x) (λ x. x) (λ ρ told. Local.mem-whole 𝓤 H A W (Declared'.row Question.the-type) ρ) λ ρ told. Local.whole-mem
+              𝓤 H A W (Declared'.row Question.the-type) ρ, Path.refl,), tt,),),) (Reads'.room-gone 𝓤 H A Laws'''''''.mir) (tt, tt) Path.refl) d84
+          d86 : Typed.Typed 𝓤 H A 𝓣 E G7 b62 Δ0 (at86 bs)
+          d86 = Typed.s-seq 𝓤 H A W 𝓣 E G7 G8 b2 b61 Δ0 (Typed.ask (s6 bs)) (at85 bs) (Relend.t-sl-aggregate 𝓤 H A W E RelayPending.row 𝓣
+              (Relend.asShr RelayPending.row) G7 23 24 6 ref0 ref0 (λ x. x) (Scalar.oFld 1 ((Syntax.field 1) ∷ List.[]) (Syntax.tyInt Syntax.w64) 8 λ
               v. Shared.lenV (v .0)) (Reads'.as-is 𝓤 H A (Relend.ssptr RelayPending.row ref0 6)) (Reads'.room-gone 𝓤 H A (Syntax.tyStruct (38 ∷ 91 ∷
               93 ∷ List.[]) (Syntax.tcons ref0 (Syntax.tcons (Syntax.tyInt Syntax.w64) Syntax.tnil)))) (Reshare.reads-owedS-len 𝓤 H A W
-              RelayPending.row ref7 0 6 life0 8 Path.refl, Path.refl,) Path.refl Path.refl λ b o k. tt) d82
-          d84 : Typed.Typed 𝓤 H A 𝓣 E G6 b61 Δ0 (at84 bs)
-          d84 = Typed.s-seq 𝓤 H A W 𝓣 E G6 G7 b1 b60 Δ0 (Typed.give (s5 bs)) (at83 bs) (Reshare.t-sl-reshare 𝓤 H A W E RelayPending.row 𝓣 G6 1 20 0 6
+              RelayPending.row ref7 0 6 life0 8 Path.refl, Path.refl,) Path.refl Path.refl λ b o k. tt) d85
+          d87 : Typed.Typed 𝓤 H A 𝓣 E G6 b63 Δ0 (at87 bs)
+          d87 = Typed.s-seq 𝓤 H A W 𝓣 E G6 G7 b1 b62 Δ0 (Typed.give (s5 bs)) (at86 bs) (Reshare.t-sl-reshare 𝓤 H A W E RelayPending.row 𝓣 G6 1 23 0 6
               ref7 ref0 life0 0 (λ x. x) (Reads'.as-is 𝓤 H A (Mut.mslice RelayPending.row ref7 0)) (Reads'.room-gone 𝓤 H A ref0) Path.refl tt
-              Path.refl Path.refl Path.refl λ b o. tt) d83
-          d85 : Typed.Typed 𝓤 H A 𝓣 E G5 b61 Δ0 (at85 bs)
-          d85 = Typed.g-pre 𝓤 H A W 𝓣 E G5 G6 b61 Δ0 (λ Ψ. Ψ) (at84 bs) (Lifetime.g-begin 𝓤 H A W E G5 6 (tt, (tt, (tt, (tt, (tt, (tt, (tt, (tt, (tt,
+              Path.refl Path.refl Path.refl λ b o. tt) d86
+          d88 : Typed.Typed 𝓤 H A 𝓣 E G5 b63 Δ0 (at88 bs)
+          d88 = Typed.g-pre 𝓤 H A W 𝓣 E G5 G6 b63 Δ0 (λ Ψ. Ψ) (at87 bs) (Lifetime.g-begin 𝓤 H A W E G5 6 (tt, (tt, (tt, (tt, (tt, (tt, (tt, (tt, (tt,
               (tt, (tt, (tt, (tt, (tt, (tt, (tt, (tt, (tt, (tt, (tt, (tt, (tt, (tt, (tt, (tt, (tt, (tt, (tt, (tt, (tt, (tt, (tt, (tt, (tt, (tt, (tt,
-              (tt, (tt, (tt, tt),),),),),),),),),),),),),),),),),),),),),),),),),),),),),),),),),),),),),),)) d84
-          d86 : Typed.Typed 𝓤 H A 𝓣 E G4 b62 Δ0 (at86 bs)
-          d86 = Typed.s-seq 𝓤 H A W 𝓣 E G4 G5 b0 b61 Δ0 (Typed.both (s3 bs)) (at85 bs) (Plain.t-call-plain 𝓤 H A W 𝓣 0 ps·0 r·0 (claims· .0) (claims·
-              .1) "hnsr_circuit::question::at" (known .0) E (λ pos β. β) G4 (Num.vFld 6 ((Syntax.field 1) ∷ List.[]) 8 λ x. RelayPacket.struct
-              .as-values x .1 .0, (Num.vLit 0, tt),) 9 List.[] (Call.sub-id 𝓤 H A W (G4 .slots)) ((Reads.reads-field 𝓤 H A W RelayPacket.the-type
-              Laws''''''''.the-laws 1 (Syntax.tyInt Syntax.w64) 8 Path.refl, Path.refl,), (tt, tt),) (Reads'.room-gone 𝓤 H A Laws'''''''.mir) tt
-              Path.refl) d85
-          d87 : Typed.Typed 𝓤 H A 𝓣 E G3 b62 Δ0 (at87 bs)
-          d87 = Typed.g-pre 𝓤 H A W 𝓣 E G3 G4 b62 Δ0 (Typed.give (s2 bs)) (at86 bs) (Know.g-shs-known 𝓤 H A W (Referent.fInt Syntax.w8) E G3 8 5 ref12
+              (tt, (tt, (tt, (tt, (tt, tt,),),),),),),),),),),),),),),),),),),),),),),),),),),),),),),),),),),),),),),),),)) d87
+          d89 : Typed.Typed 𝓤 H A 𝓣 E G4 b64 Δ0 (at89 bs)
+          d89 = Typed.s-seq 𝓤 H A W 𝓣 E G4 G5 b0 b63 Δ0 (Typed.both (s3 bs)) (at88 bs) (Plain.t-call-plain 𝓤 H A W 𝓣 0 ps·0 r·0 (claims· .0) (claims·
+              .1) "hnsr_circuit::question::at" (known .0) E (λ pos β. β) G4 (Num.vFld 7 ((Syntax.field 1) ∷ List.[]) 8 λ x. RelayPacket.struct
+              .as-values x .1 .0, (Num.vLit 0, tt),) 10 List.[] (Call.sub-id 𝓤 H A W (G4 .slots)) ((Reads.reads-field 𝓤 H A W RelayPacket.the-type
+              Laws'''''''''.the-laws 1 (Syntax.tyInt Syntax.w64) 8 Path.refl, Path.refl,), (tt, tt),) (Reads'.room-gone 𝓤 H A Laws''''''''.mir) tt
+              Path.refl) d88
+          d90 : Typed.Typed 𝓤 H A 𝓣 E G3 b64 Δ0 (at90 bs)
+          d90 = Typed.g-pre 𝓤 H A W 𝓣 E G3 G4 b64 Δ0 (Typed.give (s2 bs)) (at89 bs) (Know.g-shs-known 𝓤 H A W (Referent.fInt Syntax.w8) E G3 9 5 ref12
               life5 0 (λ x. x) record { fits = Dec.lit< tt } (Reads'.as-is 𝓤 H A (Rows.sslice (Referent.rtF (Referent.fInt Syntax.w8)) ref12 5))
-              Path.refl tt) d86
-          d88 : Typed.Typed 𝓤 H A 𝓣 E G2 b62 Δ0 (at88 bs)
-          d88 = Typed.g-pre 𝓤 H A W 𝓣 E G2 G3 b62 Δ0 (Typed.give (s1 bs)) (at87 bs) (Know.g-shs-known 𝓤 H A W (Referent.fInt Syntax.w8) E G2 7 4 ref11
+              Path.refl tt) d89
+          d91 : Typed.Typed 𝓤 H A 𝓣 E G2 b64 Δ0 (at91 bs)
+          d91 = Typed.g-pre 𝓤 H A W 𝓣 E G2 G3 b64 Δ0 (Typed.give (s1 bs)) (at90 bs) (Know.g-shs-known 𝓤 H A W (Referent.fInt Syntax.w8) E G2 8 4 ref11
               life4 0 (λ x. x) record { fits = Dec.lit< tt } (Reads'.as-is 𝓤 H A (Rows.sslice (Referent.rtF (Referent.fInt Syntax.w8)) ref11 4))
-              Path.refl tt) d87
-          d89 : Typed.Typed 𝓤 H A 𝓣 E G0 b62 Δ0 (at89 bs)
-          d89 = Typed.g-pre 𝓤 H A W 𝓣 E G0 G2 b62 Δ0 (Typed.give (s0 bs)) (at88 bs) (Know.g-sl-known 𝓤 H A W (Referent.fInt Syntax.w32) E G0 4 3 ref10
+              Path.refl tt) d90
+          d92 : Typed.Typed 𝓤 H A 𝓣 E G0 b64 Δ0 (at92 bs)
+          d92 = Typed.g-pre 𝓤 H A W 𝓣 E G0 G2 b64 Δ0 (Typed.give (s0 bs)) (at91 bs) (Know.g-sl-known 𝓤 H A W (Referent.fInt Syntax.w32) E G0 4 3 ref10
               life3 0 (λ x. x) record { fits = Dec.lit< tt } (Reads'.as-is 𝓤 H A (Mut.mslice (Referent.rtF (Referent.fInt Syntax.w32)) ref10 3))
-              Path.refl tt) d88
-          pub typed : Typed.Typed 𝓤 H A 𝓣 E (Function.Γin 6 ps r xs m κs qs) b62 (Function.Δret 6 ps r xs m κs qs) (Φ bs)
-          typed = d89
+              Path.refl tt) d91
+          pub typed : Typed.Typed 𝓤 H A 𝓣 E (Function.Γin 6 ps r xs m κs qs) b64 (Function.Δret 6 ps r xs m κs qs) (Φ bs)
+          typed = d92
       module _ (κs : Lifetimes.Lfts 6) where
         pub record Args : Type 0 where
           pub pending : Kinds.Den { n = 6 } κs (MutSlice.pMutS RelayPending.row 0 tt)
@@ -2264,24 +2386,30 @@ module _ (claims· : Claims) where
           pub inflight : Kinds.Den { n = 6 } κs (MutSlice.pMutS InflightAction.row 2 tt)
           pub out : Kinds.Den { n = 6 } κs (MutSlice.pMutS (Referent.rtF (Referent.fInt Syntax.w32)) 3 tt)
           pub runtime : Kinds.Den { n = 6 } κs (Value.pVal record { ty = Declared'.row OpaqueRelayRuntime.the-type; one = Path.refl; val =
-              Laws''''''''''''.val OpaqueRelayRuntime.the-type Laws'''''''''.the-laws; tells = Laws''''''''''''.tells OpaqueRelayRuntime.the-type
-              Laws'''''''''.the-laws; still = Laws''''''''''''.still OpaqueRelayRuntime.the-type Laws'''''''''.the-copy Exit.yes; row = Rows.whole
-              (Declared'.row OpaqueRelayRuntime.the-type); rd = λ x. x; mk = λ x. x; } λ M 𝓤 H A W. record { copies = Laws''''''''''''.copy
-              OpaqueRelayRuntime.the-type Laws'''''''''.the-copy 𝓤 H A W; lawful = Laws''''''''''''.lawful OpaqueRelayRuntime.the-type
-              Laws'''''''''.the-laws 𝓤 H A W; makes = Laws''''''''''''.makes OpaqueRelayRuntime.the-type Laws'''''''''.the-plain 𝓤 H A; in-mem =
+              Laws'''''''''''''.val OpaqueRelayRuntime.the-type Laws''''''''''.the-laws; tells = Laws'''''''''''''.tells OpaqueRelayRuntime.the-type
+              Laws''''''''''.the-laws; still = Laws'''''''''''''.still OpaqueRelayRuntime.the-type Laws''''''''''.the-copy Exit.yes; row = Rows.whole
+              (Declared'.row OpaqueRelayRuntime.the-type); rd = λ x. x; mk = λ x. x; } λ M 𝓤 H A W. record { copies = Laws'''''''''''''.copy
+              OpaqueRelayRuntime.the-type Laws''''''''''.the-copy 𝓤 H A W; lawful = Laws'''''''''''''.lawful OpaqueRelayRuntime.the-type
+              Laws''''''''''.the-laws 𝓤 H A W; makes = Laws'''''''''''''.makes OpaqueRelayRuntime.the-type Laws''''''''''.the-plain 𝓤 H A; in-mem =
               Local.mem-whole 𝓤 H A W (Declared'.row OpaqueRelayRuntime.the-type); of-mem = Local.whole-mem 𝓤 H A W (Declared'.row
               OpaqueRelayRuntime.the-type); })
+          pub places : Kinds.Den { n = 6 } κs (Value.pVal record { ty = Declared'.row Places.the-type; one = Path.refl; val = Laws'''''''''''''.val
+              Places.the-type Laws'''''.the-laws; tells = Laws'''''''''''''.tells Places.the-type Laws'''''.the-laws; still = Laws'''''''''''''.still
+              Places.the-type Laws'''''.the-copy Exit.yes; row = Rows.whole (Declared'.row Places.the-type); rd = λ x. x; mk = λ x. x; } λ M 𝓤 H A W.
+              record { copies = Laws'''''''''''''.copy Places.the-type Laws'''''.the-copy 𝓤 H A W; lawful = Laws'''''''''''''.lawful Places.the-type
+              Laws'''''.the-laws 𝓤 H A W; makes = Laws'''''''''''''.makes Places.the-type Laws'''''.the-plain 𝓤 H A; in-mem = Local.mem-whole 𝓤 H A W
+              (Declared'.row Places.the-type); of-mem = Local.whole-mem 𝓤 H A W (Declared'.row Places.the-type); })
           pub packet : Kinds.Den { n = 6 } κs (Value.pVal record { ty = Declared'.row RelayPacket.the-type; one = Path.refl; val =
-              Laws''''''''''''.val RelayPacket.the-type Laws''''''''.the-laws; tells = Laws''''''''''''.tells RelayPacket.the-type
-              Laws''''''''.the-laws; still = Laws''''''''''''.still RelayPacket.the-type Laws''''''''.the-copy Exit.yes; row = Rows.whole
-              (Declared'.row RelayPacket.the-type); rd = λ x. x; mk = λ x. x; } λ M 𝓤 H A W. record { copies = Laws''''''''''''.copy
-              RelayPacket.the-type Laws''''''''.the-copy 𝓤 H A W; lawful = Laws''''''''''''.lawful RelayPacket.the-type Laws''''''''.the-laws 𝓤 H A W;
-              makes = Laws''''''''''''.makes RelayPacket.the-type Laws''''''''.the-plain 𝓤 H A; in-mem = Local.mem-whole 𝓤 H A W (Declared'.row
+              Laws'''''''''''''.val RelayPacket.the-type Laws'''''''''.the-laws; tells = Laws'''''''''''''.tells RelayPacket.the-type
+              Laws'''''''''.the-laws; still = Laws'''''''''''''.still RelayPacket.the-type Laws'''''''''.the-copy Exit.yes; row = Rows.whole
+              (Declared'.row RelayPacket.the-type); rd = λ x. x; mk = λ x. x; } λ M 𝓤 H A W. record { copies = Laws'''''''''''''.copy
+              RelayPacket.the-type Laws'''''''''.the-copy 𝓤 H A W; lawful = Laws'''''''''''''.lawful RelayPacket.the-type Laws'''''''''.the-laws 𝓤 H A
+              W; makes = Laws'''''''''''''.makes RelayPacket.the-type Laws'''''''''.the-plain 𝓤 H A; in-mem = Local.mem-whole 𝓤 H A W (Declared'.row
               RelayPacket.the-type); of-mem = Local.whole-mem 𝓤 H A W (Declared'.row RelayPacket.the-type); })
           pub source : Kinds.Den { n = 6 } κs (ShrSlice.pShrS (Referent.rtF (Referent.fInt Syntax.w8)) 4 tt)
           pub body : Kinds.Den { n = 6 } κs (ShrSlice.pShrS (Referent.rtF (Referent.fInt Syntax.w8)) 5 tt)
         abbrev pub dens : (a : Args) → Kinds.Dens κs ps
-        dens = λ a. (a .pending, (a .circuits, (a .inflight, (a .out, (a .runtime, (a .packet, (a .source, (a .body, tt)))))),),)
+        dens = λ a. (a .pending, (a .circuits, (a .inflight, (a .out, (a .runtime, (a .places, (a .packet, (a .source, (a .body, tt)))))),),),)
       abbrev pub m0 : (κs : Lifetimes.Lfts 6) → (args : Args κs) → (blocks : List.List Nat.ℕ) → Typed.Mo T0
       m0 = λ κs args blocks. (tt, Enter.partsP κs 1 ps xs (dens κs args))
       abbrev W0 : (κs : Lifetimes.Lfts 6) → (args : Args κs) → (blocks : List.List Nat.ℕ) → Typed.Want O0
@@ -2327,14 +2455,14 @@ module _ (claims· : Claims) where
       m4 = λ before given. s3 (before .before .before .before .blocks) .next (m3 (before .before) (before .shared-slice-known2 .given)) given
       module _ (before· : After-shared-slice-known2) where
         abbrev pub After-at·own : Type 0
-        After-at·own = Called.Called ps·0 r·0 (claims· .1) T4 (Num.vFld 6 ((Syntax.field 1) ∷ List.[]) 8 λ x. RelayPacket.struct .as-values x .1 .0,
+        After-at·own = Called.Called ps·0 r·0 (claims· .1) T4 (Num.vFld 7 ((Syntax.field 1) ∷ List.[]) 8 λ x. RelayPacket.struct .as-values x .1 .0,
             (Num.vLit 0, tt),) (m3 (before· .before) (before· .shared-slice-known2 .given))
       pub record After-at : Type 0 where
         pub before : After-shared-slice-known2
         pub at : After-at·own before
       abbrev pub After-at·gave : (c : After-at) → s3 (c .before .before .before .before .blocks) .gives (m3 (c .before .before) (c .before
           .shared-slice-known2 .given))
-      After-at·gave = λ c. Called.given ps·0 r·0 (claims· .1) T4 (Num.vFld 6 ((Syntax.field 1) ∷ List.[]) 8 λ x. RelayPacket.struct .as-values x .1
+      After-at·gave = λ c. Called.given ps·0 r·0 (claims· .1) T4 (Num.vFld 7 ((Syntax.field 1) ∷ List.[]) 8 λ x. RelayPacket.struct .as-values x .1
           .0, (Num.vLit 0, tt),) (m3 (c .before .before) (c .before .shared-slice-known2 .given)) (c .at)
       abbrev pub m5 : (before : After-at) → (given : s5 (before .before .before .before .before .blocks) .gives (m4 (before .before) (After-at·gave
           before))) → Typed.Mo T7
@@ -2357,17 +2485,17 @@ module _ (claims· : Claims) where
           .given)) given
       module _ (before· : After-look-up-pending-arg) where
         abbrev pub After-look-up-pending·own : Type 0
-        After-look-up-pending·own = Called.Called ps·1 r·1 (claims· .3) T8 (record { pos = 21; ty = Syntax.tyRef Syntax.erased Syntax.imm
-            RelayPending.to; ref = λ x. x; }, (record { pos = 9; st = List.[]; d = 0; at = λ x. x }, tt),) (m6 (before· .before) (before·
-            .look-up-pending-arg .given))
+        After-look-up-pending·own = Called.Called ps·1 r·1 (claims· .3) T8 (record { pos = 24; ty = Syntax.tyRef Syntax.erased Syntax.imm
+            RelayPending.to; ref = λ x. x; }, (record { pos = 6; st = List.[]; d = 0; at = λ x. x }, (record { pos = 10; st = List.[]; d = 0; at = λ
+            x. x }, tt),),) (m6 (before· .before) (before· .look-up-pending-arg .given))
       pub record After-look-up-pending : Type 0 where
         pub before : After-look-up-pending-arg
         pub look-up-pending : After-look-up-pending·own before
       abbrev pub After-look-up-pending·gave : (c : After-look-up-pending) → s7 (c .before .before .before .before .before .before .blocks) .gives (m6
           (c .before .before) (c .before .look-up-pending-arg .given))
-      After-look-up-pending·gave = λ c. Called.given ps·1 r·1 (claims· .3) T8 (record { pos = 21; ty = Syntax.tyRef Syntax.erased Syntax.imm
-          RelayPending.to; ref = λ x. x; }, (record { pos = 9; st = List.[]; d = 0; at = λ x. x }, tt),) (m6 (c .before .before) (c .before
-          .look-up-pending-arg .given)) (c .look-up-pending)
+      After-look-up-pending·gave = λ c. Called.given ps·1 r·1 (claims· .3) T8 (record { pos = 24; ty = Syntax.tyRef Syntax.erased Syntax.imm
+          RelayPending.to; ref = λ x. x; }, (record { pos = 6; st = List.[]; d = 0; at = λ x. x }, (record { pos = 10; st = List.[]; d = 0; at = λ x.
+          x }, tt),),) (m6 (c .before .before) (c .before .look-up-pending-arg .given)) (c .look-up-pending)
       abbrev pub m8 : (before : After-look-up-pending-arg) → (given : s7 (before .before .before .before .before .before .blocks) .gives (m6 (before
           .before) (before .look-up-pending-arg .given))) → Typed.Mo T10
       m8 = λ before given. s8 (before .before .before .before .before .before .blocks) (m7 before given)
@@ -2386,14 +2514,14 @@ module _ (claims· : Claims) where
           (After-look-up-pending·gave before)) given
       module _ (before· : After-look-up-pending) where
         abbrev pub After-decode·own : Type 0
-        After-decode·own = Called.Called ps·2 r·2 (claims· .5) T13 (record { pos = 8; ty = Syntax.tyRef (Syntax.named 5) Syntax.imm (Syntax.tyInt
+        After-decode·own = Called.Called ps·2 r·2 (claims· .5) T13 (record { pos = 9; ty = Syntax.tyRef (Syntax.named 5) Syntax.imm (Syntax.tyInt
             Syntax.w8); ref = λ x. x; }, tt,) (m10 (before· .before) (After-look-up-pending·gave before·))
       pub record After-decode : Type 0 where
         pub before : After-look-up-pending
         pub decode : After-decode·own before
       abbrev pub After-decode·gave : (c : After-decode) → s13 (c .before .before .before .before .before .before .before .blocks) .gives (m10 (c
           .before .before) (After-look-up-pending·gave (c .before)))
-      After-decode·gave = λ c. Called.given ps·2 r·2 (claims· .5) T13 (record { pos = 8; ty = Syntax.tyRef (Syntax.named 5) Syntax.imm (Syntax.tyInt
+      After-decode·gave = λ c. Called.given ps·2 r·2 (claims· .5) T13 (record { pos = 9; ty = Syntax.tyRef (Syntax.named 5) Syntax.imm (Syntax.tyInt
           Syntax.w8); ref = λ x. x; }, tt,) (m10 (c .before .before) (After-look-up-pending·gave (c .before))) (c .decode)
       abbrev pub m12 : (before : After-decode) → (given : s14 (before .before .before .before .before .before .before .before .blocks) .gives (m11
           (before .before) (After-decode·gave before))) → Typed.Mo T16
@@ -2458,23 +2586,25 @@ module _ (claims· : Claims) where
           (before .before) (before .accept-answered-arg3 .given)) given
       module _ (before· : After-accept-answered-arg3) where
         abbrev pub After-accept-answered·own : Type 0
-        After-accept-answered·own = Called.Called ps·3 r·3 (claims· .7) T25 (record { pos = 23; ty = Syntax.tyRef Syntax.erased Syntax.imm
-            RelayPending.to; ref = λ x. x; }, (record { pos = 25; ty = Syntax.tyRef Syntax.erased Syntax.imm RelayCircuit.to; ref = λ x. x; }, (record
-            { pos = 27; ty = Syntax.tyRef Syntax.erased Syntax.imm InflightAction.to; ref = λ x. x; }, (record { pos = 12; st = List.[]; d = 0; at = λ
-            x. x }, (record { pos = 6; st = List.[]; d = 0; at = λ x. x }, (record { pos = 10; st = List.[]; d = 0; at = λ x. x }, (record { pos = 11;
-            st = List.[]; d = 0; at = λ x. x }, (record { pos = 7; ty = Syntax.tyRef (Syntax.named 4) Syntax.imm (Syntax.tyInt Syntax.w8); ref = λ x.
-            x; }, tt,),),),),),),),) (m18 (before· .before) (before· .accept-answered-arg3 .given))
+        After-accept-answered·own = Called.Called ps·3 r·3 (claims· .7) T25 (record { pos = 26; ty = Syntax.tyRef Syntax.erased Syntax.imm
+            RelayPending.to; ref = λ x. x; }, (record { pos = 28; ty = Syntax.tyRef Syntax.erased Syntax.imm RelayCircuit.to; ref = λ x. x; }, (record
+            { pos = 30; ty = Syntax.tyRef Syntax.erased Syntax.imm InflightAction.to; ref = λ x. x; }, (record { pos = 6; st = List.[]; d = 0; at = λ
+            x. x }, (record { pos = 13; st = List.[]; d = 0; at = λ x. x }, (record { pos = 7; st = List.[]; d = 0; at = λ x. x }, (record { pos = 11;
+            st = List.[]; d = 0; at = λ x. x }, (record { pos = 12; st = List.[]; d = 0; at = λ x. x }, (record { pos = 8; ty = Syntax.tyRef
+            (Syntax.named 4) Syntax.imm (Syntax.tyInt Syntax.w8); ref = λ x. x; }, tt,),),),),),),),),) (m18 (before· .before) (before·
+            .accept-answered-arg3 .given))
       pub record After-accept-answered : Type 0 where
         pub before : After-accept-answered-arg3
         pub accept-answered : After-accept-answered·own before
       abbrev pub After-accept-answered·gave : (c : After-accept-answered) → s24 (c .before .before .before .before .before .before .before .before
           .before .before .before .before .blocks) .gives (m18 (c .before .before) (c .before .accept-answered-arg3 .given))
-      After-accept-answered·gave = λ c. Called.given ps·3 r·3 (claims· .7) T25 (record { pos = 23; ty = Syntax.tyRef Syntax.erased Syntax.imm
-          RelayPending.to; ref = λ x. x; }, (record { pos = 25; ty = Syntax.tyRef Syntax.erased Syntax.imm RelayCircuit.to; ref = λ x. x; }, (record {
-          pos = 27; ty = Syntax.tyRef Syntax.erased Syntax.imm InflightAction.to; ref = λ x. x; }, (record { pos = 12; st = List.[]; d = 0; at = λ x.
-          x }, (record { pos = 6; st = List.[]; d = 0; at = λ x. x }, (record { pos = 10; st = List.[]; d = 0; at = λ x. x }, (record { pos = 11; st =
-          List.[]; d = 0; at = λ x. x }, (record { pos = 7; ty = Syntax.tyRef (Syntax.named 4) Syntax.imm (Syntax.tyInt Syntax.w8); ref = λ x. x; },
-          tt,),),),),),),),) (m18 (c .before .before) (c .before .accept-answered-arg3 .given)) (c .accept-answered)
+      After-accept-answered·gave = λ c. Called.given ps·3 r·3 (claims· .7) T25 (record { pos = 26; ty = Syntax.tyRef Syntax.erased Syntax.imm
+          RelayPending.to; ref = λ x. x; }, (record { pos = 28; ty = Syntax.tyRef Syntax.erased Syntax.imm RelayCircuit.to; ref = λ x. x; }, (record {
+          pos = 30; ty = Syntax.tyRef Syntax.erased Syntax.imm InflightAction.to; ref = λ x. x; }, (record { pos = 6; st = List.[]; d = 0; at = λ x. x
+          }, (record { pos = 13; st = List.[]; d = 0; at = λ x. x }, (record { pos = 7; st = List.[]; d = 0; at = λ x. x }, (record { pos = 11; st =
+          List.[]; d = 0; at = λ x. x }, (record { pos = 12; st = List.[]; d = 0; at = λ x. x }, (record { pos = 8; ty = Syntax.tyRef (Syntax.named 4)
+          Syntax.imm (Syntax.tyInt Syntax.w8); ref = λ x. x; }, tt,),),),),),),),),) (m18 (c .before .before) (c .before .accept-answered-arg3
+          .given)) (c .accept-answered)
       abbrev pub m20 : (before : After-accept-answered-arg3) → (given : s24 (before .before .before .before .before .before .before .before .before
           .before .before .before .blocks) .gives (m18 (before .before) (before .accept-answered-arg3 .given))) → Typed.Mo T27
       m20 = λ before given. s25 (before .before .before .before .before .before .before .before .before .before .before .before .blocks) (m19 before
@@ -2512,16 +2642,16 @@ module _ (claims· : Claims) where
           (m26 (before .before) (After-accept-answered·gave before)) given
       module _ (before· : After-accept-answered) where
         abbrev pub After-accept-plan·own : Type 0
-        After-accept-plan·own = Called.Called ps·4 r·4 (claims· .9) T38 (record { pos = 13; st = List.[]; d = 0; at = λ x. x }, (record { pos = 5; st
-            = List.[]; d = 0; at = λ x. x }, (record { pos = 10; st = List.[]; d = 0; at = λ x. x }, (record { pos = 11; st = List.[]; d = 0; at = λ
+        After-accept-plan·own = Called.Called ps·4 r·4 (claims· .9) T38 (record { pos = 14; st = List.[]; d = 0; at = λ x. x }, (record { pos = 5; st
+            = List.[]; d = 0; at = λ x. x }, (record { pos = 11; st = List.[]; d = 0; at = λ x. x }, (record { pos = 12; st = List.[]; d = 0; at = λ
             x. x }, tt),),),) (m26 (before· .before) (After-accept-answered·gave before·))
       pub record After-accept-plan : Type 0 where
         pub before : After-accept-answered
         pub accept-plan : After-accept-plan·own before
       abbrev pub After-accept-plan·gave : (c : After-accept-plan) → s38 (c .before .before .before .before .before .before .before .before .before
           .before .before .before .before .blocks) .gives (m26 (c .before .before) (After-accept-answered·gave (c .before)))
-      After-accept-plan·gave = λ c. Called.given ps·4 r·4 (claims· .9) T38 (record { pos = 13; st = List.[]; d = 0; at = λ x. x }, (record { pos = 5;
-          st = List.[]; d = 0; at = λ x. x }, (record { pos = 10; st = List.[]; d = 0; at = λ x. x }, (record { pos = 11; st = List.[]; d = 0; at = λ
+      After-accept-plan·gave = λ c. Called.given ps·4 r·4 (claims· .9) T38 (record { pos = 14; st = List.[]; d = 0; at = λ x. x }, (record { pos = 5;
+          st = List.[]; d = 0; at = λ x. x }, (record { pos = 11; st = List.[]; d = 0; at = λ x. x }, (record { pos = 12; st = List.[]; d = 0; at = λ
           x. x }, tt),),),) (m26 (c .before .before) (After-accept-answered·gave (c .before))) (c .accept-plan)
       abbrev pub m28 : (before : After-accept-answered) → (given : s38 (before .before .before .before .before .before .before .before .before .before
           .before .before .before .blocks) .gives (m26 (before .before) (After-accept-answered·gave before))) → Typed.Mo T41
@@ -2536,14 +2666,14 @@ module _ (claims· : Claims) where
           .blocks) .next (m28 (before .before) (After-accept-plan·gave before)) given
       module _ (before· : After-accept-plan) where
         abbrev pub After-found-unmarked·own : Type 0
-        After-found-unmarked·own = Called.Called ps·5 r·5 (claims· .11) T41 (record { pos = 10; st = List.[]; d = 0; at = λ x. x }, tt,) (m28 (before·
+        After-found-unmarked·own = Called.Called ps·5 r·5 (claims· .11) T41 (record { pos = 11; st = List.[]; d = 0; at = λ x. x }, tt,) (m28 (before·
             .before) (After-accept-plan·gave before·))
       pub record After-found-unmarked : Type 0 where
         pub before : After-accept-plan
         pub found-unmarked : After-found-unmarked·own before
       abbrev pub After-found-unmarked·gave : (c : After-found-unmarked) → s40 (c .before .before .before .before .before .before .before .before
           .before .before .before .before .before .before .blocks) .gives (m28 (c .before .before) (After-accept-plan·gave (c .before)))
-      After-found-unmarked·gave = λ c. Called.given ps·5 r·5 (claims· .11) T41 (record { pos = 10; st = List.[]; d = 0; at = λ x. x }, tt,) (m28 (c
+      After-found-unmarked·gave = λ c. Called.given ps·5 r·5 (claims· .11) T41 (record { pos = 11; st = List.[]; d = 0; at = λ x. x }, tt,) (m28 (c
           .before .before) (After-accept-plan·gave (c .before))) (c .found-unmarked)
       abbrev pub Need-circuit-for-requires : Type 0
       Need-circuit-for-requires = (c : After-found-unmarked) → s41 (c .before .before .before .before .before .before .before .before .before .before
@@ -2554,16 +2684,16 @@ module _ (claims· : Claims) where
           .before .blocks) .next (m29 (before .before) (After-found-unmarked·gave before)) given
       module _ (before· : After-found-unmarked) where
         abbrev pub After-circuit-for·own : Type 0
-        After-circuit-for·own = Called.Called ps·6 r·6 (claims· .13) T42 (record { pos = 12; st = List.[]; d = 0; at = λ x. x }, (record { pos = 10;
-            st = List.[]; d = 0; at = λ x. x }, (record { pos = 11; st = List.[]; d = 0; at = λ x. x }, tt),),) (m29 (before· .before)
+        After-circuit-for·own = Called.Called ps·6 r·6 (claims· .13) T42 (record { pos = 13; st = List.[]; d = 0; at = λ x. x }, (record { pos = 11;
+            st = List.[]; d = 0; at = λ x. x }, (record { pos = 12; st = List.[]; d = 0; at = λ x. x }, tt),),) (m29 (before· .before)
             (After-found-unmarked·gave before·))
       pub record After-circuit-for : Type 0 where
         pub before : After-found-unmarked
         pub circuit-for : After-circuit-for·own before
       abbrev pub After-circuit-for·gave : (c : After-circuit-for) → s41 (c .before .before .before .before .before .before .before .before .before
           .before .before .before .before .before .before .blocks) .gives (m29 (c .before .before) (After-found-unmarked·gave (c .before)))
-      After-circuit-for·gave = λ c. Called.given ps·6 r·6 (claims· .13) T42 (record { pos = 12; st = List.[]; d = 0; at = λ x. x }, (record { pos =
-          10; st = List.[]; d = 0; at = λ x. x }, (record { pos = 11; st = List.[]; d = 0; at = λ x. x }, tt),),) (m29 (c .before .before)
+      After-circuit-for·gave = λ c. Called.given ps·6 r·6 (claims· .13) T42 (record { pos = 13; st = List.[]; d = 0; at = λ x. x }, (record { pos =
+          11; st = List.[]; d = 0; at = λ x. x }, (record { pos = 12; st = List.[]; d = 0; at = λ x. x }, tt),),) (m29 (c .before .before)
           (After-found-unmarked·gave (c .before))) (c .circuit-for)
       abbrev pub m31 : (before : After-found-unmarked) → (given : s41 (before .before .before .before .before .before .before .before .before .before
           .before .before .before .before .before .blocks) .gives (m29 (before .before) (After-found-unmarked·gave before))) → Typed.Mo T44
@@ -2673,22 +2803,22 @@ module _ (claims· : Claims) where
           given
       module _ (before· : After-accept-written-arg3) where
         abbrev pub After-accept-written·own : Type 0
-        After-accept-written·own = Called.Called ps·7 r·7 (claims· .15) T58 (record { pos = 30; ty = Syntax.tyRef Syntax.erased Syntax.mut
-            RelayPending.to; ref = λ x. x; }, (record { pos = 32; ty = Syntax.tyRef Syntax.erased Syntax.mut RelayCircuit.to; ref = λ x. x; }, (record
-            { pos = 34; ty = Syntax.tyRef Syntax.erased Syntax.mut InflightAction.to; ref = λ x. x; }, (record { pos = 14; st = List.[]; d = 0; at = λ
-            x. x }, (record { pos = 15; st = List.[]; d = 0; at = λ x. x }, (record { pos = 16; st = List.[]; d = 0; at = λ x. x }, tt),),),),),) (m42
-            (before· .before) (before· .accept-written-arg3 .given))
+        After-accept-written·own = Called.Called ps·7 r·7 (claims· .15) T58 (record { pos = 32; ty = Syntax.tyRef Syntax.erased Syntax.mut
+            RelayPending.to; ref = λ x. x; }, (record { pos = 34; ty = Syntax.tyRef Syntax.erased Syntax.mut RelayCircuit.to; ref = λ x. x; }, (record
+            { pos = 36; ty = Syntax.tyRef Syntax.erased Syntax.mut InflightAction.to; ref = λ x. x; }, (record { pos = 6; st = List.[]; d = 0; at = λ
+            x. x }, (record { pos = 15; st = List.[]; d = 0; at = λ x. x }, (record { pos = 16; st = List.[]; d = 0; at = λ x. x }, (record { pos =
+            17; st = List.[]; d = 0; at = λ x. x }, tt),),),),),),) (m42 (before· .before) (before· .accept-written-arg3 .given))
       pub record After-accept-written : Type 0 where
         pub before : After-accept-written-arg3
         pub accept-written : After-accept-written·own before
       abbrev pub After-accept-written·gave : (c : After-accept-written) → s57 (c .before .before .before .before .before .before .before .before
           .before .before .before .before .before .before .before .before .before .before .before .before .before .before .blocks) .gives (m42 (c
           .before .before) (c .before .accept-written-arg3 .given))
-      After-accept-written·gave = λ c. Called.given ps·7 r·7 (claims· .15) T58 (record { pos = 30; ty = Syntax.tyRef Syntax.erased Syntax.mut
-          RelayPending.to; ref = λ x. x; }, (record { pos = 32; ty = Syntax.tyRef Syntax.erased Syntax.mut RelayCircuit.to; ref = λ x. x; }, (record {
-          pos = 34; ty = Syntax.tyRef Syntax.erased Syntax.mut InflightAction.to; ref = λ x. x; }, (record { pos = 14; st = List.[]; d = 0; at = λ x.
-          x }, (record { pos = 15; st = List.[]; d = 0; at = λ x. x }, (record { pos = 16; st = List.[]; d = 0; at = λ x. x }, tt),),),),),) (m42 (c
-          .before .before) (c .before .accept-written-arg3 .given)) (c .accept-written)
+      After-accept-written·gave = λ c. Called.given ps·7 r·7 (claims· .15) T58 (record { pos = 32; ty = Syntax.tyRef Syntax.erased Syntax.mut
+          RelayPending.to; ref = λ x. x; }, (record { pos = 34; ty = Syntax.tyRef Syntax.erased Syntax.mut RelayCircuit.to; ref = λ x. x; }, (record {
+          pos = 36; ty = Syntax.tyRef Syntax.erased Syntax.mut InflightAction.to; ref = λ x. x; }, (record { pos = 6; st = List.[]; d = 0; at = λ x. x
+          }, (record { pos = 15; st = List.[]; d = 0; at = λ x. x }, (record { pos = 16; st = List.[]; d = 0; at = λ x. x }, (record { pos = 17; st =
+          List.[]; d = 0; at = λ x. x }, tt),),),),),),) (m42 (c .before .before) (c .before .accept-written-arg3 .given)) (c .accept-written)
       abbrev pub m44 : (before : After-accept-written-arg3) → (given : s57 (before .before .before .before .before .before .before .before .before
           .before .before .before .before .before .before .before .before .before .before .before .before .before .blocks) .gives (m42 (before
           .before) (before .accept-written-arg3 .given))) → Typed.Mo T60
@@ -2704,304 +2834,357 @@ module _ (claims· : Claims) where
           .before) (before .accept-written-arg3 .given))) → Typed.Mo T62
       m46 = λ before given. s60 (before .before .before .before .before .before .before .before .before .before .before .before .before .before
           .before .before .before .before .before .before .before .before .blocks) (m45 before given)
-      abbrev pub m47 : (before : After-accept-written-arg3) → (given : s57 (before .before .before .before .before .before .before .before .before
-          .before .before .before .before .before .before .before .before .before .before .before .before .before .blocks) .gives (m42 (before
-          .before) (before .accept-written-arg3 .given))) → Typed.Mo T63
-      m47 = λ before given. s61 (before .before .before .before .before .before .before .before .before .before .before .before .before .before
-          .before .before .before .before .before .before .before .before .blocks) (m46 before given)
-      abbrev pub m48 : (before : After-accept-written) → (given : s63 (before .before .before .before .before .before .before .before .before .before
-          .before .before .before .before .before .before .before .before .before .before .before .before .before .blocks) .gives (m47 (before
-          .before) (After-accept-written·gave before))) → Typed.Mo T65
-      m48 = λ before given. s63 (before .before .before .before .before .before .before .before .before .before .before .before .before .before
-          .before .before .before .before .before .before .before .before .before .blocks) .next (m47 (before .before) (After-accept-written·gave
+      abbrev pub m47 : (before : After-accept-written) → (given : s62 (before .before .before .before .before .before .before .before .before .before
+          .before .before .before .before .before .before .before .before .before .before .before .before .before .blocks) .gives (m46 (before
+          .before) (After-accept-written·gave before))) → Typed.Mo T64
+      m47 = λ before given. s62 (before .before .before .before .before .before .before .before .before .before .before .before .before .before
+          .before .before .before .before .before .before .before .before .before .blocks) .next (m46 (before .before) (After-accept-written·gave
           before)) given
       module _ (before· : After-accept-written) where
         pub record After-pending·own : Type 0 where
-          pub given : s63 (before· .before .before .before .before .before .before .before .before .before .before .before .before .before .before
-              .before .before .before .before .before .before .before .before .blocks) .gives (m47 (before· .before) (After-accept-written·gave
+          pub given : s62 (before· .before .before .before .before .before .before .before .before .before .before .before .before .before .before
+              .before .before .before .before .before .before .before .before .blocks) .gives (m46 (before· .before) (After-accept-written·gave
               before·))
       pub record After-pending : Type 0 where
         pub before : After-accept-written
         pub pending : After-pending·own before
-      abbrev pub m49 : (before : After-pending) → (given : s66 (before .before .before .before .before .before .before .before .before .before .before
-          .before .before .before .before .before .before .before .before .before .before .before .before .before .blocks) .gives (m48 (before
-          .before) (before .pending .given))) → Typed.Mo T68
-      m49 = λ before given. s66 (before .before .before .before .before .before .before .before .before .before .before .before .before .before
-          .before .before .before .before .before .before .before .before .before .before .blocks) .next (m48 (before .before) (before .pending
+      abbrev pub m48 : (before : After-pending) → (given : s65 (before .before .before .before .before .before .before .before .before .before .before
+          .before .before .before .before .before .before .before .before .before .before .before .before .before .blocks) .gives (m47 (before
+          .before) (before .pending .given))) → Typed.Mo T67
+      m48 = λ before given. s65 (before .before .before .before .before .before .before .before .before .before .before .before .before .before
+          .before .before .before .before .before .before .before .before .before .before .blocks) .next (m47 (before .before) (before .pending
           .given)) given
       module _ (before· : After-pending) where
         pub record After-circuits·own : Type 0 where
-          pub given : s66 (before· .before .before .before .before .before .before .before .before .before .before .before .before .before .before
-              .before .before .before .before .before .before .before .before .before .blocks) .gives (m48 (before· .before) (before· .pending
+          pub given : s65 (before· .before .before .before .before .before .before .before .before .before .before .before .before .before .before
+              .before .before .before .before .before .before .before .before .before .blocks) .gives (m47 (before· .before) (before· .pending
               .given))
       pub record After-circuits : Type 0 where
         pub before : After-pending
         pub circuits : After-circuits·own before
-      abbrev pub m50 : (before : After-circuits) → (given : s69 (before .before .before .before .before .before .before .before .before .before
-          .before .before .before .before .before .before .before .before .before .before .before .before .before .before .before .blocks) .gives (m49
-          (before .before) (before .circuits .given))) → Typed.Mo T71
-      m50 = λ before given. s69 (before .before .before .before .before .before .before .before .before .before .before .before .before .before
-          .before .before .before .before .before .before .before .before .before .before .before .blocks) .next (m49 (before .before) (before
+      abbrev pub m49 : (before : After-circuits) → (given : s68 (before .before .before .before .before .before .before .before .before .before
+          .before .before .before .before .before .before .before .before .before .before .before .before .before .before .before .blocks) .gives (m48
+          (before .before) (before .circuits .given))) → Typed.Mo T70
+      m49 = λ before given. s68 (before .before .before .before .before .before .before .before .before .before .before .before .before .before
+          .before .before .before .before .before .before .before .before .before .before .before .blocks) .next (m48 (before .before) (before
           .circuits .given)) given
       module _ (before· : After-circuits) where
         pub record After-inflight·own : Type 0 where
-          pub given : s69 (before· .before .before .before .before .before .before .before .before .before .before .before .before .before .before
-              .before .before .before .before .before .before .before .before .before .before .blocks) .gives (m49 (before· .before) (before·
+          pub given : s68 (before· .before .before .before .before .before .before .before .before .before .before .before .before .before .before
+              .before .before .before .before .before .before .before .before .before .before .blocks) .gives (m48 (before· .before) (before·
               .circuits .given))
       pub record After-inflight : Type 0 where
         pub before : After-circuits
         pub inflight : After-inflight·own before
-      abbrev pub m51 : (before : After-inflight) → (given : s72 (before .before .before .before .before .before .before .before .before .before
+      abbrev pub Need-with-circuits-requires : Type 0
+      Need-with-circuits-requires = (c : After-inflight) → s70 (c .before .before .before .before .before .before .before .before .before .before
+          .before .before .before .before .before .before .before .before .before .before .before .before .before .before .before .blocks) .asks (m49
+          (c .before) (c .inflight .given))
+      abbrev pub m50 : (before : After-inflight) → (given : s70 (before .before .before .before .before .before .before .before .before .before
           .before .before .before .before .before .before .before .before .before .before .before .before .before .before .before .before .blocks)
-          .gives (m50 (before .before) (before .inflight .given))) → Typed.Mo T74
-      m51 = λ before given. s72 (before .before .before .before .before .before .before .before .before .before .before .before .before .before
-          .before .before .before .before .before .before .before .before .before .before .before .before .blocks) .next (m50 (before .before) (before
+          .gives (m49 (before .before) (before .inflight .given))) → Typed.Mo T72
+      m50 = λ before given. s70 (before .before .before .before .before .before .before .before .before .before .before .before .before .before
+          .before .before .before .before .before .before .before .before .before .before .before .before .blocks) .next (m49 (before .before) (before
           .inflight .given)) given
-      abbrev pub m52 : (before : After-inflight) → (given : s72 (before .before .before .before .before .before .before .before .before .before
-          .before .before .before .before .before .before .before .before .before .before .before .before .before .before .before .before .blocks)
-          .gives (m50 (before .before) (before .inflight .given))) → Typed.Mo T75
-      m52 = λ before given. s73 (before .before .before .before .before .before .before .before .before .before .before .before .before .before
-          .before .before .before .before .before .before .before .before .before .before .before .before .blocks) .next (m51 before given)
       module _ (before· : After-inflight) where
-        pub record After-send-opened-arg·own : Type 0 where
-          pub given : s72 (before· .before .before .before .before .before .before .before .before .before .before .before .before .before .before
-              .before .before .before .before .before .before .before .before .before .before .before .blocks) .gives (m50 (before· .before) (before·
-              .inflight .given))
-      pub record After-send-opened-arg : Type 0 where
+        abbrev pub After-with-circuits·own : Type 0
+        After-with-circuits·own = Called.Called ps·8 r·8 (claims· .17) T70 (record { pos = 6; st = List.[]; d = 0; at = λ x. x }, (Num.vAt 21 λ x. x,
+            tt),) (m49 (before· .before) (before· .inflight .given))
+      pub record After-with-circuits : Type 0 where
         pub before : After-inflight
+        pub with-circuits : After-with-circuits·own before
+      abbrev pub After-with-circuits·gave : (c : After-with-circuits) → s70 (c .before .before .before .before .before .before .before .before .before
+          .before .before .before .before .before .before .before .before .before .before .before .before .before .before .before .before .before
+          .blocks) .gives (m49 (c .before .before) (c .before .inflight .given))
+      After-with-circuits·gave = λ c. Called.given ps·8 r·8 (claims· .17) T70 (record { pos = 6; st = List.[]; d = 0; at = λ x. x }, (Num.vAt 21 λ x.
+          x, tt),) (m49 (c .before .before) (c .before .inflight .given)) (c .with-circuits)
+      abbrev pub m51 : (before : After-inflight) → (given : s70 (before .before .before .before .before .before .before .before .before .before
+          .before .before .before .before .before .before .before .before .before .before .before .before .before .before .before .before .blocks)
+          .gives (m49 (before .before) (before .inflight .given))) → Typed.Mo T73
+      m51 = λ before given. s71 (before .before .before .before .before .before .before .before .before .before .before .before .before .before
+          .before .before .before .before .before .before .before .before .before .before .before .before .blocks) (m50 before given)
+      abbrev pub m52 : (before : After-with-circuits) → (given : s73 (before .before .before .before .before .before .before .before .before .before
+          .before .before .before .before .before .before .before .before .before .before .before .before .before .before .before .before .before
+          .blocks) .gives (m51 (before .before) (After-with-circuits·gave before))) → Typed.Mo T75
+      m52 = λ before given. s73 (before .before .before .before .before .before .before .before .before .before .before .before .before .before
+          .before .before .before .before .before .before .before .before .before .before .before .before .before .blocks) .next (m51 (before .before)
+          (After-with-circuits·gave before)) given
+      abbrev pub m53 : (before : After-with-circuits) → (given : s73 (before .before .before .before .before .before .before .before .before .before
+          .before .before .before .before .before .before .before .before .before .before .before .before .before .before .before .before .before
+          .blocks) .gives (m51 (before .before) (After-with-circuits·gave before))) → Typed.Mo T76
+      m53 = λ before given. s74 (before .before .before .before .before .before .before .before .before .before .before .before .before .before
+          .before .before .before .before .before .before .before .before .before .before .before .before .before .blocks) .next (m52 before given)
+      module _ (before· : After-with-circuits) where
+        pub record After-send-opened-arg·own : Type 0 where
+          pub given : s73 (before· .before .before .before .before .before .before .before .before .before .before .before .before .before .before
+              .before .before .before .before .before .before .before .before .before .before .before .before .blocks) .gives (m51 (before· .before)
+              (After-with-circuits·gave before·))
+      pub record After-send-opened-arg : Type 0 where
+        pub before : After-with-circuits
         pub send-opened-arg : After-send-opened-arg·own before
-      abbrev pub m53 : (before : After-send-opened-arg) → (given : s75 (before .before .before .before .before .before .before .before .before .before
+      abbrev pub m54 : (before : After-send-opened-arg) → (given : s76 (before .before .before .before .before .before .before .before .before .before
           .before .before .before .before .before .before .before .before .before .before .before .before .before .before .before .before .before
-          .blocks) .gives (m52 (before .before) (before .send-opened-arg .given))) → Typed.Mo T77
-      m53 = λ before given. s75 (before .before .before .before .before .before .before .before .before .before .before .before .before .before
-          .before .before .before .before .before .before .before .before .before .before .before .before .before .blocks) .next (m52 (before .before)
-          (before .send-opened-arg .given)) given
-      abbrev pub m54 : (before : After-send-opened-arg) → (given : s75 (before .before .before .before .before .before .before .before .before .before
-          .before .before .before .before .before .before .before .before .before .before .before .before .before .before .before .before .before
-          .blocks) .gives (m52 (before .before) (before .send-opened-arg .given))) → Typed.Mo T78
+          .before .blocks) .gives (m53 (before .before) (before .send-opened-arg .given))) → Typed.Mo T78
       m54 = λ before given. s76 (before .before .before .before .before .before .before .before .before .before .before .before .before .before
-          .before .before .before .before .before .before .before .before .before .before .before .before .before .blocks) .next (m53 before given)
+          .before .before .before .before .before .before .before .before .before .before .before .before .before .before .blocks) .next (m53 (before
+          .before) (before .send-opened-arg .given)) given
+      abbrev pub m55 : (before : After-send-opened-arg) → (given : s76 (before .before .before .before .before .before .before .before .before .before
+          .before .before .before .before .before .before .before .before .before .before .before .before .before .before .before .before .before
+          .before .blocks) .gives (m53 (before .before) (before .send-opened-arg .given))) → Typed.Mo T79
+      m55 = λ before given. s77 (before .before .before .before .before .before .before .before .before .before .before .before .before .before
+          .before .before .before .before .before .before .before .before .before .before .before .before .before .before .blocks) .next (m54 before
+          given)
       module _ (before· : After-send-opened-arg) where
         pub record After-send-opened-arg2·own : Type 0 where
-          pub given : s75 (before· .before .before .before .before .before .before .before .before .before .before .before .before .before .before
-              .before .before .before .before .before .before .before .before .before .before .before .before .blocks) .gives (m52 (before· .before)
-              (before· .send-opened-arg .given))
+          pub given : s76 (before· .before .before .before .before .before .before .before .before .before .before .before .before .before .before
+              .before .before .before .before .before .before .before .before .before .before .before .before .before .blocks) .gives (m53 (before·
+              .before) (before· .send-opened-arg .given))
       pub record After-send-opened-arg2 : Type 0 where
         pub before : After-send-opened-arg
         pub send-opened-arg2 : After-send-opened-arg2·own before
       abbrev pub Need-send-opened-requires : Type 0
-      Need-send-opened-requires = (c : After-send-opened-arg2) → s77 (c .before .before .before .before .before .before .before .before .before
+      Need-send-opened-requires = (c : After-send-opened-arg2) → s78 (c .before .before .before .before .before .before .before .before .before
           .before .before .before .before .before .before .before .before .before .before .before .before .before .before .before .before .before
-          .before .blocks) .asks (m54 (c .before) (c .send-opened-arg2 .given))
-      abbrev pub m55 : (before : After-send-opened-arg2) → (given : s77 (before .before .before .before .before .before .before .before .before
+          .before .before .blocks) .asks (m55 (c .before) (c .send-opened-arg2 .given))
+      abbrev pub m56 : (before : After-send-opened-arg2) → (given : s78 (before .before .before .before .before .before .before .before .before
           .before .before .before .before .before .before .before .before .before .before .before .before .before .before .before .before .before
-          .before .before .blocks) .gives (m54 (before .before) (before .send-opened-arg2 .given))) → Typed.Mo T79
-      m55 = λ before given. s77 (before .before .before .before .before .before .before .before .before .before .before .before .before .before
-          .before .before .before .before .before .before .before .before .before .before .before .before .before .before .blocks) .next (m54 (before
-          .before) (before .send-opened-arg2 .given)) given
+          .before .before .before .blocks) .gives (m55 (before .before) (before .send-opened-arg2 .given))) → Typed.Mo T80
+      m56 = λ before given. s78 (before .before .before .before .before .before .before .before .before .before .before .before .before .before
+          .before .before .before .before .before .before .before .before .before .before .before .before .before .before .before .blocks) .next (m55
+          (before .before) (before .send-opened-arg2 .given)) given
       module _ (before· : After-send-opened-arg2) where
         abbrev pub After-send-opened·own : Type 0
-        After-send-opened·own = Called.Called ps·8 r·8 (claims· .17) T78 (record { pos = 36; ty = Syntax.tyRef Syntax.erased Syntax.mut
-            InflightAction.to; ref = λ x. x; }, (record { pos = 38; ty = Syntax.tyRef Syntax.erased Syntax.mut (Syntax.tyInt Syntax.w32); ref = λ x.
-            x; }, (record { pos = 13; st = List.[]; d = 0; at = λ x. x }, (record { pos = 17; st = List.[]; d = 0; at = λ x. x }, (record { pos = 18;
-            st = List.[]; d = 0; at = λ x. x }, (record { pos = 19; st = List.[]; d = 0; at = λ x. x }, tt),),),),),) (m54 (before· .before) (before·
-            .send-opened-arg2 .given))
+        After-send-opened·own = Called.Called ps·9 r·9 (claims· .19) T79 (record { pos = 38; ty = Syntax.tyRef Syntax.erased Syntax.mut
+            InflightAction.to; ref = λ x. x; }, (record { pos = 40; ty = Syntax.tyRef Syntax.erased Syntax.mut (Syntax.tyInt Syntax.w32); ref = λ x.
+            x; }, (record { pos = 14; st = List.[]; d = 0; at = λ x. x }, (record { pos = 18; st = List.[]; d = 0; at = λ x. x }, (record { pos = 22;
+            st = List.[]; d = 0; at = λ x. x }, (record { pos = 19; st = List.[]; d = 0; at = λ x. x }, (record { pos = 20; st = List.[]; d = 0; at =
+            λ x. x }, tt),),),),),),) (m55 (before· .before) (before· .send-opened-arg2 .given))
       pub record After-send-opened : Type 0 where
         pub before : After-send-opened-arg2
         pub send-opened : After-send-opened·own before
-      abbrev pub After-send-opened·gave : (c : After-send-opened) → s77 (c .before .before .before .before .before .before .before .before .before
+      abbrev pub After-send-opened·gave : (c : After-send-opened) → s78 (c .before .before .before .before .before .before .before .before .before
           .before .before .before .before .before .before .before .before .before .before .before .before .before .before .before .before .before
-          .before .before .blocks) .gives (m54 (c .before .before) (c .before .send-opened-arg2 .given))
-      After-send-opened·gave = λ c. Called.given ps·8 r·8 (claims· .17) T78 (record { pos = 36; ty = Syntax.tyRef Syntax.erased Syntax.mut
-          InflightAction.to; ref = λ x. x; }, (record { pos = 38; ty = Syntax.tyRef Syntax.erased Syntax.mut (Syntax.tyInt Syntax.w32); ref = λ x. x;
-          }, (record { pos = 13; st = List.[]; d = 0; at = λ x. x }, (record { pos = 17; st = List.[]; d = 0; at = λ x. x }, (record { pos = 18; st =
-          List.[]; d = 0; at = λ x. x }, (record { pos = 19; st = List.[]; d = 0; at = λ x. x }, tt),),),),),) (m54 (c .before .before) (c .before
-          .send-opened-arg2 .given)) (c .send-opened)
-      abbrev pub m56 : (before : After-send-opened-arg2) → (given : s77 (before .before .before .before .before .before .before .before .before
+          .before .before .before .blocks) .gives (m55 (c .before .before) (c .before .send-opened-arg2 .given))
+      After-send-opened·gave = λ c. Called.given ps·9 r·9 (claims· .19) T79 (record { pos = 38; ty = Syntax.tyRef Syntax.erased Syntax.mut
+          InflightAction.to; ref = λ x. x; }, (record { pos = 40; ty = Syntax.tyRef Syntax.erased Syntax.mut (Syntax.tyInt Syntax.w32); ref = λ x. x;
+          }, (record { pos = 14; st = List.[]; d = 0; at = λ x. x }, (record { pos = 18; st = List.[]; d = 0; at = λ x. x }, (record { pos = 22; st =
+          List.[]; d = 0; at = λ x. x }, (record { pos = 19; st = List.[]; d = 0; at = λ x. x }, (record { pos = 20; st = List.[]; d = 0; at = λ x. x
+          }, tt),),),),),),) (m55 (c .before .before) (c .before .send-opened-arg2 .given)) (c .send-opened)
+      abbrev pub m57 : (before : After-send-opened-arg2) → (given : s78 (before .before .before .before .before .before .before .before .before
           .before .before .before .before .before .before .before .before .before .before .before .before .before .before .before .before .before
-          .before .before .blocks) .gives (m54 (before .before) (before .send-opened-arg2 .given))) → Typed.Mo T80
-      m56 = λ before given. s78 (before .before .before .before .before .before .before .before .before .before .before .before .before .before
-          .before .before .before .before .before .before .before .before .before .before .before .before .before .before .blocks) (m55 before given)
-      abbrev pub m57 : (before : After-send-opened-arg2) → (given : s77 (before .before .before .before .before .before .before .before .before
-          .before .before .before .before .before .before .before .before .before .before .before .before .before .before .before .before .before
-          .before .before .blocks) .gives (m54 (before .before) (before .send-opened-arg2 .given))) → Typed.Mo T81
+          .before .before .before .blocks) .gives (m55 (before .before) (before .send-opened-arg2 .given))) → Typed.Mo T81
       m57 = λ before given. s79 (before .before .before .before .before .before .before .before .before .before .before .before .before .before
-          .before .before .before .before .before .before .before .before .before .before .before .before .before .before .blocks) (m56 before given)
-      abbrev pub m58 : (before : After-send-opened-arg2) → (given : s77 (before .before .before .before .before .before .before .before .before
+          .before .before .before .before .before .before .before .before .before .before .before .before .before .before .before .blocks) (m56 before
+          given)
+      abbrev pub m58 : (before : After-send-opened-arg2) → (given : s78 (before .before .before .before .before .before .before .before .before
           .before .before .before .before .before .before .before .before .before .before .before .before .before .before .before .before .before
-          .before .before .blocks) .gives (m54 (before .before) (before .send-opened-arg2 .given))) → Typed.Mo T82
+          .before .before .before .blocks) .gives (m55 (before .before) (before .send-opened-arg2 .given))) → Typed.Mo T82
       m58 = λ before given. s80 (before .before .before .before .before .before .before .before .before .before .before .before .before .before
-          .before .before .before .before .before .before .before .before .before .before .before .before .before .before .blocks) (m57 before given)
-      abbrev pub m59 : (before : After-send-opened-arg2) → (given : s77 (before .before .before .before .before .before .before .before .before
+          .before .before .before .before .before .before .before .before .before .before .before .before .before .before .before .blocks) (m57 before
+          given)
+      abbrev pub m59 : (before : After-send-opened-arg2) → (given : s78 (before .before .before .before .before .before .before .before .before
           .before .before .before .before .before .before .before .before .before .before .before .before .before .before .before .before .before
-          .before .before .blocks) .gives (m54 (before .before) (before .send-opened-arg2 .given))) → Typed.Mo T83
+          .before .before .before .blocks) .gives (m55 (before .before) (before .send-opened-arg2 .given))) → Typed.Mo T83
       m59 = λ before given. s81 (before .before .before .before .before .before .before .before .before .before .before .before .before .before
-          .before .before .before .before .before .before .before .before .before .before .before .before .before .before .blocks) (m58 before given)
-      abbrev pub m60 : (before : After-send-opened) → (given : s83 (before .before .before .before .before .before .before .before .before .before
+          .before .before .before .before .before .before .before .before .before .before .before .before .before .before .before .blocks) (m58 before
+          given)
+      abbrev pub m60 : (before : After-send-opened-arg2) → (given : s78 (before .before .before .before .before .before .before .before .before
           .before .before .before .before .before .before .before .before .before .before .before .before .before .before .before .before .before
-          .before .before .blocks) .gives (m59 (before .before) (After-send-opened·gave before))) → Typed.Mo T85
-      m60 = λ before given. s83 (before .before .before .before .before .before .before .before .before .before .before .before .before .before
-          .before .before .before .before .before .before .before .before .before .before .before .before .before .before .before .blocks) .next (m59
-          (before .before) (After-send-opened·gave before)) given
+          .before .before .before .blocks) .gives (m55 (before .before) (before .send-opened-arg2 .given))) → Typed.Mo T84
+      m60 = λ before given. s82 (before .before .before .before .before .before .before .before .before .before .before .before .before .before
+          .before .before .before .before .before .before .before .before .before .before .before .before .before .before .before .blocks) (m59 before
+          given)
+      abbrev pub m61 : (before : After-send-opened-arg2) → (given : s78 (before .before .before .before .before .before .before .before .before
+          .before .before .before .before .before .before .before .before .before .before .before .before .before .before .before .before .before
+          .before .before .before .blocks) .gives (m55 (before .before) (before .send-opened-arg2 .given))) → Typed.Mo T85
+      m61 = λ before given. s83 (before .before .before .before .before .before .before .before .before .before .before .before .before .before
+          .before .before .before .before .before .before .before .before .before .before .before .before .before .before .before .blocks) (m60 before
+          given)
+      abbrev pub m62 : (before : After-send-opened-arg2) → (given : s78 (before .before .before .before .before .before .before .before .before
+          .before .before .before .before .before .before .before .before .before .before .before .before .before .before .before .before .before
+          .before .before .before .blocks) .gives (m55 (before .before) (before .send-opened-arg2 .given))) → Typed.Mo T86
+      m62 = λ before given. s84 (before .before .before .before .before .before .before .before .before .before .before .before .before .before
+          .before .before .before .before .before .before .before .before .before .before .before .before .before .before .before .blocks) (m61 before
+          given)
+      abbrev pub m63 : (before : After-send-opened) → (given : s86 (before .before .before .before .before .before .before .before .before .before
+          .before .before .before .before .before .before .before .before .before .before .before .before .before .before .before .before .before
+          .before .before .before .blocks) .gives (m62 (before .before) (After-send-opened·gave before))) → Typed.Mo T88
+      m63 = λ before given. s86 (before .before .before .before .before .before .before .before .before .before .before .before .before .before
+          .before .before .before .before .before .before .before .before .before .before .before .before .before .before .before .before .blocks)
+          .next (m62 (before .before) (After-send-opened·gave before)) given
       module _ (before· : After-send-opened) where
         pub record After-inflight2·own : Type 0 where
-          pub given : s83 (before· .before .before .before .before .before .before .before .before .before .before .before .before .before .before
-              .before .before .before .before .before .before .before .before .before .before .before .before .before .before .blocks) .gives (m59
-              (before· .before) (After-send-opened·gave before·))
+          pub given : s86 (before· .before .before .before .before .before .before .before .before .before .before .before .before .before .before
+              .before .before .before .before .before .before .before .before .before .before .before .before .before .before .before .blocks) .gives
+              (m62 (before· .before) (After-send-opened·gave before·))
       pub record After-inflight2 : Type 0 where
         pub before : After-send-opened
         pub inflight2 : After-inflight2·own before
-      abbrev pub m61 : (before : After-inflight2) → (given : s86 (before .before .before .before .before .before .before .before .before .before
+      abbrev pub m64 : (before : After-inflight2) → (given : s89 (before .before .before .before .before .before .before .before .before .before
           .before .before .before .before .before .before .before .before .before .before .before .before .before .before .before .before .before
-          .before .before .before .blocks) .gives (m60 (before .before) (before .inflight2 .given))) → Typed.Mo T88
-      m61 = λ before given. s86 (before .before .before .before .before .before .before .before .before .before .before .before .before .before
-          .before .before .before .before .before .before .before .before .before .before .before .before .before .before .before .before .blocks)
-          .next (m60 (before .before) (before .inflight2 .given)) given
+          .before .before .before .before .blocks) .gives (m63 (before .before) (before .inflight2 .given))) → Typed.Mo T91
+      m64 = λ before given. s89 (before .before .before .before .before .before .before .before .before .before .before .before .before .before
+          .before .before .before .before .before .before .before .before .before .before .before .before .before .before .before .before .before
+          .blocks) .next (m63 (before .before) (before .inflight2 .given)) given
       module _ (before· : After-inflight2) where
         pub record After-out·own : Type 0 where
-          pub given : s86 (before· .before .before .before .before .before .before .before .before .before .before .before .before .before .before
-              .before .before .before .before .before .before .before .before .before .before .before .before .before .before .before .blocks) .gives
-              (m60 (before· .before) (before· .inflight2 .given))
+          pub given : s89 (before· .before .before .before .before .before .before .before .before .before .before .before .before .before .before
+              .before .before .before .before .before .before .before .before .before .before .before .before .before .before .before .before .blocks)
+              .gives (m63 (before· .before) (before· .inflight2 .given))
       pub record After-out : Type 0 where
         pub before : After-inflight2
         pub out : After-out·own before
-      abbrev pub m62 : (before : After-out) → (given : s87 (before .before .before .before .before .before .before .before .before .before .before
+      abbrev pub m65 : (before : After-out) → (given : s90 (before .before .before .before .before .before .before .before .before .before .before
           .before .before .before .before .before .before .before .before .before .before .before .before .before .before .before .before .before
-          .before .before .before .blocks) .gives (m61 (before .before) (before .out .given))) → Typed.Mo T89
-      m62 = λ before given. s87 (before .before .before .before .before .before .before .before .before .before .before .before .before .before
+          .before .before .before .before .blocks) .gives (m64 (before .before) (before .out .given))) → Typed.Mo T92
+      m65 = λ before given. s90 (before .before .before .before .before .before .before .before .before .before .before .before .before .before
           .before .before .before .before .before .before .before .before .before .before .before .before .before .before .before .before .before
-          .blocks) .next (m61 (before .before) (before .out .given)) given
+          .before .blocks) .next (m64 (before .before) (before .out .given)) given
       module _ (before· : After-out) where
         pub record After-slice-known2·own : Type 0 where
-          pub given : s87 (before· .before .before .before .before .before .before .before .before .before .before .before .before .before .before
-              .before .before .before .before .before .before .before .before .before .before .before .before .before .before .before .before .blocks)
-              .gives (m61 (before· .before) (before· .out .given))
+          pub given : s90 (before· .before .before .before .before .before .before .before .before .before .before .before .before .before .before
+              .before .before .before .before .before .before .before .before .before .before .before .before .before .before .before .before .before
+              .blocks) .gives (m64 (before· .before) (before· .out .given))
       pub record After-slice-known2 : Type 0 where
         pub before : After-out
         pub slice-known2 : After-slice-known2·own before
       abbrev pub Need-same-length : Type 0
-      Need-same-length = (c : After-slice-known2) → MutSlice.SameLen (Row.get 1 (T89 .locals) (m62 (c .before) (c .slice-known2 .given))) (dens (c
+      Need-same-length = (c : After-slice-known2) → MutSlice.SameLen (Row.get 1 (T92 .locals) (m65 (c .before) (c .slice-known2 .given))) (dens (c
           .before .before .before .before .before .before .before .before .before .before .before .before .before .before .before .before .before
-          .before .before .before .before .before .before .before .before .before .before .before .before .before .before .κs) (c .before .before
+          .before .before .before .before .before .before .before .before .before .before .before .before .before .before .before .κs) (c .before
           .before .before .before .before .before .before .before .before .before .before .before .before .before .before .before .before .before
-          .before .before .before .before .before .before .before .before .before .before .before .before .args) .0)
+          .before .before .before .before .before .before .before .before .before .before .before .before .before .before .args) .0)
       abbrev pub Need-same-length-2 : Type 0
-      Need-same-length-2 = (c : After-slice-known2) → MutSlice.SameLen (Row.get 2 (T89 .locals) (m62 (c .before) (c .slice-known2 .given))) (dens (c
+      Need-same-length-2 = (c : After-slice-known2) → MutSlice.SameLen (Row.get 2 (T92 .locals) (m65 (c .before) (c .slice-known2 .given))) (dens (c
           .before .before .before .before .before .before .before .before .before .before .before .before .before .before .before .before .before
-          .before .before .before .before .before .before .before .before .before .before .before .before .before .before .κs) (c .before .before
+          .before .before .before .before .before .before .before .before .before .before .before .before .before .before .before .κs) (c .before
           .before .before .before .before .before .before .before .before .before .before .before .before .before .before .before .before .before
-          .before .before .before .before .before .before .before .before .before .before .before .before .args) .1 .0)
+          .before .before .before .before .before .before .before .before .before .before .before .before .before .before .args) .1 .0)
       abbrev pub Need-same-length-3 : Type 0
-      Need-same-length-3 = (c : After-slice-known2) → MutSlice.SameLen (Row.get 3 (T89 .locals) (m62 (c .before) (c .slice-known2 .given))) (dens (c
+      Need-same-length-3 = (c : After-slice-known2) → MutSlice.SameLen (Row.get 3 (T92 .locals) (m65 (c .before) (c .slice-known2 .given))) (dens (c
           .before .before .before .before .before .before .before .before .before .before .before .before .before .before .before .before .before
-          .before .before .before .before .before .before .before .before .before .before .before .before .before .before .κs) (c .before .before
+          .before .before .before .before .before .before .before .before .before .before .before .before .before .before .before .κs) (c .before
           .before .before .before .before .before .before .before .before .before .before .before .before .before .before .before .before .before
-          .before .before .before .before .before .before .before .before .before .before .before .before .args) .1 .1 .0)
+          .before .before .before .before .before .before .before .before .before .before .before .before .before .before .args) .1 .1 .0)
       abbrev pub Need-same-length-4 : Type 0
-      Need-same-length-4 = (c : After-slice-known2) → MutSlice.SameLen (Row.get 4 (T89 .locals) (m62 (c .before) (c .slice-known2 .given))) (dens (c
+      Need-same-length-4 = (c : After-slice-known2) → MutSlice.SameLen (Row.get 4 (T92 .locals) (m65 (c .before) (c .slice-known2 .given))) (dens (c
           .before .before .before .before .before .before .before .before .before .before .before .before .before .before .before .before .before
-          .before .before .before .before .before .before .before .before .before .before .before .before .before .before .κs) (c .before .before
+          .before .before .before .before .before .before .before .before .before .before .before .before .before .before .before .κs) (c .before
           .before .before .before .before .before .before .before .before .before .before .before .before .before .before .before .before .before
-          .before .before .before .before .before .before .before .before .before .before .before .before .args) .1 .1 .1 .0)
+          .before .before .before .before .before .before .before .before .before .before .before .before .before .before .args) .1 .1 .1 .0)
       abbrev pub Need-returns : Type 0
       Need-returns = (c : After-slice-known2) → Post· (c .before .before .before .before .before .before .before .before .before .before .before
           .before .before .before .before .before .before .before .before .before .before .before .before .before .before .before .before .before
-          .before .before .before .κs) (dens (c .before .before .before .before .before .before .before .before .before .before .before .before
+          .before .before .before .before .κs) (dens (c .before .before .before .before .before .before .before .before .before .before .before
           .before .before .before .before .before .before .before .before .before .before .before .before .before .before .before .before .before
-          .before .before .κs) (c .before .before .before .before .before .before .before .before .before .before .before .before .before .before
+          .before .before .before .before .κs) (c .before .before .before .before .before .before .before .before .before .before .before .before
           .before .before .before .before .before .before .before .before .before .before .before .before .before .before .before .before .before
-          .args)) (Function.resV r (c .before .before .before .before .before .before .before .before .before .before .before .before .before .before
-          .before .before .before .before .before .before .before .before .before .before .before .before .before .before .before .before .before .κs)
-          (m62 (c .before) (c .slice-known2 .given) .0)) (Clauses.atExit (Kinds.endedOf 6 ps r) (c .before .before .before .before .before .before
+          .before .before .before .args)) (Function.resV r (c .before .before .before .before .before .before .before .before .before .before .before
           .before .before .before .before .before .before .before .before .before .before .before .before .before .before .before .before .before
-          .before .before .before .before .before .before .before .before .κs) (dens (c .before .before .before .before .before .before .before
+          .before .before .before .before .κs) (m65 (c .before) (c .slice-known2 .given) .0)) (Clauses.atExit (Kinds.endedOf 6 ps r) (c .before
           .before .before .before .before .before .before .before .before .before .before .before .before .before .before .before .before .before
-          .before .before .before .before .before .before .before .κs) (c .before .before .before .before .before .before .before .before .before
+          .before .before .before .before .before .before .before .before .before .before .before .before .before .before .κs) (dens (c .before
           .before .before .before .before .before .before .before .before .before .before .before .before .before .before .before .before .before
-          .before .before .before .before .before .args)) (Enter.lastsP (c .before .before .before .before .before .before .before .before .before
+          .before .before .before .before .before .before .before .before .before .before .before .before .before .before .κs) (c .before .before
           .before .before .before .before .before .before .before .before .before .before .before .before .before .before .before .before .before
-          .before .before .before .before .before .κs) 1 ps xs (dens (c .before .before .before .before .before .before .before .before .before
+          .before .before .before .before .before .before .before .before .before .before .before .before .before .args)) (Enter.lastsP (c .before
           .before .before .before .before .before .before .before .before .before .before .before .before .before .before .before .before .before
-          .before .before .before .before .before .κs) (c .before .before .before .before .before .before .before .before .before .before .before
+          .before .before .before .before .before .before .before .before .before .before .before .before .before .before .κs) 1 ps xs (dens (c
           .before .before .before .before .before .before .before .before .before .before .before .before .before .before .before .before .before
-          .before .before .before .args)) (m62 (c .before) (c .slice-known2 .given) .1)))
+          .before .before .before .before .before .before .before .before .before .before .before .before .before .before .before .κs) (c .before
+          .before .before .before .before .before .before .before .before .before .before .before .before .before .before .before .before .before
+          .before .before .before .before .before .before .before .before .before .before .before .before .before .before .args)) (m65 (c .before) (c
+          .slice-known2 .given) .1)))
       module _ (at-requires : Need-at-requires) (look-up-pending-requires : Need-look-up-pending-requires) (decode-requires : Need-decode-requires)
           (accept-answered-requires : Need-accept-answered-requires) (accept-plan-requires : Need-accept-plan-requires) (found-unmarked-requires :
           Need-found-unmarked-requires) (circuit-for-requires : Need-circuit-for-requires) (accept-written-requires : Need-accept-written-requires)
-          (send-opened-requires : Need-send-opened-requires) (same-length : Need-same-length) (same-length-2 : Need-same-length-2) (same-length-3 :
-          Need-same-length-3) (same-length-4 : Need-same-length-4) (returns : Need-returns) where
-        lay9 : (c : After-send-opened) → at11 (c .before .before .before .before .before .before .before .before .before .before .before .before
-            .before .before .before .before .before .before .before .before .before .before .before .before .before .before .before .before .blocks)
-            (W0 (c .before .before .before .before .before .before .before .before .before .before .before .before .before .before .before .before
-            .before .before .before .before .before .before .before .before .before .before .before .before .κs) (c .before .before .before .before
+          (with-circuits-requires : Need-with-circuits-requires) (send-opened-requires : Need-send-opened-requires) (same-length : Need-same-length)
+          (same-length-2 : Need-same-length-2) (same-length-3 : Need-same-length-3) (same-length-4 : Need-same-length-4) (returns : Need-returns)
+          where
+        lay10 : (c : After-send-opened) → at13 (c .before .before .before .before .before .before .before .before .before .before .before .before
             .before .before .before .before .before .before .before .before .before .before .before .before .before .before .before .before .before
-            .before .before .before .before .before .before .before .args) (c .before .before .before .before .before .before .before .before .before
+            .blocks) (W0 (c .before .before .before .before .before .before .before .before .before .before .before .before .before .before .before
+            .before .before .before .before .before .before .before .before .before .before .before .before .before .before .κs) (c .before .before
             .before .before .before .before .before .before .before .before .before .before .before .before .before .before .before .before .before
-            .before .before .blocks)) (m55 (c .before) (After-send-opened·gave c))
-        lay9 = λ c. (Path.refl, λ g. (Path.refl, λ g'. λ g''. ((MutSlice.fix-len (Row.get 1 (T89 .locals) (m62 record { before = record { before =
+            .before .before .before .before .before .before .before .before .before .before .args) (c .before .before .before .before .before .before
+            .before .before .before .before .before .before .before .before .before .before .before .before .before .before .before .before .before
+            .before .before .before .before .before .before .blocks)) (m56 (c .before) (After-send-opened·gave c))
+        lay10 = λ c. (Path.refl, λ g. (Path.refl, λ g'. λ g''. ((MutSlice.fix-len (Row.get 1 (T92 .locals) (m65 record { before = record { before =
             record { before = c .before; send-opened = c .send-opened }; inflight2 = record { given = g }; }; out = record { given = g' }; } g'')
-            .ptr) (Row.get 1 (T89 .locals) (m62 record { before = record { before = record { before = c .before; send-opened = c .send-opened };
-            inflight2 = record { given = g }; }; out = record { given = g' }; } g'') .name) (Row.get 1 (T89 .locals) (m62 record { before = record {
+            .ptr) (Row.get 1 (T92 .locals) (m65 record { before = record { before = record { before = c .before; send-opened = c .send-opened };
+            inflight2 = record { given = g }; }; out = record { given = g' }; } g'') .name) (Row.get 1 (T92 .locals) (m65 record { before = record {
             before = record { before = c .before; send-opened = c .send-opened }; inflight2 = record { given = g }; }; out = record { given = g' }; }
             g'') .now) (dens (c .before .before .before .before .before .before .before .before .before .before .before .before .before .before
-            .before .before .before .before .before .before .before .before .before .before .before .before .before .before .κs) (c .before .before
+            .before .before .before .before .before .before .before .before .before .before .before .before .before .before .before .κs) (c .before
             .before .before .before .before .before .before .before .before .before .before .before .before .before .before .before .before .before
-            .before .before .before .before .before .before .before .before .before .args) .0 .now) (same-length record { before = record { before =
-            record { before = record { before = c .before; send-opened = c .send-opened }; inflight2 = record { given = g }; }; out = record { given =
-            g' }; }; slice-known2 = record { given = g'' }; }), (MutSlice.fix-len (Row.get 2 (T89 .locals) (m62 record { before = record { before =
-            record { before = c .before; send-opened = c .send-opened }; inflight2 = record { given = g }; }; out = record { given = g' }; } g'')
-            .ptr) (Row.get 2 (T89 .locals) (m62 record { before = record { before = record { before = c .before; send-opened = c .send-opened };
-            inflight2 = record { given = g }; }; out = record { given = g' }; } g'') .name) (Row.get 2 (T89 .locals) (m62 record { before = record {
-            before = record { before = c .before; send-opened = c .send-opened }; inflight2 = record { given = g }; }; out = record { given = g' }; }
-            g'') .now) (dens (c .before .before .before .before .before .before .before .before .before .before .before .before .before .before
-            .before .before .before .before .before .before .before .before .before .before .before .before .before .before .κs) (c .before .before
-            .before .before .before .before .before .before .before .before .before .before .before .before .before .before .before .before .before
-            .before .before .before .before .before .before .before .before .before .args) .1 .0 .now) (same-length-2 record { before = record {
-            before = record { before = record { before = c .before; send-opened = c .send-opened }; inflight2 = record { given = g }; }; out = record
-            { given = g' }; }; slice-known2 = record { given = g'' }; }), (MutSlice.fix-len (Row.get 3 (T89 .locals) (m62 record { before = record {
-            before = record { before = c .before; send-opened = c .send-opened }; inflight2 = record { given = g }; }; out = record { given = g' }; }
-            g'') .ptr) (Row.get 3 (T89 .locals) (m62 record { before = record { before = record { before = c .before; send-opened = c .send-opened };
-            inflight2 = record { given = g }; }; out = record { given = g' }; } g'') .name) (Row.get 3 (T89 .locals) (m62 record { before = record {
-            before = record { before = c .before; send-opened = c .send-opened }; inflight2 = record { given = g }; }; out = record { given = g' }; }
-            g'') .now) (dens (c .before .before .before .before .before .before .before .before .before .before .before .before .before .before
-            .before .before .before .before .before .before .before .before .before .before .before .before .before .before .κs) (c .before .before
-            .before .before .before .before .before .before .before .before .before .before .before .before .before .before .before .before .before
-            .before .before .before .before .before .before .before .before .before .args) .1 .1 .0 .now) (same-length-3 record { before = record {
-            before = record { before = record { before = c .before; send-opened = c .send-opened; }; inflight2 = record { given = g }; }; out = record
-            { given = g' }; }; slice-known2 = record { given = g'' }; }), (MutSlice.fix-len (Row.get 4 (T89 .locals) (m62 record { before = record {
-            before = record { before = c .before; send-opened = c .send-opened }; inflight2 = record { given = g }; }; out = record { given = g' }; }
-            g'') .ptr) (Row.get 4 (T89 .locals) (m62 record { before = record { before = record { before = c .before; send-opened = c .send-opened };
-            inflight2 = record { given = g }; }; out = record { given = g' }; } g'') .name) (Row.get 4 (T89 .locals) (m62 record { before = record {
-            before = record { before = c .before; send-opened = c .send-opened }; inflight2 = record { given = g }; }; out = record { given = g' }; }
-            g'') .now) (dens (c .before .before .before .before .before .before .before .before .before .before .before .before .before .before
-            .before .before .before .before .before .before .before .before .before .before .before .before .before .before .κs) (c .before .before
-            .before .before .before .before .before .before .before .before .before .before .before .before .before .before .before .before .before
-            .before .before .before .before .before .before .before .before .before .args) .1 .1 .1 .0 .now) (same-length-4 record { before = record {
-            before = record { before = record { before = c .before; send-opened = c .send-opened; }; inflight2 = record { given = g }; }; out = record
-            { given = g' }; }; slice-known2 = record { given = g'' }; }), (tt, (tt, (Path.refl, (Path.refl, tt)))),),),),), returns record { before =
+            .before .before .before .before .before .before .before .before .before .before .before .args) .0 .now) (same-length record { before =
             record { before = record { before = record { before = c .before; send-opened = c .send-opened }; inflight2 = record { given = g }; }; out
-            = record { given = g' }; }; slice-known2 = record { given = g'' }; },),),)
-        lay8 : (c : After-accept-written) → at31 (c .before .before .before .before .before .before .before .before .before .before .before .before
+            = record { given = g' }; }; slice-known2 = record { given = g'' }; }), (MutSlice.fix-len (Row.get 2 (T92 .locals) (m65 record { before =
+            record { before = record { before = c .before; send-opened = c .send-opened }; inflight2 = record { given = g }; }; out = record { given =
+            g' }; } g'') .ptr) (Row.get 2 (T92 .locals) (m65 record { before = record { before = record { before = c .before; send-opened = c
+            .send-opened }; inflight2 = record { given = g }; }; out = record { given = g' }; } g'') .name) (Row.get 2 (T92 .locals) (m65 record {
+            before = record { before = record { before = c .before; send-opened = c .send-opened }; inflight2 = record { given = g }; }; out = record
+            { given = g' }; } g'') .now) (dens (c .before .before .before .before .before .before .before .before .before .before .before .before
+            .before .before .before .before .before .before .before .before .before .before .before .before .before .before .before .before .before
+            .κs) (c .before .before .before .before .before .before .before .before .before .before .before .before .before .before .before .before
+            .before .before .before .before .before .before .before .before .before .before .before .before .before .args) .1 .0 .now) (same-length-2
+            record { before = record { before = record { before = record { before = c .before; send-opened = c .send-opened }; inflight2 = record {
+            given = g }; }; out = record { given = g' }; }; slice-known2 = record { given = g'' }; }), (MutSlice.fix-len (Row.get 3 (T92 .locals) (m65
+            record { before = record { before = record { before = c .before; send-opened = c .send-opened }; inflight2 = record { given = g }; }; out
+            = record { given = g' }; } g'') .ptr) (Row.get 3 (T92 .locals) (m65 record { before = record { before = record { before = c .before;
+            send-opened = c .send-opened }; inflight2 = record { given = g }; }; out = record { given = g' }; } g'') .name) (Row.get 3 (T92 .locals)
+            (m65 record { before = record { before = record { before = c .before; send-opened = c .send-opened }; inflight2 = record { given = g }; };
+            out = record { given = g' }; } g'') .now) (dens (c .before .before .before .before .before .before .before .before .before .before .before
+            .before .before .before .before .before .before .before .before .before .before .before .before .before .before .before .before .before
+            .before .κs) (c .before .before .before .before .before .before .before .before .before .before .before .before .before .before .before
+            .before .before .before .before .before .before .before .before .before .before .before .before .before .before .args) .1 .1 .0 .now)
+            (same-length-3 record { before = record { before = record { before = record { before = c .before; send-opened = c .send-opened; };
+            inflight2 = record { given = g }; }; out = record { given = g' }; }; slice-known2 = record { given = g'' }; }), (MutSlice.fix-len (Row.get
+            4 (T92 .locals) (m65 record { before = record { before = record { before = c .before; send-opened = c .send-opened }; inflight2 = record {
+            given = g }; }; out = record { given = g' }; } g'') .ptr) (Row.get 4 (T92 .locals) (m65 record { before = record { before = record {
+            before = c .before; send-opened = c .send-opened }; inflight2 = record { given = g }; }; out = record { given = g' }; } g'') .name)
+            (Row.get 4 (T92 .locals) (m65 record { before = record { before = record { before = c .before; send-opened = c .send-opened }; inflight2 =
+            record { given = g }; }; out = record { given = g' }; } g'') .now) (dens (c .before .before .before .before .before .before .before
+            .before .before .before .before .before .before .before .before .before .before .before .before .before .before .before .before .before
+            .before .before .before .before .before .κs) (c .before .before .before .before .before .before .before .before .before .before .before
+            .before .before .before .before .before .before .before .before .before .before .before .before .before .before .before .before .before
+            .before .args) .1 .1 .1 .0 .now) (same-length-4 record { before = record { before = record { before = record { before = c .before;
+            send-opened = c .send-opened; }; inflight2 = record { given = g }; }; out = record { given = g' }; }; slice-known2 = record { given = g''
+            }; }), (tt, (tt, (tt, (Path.refl, (Path.refl, tt))))),),),),), returns record { before = record { before = record { before = record {
+            before = c .before; send-opened = c .send-opened }; inflight2 = record { given = g }; }; out = record { given = g' }; }; slice-known2 =
+            record { given = g'' }; },),),)
+        lay9 : (c : After-with-circuits) → at21 (c .before .before .before .before .before .before .before .before .before .before .before .before
+            .before .before .before .before .before .before .before .before .before .before .before .before .before .before .blocks) (W0 (c .before
+            .before .before .before .before .before .before .before .before .before .before .before .before .before .before .before .before .before
+            .before .before .before .before .before .before .before .before .κs) (c .before .before .before .before .before .before .before .before
+            .before .before .before .before .before .before .before .before .before .before .before .before .before .before .before .before .before
+            .before .args) (c .before .before .before .before .before .before .before .before .before .before .before .before .before .before .before
+            .before .before .before .before .before .before .before .before .before .before .before .blocks)) (m50 (c .before)
+            (After-with-circuits·gave c))
+        lay9 = λ c. λ g. (Path.refl, λ g'. (Path.refl, (send-opened-requires record { before = record { before = record { before = c .before;
+            with-circuits = c .with-circuits }; send-opened-arg = record { given = g }; }; send-opened-arg2 = record { given = g' }; }, λ g''. lay10
+            record { before = record { before = record { before = record { before = c .before; with-circuits = c .with-circuits }; send-opened-arg =
+            record { given = g }; }; send-opened-arg2 = record { given = g' }; }; send-opened = Called.called ps·9 r·9 (claims· .19) T79 (record { pos
+            = 38; ty = Syntax.tyRef Syntax.erased Syntax.mut InflightAction.to; ref = λ x. x; }, (record { pos = 40; ty = Syntax.tyRef Syntax.erased
+            Syntax.mut (Syntax.tyInt Syntax.w32); ref = λ x. x; }, (record { pos = 14; st = List.[]; d = 0; at = λ x. x }, (record { pos = 18; st =
+            List.[]; d = 0; at = λ x. x }, (record { pos = 22; st = List.[]; d = 0; at = λ x. x }, (record { pos = 19; st = List.[]; d = 0; at = λ x.
+            x }, (record { pos = 20; st = List.[]; d = 0; at = λ x. x }, tt),),),),),),) (m55 record { before = record { before = c .before;
+            with-circuits = c .with-circuits }; send-opened-arg = record { given = g }; } g') g''; },),),)
+        lay8 : (c : After-accept-written) → at34 (c .before .before .before .before .before .before .before .before .before .before .before .before
             .before .before .before .before .before .before .before .before .before .before .blocks) (W0 (c .before .before .before .before .before
             .before .before .before .before .before .before .before .before .before .before .before .before .before .before .before .before .before
             .κs) (c .before .before .before .before .before .before .before .before .before .before .before .before .before .before .before .before
             .before .before .before .before .before .before .args) (c .before .before .before .before .before .before .before .before .before .before
             .before .before .before .before .before .before .before .before .before .before .before .before .blocks)) (m43 (c .before)
             (After-accept-written·gave c))
-        lay8 = λ c. (Path.refl, λ g. (Path.refl, λ g'. (Path.refl, λ g''. λ g'3. (Path.refl, λ g'4. (Path.refl, (send-opened-requires record { before
-            = record { before = record { before = record { before = record { before = record { before = c .before; accept-written = c .accept-written;
-            }; pending = record { given = g }; }; circuits = record { given = g' }; }; inflight = record { given = g'' }; }; send-opened-arg = record
-            { given = g'3 }; }; send-opened-arg2 = record { given = g'4 }; }, λ g'5. lay9 record { before = record { before = record { before = record
-            { before = record { before = record { before = record { before = c .before; accept-written = c .accept-written; }; pending = record {
-            given = g }; }; circuits = record { given = g' }; }; inflight = record { given = g'' }; }; send-opened-arg = record { given = g'3 }; };
-            send-opened-arg2 = record { given = g'4 }; }; send-opened = Called.called ps·8 r·8 (claims· .17) T78 (record { pos = 36; ty = Syntax.tyRef
-            Syntax.erased Syntax.mut InflightAction.to; ref = λ x. x; }, (record { pos = 38; ty = Syntax.tyRef Syntax.erased Syntax.mut (Syntax.tyInt
-            Syntax.w32); ref = λ x. x; }, (record { pos = 13; st = List.[]; d = 0; at = λ x. x }, (record { pos = 17; st = List.[]; d = 0; at = λ x. x
-            }, (record { pos = 18; st = List.[]; d = 0; at = λ x. x }, (record { pos = 19; st = List.[]; d = 0; at = λ x. x }, tt),),),),),) (m54
-            record { before = record { before = record { before = record { before = record { before = c .before; accept-written = c .accept-written;
-            }; pending = record { given = g }; }; circuits = record { given = g' }; }; inflight = record { given = g'' }; }; send-opened-arg = record
-            { given = g'3 }; } g'4) g'5; },),),),),),)
-        lay7 : (c : After-circuit-for) → at47 (c .before .before .before .before .before .before .before .before .before .before .before .before
+        lay8 = λ c. (Path.refl, λ g. (Path.refl, λ g'. (Path.refl, λ g''. (with-circuits-requires record { before = record { before = record { before
+            = record { before = c .before; accept-written = c .accept-written }; pending = record { given = g }; }; circuits = record { given = g' };
+            }; inflight = record { given = g'' }; }, λ g'3. lay9 record { before = record { before = record { before = record { before = record {
+            before = c .before; accept-written = c .accept-written; }; pending = record { given = g }; }; circuits = record { given = g' }; };
+            inflight = record { given = g'' }; }; with-circuits = Called.called ps·8 r·8 (claims· .17) T70 (record { pos = 6; st = List.[]; d = 0; at
+            = λ x. x }, (Num.vAt 21 λ x. x, tt),) (m49 record { before = record { before = record { before = c .before; accept-written = c
+            .accept-written }; pending = record { given = g }; }; circuits = record { given = g' }; } g'') g'3; },),),),)
+        lay7 : (c : After-circuit-for) → at50 (c .before .before .before .before .before .before .before .before .before .before .before .before
             .before .before .before .blocks) (W0 (c .before .before .before .before .before .before .before .before .before .before .before .before
             .before .before .before .κs) (c .before .before .before .before .before .before .before .before .before .before .before .before .before
             .before .before .args) (c .before .before .before .before .before .before .before .before .before .before .before .before .before .before
@@ -3013,39 +3196,39 @@ module _ (claims· : Claims) where
             g'5 }; }, λ g'6. lay8 record { before = record { before = record { before = record { before = record { before = record { before = record {
             before = record { before = c .before; circuit-for = c .circuit-for; }; counted = record { given = g }; }; message = record { given = g' };
             }; opened = record { given = g'' }; }; accept-written-arg = record { given = g'3 }; }; accept-written-arg2 = record { given = g'4 }; };
-            accept-written-arg3 = record { given = g'5 }; }; accept-written = Called.called ps·7 r·7 (claims· .15) T58 (record { pos = 30; ty =
-            Syntax.tyRef Syntax.erased Syntax.mut RelayPending.to; ref = λ x. x; }, (record { pos = 32; ty = Syntax.tyRef Syntax.erased Syntax.mut
-            RelayCircuit.to; ref = λ x. x; }, (record { pos = 34; ty = Syntax.tyRef Syntax.erased Syntax.mut InflightAction.to; ref = λ x. x; },
-            (record { pos = 14; st = List.[]; d = 0; at = λ x. x }, (record { pos = 15; st = List.[]; d = 0; at = λ x. x }, (record { pos = 16; st =
-            List.[]; d = 0; at = λ x. x }, tt),),),),),) (m42 record { before = record { before = record { before = record { before = record { before
-            = record { before = c .before; circuit-for = c .circuit-for; }; counted = record { given = g }; }; message = record { given = g' }; };
-            opened = record { given = g'' }; }; accept-written-arg = record { given = g'3 }; }; accept-written-arg2 = record { given = g'4 }; } g'5)
-            g'6; },),),),),),),)
-        lay6 : (c : After-found-unmarked) → at48 (c .before .before .before .before .before .before .before .before .before .before .before .before
+            accept-written-arg3 = record { given = g'5 }; }; accept-written = Called.called ps·7 r·7 (claims· .15) T58 (record { pos = 32; ty =
+            Syntax.tyRef Syntax.erased Syntax.mut RelayPending.to; ref = λ x. x; }, (record { pos = 34; ty = Syntax.tyRef Syntax.erased Syntax.mut
+            RelayCircuit.to; ref = λ x. x; }, (record { pos = 36; ty = Syntax.tyRef Syntax.erased Syntax.mut InflightAction.to; ref = λ x. x; },
+            (record { pos = 6; st = List.[]; d = 0; at = λ x. x }, (record { pos = 15; st = List.[]; d = 0; at = λ x. x }, (record { pos = 16; st =
+            List.[]; d = 0; at = λ x. x }, (record { pos = 17; st = List.[]; d = 0; at = λ x. x }, tt),),),),),),) (m42 record { before = record {
+            before = record { before = record { before = record { before = record { before = c .before; circuit-for = c .circuit-for; }; counted =
+            record { given = g }; }; message = record { given = g' }; }; opened = record { given = g'' }; }; accept-written-arg = record { given = g'3
+            }; }; accept-written-arg2 = record { given = g'4 }; } g'5) g'6; },),),),),),),)
+        lay6 : (c : After-found-unmarked) → at51 (c .before .before .before .before .before .before .before .before .before .before .before .before
             .before .before .blocks) (W0 (c .before .before .before .before .before .before .before .before .before .before .before .before .before
             .before .κs) (c .before .before .before .before .before .before .before .before .before .before .before .before .before .before .args) (c
             .before .before .before .before .before .before .before .before .before .before .before .before .before .before .blocks)) (m29 (c .before)
             (After-found-unmarked·gave c))
         lay6 = λ c. (circuit-for-requires record { before = c .before; found-unmarked = c .found-unmarked }, λ g. lay7 record { before = record {
-            before = c .before; found-unmarked = c .found-unmarked }; circuit-for = Called.called ps·6 r·6 (claims· .13) T42 (record { pos = 12; st =
-            List.[]; d = 0; at = λ x. x }, (record { pos = 10; st = List.[]; d = 0; at = λ x. x }, (record { pos = 11; st = List.[]; d = 0; at = λ x.
+            before = c .before; found-unmarked = c .found-unmarked }; circuit-for = Called.called ps·6 r·6 (claims· .13) T42 (record { pos = 13; st =
+            List.[]; d = 0; at = λ x. x }, (record { pos = 11; st = List.[]; d = 0; at = λ x. x }, (record { pos = 12; st = List.[]; d = 0; at = λ x.
             x }, tt),),) (m29 (c .before) (After-found-unmarked·gave c)) g; },)
-        lay5 : (c : After-accept-plan) → at50 (c .before .before .before .before .before .before .before .before .before .before .before .before
+        lay5 : (c : After-accept-plan) → at53 (c .before .before .before .before .before .before .before .before .before .before .before .before
             .before .blocks) (W0 (c .before .before .before .before .before .before .before .before .before .before .before .before .before .κs) (c
             .before .before .before .before .before .before .before .before .before .before .before .before .before .args) (c .before .before .before
             .before .before .before .before .before .before .before .before .before .before .blocks)) (m27 (c .before) (After-accept-plan·gave c))
         lay5 = λ c. (found-unmarked-requires record { before = c .before; accept-plan = c .accept-plan }, λ g. lay6 record { before = record { before
-            = c .before; accept-plan = c .accept-plan }; found-unmarked = Called.called ps·5 r·5 (claims· .11) T41 (record { pos = 10; st = List.[]; d
+            = c .before; accept-plan = c .accept-plan }; found-unmarked = Called.called ps·5 r·5 (claims· .11) T41 (record { pos = 11; st = List.[]; d
             = 0; at = λ x. x }, tt,) (m28 (c .before) (After-accept-plan·gave c)) g; },)
-        lay4 : (c : After-accept-answered) → at64 (c .before .before .before .before .before .before .before .before .before .before .before .before
+        lay4 : (c : After-accept-answered) → at67 (c .before .before .before .before .before .before .before .before .before .before .before .before
             .blocks) (W0 (c .before .before .before .before .before .before .before .before .before .before .before .before .κs) (c .before .before
             .before .before .before .before .before .before .before .before .before .before .args) (c .before .before .before .before .before .before
             .before .before .before .before .before .before .blocks)) (m19 (c .before) (After-accept-answered·gave c))
         lay4 = λ c. (accept-plan-requires record { before = c .before; accept-answered = c .accept-answered; }, λ g. lay5 record { before = record {
-            before = c .before; accept-answered = c .accept-answered }; accept-plan = Called.called ps·4 r·4 (claims· .9) T38 (record { pos = 13; st =
-            List.[]; d = 0; at = λ x. x }, (record { pos = 5; st = List.[]; d = 0; at = λ x. x }, (record { pos = 10; st = List.[]; d = 0; at = λ x. x
-            }, (record { pos = 11; st = List.[]; d = 0; at = λ x. x }, tt),),),) (m26 (c .before) (After-accept-answered·gave c)) g; },)
-        lay3 : (c : After-decode) → at75 (c .before .before .before .before .before .before .before .blocks) (W0 (c .before .before .before .before
+            before = c .before; accept-answered = c .accept-answered }; accept-plan = Called.called ps·4 r·4 (claims· .9) T38 (record { pos = 14; st =
+            List.[]; d = 0; at = λ x. x }, (record { pos = 5; st = List.[]; d = 0; at = λ x. x }, (record { pos = 11; st = List.[]; d = 0; at = λ x. x
+            }, (record { pos = 12; st = List.[]; d = 0; at = λ x. x }, tt),),),) (m26 (c .before) (After-accept-answered·gave c)) g; },)
+        lay3 : (c : After-decode) → at78 (c .before .before .before .before .before .before .before .blocks) (W0 (c .before .before .before .before
             .before .before .before .κs) (c .before .before .before .before .before .before .before .args) (c .before .before .before .before .before
             .before .before .blocks)) (m11 (c .before) (After-decode·gave c))
         lay3 = λ c. (tt, λ g. λ g'. (Path.refl, λ g''. (Path.refl, λ g'3. (Path.refl, (accept-answered-requires record { before = record { before =
@@ -3054,39 +3237,40 @@ module _ (claims· : Claims) where
             g'3 }; }, λ g'4. lay4 record { before = record { before = record { before = record { before = record { before = record { before = c
             .before; decode = c .decode }; config = record { given = g }; }; accept-answered-arg = record { given = g' }; }; accept-answered-arg2 =
             record { given = g'' }; }; accept-answered-arg3 = record { given = g'3 }; }; accept-answered = Called.called ps·3 r·3 (claims· .7) T25
-            (record { pos = 23; ty = Syntax.tyRef Syntax.erased Syntax.imm RelayPending.to; ref = λ x. x; }, (record { pos = 25; ty = Syntax.tyRef
-            Syntax.erased Syntax.imm RelayCircuit.to; ref = λ x. x; }, (record { pos = 27; ty = Syntax.tyRef Syntax.erased Syntax.imm
-            InflightAction.to; ref = λ x. x; }, (record { pos = 12; st = List.[]; d = 0; at = λ x. x }, (record { pos = 6; st = List.[]; d = 0; at = λ
-            x. x }, (record { pos = 10; st = List.[]; d = 0; at = λ x. x }, (record { pos = 11; st = List.[]; d = 0; at = λ x. x }, (record { pos = 7;
-            ty = Syntax.tyRef (Syntax.named 4) Syntax.imm (Syntax.tyInt Syntax.w8); ref = λ x. x; }, tt,),),),),),),),) (m18 record { before = record
-            { before = record { before = record { before = c .before; decode = c .decode }; config = record { given = g }; }; accept-answered-arg =
-            record { given = g' }; }; accept-answered-arg2 = record { given = g'' }; } g'3) g'4; },),),),),)
-        lay2 : (c : After-look-up-pending) → at81 (c .before .before .before .before .before .before .blocks) (W0 (c .before .before .before .before
+            (record { pos = 26; ty = Syntax.tyRef Syntax.erased Syntax.imm RelayPending.to; ref = λ x. x; }, (record { pos = 28; ty = Syntax.tyRef
+            Syntax.erased Syntax.imm RelayCircuit.to; ref = λ x. x; }, (record { pos = 30; ty = Syntax.tyRef Syntax.erased Syntax.imm
+            InflightAction.to; ref = λ x. x; }, (record { pos = 6; st = List.[]; d = 0; at = λ x. x }, (record { pos = 13; st = List.[]; d = 0; at = λ
+            x. x }, (record { pos = 7; st = List.[]; d = 0; at = λ x. x }, (record { pos = 11; st = List.[]; d = 0; at = λ x. x }, (record { pos = 12;
+            st = List.[]; d = 0; at = λ x. x }, (record { pos = 8; ty = Syntax.tyRef (Syntax.named 4) Syntax.imm (Syntax.tyInt Syntax.w8); ref = λ x.
+            x; }, tt,),),),),),),),),) (m18 record { before = record { before = record { before = record { before = c .before; decode = c .decode };
+            config = record { given = g }; }; accept-answered-arg = record { given = g' }; }; accept-answered-arg2 = record { given = g'' }; } g'3)
+            g'4; },),),),),)
+        lay2 : (c : After-look-up-pending) → at84 (c .before .before .before .before .before .before .blocks) (W0 (c .before .before .before .before
             .before .before .κs) (c .before .before .before .before .before .before .args) (c .before .before .before .before .before .before
             .blocks)) (m7 (c .before) (After-look-up-pending·gave c))
         lay2 = λ c. (decode-requires record { before = c .before; look-up-pending = c .look-up-pending }, λ g. lay3 record { before = record { before
-            = c .before; look-up-pending = c .look-up-pending }; decode = Called.called ps·2 r·2 (claims· .5) T13 (record { pos = 8; ty = Syntax.tyRef
+            = c .before; look-up-pending = c .look-up-pending }; decode = Called.called ps·2 r·2 (claims· .5) T13 (record { pos = 9; ty = Syntax.tyRef
             (Syntax.named 5) Syntax.imm (Syntax.tyInt Syntax.w8); ref = λ x. x; }, tt,) (m10 (c .before) (After-look-up-pending·gave c)) g; },)
-        lay1 : (c : After-at) → at85 (c .before .before .before .before .blocks) (W0 (c .before .before .before .before .κs) (c .before .before
+        lay1 : (c : After-at) → at88 (c .before .before .before .before .blocks) (W0 (c .before .before .before .before .κs) (c .before .before
             .before .before .args) (c .before .before .before .before .blocks)) (m4 (c .before) (After-at·gave c))
         lay1 = λ c. λ g. (Path.refl, (look-up-pending-requires record { before = record { before = c .before; at = c .at }; look-up-pending-arg =
             record { given = g }; }, λ g'. lay2 record { before = record { before = record { before = c .before; at = c .at }; look-up-pending-arg =
-            record { given = g }; }; look-up-pending = Called.called ps·1 r·1 (claims· .3) T8 (record { pos = 21; ty = Syntax.tyRef Syntax.erased
-            Syntax.imm RelayPending.to; ref = λ x. x; }, (record { pos = 9; st = List.[]; d = 0; at = λ x. x }, tt),) (m6 record { before = c .before;
-            at = c .at } g) g'; },),)
-        pub laid : (c : Start) → at89 (c .blocks) (W0 (c .κs) (c .args) (c .blocks)) (m0 (c .κs) (c .args) (c .blocks))
+            record { given = g }; }; look-up-pending = Called.called ps·1 r·1 (claims· .3) T8 (record { pos = 24; ty = Syntax.tyRef Syntax.erased
+            Syntax.imm RelayPending.to; ref = λ x. x; }, (record { pos = 6; st = List.[]; d = 0; at = λ x. x }, (record { pos = 10; st = List.[]; d =
+            0; at = λ x. x }, tt),),) (m6 record { before = c .before; at = c .at } g) g'; },),)
+        pub laid : (c : Start) → at92 (c .blocks) (W0 (c .κs) (c .args) (c .blocks)) (m0 (c .κs) (c .args) (c .blocks))
         laid = λ c. λ g. λ g'. λ g''. (at-requires record { before = record { before = record { before = c; slice-known = record { given = g } };
             shared-slice-known = record { given = g' }; }; shared-slice-known2 = record { given = g'' }; }, λ g'3. lay1 record { before = record {
             before = record { before = record { before = c; slice-known = record { given = g } }; shared-slice-known = record { given = g' }; };
-            shared-slice-known2 = record { given = g'' }; }; at = Called.called ps·0 r·0 (claims· .1) T4 (Num.vFld 6 ((Syntax.field 1) ∷ List.[]) 8 λ
+            shared-slice-known2 = record { given = g'' }; }; at = Called.called ps·0 r·0 (claims· .1) T4 (Num.vFld 7 ((Syntax.field 1) ∷ List.[]) 8 λ
             x. RelayPacket.struct .as-values x .1 .0, (Num.vLit 0, tt),) (m3 record { before = record { before = c; slice-known = record { given = g }
             }; shared-slice-known = record { given = g' }; } g'') g'3; },)
         module _ (κs : Lifetimes.Lfts 6) (qs : Lifetimes.Shares 6) where
           pub asked : (a : Kinds.Dens κs ps) → (good : Kinds.GoodsP κs ps a) → (pre : Pre· κs a) → (bs : List.List Nat.ℕ) → Φ bs (Any.wantQ 6 ps r xs
               m κs qs a (Post· κs a)) (Function.init 6 ps r xs m κs qs a)
           asked = λ a good pre bs. laid record { κs = κs; args = record { pending = a .0; circuits = a .1 .0; inflight = a .1 .1 .0; out = a .1 .1 .1
-              .0; runtime = a .1 .1 .1 .1 .0; packet = a .1 .1 .1 .1 .1 .0; source = a .1 .1 .1 .1 .1 .1 .0; body = a .1 .1 .1 .1 .1 .1 .1 .0; };
-              blocks = bs; good = good; pre = pre; }
+              .0; runtime = a .1 .1 .1 .1 .0; places = a .1 .1 .1 .1 .1 .0; packet = a .1 .1 .1 .1 .1 .1 .0; source = a .1 .1 .1 .1 .1 .1 .1 .0; body
+              = a .1 .1 .1 .1 .1 .1 .1 .1 .0; }; blocks = bs; good = good; pre = pre; }
         module _ { M : Type 1 } (𝓤 : URA.URA M) (H : Wp.Heap 𝓤) (A : Atoms.Atoms 𝓤) (W : Kit.Given 𝓤 H A) (𝓣 : Wp.Tables 𝓤 H) (known0 : Plain.Known 𝓤
             H A W 𝓣 0 ps·0 r·0 (claims· .0) (claims· .1) "hnsr_circuit::question::at") (known1 : Plain.Known 𝓤 H A W 𝓣 1 ps·1 r·1 (claims· .2)
             (claims· .3) "hnsr_circuit::lookup::look_up_pending") (known2 : Plain.Known 𝓤 H A W 𝓣 1 ps·2 r·2 (claims· .4) (claims· .5)
@@ -3095,8 +3279,9 @@ module _ (claims· : Claims) where
             "hnsr_circuit::accept::accept_plan") (known5 : Plain.Known 𝓤 H A W 𝓣 0 ps·5 r·5 (claims· .10) (claims· .11)
             "hnsr_circuit::accept::found_unmarked") (known6 : Plain.Known 𝓤 H A W 𝓣 0 ps·6 r·6 (claims· .12) (claims· .13)
             "hnsr_circuit::accept::circuit_for") (known7 : Plain.Known 𝓤 H A W 𝓣 3 ps·7 r·7 (claims· .14) (claims· .15)
-            "hnsr_circuit::handle_accept::accept_written") (known8 : Plain.Known 𝓤 H A W 𝓣 2 ps·8 r·8 (claims· .16) (claims· .17)
+            "hnsr_circuit::handle_accept::accept_written") (known8 : Plain.Known 𝓤 H A W 𝓣 0 ps·8 r·8 (claims· .16) (claims· .17)
+            "hnsr_circuit::places::with_circuits") (known9 : Plain.Known 𝓤 H A W 𝓣 2 ps·9 r·9 (claims· .18) (claims· .19)
             "hnsr_circuit::handle_accept::send_opened") where
           pub spec : Statement.Triple 𝓤 (Wp.WpFn 𝓤 H (𝓣 .C) (𝓣 .Λ) (Function.fnOf 6 ps r xs m hs body)) (Function.plainOf 𝓤 H A 6 ps r Pre· Post·)
           spec = Plain.t-fn-plain 𝓤 H A W 𝓣 6 ps r xs m hs body (λ κs qs bs. Φ bs) (λ κs qs bs bd. typed κs qs 𝓤 H A W 𝓣 (known0, known1, known2,
-              known3, known4, known5, known6, known7, known8,) bs bd) Pre· Post· asked
+              known3, known4, known5, known6, known7, known8, known9,) bs bd) Pre· Post· asked

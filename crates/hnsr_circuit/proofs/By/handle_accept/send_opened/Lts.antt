@@ -5,16 +5,18 @@ use Rattle.hnsr_body.proofs.accept_body.OpenedBody.Laws
 use Rattle.hnsr_circuit.proofs.By.InflightAction
 use Rattle.hnsr_circuit.proofs.answer.HnsrAnswer
 use Rattle.hnsr_circuit.proofs.answer.HnsrAnswer.Laws as Laws'
+use Rattle.hnsr_circuit.proofs.places.Places
+use Rattle.hnsr_circuit.proofs.places.Places.Laws as Laws''
 use Rattle.hnsr_circuit.proofs.records.ActionQuestion
-use Rattle.hnsr_circuit.proofs.records.ActionQuestion.Laws as Laws''
+use Rattle.hnsr_circuit.proofs.records.ActionQuestion.Laws as Laws'''
 use Rattle.hnsr_circuit.proofs.records.ActionScan
-use Rattle.hnsr_circuit.proofs.records.ActionScan.Laws as Laws'''
+use Rattle.hnsr_circuit.proofs.records.ActionScan.Laws as Laws''''
 use Rattle.hnsr_circuit.proofs.records.Outgoing
-use Rattle.hnsr_circuit.proofs.records.Outgoing.Laws as Laws''''
+use Rattle.hnsr_circuit.proofs.records.Outgoing.Laws as Laws'''''
 use Rattle.hnsr_circuit.proofs.runtime.OpaqueRelayRuntime
-use Rattle.hnsr_circuit.proofs.runtime.OpaqueRelayRuntime.Laws as Laws'''''
+use Rattle.hnsr_circuit.proofs.runtime.OpaqueRelayRuntime.Laws as Laws''''''
 use Rattle.hnsr_circuit.proofs.runtime.Relayed
-use Rattle.hnsr_circuit.proofs.runtime.Relayed.Laws as Laws''''''
+use Rattle.hnsr_circuit.proofs.runtime.Relayed.Laws as Laws'''''''
 use borrow.Author.Called
 use borrow.Fn.Any
 use borrow.Fn.Call
@@ -51,10 +53,10 @@ use borrow.Table.Typed
 use contract.Lifetimes
 use denote.Array as Array'
 use denote.Enum.Declared
-use denote.Enum.Laws as Laws'''''''
+use denote.Enum.Laws as Laws''''''''
 use denote.Exit
 use denote.Struct.Declared as Declared'
-use denote.Struct.Laws as Laws''''''''
+use denote.Struct.Laws as Laws'''''''''
 use denote.Triple.Clauses
 use denote.Triple.Statement
 use ghost.Atoms
@@ -84,37 +86,43 @@ abbrev ref6 : Syntax.Ty
 ref6 = Syntax.tyRef (Syntax.named 1) Syntax.mut (Syntax.tyInt Syntax.w32)
 abbrev pub ps : List.List (Kinds.PK 2)
 ps = (MutSlice.pMutS InflightAction.row 0 tt) ∷ (MutSlice.pMutS (Referent.rtF (Referent.fInt Syntax.w32)) 1 tt) ∷ (Value.pVal record { ty =
-    Declared.row HnsrAnswer.the-type; one = Path.refl; val = Laws'''''''.val HnsrAnswer.the-type Laws'.the-laws; tells = Laws'''''''.tells
-    HnsrAnswer.the-type Laws'.the-laws; still = Laws'''''''.still HnsrAnswer.the-type Laws'.the-copy Exit.yes; row = Rows'.whole (Declared.row
-    HnsrAnswer.the-type); rd = λ x. x; mk = λ x. x; } λ M 𝓤 H A W. record { copies = Laws'''''''.copy HnsrAnswer.the-type Laws'.the-copy 𝓤 H A W;
-    lawful = Laws'''''''.lawful HnsrAnswer.the-type Laws'.the-laws 𝓤 H A W tt; makes = Laws'''''''.makes HnsrAnswer.the-type Laws'.the-plain 𝓤 H A;
+    Declared.row HnsrAnswer.the-type; one = Path.refl; val = Laws''''''''.val HnsrAnswer.the-type Laws'.the-laws; tells = Laws''''''''.tells
+    HnsrAnswer.the-type Laws'.the-laws; still = Laws''''''''.still HnsrAnswer.the-type Laws'.the-copy Exit.yes; row = Rows'.whole (Declared.row
+    HnsrAnswer.the-type); rd = λ x. x; mk = λ x. x; } λ M 𝓤 H A W. record { copies = Laws''''''''.copy HnsrAnswer.the-type Laws'.the-copy 𝓤 H A W;
+    lawful = Laws''''''''.lawful HnsrAnswer.the-type Laws'.the-laws 𝓤 H A W tt; makes = Laws''''''''.makes HnsrAnswer.the-type Laws'.the-plain 𝓤 H A;
     in-mem = Local.mem-whole 𝓤 H A W (Declared.row HnsrAnswer.the-type); of-mem = Local.whole-mem 𝓤 H A W (Declared.row HnsrAnswer.the-type); }) ∷
-    (Value.pVal record { ty = Declared'.row OpaqueRelayRuntime.the-type; one = Path.refl; val = Laws''''''''.val OpaqueRelayRuntime.the-type
-    Laws'''''.the-laws; tells = Laws''''''''.tells OpaqueRelayRuntime.the-type Laws'''''.the-laws; still = Laws''''''''.still
-    OpaqueRelayRuntime.the-type Laws'''''.the-copy Exit.yes; row = Rows'.whole (Declared'.row OpaqueRelayRuntime.the-type); rd = λ x. x; mk = λ x. x;
-    } λ M 𝓤 H A W. record { copies = Laws''''''''.copy OpaqueRelayRuntime.the-type Laws'''''.the-copy 𝓤 H A W; lawful = Laws''''''''.lawful
-    OpaqueRelayRuntime.the-type Laws'''''.the-laws 𝓤 H A W; makes = Laws''''''''.makes OpaqueRelayRuntime.the-type Laws'''''.the-plain 𝓤 H A; in-mem =
-    Local.mem-whole 𝓤 H A W (Declared'.row OpaqueRelayRuntime.the-type); of-mem = Local.whole-mem 𝓤 H A W (Declared'.row OpaqueRelayRuntime.the-type);
-    }) ∷ (Value.pVal record { ty = Declared'.row Outgoing.the-type; one = Path.refl; val = Laws''''''''.val Outgoing.the-type Laws''''.the-laws; tells
-    = Laws''''''''.tells Outgoing.the-type Laws''''.the-laws; still = Laws''''''''.still Outgoing.the-type Laws''''.the-copy Exit.yes; row =
-    Rows'.whole (Declared'.row Outgoing.the-type); rd = λ x. x; mk = λ x. x; } λ M 𝓤 H A W. record { copies = Laws''''''''.copy Outgoing.the-type
-    Laws''''.the-copy 𝓤 H A W; lawful = Laws''''''''.lawful Outgoing.the-type Laws''''.the-laws 𝓤 H A W; makes = Laws''''''''.makes Outgoing.the-type
-    Laws''''.the-plain 𝓤 H A; in-mem = Local.mem-whole 𝓤 H A W (Declared'.row Outgoing.the-type); of-mem = Local.whole-mem 𝓤 H A W (Declared'.row
-    Outgoing.the-type); }) ∷ (Value.pVal record { ty = Declared'.row OpenedBody.the-type; one = Path.refl; val = Laws''''''''.val OpenedBody.the-type
-    Laws.the-laws; tells = Laws''''''''.tells OpenedBody.the-type Laws.the-laws; still = Laws''''''''.still OpenedBody.the-type Laws.the-copy
-    Exit.yes; row = Rows'.whole (Declared'.row OpenedBody.the-type); rd = λ x. x; mk = λ x. x; } λ M 𝓤 H A W. record { copies = Laws''''''''.copy
-    OpenedBody.the-type Laws.the-copy 𝓤 H A W; lawful = Laws''''''''.lawful OpenedBody.the-type Laws.the-laws 𝓤 H A W; makes = Laws''''''''.makes
-    OpenedBody.the-type Laws.the-plain 𝓤 H A; in-mem = Local.mem-whole 𝓤 H A W (Declared'.row OpenedBody.the-type); of-mem = Local.whole-mem 𝓤 H A W
-    (Declared'.row OpenedBody.the-type); }) ∷ List.[]
+    (Value.pVal record { ty = Declared'.row OpaqueRelayRuntime.the-type; one = Path.refl; val = Laws'''''''''.val OpaqueRelayRuntime.the-type
+    Laws''''''.the-laws; tells = Laws'''''''''.tells OpaqueRelayRuntime.the-type Laws''''''.the-laws; still = Laws'''''''''.still
+    OpaqueRelayRuntime.the-type Laws''''''.the-copy Exit.yes; row = Rows'.whole (Declared'.row OpaqueRelayRuntime.the-type); rd = λ x. x; mk = λ x. x;
+    } λ M 𝓤 H A W. record { copies = Laws'''''''''.copy OpaqueRelayRuntime.the-type Laws''''''.the-copy 𝓤 H A W; lawful = Laws'''''''''.lawful
+    OpaqueRelayRuntime.the-type Laws''''''.the-laws 𝓤 H A W; makes = Laws'''''''''.makes OpaqueRelayRuntime.the-type Laws''''''.the-plain 𝓤 H A;
+    in-mem = Local.mem-whole 𝓤 H A W (Declared'.row OpaqueRelayRuntime.the-type); of-mem = Local.whole-mem 𝓤 H A W (Declared'.row
+    OpaqueRelayRuntime.the-type); }) ∷ (Value.pVal record { ty = Declared'.row Places.the-type; one = Path.refl; val = Laws'''''''''.val
+    Places.the-type Laws''.the-laws; tells = Laws'''''''''.tells Places.the-type Laws''.the-laws; still = Laws'''''''''.still Places.the-type
+    Laws''.the-copy Exit.yes; row = Rows'.whole (Declared'.row Places.the-type); rd = λ x. x; mk = λ x. x; } λ M 𝓤 H A W. record { copies =
+    Laws'''''''''.copy Places.the-type Laws''.the-copy 𝓤 H A W; lawful = Laws'''''''''.lawful Places.the-type Laws''.the-laws 𝓤 H A W; makes =
+    Laws'''''''''.makes Places.the-type Laws''.the-plain 𝓤 H A; in-mem = Local.mem-whole 𝓤 H A W (Declared'.row Places.the-type); of-mem =
+    Local.whole-mem 𝓤 H A W (Declared'.row Places.the-type); }) ∷ (Value.pVal record { ty = Declared'.row Outgoing.the-type; one = Path.refl; val =
+    Laws'''''''''.val Outgoing.the-type Laws'''''.the-laws; tells = Laws'''''''''.tells Outgoing.the-type Laws'''''.the-laws; still =
+    Laws'''''''''.still Outgoing.the-type Laws'''''.the-copy Exit.yes; row = Rows'.whole (Declared'.row Outgoing.the-type); rd = λ x. x; mk = λ x. x;
+    } λ M 𝓤 H A W. record { copies = Laws'''''''''.copy Outgoing.the-type Laws'''''.the-copy 𝓤 H A W; lawful = Laws'''''''''.lawful Outgoing.the-type
+    Laws'''''.the-laws 𝓤 H A W; makes = Laws'''''''''.makes Outgoing.the-type Laws'''''.the-plain 𝓤 H A; in-mem = Local.mem-whole 𝓤 H A W
+    (Declared'.row Outgoing.the-type); of-mem = Local.whole-mem 𝓤 H A W (Declared'.row Outgoing.the-type); }) ∷ (Value.pVal record { ty =
+    Declared'.row OpenedBody.the-type; one = Path.refl; val = Laws'''''''''.val OpenedBody.the-type Laws.the-laws; tells = Laws'''''''''.tells
+    OpenedBody.the-type Laws.the-laws; still = Laws'''''''''.still OpenedBody.the-type Laws.the-copy Exit.yes; row = Rows'.whole (Declared'.row
+    OpenedBody.the-type); rd = λ x. x; mk = λ x. x; } λ M 𝓤 H A W. record { copies = Laws'''''''''.copy OpenedBody.the-type Laws.the-copy 𝓤 H A W;
+    lawful = Laws'''''''''.lawful OpenedBody.the-type Laws.the-laws 𝓤 H A W; makes = Laws'''''''''.makes OpenedBody.the-type Laws.the-plain 𝓤 H A;
+    in-mem = Local.mem-whole 𝓤 H A W (Declared'.row OpenedBody.the-type); of-mem = Local.whole-mem 𝓤 H A W (Declared'.row OpenedBody.the-type); }) ∷
+    List.[]
 abbrev pub r : Kinds.RK 2
-r = Value.rVal record { ty = Declared'.row Relayed.the-type; one = Path.refl; val = Laws''''''''.val Relayed.the-type Laws''''''.the-laws; tells =
-    Laws''''''''.tells Relayed.the-type Laws''''''.the-laws; still = Laws''''''''.still Relayed.the-type Laws''''''.the-copy Exit.yes; row =
-    Rows'.whole (Declared'.row Relayed.the-type); rd = λ x. x; mk = λ x. x; } λ M 𝓤 H A W. record { copies = Laws''''''''.copy Relayed.the-type
-    Laws''''''.the-copy 𝓤 H A W; lawful = Laws''''''''.lawful Relayed.the-type Laws''''''.the-laws 𝓤 H A W; makes = Laws''''''''.makes
-    Relayed.the-type Laws''''''.the-plain 𝓤 H A; in-mem = Local.mem-whole 𝓤 H A W (Declared'.row Relayed.the-type); of-mem = Local.whole-mem 𝓤 H A W
+r = Value.rVal record { ty = Declared'.row Relayed.the-type; one = Path.refl; val = Laws'''''''''.val Relayed.the-type Laws'''''''.the-laws; tells =
+    Laws'''''''''.tells Relayed.the-type Laws'''''''.the-laws; still = Laws'''''''''.still Relayed.the-type Laws'''''''.the-copy Exit.yes; row =
+    Rows'.whole (Declared'.row Relayed.the-type); rd = λ x. x; mk = λ x. x; } λ M 𝓤 H A W. record { copies = Laws'''''''''.copy Relayed.the-type
+    Laws'''''''.the-copy 𝓤 H A W; lawful = Laws'''''''''.lawful Relayed.the-type Laws'''''''.the-laws 𝓤 H A W; makes = Laws'''''''''.makes
+    Relayed.the-type Laws'''''''.the-plain 𝓤 H A; in-mem = Local.mem-whole 𝓤 H A W (Declared'.row Relayed.the-type); of-mem = Local.whole-mem 𝓤 H A W
     (Declared'.row Relayed.the-type); }
 abbrev pub xs : List.List Syntax.Ty
-xs = Laws''.mir ∷ Laws'''.mir ∷ (Syntax.tyArray (Syntax.tyInt Syntax.w8) 28) ∷ ref0 ∷ (Syntax.tyStruct (38 ∷ 91 ∷ 93 ∷ List.[]) (Syntax.tcons ref0
+xs = Laws'''.mir ∷ Laws''''.mir ∷ (Syntax.tyArray (Syntax.tyInt Syntax.w8) 28) ∷ ref0 ∷ (Syntax.tyStruct (38 ∷ 91 ∷ 93 ∷ List.[]) (Syntax.tcons ref0
     (Syntax.tcons (Syntax.tyInt Syntax.w64) Syntax.tnil))) ∷ (Syntax.tyArray (Syntax.tyInt Syntax.w8) 28) ∷ ref1 ∷ (Syntax.tyStruct (38 ∷ 91 ∷ 93 ∷
     List.[]) (Syntax.tcons ref1 (Syntax.tcons (Syntax.tyInt Syntax.w64) Syntax.tnil))) ∷ ref2 ∷ (Syntax.tyStruct (38 ∷ 91 ∷ 93 ∷ List.[])
     (Syntax.tcons ref2 (Syntax.tcons (Syntax.tyInt Syntax.w64) Syntax.tnil))) ∷ ref3 ∷ (Syntax.tyStruct (38 ∷ 91 ∷ 93 ∷ List.[]) (Syntax.tcons ref4
@@ -122,117 +130,128 @@ xs = Laws''.mir ∷ Laws'''.mir ∷ (Syntax.tyArray (Syntax.tyInt Syntax.w8) 28)
 abbrev pub m : Nat.ℕ
 m = 4
 abbrev pub ps·0 : List.List (Kinds.PK 0)
-ps·0 = (Value.pVal record { ty = Declared'.row OpaqueRelayRuntime.the-type; one = Path.refl; val = Laws''''''''.val OpaqueRelayRuntime.the-type
-    Laws'''''.the-laws; tells = Laws''''''''.tells OpaqueRelayRuntime.the-type Laws'''''.the-laws; still = Laws''''''''.still
-    OpaqueRelayRuntime.the-type Laws'''''.the-copy Exit.yes; row = Rows'.whole (Declared'.row OpaqueRelayRuntime.the-type); rd = λ x. x; mk = λ x. x;
-    } λ M 𝓤 H A W. record { copies = Laws''''''''.copy OpaqueRelayRuntime.the-type Laws'''''.the-copy 𝓤 H A W; lawful = Laws''''''''.lawful
-    OpaqueRelayRuntime.the-type Laws'''''.the-laws 𝓤 H A W; makes = Laws''''''''.makes OpaqueRelayRuntime.the-type Laws'''''.the-plain 𝓤 H A; in-mem =
-    Local.mem-whole 𝓤 H A W (Declared'.row OpaqueRelayRuntime.the-type); of-mem = Local.whole-mem 𝓤 H A W (Declared'.row OpaqueRelayRuntime.the-type);
-    }) ∷ (Value.pVal record { ty = Declared'.row Outgoing.the-type; one = Path.refl; val = Laws''''''''.val Outgoing.the-type Laws''''.the-laws; tells
-    = Laws''''''''.tells Outgoing.the-type Laws''''.the-laws; still = Laws''''''''.still Outgoing.the-type Laws''''.the-copy Exit.yes; row =
-    Rows'.whole (Declared'.row Outgoing.the-type); rd = λ x. x; mk = λ x. x; } λ M 𝓤 H A W. record { copies = Laws''''''''.copy Outgoing.the-type
-    Laws''''.the-copy 𝓤 H A W; lawful = Laws''''''''.lawful Outgoing.the-type Laws''''.the-laws 𝓤 H A W; makes = Laws''''''''.makes Outgoing.the-type
-    Laws''''.the-plain 𝓤 H A; in-mem = Local.mem-whole 𝓤 H A W (Declared'.row Outgoing.the-type); of-mem = Local.whole-mem 𝓤 H A W (Declared'.row
-    Outgoing.the-type); }) ∷ List.[]
+ps·0 = (Value.pVal record { ty = Declared'.row OpaqueRelayRuntime.the-type; one = Path.refl; val = Laws'''''''''.val OpaqueRelayRuntime.the-type
+    Laws''''''.the-laws; tells = Laws'''''''''.tells OpaqueRelayRuntime.the-type Laws''''''.the-laws; still = Laws'''''''''.still
+    OpaqueRelayRuntime.the-type Laws''''''.the-copy Exit.yes; row = Rows'.whole (Declared'.row OpaqueRelayRuntime.the-type); rd = λ x. x; mk = λ x. x;
+    } λ M 𝓤 H A W. record { copies = Laws'''''''''.copy OpaqueRelayRuntime.the-type Laws''''''.the-copy 𝓤 H A W; lawful = Laws'''''''''.lawful
+    OpaqueRelayRuntime.the-type Laws''''''.the-laws 𝓤 H A W; makes = Laws'''''''''.makes OpaqueRelayRuntime.the-type Laws''''''.the-plain 𝓤 H A;
+    in-mem = Local.mem-whole 𝓤 H A W (Declared'.row OpaqueRelayRuntime.the-type); of-mem = Local.whole-mem 𝓤 H A W (Declared'.row
+    OpaqueRelayRuntime.the-type); }) ∷ (Value.pVal record { ty = Declared'.row Outgoing.the-type; one = Path.refl; val = Laws'''''''''.val
+    Outgoing.the-type Laws'''''.the-laws; tells = Laws'''''''''.tells Outgoing.the-type Laws'''''.the-laws; still = Laws'''''''''.still
+    Outgoing.the-type Laws'''''.the-copy Exit.yes; row = Rows'.whole (Declared'.row Outgoing.the-type); rd = λ x. x; mk = λ x. x; } λ M 𝓤 H A W.
+    record { copies = Laws'''''''''.copy Outgoing.the-type Laws'''''.the-copy 𝓤 H A W; lawful = Laws'''''''''.lawful Outgoing.the-type
+    Laws'''''.the-laws 𝓤 H A W; makes = Laws'''''''''.makes Outgoing.the-type Laws'''''.the-plain 𝓤 H A; in-mem = Local.mem-whole 𝓤 H A W
+    (Declared'.row Outgoing.the-type); of-mem = Local.whole-mem 𝓤 H A W (Declared'.row Outgoing.the-type); }) ∷ List.[]
 abbrev pub r·0 : Kinds.RK 0
-r·0 = Value.rVal record { ty = Declared'.row ActionQuestion.the-type; one = Path.refl; val = Laws''''''''.val ActionQuestion.the-type Laws''.the-laws;
-    tells = Laws''''''''.tells ActionQuestion.the-type Laws''.the-laws; still = Laws''''''''.still ActionQuestion.the-type Laws''.the-copy Exit.yes;
-    row = Rows'.whole (Declared'.row ActionQuestion.the-type); rd = λ x. x; mk = λ x. x; } λ M 𝓤 H A W. record { copies = Laws''''''''.copy
-    ActionQuestion.the-type Laws''.the-copy 𝓤 H A W; lawful = Laws''''''''.lawful ActionQuestion.the-type Laws''.the-laws 𝓤 H A W; makes =
-    Laws''''''''.makes ActionQuestion.the-type Laws''.the-plain 𝓤 H A; in-mem = Local.mem-whole 𝓤 H A W (Declared'.row ActionQuestion.the-type);
-    of-mem = Local.whole-mem 𝓤 H A W (Declared'.row ActionQuestion.the-type); }
+r·0 = Value.rVal record { ty = Declared'.row ActionQuestion.the-type; one = Path.refl; val = Laws'''''''''.val ActionQuestion.the-type
+    Laws'''.the-laws; tells = Laws'''''''''.tells ActionQuestion.the-type Laws'''.the-laws; still = Laws'''''''''.still ActionQuestion.the-type
+    Laws'''.the-copy Exit.yes; row = Rows'.whole (Declared'.row ActionQuestion.the-type); rd = λ x. x; mk = λ x. x; } λ M 𝓤 H A W. record { copies =
+    Laws'''''''''.copy ActionQuestion.the-type Laws'''.the-copy 𝓤 H A W; lawful = Laws'''''''''.lawful ActionQuestion.the-type Laws'''.the-laws 𝓤 H A
+    W; makes = Laws'''''''''.makes ActionQuestion.the-type Laws'''.the-plain 𝓤 H A; in-mem = Local.mem-whole 𝓤 H A W (Declared'.row
+    ActionQuestion.the-type); of-mem = Local.whole-mem 𝓤 H A W (Declared'.row ActionQuestion.the-type); }
 abbrev pub ps·1 : List.List (Kinds.PK 1)
-ps·1 = (ShrSlice.pShrS InflightAction.row 0 tt) ∷ (Value.pVal record { ty = Declared'.row ActionQuestion.the-type; one = Path.refl; val =
-    Laws''''''''.val ActionQuestion.the-type Laws''.the-laws; tells = Laws''''''''.tells ActionQuestion.the-type Laws''.the-laws; still =
-    Laws''''''''.still ActionQuestion.the-type Laws''.the-copy Exit.yes; row = Rows'.whole (Declared'.row ActionQuestion.the-type); rd = λ x. x; mk =
-    λ x. x; } λ M 𝓤 H A W. record { copies = Laws''''''''.copy ActionQuestion.the-type Laws''.the-copy 𝓤 H A W; lawful = Laws''''''''.lawful
-    ActionQuestion.the-type Laws''.the-laws 𝓤 H A W; makes = Laws''''''''.makes ActionQuestion.the-type Laws''.the-plain 𝓤 H A; in-mem =
+ps·1 = (ShrSlice.pShrS InflightAction.row 0 tt) ∷ (Value.pVal record { ty = Declared'.row Places.the-type; one = Path.refl; val = Laws'''''''''.val
+    Places.the-type Laws''.the-laws; tells = Laws'''''''''.tells Places.the-type Laws''.the-laws; still = Laws'''''''''.still Places.the-type
+    Laws''.the-copy Exit.yes; row = Rows'.whole (Declared'.row Places.the-type); rd = λ x. x; mk = λ x. x; } λ M 𝓤 H A W. record { copies =
+    Laws'''''''''.copy Places.the-type Laws''.the-copy 𝓤 H A W; lawful = Laws'''''''''.lawful Places.the-type Laws''.the-laws 𝓤 H A W; makes =
+    Laws'''''''''.makes Places.the-type Laws''.the-plain 𝓤 H A; in-mem = Local.mem-whole 𝓤 H A W (Declared'.row Places.the-type); of-mem =
+    Local.whole-mem 𝓤 H A W (Declared'.row Places.the-type); }) ∷ (Value.pVal record { ty = Declared'.row ActionQuestion.the-type; one = Path.refl;
+    val = Laws'''''''''.val ActionQuestion.the-type Laws'''.the-laws; tells = Laws'''''''''.tells ActionQuestion.the-type Laws'''.the-laws; still =
+    Laws'''''''''.still ActionQuestion.the-type Laws'''.the-copy Exit.yes; row = Rows'.whole (Declared'.row ActionQuestion.the-type); rd = λ x. x; mk
+    = λ x. x; } λ M 𝓤 H A W. record { copies = Laws'''''''''.copy ActionQuestion.the-type Laws'''.the-copy 𝓤 H A W; lawful = Laws'''''''''.lawful
+    ActionQuestion.the-type Laws'''.the-laws 𝓤 H A W; makes = Laws'''''''''.makes ActionQuestion.the-type Laws'''.the-plain 𝓤 H A; in-mem =
     Local.mem-whole 𝓤 H A W (Declared'.row ActionQuestion.the-type); of-mem = Local.whole-mem 𝓤 H A W (Declared'.row ActionQuestion.the-type); }) ∷
     List.[]
 abbrev pub r·1 : Kinds.RK 1
-r·1 = Value.rVal record { ty = Declared'.row ActionScan.the-type; one = Path.refl; val = Laws''''''''.val ActionScan.the-type Laws'''.the-laws; tells
-    = Laws''''''''.tells ActionScan.the-type Laws'''.the-laws; still = Laws''''''''.still ActionScan.the-type Laws'''.the-copy Exit.yes; row =
-    Rows'.whole (Declared'.row ActionScan.the-type); rd = λ x. x; mk = λ x. x; } λ M 𝓤 H A W. record { copies = Laws''''''''.copy ActionScan.the-type
-    Laws'''.the-copy 𝓤 H A W; lawful = Laws''''''''.lawful ActionScan.the-type Laws'''.the-laws 𝓤 H A W; makes = Laws''''''''.makes
-    ActionScan.the-type Laws'''.the-plain 𝓤 H A; in-mem = Local.mem-whole 𝓤 H A W (Declared'.row ActionScan.the-type); of-mem = Local.whole-mem 𝓤 H A
-    W (Declared'.row ActionScan.the-type); }
+r·1 = Value.rVal record { ty = Declared'.row ActionScan.the-type; one = Path.refl; val = Laws'''''''''.val ActionScan.the-type Laws''''.the-laws;
+    tells = Laws'''''''''.tells ActionScan.the-type Laws''''.the-laws; still = Laws'''''''''.still ActionScan.the-type Laws''''.the-copy Exit.yes; row
+    = Rows'.whole (Declared'.row ActionScan.the-type); rd = λ x. x; mk = λ x. x; } λ M 𝓤 H A W. record { copies = Laws'''''''''.copy
+    ActionScan.the-type Laws''''.the-copy 𝓤 H A W; lawful = Laws'''''''''.lawful ActionScan.the-type Laws''''.the-laws 𝓤 H A W; makes =
+    Laws'''''''''.makes ActionScan.the-type Laws''''.the-plain 𝓤 H A; in-mem = Local.mem-whole 𝓤 H A W (Declared'.row ActionScan.the-type); of-mem =
+    Local.whole-mem 𝓤 H A W (Declared'.row ActionScan.the-type); }
 abbrev pub ps·2 : List.List (Kinds.PK 0)
-ps·2 = (Value.pVal record { ty = Declared'.row OpenedBody.the-type; one = Path.refl; val = Laws''''''''.val OpenedBody.the-type Laws.the-laws; tells =
-    Laws''''''''.tells OpenedBody.the-type Laws.the-laws; still = Laws''''''''.still OpenedBody.the-type Laws.the-copy Exit.yes; row = Rows'.whole
-    (Declared'.row OpenedBody.the-type); rd = λ x. x; mk = λ x. x; } λ M 𝓤 H A W. record { copies = Laws''''''''.copy OpenedBody.the-type
-    Laws.the-copy 𝓤 H A W; lawful = Laws''''''''.lawful OpenedBody.the-type Laws.the-laws 𝓤 H A W; makes = Laws''''''''.makes OpenedBody.the-type
+ps·2 = (Value.pVal record { ty = Declared'.row OpenedBody.the-type; one = Path.refl; val = Laws'''''''''.val OpenedBody.the-type Laws.the-laws; tells
+    = Laws'''''''''.tells OpenedBody.the-type Laws.the-laws; still = Laws'''''''''.still OpenedBody.the-type Laws.the-copy Exit.yes; row = Rows'.whole
+    (Declared'.row OpenedBody.the-type); rd = λ x. x; mk = λ x. x; } λ M 𝓤 H A W. record { copies = Laws'''''''''.copy OpenedBody.the-type
+    Laws.the-copy 𝓤 H A W; lawful = Laws'''''''''.lawful OpenedBody.the-type Laws.the-laws 𝓤 H A W; makes = Laws'''''''''.makes OpenedBody.the-type
     Laws.the-plain 𝓤 H A; in-mem = Local.mem-whole 𝓤 H A W (Declared'.row OpenedBody.the-type); of-mem = Local.whole-mem 𝓤 H A W (Declared'.row
     OpenedBody.the-type); }) ∷ List.[]
 abbrev pub r·2 : Kinds.RK 0
 r·2 = Array.rArr (Array.eInt Syntax.w8) (Array.eInt-laws Syntax.w8) 28
 abbrev pub ps·3 : List.List (Kinds.PK 3)
 ps·3 = (MutSlice.pMutS InflightAction.row 0 tt) ∷ (MutSlice.pMutS (Referent.rtF (Referent.fInt Syntax.w32)) 1 tt) ∷ (Value.pVal record { ty =
-    Declared.row HnsrAnswer.the-type; one = Path.refl; val = Laws'''''''.val HnsrAnswer.the-type Laws'.the-laws; tells = Laws'''''''.tells
-    HnsrAnswer.the-type Laws'.the-laws; still = Laws'''''''.still HnsrAnswer.the-type Laws'.the-copy Exit.yes; row = Rows'.whole (Declared.row
-    HnsrAnswer.the-type); rd = λ x. x; mk = λ x. x; } λ M 𝓤 H A W. record { copies = Laws'''''''.copy HnsrAnswer.the-type Laws'.the-copy 𝓤 H A W;
-    lawful = Laws'''''''.lawful HnsrAnswer.the-type Laws'.the-laws 𝓤 H A W tt; makes = Laws'''''''.makes HnsrAnswer.the-type Laws'.the-plain 𝓤 H A;
+    Declared.row HnsrAnswer.the-type; one = Path.refl; val = Laws''''''''.val HnsrAnswer.the-type Laws'.the-laws; tells = Laws''''''''.tells
+    HnsrAnswer.the-type Laws'.the-laws; still = Laws''''''''.still HnsrAnswer.the-type Laws'.the-copy Exit.yes; row = Rows'.whole (Declared.row
+    HnsrAnswer.the-type); rd = λ x. x; mk = λ x. x; } λ M 𝓤 H A W. record { copies = Laws''''''''.copy HnsrAnswer.the-type Laws'.the-copy 𝓤 H A W;
+    lawful = Laws''''''''.lawful HnsrAnswer.the-type Laws'.the-laws 𝓤 H A W tt; makes = Laws''''''''.makes HnsrAnswer.the-type Laws'.the-plain 𝓤 H A;
     in-mem = Local.mem-whole 𝓤 H A W (Declared.row HnsrAnswer.the-type); of-mem = Local.whole-mem 𝓤 H A W (Declared.row HnsrAnswer.the-type); }) ∷
-    (Value.pVal record { ty = Declared'.row OpaqueRelayRuntime.the-type; one = Path.refl; val = Laws''''''''.val OpaqueRelayRuntime.the-type
-    Laws'''''.the-laws; tells = Laws''''''''.tells OpaqueRelayRuntime.the-type Laws'''''.the-laws; still = Laws''''''''.still
-    OpaqueRelayRuntime.the-type Laws'''''.the-copy Exit.yes; row = Rows'.whole (Declared'.row OpaqueRelayRuntime.the-type); rd = λ x. x; mk = λ x. x;
-    } λ M 𝓤 H A W. record { copies = Laws''''''''.copy OpaqueRelayRuntime.the-type Laws'''''.the-copy 𝓤 H A W; lawful = Laws''''''''.lawful
-    OpaqueRelayRuntime.the-type Laws'''''.the-laws 𝓤 H A W; makes = Laws''''''''.makes OpaqueRelayRuntime.the-type Laws'''''.the-plain 𝓤 H A; in-mem =
-    Local.mem-whole 𝓤 H A W (Declared'.row OpaqueRelayRuntime.the-type); of-mem = Local.whole-mem 𝓤 H A W (Declared'.row OpaqueRelayRuntime.the-type);
-    }) ∷ (Value.pVal record { ty = Declared'.row Outgoing.the-type; one = Path.refl; val = Laws''''''''.val Outgoing.the-type Laws''''.the-laws; tells
-    = Laws''''''''.tells Outgoing.the-type Laws''''.the-laws; still = Laws''''''''.still Outgoing.the-type Laws''''.the-copy Exit.yes; row =
-    Rows'.whole (Declared'.row Outgoing.the-type); rd = λ x. x; mk = λ x. x; } λ M 𝓤 H A W. record { copies = Laws''''''''.copy Outgoing.the-type
-    Laws''''.the-copy 𝓤 H A W; lawful = Laws''''''''.lawful Outgoing.the-type Laws''''.the-laws 𝓤 H A W; makes = Laws''''''''.makes Outgoing.the-type
-    Laws''''.the-plain 𝓤 H A; in-mem = Local.mem-whole 𝓤 H A W (Declared'.row Outgoing.the-type); of-mem = Local.whole-mem 𝓤 H A W (Declared'.row
-    Outgoing.the-type); }) ∷ (Value.pVal record { ty = Declared'.row ActionScan.the-type; one = Path.refl; val = Laws''''''''.val ActionScan.the-type
-    Laws'''.the-laws; tells = Laws''''''''.tells ActionScan.the-type Laws'''.the-laws; still = Laws''''''''.still ActionScan.the-type Laws'''.the-copy
-    Exit.yes; row = Rows'.whole (Declared'.row ActionScan.the-type); rd = λ x. x; mk = λ x. x; } λ M 𝓤 H A W. record { copies = Laws''''''''.copy
-    ActionScan.the-type Laws'''.the-copy 𝓤 H A W; lawful = Laws''''''''.lawful ActionScan.the-type Laws'''.the-laws 𝓤 H A W; makes =
-    Laws''''''''.makes ActionScan.the-type Laws'''.the-plain 𝓤 H A; in-mem = Local.mem-whole 𝓤 H A W (Declared'.row ActionScan.the-type); of-mem =
-    Local.whole-mem 𝓤 H A W (Declared'.row ActionScan.the-type); }) ∷ (ShrSlice.pShrS (Referent.rtF (Referent.fInt Syntax.w8)) 2 tt) ∷ List.[]
+    (Value.pVal record { ty = Declared'.row OpaqueRelayRuntime.the-type; one = Path.refl; val = Laws'''''''''.val OpaqueRelayRuntime.the-type
+    Laws''''''.the-laws; tells = Laws'''''''''.tells OpaqueRelayRuntime.the-type Laws''''''.the-laws; still = Laws'''''''''.still
+    OpaqueRelayRuntime.the-type Laws''''''.the-copy Exit.yes; row = Rows'.whole (Declared'.row OpaqueRelayRuntime.the-type); rd = λ x. x; mk = λ x. x;
+    } λ M 𝓤 H A W. record { copies = Laws'''''''''.copy OpaqueRelayRuntime.the-type Laws''''''.the-copy 𝓤 H A W; lawful = Laws'''''''''.lawful
+    OpaqueRelayRuntime.the-type Laws''''''.the-laws 𝓤 H A W; makes = Laws'''''''''.makes OpaqueRelayRuntime.the-type Laws''''''.the-plain 𝓤 H A;
+    in-mem = Local.mem-whole 𝓤 H A W (Declared'.row OpaqueRelayRuntime.the-type); of-mem = Local.whole-mem 𝓤 H A W (Declared'.row
+    OpaqueRelayRuntime.the-type); }) ∷ (Value.pVal record { ty = Declared'.row Places.the-type; one = Path.refl; val = Laws'''''''''.val
+    Places.the-type Laws''.the-laws; tells = Laws'''''''''.tells Places.the-type Laws''.the-laws; still = Laws'''''''''.still Places.the-type
+    Laws''.the-copy Exit.yes; row = Rows'.whole (Declared'.row Places.the-type); rd = λ x. x; mk = λ x. x; } λ M 𝓤 H A W. record { copies =
+    Laws'''''''''.copy Places.the-type Laws''.the-copy 𝓤 H A W; lawful = Laws'''''''''.lawful Places.the-type Laws''.the-laws 𝓤 H A W; makes =
+    Laws'''''''''.makes Places.the-type Laws''.the-plain 𝓤 H A; in-mem = Local.mem-whole 𝓤 H A W (Declared'.row Places.the-type); of-mem =
+    Local.whole-mem 𝓤 H A W (Declared'.row Places.the-type); }) ∷ (Value.pVal record { ty = Declared'.row Outgoing.the-type; one = Path.refl; val =
+    Laws'''''''''.val Outgoing.the-type Laws'''''.the-laws; tells = Laws'''''''''.tells Outgoing.the-type Laws'''''.the-laws; still =
+    Laws'''''''''.still Outgoing.the-type Laws'''''.the-copy Exit.yes; row = Rows'.whole (Declared'.row Outgoing.the-type); rd = λ x. x; mk = λ x. x;
+    } λ M 𝓤 H A W. record { copies = Laws'''''''''.copy Outgoing.the-type Laws'''''.the-copy 𝓤 H A W; lawful = Laws'''''''''.lawful Outgoing.the-type
+    Laws'''''.the-laws 𝓤 H A W; makes = Laws'''''''''.makes Outgoing.the-type Laws'''''.the-plain 𝓤 H A; in-mem = Local.mem-whole 𝓤 H A W
+    (Declared'.row Outgoing.the-type); of-mem = Local.whole-mem 𝓤 H A W (Declared'.row Outgoing.the-type); }) ∷ (Value.pVal record { ty =
+    Declared'.row ActionScan.the-type; one = Path.refl; val = Laws'''''''''.val ActionScan.the-type Laws''''.the-laws; tells = Laws'''''''''.tells
+    ActionScan.the-type Laws''''.the-laws; still = Laws'''''''''.still ActionScan.the-type Laws''''.the-copy Exit.yes; row = Rows'.whole
+    (Declared'.row ActionScan.the-type); rd = λ x. x; mk = λ x. x; } λ M 𝓤 H A W. record { copies = Laws'''''''''.copy ActionScan.the-type
+    Laws''''.the-copy 𝓤 H A W; lawful = Laws'''''''''.lawful ActionScan.the-type Laws''''.the-laws 𝓤 H A W; makes = Laws'''''''''.makes
+    ActionScan.the-type Laws''''.the-plain 𝓤 H A; in-mem = Local.mem-whole 𝓤 H A W (Declared'.row ActionScan.the-type); of-mem = Local.whole-mem 𝓤 H A
+    W (Declared'.row ActionScan.the-type); }) ∷ (ShrSlice.pShrS (Referent.rtF (Referent.fInt Syntax.w8)) 2 tt) ∷ List.[]
 abbrev pub r·3 : Kinds.RK 3
-r·3 = Value.rVal record { ty = Declared'.row Relayed.the-type; one = Path.refl; val = Laws''''''''.val Relayed.the-type Laws''''''.the-laws; tells =
-    Laws''''''''.tells Relayed.the-type Laws''''''.the-laws; still = Laws''''''''.still Relayed.the-type Laws''''''.the-copy Exit.yes; row =
-    Rows'.whole (Declared'.row Relayed.the-type); rd = λ x. x; mk = λ x. x; } λ M 𝓤 H A W. record { copies = Laws''''''''.copy Relayed.the-type
-    Laws''''''.the-copy 𝓤 H A W; lawful = Laws''''''''.lawful Relayed.the-type Laws''''''.the-laws 𝓤 H A W; makes = Laws''''''''.makes
-    Relayed.the-type Laws''''''.the-plain 𝓤 H A; in-mem = Local.mem-whole 𝓤 H A W (Declared'.row Relayed.the-type); of-mem = Local.whole-mem 𝓤 H A W
+r·3 = Value.rVal record { ty = Declared'.row Relayed.the-type; one = Path.refl; val = Laws'''''''''.val Relayed.the-type Laws'''''''.the-laws; tells =
+    Laws'''''''''.tells Relayed.the-type Laws'''''''.the-laws; still = Laws'''''''''.still Relayed.the-type Laws'''''''.the-copy Exit.yes; row =
+    Rows'.whole (Declared'.row Relayed.the-type); rd = λ x. x; mk = λ x. x; } λ M 𝓤 H A W. record { copies = Laws'''''''''.copy Relayed.the-type
+    Laws'''''''.the-copy 𝓤 H A W; lawful = Laws'''''''''.lawful Relayed.the-type Laws'''''''.the-laws 𝓤 H A W; makes = Laws'''''''''.makes
+    Relayed.the-type Laws'''''''.the-plain 𝓤 H A; in-mem = Local.mem-whole 𝓤 H A W (Declared'.row Relayed.the-type); of-mem = Local.whole-mem 𝓤 H A W
     (Declared'.row Relayed.the-type); }
 abbrev pub hs : List.List Syntax.Home
 hs = Syntax.valueLocal ∷ Syntax.valueLocal ∷ Syntax.valueLocal ∷ Syntax.valueLocal ∷ Syntax.valueLocal ∷ Syntax.valueLocal ∷ Syntax.valueLocal ∷
-    Syntax.valueLocal ∷ Syntax.valueLocal ∷ Syntax.memorySlot ∷ Syntax.valueLocal ∷ Syntax.valueLocal ∷ Syntax.valueLocal ∷ Syntax.valueLocal ∷
-    Syntax.valueLocal ∷ Syntax.valueLocal ∷ Syntax.valueLocal ∷ Syntax.valueLocal ∷ Syntax.valueLocal ∷ List.[]
+    Syntax.valueLocal ∷ Syntax.valueLocal ∷ Syntax.valueLocal ∷ Syntax.memorySlot ∷ Syntax.valueLocal ∷ Syntax.valueLocal ∷ Syntax.valueLocal ∷
+    Syntax.valueLocal ∷ Syntax.valueLocal ∷ Syntax.valueLocal ∷ Syntax.valueLocal ∷ Syntax.valueLocal ∷ Syntax.valueLocal ∷ List.[]
 abbrev b0 : Syntax.Body
-b0 = Syntax.call "hnsr_circuit::queue::asking" ((Syntax.copy (Syntax.place 4 List.[])) ∷ (Syntax.copy (Syntax.place 5 List.[])) ∷ List.[])
-    (Syntax.place 7 List.[])
+b0 = Syntax.call "hnsr_circuit::queue::asking" ((Syntax.copy (Syntax.place 4 List.[])) ∷ (Syntax.copy (Syntax.place 6 List.[])) ∷ List.[])
+    (Syntax.place 8 List.[])
 abbrev b1 : Syntax.Body
-b1 = Syntax.assign (Syntax.place 10 List.[]) (Syntax.addrOf (Syntax.place 1 ((Syntax.field 0) ∷ (Syntax.deref InflightAction.ty) ∷ List.[])))
+b1 = Syntax.assign (Syntax.place 11 List.[]) (Syntax.addrOf (Syntax.place 1 ((Syntax.field 0) ∷ (Syntax.deref InflightAction.ty) ∷ List.[])))
 abbrev b2 : Syntax.Body
-b2 = Syntax.assign (Syntax.place 11 List.[]) (Syntax.aggregate ((Syntax.copy (Syntax.place 10 List.[])) ∷ (Syntax.copy (Syntax.place 1 ((Syntax.field
+b2 = Syntax.assign (Syntax.place 12 List.[]) (Syntax.aggregate ((Syntax.copy (Syntax.place 11 List.[])) ∷ (Syntax.copy (Syntax.place 1 ((Syntax.field
     1) ∷ List.[]))) ∷ List.[]))
 abbrev b3 : Syntax.Body
-b3 = Syntax.call "hnsr_circuit::tables::inflight::scan_actions" ((Syntax.copy (Syntax.place 11 List.[])) ∷ (Syntax.copy (Syntax.place 7 List.[])) ∷
-    List.[]) (Syntax.place 8 List.[])
+b3 = Syntax.call "hnsr_circuit::tables::inflight::scan_actions" ((Syntax.copy (Syntax.place 12 List.[])) ∷ (Syntax.copy (Syntax.place 5 List.[])) ∷
+    (Syntax.copy (Syntax.place 8 List.[])) ∷ List.[]) (Syntax.place 9 List.[])
 abbrev b4 : Syntax.Body
-b4 = Syntax.call "hnsr_body::accept_body::OpenedBody::to_bytes" ((Syntax.copy (Syntax.place 6 List.[])) ∷ List.[]) (Syntax.place 12 List.[])
+b4 = Syntax.call "hnsr_body::accept_body::OpenedBody::to_bytes" ((Syntax.copy (Syntax.place 7 List.[])) ∷ List.[]) (Syntax.place 13 List.[])
 abbrev b5 : Syntax.Body
-b5 = Syntax.assign (Syntax.place 9 List.[]) (Syntax.rvOpd (Syntax.copy (Syntax.place 12 List.[])))
+b5 = Syntax.assign (Syntax.place 10 List.[]) (Syntax.rvOpd (Syntax.copy (Syntax.place 13 List.[])))
 abbrev b6 : Syntax.Body
-b6 = Syntax.assign (Syntax.place 13 List.[]) (Syntax.addrOf (Syntax.place 1 ((Syntax.field 0) ∷ (Syntax.deref InflightAction.ty) ∷ List.[])))
+b6 = Syntax.assign (Syntax.place 14 List.[]) (Syntax.addrOf (Syntax.place 1 ((Syntax.field 0) ∷ (Syntax.deref InflightAction.ty) ∷ List.[])))
 abbrev b7 : Syntax.Body
-b7 = Syntax.assign (Syntax.place 14 List.[]) (Syntax.aggregate ((Syntax.copy (Syntax.place 13 List.[])) ∷ (Syntax.copy (Syntax.place 1 ((Syntax.field
+b7 = Syntax.assign (Syntax.place 15 List.[]) (Syntax.aggregate ((Syntax.copy (Syntax.place 14 List.[])) ∷ (Syntax.copy (Syntax.place 1 ((Syntax.field
     1) ∷ List.[]))) ∷ List.[]))
 abbrev b8 : Syntax.Body
-b8 = Syntax.assign (Syntax.place 15 List.[]) (Syntax.addrOf (Syntax.place 2 ((Syntax.field 0) ∷ (Syntax.deref (Syntax.tyInt Syntax.w32)) ∷ List.[])))
+b8 = Syntax.assign (Syntax.place 16 List.[]) (Syntax.addrOf (Syntax.place 2 ((Syntax.field 0) ∷ (Syntax.deref (Syntax.tyInt Syntax.w32)) ∷ List.[])))
 abbrev b9 : Syntax.Body
-b9 = Syntax.assign (Syntax.place 16 List.[]) (Syntax.aggregate ((Syntax.copy (Syntax.place 15 List.[])) ∷ (Syntax.copy (Syntax.place 2 ((Syntax.field
+b9 = Syntax.assign (Syntax.place 17 List.[]) (Syntax.aggregate ((Syntax.copy (Syntax.place 16 List.[])) ∷ (Syntax.copy (Syntax.place 2 ((Syntax.field
     1) ∷ List.[]))) ∷ List.[]))
 abbrev b10 : Syntax.Body
-b10 = Syntax.assign (Syntax.place 17 List.[]) (Syntax.addrOf (Syntax.place 9 List.[]))
+b10 = Syntax.assign (Syntax.place 18 List.[]) (Syntax.addrOf (Syntax.place 10 List.[]))
 abbrev b11 : Syntax.Body
-b11 = Syntax.assign (Syntax.place 18 List.[]) (Syntax.aggregate ((Syntax.copy (Syntax.place 17 List.[])) ∷ (Syntax.int Syntax.w64 28) ∷ List.[]))
+b11 = Syntax.assign (Syntax.place 19 List.[]) (Syntax.aggregate ((Syntax.copy (Syntax.place 18 List.[])) ∷ (Syntax.int Syntax.w64 28) ∷ List.[]))
 abbrev b12 : Syntax.Body
-b12 = Syntax.call "hnsr_circuit::queue::send" ((Syntax.copy (Syntax.place 14 List.[])) ∷ (Syntax.copy (Syntax.place 16 List.[])) ∷ (Syntax.copy
-    (Syntax.place 3 List.[])) ∷ (Syntax.copy (Syntax.place 4 List.[])) ∷ (Syntax.copy (Syntax.place 5 List.[])) ∷ (Syntax.copy (Syntax.place 8
-    List.[])) ∷ (Syntax.copy (Syntax.place 18 List.[])) ∷ List.[]) (Syntax.place 0 List.[])
+b12 = Syntax.call "hnsr_circuit::queue::send" ((Syntax.copy (Syntax.place 15 List.[])) ∷ (Syntax.copy (Syntax.place 17 List.[])) ∷ (Syntax.copy
+    (Syntax.place 3 List.[])) ∷ (Syntax.copy (Syntax.place 4 List.[])) ∷ (Syntax.copy (Syntax.place 5 List.[])) ∷ (Syntax.copy (Syntax.place 6
+    List.[])) ∷ (Syntax.copy (Syntax.place 9 List.[])) ∷ (Syntax.copy (Syntax.place 19 List.[])) ∷ List.[]) (Syntax.place 0 List.[])
 abbrev b13 : Syntax.Body
 b13 = Syntax.return
 abbrev b14 : Syntax.Body
@@ -267,7 +286,7 @@ abbrev pub Claims : Type 1
 Claims = Kinds.In 0 ps·0 × Kinds.Out 0 ps·0 r·0 × Kinds.In 1 ps·1 × Kinds.Out 1 ps·1 r·1 × Kinds.In 0 ps·2 × Kinds.Out 0 ps·2 r·2 × Kinds.In 3 ps·3 ×
     Kinds.Out 3 ps·3 r·3
 abbrev e0 : Row.Entry
-e0 = (0, Rows'.any-gone Laws''''''.mir)
+e0 = (0, Rows'.any-gone Laws'''''''.mir)
 abbrev e1 : Row.Entry
 e1 = (1, Mut.mslice InflightAction.row ref5 0)
 abbrev e2 : Row.Entry
@@ -277,143 +296,149 @@ e3 = (3, Rows'.whole (Declared.row HnsrAnswer.the-type))
 abbrev e4 : Row.Entry
 e4 = (4, Rows'.whole (Declared'.row OpaqueRelayRuntime.the-type))
 abbrev e5 : Row.Entry
-e5 = (5, Rows'.whole (Declared'.row Outgoing.the-type))
+e5 = (5, Rows'.whole (Declared'.row Places.the-type))
 abbrev e6 : Row.Entry
-e6 = (6, Rows'.whole (Declared'.row OpenedBody.the-type))
+e6 = (6, Rows'.whole (Declared'.row Outgoing.the-type))
 abbrev e7 : Row.Entry
-e7 = (7, Rows'.any-gone Laws''.mir)
+e7 = (7, Rows'.whole (Declared'.row OpenedBody.the-type))
 abbrev e8 : Row.Entry
 e8 = (8, Rows'.any-gone Laws'''.mir)
 abbrev e9 : Row.Entry
-e9 = (9, Rows'.any-gone (Syntax.tyArray (Syntax.tyInt Syntax.w8) 28))
+e9 = (9, Rows'.any-gone Laws''''.mir)
 abbrev e10 : Row.Entry
-e10 = (10, Rows'.any-gone ref0)
+e10 = (10, Rows'.any-gone (Syntax.tyArray (Syntax.tyInt Syntax.w8) 28))
 abbrev e11 : Row.Entry
-e11 = (11, Rows'.any-gone (Syntax.tyStruct (38 ∷ 91 ∷ 93 ∷ List.[]) (Syntax.tcons ref0 (Syntax.tcons (Syntax.tyInt Syntax.w64) Syntax.tnil))))
+e11 = (11, Rows'.any-gone ref0)
 abbrev e12 : Row.Entry
-e12 = (12, Rows'.any-gone (Syntax.tyArray (Syntax.tyInt Syntax.w8) 28))
+e12 = (12, Rows'.any-gone (Syntax.tyStruct (38 ∷ 91 ∷ 93 ∷ List.[]) (Syntax.tcons ref0 (Syntax.tcons (Syntax.tyInt Syntax.w64) Syntax.tnil))))
 abbrev e13 : Row.Entry
-e13 = (13, Rows'.any-gone ref1)
+e13 = (13, Rows'.any-gone (Syntax.tyArray (Syntax.tyInt Syntax.w8) 28))
 abbrev e14 : Row.Entry
-e14 = (14, Rows'.any-gone (Syntax.tyStruct (38 ∷ 91 ∷ 93 ∷ List.[]) (Syntax.tcons ref1 (Syntax.tcons (Syntax.tyInt Syntax.w64) Syntax.tnil))))
+e14 = (14, Rows'.any-gone ref1)
 abbrev e15 : Row.Entry
-e15 = (15, Rows'.any-gone ref2)
+e15 = (15, Rows'.any-gone (Syntax.tyStruct (38 ∷ 91 ∷ 93 ∷ List.[]) (Syntax.tcons ref1 (Syntax.tcons (Syntax.tyInt Syntax.w64) Syntax.tnil))))
 abbrev e16 : Row.Entry
-e16 = (16, Rows'.any-gone (Syntax.tyStruct (38 ∷ 91 ∷ 93 ∷ List.[]) (Syntax.tcons ref2 (Syntax.tcons (Syntax.tyInt Syntax.w64) Syntax.tnil))))
+e16 = (16, Rows'.any-gone ref2)
 abbrev e17 : Row.Entry
-e17 = (17, Rows'.any-gone ref3)
+e17 = (17, Rows'.any-gone (Syntax.tyStruct (38 ∷ 91 ∷ 93 ∷ List.[]) (Syntax.tcons ref2 (Syntax.tcons (Syntax.tyInt Syntax.w64) Syntax.tnil))))
 abbrev e18 : Row.Entry
-e18 = (18, Rows'.any-gone (Syntax.tyStruct (38 ∷ 91 ∷ 93 ∷ List.[]) (Syntax.tcons ref4 (Syntax.tcons (Syntax.tyInt Syntax.w64) Syntax.tnil))))
+e18 = (18, Rows'.any-gone ref3)
+abbrev e19 : Row.Entry
+e19 = (19, Rows'.any-gone (Syntax.tyStruct (38 ∷ 91 ∷ 93 ∷ List.[]) (Syntax.tcons ref4 (Syntax.tcons (Syntax.tyInt Syntax.w64) Syntax.tnil))))
 abbrev e0·1 : Row.Entry
 e0·1 = (0, Rows'.whole (Declared'.row Relayed.the-type))
 abbrev e3·1 : Row.Entry
 e3·1 = (3, Rows'.any-gone Laws'.mir)
 abbrev e4·1 : Row.Entry
-e4·1 = (4, Rows'.any-gone Laws'''''.mir)
+e4·1 = (4, Rows'.any-gone Laws''''''.mir)
 abbrev e5·1 : Row.Entry
-e5·1 = (5, Rows'.any-gone Laws''''.mir)
+e5·1 = (5, Rows'.any-gone Laws''.mir)
 abbrev e6·1 : Row.Entry
-e6·1 = (6, Rows'.any-gone Laws.mir)
+e6·1 = (6, Rows'.any-gone Laws'''''.mir)
 abbrev e7·1 : Row.Entry
-e7·1 = (7, Rows'.whole (Declared'.row ActionQuestion.the-type))
+e7·1 = (7, Rows'.any-gone Laws.mir)
+abbrev e8·1 : Row.Entry
+e8·1 = (8, Rows'.whole (Declared'.row ActionQuestion.the-type))
 abbrev e1·1 : Row.Entry
 e1·1 = (1, Reshare.mslice-owedS InflightAction.row ref5 0 2 Row.off)
-abbrev e10·1 : Row.Entry
-e10·1 = (10, Relend.ssptr InflightAction.row ref0 2)
 abbrev e11·1 : Row.Entry
-e11·1 = (11, Rows'.sslice InflightAction.row ref0 2)
-abbrev e8·1 : Row.Entry
-e8·1 = (8, Rows'.whole (Declared'.row ActionScan.the-type))
+e11·1 = (11, Relend.ssptr InflightAction.row ref0 2)
 abbrev e12·1 : Row.Entry
-e12·1 = (12, Rows.arrF (Referent.rtF (Referent.fInt Syntax.w8)) 28 0)
+e12·1 = (12, Rows'.sslice InflightAction.row ref0 2)
 abbrev e9·1 : Row.Entry
-e9·1 = (9, Rows.arrF (Referent.rtF (Referent.fInt Syntax.w8)) 28 0)
+e9·1 = (9, Rows'.whole (Declared'.row ActionScan.the-type))
+abbrev e13·1 : Row.Entry
+e13·1 = (13, Rows.arrF (Referent.rtF (Referent.fInt Syntax.w8)) 28 0)
+abbrev e10·1 : Row.Entry
+e10·1 = (10, Rows.arrF (Referent.rtF (Referent.fInt Syntax.w8)) 28 0)
 abbrev e1·2 : Row.Entry
 e1·2 = (1, Relend.mslice-owed InflightAction.row ref5 0 3 Row.off)
-abbrev e13·1 : Row.Entry
-e13·1 = (13, Relend.msptr InflightAction.row ref1 3)
 abbrev e14·1 : Row.Entry
-e14·1 = (14, Mut.mslice InflightAction.row ref1 3)
+e14·1 = (14, Relend.msptr InflightAction.row ref1 3)
+abbrev e15·1 : Row.Entry
+e15·1 = (15, Mut.mslice InflightAction.row ref1 3)
 abbrev e2·1 : Row.Entry
 e2·1 = (2, Relend.mslice-owed (Referent.rtF (Referent.fInt Syntax.w32)) ref6 1 4 Row.off)
-abbrev e15·1 : Row.Entry
-e15·1 = (15, Relend.msptr (Referent.rtF (Referent.fInt Syntax.w32)) ref2 4)
 abbrev e16·1 : Row.Entry
-e16·1 = (16, Mut.mslice (Referent.rtF (Referent.fInt Syntax.w32)) ref2 4)
-abbrev e9·2 : Row.Entry
-e9·2 = (9, Rows.arr-shr (Referent.rtF (Referent.fInt Syntax.w8)) 28 5)
+e16·1 = (16, Relend.msptr (Referent.rtF (Referent.fInt Syntax.w32)) ref2 4)
 abbrev e17·1 : Row.Entry
-e17·1 = (17, Relend.ssptr (Referent.rtF (Referent.fInt Syntax.w8)) ref3 5)
+e17·1 = (17, Mut.mslice (Referent.rtF (Referent.fInt Syntax.w32)) ref2 4)
+abbrev e10·2 : Row.Entry
+e10·2 = (10, Rows.arr-shr (Referent.rtF (Referent.fInt Syntax.w8)) 28 5)
 abbrev e18·1 : Row.Entry
-e18·1 = (18, Rows'.sslice (Referent.rtF (Referent.fInt Syntax.w8)) ref4 5)
-abbrev e14·2 : Row.Entry
-e14·2 = (14, Mut.msleft InflightAction.row ref1)
-abbrev e16·2 : Row.Entry
-e16·2 = (16, Mut.msleft (Referent.rtF (Referent.fInt Syntax.w32)) ref2)
+e18·1 = (18, Relend.ssptr (Referent.rtF (Referent.fInt Syntax.w8)) ref3 5)
+abbrev e19·1 : Row.Entry
+e19·1 = (19, Rows'.sslice (Referent.rtF (Referent.fInt Syntax.w8)) ref4 5)
+abbrev e15·2 : Row.Entry
+e15·2 = (15, Mut.msleft InflightAction.row ref1)
+abbrev e17·2 : Row.Entry
+e17·2 = (17, Mut.msleft (Referent.rtF (Referent.fInt Syntax.w32)) ref2)
 abbrev pub t0 : List.List Row.Entry
 t0 = e0 ∷ e1 ∷ e2 ∷ e3 ∷ e4 ∷ e5 ∷ e6 ∷ e7 ∷ e8 ∷ e9 ∷ e10 ∷ e11 ∷ e12 ∷ e13 ∷ e14 ∷ e15 ∷ List.[]
 abbrev pub t1 : List.List Row.Entry
-t1 = e16 ∷ e17 ∷ e18 ∷ List.[]
+t1 = e16 ∷ e17 ∷ e18 ∷ e19 ∷ List.[]
 abbrev pub t2 : List.List Row.Entry
-t2 = e0·1 ∷ e1 ∷ e2 ∷ e3·1 ∷ e4·1 ∷ e5·1 ∷ e6·1 ∷ e7 ∷ e8 ∷ e9 ∷ e10 ∷ e11 ∷ e12 ∷ e13 ∷ e14 ∷ e15 ∷ List.[]
+t2 = e0·1 ∷ e1 ∷ e2 ∷ e3·1 ∷ e4·1 ∷ e5·1 ∷ e6·1 ∷ e7·1 ∷ e8 ∷ e9 ∷ e10 ∷ e11 ∷ e12 ∷ e13 ∷ e14 ∷ e15 ∷ List.[]
 abbrev pub t3 : List.List Row.Entry
-t3 = e0 ∷ e1 ∷ e2 ∷ e3 ∷ e4 ∷ e5 ∷ e6 ∷ e7·1 ∷ e8 ∷ e9 ∷ e10 ∷ e11 ∷ e12 ∷ e13 ∷ e14 ∷ e15 ∷ List.[]
+t3 = e0 ∷ e1 ∷ e2 ∷ e3 ∷ e4 ∷ e5 ∷ e6 ∷ e7 ∷ e8·1 ∷ e9 ∷ e10 ∷ e11 ∷ e12 ∷ e13 ∷ e14 ∷ e15 ∷ List.[]
 abbrev pub t4 : List.List Row.Entry
-t4 = e0 ∷ e1·1 ∷ e2 ∷ e3 ∷ e4 ∷ e5 ∷ e6 ∷ e7·1 ∷ e8 ∷ e9 ∷ e10·1 ∷ e11 ∷ e12 ∷ e13 ∷ e14 ∷ e15 ∷ List.[]
+t4 = e0 ∷ e1·1 ∷ e2 ∷ e3 ∷ e4 ∷ e5 ∷ e6 ∷ e7 ∷ e8·1 ∷ e9 ∷ e10 ∷ e11·1 ∷ e12 ∷ e13 ∷ e14 ∷ e15 ∷ List.[]
 abbrev pub t5 : List.List Row.Entry
-t5 = e0 ∷ e1·1 ∷ e2 ∷ e3 ∷ e4 ∷ e5 ∷ e6 ∷ e7·1 ∷ e8 ∷ e9 ∷ e10 ∷ e11·1 ∷ e12 ∷ e13 ∷ e14 ∷ e15 ∷ List.[]
+t5 = e0 ∷ e1·1 ∷ e2 ∷ e3 ∷ e4 ∷ e5 ∷ e6 ∷ e7 ∷ e8·1 ∷ e9 ∷ e10 ∷ e11 ∷ e12·1 ∷ e13 ∷ e14 ∷ e15 ∷ List.[]
 abbrev pub t6 : List.List Row.Entry
-t6 = e0 ∷ e1·1 ∷ e2 ∷ e3 ∷ e4 ∷ e5 ∷ e6 ∷ e7·1 ∷ e8·1 ∷ e9 ∷ e10 ∷ e11·1 ∷ e12 ∷ e13 ∷ e14 ∷ e15 ∷ List.[]
+t6 = e0 ∷ e1·1 ∷ e2 ∷ e3 ∷ e4 ∷ e5 ∷ e6 ∷ e7 ∷ e8·1 ∷ e9·1 ∷ e10 ∷ e11 ∷ e12·1 ∷ e13 ∷ e14 ∷ e15 ∷ List.[]
 abbrev pub t7 : List.List Row.Entry
-t7 = e0 ∷ e1·1 ∷ e2 ∷ e3 ∷ e4 ∷ e5 ∷ e6 ∷ e7·1 ∷ e8·1 ∷ e9 ∷ e10 ∷ e11 ∷ e12 ∷ e13 ∷ e14 ∷ e15 ∷ List.[]
+t7 = e0 ∷ e1·1 ∷ e2 ∷ e3 ∷ e4 ∷ e5 ∷ e6 ∷ e7 ∷ e8·1 ∷ e9·1 ∷ e10 ∷ e11 ∷ e12 ∷ e13 ∷ e14 ∷ e15 ∷ List.[]
 abbrev pub t8 : List.List Row.Entry
-t8 = e0 ∷ e1·1 ∷ e2 ∷ e3 ∷ e4 ∷ e5 ∷ e6 ∷ e7 ∷ e8·1 ∷ e9 ∷ e10 ∷ e11 ∷ e12 ∷ e13 ∷ e14 ∷ e15 ∷ List.[]
+t8 = e0 ∷ e1·1 ∷ e2 ∷ e3 ∷ e4 ∷ e5 ∷ e6 ∷ e7 ∷ e8 ∷ e9·1 ∷ e10 ∷ e11 ∷ e12 ∷ e13 ∷ e14 ∷ e15 ∷ List.[]
 abbrev pub t9 : List.List Row.Entry
-t9 = e0 ∷ e1 ∷ e2 ∷ e3 ∷ e4 ∷ e5 ∷ e6 ∷ e7 ∷ e8·1 ∷ e9 ∷ e10 ∷ e11 ∷ e12 ∷ e13 ∷ e14 ∷ e15 ∷ List.[]
+t9 = e0 ∷ e1 ∷ e2 ∷ e3 ∷ e4 ∷ e5 ∷ e6 ∷ e7 ∷ e8 ∷ e9·1 ∷ e10 ∷ e11 ∷ e12 ∷ e13 ∷ e14 ∷ e15 ∷ List.[]
 abbrev pub t10 : List.List Row.Entry
-t10 = e0 ∷ e1 ∷ e2 ∷ e3 ∷ e4 ∷ e5 ∷ e6 ∷ e7 ∷ e8·1 ∷ e9 ∷ e10 ∷ e11 ∷ e12·1 ∷ e13 ∷ e14 ∷ e15 ∷ List.[]
+t10 = e0 ∷ e1 ∷ e2 ∷ e3 ∷ e4 ∷ e5 ∷ e6 ∷ e7 ∷ e8 ∷ e9·1 ∷ e10 ∷ e11 ∷ e12 ∷ e13·1 ∷ e14 ∷ e15 ∷ List.[]
 abbrev pub t11 : List.List Row.Entry
-t11 = e0 ∷ e1 ∷ e2 ∷ e3 ∷ e4 ∷ e5 ∷ e6·1 ∷ e7 ∷ e8·1 ∷ e9 ∷ e10 ∷ e11 ∷ e12·1 ∷ e13 ∷ e14 ∷ e15 ∷ List.[]
+t11 = e0 ∷ e1 ∷ e2 ∷ e3 ∷ e4 ∷ e5 ∷ e6 ∷ e7·1 ∷ e8 ∷ e9·1 ∷ e10 ∷ e11 ∷ e12 ∷ e13·1 ∷ e14 ∷ e15 ∷ List.[]
 abbrev pub t12 : List.List Row.Entry
-t12 = e0 ∷ e1 ∷ e2 ∷ e3 ∷ e4 ∷ e5 ∷ e6·1 ∷ e7 ∷ e8·1 ∷ e9·1 ∷ e10 ∷ e11 ∷ e12·1 ∷ e13 ∷ e14 ∷ e15 ∷ List.[]
+t12 = e0 ∷ e1 ∷ e2 ∷ e3 ∷ e4 ∷ e5 ∷ e6 ∷ e7·1 ∷ e8 ∷ e9·1 ∷ e10·1 ∷ e11 ∷ e12 ∷ e13·1 ∷ e14 ∷ e15 ∷ List.[]
 abbrev pub t13 : List.List Row.Entry
-t13 = e0 ∷ e1 ∷ e2 ∷ e3 ∷ e4 ∷ e5 ∷ e6·1 ∷ e7 ∷ e8·1 ∷ e9·1 ∷ e10 ∷ e11 ∷ e12 ∷ e13 ∷ e14 ∷ e15 ∷ List.[]
+t13 = e0 ∷ e1 ∷ e2 ∷ e3 ∷ e4 ∷ e5 ∷ e6 ∷ e7·1 ∷ e8 ∷ e9·1 ∷ e10·1 ∷ e11 ∷ e12 ∷ e13 ∷ e14 ∷ e15 ∷ List.[]
 abbrev pub t14 : List.List Row.Entry
-t14 = e0 ∷ e1·2 ∷ e2 ∷ e3 ∷ e4 ∷ e5 ∷ e6·1 ∷ e7 ∷ e8·1 ∷ e9·1 ∷ e10 ∷ e11 ∷ e12 ∷ e13·1 ∷ e14 ∷ e15 ∷ List.[]
+t14 = e0 ∷ e1·2 ∷ e2 ∷ e3 ∷ e4 ∷ e5 ∷ e6 ∷ e7·1 ∷ e8 ∷ e9·1 ∷ e10·1 ∷ e11 ∷ e12 ∷ e13 ∷ e14·1 ∷ e15 ∷ List.[]
 abbrev pub t15 : List.List Row.Entry
-t15 = e0 ∷ e1·2 ∷ e2 ∷ e3 ∷ e4 ∷ e5 ∷ e6·1 ∷ e7 ∷ e8·1 ∷ e9·1 ∷ e10 ∷ e11 ∷ e12 ∷ e13 ∷ e14·1 ∷ e15 ∷ List.[]
+t15 = e0 ∷ e1·2 ∷ e2 ∷ e3 ∷ e4 ∷ e5 ∷ e6 ∷ e7·1 ∷ e8 ∷ e9·1 ∷ e10·1 ∷ e11 ∷ e12 ∷ e13 ∷ e14 ∷ e15·1 ∷ List.[]
 abbrev pub t16 : List.List Row.Entry
-t16 = e0 ∷ e1·2 ∷ e2·1 ∷ e3 ∷ e4 ∷ e5 ∷ e6·1 ∷ e7 ∷ e8·1 ∷ e9·1 ∷ e10 ∷ e11 ∷ e12 ∷ e13 ∷ e14·1 ∷ e15·1 ∷ List.[]
+t16 = e0 ∷ e1·2 ∷ e2·1 ∷ e3 ∷ e4 ∷ e5 ∷ e6 ∷ e7·1 ∷ e8 ∷ e9·1 ∷ e10·1 ∷ e11 ∷ e12 ∷ e13 ∷ e14 ∷ e15·1 ∷ List.[]
 abbrev pub t17 : List.List Row.Entry
-t17 = e0 ∷ e1·2 ∷ e2·1 ∷ e3 ∷ e4 ∷ e5 ∷ e6·1 ∷ e7 ∷ e8·1 ∷ e9·1 ∷ e10 ∷ e11 ∷ e12 ∷ e13 ∷ e14·1 ∷ e15 ∷ List.[]
+t17 = e16·1 ∷ e17 ∷ e18 ∷ e19 ∷ List.[]
 abbrev pub t18 : List.List Row.Entry
-t18 = e16·1 ∷ e17 ∷ e18 ∷ List.[]
+t18 = e16 ∷ e17·1 ∷ e18 ∷ e19 ∷ List.[]
 abbrev pub t19 : List.List Row.Entry
-t19 = e0 ∷ e1·2 ∷ e2·1 ∷ e3 ∷ e4 ∷ e5 ∷ e6·1 ∷ e7 ∷ e8·1 ∷ e9·2 ∷ e10 ∷ e11 ∷ e12 ∷ e13 ∷ e14·1 ∷ e15 ∷ List.[]
+t19 = e0 ∷ e1·2 ∷ e2·1 ∷ e3 ∷ e4 ∷ e5 ∷ e6 ∷ e7·1 ∷ e8 ∷ e9·1 ∷ e10·2 ∷ e11 ∷ e12 ∷ e13 ∷ e14 ∷ e15·1 ∷ List.[]
 abbrev pub t20 : List.List Row.Entry
-t20 = e16·1 ∷ e17·1 ∷ e18 ∷ List.[]
+t20 = e16 ∷ e17·1 ∷ e18·1 ∷ e19 ∷ List.[]
 abbrev pub t21 : List.List Row.Entry
-t21 = e16·1 ∷ e17 ∷ e18·1 ∷ List.[]
+t21 = e16 ∷ e17·1 ∷ e18 ∷ e19·1 ∷ List.[]
 abbrev pub t22 : List.List Row.Entry
-t22 = e0·1 ∷ e1·2 ∷ e2·1 ∷ e3 ∷ e4 ∷ e5 ∷ e6·1 ∷ e7 ∷ e8·1 ∷ e9·2 ∷ e10 ∷ e11 ∷ e12 ∷ e13 ∷ e14·2 ∷ e15 ∷ List.[]
+t22 = e0·1 ∷ e1·2 ∷ e2·1 ∷ e3 ∷ e4 ∷ e5 ∷ e6 ∷ e7·1 ∷ e8 ∷ e9·1 ∷ e10·2 ∷ e11 ∷ e12 ∷ e13 ∷ e14 ∷ e15·2 ∷ List.[]
 abbrev pub t23 : List.List Row.Entry
-t23 = e16·2 ∷ e17 ∷ e18·1 ∷ List.[]
+t23 = e16 ∷ e17·2 ∷ e18 ∷ e19·1 ∷ List.[]
 abbrev pub t24 : List.List Row.Entry
-t24 = e16·2 ∷ e17 ∷ e18 ∷ List.[]
+t24 = e16 ∷ e17·2 ∷ e18 ∷ e19 ∷ List.[]
 abbrev pub t25 : List.List Row.Entry
-t25 = e0·1 ∷ e1·2 ∷ e2·1 ∷ e3·1 ∷ e4 ∷ e5 ∷ e6·1 ∷ e7 ∷ e8·1 ∷ e9·2 ∷ e10 ∷ e11 ∷ e12 ∷ e13 ∷ e14·2 ∷ e15 ∷ List.[]
+t25 = e0·1 ∷ e1·2 ∷ e2·1 ∷ e3·1 ∷ e4 ∷ e5 ∷ e6 ∷ e7·1 ∷ e8 ∷ e9·1 ∷ e10·2 ∷ e11 ∷ e12 ∷ e13 ∷ e14 ∷ e15·2 ∷ List.[]
 abbrev pub t26 : List.List Row.Entry
-t26 = e0·1 ∷ e1·2 ∷ e2·1 ∷ e3·1 ∷ e4·1 ∷ e5 ∷ e6·1 ∷ e7 ∷ e8·1 ∷ e9·2 ∷ e10 ∷ e11 ∷ e12 ∷ e13 ∷ e14·2 ∷ e15 ∷ List.[]
+t26 = e0·1 ∷ e1·2 ∷ e2·1 ∷ e3·1 ∷ e4·1 ∷ e5 ∷ e6 ∷ e7·1 ∷ e8 ∷ e9·1 ∷ e10·2 ∷ e11 ∷ e12 ∷ e13 ∷ e14 ∷ e15·2 ∷ List.[]
 abbrev pub t27 : List.List Row.Entry
-t27 = e0·1 ∷ e1·2 ∷ e2·1 ∷ e3·1 ∷ e4·1 ∷ e5·1 ∷ e6·1 ∷ e7 ∷ e8·1 ∷ e9·2 ∷ e10 ∷ e11 ∷ e12 ∷ e13 ∷ e14·2 ∷ e15 ∷ List.[]
+t27 = e0·1 ∷ e1·2 ∷ e2·1 ∷ e3·1 ∷ e4·1 ∷ e5·1 ∷ e6 ∷ e7·1 ∷ e8 ∷ e9·1 ∷ e10·2 ∷ e11 ∷ e12 ∷ e13 ∷ e14 ∷ e15·2 ∷ List.[]
 abbrev pub t28 : List.List Row.Entry
-t28 = e0·1 ∷ e1·2 ∷ e2·1 ∷ e3·1 ∷ e4·1 ∷ e5·1 ∷ e6·1 ∷ e7 ∷ e8 ∷ e9·2 ∷ e10 ∷ e11 ∷ e12 ∷ e13 ∷ e14·2 ∷ e15 ∷ List.[]
+t28 = e0·1 ∷ e1·2 ∷ e2·1 ∷ e3·1 ∷ e4·1 ∷ e5·1 ∷ e6·1 ∷ e7·1 ∷ e8 ∷ e9·1 ∷ e10·2 ∷ e11 ∷ e12 ∷ e13 ∷ e14 ∷ e15·2 ∷ List.[]
 abbrev pub t29 : List.List Row.Entry
-t29 = e0·1 ∷ e1 ∷ e2·1 ∷ e3·1 ∷ e4·1 ∷ e5·1 ∷ e6·1 ∷ e7 ∷ e8 ∷ e9·2 ∷ e10 ∷ e11 ∷ e12 ∷ e13 ∷ e14 ∷ e15 ∷ List.[]
+t29 = e0·1 ∷ e1·2 ∷ e2·1 ∷ e3·1 ∷ e4·1 ∷ e5·1 ∷ e6·1 ∷ e7·1 ∷ e8 ∷ e9 ∷ e10·2 ∷ e11 ∷ e12 ∷ e13 ∷ e14 ∷ e15·2 ∷ List.[]
 abbrev pub t30 : List.List Row.Entry
-t30 = e0·1 ∷ e1 ∷ e2 ∷ e3·1 ∷ e4·1 ∷ e5·1 ∷ e6·1 ∷ e7 ∷ e8 ∷ e9·2 ∷ e10 ∷ e11 ∷ e12 ∷ e13 ∷ e14 ∷ e15 ∷ List.[]
+t30 = e0·1 ∷ e1 ∷ e2·1 ∷ e3·1 ∷ e4·1 ∷ e5·1 ∷ e6·1 ∷ e7·1 ∷ e8 ∷ e9 ∷ e10·2 ∷ e11 ∷ e12 ∷ e13 ∷ e14 ∷ e15 ∷ List.[]
 abbrev pub t31 : List.List Row.Entry
-t31 = e0·1 ∷ e1 ∷ e2 ∷ e3·1 ∷ e4·1 ∷ e5·1 ∷ e6·1 ∷ e7 ∷ e8 ∷ e9·1 ∷ e10 ∷ e11 ∷ e12 ∷ e13 ∷ e14 ∷ e15 ∷ List.[]
+t31 = e0·1 ∷ e1 ∷ e2 ∷ e3·1 ∷ e4·1 ∷ e5·1 ∷ e6·1 ∷ e7·1 ∷ e8 ∷ e9 ∷ e10·2 ∷ e11 ∷ e12 ∷ e13 ∷ e14 ∷ e15 ∷ List.[]
+abbrev pub t32 : List.List Row.Entry
+t32 = e0·1 ∷ e1 ∷ e2 ∷ e3·1 ∷ e4·1 ∷ e5·1 ∷ e6·1 ∷ e7·1 ∷ e8 ∷ e9 ∷ e10·1 ∷ e11 ∷ e12 ∷ e13 ∷ e14 ∷ e15 ∷ List.[]
 abbrev pub T0 : Row.Cx
 T0 = record { locals = List._++_ t0 t1; slots = List.[] }
 abbrev pub T1 : Row.Cx
@@ -447,9 +472,9 @@ T18 = record { locals = List._++_ t14 t1; slots = List.[] }
 abbrev pub T19 : Row.Cx
 T19 = record { locals = List._++_ t15 t1; slots = List.[] }
 abbrev pub T21 : Row.Cx
-T21 = record { locals = List._++_ t16 t1; slots = List.[] }
+T21 = record { locals = List._++_ t16 t17; slots = List.[] }
 abbrev pub T22 : Row.Cx
-T22 = record { locals = List._++_ t17 t18; slots = List.[] }
+T22 = record { locals = List._++_ t16 t18; slots = List.[] }
 abbrev pub T24 : Row.Cx
 T24 = record { locals = List._++_ t19 t20; slots = List.[] }
 abbrev pub T25 : Row.Cx
@@ -466,89 +491,94 @@ abbrev pub T30 : Row.Cx
 T30 = record { locals = List._++_ t27 t24; slots = List.[] }
 abbrev pub T31 : Row.Cx
 T31 = record { locals = List._++_ t28 t24; slots = List.[] }
-abbrev pub T33 : Row.Cx
-T33 = record { locals = List._++_ t29 t24; slots = List.[] }
-abbrev pub T36 : Row.Cx
-T36 = record { locals = List._++_ t30 t1; slots = List.[] }
+abbrev pub T32 : Row.Cx
+T32 = record { locals = List._++_ t29 t24; slots = List.[] }
+abbrev pub T34 : Row.Cx
+T34 = record { locals = List._++_ t30 t24; slots = List.[] }
 abbrev pub T37 : Row.Cx
-T37 = record { locals = List._++_ t30 t1; slots = List.[] }
-abbrev pub T40 : Row.Cx
-T40 = record { locals = List._++_ t31 t1; slots = List.[] }
-abbrev pub T42 : Row.Cx
-T42 = record { locals = List._++_ t2 t1; slots = List.[] }
+T37 = record { locals = List._++_ t31 t1; slots = List.[] }
+abbrev pub T38 : Row.Cx
+T38 = record { locals = List._++_ t31 t1; slots = List.[] }
+abbrev pub T41 : Row.Cx
+T41 = record { locals = List._++_ t32 t1; slots = List.[] }
+abbrev pub T43 : Row.Cx
+T43 = record { locals = List._++_ t2 t1; slots = List.[] }
 abbrev pub O0 : Typed.Outs
 O0 = record { next = Option.none; exits = List.[]; returns = Option.some T1 }
 module _ (claims· : Claims) where
   abbrev s0 : Typed.Gives T0 T2
   s0 = Know.k-sl-known (Referent.fInt Syntax.w32) T0 2 1 ref6 Row.off 0 λ x. x
   abbrev s1 : Typed.Both T2 T3
-  s1 = Call.callB ps·0 r·0 (claims· .0) (claims· .1) T2 (record { pos = 4; st = List.[]; d = 0; at = λ x. x }, (record { pos = 5; st = List.[]; d = 0;
-      at = λ x. x }, tt),) 7 List.[] Laws''.mir
+  s1 = Call.callB ps·0 r·0 (claims· .0) (claims· .1) T2 (record { pos = 4; st = List.[]; d = 0; at = λ x. x }, (record { pos = 6; st = List.[]; d = 0;
+      at = λ x. x }, tt),) 8 List.[] Laws'''.mir
   abbrev s3 : Typed.Gives T3 T5
-  s3 = Reshare.k-sl-reshare InflightAction.row T3 1 10 0 2 ref5 ref0 Row.off λ x. x
+  s3 = Reshare.k-sl-reshare InflightAction.row T3 1 11 0 2 ref5 ref0 Row.off λ x. x
   abbrev s4 : Typed.Asks T5 T6
-  s4 = Relend.k-sl-aggregate InflightAction.row (Relend.asShr InflightAction.row) T5 10 11 2 ref0 ref0 (λ x. x) (Scalar.oFld 1 ((Syntax.field 1) ∷
+  s4 = Relend.k-sl-aggregate InflightAction.row (Relend.asShr InflightAction.row) T5 11 12 2 ref0 ref0 (λ x. x) (Scalar.oFld 1 ((Syntax.field 1) ∷
       List.[]) (Syntax.tyInt Syntax.w64) 8 λ v. Shared.lenV (v .0))
   abbrev s5 : Typed.Both T6 T7
-  s5 = Call.callB ps·1 r·1 (claims· .2) (claims· .3) T6 (record { pos = 11; ty = Syntax.tyRef Syntax.erased Syntax.imm InflightAction.to; ref = λ x.
-      x; }, (record { pos = 7; st = List.[]; d = 0; at = λ x. x }, tt),) 8 (2 ∷ List.[]) Laws'''.mir
+  s5 = Call.callB ps·1 r·1 (claims· .2) (claims· .3) T6 (record { pos = 12; ty = Syntax.tyRef Syntax.erased Syntax.imm InflightAction.to; ref = λ x.
+      x; }, (record { pos = 5; st = List.[]; d = 0; at = λ x. x }, (record { pos = 8; st = List.[]; d = 0; at = λ x. x }, tt),),) 9 (2 ∷ List.[])
+      Laws''''.mir
   abbrev s6 : Typed.Mo T7 → Typed.Mo T8
-  s6 = Scalar.n-room T7 11 (Syntax.tyStruct (38 ∷ 91 ∷ 93 ∷ List.[]) (Syntax.tcons ref0 (Syntax.tcons (Syntax.tyInt Syntax.w64) Syntax.tnil)))
+  s6 = Scalar.n-room T7 12 (Syntax.tyStruct (38 ∷ 91 ∷ 93 ∷ List.[]) (Syntax.tcons ref0 (Syntax.tcons (Syntax.tyInt Syntax.w64) Syntax.tnil)))
   abbrev s7 : Typed.Mo T8 → Typed.Mo T9
-  s7 = Scalar.n-room T8 7 Laws''.mir
+  s7 = Scalar.n-room T8 8 Laws'''.mir
   abbrev s9 : Typed.Mo T9 → Typed.Mo T11
   s9 = Reshare.n-back-sl-shr InflightAction.row T9 1 0 2 ref5 Row.off λ x. x
   abbrev s11 : Typed.Both T11 T13
-  s11 = Call.callB ps·2 r·2 (claims· .4) (claims· .5) T11 (record { pos = 6; st = List.[]; d = 0; at = λ x. x }, tt,) 12 List.[] (Syntax.tyArray
+  s11 = Call.callB ps·2 r·2 (claims· .4) (claims· .5) T11 (record { pos = 7; st = List.[]; d = 0; at = λ x. x }, tt,) 13 List.[] (Syntax.tyArray
       (Syntax.tyInt Syntax.w8) 28)
   abbrev s12 : Typed.Mo T13 → Typed.Mo T14
-  s12 = Scalar.n-room T13 6 Laws.mir
+  s12 = Scalar.n-room T13 7 Laws.mir
   abbrev s13 : Typed.Mo T14 → Typed.Mo T15
-  s13 = LocalCopy.n-val-copy T14 12 9 (Array'.Array (Referent.rtF (Referent.fInt Syntax.w8)) 28) (Rows.arrF (Referent.rtF (Referent.fInt Syntax.w8))
+  s13 = LocalCopy.n-val-copy T14 13 10 (Array'.Array (Referent.rtF (Referent.fInt Syntax.w8)) 28) (Rows.arrF (Referent.rtF (Referent.fInt Syntax.w8))
       28 0) (Rows.arrF (Referent.rtF (Referent.fInt Syntax.w8)) 28 0) (λ x. x) (λ x. x) λ x. x
   abbrev s14 : Typed.Mo T15 → Typed.Mo T16
-  s14 = Scalar.n-room T15 12 (Syntax.tyArray (Syntax.tyInt Syntax.w8) 28)
+  s14 = Scalar.n-room T15 13 (Syntax.tyArray (Syntax.tyInt Syntax.w8) 28)
   abbrev s16 : Typed.Gives T16 T18
-  s16 = Relend.k-sl-relend InflightAction.row T16 1 13 0 3 ref5 ref1 Row.off λ x. x
+  s16 = Relend.k-sl-relend InflightAction.row T16 1 14 0 3 ref5 ref1 Row.off λ x. x
   abbrev s17 : Typed.Asks T18 T19
-  s17 = Relend.k-sl-aggregate InflightAction.row (Relend.asMut InflightAction.row) T18 13 14 3 ref1 ref1 (λ x. x) (Scalar.oFld 1 ((Syntax.field 1) ∷
+  s17 = Relend.k-sl-aggregate InflightAction.row (Relend.asMut InflightAction.row) T18 14 15 3 ref1 ref1 (λ x. x) (Scalar.oFld 1 ((Syntax.field 1) ∷
       List.[]) (Syntax.tyInt Syntax.w64) 8 λ v. Shared.lenV (v .0))
   abbrev s19 : Typed.Gives T19 T21
-  s19 = Relend.k-sl-relend (Referent.rtF (Referent.fInt Syntax.w32)) T19 2 15 1 4 ref6 ref2 Row.off λ x. x
+  s19 = Relend.k-sl-relend (Referent.rtF (Referent.fInt Syntax.w32)) T19 2 16 1 4 ref6 ref2 Row.off λ x. x
   abbrev s20 : Typed.Asks T21 T22
-  s20 = Relend.k-sl-aggregate (Referent.rtF (Referent.fInt Syntax.w32)) (Relend.asMut (Referent.rtF (Referent.fInt Syntax.w32))) T21 15 16 4 ref2 ref2
+  s20 = Relend.k-sl-aggregate (Referent.rtF (Referent.fInt Syntax.w32)) (Relend.asMut (Referent.rtF (Referent.fInt Syntax.w32))) T21 16 17 4 ref2 ref2
       (λ x. x) (Scalar.oFld 2 ((Syntax.field 1) ∷ List.[]) (Syntax.tyInt Syntax.w64) 8 λ v. Shared.lenV (v .0))
   abbrev s22 : Typed.Gives T22 T24
-  s22 = Share.k-arr-share (Referent.rtF (Referent.fInt Syntax.w8)) T22 9 17 28 5 ref3 λ x. x
+  s22 = Share.k-arr-share (Referent.rtF (Referent.fInt Syntax.w8)) T22 10 18 28 5 ref3 λ x. x
   abbrev s23 : Typed.Asks T24 T25
-  s23 = Relend.k-sl-aggregate (Referent.rtF (Referent.fInt Syntax.w8)) (Relend.asShr (Referent.rtF (Referent.fInt Syntax.w8))) T24 17 18 5 ref3 ref4
+  s23 = Relend.k-sl-aggregate (Referent.rtF (Referent.fInt Syntax.w8)) (Relend.asShr (Referent.rtF (Referent.fInt Syntax.w8))) T24 18 19 5 ref3 ref4
       (λ x. x) (Scalar.oInt Syntax.w64 28)
   abbrev s24 : Typed.Both T25 T26
-  s24 = Call.callB ps·3 r·3 (claims· .6) (claims· .7) T25 (record { pos = 14; ty = Syntax.tyRef Syntax.erased Syntax.mut InflightAction.to; ref = λ x.
-      x; }, (record { pos = 16; ty = Syntax.tyRef Syntax.erased Syntax.mut (Syntax.tyInt Syntax.w32); ref = λ x. x; }, (record { pos = 3; st =
+  s24 = Call.callB ps·3 r·3 (claims· .6) (claims· .7) T25 (record { pos = 15; ty = Syntax.tyRef Syntax.erased Syntax.mut InflightAction.to; ref = λ x.
+      x; }, (record { pos = 17; ty = Syntax.tyRef Syntax.erased Syntax.mut (Syntax.tyInt Syntax.w32); ref = λ x. x; }, (record { pos = 3; st =
       List.[]; d = 0; at = λ x. x }, (record { pos = 4; st = List.[]; d = 0; at = λ x. x }, (record { pos = 5; st = List.[]; d = 0; at = λ x. x },
-      (record { pos = 8; st = List.[]; d = 0; at = λ x. x }, (record { pos = 18; ty = Syntax.tyRef Syntax.erased Syntax.imm (Syntax.tyInt Syntax.w8);
-      ref = λ x. x; }, tt,),),),),),),) 0 (3 ∷ 4 ∷ 5 ∷ List.[]) Laws''''''.mir
+      (record { pos = 6; st = List.[]; d = 0; at = λ x. x }, (record { pos = 9; st = List.[]; d = 0; at = λ x. x }, (record { pos = 19; ty =
+      Syntax.tyRef Syntax.erased Syntax.imm (Syntax.tyInt Syntax.w8); ref = λ x. x; }, tt,),),),),),),),) 0 (3 ∷ 4 ∷ 5 ∷ List.[]) Laws'''''''.mir
   abbrev s25 : Typed.Mo T26 → Typed.Mo T27
-  s25 = Scalar.n-room T26 18 (Syntax.tyStruct (38 ∷ 91 ∷ 93 ∷ List.[]) (Syntax.tcons ref4 (Syntax.tcons (Syntax.tyInt Syntax.w64) Syntax.tnil)))
+  s25 = Scalar.n-room T26 19 (Syntax.tyStruct (38 ∷ 91 ∷ 93 ∷ List.[]) (Syntax.tcons ref4 (Syntax.tcons (Syntax.tyInt Syntax.w64) Syntax.tnil)))
   abbrev s26 : Typed.Mo T27 → Typed.Mo T28
   s26 = Scalar.n-room T27 3 Laws'.mir
   abbrev s27 : Typed.Mo T28 → Typed.Mo T29
-  s27 = Scalar.n-room T28 4 Laws'''''.mir
+  s27 = Scalar.n-room T28 4 Laws''''''.mir
   abbrev s28 : Typed.Mo T29 → Typed.Mo T30
-  s28 = Scalar.n-room T29 5 Laws''''.mir
+  s28 = Scalar.n-room T29 5 Laws''.mir
   abbrev s29 : Typed.Mo T30 → Typed.Mo T31
-  s29 = Scalar.n-room T30 8 Laws'''.mir
-  abbrev s31 : Typed.Both T31 T33
-  s31 = Relend.k-back-sl InflightAction.row T31 14 1 0 3 ref5 ref1 Row.off (λ x. x) λ x. x
-  abbrev s34 : Typed.Both T33 T36
-  s34 = Relend.k-back-sl (Referent.rtF (Referent.fInt Syntax.w32)) T33 16 2 1 4 ref6 ref2 Row.off (λ x. x) λ x. x
-  abbrev s35 : Typed.Gives T36 T37
-  s35 = Know.k-sl-known (Referent.fInt Syntax.w32) T36 2 1 ref6 Row.off 0 λ x. x
-  abbrev s38 : Typed.Mo T37 → Typed.Mo T40
-  s38 = Share.n-back-arr-shr (Referent.rtF (Referent.fInt Syntax.w8)) T37 9 28 5 λ x. x
-  abbrev s40 : Typed.Mo T40 → Typed.Mo T42
-  s40 = Scalar.n-room T40 9 (Syntax.tyArray (Syntax.tyInt Syntax.w8) 28)
+  s29 = Scalar.n-room T30 6 Laws'''''.mir
+  abbrev s30 : Typed.Mo T31 → Typed.Mo T32
+  s30 = Scalar.n-room T31 9 Laws''''.mir
+  abbrev s32 : Typed.Both T32 T34
+  s32 = Relend.k-back-sl InflightAction.row T32 15 1 0 3 ref5 ref1 Row.off (λ x. x) λ x. x
+  abbrev s35 : Typed.Both T34 T37
+  s35 = Relend.k-back-sl (Referent.rtF (Referent.fInt Syntax.w32)) T34 17 2 1 4 ref6 ref2 Row.off (λ x. x) λ x. x
+  abbrev s36 : Typed.Gives T37 T38
+  s36 = Know.k-sl-known (Referent.fInt Syntax.w32) T37 2 1 ref6 Row.off 0 λ x. x
+  abbrev s39 : Typed.Mo T38 → Typed.Mo T41
+  s39 = Share.n-back-arr-shr (Referent.rtF (Referent.fInt Syntax.w8)) T38 10 28 5 λ x. x
+  abbrev s41 : Typed.Mo T41 → Typed.Mo T43
+  s41 = Scalar.n-room T41 10 (Syntax.tyArray (Syntax.tyInt Syntax.w8) 28)
   module _ (Pre· : (κs : Lifetimes.Lfts 2) → Kinds.Dens κs ps → Type 0) (Post· : (κs : Lifetimes.Lfts 2) → (a : Kinds.Dens κs ps) → Kinds.Plain 2 ps r
       κs) where
     module _ (M : Type 1) where
@@ -560,92 +590,94 @@ module _ (claims· : Claims) where
           "hnsr_circuit::queue::send") → Statement.Triple 𝓤 (Wp.WpFn 𝓤 H (𝓣 .C) (𝓣 .Λ) (Function.fnOf 2 ps r xs m hs body)) (Function.plainOf 𝓤 H A 2
           ps r Pre· Post·)
     module _ where
-      abbrev at0 : Typed.TF T42 O0
+      abbrev at0 : Typed.TF T43 O0
       at0 = Typed.atRet O0
-      abbrev at1 : Typed.TF T40 O0
-      at1 = λ Ψ. Typed.pass T40 T42 s40 (at0 Ψ)
-      abbrev at2 : Typed.TF T40 O0
+      abbrev at1 : Typed.TF T41 O0
+      at1 = λ Ψ. Typed.pass T41 T43 s41 (at0 Ψ)
+      abbrev at2 : Typed.TF T41 O0
       at2 = λ Ψ. at1 Ψ
-      abbrev at3 : Typed.TF T37 O0
-      at3 = λ Ψ. Typed.pass T37 T40 s38 (at2 Ψ)
-      abbrev at4 : Typed.TF T37 O0
+      abbrev at3 : Typed.TF T38 O0
+      at3 = λ Ψ. Typed.pass T38 T41 s39 (at2 Ψ)
+      abbrev at4 : Typed.TF T38 O0
       at4 = λ Ψ. at3 Ψ
-      abbrev at5 : Typed.TF T37 O0
+      abbrev at5 : Typed.TF T38 O0
       at5 = λ Ψ. at4 Ψ
-      abbrev at6 : Typed.TF T36 O0
-      at6 = λ Ψ. Typed.give s35 (at5 Ψ)
-      abbrev at7 : Typed.TF T33 O0
-      at7 = λ Ψ. Typed.both s34 (at6 Ψ)
-      abbrev at8 : Typed.TF T33 O0
+      abbrev at6 : Typed.TF T37 O0
+      at6 = λ Ψ. Typed.give s36 (at5 Ψ)
+      abbrev at7 : Typed.TF T34 O0
+      at7 = λ Ψ. Typed.both s35 (at6 Ψ)
+      abbrev at8 : Typed.TF T34 O0
       at8 = λ Ψ. at7 Ψ
-      abbrev at9 : Typed.TF T33 O0
+      abbrev at9 : Typed.TF T34 O0
       at9 = λ Ψ. at8 Ψ
-      abbrev at10 : Typed.TF T31 O0
-      at10 = λ Ψ. Typed.both s31 (at9 Ψ)
-      abbrev at11 : Typed.TF T31 O0
+      abbrev at10 : Typed.TF T32 O0
+      at10 = λ Ψ. Typed.both s32 (at9 Ψ)
+      abbrev at11 : Typed.TF T32 O0
       at11 = λ Ψ. at10 Ψ
-      abbrev at12 : Typed.TF T30 O0
-      at12 = λ Ψ. Typed.pass T30 T31 s29 (at11 Ψ)
-      abbrev at13 : Typed.TF T29 O0
-      at13 = λ Ψ. Typed.pass T29 T30 s28 (at12 Ψ)
-      abbrev at14 : Typed.TF T28 O0
-      at14 = λ Ψ. Typed.pass T28 T29 s27 (at13 Ψ)
-      abbrev at15 : Typed.TF T27 O0
-      at15 = λ Ψ. Typed.pass T27 T28 s26 (at14 Ψ)
-      abbrev at16 : Typed.TF T26 O0
-      at16 = λ Ψ. Typed.pass T26 T27 s25 (at15 Ψ)
-      abbrev at17 : Typed.TF T25 O0
-      at17 = λ Ψ. Typed.both s24 (at16 Ψ)
-      abbrev at18 : Typed.TF T24 O0
-      at18 = λ Ψ. Typed.ask s23 (at17 Ψ)
-      abbrev at19 : Typed.TF T22 O0
-      at19 = λ Ψ. Typed.give s22 (at18 Ψ)
+      abbrev at12 : Typed.TF T31 O0
+      at12 = λ Ψ. Typed.pass T31 T32 s30 (at11 Ψ)
+      abbrev at13 : Typed.TF T30 O0
+      at13 = λ Ψ. Typed.pass T30 T31 s29 (at12 Ψ)
+      abbrev at14 : Typed.TF T29 O0
+      at14 = λ Ψ. Typed.pass T29 T30 s28 (at13 Ψ)
+      abbrev at15 : Typed.TF T28 O0
+      at15 = λ Ψ. Typed.pass T28 T29 s27 (at14 Ψ)
+      abbrev at16 : Typed.TF T27 O0
+      at16 = λ Ψ. Typed.pass T27 T28 s26 (at15 Ψ)
+      abbrev at17 : Typed.TF T26 O0
+      at17 = λ Ψ. Typed.pass T26 T27 s25 (at16 Ψ)
+      abbrev at18 : Typed.TF T25 O0
+      at18 = λ Ψ. Typed.both s24 (at17 Ψ)
+      abbrev at19 : Typed.TF T24 O0
+      at19 = λ Ψ. Typed.ask s23 (at18 Ψ)
       abbrev at20 : Typed.TF T22 O0
-      at20 = λ Ψ. at19 Ψ
-      abbrev at21 : Typed.TF T21 O0
-      at21 = λ Ψ. Typed.ask s20 (at20 Ψ)
-      abbrev at22 : Typed.TF T19 O0
-      at22 = λ Ψ. Typed.give s19 (at21 Ψ)
+      at20 = λ Ψ. Typed.give s22 (at19 Ψ)
+      abbrev at21 : Typed.TF T22 O0
+      at21 = λ Ψ. at20 Ψ
+      abbrev at22 : Typed.TF T21 O0
+      at22 = λ Ψ. Typed.ask s20 (at21 Ψ)
       abbrev at23 : Typed.TF T19 O0
-      at23 = λ Ψ. at22 Ψ
-      abbrev at24 : Typed.TF T18 O0
-      at24 = λ Ψ. Typed.ask s17 (at23 Ψ)
-      abbrev at25 : Typed.TF T16 O0
-      at25 = λ Ψ. Typed.give s16 (at24 Ψ)
+      at23 = λ Ψ. Typed.give s19 (at22 Ψ)
+      abbrev at24 : Typed.TF T19 O0
+      at24 = λ Ψ. at23 Ψ
+      abbrev at25 : Typed.TF T18 O0
+      at25 = λ Ψ. Typed.ask s17 (at24 Ψ)
       abbrev at26 : Typed.TF T16 O0
-      at26 = λ Ψ. at25 Ψ
-      abbrev at27 : Typed.TF T15 O0
-      at27 = λ Ψ. Typed.pass T15 T16 s14 (at26 Ψ)
-      abbrev at28 : Typed.TF T14 O0
-      at28 = λ Ψ. Typed.pass T14 T15 s13 (at27 Ψ)
-      abbrev at29 : Typed.TF T13 O0
-      at29 = λ Ψ. Typed.pass T13 T14 s12 (at28 Ψ)
-      abbrev at30 : Typed.TF T11 O0
-      at30 = λ Ψ. Typed.both s11 (at29 Ψ)
+      at26 = λ Ψ. Typed.give s16 (at25 Ψ)
+      abbrev at27 : Typed.TF T16 O0
+      at27 = λ Ψ. at26 Ψ
+      abbrev at28 : Typed.TF T15 O0
+      at28 = λ Ψ. Typed.pass T15 T16 s14 (at27 Ψ)
+      abbrev at29 : Typed.TF T14 O0
+      at29 = λ Ψ. Typed.pass T14 T15 s13 (at28 Ψ)
+      abbrev at30 : Typed.TF T13 O0
+      at30 = λ Ψ. Typed.pass T13 T14 s12 (at29 Ψ)
       abbrev at31 : Typed.TF T11 O0
-      at31 = λ Ψ. at30 Ψ
-      abbrev at32 : Typed.TF T9 O0
-      at32 = λ Ψ. Typed.pass T9 T11 s9 (at31 Ψ)
+      at31 = λ Ψ. Typed.both s11 (at30 Ψ)
+      abbrev at32 : Typed.TF T11 O0
+      at32 = λ Ψ. at31 Ψ
       abbrev at33 : Typed.TF T9 O0
-      at33 = λ Ψ. at32 Ψ
-      abbrev at34 : Typed.TF T8 O0
-      at34 = λ Ψ. Typed.pass T8 T9 s7 (at33 Ψ)
-      abbrev at35 : Typed.TF T7 O0
-      at35 = λ Ψ. Typed.pass T7 T8 s6 (at34 Ψ)
-      abbrev at36 : Typed.TF T6 O0
-      at36 = λ Ψ. Typed.both s5 (at35 Ψ)
-      abbrev at37 : Typed.TF T5 O0
-      at37 = λ Ψ. Typed.ask s4 (at36 Ψ)
-      abbrev at38 : Typed.TF T3 O0
-      at38 = λ Ψ. Typed.give s3 (at37 Ψ)
+      at33 = λ Ψ. Typed.pass T9 T11 s9 (at32 Ψ)
+      abbrev at34 : Typed.TF T9 O0
+      at34 = λ Ψ. at33 Ψ
+      abbrev at35 : Typed.TF T8 O0
+      at35 = λ Ψ. Typed.pass T8 T9 s7 (at34 Ψ)
+      abbrev at36 : Typed.TF T7 O0
+      at36 = λ Ψ. Typed.pass T7 T8 s6 (at35 Ψ)
+      abbrev at37 : Typed.TF T6 O0
+      at37 = λ Ψ. Typed.both s5 (at36 Ψ)
+      abbrev at38 : Typed.TF T5 O0
+      at38 = λ Ψ. Typed.ask s4 (at37 Ψ)
       abbrev at39 : Typed.TF T3 O0
-      at39 = λ Ψ. at38 Ψ
-      abbrev at40 : Typed.TF T2 O0
-      at40 = λ Ψ. Typed.both s1 (at39 Ψ)
-      abbrev at41 : Typed.TF T0 O0
-      at41 = λ Ψ. Typed.give s0 (at40 Ψ)
+      at39 = λ Ψ. Typed.give s3 (at38 Ψ)
+      abbrev at40 : Typed.TF T3 O0
+      at40 = λ Ψ. at39 Ψ
+      abbrev at41 : Typed.TF T2 O0
+      at41 = λ Ψ. Typed.both s1 (at40 Ψ)
+      abbrev at42 : Typed.TF T0 O0
+      at42 = λ Ψ. Typed.give s0 (at41 Ψ)
       abbrev pub Φ : Typed.TF T0 O0
-      Φ = at41
+      Φ = at42
       module _ { M : Type 1 } (𝓤 : URA.URA M) (H : Wp.Heap 𝓤) (A : Atoms.Atoms 𝓤) (W : Kit.Given 𝓤 H A) (𝓣 : Wp.Tables 𝓤 H) where
         abbrev Knowns : Type 1
         Knowns = Plain.Known 𝓤 H A W 𝓣 0 ps·0 r·0 (claims· .0) (claims· .1) "hnsr_circuit::queue::asking" × Plain.Known 𝓤 H A W 𝓣 1 ps·1 r·1 (claims·
@@ -657,138 +689,140 @@ module _ (claims· : Claims) where
         abbrev life1 : Row.Life
         life1 = Row.lease (κs .1 .0) (qs .1 .0)
         abbrev g4 : List.List Row.Entry
-        g4 = (0, Rows'.any-gone Laws''''''.mir,) ∷ (1, Reshare.mslice-owedS InflightAction.row ref5 0 2 life0,) ∷ (2, Mut.mslice (Referent.rtF
+        g4 = (0, Rows'.any-gone Laws'''''''.mir,) ∷ (1, Reshare.mslice-owedS InflightAction.row ref5 0 2 life0,) ∷ (2, Mut.mslice (Referent.rtF
             (Referent.fInt Syntax.w32)) ref6 1,) ∷ (3, Rows'.whole (Declared.row HnsrAnswer.the-type)) ∷ (4, Rows'.whole (Declared'.row
-            OpaqueRelayRuntime.the-type),) ∷ (5, Rows'.whole (Declared'.row Outgoing.the-type)) ∷ (6, Rows'.whole (Declared'.row
-            OpenedBody.the-type),) ∷ (7, Rows'.whole (Declared'.row ActionQuestion.the-type)) ∷ (8, Rows'.any-gone Laws'''.mir,) ∷ (9, Rows'.any-gone
-            (Syntax.tyArray (Syntax.tyInt Syntax.w8) 28)) ∷ (10, Relend.ssptr InflightAction.row ref0 2,) ∷ (11, Rows'.any-gone (Syntax.tyStruct (38 ∷
-            91 ∷ 93 ∷ List.[]) (Syntax.tcons ref0 (Syntax.tcons (Syntax.tyInt Syntax.w64) Syntax.tnil))),) ∷ (12, Rows'.any-gone (Syntax.tyArray
-            (Syntax.tyInt Syntax.w8) 28)) ∷ (13, Rows'.any-gone ref1,) ∷ (14, Rows'.any-gone (Syntax.tyStruct (38 ∷ 91 ∷ 93 ∷ List.[]) (Syntax.tcons
-            ref1 (Syntax.tcons (Syntax.tyInt Syntax.w64) Syntax.tnil))),) ∷ (15, Rows'.any-gone ref2,) ∷ List.[]
+            OpaqueRelayRuntime.the-type),) ∷ (5, Rows'.whole (Declared'.row Places.the-type)) ∷ (6, Rows'.whole (Declared'.row Outgoing.the-type),) ∷
+            (7, Rows'.whole (Declared'.row OpenedBody.the-type)) ∷ (8, Rows'.whole (Declared'.row ActionQuestion.the-type),) ∷ (9, Rows'.any-gone
+            Laws''''.mir,) ∷ (10, Rows'.any-gone (Syntax.tyArray (Syntax.tyInt Syntax.w8) 28)) ∷ (11, Relend.ssptr InflightAction.row ref0 2,) ∷ (12,
+            Rows'.any-gone (Syntax.tyStruct (38 ∷ 91 ∷ 93 ∷ List.[]) (Syntax.tcons ref0 (Syntax.tcons (Syntax.tyInt Syntax.w64) Syntax.tnil))),) ∷
+            (13, Rows'.any-gone (Syntax.tyArray (Syntax.tyInt Syntax.w8) 28)) ∷ (14, Rows'.any-gone ref1,) ∷ (15, Rows'.any-gone (Syntax.tyStruct (38
+            ∷ 91 ∷ 93 ∷ List.[]) (Syntax.tcons ref1 (Syntax.tcons (Syntax.tyInt Syntax.w64) Syntax.tnil))),) ∷ List.[]
         abbrev g5 : List.List Row.Entry
-        g5 = (0, Rows'.any-gone Laws''''''.mir,) ∷ (1, Reshare.mslice-owedS InflightAction.row ref5 0 2 life0,) ∷ (2, Mut.mslice (Referent.rtF
+        g5 = (0, Rows'.any-gone Laws'''''''.mir,) ∷ (1, Reshare.mslice-owedS InflightAction.row ref5 0 2 life0,) ∷ (2, Mut.mslice (Referent.rtF
             (Referent.fInt Syntax.w32)) ref6 1,) ∷ (3, Rows'.whole (Declared.row HnsrAnswer.the-type)) ∷ (4, Rows'.whole (Declared'.row
-            OpaqueRelayRuntime.the-type),) ∷ (5, Rows'.whole (Declared'.row Outgoing.the-type)) ∷ (6, Rows'.whole (Declared'.row
-            OpenedBody.the-type),) ∷ (7, Rows'.whole (Declared'.row ActionQuestion.the-type)) ∷ (8, Rows'.any-gone Laws'''.mir,) ∷ (9, Rows'.any-gone
-            (Syntax.tyArray (Syntax.tyInt Syntax.w8) 28)) ∷ (10, Rows'.any-gone ref0,) ∷ (11, Rows'.sslice InflightAction.row ref0 2,) ∷ (12,
-            Rows'.any-gone (Syntax.tyArray (Syntax.tyInt Syntax.w8) 28)) ∷ (13, Rows'.any-gone ref1,) ∷ (14, Rows'.any-gone (Syntax.tyStruct (38 ∷ 91
-            ∷ 93 ∷ List.[]) (Syntax.tcons ref1 (Syntax.tcons (Syntax.tyInt Syntax.w64) Syntax.tnil))),) ∷ (15, Rows'.any-gone ref2,) ∷ List.[]
+            OpaqueRelayRuntime.the-type),) ∷ (5, Rows'.whole (Declared'.row Places.the-type)) ∷ (6, Rows'.whole (Declared'.row Outgoing.the-type),) ∷
+            (7, Rows'.whole (Declared'.row OpenedBody.the-type)) ∷ (8, Rows'.whole (Declared'.row ActionQuestion.the-type),) ∷ (9, Rows'.any-gone
+            Laws''''.mir,) ∷ (10, Rows'.any-gone (Syntax.tyArray (Syntax.tyInt Syntax.w8) 28)) ∷ (11, Rows'.any-gone ref0,) ∷ (12, Rows'.sslice
+            InflightAction.row ref0 2,) ∷ (13, Rows'.any-gone (Syntax.tyArray (Syntax.tyInt Syntax.w8) 28)) ∷ (14, Rows'.any-gone ref1,) ∷ (15,
+            Rows'.any-gone (Syntax.tyStruct (38 ∷ 91 ∷ 93 ∷ List.[]) (Syntax.tcons ref1 (Syntax.tcons (Syntax.tyInt Syntax.w64) Syntax.tnil))),) ∷
+            List.[]
         abbrev g6 : List.List Row.Entry
-        g6 = (0, Rows'.any-gone Laws''''''.mir,) ∷ (1, Reshare.mslice-owedS InflightAction.row ref5 0 2 life0,) ∷ (2, Mut.mslice (Referent.rtF
+        g6 = (0, Rows'.any-gone Laws'''''''.mir,) ∷ (1, Reshare.mslice-owedS InflightAction.row ref5 0 2 life0,) ∷ (2, Mut.mslice (Referent.rtF
             (Referent.fInt Syntax.w32)) ref6 1,) ∷ (3, Rows'.whole (Declared.row HnsrAnswer.the-type)) ∷ (4, Rows'.whole (Declared'.row
-            OpaqueRelayRuntime.the-type),) ∷ (5, Rows'.whole (Declared'.row Outgoing.the-type)) ∷ (6, Rows'.whole (Declared'.row
-            OpenedBody.the-type),) ∷ (7, Rows'.whole (Declared'.row ActionQuestion.the-type)) ∷ (8, Rows'.whole (Declared'.row ActionScan.the-type),)
-            ∷ (9, Rows'.any-gone (Syntax.tyArray (Syntax.tyInt Syntax.w8) 28)) ∷ (10, Rows'.any-gone ref0,) ∷ (11, Rows'.sslice InflightAction.row
-            ref0 2,) ∷ (12, Rows'.any-gone (Syntax.tyArray (Syntax.tyInt Syntax.w8) 28)) ∷ (13, Rows'.any-gone ref1,) ∷ (14, Rows'.any-gone
-            (Syntax.tyStruct (38 ∷ 91 ∷ 93 ∷ List.[]) (Syntax.tcons ref1 (Syntax.tcons (Syntax.tyInt Syntax.w64) Syntax.tnil))),) ∷ (15,
-            Rows'.any-gone ref2,) ∷ List.[]
+            OpaqueRelayRuntime.the-type),) ∷ (5, Rows'.whole (Declared'.row Places.the-type)) ∷ (6, Rows'.whole (Declared'.row Outgoing.the-type),) ∷
+            (7, Rows'.whole (Declared'.row OpenedBody.the-type)) ∷ (8, Rows'.whole (Declared'.row ActionQuestion.the-type),) ∷ (9, Rows'.whole
+            (Declared'.row ActionScan.the-type)) ∷ (10, Rows'.any-gone (Syntax.tyArray (Syntax.tyInt Syntax.w8) 28),) ∷ (11, Rows'.any-gone ref0,) ∷
+            (12, Rows'.sslice InflightAction.row ref0 2,) ∷ (13, Rows'.any-gone (Syntax.tyArray (Syntax.tyInt Syntax.w8) 28)) ∷ (14, Rows'.any-gone
+            ref1,) ∷ (15, Rows'.any-gone (Syntax.tyStruct (38 ∷ 91 ∷ 93 ∷ List.[]) (Syntax.tcons ref1 (Syntax.tcons (Syntax.tyInt Syntax.w64)
+            Syntax.tnil))),) ∷ List.[]
         abbrev g7 : List.List Row.Entry
-        g7 = (0, Rows'.any-gone Laws''''''.mir,) ∷ (1, Reshare.mslice-owedS InflightAction.row ref5 0 2 life0,) ∷ (2, Mut.mslice (Referent.rtF
+        g7 = (0, Rows'.any-gone Laws'''''''.mir,) ∷ (1, Reshare.mslice-owedS InflightAction.row ref5 0 2 life0,) ∷ (2, Mut.mslice (Referent.rtF
             (Referent.fInt Syntax.w32)) ref6 1,) ∷ (3, Rows'.whole (Declared.row HnsrAnswer.the-type)) ∷ (4, Rows'.whole (Declared'.row
-            OpaqueRelayRuntime.the-type),) ∷ (5, Rows'.whole (Declared'.row Outgoing.the-type)) ∷ (6, Rows'.whole (Declared'.row
-            OpenedBody.the-type),) ∷ (7, Rows'.whole (Declared'.row ActionQuestion.the-type)) ∷ (8, Rows'.whole (Declared'.row ActionScan.the-type),)
-            ∷ (9, Rows'.any-gone (Syntax.tyArray (Syntax.tyInt Syntax.w8) 28)) ∷ (10, Rows'.any-gone ref0,) ∷ (11, Rows'.any-gone (Syntax.tyStruct (38
-            ∷ 91 ∷ 93 ∷ List.[]) (Syntax.tcons ref0 (Syntax.tcons (Syntax.tyInt Syntax.w64) Syntax.tnil))),) ∷ (12, Rows'.any-gone (Syntax.tyArray
-            (Syntax.tyInt Syntax.w8) 28)) ∷ (13, Rows'.any-gone ref1,) ∷ (14, Rows'.any-gone (Syntax.tyStruct (38 ∷ 91 ∷ 93 ∷ List.[]) (Syntax.tcons
-            ref1 (Syntax.tcons (Syntax.tyInt Syntax.w64) Syntax.tnil))),) ∷ (15, Rows'.any-gone ref2,) ∷ List.[]
+            OpaqueRelayRuntime.the-type),) ∷ (5, Rows'.whole (Declared'.row Places.the-type)) ∷ (6, Rows'.whole (Declared'.row Outgoing.the-type),) ∷
+            (7, Rows'.whole (Declared'.row OpenedBody.the-type)) ∷ (8, Rows'.whole (Declared'.row ActionQuestion.the-type),) ∷ (9, Rows'.whole
+            (Declared'.row ActionScan.the-type)) ∷ (10, Rows'.any-gone (Syntax.tyArray (Syntax.tyInt Syntax.w8) 28),) ∷ (11, Rows'.any-gone ref0,) ∷
+            (12, Rows'.any-gone (Syntax.tyStruct (38 ∷ 91 ∷ 93 ∷ List.[]) (Syntax.tcons ref0 (Syntax.tcons (Syntax.tyInt Syntax.w64) Syntax.tnil))),)
+            ∷ (13, Rows'.any-gone (Syntax.tyArray (Syntax.tyInt Syntax.w8) 28)) ∷ (14, Rows'.any-gone ref1,) ∷ (15, Rows'.any-gone (Syntax.tyStruct
+            (38 ∷ 91 ∷ 93 ∷ List.[]) (Syntax.tcons ref1 (Syntax.tcons (Syntax.tyInt Syntax.w64) Syntax.tnil))),) ∷ List.[]
         abbrev g8 : List.List Row.Entry
-        g8 = (0, Rows'.any-gone Laws''''''.mir,) ∷ (1, Reshare.mslice-owedS InflightAction.row ref5 0 2 life0,) ∷ (2, Mut.mslice (Referent.rtF
+        g8 = (0, Rows'.any-gone Laws'''''''.mir,) ∷ (1, Reshare.mslice-owedS InflightAction.row ref5 0 2 life0,) ∷ (2, Mut.mslice (Referent.rtF
             (Referent.fInt Syntax.w32)) ref6 1,) ∷ (3, Rows'.whole (Declared.row HnsrAnswer.the-type)) ∷ (4, Rows'.whole (Declared'.row
-            OpaqueRelayRuntime.the-type),) ∷ (5, Rows'.whole (Declared'.row Outgoing.the-type)) ∷ (6, Rows'.whole (Declared'.row
-            OpenedBody.the-type),) ∷ (7, Rows'.any-gone Laws''.mir,) ∷ (8, Rows'.whole (Declared'.row ActionScan.the-type)) ∷ (9, Rows'.any-gone
-            (Syntax.tyArray (Syntax.tyInt Syntax.w8) 28),) ∷ (10, Rows'.any-gone ref0,) ∷ (11, Rows'.any-gone (Syntax.tyStruct (38 ∷ 91 ∷ 93 ∷
-            List.[]) (Syntax.tcons ref0 (Syntax.tcons (Syntax.tyInt Syntax.w64) Syntax.tnil))),) ∷ (12, Rows'.any-gone (Syntax.tyArray (Syntax.tyInt
-            Syntax.w8) 28)) ∷ (13, Rows'.any-gone ref1,) ∷ (14, Rows'.any-gone (Syntax.tyStruct (38 ∷ 91 ∷ 93 ∷ List.[]) (Syntax.tcons ref1
-            (Syntax.tcons (Syntax.tyInt Syntax.w64) Syntax.tnil))),) ∷ (15, Rows'.any-gone ref2,) ∷ List.[]
+            OpaqueRelayRuntime.the-type),) ∷ (5, Rows'.whole (Declared'.row Places.the-type)) ∷ (6, Rows'.whole (Declared'.row Outgoing.the-type),) ∷
+            (7, Rows'.whole (Declared'.row OpenedBody.the-type)) ∷ (8, Rows'.any-gone Laws'''.mir,) ∷ (9, Rows'.whole (Declared'.row
+            ActionScan.the-type)) ∷ (10, Rows'.any-gone (Syntax.tyArray (Syntax.tyInt Syntax.w8) 28),) ∷ (11, Rows'.any-gone ref0,) ∷ (12,
+            Rows'.any-gone (Syntax.tyStruct (38 ∷ 91 ∷ 93 ∷ List.[]) (Syntax.tcons ref0 (Syntax.tcons (Syntax.tyInt Syntax.w64) Syntax.tnil))),) ∷
+            (13, Rows'.any-gone (Syntax.tyArray (Syntax.tyInt Syntax.w8) 28)) ∷ (14, Rows'.any-gone ref1,) ∷ (15, Rows'.any-gone (Syntax.tyStruct (38
+            ∷ 91 ∷ 93 ∷ List.[]) (Syntax.tcons ref1 (Syntax.tcons (Syntax.tyInt Syntax.w64) Syntax.tnil))),) ∷ List.[]
         abbrev g14 : List.List Row.Entry
-        g14 = (0, Rows'.any-gone Laws''''''.mir,) ∷ (1, Relend.mslice-owed InflightAction.row ref5 0 3 life0,) ∷ (2, Mut.mslice (Referent.rtF
+        g14 = (0, Rows'.any-gone Laws'''''''.mir,) ∷ (1, Relend.mslice-owed InflightAction.row ref5 0 3 life0,) ∷ (2, Mut.mslice (Referent.rtF
             (Referent.fInt Syntax.w32)) ref6 1,) ∷ (3, Rows'.whole (Declared.row HnsrAnswer.the-type)) ∷ (4, Rows'.whole (Declared'.row
-            OpaqueRelayRuntime.the-type),) ∷ (5, Rows'.whole (Declared'.row Outgoing.the-type)) ∷ (6, Rows'.any-gone Laws.mir,) ∷ (7, Rows'.any-gone
-            Laws''.mir,) ∷ (8, Rows'.whole (Declared'.row ActionScan.the-type)) ∷ (9, Rows.arrF (Referent.rtF (Referent.fInt Syntax.w8)) 28 0,) ∷ (10,
-            Rows'.any-gone ref0,) ∷ (11, Rows'.any-gone (Syntax.tyStruct (38 ∷ 91 ∷ 93 ∷ List.[]) (Syntax.tcons ref0 (Syntax.tcons (Syntax.tyInt
-            Syntax.w64) Syntax.tnil))),) ∷ (12, Rows'.any-gone (Syntax.tyArray (Syntax.tyInt Syntax.w8) 28)) ∷ (13, Relend.msptr InflightAction.row
-            ref1 3,) ∷ (14, Rows'.any-gone (Syntax.tyStruct (38 ∷ 91 ∷ 93 ∷ List.[]) (Syntax.tcons ref1 (Syntax.tcons (Syntax.tyInt Syntax.w64)
-            Syntax.tnil))),) ∷ (15, Rows'.any-gone ref2,) ∷ List.[]
+            OpaqueRelayRuntime.the-type),) ∷ (5, Rows'.whole (Declared'.row Places.the-type)) ∷ (6, Rows'.whole (Declared'.row Outgoing.the-type),) ∷
+            (7, Rows'.any-gone Laws.mir,) ∷ (8, Rows'.any-gone Laws'''.mir,) ∷ (9, Rows'.whole (Declared'.row ActionScan.the-type)) ∷ (10, Rows.arrF
+            (Referent.rtF (Referent.fInt Syntax.w8)) 28 0,) ∷ (11, Rows'.any-gone ref0,) ∷ (12, Rows'.any-gone (Syntax.tyStruct (38 ∷ 91 ∷ 93 ∷
+            List.[]) (Syntax.tcons ref0 (Syntax.tcons (Syntax.tyInt Syntax.w64) Syntax.tnil))),) ∷ (13, Rows'.any-gone (Syntax.tyArray (Syntax.tyInt
+            Syntax.w8) 28)) ∷ (14, Relend.msptr InflightAction.row ref1 3,) ∷ (15, Rows'.any-gone (Syntax.tyStruct (38 ∷ 91 ∷ 93 ∷ List.[])
+            (Syntax.tcons ref1 (Syntax.tcons (Syntax.tyInt Syntax.w64) Syntax.tnil))),) ∷ List.[]
         abbrev g15 : List.List Row.Entry
-        g15 = (0, Rows'.any-gone Laws''''''.mir,) ∷ (1, Relend.mslice-owed InflightAction.row ref5 0 3 life0,) ∷ (2, Mut.mslice (Referent.rtF
+        g15 = (0, Rows'.any-gone Laws'''''''.mir,) ∷ (1, Relend.mslice-owed InflightAction.row ref5 0 3 life0,) ∷ (2, Mut.mslice (Referent.rtF
             (Referent.fInt Syntax.w32)) ref6 1,) ∷ (3, Rows'.whole (Declared.row HnsrAnswer.the-type)) ∷ (4, Rows'.whole (Declared'.row
-            OpaqueRelayRuntime.the-type),) ∷ (5, Rows'.whole (Declared'.row Outgoing.the-type)) ∷ (6, Rows'.any-gone Laws.mir,) ∷ (7, Rows'.any-gone
-            Laws''.mir,) ∷ (8, Rows'.whole (Declared'.row ActionScan.the-type)) ∷ (9, Rows.arrF (Referent.rtF (Referent.fInt Syntax.w8)) 28 0,) ∷ (10,
-            Rows'.any-gone ref0,) ∷ (11, Rows'.any-gone (Syntax.tyStruct (38 ∷ 91 ∷ 93 ∷ List.[]) (Syntax.tcons ref0 (Syntax.tcons (Syntax.tyInt
-            Syntax.w64) Syntax.tnil))),) ∷ (12, Rows'.any-gone (Syntax.tyArray (Syntax.tyInt Syntax.w8) 28)) ∷ (13, Rows'.any-gone ref1,) ∷ (14,
-            Mut.mslice InflightAction.row ref1 3,) ∷ (15, Rows'.any-gone ref2,) ∷ List.[]
+            OpaqueRelayRuntime.the-type),) ∷ (5, Rows'.whole (Declared'.row Places.the-type)) ∷ (6, Rows'.whole (Declared'.row Outgoing.the-type),) ∷
+            (7, Rows'.any-gone Laws.mir,) ∷ (8, Rows'.any-gone Laws'''.mir,) ∷ (9, Rows'.whole (Declared'.row ActionScan.the-type)) ∷ (10, Rows.arrF
+            (Referent.rtF (Referent.fInt Syntax.w8)) 28 0,) ∷ (11, Rows'.any-gone ref0,) ∷ (12, Rows'.any-gone (Syntax.tyStruct (38 ∷ 91 ∷ 93 ∷
+            List.[]) (Syntax.tcons ref0 (Syntax.tcons (Syntax.tyInt Syntax.w64) Syntax.tnil))),) ∷ (13, Rows'.any-gone (Syntax.tyArray (Syntax.tyInt
+            Syntax.w8) 28)) ∷ (14, Rows'.any-gone ref1,) ∷ (15, Mut.mslice InflightAction.row ref1 3,) ∷ List.[]
         abbrev g16 : List.List Row.Entry
-        g16 = (0, Rows'.any-gone Laws''''''.mir,) ∷ (1, Relend.mslice-owed InflightAction.row ref5 0 3 life0,) ∷ (2, Relend.mslice-owed (Referent.rtF
+        g16 = (0, Rows'.any-gone Laws'''''''.mir,) ∷ (1, Relend.mslice-owed InflightAction.row ref5 0 3 life0,) ∷ (2, Relend.mslice-owed (Referent.rtF
             (Referent.fInt Syntax.w32)) ref6 1 4 life1,) ∷ (3, Rows'.whole (Declared.row HnsrAnswer.the-type)) ∷ (4, Rows'.whole (Declared'.row
-            OpaqueRelayRuntime.the-type),) ∷ (5, Rows'.whole (Declared'.row Outgoing.the-type)) ∷ (6, Rows'.any-gone Laws.mir,) ∷ (7, Rows'.any-gone
-            Laws''.mir,) ∷ (8, Rows'.whole (Declared'.row ActionScan.the-type)) ∷ (9, Rows.arrF (Referent.rtF (Referent.fInt Syntax.w8)) 28 0,) ∷ (10,
-            Rows'.any-gone ref0,) ∷ (11, Rows'.any-gone (Syntax.tyStruct (38 ∷ 91 ∷ 93 ∷ List.[]) (Syntax.tcons ref0 (Syntax.tcons (Syntax.tyInt
-            Syntax.w64) Syntax.tnil))),) ∷ (12, Rows'.any-gone (Syntax.tyArray (Syntax.tyInt Syntax.w8) 28)) ∷ (13, Rows'.any-gone ref1,) ∷ (14,
-            Mut.mslice InflightAction.row ref1 3,) ∷ (15, Relend.msptr (Referent.rtF (Referent.fInt Syntax.w32)) ref2 4,) ∷ List.[]
-        abbrev g17 : List.List Row.Entry
-        g17 = (0, Rows'.any-gone Laws''''''.mir,) ∷ (1, Relend.mslice-owed InflightAction.row ref5 0 3 life0,) ∷ (2, Relend.mslice-owed (Referent.rtF
-            (Referent.fInt Syntax.w32)) ref6 1 4 life1,) ∷ (3, Rows'.whole (Declared.row HnsrAnswer.the-type)) ∷ (4, Rows'.whole (Declared'.row
-            OpaqueRelayRuntime.the-type),) ∷ (5, Rows'.whole (Declared'.row Outgoing.the-type)) ∷ (6, Rows'.any-gone Laws.mir,) ∷ (7, Rows'.any-gone
-            Laws''.mir,) ∷ (8, Rows'.whole (Declared'.row ActionScan.the-type)) ∷ (9, Rows.arrF (Referent.rtF (Referent.fInt Syntax.w8)) 28 0,) ∷ (10,
-            Rows'.any-gone ref0,) ∷ (11, Rows'.any-gone (Syntax.tyStruct (38 ∷ 91 ∷ 93 ∷ List.[]) (Syntax.tcons ref0 (Syntax.tcons (Syntax.tyInt
-            Syntax.w64) Syntax.tnil))),) ∷ (12, Rows'.any-gone (Syntax.tyArray (Syntax.tyInt Syntax.w8) 28)) ∷ (13, Rows'.any-gone ref1,) ∷ (14,
-            Mut.mslice InflightAction.row ref1 3,) ∷ (15, Rows'.any-gone ref2,) ∷ List.[]
+            OpaqueRelayRuntime.the-type),) ∷ (5, Rows'.whole (Declared'.row Places.the-type)) ∷ (6, Rows'.whole (Declared'.row Outgoing.the-type),) ∷
+            (7, Rows'.any-gone Laws.mir,) ∷ (8, Rows'.any-gone Laws'''.mir,) ∷ (9, Rows'.whole (Declared'.row ActionScan.the-type)) ∷ (10, Rows.arrF
+            (Referent.rtF (Referent.fInt Syntax.w8)) 28 0,) ∷ (11, Rows'.any-gone ref0,) ∷ (12, Rows'.any-gone (Syntax.tyStruct (38 ∷ 91 ∷ 93 ∷
+            List.[]) (Syntax.tcons ref0 (Syntax.tcons (Syntax.tyInt Syntax.w64) Syntax.tnil))),) ∷ (13, Rows'.any-gone (Syntax.tyArray (Syntax.tyInt
+            Syntax.w8) 28)) ∷ (14, Rows'.any-gone ref1,) ∷ (15, Mut.mslice InflightAction.row ref1 3,) ∷ List.[]
         abbrev g19 : List.List Row.Entry
-        g19 = (0, Rows'.any-gone Laws''''''.mir,) ∷ (1, Relend.mslice-owed InflightAction.row ref5 0 3 life0,) ∷ (2, Relend.mslice-owed (Referent.rtF
+        g19 = (0, Rows'.any-gone Laws'''''''.mir,) ∷ (1, Relend.mslice-owed InflightAction.row ref5 0 3 life0,) ∷ (2, Relend.mslice-owed (Referent.rtF
             (Referent.fInt Syntax.w32)) ref6 1 4 life1,) ∷ (3, Rows'.whole (Declared.row HnsrAnswer.the-type)) ∷ (4, Rows'.whole (Declared'.row
-            OpaqueRelayRuntime.the-type),) ∷ (5, Rows'.whole (Declared'.row Outgoing.the-type)) ∷ (6, Rows'.any-gone Laws.mir,) ∷ (7, Rows'.any-gone
-            Laws''.mir,) ∷ (8, Rows'.whole (Declared'.row ActionScan.the-type)) ∷ (9, Rows.arr-shr (Referent.rtF (Referent.fInt Syntax.w8)) 28 5,) ∷
-            (10, Rows'.any-gone ref0,) ∷ (11, Rows'.any-gone (Syntax.tyStruct (38 ∷ 91 ∷ 93 ∷ List.[]) (Syntax.tcons ref0 (Syntax.tcons (Syntax.tyInt
-            Syntax.w64) Syntax.tnil))),) ∷ (12, Rows'.any-gone (Syntax.tyArray (Syntax.tyInt Syntax.w8) 28)) ∷ (13, Rows'.any-gone ref1,) ∷ (14,
-            Mut.mslice InflightAction.row ref1 3,) ∷ (15, Rows'.any-gone ref2,) ∷ List.[]
+            OpaqueRelayRuntime.the-type),) ∷ (5, Rows'.whole (Declared'.row Places.the-type)) ∷ (6, Rows'.whole (Declared'.row Outgoing.the-type),) ∷
+            (7, Rows'.any-gone Laws.mir,) ∷ (8, Rows'.any-gone Laws'''.mir,) ∷ (9, Rows'.whole (Declared'.row ActionScan.the-type)) ∷ (10,
+            Rows.arr-shr (Referent.rtF (Referent.fInt Syntax.w8)) 28 5,) ∷ (11, Rows'.any-gone ref0,) ∷ (12, Rows'.any-gone (Syntax.tyStruct (38 ∷ 91
+            ∷ 93 ∷ List.[]) (Syntax.tcons ref0 (Syntax.tcons (Syntax.tyInt Syntax.w64) Syntax.tnil))),) ∷ (13, Rows'.any-gone (Syntax.tyArray
+            (Syntax.tyInt Syntax.w8) 28)) ∷ (14, Rows'.any-gone ref1,) ∷ (15, Mut.mslice InflightAction.row ref1 3,) ∷ List.[]
         abbrev g22 : List.List Row.Entry
         g22 = (0, Rows'.whole (Declared'.row Relayed.the-type)) ∷ (1, Relend.mslice-owed InflightAction.row ref5 0 3 life0,) ∷ (2, Relend.mslice-owed
             (Referent.rtF (Referent.fInt Syntax.w32)) ref6 1 4 life1,) ∷ (3, Rows'.whole (Declared.row HnsrAnswer.the-type)) ∷ (4, Rows'.whole
-            (Declared'.row OpaqueRelayRuntime.the-type),) ∷ (5, Rows'.whole (Declared'.row Outgoing.the-type)) ∷ (6, Rows'.any-gone Laws.mir,) ∷ (7,
-            Rows'.any-gone Laws''.mir,) ∷ (8, Rows'.whole (Declared'.row ActionScan.the-type)) ∷ (9, Rows.arr-shr (Referent.rtF (Referent.fInt
-            Syntax.w8)) 28 5,) ∷ (10, Rows'.any-gone ref0,) ∷ (11, Rows'.any-gone (Syntax.tyStruct (38 ∷ 91 ∷ 93 ∷ List.[]) (Syntax.tcons ref0
-            (Syntax.tcons (Syntax.tyInt Syntax.w64) Syntax.tnil))),) ∷ (12, Rows'.any-gone (Syntax.tyArray (Syntax.tyInt Syntax.w8) 28)) ∷ (13,
-            Rows'.any-gone ref1,) ∷ (14, Mut.msleft InflightAction.row ref1,) ∷ (15, Rows'.any-gone ref2,) ∷ List.[]
+            (Declared'.row OpaqueRelayRuntime.the-type),) ∷ (5, Rows'.whole (Declared'.row Places.the-type)) ∷ (6, Rows'.whole (Declared'.row
+            Outgoing.the-type),) ∷ (7, Rows'.any-gone Laws.mir,) ∷ (8, Rows'.any-gone Laws'''.mir,) ∷ (9, Rows'.whole (Declared'.row
+            ActionScan.the-type)) ∷ (10, Rows.arr-shr (Referent.rtF (Referent.fInt Syntax.w8)) 28 5,) ∷ (11, Rows'.any-gone ref0,) ∷ (12,
+            Rows'.any-gone (Syntax.tyStruct (38 ∷ 91 ∷ 93 ∷ List.[]) (Syntax.tcons ref0 (Syntax.tcons (Syntax.tyInt Syntax.w64) Syntax.tnil))),) ∷
+            (13, Rows'.any-gone (Syntax.tyArray (Syntax.tyInt Syntax.w8) 28)) ∷ (14, Rows'.any-gone ref1,) ∷ (15, Mut.msleft InflightAction.row ref1,)
+            ∷ List.[]
         abbrev g25 : List.List Row.Entry
         g25 = (0, Rows'.whole (Declared'.row Relayed.the-type)) ∷ (1, Relend.mslice-owed InflightAction.row ref5 0 3 life0,) ∷ (2, Relend.mslice-owed
             (Referent.rtF (Referent.fInt Syntax.w32)) ref6 1 4 life1,) ∷ (3, Rows'.any-gone Laws'.mir,) ∷ (4, Rows'.whole (Declared'.row
-            OpaqueRelayRuntime.the-type)) ∷ (5, Rows'.whole (Declared'.row Outgoing.the-type),) ∷ (6, Rows'.any-gone Laws.mir,) ∷ (7, Rows'.any-gone
-            Laws''.mir,) ∷ (8, Rows'.whole (Declared'.row ActionScan.the-type)) ∷ (9, Rows.arr-shr (Referent.rtF (Referent.fInt Syntax.w8)) 28 5,) ∷
-            (10, Rows'.any-gone ref0,) ∷ (11, Rows'.any-gone (Syntax.tyStruct (38 ∷ 91 ∷ 93 ∷ List.[]) (Syntax.tcons ref0 (Syntax.tcons (Syntax.tyInt
-            Syntax.w64) Syntax.tnil))),) ∷ (12, Rows'.any-gone (Syntax.tyArray (Syntax.tyInt Syntax.w8) 28)) ∷ (13, Rows'.any-gone ref1,) ∷ (14,
-            Mut.msleft InflightAction.row ref1,) ∷ (15, Rows'.any-gone ref2,) ∷ List.[]
+            OpaqueRelayRuntime.the-type)) ∷ (5, Rows'.whole (Declared'.row Places.the-type),) ∷ (6, Rows'.whole (Declared'.row Outgoing.the-type)) ∷
+            (7, Rows'.any-gone Laws.mir,) ∷ (8, Rows'.any-gone Laws'''.mir,) ∷ (9, Rows'.whole (Declared'.row ActionScan.the-type)) ∷ (10,
+            Rows.arr-shr (Referent.rtF (Referent.fInt Syntax.w8)) 28 5,) ∷ (11, Rows'.any-gone ref0,) ∷ (12, Rows'.any-gone (Syntax.tyStruct (38 ∷ 91
+            ∷ 93 ∷ List.[]) (Syntax.tcons ref0 (Syntax.tcons (Syntax.tyInt Syntax.w64) Syntax.tnil))),) ∷ (13, Rows'.any-gone (Syntax.tyArray
+            (Syntax.tyInt Syntax.w8) 28)) ∷ (14, Rows'.any-gone ref1,) ∷ (15, Mut.msleft InflightAction.row ref1,) ∷ List.[]
         abbrev g26 : List.List Row.Entry
         g26 = (0, Rows'.whole (Declared'.row Relayed.the-type)) ∷ (1, Relend.mslice-owed InflightAction.row ref5 0 3 life0,) ∷ (2, Relend.mslice-owed
-            (Referent.rtF (Referent.fInt Syntax.w32)) ref6 1 4 life1,) ∷ (3, Rows'.any-gone Laws'.mir,) ∷ (4, Rows'.any-gone Laws'''''.mir,) ∷ (5,
-            Rows'.whole (Declared'.row Outgoing.the-type)) ∷ (6, Rows'.any-gone Laws.mir,) ∷ (7, Rows'.any-gone Laws''.mir,) ∷ (8, Rows'.whole
-            (Declared'.row ActionScan.the-type)) ∷ (9, Rows.arr-shr (Referent.rtF (Referent.fInt Syntax.w8)) 28 5,) ∷ (10, Rows'.any-gone ref0,) ∷
-            (11, Rows'.any-gone (Syntax.tyStruct (38 ∷ 91 ∷ 93 ∷ List.[]) (Syntax.tcons ref0 (Syntax.tcons (Syntax.tyInt Syntax.w64) Syntax.tnil))),)
-            ∷ (12, Rows'.any-gone (Syntax.tyArray (Syntax.tyInt Syntax.w8) 28)) ∷ (13, Rows'.any-gone ref1,) ∷ (14, Mut.msleft InflightAction.row
-            ref1,) ∷ (15, Rows'.any-gone ref2,) ∷ List.[]
+            (Referent.rtF (Referent.fInt Syntax.w32)) ref6 1 4 life1,) ∷ (3, Rows'.any-gone Laws'.mir,) ∷ (4, Rows'.any-gone Laws''''''.mir,) ∷ (5,
+            Rows'.whole (Declared'.row Places.the-type)) ∷ (6, Rows'.whole (Declared'.row Outgoing.the-type),) ∷ (7, Rows'.any-gone Laws.mir,) ∷ (8,
+            Rows'.any-gone Laws'''.mir,) ∷ (9, Rows'.whole (Declared'.row ActionScan.the-type)) ∷ (10, Rows.arr-shr (Referent.rtF (Referent.fInt
+            Syntax.w8)) 28 5,) ∷ (11, Rows'.any-gone ref0,) ∷ (12, Rows'.any-gone (Syntax.tyStruct (38 ∷ 91 ∷ 93 ∷ List.[]) (Syntax.tcons ref0
+            (Syntax.tcons (Syntax.tyInt Syntax.w64) Syntax.tnil))),) ∷ (13, Rows'.any-gone (Syntax.tyArray (Syntax.tyInt Syntax.w8) 28)) ∷ (14,
+            Rows'.any-gone ref1,) ∷ (15, Mut.msleft InflightAction.row ref1,) ∷ List.[]
         abbrev g27 : List.List Row.Entry
         g27 = (0, Rows'.whole (Declared'.row Relayed.the-type)) ∷ (1, Relend.mslice-owed InflightAction.row ref5 0 3 life0,) ∷ (2, Relend.mslice-owed
-            (Referent.rtF (Referent.fInt Syntax.w32)) ref6 1 4 life1,) ∷ (3, Rows'.any-gone Laws'.mir,) ∷ (4, Rows'.any-gone Laws'''''.mir,) ∷ (5,
-            Rows'.any-gone Laws''''.mir,) ∷ (6, Rows'.any-gone Laws.mir,) ∷ (7, Rows'.any-gone Laws''.mir,) ∷ (8, Rows'.whole (Declared'.row
-            ActionScan.the-type)) ∷ (9, Rows.arr-shr (Referent.rtF (Referent.fInt Syntax.w8)) 28 5,) ∷ (10, Rows'.any-gone ref0,) ∷ (11,
-            Rows'.any-gone (Syntax.tyStruct (38 ∷ 91 ∷ 93 ∷ List.[]) (Syntax.tcons ref0 (Syntax.tcons (Syntax.tyInt Syntax.w64) Syntax.tnil))),) ∷
-            (12, Rows'.any-gone (Syntax.tyArray (Syntax.tyInt Syntax.w8) 28)) ∷ (13, Rows'.any-gone ref1,) ∷ (14, Mut.msleft InflightAction.row ref1,)
-            ∷ (15, Rows'.any-gone ref2,) ∷ List.[]
+            (Referent.rtF (Referent.fInt Syntax.w32)) ref6 1 4 life1,) ∷ (3, Rows'.any-gone Laws'.mir,) ∷ (4, Rows'.any-gone Laws''''''.mir,) ∷ (5,
+            Rows'.any-gone Laws''.mir,) ∷ (6, Rows'.whole (Declared'.row Outgoing.the-type)) ∷ (7, Rows'.any-gone Laws.mir,) ∷ (8, Rows'.any-gone
+            Laws'''.mir,) ∷ (9, Rows'.whole (Declared'.row ActionScan.the-type)) ∷ (10, Rows.arr-shr (Referent.rtF (Referent.fInt Syntax.w8)) 28 5,) ∷
+            (11, Rows'.any-gone ref0,) ∷ (12, Rows'.any-gone (Syntax.tyStruct (38 ∷ 91 ∷ 93 ∷ List.[]) (Syntax.tcons ref0 (Syntax.tcons (Syntax.tyInt
+            Syntax.w64) Syntax.tnil))),) ∷ (13, Rows'.any-gone (Syntax.tyArray (Syntax.tyInt Syntax.w8) 28)) ∷ (14, Rows'.any-gone ref1,) ∷ (15,
+            Mut.msleft InflightAction.row ref1,) ∷ List.[]
         abbrev g28 : List.List Row.Entry
         g28 = (0, Rows'.whole (Declared'.row Relayed.the-type)) ∷ (1, Relend.mslice-owed InflightAction.row ref5 0 3 life0,) ∷ (2, Relend.mslice-owed
-            (Referent.rtF (Referent.fInt Syntax.w32)) ref6 1 4 life1,) ∷ (3, Rows'.any-gone Laws'.mir,) ∷ (4, Rows'.any-gone Laws'''''.mir,) ∷ (5,
-            Rows'.any-gone Laws''''.mir,) ∷ (6, Rows'.any-gone Laws.mir,) ∷ (7, Rows'.any-gone Laws''.mir,) ∷ (8, Rows'.any-gone Laws'''.mir,) ∷ (9,
-            Rows.arr-shr (Referent.rtF (Referent.fInt Syntax.w8)) 28 5) ∷ (10, Rows'.any-gone ref0,) ∷ (11, Rows'.any-gone (Syntax.tyStruct (38 ∷ 91 ∷
-            93 ∷ List.[]) (Syntax.tcons ref0 (Syntax.tcons (Syntax.tyInt Syntax.w64) Syntax.tnil))),) ∷ (12, Rows'.any-gone (Syntax.tyArray
-            (Syntax.tyInt Syntax.w8) 28)) ∷ (13, Rows'.any-gone ref1,) ∷ (14, Mut.msleft InflightAction.row ref1,) ∷ (15, Rows'.any-gone ref2,) ∷
-            List.[]
+            (Referent.rtF (Referent.fInt Syntax.w32)) ref6 1 4 life1,) ∷ (3, Rows'.any-gone Laws'.mir,) ∷ (4, Rows'.any-gone Laws''''''.mir,) ∷ (5,
+            Rows'.any-gone Laws''.mir,) ∷ (6, Rows'.any-gone Laws'''''.mir,) ∷ (7, Rows'.any-gone Laws.mir,) ∷ (8, Rows'.any-gone Laws'''.mir,) ∷ (9,
+            Rows'.whole (Declared'.row ActionScan.the-type)) ∷ (10, Rows.arr-shr (Referent.rtF (Referent.fInt Syntax.w8)) 28 5,) ∷ (11, Rows'.any-gone
+            ref0,) ∷ (12, Rows'.any-gone (Syntax.tyStruct (38 ∷ 91 ∷ 93 ∷ List.[]) (Syntax.tcons ref0 (Syntax.tcons (Syntax.tyInt Syntax.w64)
+            Syntax.tnil))),) ∷ (13, Rows'.any-gone (Syntax.tyArray (Syntax.tyInt Syntax.w8) 28)) ∷ (14, Rows'.any-gone ref1,) ∷ (15, Mut.msleft
+            InflightAction.row ref1,) ∷ List.[]
         abbrev g29 : List.List Row.Entry
-        g29 = (0, Rows'.whole (Declared'.row Relayed.the-type)) ∷ (1, Mut.mslice InflightAction.row ref5 0,) ∷ (2, Relend.mslice-owed (Referent.rtF
-            (Referent.fInt Syntax.w32)) ref6 1 4 life1,) ∷ (3, Rows'.any-gone Laws'.mir,) ∷ (4, Rows'.any-gone Laws'''''.mir,) ∷ (5, Rows'.any-gone
-            Laws''''.mir,) ∷ (6, Rows'.any-gone Laws.mir,) ∷ (7, Rows'.any-gone Laws''.mir,) ∷ (8, Rows'.any-gone Laws'''.mir,) ∷ (9, Rows.arr-shr
-            (Referent.rtF (Referent.fInt Syntax.w8)) 28 5) ∷ (10, Rows'.any-gone ref0,) ∷ (11, Rows'.any-gone (Syntax.tyStruct (38 ∷ 91 ∷ 93 ∷
-            List.[]) (Syntax.tcons ref0 (Syntax.tcons (Syntax.tyInt Syntax.w64) Syntax.tnil))),) ∷ (12, Rows'.any-gone (Syntax.tyArray (Syntax.tyInt
-            Syntax.w8) 28)) ∷ (13, Rows'.any-gone ref1,) ∷ (14, Rows'.any-gone (Syntax.tyStruct (38 ∷ 91 ∷ 93 ∷ List.[]) (Syntax.tcons ref1
-            (Syntax.tcons (Syntax.tyInt Syntax.w64) Syntax.tnil))),) ∷ (15, Rows'.any-gone ref2,) ∷ List.[]
+        g29 = (0, Rows'.whole (Declared'.row Relayed.the-type)) ∷ (1, Relend.mslice-owed InflightAction.row ref5 0 3 life0,) ∷ (2, Relend.mslice-owed
+            (Referent.rtF (Referent.fInt Syntax.w32)) ref6 1 4 life1,) ∷ (3, Rows'.any-gone Laws'.mir,) ∷ (4, Rows'.any-gone Laws''''''.mir,) ∷ (5,
+            Rows'.any-gone Laws''.mir,) ∷ (6, Rows'.any-gone Laws'''''.mir,) ∷ (7, Rows'.any-gone Laws.mir,) ∷ (8, Rows'.any-gone Laws'''.mir,) ∷ (9,
+            Rows'.any-gone Laws''''.mir,) ∷ (10, Rows.arr-shr (Referent.rtF (Referent.fInt Syntax.w8)) 28 5) ∷ (11, Rows'.any-gone ref0,) ∷ (12,
+            Rows'.any-gone (Syntax.tyStruct (38 ∷ 91 ∷ 93 ∷ List.[]) (Syntax.tcons ref0 (Syntax.tcons (Syntax.tyInt Syntax.w64) Syntax.tnil))),) ∷
+            (13, Rows'.any-gone (Syntax.tyArray (Syntax.tyInt Syntax.w8) 28)) ∷ (14, Rows'.any-gone ref1,) ∷ (15, Mut.msleft InflightAction.row ref1,)
+            ∷ List.[]
+        abbrev g30 : List.List Row.Entry
+        g30 = (0, Rows'.whole (Declared'.row Relayed.the-type)) ∷ (1, Mut.mslice InflightAction.row ref5 0,) ∷ (2, Relend.mslice-owed (Referent.rtF
+            (Referent.fInt Syntax.w32)) ref6 1 4 life1,) ∷ (3, Rows'.any-gone Laws'.mir,) ∷ (4, Rows'.any-gone Laws''''''.mir,) ∷ (5, Rows'.any-gone
+            Laws''.mir,) ∷ (6, Rows'.any-gone Laws'''''.mir,) ∷ (7, Rows'.any-gone Laws.mir,) ∷ (8, Rows'.any-gone Laws'''.mir,) ∷ (9, Rows'.any-gone
+            Laws''''.mir,) ∷ (10, Rows.arr-shr (Referent.rtF (Referent.fInt Syntax.w8)) 28 5) ∷ (11, Rows'.any-gone ref0,) ∷ (12, Rows'.any-gone
+            (Syntax.tyStruct (38 ∷ 91 ∷ 93 ∷ List.[]) (Syntax.tcons ref0 (Syntax.tcons (Syntax.tyInt Syntax.w64) Syntax.tnil))),) ∷ (13,
+            Rows'.any-gone (Syntax.tyArray (Syntax.tyInt Syntax.w8) 28)) ∷ (14, Rows'.any-gone ref1,) ∷ (15, Rows'.any-gone (Syntax.tyStruct (38 ∷ 91
+            ∷ 93 ∷ List.[]) (Syntax.tcons ref1 (Syntax.tcons (Syntax.tyInt Syntax.w64) Syntax.tnil))),) ∷ List.[]
         abbrev G0 : Row.Cx
         G0 = record { locals = List._++_ t0 t1; slots = life0 ∷ life1 ∷ Row.off ∷ Row.off ∷ Row.off ∷ Row.off ∷ List.[]; }
         abbrev G1 : Row.Cx
@@ -832,11 +866,11 @@ module _ (claims· : Claims) where
         abbrev G20 : Row.Cx
         G20 = record { locals = List._++_ g15 t1; slots = Row.off ∷ life1 ∷ Row.off ∷ Row.alive ∷ Row.alive ∷ Row.off ∷ List.[]; }
         abbrev G21 : Row.Cx
-        G21 = record { locals = List._++_ g16 t1; slots = Row.off ∷ Row.off ∷ Row.off ∷ Row.alive ∷ Row.alive ∷ Row.off ∷ List.[]; }
+        G21 = record { locals = List._++_ g16 t17; slots = Row.off ∷ Row.off ∷ Row.off ∷ Row.alive ∷ Row.alive ∷ Row.off ∷ List.[]; }
         abbrev G22 : Row.Cx
-        G22 = record { locals = List._++_ g17 t18; slots = Row.off ∷ Row.off ∷ Row.off ∷ Row.alive ∷ Row.alive ∷ Row.off ∷ List.[]; }
+        G22 = record { locals = List._++_ g16 t18; slots = Row.off ∷ Row.off ∷ Row.off ∷ Row.alive ∷ Row.alive ∷ Row.off ∷ List.[]; }
         abbrev G23 : Row.Cx
-        G23 = record { locals = List._++_ g17 t18; slots = Row.off ∷ Row.off ∷ Row.off ∷ Row.alive ∷ Row.alive ∷ Row.alive ∷ List.[]; }
+        G23 = record { locals = List._++_ g16 t18; slots = Row.off ∷ Row.off ∷ Row.off ∷ Row.alive ∷ Row.alive ∷ Row.alive ∷ List.[]; }
         abbrev G24 : Row.Cx
         G24 = record { locals = List._++_ g19 t20; slots = Row.off ∷ Row.off ∷ Row.off ∷ Row.alive ∷ Row.alive ∷ Row.alive ∷ List.[]; }
         abbrev G25 : Row.Cx
@@ -854,149 +888,158 @@ module _ (claims· : Claims) where
         abbrev G31 : Row.Cx
         G31 = record { locals = List._++_ g28 t24; slots = Row.off ∷ Row.off ∷ Row.off ∷ Row.alive ∷ Row.alive ∷ Row.alive ∷ List.[]; }
         abbrev G32 : Row.Cx
-        G32 = record { locals = List._++_ g28 t24; slots = Row.off ∷ Row.off ∷ Row.off ∷ Row.dead ∷ Row.alive ∷ Row.alive ∷ List.[]; }
+        G32 = record { locals = List._++_ g29 t24; slots = Row.off ∷ Row.off ∷ Row.off ∷ Row.alive ∷ Row.alive ∷ Row.alive ∷ List.[]; }
         abbrev G33 : Row.Cx
-        G33 = record { locals = List._++_ g29 t24; slots = life0 ∷ Row.off ∷ Row.off ∷ Row.dead ∷ Row.alive ∷ Row.alive ∷ List.[]; }
+        G33 = record { locals = List._++_ g29 t24; slots = Row.off ∷ Row.off ∷ Row.off ∷ Row.dead ∷ Row.alive ∷ Row.alive ∷ List.[]; }
         abbrev G34 : Row.Cx
-        G34 = record { locals = List._++_ g29 t24; slots = life0 ∷ Row.off ∷ Row.off ∷ Row.off ∷ Row.alive ∷ Row.alive ∷ List.[]; }
+        G34 = record { locals = List._++_ g30 t24; slots = life0 ∷ Row.off ∷ Row.off ∷ Row.dead ∷ Row.alive ∷ Row.alive ∷ List.[]; }
         abbrev G35 : Row.Cx
-        G35 = record { locals = List._++_ g29 t24; slots = life0 ∷ Row.off ∷ Row.off ∷ Row.off ∷ Row.dead ∷ Row.alive ∷ List.[]; }
+        G35 = record { locals = List._++_ g30 t24; slots = life0 ∷ Row.off ∷ Row.off ∷ Row.off ∷ Row.alive ∷ Row.alive ∷ List.[]; }
         abbrev G36 : Row.Cx
-        G36 = record { locals = List._++_ t30 t1; slots = life0 ∷ life1 ∷ Row.off ∷ Row.off ∷ Row.dead ∷ Row.alive ∷ List.[]; }
+        G36 = record { locals = List._++_ g30 t24; slots = life0 ∷ Row.off ∷ Row.off ∷ Row.off ∷ Row.dead ∷ Row.alive ∷ List.[]; }
         abbrev G37 : Row.Cx
-        G37 = record { locals = List._++_ t30 t1; slots = life0 ∷ life1 ∷ Row.off ∷ Row.off ∷ Row.dead ∷ Row.alive ∷ List.[]; }
+        G37 = record { locals = List._++_ t31 t1; slots = life0 ∷ life1 ∷ Row.off ∷ Row.off ∷ Row.dead ∷ Row.alive ∷ List.[]; }
         abbrev G38 : Row.Cx
-        G38 = record { locals = List._++_ t30 t1; slots = life0 ∷ life1 ∷ Row.off ∷ Row.off ∷ Row.off ∷ Row.alive ∷ List.[]; }
+        G38 = record { locals = List._++_ t31 t1; slots = life0 ∷ life1 ∷ Row.off ∷ Row.off ∷ Row.dead ∷ Row.alive ∷ List.[]; }
         abbrev G39 : Row.Cx
-        G39 = record { locals = List._++_ t30 t1; slots = life0 ∷ life1 ∷ Row.off ∷ Row.off ∷ Row.off ∷ Row.dead ∷ List.[]; }
+        G39 = record { locals = List._++_ t31 t1; slots = life0 ∷ life1 ∷ Row.off ∷ Row.off ∷ Row.off ∷ Row.alive ∷ List.[]; }
         abbrev G40 : Row.Cx
         G40 = record { locals = List._++_ t31 t1; slots = life0 ∷ life1 ∷ Row.off ∷ Row.off ∷ Row.off ∷ Row.dead ∷ List.[]; }
         abbrev G41 : Row.Cx
-        G41 = record { locals = List._++_ t31 t1; slots = life0 ∷ life1 ∷ Row.off ∷ Row.off ∷ Row.off ∷ Row.off ∷ List.[]; }
+        G41 = record { locals = List._++_ t32 t1; slots = life0 ∷ life1 ∷ Row.off ∷ Row.off ∷ Row.off ∷ Row.dead ∷ List.[]; }
         abbrev G42 : Row.Cx
-        G42 = record { locals = List._++_ t2 t1; slots = life0 ∷ life1 ∷ Row.off ∷ Row.off ∷ Row.off ∷ Row.off ∷ List.[]; }
+        G42 = record { locals = List._++_ t32 t1; slots = life0 ∷ life1 ∷ Row.off ∷ Row.off ∷ Row.off ∷ Row.off ∷ List.[]; }
+        abbrev G43 : Row.Cx
+        G43 = record { locals = List._++_ t2 t1; slots = life0 ∷ life1 ∷ Row.off ∷ Row.off ∷ Row.off ∷ Row.off ∷ List.[]; }
         abbrev Δ0 : Typed.Outs
         Δ0 = record { next = Option.none; exits = List.[]; returns = Option.some G1 }
         module _ { M : Type 1 } (𝓤 : URA.URA M) (H : Wp.Heap 𝓤) (A : Atoms.Atoms 𝓤) (W : Kit.Given 𝓤 H A) (𝓣 : Wp.Tables 𝓤 H) (known : Knowns 𝓤 H A W
             𝓣) (bs : List.List Nat.ℕ) (bd : Lifetimes.AllOutlive 2 (Kinds.osR r) κs) where
           abbrev E : Wp.Env 𝓤 H
           E = Frame.EnvOf 𝓤 H ((Kinds.tyR r) ∷ (Enter.tysP ps xs)) bs
-          d0 : Typed.Typed 𝓤 H A 𝓣 E G42 b13 Δ0 at0
+          d0 : Typed.Typed 𝓤 H A 𝓣 E G43 b13 Δ0 at0
           d0 = Typed.t-return 𝓤 H A W 𝓣 E Δ0 tt
-          d1 : Typed.Typed 𝓤 H A 𝓣 E G41 b13 Δ0 at1
-          d1 = Typed.g-pre 𝓤 H A W 𝓣 E G41 G42 b13 Δ0 (Typed.pass T40 T42 s40) at0 (Scalar.g-room 𝓤 H A W E G41 9 (Syntax.tyArray (Syntax.tyInt
+          d1 : Typed.Typed 𝓤 H A 𝓣 E G42 b13 Δ0 at1
+          d1 = Typed.g-pre 𝓤 H A W 𝓣 E G42 G43 b13 Δ0 (Typed.pass T41 T43 s41) at0 (Scalar.g-room 𝓤 H A W E G42 10 (Syntax.tyArray (Syntax.tyInt
               Syntax.w8) 28) (Init.room-arr 𝓤 H A W (Referent.rtF (Referent.fInt Syntax.w8)) 28 0 28 Path.refl)) d0
-          d2 : Typed.Typed 𝓤 H A 𝓣 E G40 b13 Δ0 at2
-          d2 = Typed.g-pre 𝓤 H A W 𝓣 E G40 G41 b13 Δ0 (λ Ψ. Ψ) at1 (Lifetime.g-forget 𝓤 H A W E G40 5 Row.dead Path.refl) d1
-          d3 : Typed.Typed 𝓤 H A 𝓣 E G39 b13 Δ0 at3
-          d3 = Typed.g-pre 𝓤 H A W 𝓣 E G39 G40 b13 Δ0 (Typed.pass T37 T40 s38) at2 (Share.g-back-arr-shr 𝓤 H A W E (Referent.rtF (Referent.fInt
-              Syntax.w8)) G39 9 28 5 (λ x. x) (Reads.as-is 𝓤 H A (Rows.arr-shr (Referent.rtF (Referent.fInt Syntax.w8)) 28 5)) Path.refl) d2
-          d4 : Typed.Typed 𝓤 H A 𝓣 E G38 b13 Δ0 at4
-          d4 = Typed.g-pre 𝓤 H A W 𝓣 E G38 G39 b13 Δ0 (λ Ψ. Ψ) at3 (Lifetime.g-end 𝓤 H A W E G38 5 Path.refl) d3
-          d5 : Typed.Typed 𝓤 H A 𝓣 E G37 b13 Δ0 at5
-          d5 = Typed.g-pre 𝓤 H A W 𝓣 E G37 G38 b13 Δ0 (λ Ψ. Ψ) at4 (Lifetime.g-forget 𝓤 H A W E G37 4 Row.dead Path.refl) d4
-          d6 : Typed.Typed 𝓤 H A 𝓣 E G36 b13 Δ0 at6
-          d6 = Typed.g-pre 𝓤 H A W 𝓣 E G36 G37 b13 Δ0 (Typed.give s35) at5 (Know.g-sl-known 𝓤 H A W (Referent.fInt Syntax.w32) E G36 2 1 ref6 life1 0
+          d2 : Typed.Typed 𝓤 H A 𝓣 E G41 b13 Δ0 at2
+          d2 = Typed.g-pre 𝓤 H A W 𝓣 E G41 G42 b13 Δ0 (λ Ψ. Ψ) at1 (Lifetime.g-forget 𝓤 H A W E G41 5 Row.dead Path.refl) d1
+          d3 : Typed.Typed 𝓤 H A 𝓣 E G40 b13 Δ0 at3
+          d3 = Typed.g-pre 𝓤 H A W 𝓣 E G40 G41 b13 Δ0 (Typed.pass T38 T41 s39) at2 (Share.g-back-arr-shr 𝓤 H A W E (Referent.rtF (Referent.fInt
+              Syntax.w8)) G40 10 28 5 (λ x. x) (Reads.as-is 𝓤 H A (Rows.arr-shr (Referent.rtF (Referent.fInt Syntax.w8)) 28 5)) Path.refl) d2
+          d4 : Typed.Typed 𝓤 H A 𝓣 E G39 b13 Δ0 at4
+          d4 = Typed.g-pre 𝓤 H A W 𝓣 E G39 G40 b13 Δ0 (λ Ψ. Ψ) at3 (Lifetime.g-end 𝓤 H A W E G39 5 Path.refl) d3
+          d5 : Typed.Typed 𝓤 H A 𝓣 E G38 b13 Δ0 at5
+          d5 = Typed.g-pre 𝓤 H A W 𝓣 E G38 G39 b13 Δ0 (λ Ψ. Ψ) at4 (Lifetime.g-forget 𝓤 H A W E G38 4 Row.dead Path.refl) d4
+          d6 : Typed.Typed 𝓤 H A 𝓣 E G37 b13 Δ0 at6
+          d6 = Typed.g-pre 𝓤 H A W 𝓣 E G37 G38 b13 Δ0 (Typed.give s36) at5 (Know.g-sl-known 𝓤 H A W (Referent.fInt Syntax.w32) E G37 2 1 ref6 life1 0
               (λ x. x) record { fits = Dec.lit< tt } (Reads.as-is 𝓤 H A (Mut.mslice (Referent.rtF (Referent.fInt Syntax.w32)) ref6 1)) Path.refl tt)
               d5
-          d7 : Typed.Typed 𝓤 H A 𝓣 E G35 b13 Δ0 at7
-          d7 = Typed.g-pre 𝓤 H A W 𝓣 E G35 G36 b13 Δ0 (Typed.both s34) at6 (Relend.g-back-sl 𝓤 H A W E (Referent.rtF (Referent.fInt Syntax.w32)) G35
-              16 2 1 4 ref6 ref2 life1 (λ x. x) (λ x. x) (Reads.as-is 𝓤 H A (Mut.msleft (Referent.rtF (Referent.fInt Syntax.w32)) ref2)) (Reads.as-is
+          d7 : Typed.Typed 𝓤 H A 𝓣 E G36 b13 Δ0 at7
+          d7 = Typed.g-pre 𝓤 H A W 𝓣 E G36 G37 b13 Δ0 (Typed.both s35) at6 (Relend.g-back-sl 𝓤 H A W E (Referent.rtF (Referent.fInt Syntax.w32)) G36
+              17 2 1 4 ref6 ref2 life1 (λ x. x) (λ x. x) (Reads.as-is 𝓤 H A (Mut.msleft (Referent.rtF (Referent.fInt Syntax.w32)) ref2)) (Reads.as-is
               𝓤 H A (Relend.mslice-owed (Referent.rtF (Referent.fInt Syntax.w32)) ref6 1 4 life1)) Path.refl Path.refl) d6
-          d8 : Typed.Typed 𝓤 H A 𝓣 E G34 b13 Δ0 at8
-          d8 = Typed.g-pre 𝓤 H A W 𝓣 E G34 G35 b13 Δ0 (λ Ψ. Ψ) at7 (Lifetime.g-end 𝓤 H A W E G34 4 Path.refl) d7
-          d9 : Typed.Typed 𝓤 H A 𝓣 E G33 b13 Δ0 at9
-          d9 = Typed.g-pre 𝓤 H A W 𝓣 E G33 G34 b13 Δ0 (λ Ψ. Ψ) at8 (Lifetime.g-forget 𝓤 H A W E G33 3 Row.dead Path.refl) d8
-          d10 : Typed.Typed 𝓤 H A 𝓣 E G32 b13 Δ0 at10
-          d10 = Typed.g-pre 𝓤 H A W 𝓣 E G32 G33 b13 Δ0 (Typed.both s31) at9 (Relend.g-back-sl 𝓤 H A W E InflightAction.row G32 14 1 0 3 ref5 ref1
+          d8 : Typed.Typed 𝓤 H A 𝓣 E G35 b13 Δ0 at8
+          d8 = Typed.g-pre 𝓤 H A W 𝓣 E G35 G36 b13 Δ0 (λ Ψ. Ψ) at7 (Lifetime.g-end 𝓤 H A W E G35 4 Path.refl) d7
+          d9 : Typed.Typed 𝓤 H A 𝓣 E G34 b13 Δ0 at9
+          d9 = Typed.g-pre 𝓤 H A W 𝓣 E G34 G35 b13 Δ0 (λ Ψ. Ψ) at8 (Lifetime.g-forget 𝓤 H A W E G34 3 Row.dead Path.refl) d8
+          d10 : Typed.Typed 𝓤 H A 𝓣 E G33 b13 Δ0 at10
+          d10 = Typed.g-pre 𝓤 H A W 𝓣 E G33 G34 b13 Δ0 (Typed.both s32) at9 (Relend.g-back-sl 𝓤 H A W E InflightAction.row G33 15 1 0 3 ref5 ref1
               life0 (λ x. x) (λ x. x) (Reads.as-is 𝓤 H A (Mut.msleft InflightAction.row ref1)) (Reads.as-is 𝓤 H A (Relend.mslice-owed
               InflightAction.row ref5 0 3 life0)) Path.refl Path.refl) d9
-          d11 : Typed.Typed 𝓤 H A 𝓣 E G31 b13 Δ0 at11
-          d11 = Typed.g-pre 𝓤 H A W 𝓣 E G31 G32 b13 Δ0 (λ Ψ. Ψ) at10 (Lifetime.g-end 𝓤 H A W E G31 3 Path.refl) d10
-          d12 : Typed.Typed 𝓤 H A 𝓣 E G30 b13 Δ0 at12
-          d12 = Typed.g-pre 𝓤 H A W 𝓣 E G30 G31 b13 Δ0 (Typed.pass T30 T31 s29) at11 (Scalar.g-room 𝓤 H A W E G30 8 Laws'''.mir (Local.room-whole 𝓤 H
-              A W (Declared'.row ActionScan.the-type) Laws'''.mir Path.refl)) d11
-          d13 : Typed.Typed 𝓤 H A 𝓣 E G29 b13 Δ0 at13
-          d13 = Typed.g-pre 𝓤 H A W 𝓣 E G29 G30 b13 Δ0 (Typed.pass T29 T30 s28) at12 (Scalar.g-room 𝓤 H A W E G29 5 Laws''''.mir (Local.room-whole 𝓤 H
-              A W (Declared'.row Outgoing.the-type) Laws''''.mir Path.refl)) d12
-          d14 : Typed.Typed 𝓤 H A 𝓣 E G28 b13 Δ0 at14
-          d14 = Typed.g-pre 𝓤 H A W 𝓣 E G28 G29 b13 Δ0 (Typed.pass T28 T29 s27) at13 (Scalar.g-room 𝓤 H A W E G28 4 Laws'''''.mir (Local.room-whole 𝓤
-              H A W (Declared'.row OpaqueRelayRuntime.the-type) Laws'''''.mir Path.refl)) d13
-          d15 : Typed.Typed 𝓤 H A 𝓣 E G27 b13 Δ0 at15
-          d15 = Typed.g-pre 𝓤 H A W 𝓣 E G27 G28 b13 Δ0 (Typed.pass T27 T28 s26) at14 (Scalar.g-room 𝓤 H A W E G27 3 Laws'.mir (Local.room-whole 𝓤 H A
-              W (Declared.row HnsrAnswer.the-type) Laws'.mir Path.refl)) d14
-          d16 : Typed.Typed 𝓤 H A 𝓣 E G26 b13 Δ0 at16
-          d16 = Typed.g-pre 𝓤 H A W 𝓣 E G26 G27 b13 Δ0 (Typed.pass T26 T27 s25) at15 (Scalar.g-room 𝓤 H A W E G26 18 (Syntax.tyStruct (38 ∷ 91 ∷ 93 ∷
+          d11 : Typed.Typed 𝓤 H A 𝓣 E G32 b13 Δ0 at11
+          d11 = Typed.g-pre 𝓤 H A W 𝓣 E G32 G33 b13 Δ0 (λ Ψ. Ψ) at10 (Lifetime.g-end 𝓤 H A W E G32 3 Path.refl) d10
+          d12 : Typed.Typed 𝓤 H A 𝓣 E G31 b13 Δ0 at12
+          d12 = Typed.g-pre 𝓤 H A W 𝓣 E G31 G32 b13 Δ0 (Typed.pass T31 T32 s30) at11 (Scalar.g-room 𝓤 H A W E G31 9 Laws''''.mir (Local.room-whole 𝓤 H
+              A W (Declared'.row ActionScan.the-type) Laws''''.mir Path.refl)) d11
+          d13 : Typed.Typed 𝓤 H A 𝓣 E G30 b13 Δ0 at13
+          d13 = Typed.g-pre 𝓤 H A W 𝓣 E G30 G31 b13 Δ0 (Typed.pass T30 T31 s29) at12 (Scalar.g-room 𝓤 H A W E G30 6 Laws'''''.mir (Local.room-whole 𝓤
+              H A W (Declared'.row Outgoing.the-type) Laws'''''.mir Path.refl)) d12
+          d14 : Typed.Typed 𝓤 H A 𝓣 E G29 b13 Δ0 at14
+          d14 = Typed.g-pre 𝓤 H A W 𝓣 E G29 G30 b13 Δ0 (Typed.pass T29 T30 s28) at13 (Scalar.g-room 𝓤 H A W E G29 5 Laws''.mir (Local.room-whole 𝓤 H A
+              W (Declared'.row Places.the-type) Laws''.mir Path.refl)) d13
+          d15 : Typed.Typed 𝓤 H A 𝓣 E G28 b13 Δ0 at15
+          d15 = Typed.g-pre 𝓤 H A W 𝓣 E G28 G29 b13 Δ0 (Typed.pass T28 T29 s27) at14 (Scalar.g-room 𝓤 H A W E G28 4 Laws''''''.mir (Local.room-whole 𝓤
+              H A W (Declared'.row OpaqueRelayRuntime.the-type) Laws''''''.mir Path.refl)) d14
+          d16 : Typed.Typed 𝓤 H A 𝓣 E G27 b13 Δ0 at16
+          d16 = Typed.g-pre 𝓤 H A W 𝓣 E G27 G28 b13 Δ0 (Typed.pass T27 T28 s26) at15 (Scalar.g-room 𝓤 H A W E G27 3 Laws'.mir (Local.room-whole 𝓤 H A
+              W (Declared.row HnsrAnswer.the-type) Laws'.mir Path.refl)) d15
+          d17 : Typed.Typed 𝓤 H A 𝓣 E G26 b13 Δ0 at17
+          d17 = Typed.g-pre 𝓤 H A W 𝓣 E G26 G27 b13 Δ0 (Typed.pass T26 T27 s25) at16 (Scalar.g-room 𝓤 H A W E G26 19 (Syntax.tyStruct (38 ∷ 91 ∷ 93 ∷
               List.[]) (Syntax.tcons ref4 (Syntax.tcons (Syntax.tyInt Syntax.w64) Syntax.tnil))) (Shared.room-sslice 𝓤 H A W (Referent.rtF
-              (Referent.fInt Syntax.w8)) ref4 5)) d15
-          d17 : Typed.Typed 𝓤 H A 𝓣 E G25 b14 Δ0 at17
-          d17 = Typed.s-seq 𝓤 H A W 𝓣 E G25 G26 b12 b13 Δ0 (Typed.both s24) at16 (Plain.t-call-plain 𝓤 H A W 𝓣 3 ps·3 r·3 (claims· .6) (claims· .7)
-              "hnsr_circuit::queue::send" (known .3) E (λ pos β. β) G25 (record { pos = 14; ty = Syntax.tyRef Syntax.erased Syntax.mut
-              InflightAction.to; ref = λ x. x; }, (record { pos = 16; ty = Syntax.tyRef Syntax.erased Syntax.mut (Syntax.tyInt Syntax.w32); ref = λ x.
+              (Referent.fInt Syntax.w8)) ref4 5)) d16
+          d18 : Typed.Typed 𝓤 H A 𝓣 E G25 b14 Δ0 at18
+          d18 = Typed.s-seq 𝓤 H A W 𝓣 E G25 G26 b12 b13 Δ0 (Typed.both s24) at17 (Plain.t-call-plain 𝓤 H A W 𝓣 3 ps·3 r·3 (claims· .6) (claims· .7)
+              "hnsr_circuit::queue::send" (known .3) E (λ pos β. β) G25 (record { pos = 15; ty = Syntax.tyRef Syntax.erased Syntax.mut
+              InflightAction.to; ref = λ x. x; }, (record { pos = 17; ty = Syntax.tyRef Syntax.erased Syntax.mut (Syntax.tyInt Syntax.w32); ref = λ x.
               x; }, (record { pos = 3; st = List.[]; d = 0; at = λ x. x }, (record { pos = 4; st = List.[]; d = 0; at = λ x. x }, (record { pos = 5;
-              st = List.[]; d = 0; at = λ x. x }, (record { pos = 8; st = List.[]; d = 0; at = λ x. x }, (record { pos = 18; ty = Syntax.tyRef
-              Syntax.erased Syntax.imm (Syntax.tyInt Syntax.w8); ref = λ x. x; }, tt,),),),),),),) 0 (3 ∷ 4 ∷ 5 ∷ List.[]) (Call.sub-id 𝓤 H A W (G25
-              .slots)) (Reads.as-is 𝓤 H A (Mut.mslice InflightAction.row ref1 3), Mut.reads-mslice 𝓤 H A W InflightAction.row ref1 3, Path.refl,
-              (Reads.as-is 𝓤 H A (Mut.mslice (Referent.rtF (Referent.fInt Syntax.w32)) ref2 4), Mut.reads-mslice 𝓤 H A W (Referent.rtF (Referent.fInt
-              Syntax.w32)) ref2 4, Path.refl, ((Yields.yields-copy 𝓤 H A W (λ ρ. Unit) (Declared.row HnsrAnswer.the-type) Path.refl (Copies.cEnum
-              HnsrAnswer.the-type Laws'.the-laws Laws'.the-copy .copy 𝓤 H A W) (Rows'.whole (Declared.row HnsrAnswer.the-type)) (λ x. x) (λ x. x) (λ ρ
-              told. Local.mem-whole 𝓤 H A W (Declared.row HnsrAnswer.the-type) ρ) λ ρ told. Local.whole-mem 𝓤 H A W (Declared.row HnsrAnswer.the-type)
-              ρ, Path.refl,), ((Yields.yields-copy 𝓤 H A W (λ ρ. Unit) (Declared'.row OpaqueRelayRuntime.the-type) Path.refl (Copies.cStruct
-              OpaqueRelayRuntime.the-type Laws'''''.the-laws Laws'''''.the-copy .copy 𝓤 H A W) (Rows'.whole (Declared'.row
-              OpaqueRelayRuntime.the-type)) (λ x. x) (λ x. x) (λ ρ told. Local.mem-whole 𝓤 H A W (Declared'.row OpaqueRelayRuntime.the-type) ρ) λ ρ
-              told. Local.whole-mem 𝓤 H A W (Declared'.row OpaqueRelayRuntime.the-type) ρ, Path.refl,), ((Yields.yields-copy 𝓤 H A W (λ ρ. Unit)
-              (Declared'.row Outgoing.the-type) Path.refl (Copies.cStruct Outgoing.the-type Laws''''.the-laws Laws''''.the-copy .copy 𝓤 H A W)
-              (Rows'.whole (Declared'.row Outgoing.the-type)) (λ x. x) (λ x. x) (λ ρ told. Local.mem-whole 𝓤 H A W (Declared'.row Outgoing.the-type)
-              ρ) λ ρ told. Local.whole-mem 𝓤 H A W (Declared'.row Outgoing.the-type) ρ, Path.refl,), ((Yields.yields-copy 𝓤 H A W (λ ρ. Unit)
-              (Declared'.row ActionScan.the-type) Path.refl (Copies.cStruct ActionScan.the-type Laws'''.the-laws Laws'''.the-copy .copy 𝓤 H A W)
-              (Rows'.whole (Declared'.row ActionScan.the-type)) (λ x. x) (λ x. x) (λ ρ told. Local.mem-whole 𝓤 H A W (Declared'.row
-              ActionScan.the-type) ρ) λ ρ told. Local.whole-mem 𝓤 H A W (Declared'.row ActionScan.the-type) ρ, Path.refl,), (ShrSlice.spares-sslice 𝓤
-              H A W (Referent.rtF (Referent.fInt Syntax.w8)) ref4 5, Shared.reads-sslice 𝓤 H A W (Referent.rtF (Referent.fInt Syntax.w8)) ref4 5,
-              Path.refl, tt,),),),),),),) (Reads.room-gone 𝓤 H A Laws''''''.mir) (tt, (tt, (tt, tt))) Path.refl) d16
-          d18 : Typed.Typed 𝓤 H A 𝓣 E G24 b15 Δ0 at18
-          d18 = Typed.s-seq 𝓤 H A W 𝓣 E G24 G25 b11 b14 Δ0 (Typed.ask s23) at17 (Relend.t-sl-aggregate 𝓤 H A W E (Referent.rtF (Referent.fInt
-              Syntax.w8)) 𝓣 (Relend.asShr (Referent.rtF (Referent.fInt Syntax.w8))) G24 17 18 5 ref3 ref4 (λ x. x) (Scalar.oInt Syntax.w64 28)
+              st = List.[]; d = 0; at = λ x. x }, (record { pos = 6; st = List.[]; d = 0; at = λ x. x }, (record { pos = 9; st = List.[]; d = 0; at =
+              λ x. x }, (record { pos = 19; ty = Syntax.tyRef Syntax.erased Syntax.imm (Syntax.tyInt Syntax.w8); ref = λ x. x; }, tt,),),),),),),),) 0
+              (3 ∷ 4 ∷ 5 ∷ List.[]) (Call.sub-id 𝓤 H A W (G25 .slots)) (Reads.as-is 𝓤 H A (Mut.mslice InflightAction.row ref1 3), Mut.reads-mslice 𝓤 H
+              A W InflightAction.row ref1 3, Path.refl, (Reads.as-is 𝓤 H A (Mut.mslice (Referent.rtF (Referent.fInt Syntax.w32)) ref2 4),
+              Mut.reads-mslice 𝓤 H A W (Referent.rtF (Referent.fInt Syntax.w32)) ref2 4, Path.refl, ((Yields.yields-copy 𝓤 H A W (λ ρ. Unit)
+              (Declared.row HnsrAnswer.the-type) Path.refl (Copies.cEnum HnsrAnswer.the-type Laws'.the-laws Laws'.the-copy .copy 𝓤 H A W) (Rows'.whole
+              (Declared.row HnsrAnswer.the-type)) (λ x. x) (λ x. x) (λ ρ told. Local.mem-whole 𝓤 H A W (Declared.row HnsrAnswer.the-type) ρ) λ ρ told.
+              Local.whole-mem 𝓤 H A W (Declared.row HnsrAnswer.the-type) ρ, Path.refl,), ((Yields.yields-copy 𝓤 H A W (λ ρ. Unit) (Declared'.row
+              OpaqueRelayRuntime.the-type) Path.refl (Copies.cStruct OpaqueRelayRuntime.the-type Laws''''''.the-laws Laws''''''.the-copy .copy 𝓤 H A
+              W) (Rows'.whole (Declared'.row OpaqueRelayRuntime.the-type)) (λ x. x) (λ x. x) (λ ρ told. Local.mem-whole 𝓤 H A W (Declared'.row
+              OpaqueRelayRuntime.the-type) ρ) λ ρ told. Local.whole-mem 𝓤 H A W (Declared'.row OpaqueRelayRuntime.the-type) ρ, Path.refl,),
+              ((Yields.yields-copy 𝓤 H A W (λ ρ. Unit) (Declared'.row Places.the-type) Path.refl (Copies.cStruct Places.the-type Laws''.the-laws
+              Laws''.the-copy .copy 𝓤 H A W) (Rows'.whole (Declared'.row Places.the-type)) (λ x. x) (λ x. x) (λ ρ told. Local.mem-whole 𝓤 H A W
+              (Declared'.row Places.the-type) ρ) λ ρ told. Local.whole-mem 𝓤 H A W (Declared'.row Places.the-type) ρ, Path.refl,),
+              ((Yields.yields-copy 𝓤 H A W (λ ρ. Unit) (Declared'.row Outgoing.the-type) Path.refl (Copies.cStruct Outgoing.the-type
+              Laws'''''.the-laws Laws'''''.the-copy .copy 𝓤 H A W) (Rows'.whole (Declared'.row Outgoing.the-type)) (λ x. x) (λ x. x) (λ ρ told.
+              Local.mem-whole 𝓤 H A W (Declared'.row Outgoing.the-type) ρ) λ ρ told. Local.whole-mem 𝓤 H A W (Declared'.row Outgoing.the-type) ρ,
+              Path.refl,), ((Yields.yields-copy 𝓤 H A W (λ ρ. Unit) (Declared'.row ActionScan.the-type) Path.refl (Copies.cStruct ActionScan.the-type
+              Laws''''.the-laws Laws''''.the-copy .copy 𝓤 H A W) (Rows'.whole (Declared'.row ActionScan.the-type)) (λ x. x) (λ x. x) (λ ρ told.
+              Local.mem-whole 𝓤 H A W (Declared'.row ActionScan.the-type) ρ) λ ρ told. Local.whole-mem 𝓤 H A W (Declared'.row ActionScan.the-type) ρ,
+              Path.refl,), (ShrSlice.spares-sslice 𝓤 H A W (Referent.rtF (Referent.fInt Syntax.w8)) ref4 5, Shared.reads-sslice 𝓤 H A W (Referent.rtF
+              (Referent.fInt Syntax.w8)) ref4 5, Path.refl, tt,),),),),),),),) (Reads.room-gone 𝓤 H A Laws'''''''.mir) (tt, (tt, (tt, tt))) Path.refl)
+              d17
+          d19 : Typed.Typed 𝓤 H A 𝓣 E G24 b15 Δ0 at19
+          d19 = Typed.s-seq 𝓤 H A W 𝓣 E G24 G25 b11 b14 Δ0 (Typed.ask s23) at18 (Relend.t-sl-aggregate 𝓤 H A W E (Referent.rtF (Referent.fInt
+              Syntax.w8)) 𝓣 (Relend.asShr (Referent.rtF (Referent.fInt Syntax.w8))) G24 18 19 5 ref3 ref4 (λ x. x) (Scalar.oInt Syntax.w64 28)
               (Reads.as-is 𝓤 H A (Relend.ssptr (Referent.rtF (Referent.fInt Syntax.w8)) ref3 5)) (Reads.room-gone 𝓤 H A (Syntax.tyStruct (38 ∷ 91 ∷ 93
-              ∷ List.[]) (Syntax.tcons ref4 (Syntax.tcons (Syntax.tyInt Syntax.w64) Syntax.tnil)))) tt Path.refl Path.refl λ b o k. tt) d17
-          d19 : Typed.Typed 𝓤 H A 𝓣 E G23 b16 Δ0 at19
-          d19 = Typed.s-seq 𝓤 H A W 𝓣 E G23 G24 b10 b15 Δ0 (Typed.give s22) at18 (Share.t-arr-share 𝓤 H A W E 𝓣 (Referent.rtF (Referent.fInt
-              Syntax.w8)) G23 9 17 28 5 ref3 (λ x. x) (Reads.as-is 𝓤 H A (Rows.arrF (Referent.rtF (Referent.fInt Syntax.w8)) 28 0)) (Reads.room-gone 𝓤
-              H A ref3) Path.refl (λ b o. tt) (Dec.lit< tt, Dec.lit< tt)) d18
-          d20 : Typed.Typed 𝓤 H A 𝓣 E G22 b16 Δ0 at20
-          d20 = Typed.g-pre 𝓤 H A W 𝓣 E G22 G23 b16 Δ0 (λ Ψ. Ψ) at19 (Lifetime.g-begin 𝓤 H A W E G22 5 (tt, ((tt, tt), ((tt, tt), (tt, (tt, (tt, (tt,
-              (tt, (tt, (tt, (tt, (tt, (tt, (tt, (tt, (tt, (tt, (tt, (tt, tt))))))))),),),),),),),),),),)) d19
-          d21 : Typed.Typed 𝓤 H A 𝓣 E G21 b17 Δ0 at21
-          d21 = Typed.s-seq 𝓤 H A W 𝓣 E G21 G22 b9 b16 Δ0 (Typed.ask s20) at20 (Relend.t-sl-aggregate 𝓤 H A W E (Referent.rtF (Referent.fInt
-              Syntax.w32)) 𝓣 (Relend.asMut (Referent.rtF (Referent.fInt Syntax.w32))) G21 15 16 4 ref2 ref2 (λ x. x) (Scalar.oFld 2 ((Syntax.field 1)
+              ∷ List.[]) (Syntax.tcons ref4 (Syntax.tcons (Syntax.tyInt Syntax.w64) Syntax.tnil)))) tt Path.refl Path.refl λ b o k. tt) d18
+          d20 : Typed.Typed 𝓤 H A 𝓣 E G23 b16 Δ0 at20
+          d20 = Typed.s-seq 𝓤 H A W 𝓣 E G23 G24 b10 b15 Δ0 (Typed.give s22) at19 (Share.t-arr-share 𝓤 H A W E 𝓣 (Referent.rtF (Referent.fInt
+              Syntax.w8)) G23 10 18 28 5 ref3 (λ x. x) (Reads.as-is 𝓤 H A (Rows.arrF (Referent.rtF (Referent.fInt Syntax.w8)) 28 0)) (Reads.room-gone
+              𝓤 H A ref3) Path.refl (λ b o. tt) (Dec.lit< tt, Dec.lit< tt)) d19
+          d21 : Typed.Typed 𝓤 H A 𝓣 E G22 b16 Δ0 at21
+          d21 = Typed.g-pre 𝓤 H A W 𝓣 E G22 G23 b16 Δ0 (λ Ψ. Ψ) at20 (Lifetime.g-begin 𝓤 H A W E G22 5 (tt, ((tt, tt), ((tt, tt), (tt, (tt, (tt, (tt,
+              (tt, (tt, (tt, (tt, (tt, (tt, (tt, (tt, (tt, (tt, (tt, (tt, (tt, tt)))))))),),),),),),),),),),),),)) d20
+          d22 : Typed.Typed 𝓤 H A 𝓣 E G21 b17 Δ0 at22
+          d22 = Typed.s-seq 𝓤 H A W 𝓣 E G21 G22 b9 b16 Δ0 (Typed.ask s20) at21 (Relend.t-sl-aggregate 𝓤 H A W E (Referent.rtF (Referent.fInt
+              Syntax.w32)) 𝓣 (Relend.asMut (Referent.rtF (Referent.fInt Syntax.w32))) G21 16 17 4 ref2 ref2 (λ x. x) (Scalar.oFld 2 ((Syntax.field 1)
               ∷ List.[]) (Syntax.tyInt Syntax.w64) 8 λ v. Shared.lenV (v .0)) (Reads.as-is 𝓤 H A (Relend.msptr (Referent.rtF (Referent.fInt
               Syntax.w32)) ref2 4)) (Reads.room-gone 𝓤 H A (Syntax.tyStruct (38 ∷ 91 ∷ 93 ∷ List.[]) (Syntax.tcons ref2 (Syntax.tcons (Syntax.tyInt
               Syntax.w64) Syntax.tnil)))) (Relend.reads-owed-len 𝓤 H A W (Referent.rtF (Referent.fInt Syntax.w32)) ref6 1 4 life1 8 Path.refl,
-              Path.refl,) Path.refl Path.refl λ b o k. tt) d20
-          d22 : Typed.Typed 𝓤 H A 𝓣 E G20 b18 Δ0 at22
-          d22 = Typed.s-seq 𝓤 H A W 𝓣 E G20 G21 b8 b17 Δ0 (Typed.give s19) at21 (Relend.t-sl-relend 𝓤 H A W E (Referent.rtF (Referent.fInt
-              Syntax.w32)) 𝓣 G20 2 15 1 4 ref6 ref2 life1 0 (λ x. x) (Reads.as-is 𝓤 H A (Mut.mslice (Referent.rtF (Referent.fInt Syntax.w32)) ref6 1))
-              (Reads.room-gone 𝓤 H A ref2) Path.refl tt Path.refl Path.refl Path.refl λ b o. tt) d21
-          d23 : Typed.Typed 𝓤 H A 𝓣 E G19 b18 Δ0 at23
-          d23 = Typed.g-pre 𝓤 H A W 𝓣 E G19 G20 b18 Δ0 (λ Ψ. Ψ) at22 (Lifetime.g-begin 𝓤 H A W E G19 4 (tt, ((tt, tt), (tt, (tt, (tt, (tt, (tt, (tt,
-              (tt, (tt, (tt, (tt, (tt, (tt, (tt, (tt, (tt, (tt, (tt, tt))))))))),),),),),),),),),),)) d22
-          d24 : Typed.Typed 𝓤 H A 𝓣 E G18 b19 Δ0 at24
-          d24 = Typed.s-seq 𝓤 H A W 𝓣 E G18 G19 b7 b18 Δ0 (Typed.ask s17) at23 (Relend.t-sl-aggregate 𝓤 H A W E InflightAction.row 𝓣 (Relend.asMut
-              InflightAction.row) G18 13 14 3 ref1 ref1 (λ x. x) (Scalar.oFld 1 ((Syntax.field 1) ∷ List.[]) (Syntax.tyInt Syntax.w64) 8 λ v.
+              Path.refl,) Path.refl Path.refl λ b o k. tt) d21
+          d23 : Typed.Typed 𝓤 H A 𝓣 E G20 b18 Δ0 at23
+          d23 = Typed.s-seq 𝓤 H A W 𝓣 E G20 G21 b8 b17 Δ0 (Typed.give s19) at22 (Relend.t-sl-relend 𝓤 H A W E (Referent.rtF (Referent.fInt
+              Syntax.w32)) 𝓣 G20 2 16 1 4 ref6 ref2 life1 0 (λ x. x) (Reads.as-is 𝓤 H A (Mut.mslice (Referent.rtF (Referent.fInt Syntax.w32)) ref6 1))
+              (Reads.room-gone 𝓤 H A ref2) Path.refl tt Path.refl Path.refl Path.refl λ b o. tt) d22
+          d24 : Typed.Typed 𝓤 H A 𝓣 E G19 b18 Δ0 at24
+          d24 = Typed.g-pre 𝓤 H A W 𝓣 E G19 G20 b18 Δ0 (λ Ψ. Ψ) at23 (Lifetime.g-begin 𝓤 H A W E G19 4 (tt, ((tt, tt), (tt, (tt, (tt, (tt, (tt, (tt,
+              (tt, (tt, (tt, (tt, (tt, (tt, (tt, (tt, (tt, (tt, (tt, (tt, tt)))))))),),),),),),),),),),),),)) d23
+          d25 : Typed.Typed 𝓤 H A 𝓣 E G18 b19 Δ0 at25
+          d25 = Typed.s-seq 𝓤 H A W 𝓣 E G18 G19 b7 b18 Δ0 (Typed.ask s17) at24 (Relend.t-sl-aggregate 𝓤 H A W E InflightAction.row 𝓣 (Relend.asMut
+              InflightAction.row) G18 14 15 3 ref1 ref1 (λ x. x) (Scalar.oFld 1 ((Syntax.field 1) ∷ List.[]) (Syntax.tyInt Syntax.w64) 8 λ v.
               Shared.lenV (v .0)) (Reads.as-is 𝓤 H A (Relend.msptr InflightAction.row ref1 3)) (Reads.room-gone 𝓤 H A (Syntax.tyStruct (38 ∷ 91 ∷ 93 ∷
               List.[]) (Syntax.tcons ref1 (Syntax.tcons (Syntax.tyInt Syntax.w64) Syntax.tnil)))) (Relend.reads-owed-len 𝓤 H A W InflightAction.row
-              ref5 0 3 life0 8 Path.refl, Path.refl,) Path.refl Path.refl λ b o k. tt) d23
-          d25 : Typed.Typed 𝓤 H A 𝓣 E G17 b20 Δ0 at25
-          d25 = Typed.s-seq 𝓤 H A W 𝓣 E G17 G18 b6 b19 Δ0 (Typed.give s16) at24 (Relend.t-sl-relend 𝓤 H A W E InflightAction.row 𝓣 G17 1 13 0 3 ref5
+              ref5 0 3 life0 8 Path.refl, Path.refl,) Path.refl Path.refl λ b o k. tt) d24
+          d26 : Typed.Typed 𝓤 H A 𝓣 E G17 b20 Δ0 at26
+          d26 = Typed.s-seq 𝓤 H A W 𝓣 E G17 G18 b6 b19 Δ0 (Typed.give s16) at25 (Relend.t-sl-relend 𝓤 H A W E InflightAction.row 𝓣 G17 1 14 0 3 ref5
               ref1 life0 0 (λ x. x) (Reads.as-is 𝓤 H A (Mut.mslice InflightAction.row ref5 0)) (Reads.room-gone 𝓤 H A ref1) Path.refl tt Path.refl
-              Path.refl Path.refl λ b o. tt) d24
-          d26 : Typed.Typed 𝓤 H A 𝓣 E G16 b20 Δ0 at26
-          d26 = Typed.g-pre 𝓤 H A W 𝓣 E G16 G17 b20 Δ0 (λ Ψ. Ψ) at25 (Lifetime.g-begin 𝓤 H A W E G16 3 (tt, (tt, (tt, (tt, (tt, (tt, (tt, (tt, (tt,
-              (tt, (tt, (tt, (tt, (tt, (tt, (tt, (tt, (tt, (tt, tt))))))))),),),),),),),),),),)) d25
-          d27 : Typed.Typed 𝓤 H A 𝓣 E G15 b20 Δ0 at27
-          d27 = Typed.g-pre 𝓤 H A W 𝓣 E G15 G16 b20 Δ0 (Typed.pass T15 T16 s14) at26 (Scalar.g-room 𝓤 H A W E G15 12 (Syntax.tyArray (Syntax.tyInt
-              Syntax.w8) 28) (Init.room-arr 𝓤 H A W (Referent.rtF (Referent.fInt Syntax.w8)) 28 0 28 Path.refl)) d26
-          d28 : Typed.Typed 𝓤 H A 𝓣 E G14 b21 Δ0 at28
-          d28 = Typed.s-seq 𝓤 H A W 𝓣 E G14 G15 b5 b20 Δ0 (Typed.pass T14 T15 s13) at27 (LocalCopy.t-val-copy 𝓤 H A W E 𝓣 (λ ρ. Unit) G14 12 9
+              Path.refl Path.refl λ b o. tt) d25
+          d27 : Typed.Typed 𝓤 H A 𝓣 E G16 b20 Δ0 at27
+          d27 = Typed.g-pre 𝓤 H A W 𝓣 E G16 G17 b20 Δ0 (λ Ψ. Ψ) at26 (Lifetime.g-begin 𝓤 H A W E G16 3 (tt, (tt, (tt, (tt, (tt, (tt, (tt, (tt, (tt,
+              (tt, (tt, (tt, (tt, (tt, (tt, (tt, (tt, (tt, (tt, (tt, tt)))))))),),),),),),),),),),),),)) d26
+          d28 : Typed.Typed 𝓤 H A 𝓣 E G15 b20 Δ0 at28
+          d28 = Typed.g-pre 𝓤 H A W 𝓣 E G15 G16 b20 Δ0 (Typed.pass T15 T16 s14) at27 (Scalar.g-room 𝓤 H A W E G15 13 (Syntax.tyArray (Syntax.tyInt
+              Syntax.w8) 28) (Init.room-arr 𝓤 H A W (Referent.rtF (Referent.fInt Syntax.w8)) 28 0 28 Path.refl)) d27
+          d29 : Typed.Typed 𝓤 H A 𝓣 E G14 b21 Δ0 at29
+          d29 = Typed.s-seq 𝓤 H A W 𝓣 E G14 G15 b5 b20 Δ0 (Typed.pass T14 T15 s13) at28 (LocalCopy.t-val-copy 𝓤 H A W E 𝓣 (λ ρ. Unit) G14 13 10
               (Array'.Array (Referent.rtF (Referent.fInt Syntax.w8)) 28) (Syntax.tyArray (Syntax.tyInt Syntax.w8) 28) (Syntax.tyArray (Syntax.tyInt
               Syntax.w8) 28) (Rows.arrF (Referent.rtF (Referent.fInt Syntax.w8)) 28 0) (Rows.arrF (Referent.rtF (Referent.fInt Syntax.w8)) 28 0) (λ x.
               x) (λ x. x) (λ x. x) Path.refl (Own.told-none 𝓤 H A (G14 .slots)) (Yields.yields-copy 𝓤 H A W (λ ρ. Unit) (Array'.Array (Referent.rtF
@@ -1005,100 +1048,110 @@ module _ (claims· : Claims) where
               (Referent.rtF (Referent.fInt Syntax.w8)) 28 ρ) λ ρ told. Whole.arr-mem 𝓤 H A W (Referent.rtF (Referent.fInt Syntax.w8)) 28 tt ρ)
               (Reads.room-gone 𝓤 H A (Syntax.tyArray (Syntax.tyInt Syntax.w8) 28)) (Yields.makes-mem 𝓤 H A W (λ ρ. Unit) (Array'.Array (Referent.rtF
               (Referent.fInt Syntax.w8)) 28) Path.refl (Rows.arrF (Referent.rtF (Referent.fInt Syntax.w8)) 28 0) (λ x. x) λ ρ told. Whole.arr-mem 𝓤 H
-              A W (Referent.rtF (Referent.fInt Syntax.w8)) 28 tt ρ) Path.refl Path.refl) d27
-          d29 : Typed.Typed 𝓤 H A 𝓣 E G13 b21 Δ0 at29
-          d29 = Typed.g-pre 𝓤 H A W 𝓣 E G13 G14 b21 Δ0 (Typed.pass T13 T14 s12) at28 (Scalar.g-room 𝓤 H A W E G13 6 Laws.mir (Local.room-whole 𝓤 H A W
-              (Declared'.row OpenedBody.the-type) Laws.mir Path.refl)) d28
-          d30 : Typed.Typed 𝓤 H A 𝓣 E G12 b22 Δ0 at30
-          d30 = Typed.s-seq 𝓤 H A W 𝓣 E G12 G13 b4 b21 Δ0 (Typed.both s11) at29 (Plain.t-call-plain 𝓤 H A W 𝓣 0 ps·2 r·2 (claims· .4) (claims· .5)
-              "hnsr_body::accept_body::OpenedBody::to_bytes" (known .2) E (λ pos β. β) G12 (record { pos = 6; st = List.[]; d = 0; at = λ x. x }, tt)
-              12 List.[] (Call.sub-id 𝓤 H A W (G12 .slots)) ((Yields.yields-copy 𝓤 H A W (λ ρ. Unit) (Declared'.row OpenedBody.the-type) Path.refl
+              A W (Referent.rtF (Referent.fInt Syntax.w8)) 28 tt ρ) Path.refl Path.refl) d28
+          d30 : Typed.Typed 𝓤 H A 𝓣 E G13 b21 Δ0 at30
+          d30 = Typed.g-pre 𝓤 H A W 𝓣 E G13 G14 b21 Δ0 (Typed.pass T13 T14 s12) at29 (Scalar.g-room 𝓤 H A W E G13 7 Laws.mir (Local.room-whole 𝓤 H A W
+              (Declared'.row OpenedBody.the-type) Laws.mir Path.refl)) d29
+          d31 : Typed.Typed 𝓤 H A 𝓣 E G12 b22 Δ0 at31
+          d31 = Typed.s-seq 𝓤 H A W 𝓣 E G12 G13 b4 b21 Δ0 (Typed.both s11) at30 (Plain.t-call-plain 𝓤 H A W 𝓣 0 ps·2 r·2 (claims· .4) (claims· .5)
+              "hnsr_body::accept_body::OpenedBody::to_bytes" (known .2) E (λ pos β. β) G12 (record { pos = 7; st = List.[]; d = 0; at = λ x. x }, tt)
+              13 List.[] (Call.sub-id 𝓤 H A W (G12 .slots)) ((Yields.yields-copy 𝓤 H A W (λ ρ. Unit) (Declared'.row OpenedBody.the-type) Path.refl
               (Copies.cStruct OpenedBody.the-type Laws.the-laws Laws.the-copy .copy 𝓤 H A W) (Rows'.whole (Declared'.row OpenedBody.the-type)) (λ x.
               x) (λ x. x) (λ ρ told. Local.mem-whole 𝓤 H A W (Declared'.row OpenedBody.the-type) ρ) λ ρ told. Local.whole-mem 𝓤 H A W (Declared'.row
-              OpenedBody.the-type) ρ, Path.refl,), tt,) (Reads.room-gone 𝓤 H A (Syntax.tyArray (Syntax.tyInt Syntax.w8) 28)) tt Path.refl) d29
-          d31 : Typed.Typed 𝓤 H A 𝓣 E G11 b22 Δ0 at31
-          d31 = Typed.g-pre 𝓤 H A W 𝓣 E G11 G12 b22 Δ0 (λ Ψ. Ψ) at30 (Lifetime.g-forget 𝓤 H A W E G11 2 Row.dead Path.refl) d30
-          d32 : Typed.Typed 𝓤 H A 𝓣 E G10 b22 Δ0 at32
-          d32 = Typed.g-pre 𝓤 H A W 𝓣 E G10 G11 b22 Δ0 (Typed.pass T9 T11 s9) at31 (Reshare.g-back-sl-shr 𝓤 H A W E InflightAction.row G10 1 0 2 ref5
-              life0 (λ x. x) (Reads.as-is 𝓤 H A (Reshare.mslice-owedS InflightAction.row ref5 0 2 life0)) Path.refl Path.refl) d31
-          d33 : Typed.Typed 𝓤 H A 𝓣 E G9 b22 Δ0 at33
-          d33 = Typed.g-pre 𝓤 H A W 𝓣 E G9 G10 b22 Δ0 (λ Ψ. Ψ) at32 (Lifetime.g-end 𝓤 H A W E G9 2 Path.refl) d32
-          d34 : Typed.Typed 𝓤 H A 𝓣 E G8 b22 Δ0 at34
-          d34 = Typed.g-pre 𝓤 H A W 𝓣 E G8 G9 b22 Δ0 (Typed.pass T8 T9 s7) at33 (Scalar.g-room 𝓤 H A W E G8 7 Laws''.mir (Local.room-whole 𝓤 H A W
-              (Declared'.row ActionQuestion.the-type) Laws''.mir Path.refl)) d33
-          d35 : Typed.Typed 𝓤 H A 𝓣 E G7 b22 Δ0 at35
-          d35 = Typed.g-pre 𝓤 H A W 𝓣 E G7 G8 b22 Δ0 (Typed.pass T7 T8 s6) at34 (Scalar.g-room 𝓤 H A W E G7 11 (Syntax.tyStruct (38 ∷ 91 ∷ 93 ∷
+              OpenedBody.the-type) ρ, Path.refl,), tt,) (Reads.room-gone 𝓤 H A (Syntax.tyArray (Syntax.tyInt Syntax.w8) 28)) tt Path.refl) d30
+          d32 : Typed.Typed 𝓤 H A 𝓣 E G11 b22 Δ0 at32
+          d32 = Typed.g-pre 𝓤 H A W 𝓣 E G11 G12 b22 Δ0 (λ Ψ. Ψ) at31 (Lifetime.g-forget 𝓤 H A W E G11 2 Row.dead Path.refl) d31
+          d33 : Typed.Typed 𝓤 H A 𝓣 E G10 b22 Δ0 at33
+          d33 = Typed.g-pre 𝓤 H A W 𝓣 E G10 G11 b22 Δ0 (Typed.pass T9 T11 s9) at32 (Reshare.g-back-sl-shr 𝓤 H A W E InflightAction.row G10 1 0 2 ref5
+              life0 (λ x. x) (Reads.as-is 𝓤 H A (Reshare.mslice-owedS InflightAction.row ref5 0 2 life0)) Path.refl Path.refl) d32
+          d34 : Typed.Typed 𝓤 H A 𝓣 E G9 b22 Δ0 at34
+          d34 = Typed.g-pre 𝓤 H A W 𝓣 E G9 G10 b22 Δ0 (λ Ψ. Ψ) at33 (Lifetime.g-end 𝓤 H A W E G9 2 Path.refl) d33
+          d35 : Typed.Typed 𝓤 H A 𝓣 E G8 b22 Δ0 at35
+          d35 = Typed.g-pre 𝓤 H A W 𝓣 E G8 G9 b22 Δ0 (Typed.pass T8 T9 s7) at34 (Scalar.g-room 𝓤 H A W E G8 8 Laws'''.mir (Local.room-whole 𝓤 H A W
+              (Declared'.row ActionQuestion.the-type) Laws'''.mir Path.refl)) d34
+          d36 : Typed.Typed 𝓤 H A 𝓣 E G7 b22 Δ0 at36
+          d36 = Typed.g-pre 𝓤 H A W 𝓣 E G7 G8 b22 Δ0 (Typed.pass T7 T8 s6) at35 (Scalar.g-room 𝓤 H A W E G7 12 (Syntax.tyStruct (38 ∷ 91 ∷ 93 ∷
               List.[]) (Syntax.tcons ref0 (Syntax.tcons (Syntax.tyInt Syntax.w64) Syntax.tnil))) (Shared.room-sslice 𝓤 H A W InflightAction.row ref0
-              2)) d34
-          d36 : Typed.Typed 𝓤 H A 𝓣 E G6 b23 Δ0 at36
-          d36 = Typed.s-seq 𝓤 H A W 𝓣 E G6 G7 b3 b22 Δ0 (Typed.both s5) at35 (Plain.t-call-plain 𝓤 H A W 𝓣 1 ps·1 r·1 (claims· .2) (claims· .3)
-              "hnsr_circuit::tables::inflight::scan_actions" (known .1) E (λ pos β. β) G6 (record { pos = 11; ty = Syntax.tyRef Syntax.erased
-              Syntax.imm InflightAction.to; ref = λ x. x; }, (record { pos = 7; st = List.[]; d = 0; at = λ x. x }, tt),) 8 (2 ∷ List.[]) (Call.sub-id
-              𝓤 H A W (G6 .slots)) (ShrSlice.spares-sslice 𝓤 H A W InflightAction.row ref0 2, Shared.reads-sslice 𝓤 H A W InflightAction.row ref0 2,
-              Path.refl, ((Yields.yields-copy 𝓤 H A W (λ ρ. Unit) (Declared'.row ActionQuestion.the-type) Path.refl (Copies.cStruct
-              ActionQuestion.the-type Laws''.the-laws Laws''.the-copy .copy 𝓤 H A W) (Rows'.whole (Declared'.row ActionQuestion.the-type)) (λ x. x) (λ
-              x. x) (λ ρ told. Local.mem-whole 𝓤 H A W (Declared'.row ActionQuestion.the-type) ρ) λ ρ told. Local.whole-mem 𝓤 H A W (Declared'.row
-              ActionQuestion.the-type) ρ, Path.refl,), tt,),) (Reads.room-gone 𝓤 H A Laws'''.mir) (tt, tt) Path.refl) d35
-          d37 : Typed.Typed 𝓤 H A 𝓣 E G5 b24 Δ0 at37
-          d37 = Typed.s-seq 𝓤 H A W 𝓣 E G5 G6 b2 b23 Δ0 (Typed.ask s4) at36 (Relend.t-sl-aggregate 𝓤 H A W E InflightAction.row 𝓣 (Relend.asShr
-              InflightAction.row) G5 10 11 2 ref0 ref0 (λ x. x) (Scalar.oFld 1 ((Syntax.field 1) ∷ List.[]) (Syntax.tyInt Syntax.w64) 8 λ v.
+              2)) d35
+          d37 : Typed.Typed 𝓤 H A 𝓣 E G6 b23 Δ0 at37
+          d37 = Typed.s-seq 𝓤 H A W 𝓣 E G6 G7 b3 b22 Δ0 (Typed.both s5) at36 (Plain.t-call-plain 𝓤 H A W 𝓣 1 ps·1 r·1 (claims· .2) (claims· .3)
+              "hnsr_circuit::tables::inflight::scan_actions" (known .1) E (λ pos β. β) G6 (record { pos = 12; ty = Syntax.tyRef Syntax.erased
+              Syntax.imm InflightAction.to; ref = λ x. x; }, (record { pos = 5; st = List.[]; d = 0; at = λ x. x }, (record { pos = 8; st = List.[]; d
+              = 0; at = λ x. x }, tt),),) 9 (2 ∷ List.[]) (Call.sub-id 𝓤 H A W (G6 .slots)) (ShrSlice.spares-sslice 𝓤 H A W InflightAction.row ref0 2,
+              Shared.reads-sslice 𝓤 H A W InflightAction.row ref0 2, Path.refl, ((Yields.yields-copy 𝓤 H A W (λ ρ. Unit) (Declared'.row
+              Places.the-type) Path.refl (Copies.cStruct Places.the-type Laws''.the-laws Laws''.the-copy .copy 𝓤 H A W) (Rows'.whole (Declared'.row
+              Places.the-type)) (λ x. x) (λ x. x) (λ ρ told. Local.mem-whole 𝓤 H A W (Declared'.row Places.the-type) ρ) λ ρ told. Local.whole-mem 𝓤 H
+              A W (Declared'.row Places.the-type) ρ, Path.refl,), ((Yields.yields-copy 𝓤 H A W (λ ρ. Unit) (Declared'.row ActionQuestion.the-type)
+              Path.refl (Copies.cStruct ActionQuestion.the-type Laws'''.the-laws Laws'''.the-copy .copy 𝓤 H A W) (Rows'.whole (Declared'.row
+              ActionQuestion.the-type)) (λ x. x) (λ x. x) (λ ρ told. Local.mem-whole 𝓤 H A W (Declared'.row ActionQuestion.the-type) ρ) λ ρ told.
+              Local.whole-mem 𝓤 H A W (Declared'.row ActionQuestion.the-type) ρ, Path.refl,), tt,),),) (Reads.room-gone 𝓤 H A Laws''''.mir) (tt, tt)
+              Path.refl) d36
+          d38 : Typed.Typed 𝓤 H A 𝓣 E G5 b24 Δ0 at38
+          d38 = Typed.s-seq 𝓤 H A W 𝓣 E G5 G6 b2 b23 Δ0 (Typed.ask s4) at37 (Relend.t-sl-aggregate 𝓤 H A W E InflightAction.row 𝓣 (Relend.asShr
+              InflightAction.row) G5 11 12 2 ref0 ref0 (λ x. x) (Scalar.oFld 1 ((Syntax.field 1) ∷ List.[]) (Syntax.tyInt Syntax.w64) 8 λ v.
               Shared.lenV (v .0)) (Reads.as-is 𝓤 H A (Relend.ssptr InflightAction.row ref0 2)) (Reads.room-gone 𝓤 H A (Syntax.tyStruct (38 ∷ 91 ∷ 93 ∷
               List.[]) (Syntax.tcons ref0 (Syntax.tcons (Syntax.tyInt Syntax.w64) Syntax.tnil)))) (Reshare.reads-owedS-len 𝓤 H A W InflightAction.row
-              ref5 0 2 life0 8 Path.refl, Path.refl,) Path.refl Path.refl λ b o k. tt) d36
-          d38 : Typed.Typed 𝓤 H A 𝓣 E G4 b25 Δ0 at38
-          d38 = Typed.s-seq 𝓤 H A W 𝓣 E G4 G5 b1 b24 Δ0 (Typed.give s3) at37 (Reshare.t-sl-reshare 𝓤 H A W E InflightAction.row 𝓣 G4 1 10 0 2 ref5
+              ref5 0 2 life0 8 Path.refl, Path.refl,) Path.refl Path.refl λ b o k. tt) d37
+          d39 : Typed.Typed 𝓤 H A 𝓣 E G4 b25 Δ0 at39
+          d39 = Typed.s-seq 𝓤 H A W 𝓣 E G4 G5 b1 b24 Δ0 (Typed.give s3) at38 (Reshare.t-sl-reshare 𝓤 H A W E InflightAction.row 𝓣 G4 1 11 0 2 ref5
               ref0 life0 0 (λ x. x) (Reads.as-is 𝓤 H A (Mut.mslice InflightAction.row ref5 0)) (Reads.room-gone 𝓤 H A ref0) Path.refl tt Path.refl
-              Path.refl Path.refl λ b o. tt) d37
-          d39 : Typed.Typed 𝓤 H A 𝓣 E G3 b25 Δ0 at39
-          d39 = Typed.g-pre 𝓤 H A W 𝓣 E G3 G4 b25 Δ0 (λ Ψ. Ψ) at38 (Lifetime.g-begin 𝓤 H A W E G3 2 (tt, (tt, (tt, (tt, (tt, (tt, (tt, (tt, (tt, (tt,
-              (tt, (tt, (tt, (tt, (tt, (tt, (tt, (tt, (tt, tt))))))))),),),),),),),),),),)) d38
-          d40 : Typed.Typed 𝓤 H A 𝓣 E G2 b26 Δ0 at40
-          d40 = Typed.s-seq 𝓤 H A W 𝓣 E G2 G3 b0 b25 Δ0 (Typed.both s1) at39 (Plain.t-call-plain 𝓤 H A W 𝓣 0 ps·0 r·0 (claims· .0) (claims· .1)
-              "hnsr_circuit::queue::asking" (known .0) E (λ pos β. β) G2 (record { pos = 4; st = List.[]; d = 0; at = λ x. x }, (record { pos = 5; st
-              = List.[]; d = 0; at = λ x. x }, tt),) 7 List.[] (Call.sub-id 𝓤 H A W (G2 .slots)) ((Yields.yields-copy 𝓤 H A W (λ ρ. Unit)
-              (Declared'.row OpaqueRelayRuntime.the-type) Path.refl (Copies.cStruct OpaqueRelayRuntime.the-type Laws'''''.the-laws Laws'''''.the-copy
-              .copy 𝓤 H A W) (Rows'.whole (Declared'.row OpaqueRelayRuntime.the-type)) (λ x. x) (λ x. x) (λ ρ told. Local.mem-whole 𝓤 H A W
-              (Declared'.row OpaqueRelayRuntime.the-type) ρ) λ ρ told. Local.whole-mem 𝓤 H A W (Declared'.row OpaqueRelayRuntime.the-type) ρ,
-              Path.refl,), ((Yields.yields-copy 𝓤 H A W (λ ρ. Unit) (Declared'.row Outgoing.the-type) Path.refl (Copies.cStruct Outgoing.the-type
-              Laws''''.the-laws Laws''''.the-copy .copy 𝓤 H A W) (Rows'.whole (Declared'.row Outgoing.the-type)) (λ x. x) (λ x. x) (λ ρ told.
-              Local.mem-whole 𝓤 H A W (Declared'.row Outgoing.the-type) ρ) λ ρ told. Local.whole-mem 𝓤 H A W (Declared'.row Outgoing.the-type) ρ,
-              Path.refl,), tt,),) (Reads.room-gone 𝓤 H A Laws''.mir) tt Path.refl) d39
-          d41 : Typed.Typed 𝓤 H A 𝓣 E G0 b26 Δ0 at41
-          d41 = Typed.g-pre 𝓤 H A W 𝓣 E G0 G2 b26 Δ0 (Typed.give s0) at40 (Know.g-sl-known 𝓤 H A W (Referent.fInt Syntax.w32) E G0 2 1 ref6 life1 0 (λ
-              x. x) record { fits = Dec.lit< tt } (Reads.as-is 𝓤 H A (Mut.mslice (Referent.rtF (Referent.fInt Syntax.w32)) ref6 1)) Path.refl tt) d40
+              Path.refl Path.refl λ b o. tt) d38
+          d40 : Typed.Typed 𝓤 H A 𝓣 E G3 b25 Δ0 at40
+          d40 = Typed.g-pre 𝓤 H A W 𝓣 E G3 G4 b25 Δ0 (λ Ψ. Ψ) at39 (Lifetime.g-begin 𝓤 H A W E G3 2 (tt, (tt, (tt, (tt, (tt, (tt, (tt, (tt, (tt, (tt,
+              (tt, (tt, (tt, (tt, (tt, (tt, (tt, (tt, (tt, (tt, tt)))))))),),),),),),),),),),),),)) d39
+          d41 : Typed.Typed 𝓤 H A 𝓣 E G2 b26 Δ0 at41
+          d41 = Typed.s-seq 𝓤 H A W 𝓣 E G2 G3 b0 b25 Δ0 (Typed.both s1) at40 (Plain.t-call-plain 𝓤 H A W 𝓣 0 ps·0 r·0 (claims· .0) (claims· .1)
+              "hnsr_circuit::queue::asking" (known .0) E (λ pos β. β) G2 (record { pos = 4; st = List.[]; d = 0; at = λ x. x }, (record { pos = 6; st
+              = List.[]; d = 0; at = λ x. x }, tt),) 8 List.[] (Call.sub-id 𝓤 H A W (G2 .slots)) ((Yields.yields-copy 𝓤 H A W (λ ρ. Unit)
+              (Declared'.row OpaqueRelayRuntime.the-type) Path.refl (Copies.cStruct OpaqueRelayRuntime.the-type Laws''''''.the-laws
+              Laws''''''.the-copy .copy 𝓤 H A W) (Rows'.whole (Declared'.row OpaqueRelayRuntime.the-type)) (λ x. x) (λ x. x) (λ ρ told.
+              Local.mem-whole 𝓤 H A W (Declared'.row OpaqueRelayRuntime.the-type) ρ) λ ρ told. Local.whole-mem 𝓤 H A W (Declared'.row
+              OpaqueRelayRuntime.the-type) ρ, Path.refl,), ((Yields.yields-copy 𝓤 H A W (λ ρ. Unit) (Declared'.row Outgoing.the-type) Path.refl
+              (Copies.cStruct Outgoing.the-type Laws'''''.the-laws Laws'''''.the-copy .copy 𝓤 H A W) (Rows'.whole (Declared'.row Outgoing.the-type))
+              (λ x. x) (λ x. x) (λ ρ told. Local.mem-whole 𝓤 H A W (Declared'.row Outgoing.the-type) ρ) λ ρ told. Local.whole-mem 𝓤 H A W
+              (Declared'.row Outgoing.the-type) ρ, Path.refl,), tt,),) (Reads.room-gone 𝓤 H A Laws'''.mir) tt Path.refl) d40
+          d42 : Typed.Typed 𝓤 H A 𝓣 E G0 b26 Δ0 at42
+          d42 = Typed.g-pre 𝓤 H A W 𝓣 E G0 G2 b26 Δ0 (Typed.give s0) at41 (Know.g-sl-known 𝓤 H A W (Referent.fInt Syntax.w32) E G0 2 1 ref6 life1 0 (λ
+              x. x) record { fits = Dec.lit< tt } (Reads.as-is 𝓤 H A (Mut.mslice (Referent.rtF (Referent.fInt Syntax.w32)) ref6 1)) Path.refl tt) d41
           pub typed : Typed.Typed 𝓤 H A 𝓣 E (Function.Γin 2 ps r xs m κs qs) b26 (Function.Δret 2 ps r xs m κs qs) Φ
-          typed = d41
+          typed = d42
       module _ (κs : Lifetimes.Lfts 2) where
         pub record Args : Type 0 where
           pub inflight : Kinds.Den { n = 2 } κs (MutSlice.pMutS InflightAction.row 0 tt)
           pub out : Kinds.Den { n = 2 } κs (MutSlice.pMutS (Referent.rtF (Referent.fInt Syntax.w32)) 1 tt)
-          pub before : Kinds.Den { n = 2 } κs (Value.pVal record { ty = Declared.row HnsrAnswer.the-type; one = Path.refl; val = Laws'''''''.val
-              HnsrAnswer.the-type Laws'.the-laws; tells = Laws'''''''.tells HnsrAnswer.the-type Laws'.the-laws; still = Laws'''''''.still
+          pub before : Kinds.Den { n = 2 } κs (Value.pVal record { ty = Declared.row HnsrAnswer.the-type; one = Path.refl; val = Laws''''''''.val
+              HnsrAnswer.the-type Laws'.the-laws; tells = Laws''''''''.tells HnsrAnswer.the-type Laws'.the-laws; still = Laws''''''''.still
               HnsrAnswer.the-type Laws'.the-copy Exit.yes; row = Rows'.whole (Declared.row HnsrAnswer.the-type); rd = λ x. x; mk = λ x. x; } λ M 𝓤 H A
-              W. record { copies = Laws'''''''.copy HnsrAnswer.the-type Laws'.the-copy 𝓤 H A W; lawful = Laws'''''''.lawful HnsrAnswer.the-type
-              Laws'.the-laws 𝓤 H A W tt; makes = Laws'''''''.makes HnsrAnswer.the-type Laws'.the-plain 𝓤 H A; in-mem = Local.mem-whole 𝓤 H A W
+              W. record { copies = Laws''''''''.copy HnsrAnswer.the-type Laws'.the-copy 𝓤 H A W; lawful = Laws''''''''.lawful HnsrAnswer.the-type
+              Laws'.the-laws 𝓤 H A W tt; makes = Laws''''''''.makes HnsrAnswer.the-type Laws'.the-plain 𝓤 H A; in-mem = Local.mem-whole 𝓤 H A W
               (Declared.row HnsrAnswer.the-type); of-mem = Local.whole-mem 𝓤 H A W (Declared.row HnsrAnswer.the-type); })
           pub runtime : Kinds.Den { n = 2 } κs (Value.pVal record { ty = Declared'.row OpaqueRelayRuntime.the-type; one = Path.refl; val =
-              Laws''''''''.val OpaqueRelayRuntime.the-type Laws'''''.the-laws; tells = Laws''''''''.tells OpaqueRelayRuntime.the-type
-              Laws'''''.the-laws; still = Laws''''''''.still OpaqueRelayRuntime.the-type Laws'''''.the-copy Exit.yes; row = Rows'.whole (Declared'.row
-              OpaqueRelayRuntime.the-type); rd = λ x. x; mk = λ x. x; } λ M 𝓤 H A W. record { copies = Laws''''''''.copy OpaqueRelayRuntime.the-type
-              Laws'''''.the-copy 𝓤 H A W; lawful = Laws''''''''.lawful OpaqueRelayRuntime.the-type Laws'''''.the-laws 𝓤 H A W; makes =
-              Laws''''''''.makes OpaqueRelayRuntime.the-type Laws'''''.the-plain 𝓤 H A; in-mem = Local.mem-whole 𝓤 H A W (Declared'.row
-              OpaqueRelayRuntime.the-type); of-mem = Local.whole-mem 𝓤 H A W (Declared'.row OpaqueRelayRuntime.the-type); })
-          pub message : Kinds.Den { n = 2 } κs (Value.pVal record { ty = Declared'.row Outgoing.the-type; one = Path.refl; val = Laws''''''''.val
-              Outgoing.the-type Laws''''.the-laws; tells = Laws''''''''.tells Outgoing.the-type Laws''''.the-laws; still = Laws''''''''.still
-              Outgoing.the-type Laws''''.the-copy Exit.yes; row = Rows'.whole (Declared'.row Outgoing.the-type); rd = λ x. x; mk = λ x. x; } λ M 𝓤 H A
-              W. record { copies = Laws''''''''.copy Outgoing.the-type Laws''''.the-copy 𝓤 H A W; lawful = Laws''''''''.lawful Outgoing.the-type
-              Laws''''.the-laws 𝓤 H A W; makes = Laws''''''''.makes Outgoing.the-type Laws''''.the-plain 𝓤 H A; in-mem = Local.mem-whole 𝓤 H A W
+              Laws'''''''''.val OpaqueRelayRuntime.the-type Laws''''''.the-laws; tells = Laws'''''''''.tells OpaqueRelayRuntime.the-type
+              Laws''''''.the-laws; still = Laws'''''''''.still OpaqueRelayRuntime.the-type Laws''''''.the-copy Exit.yes; row = Rows'.whole
+              (Declared'.row OpaqueRelayRuntime.the-type); rd = λ x. x; mk = λ x. x; } λ M 𝓤 H A W. record { copies = Laws'''''''''.copy
+              OpaqueRelayRuntime.the-type Laws''''''.the-copy 𝓤 H A W; lawful = Laws'''''''''.lawful OpaqueRelayRuntime.the-type Laws''''''.the-laws 𝓤
+              H A W; makes = Laws'''''''''.makes OpaqueRelayRuntime.the-type Laws''''''.the-plain 𝓤 H A; in-mem = Local.mem-whole 𝓤 H A W
+              (Declared'.row OpaqueRelayRuntime.the-type); of-mem = Local.whole-mem 𝓤 H A W (Declared'.row OpaqueRelayRuntime.the-type); })
+          pub places : Kinds.Den { n = 2 } κs (Value.pVal record { ty = Declared'.row Places.the-type; one = Path.refl; val = Laws'''''''''.val
+              Places.the-type Laws''.the-laws; tells = Laws'''''''''.tells Places.the-type Laws''.the-laws; still = Laws'''''''''.still
+              Places.the-type Laws''.the-copy Exit.yes; row = Rows'.whole (Declared'.row Places.the-type); rd = λ x. x; mk = λ x. x; } λ M 𝓤 H A W.
+              record { copies = Laws'''''''''.copy Places.the-type Laws''.the-copy 𝓤 H A W; lawful = Laws'''''''''.lawful Places.the-type
+              Laws''.the-laws 𝓤 H A W; makes = Laws'''''''''.makes Places.the-type Laws''.the-plain 𝓤 H A; in-mem = Local.mem-whole 𝓤 H A W
+              (Declared'.row Places.the-type); of-mem = Local.whole-mem 𝓤 H A W (Declared'.row Places.the-type); })
+          pub message : Kinds.Den { n = 2 } κs (Value.pVal record { ty = Declared'.row Outgoing.the-type; one = Path.refl; val = Laws'''''''''.val
+              Outgoing.the-type Laws'''''.the-laws; tells = Laws'''''''''.tells Outgoing.the-type Laws'''''.the-laws; still = Laws'''''''''.still
+              Outgoing.the-type Laws'''''.the-copy Exit.yes; row = Rows'.whole (Declared'.row Outgoing.the-type); rd = λ x. x; mk = λ x. x; } λ M 𝓤 H
+              A W. record { copies = Laws'''''''''.copy Outgoing.the-type Laws'''''.the-copy 𝓤 H A W; lawful = Laws'''''''''.lawful Outgoing.the-type
+              Laws'''''.the-laws 𝓤 H A W; makes = Laws'''''''''.makes Outgoing.the-type Laws'''''.the-plain 𝓤 H A; in-mem = Local.mem-whole 𝓤 H A W
               (Declared'.row Outgoing.the-type); of-mem = Local.whole-mem 𝓤 H A W (Declared'.row Outgoing.the-type); })
-          pub opened : Kinds.Den { n = 2 } κs (Value.pVal record { ty = Declared'.row OpenedBody.the-type; one = Path.refl; val = Laws''''''''.val
-              OpenedBody.the-type Laws.the-laws; tells = Laws''''''''.tells OpenedBody.the-type Laws.the-laws; still = Laws''''''''.still
+          pub opened : Kinds.Den { n = 2 } κs (Value.pVal record { ty = Declared'.row OpenedBody.the-type; one = Path.refl; val = Laws'''''''''.val
+              OpenedBody.the-type Laws.the-laws; tells = Laws'''''''''.tells OpenedBody.the-type Laws.the-laws; still = Laws'''''''''.still
               OpenedBody.the-type Laws.the-copy Exit.yes; row = Rows'.whole (Declared'.row OpenedBody.the-type); rd = λ x. x; mk = λ x. x; } λ M 𝓤 H A
-              W. record { copies = Laws''''''''.copy OpenedBody.the-type Laws.the-copy 𝓤 H A W; lawful = Laws''''''''.lawful OpenedBody.the-type
-              Laws.the-laws 𝓤 H A W; makes = Laws''''''''.makes OpenedBody.the-type Laws.the-plain 𝓤 H A; in-mem = Local.mem-whole 𝓤 H A W
+              W. record { copies = Laws'''''''''.copy OpenedBody.the-type Laws.the-copy 𝓤 H A W; lawful = Laws'''''''''.lawful OpenedBody.the-type
+              Laws.the-laws 𝓤 H A W; makes = Laws'''''''''.makes OpenedBody.the-type Laws.the-plain 𝓤 H A; in-mem = Local.mem-whole 𝓤 H A W
               (Declared'.row OpenedBody.the-type); of-mem = Local.whole-mem 𝓤 H A W (Declared'.row OpenedBody.the-type); })
         abbrev pub dens : (a : Args) → Kinds.Dens κs ps
-        dens = λ a. (a .inflight, (a .out, (a .before, (a .runtime, (a .message, (a .opened, tt))))),)
+        dens = λ a. (a .inflight, (a .out, (a .before, (a .runtime, (a .places, (a .message, (a .opened, tt)))))),)
       abbrev pub m0 : (κs : Lifetimes.Lfts 2) → (args : Args κs) → Typed.Mo T0
       m0 = λ κs args. (tt, Enter.partsP κs 1 ps xs (dens κs args))
       abbrev W0 : (κs : Lifetimes.Lfts 2) → (args : Args κs) → Typed.Want O0
@@ -1123,13 +1176,13 @@ module _ (claims· : Claims) where
       m2 = λ before given. s1 .next (m1 (before .before) (before .slice-known .given)) given
       module _ (before· : After-slice-known) where
         abbrev pub After-asking·own : Type 0
-        After-asking·own = Called.Called ps·0 r·0 (claims· .1) T2 (record { pos = 4; st = List.[]; d = 0; at = λ x. x }, (record { pos = 5; st =
+        After-asking·own = Called.Called ps·0 r·0 (claims· .1) T2 (record { pos = 4; st = List.[]; d = 0; at = λ x. x }, (record { pos = 6; st =
             List.[]; d = 0; at = λ x. x }, tt),) (m1 (before· .before) (before· .slice-known .given))
       pub record After-asking : Type 0 where
         pub before : After-slice-known
         pub asking : After-asking·own before
       abbrev pub After-asking·gave : (c : After-asking) → s1 .gives (m1 (c .before .before) (c .before .slice-known .given))
-      After-asking·gave = λ c. Called.given ps·0 r·0 (claims· .1) T2 (record { pos = 4; st = List.[]; d = 0; at = λ x. x }, (record { pos = 5; st =
+      After-asking·gave = λ c. Called.given ps·0 r·0 (claims· .1) T2 (record { pos = 4; st = List.[]; d = 0; at = λ x. x }, (record { pos = 6; st =
           List.[]; d = 0; at = λ x. x }, tt),) (m1 (c .before .before) (c .before .slice-known .given)) (c .asking)
       abbrev pub m3 : (before : After-asking) → (given : s3 .gives (m2 (before .before) (After-asking·gave before))) → Typed.Mo T5
       m3 = λ before given. s3 .next (m2 (before .before) (After-asking·gave before)) given
@@ -1147,16 +1200,16 @@ module _ (claims· : Claims) where
       m5 = λ before given. s5 .next (m4 (before .before) (before .scan-actions-arg .given)) given
       module _ (before· : After-scan-actions-arg) where
         abbrev pub After-scan-actions·own : Type 0
-        After-scan-actions·own = Called.Called ps·1 r·1 (claims· .3) T6 (record { pos = 11; ty = Syntax.tyRef Syntax.erased Syntax.imm
-            InflightAction.to; ref = λ x. x; }, (record { pos = 7; st = List.[]; d = 0; at = λ x. x }, tt),) (m4 (before· .before) (before·
-            .scan-actions-arg .given))
+        After-scan-actions·own = Called.Called ps·1 r·1 (claims· .3) T6 (record { pos = 12; ty = Syntax.tyRef Syntax.erased Syntax.imm
+            InflightAction.to; ref = λ x. x; }, (record { pos = 5; st = List.[]; d = 0; at = λ x. x }, (record { pos = 8; st = List.[]; d = 0; at = λ
+            x. x }, tt),),) (m4 (before· .before) (before· .scan-actions-arg .given))
       pub record After-scan-actions : Type 0 where
         pub before : After-scan-actions-arg
         pub scan-actions : After-scan-actions·own before
       abbrev pub After-scan-actions·gave : (c : After-scan-actions) → s5 .gives (m4 (c .before .before) (c .before .scan-actions-arg .given))
-      After-scan-actions·gave = λ c. Called.given ps·1 r·1 (claims· .3) T6 (record { pos = 11; ty = Syntax.tyRef Syntax.erased Syntax.imm
-          InflightAction.to; ref = λ x. x; }, (record { pos = 7; st = List.[]; d = 0; at = λ x. x }, tt),) (m4 (c .before .before) (c .before
-          .scan-actions-arg .given)) (c .scan-actions)
+      After-scan-actions·gave = λ c. Called.given ps·1 r·1 (claims· .3) T6 (record { pos = 12; ty = Syntax.tyRef Syntax.erased Syntax.imm
+          InflightAction.to; ref = λ x. x; }, (record { pos = 5; st = List.[]; d = 0; at = λ x. x }, (record { pos = 8; st = List.[]; d = 0; at = λ x.
+          x }, tt),),) (m4 (c .before .before) (c .before .scan-actions-arg .given)) (c .scan-actions)
       abbrev pub m6 : (before : After-scan-actions-arg) → (given : s5 .gives (m4 (before .before) (before .scan-actions-arg .given))) → Typed.Mo T8
       m6 = λ before given. s6 (m5 before given)
       abbrev pub m7 : (before : After-scan-actions-arg) → (given : s5 .gives (m4 (before .before) (before .scan-actions-arg .given))) → Typed.Mo T9
@@ -1169,13 +1222,13 @@ module _ (claims· : Claims) where
       m9 = λ before given. s11 .next (m8 (before .before) (After-scan-actions·gave before)) given
       module _ (before· : After-scan-actions) where
         abbrev pub After-to-bytes·own : Type 0
-        After-to-bytes·own = Called.Called ps·2 r·2 (claims· .5) T11 (record { pos = 6; st = List.[]; d = 0; at = λ x. x }, tt,) (m8 (before· .before)
+        After-to-bytes·own = Called.Called ps·2 r·2 (claims· .5) T11 (record { pos = 7; st = List.[]; d = 0; at = λ x. x }, tt,) (m8 (before· .before)
             (After-scan-actions·gave before·))
       pub record After-to-bytes : Type 0 where
         pub before : After-scan-actions
         pub to-bytes : After-to-bytes·own before
       abbrev pub After-to-bytes·gave : (c : After-to-bytes) → s11 .gives (m8 (c .before .before) (After-scan-actions·gave (c .before)))
-      After-to-bytes·gave = λ c. Called.given ps·2 r·2 (claims· .5) T11 (record { pos = 6; st = List.[]; d = 0; at = λ x. x }, tt,) (m8 (c .before
+      After-to-bytes·gave = λ c. Called.given ps·2 r·2 (claims· .5) T11 (record { pos = 7; st = List.[]; d = 0; at = λ x. x }, tt,) (m8 (c .before
           .before) (After-scan-actions·gave (c .before))) (c .to-bytes)
       abbrev pub m10 : (before : After-scan-actions) → (given : s11 .gives (m8 (before .before) (After-scan-actions·gave before))) → Typed.Mo T14
       m10 = λ before given. s12 (m9 before given)
@@ -1212,7 +1265,7 @@ module _ (claims· : Claims) where
         pub before : After-send-arg2
         pub bytes : After-bytes·own before
       abbrev pub Need-slice-aggregate-send : Type 0
-      Need-slice-aggregate-send = (c : After-bytes) → Relend.CountIs T24 17 18 (λ x. x) (λ u. 28) (m17 (c .before) (c .bytes .given))
+      Need-slice-aggregate-send = (c : After-bytes) → Relend.CountIs T24 18 19 (λ x. x) (λ u. 28) (m17 (c .before) (c .bytes .given))
       abbrev pub m18 : (before : After-send-arg2) → (given : s22 .gives (m16 (before .before) (before .send-arg2 .given))) → Typed.Mo T25
       m18 = λ before given. s23 .next (m17 before given)
       abbrev pub Need-send-requires : Type 0
@@ -1221,20 +1274,22 @@ module _ (claims· : Claims) where
       m19 = λ before given. s24 .next (m18 (before .before) (before .bytes .given)) given
       module _ (before· : After-bytes) where
         abbrev pub After-send·own : Type 0
-        After-send·own = Called.Called ps·3 r·3 (claims· .7) T25 (record { pos = 14; ty = Syntax.tyRef Syntax.erased Syntax.mut InflightAction.to; ref
-            = λ x. x; }, (record { pos = 16; ty = Syntax.tyRef Syntax.erased Syntax.mut (Syntax.tyInt Syntax.w32); ref = λ x. x; }, (record { pos = 3;
+        After-send·own = Called.Called ps·3 r·3 (claims· .7) T25 (record { pos = 15; ty = Syntax.tyRef Syntax.erased Syntax.mut InflightAction.to; ref
+            = λ x. x; }, (record { pos = 17; ty = Syntax.tyRef Syntax.erased Syntax.mut (Syntax.tyInt Syntax.w32); ref = λ x. x; }, (record { pos = 3;
             st = List.[]; d = 0; at = λ x. x }, (record { pos = 4; st = List.[]; d = 0; at = λ x. x }, (record { pos = 5; st = List.[]; d = 0; at = λ
-            x. x }, (record { pos = 8; st = List.[]; d = 0; at = λ x. x }, (record { pos = 18; ty = Syntax.tyRef Syntax.erased Syntax.imm
-            (Syntax.tyInt Syntax.w8); ref = λ x. x; }, tt,),),),),),),) (m18 (before· .before) (before· .bytes .given))
+            x. x }, (record { pos = 6; st = List.[]; d = 0; at = λ x. x }, (record { pos = 9; st = List.[]; d = 0; at = λ x. x }, (record { pos = 19;
+            ty = Syntax.tyRef Syntax.erased Syntax.imm (Syntax.tyInt Syntax.w8); ref = λ x. x; }, tt,),),),),),),),) (m18 (before· .before) (before·
+            .bytes .given))
       pub record After-send : Type 0 where
         pub before : After-bytes
         pub send : After-send·own before
       abbrev pub After-send·gave : (c : After-send) → s24 .gives (m18 (c .before .before) (c .before .bytes .given))
-      After-send·gave = λ c. Called.given ps·3 r·3 (claims· .7) T25 (record { pos = 14; ty = Syntax.tyRef Syntax.erased Syntax.mut InflightAction.to;
-          ref = λ x. x; }, (record { pos = 16; ty = Syntax.tyRef Syntax.erased Syntax.mut (Syntax.tyInt Syntax.w32); ref = λ x. x; }, (record { pos =
+      After-send·gave = λ c. Called.given ps·3 r·3 (claims· .7) T25 (record { pos = 15; ty = Syntax.tyRef Syntax.erased Syntax.mut InflightAction.to;
+          ref = λ x. x; }, (record { pos = 17; ty = Syntax.tyRef Syntax.erased Syntax.mut (Syntax.tyInt Syntax.w32); ref = λ x. x; }, (record { pos =
           3; st = List.[]; d = 0; at = λ x. x }, (record { pos = 4; st = List.[]; d = 0; at = λ x. x }, (record { pos = 5; st = List.[]; d = 0; at = λ
-          x. x }, (record { pos = 8; st = List.[]; d = 0; at = λ x. x }, (record { pos = 18; ty = Syntax.tyRef Syntax.erased Syntax.imm (Syntax.tyInt
-          Syntax.w8); ref = λ x. x; }, tt,),),),),),),) (m18 (c .before .before) (c .before .bytes .given)) (c .send)
+          x. x }, (record { pos = 6; st = List.[]; d = 0; at = λ x. x }, (record { pos = 9; st = List.[]; d = 0; at = λ x. x }, (record { pos = 19; ty
+          = Syntax.tyRef Syntax.erased Syntax.imm (Syntax.tyInt Syntax.w8); ref = λ x. x; }, tt,),),),),),),),) (m18 (c .before .before) (c .before
+          .bytes .given)) (c .send)
       abbrev pub m20 : (before : After-bytes) → (given : s24 .gives (m18 (before .before) (before .bytes .given))) → Typed.Mo T27
       m20 = λ before given. s25 (m19 before given)
       abbrev pub m21 : (before : After-bytes) → (given : s24 .gives (m18 (before .before) (before .bytes .given))) → Typed.Mo T28
@@ -1245,111 +1300,113 @@ module _ (claims· : Claims) where
       m23 = λ before given. s28 (m22 before given)
       abbrev pub m24 : (before : After-bytes) → (given : s24 .gives (m18 (before .before) (before .bytes .given))) → Typed.Mo T31
       m24 = λ before given. s29 (m23 before given)
-      abbrev pub m25 : (before : After-send) → (given : s31 .gives (m24 (before .before) (After-send·gave before))) → Typed.Mo T33
-      m25 = λ before given. s31 .next (m24 (before .before) (After-send·gave before)) given
+      abbrev pub m25 : (before : After-bytes) → (given : s24 .gives (m18 (before .before) (before .bytes .given))) → Typed.Mo T32
+      m25 = λ before given. s30 (m24 before given)
+      abbrev pub m26 : (before : After-send) → (given : s32 .gives (m25 (before .before) (After-send·gave before))) → Typed.Mo T34
+      m26 = λ before given. s32 .next (m25 (before .before) (After-send·gave before)) given
       module _ (before· : After-send) where
         pub record After-inflight·own : Type 0 where
-          pub given : s31 .gives (m24 (before· .before) (After-send·gave before·))
+          pub given : s32 .gives (m25 (before· .before) (After-send·gave before·))
       pub record After-inflight : Type 0 where
         pub before : After-send
         pub inflight : After-inflight·own before
-      abbrev pub m26 : (before : After-inflight) → (given : s34 .gives (m25 (before .before) (before .inflight .given))) → Typed.Mo T36
-      m26 = λ before given. s34 .next (m25 (before .before) (before .inflight .given)) given
+      abbrev pub m27 : (before : After-inflight) → (given : s35 .gives (m26 (before .before) (before .inflight .given))) → Typed.Mo T37
+      m27 = λ before given. s35 .next (m26 (before .before) (before .inflight .given)) given
       module _ (before· : After-inflight) where
         pub record After-out·own : Type 0 where
-          pub given : s34 .gives (m25 (before· .before) (before· .inflight .given))
+          pub given : s35 .gives (m26 (before· .before) (before· .inflight .given))
       pub record After-out : Type 0 where
         pub before : After-inflight
         pub out : After-out·own before
-      abbrev pub m27 : (before : After-out) → (given : s35 .gives (m26 (before .before) (before .out .given))) → Typed.Mo T37
-      m27 = λ before given. s35 .next (m26 (before .before) (before .out .given)) given
-      abbrev pub m28 : (before : After-out) → (given : s35 .gives (m26 (before .before) (before .out .given))) → Typed.Mo T40
-      m28 = λ before given. s38 (m27 before given)
-      abbrev pub m29 : (before : After-out) → (given : s35 .gives (m26 (before .before) (before .out .given))) → Typed.Mo T42
-      m29 = λ before given. s40 (m28 before given)
+      abbrev pub m28 : (before : After-out) → (given : s36 .gives (m27 (before .before) (before .out .given))) → Typed.Mo T38
+      m28 = λ before given. s36 .next (m27 (before .before) (before .out .given)) given
+      abbrev pub m29 : (before : After-out) → (given : s36 .gives (m27 (before .before) (before .out .given))) → Typed.Mo T41
+      m29 = λ before given. s39 (m28 before given)
+      abbrev pub m30 : (before : After-out) → (given : s36 .gives (m27 (before .before) (before .out .given))) → Typed.Mo T43
+      m30 = λ before given. s41 (m29 before given)
       module _ (before· : After-out) where
         pub record After-slice-known2·own : Type 0 where
-          pub given : s35 .gives (m26 (before· .before) (before· .out .given))
+          pub given : s36 .gives (m27 (before· .before) (before· .out .given))
       pub record After-slice-known2 : Type 0 where
         pub before : After-out
         pub slice-known2 : After-slice-known2·own before
       abbrev pub Need-same-length : Type 0
-      Need-same-length = (c : After-slice-known2) → MutSlice.SameLen (Row.get 1 (T42 .locals) (m29 (c .before) (c .slice-known2 .given))) (dens (c
+      Need-same-length = (c : After-slice-known2) → MutSlice.SameLen (Row.get 1 (T43 .locals) (m30 (c .before) (c .slice-known2 .given))) (dens (c
           .before .before .before .before .before .before .before .before .before .before .before .before .κs) (c .before .before .before .before
           .before .before .before .before .before .before .before .before .args) .0)
       abbrev pub Need-same-length-2 : Type 0
-      Need-same-length-2 = (c : After-slice-known2) → MutSlice.SameLen (Row.get 2 (T42 .locals) (m29 (c .before) (c .slice-known2 .given))) (dens (c
+      Need-same-length-2 = (c : After-slice-known2) → MutSlice.SameLen (Row.get 2 (T43 .locals) (m30 (c .before) (c .slice-known2 .given))) (dens (c
           .before .before .before .before .before .before .before .before .before .before .before .before .κs) (c .before .before .before .before
           .before .before .before .before .before .before .before .before .args) .1 .0)
       abbrev pub Need-returns : Type 0
       Need-returns = (c : After-slice-known2) → Post· (c .before .before .before .before .before .before .before .before .before .before .before
           .before .κs) (dens (c .before .before .before .before .before .before .before .before .before .before .before .before .κs) (c .before
           .before .before .before .before .before .before .before .before .before .before .before .args)) (Function.resV r (c .before .before .before
-          .before .before .before .before .before .before .before .before .before .κs) (m29 (c .before) (c .slice-known2 .given) .0)) (Clauses.atExit
+          .before .before .before .before .before .before .before .before .before .κs) (m30 (c .before) (c .slice-known2 .given) .0)) (Clauses.atExit
           (Kinds.endedOf 2 ps r) (c .before .before .before .before .before .before .before .before .before .before .before .before .κs) (dens (c
           .before .before .before .before .before .before .before .before .before .before .before .before .κs) (c .before .before .before .before
           .before .before .before .before .before .before .before .before .args)) (Enter.lastsP (c .before .before .before .before .before .before
           .before .before .before .before .before .before .κs) 1 ps xs (dens (c .before .before .before .before .before .before .before .before
           .before .before .before .before .κs) (c .before .before .before .before .before .before .before .before .before .before .before .before
-          .args)) (m29 (c .before) (c .slice-known2 .given) .1)))
+          .args)) (m30 (c .before) (c .slice-known2 .given) .1)))
       module _ (asking-requires : Need-asking-requires) (scan-actions-requires : Need-scan-actions-requires) (to-bytes-requires :
           Need-to-bytes-requires) (slice-aggregate-send : Need-slice-aggregate-send) (send-requires : Need-send-requires) (same-length :
           Need-same-length) (same-length-2 : Need-same-length-2) (returns : Need-returns) where
-        lay4 : (c : After-send) → at16 (W0 (c .before .before .before .before .before .before .before .before .before .κs) (c .before .before .before
+        lay4 : (c : After-send) → at17 (W0 (c .before .before .before .before .before .before .before .before .before .κs) (c .before .before .before
             .before .before .before .before .before .before .args)) (m19 (c .before) (After-send·gave c))
-        lay4 = λ c. (Path.refl, λ g. (Path.refl, λ g'. λ g''. ((MutSlice.fix-len (Row.get 1 (T42 .locals) (m29 record { before = record { before =
+        lay4 = λ c. (Path.refl, λ g. (Path.refl, λ g'. λ g''. ((MutSlice.fix-len (Row.get 1 (T43 .locals) (m30 record { before = record { before =
             record { before = c .before; send = c .send }; inflight = record { given = g }; }; out = record { given = g' }; } g'') .ptr) (Row.get 1
-            (T42 .locals) (m29 record { before = record { before = record { before = c .before; send = c .send }; inflight = record { given = g }; };
-            out = record { given = g' }; } g'') .name) (Row.get 1 (T42 .locals) (m29 record { before = record { before = record { before = c .before;
+            (T43 .locals) (m30 record { before = record { before = record { before = c .before; send = c .send }; inflight = record { given = g }; };
+            out = record { given = g' }; } g'') .name) (Row.get 1 (T43 .locals) (m30 record { before = record { before = record { before = c .before;
             send = c .send }; inflight = record { given = g }; }; out = record { given = g' }; } g'') .now) (dens (c .before .before .before .before
             .before .before .before .before .before .κs) (c .before .before .before .before .before .before .before .before .before .args) .0 .now)
             (same-length record { before = record { before = record { before = record { before = c .before; send = c .send }; inflight = record {
-            given = g }; }; out = record { given = g' }; }; slice-known2 = record { given = g'' }; }), (MutSlice.fix-len (Row.get 2 (T42 .locals) (m29
+            given = g }; }; out = record { given = g' }; }; slice-known2 = record { given = g'' }; }), (MutSlice.fix-len (Row.get 2 (T43 .locals) (m30
             record { before = record { before = record { before = c .before; send = c .send }; inflight = record { given = g }; }; out = record {
-            given = g' }; } g'') .ptr) (Row.get 2 (T42 .locals) (m29 record { before = record { before = record { before = c .before; send = c .send
-            }; inflight = record { given = g }; }; out = record { given = g' }; } g'') .name) (Row.get 2 (T42 .locals) (m29 record { before = record {
+            given = g' }; } g'') .ptr) (Row.get 2 (T43 .locals) (m30 record { before = record { before = record { before = c .before; send = c .send
+            }; inflight = record { given = g }; }; out = record { given = g' }; } g'') .name) (Row.get 2 (T43 .locals) (m30 record { before = record {
             before = record { before = c .before; send = c .send }; inflight = record { given = g }; }; out = record { given = g' }; } g'') .now)
             (dens (c .before .before .before .before .before .before .before .before .before .κs) (c .before .before .before .before .before .before
             .before .before .before .args) .1 .0 .now) (same-length-2 record { before = record { before = record { before = record { before = c
             .before; send = c .send }; inflight = record { given = g }; }; out = record { given = g' }; }; slice-known2 = record { given = g'' }; }),
-            (tt, (tt, (tt, (tt, tt)))),),), returns record { before = record { before = record { before = record { before = c .before; send = c .send
-            }; inflight = record { given = g }; }; out = record { given = g' }; }; slice-known2 = record { given = g'' }; },),),)
-        lay3 : (c : After-to-bytes) → at29 (W0 (c .before .before .before .before .before .κs) (c .before .before .before .before .before .args)) (m9
+            (tt, (tt, (tt, (tt, (tt, tt))))),),), returns record { before = record { before = record { before = record { before = c .before; send = c
+            .send }; inflight = record { given = g }; }; out = record { given = g' }; }; slice-known2 = record { given = g'' }; },),),)
+        lay3 : (c : After-to-bytes) → at30 (W0 (c .before .before .before .before .before .κs) (c .before .before .before .before .before .args)) (m9
             (c .before) (After-to-bytes·gave c))
-        lay3 = λ c. λ g. (Path.refl, λ g'. (Path.refl, λ g''. (Relend.count-is T24 17 18 (λ x. x) (λ u. 28) (m17 record { before = record { before =
+        lay3 = λ c. λ g. (Path.refl, λ g'. (Path.refl, λ g''. (Relend.count-is T24 18 19 (λ x. x) (λ u. 28) (m17 record { before = record { before =
             record { before = c .before; to-bytes = c .to-bytes }; send-arg = record { given = g }; }; send-arg2 = record { given = g' }; } g'')
             (slice-aggregate-send record { before = record { before = record { before = record { before = c .before; to-bytes = c .to-bytes };
             send-arg = record { given = g }; }; send-arg2 = record { given = g' }; }; bytes = record { given = g'' }; }), (send-requires record {
             before = record { before = record { before = record { before = c .before; to-bytes = c .to-bytes }; send-arg = record { given = g }; };
             send-arg2 = record { given = g' }; }; bytes = record { given = g'' }; }, λ g'3. lay4 record { before = record { before = record { before =
             record { before = record { before = c .before; to-bytes = c .to-bytes }; send-arg = record { given = g }; }; send-arg2 = record { given =
-            g' }; }; bytes = record { given = g'' }; }; send = Called.called ps·3 r·3 (claims· .7) T25 (record { pos = 14; ty = Syntax.tyRef
-            Syntax.erased Syntax.mut InflightAction.to; ref = λ x. x; }, (record { pos = 16; ty = Syntax.tyRef Syntax.erased Syntax.mut (Syntax.tyInt
+            g' }; }; bytes = record { given = g'' }; }; send = Called.called ps·3 r·3 (claims· .7) T25 (record { pos = 15; ty = Syntax.tyRef
+            Syntax.erased Syntax.mut InflightAction.to; ref = λ x. x; }, (record { pos = 17; ty = Syntax.tyRef Syntax.erased Syntax.mut (Syntax.tyInt
             Syntax.w32); ref = λ x. x; }, (record { pos = 3; st = List.[]; d = 0; at = λ x. x }, (record { pos = 4; st = List.[]; d = 0; at = λ x. x
-            }, (record { pos = 5; st = List.[]; d = 0; at = λ x. x }, (record { pos = 8; st = List.[]; d = 0; at = λ x. x }, (record { pos = 18; ty =
-            Syntax.tyRef Syntax.erased Syntax.imm (Syntax.tyInt Syntax.w8); ref = λ x. x; }, tt,),),),),),),) (m18 record { before = record { before =
-            record { before = c .before; to-bytes = c .to-bytes }; send-arg = record { given = g }; }; send-arg2 = record { given = g' }; } g'') g'3;
-            },),),),)
-        lay2 : (c : After-scan-actions) → at35 (W0 (c .before .before .before .before .κs) (c .before .before .before .before .args)) (m5 (c .before)
+            }, (record { pos = 5; st = List.[]; d = 0; at = λ x. x }, (record { pos = 6; st = List.[]; d = 0; at = λ x. x }, (record { pos = 9; st =
+            List.[]; d = 0; at = λ x. x }, (record { pos = 19; ty = Syntax.tyRef Syntax.erased Syntax.imm (Syntax.tyInt Syntax.w8); ref = λ x. x; },
+            tt,),),),),),),),) (m18 record { before = record { before = record { before = c .before; to-bytes = c .to-bytes }; send-arg = record {
+            given = g }; }; send-arg2 = record { given = g' }; } g'') g'3; },),),),)
+        lay2 : (c : After-scan-actions) → at36 (W0 (c .before .before .before .before .κs) (c .before .before .before .before .args)) (m5 (c .before)
             (After-scan-actions·gave c))
         lay2 = λ c. (to-bytes-requires record { before = c .before; scan-actions = c .scan-actions }, λ g. lay3 record { before = record { before = c
-            .before; scan-actions = c .scan-actions }; to-bytes = Called.called ps·2 r·2 (claims· .5) T11 (record { pos = 6; st = List.[]; d = 0; at =
+            .before; scan-actions = c .scan-actions }; to-bytes = Called.called ps·2 r·2 (claims· .5) T11 (record { pos = 7; st = List.[]; d = 0; at =
             λ x. x }, tt,) (m8 (c .before) (After-scan-actions·gave c)) g; },)
-        lay1 : (c : After-asking) → at39 (W0 (c .before .before .κs) (c .before .before .args)) (m2 (c .before) (After-asking·gave c))
+        lay1 : (c : After-asking) → at40 (W0 (c .before .before .κs) (c .before .before .args)) (m2 (c .before) (After-asking·gave c))
         lay1 = λ c. λ g. (Path.refl, (scan-actions-requires record { before = record { before = c .before; asking = c .asking }; scan-actions-arg =
             record { given = g }; }, λ g'. lay2 record { before = record { before = record { before = c .before; asking = c .asking };
-            scan-actions-arg = record { given = g }; }; scan-actions = Called.called ps·1 r·1 (claims· .3) T6 (record { pos = 11; ty = Syntax.tyRef
-            Syntax.erased Syntax.imm InflightAction.to; ref = λ x. x; }, (record { pos = 7; st = List.[]; d = 0; at = λ x. x }, tt),) (m4 record {
-            before = c .before; asking = c .asking } g) g'; },),)
-        pub laid : (c : Start) → at41 (W0 (c .κs) (c .args)) (m0 (c .κs) (c .args))
+            scan-actions-arg = record { given = g }; }; scan-actions = Called.called ps·1 r·1 (claims· .3) T6 (record { pos = 12; ty = Syntax.tyRef
+            Syntax.erased Syntax.imm InflightAction.to; ref = λ x. x; }, (record { pos = 5; st = List.[]; d = 0; at = λ x. x }, (record { pos = 8; st
+            = List.[]; d = 0; at = λ x. x }, tt),),) (m4 record { before = c .before; asking = c .asking } g) g'; },),)
+        pub laid : (c : Start) → at42 (W0 (c .κs) (c .args)) (m0 (c .κs) (c .args))
         laid = λ c. λ g. (asking-requires record { before = c; slice-known = record { given = g } }, λ g'. lay1 record { before = record { before = c;
             slice-known = record { given = g } }; asking = Called.called ps·0 r·0 (claims· .1) T2 (record { pos = 4; st = List.[]; d = 0; at = λ x. x
-            }, (record { pos = 5; st = List.[]; d = 0; at = λ x. x }, tt),) (m1 c g) g'; },)
+            }, (record { pos = 6; st = List.[]; d = 0; at = λ x. x }, tt),) (m1 c g) g'; },)
         module _ (κs : Lifetimes.Lfts 2) (qs : Lifetimes.Shares 2) where
           pub asked : (a : Kinds.Dens κs ps) → (good : Kinds.GoodsP κs ps a) → (pre : Pre· κs a) → (bs : List.List Nat.ℕ) → Φ (Any.wantQ 2 ps r xs m
               κs qs a (Post· κs a)) (Function.init 2 ps r xs m κs qs a)
           asked = λ a good pre bs. laid record { κs = κs; args = record { inflight = a .0; out = a .1 .0; before = a .1 .1 .0; runtime = a .1 .1 .1
-              .0; message = a .1 .1 .1 .1 .0; opened = a .1 .1 .1 .1 .1 .0; }; good = good; pre = pre; }
+              .0; places = a .1 .1 .1 .1 .0; message = a .1 .1 .1 .1 .1 .0; opened = a .1 .1 .1 .1 .1 .1 .0; }; good = good; pre = pre; }
         module _ { M : Type 1 } (𝓤 : URA.URA M) (H : Wp.Heap 𝓤) (A : Atoms.Atoms 𝓤) (W : Kit.Given 𝓤 H A) (𝓣 : Wp.Tables 𝓤 H) (known0 : Plain.Known 𝓤
             H A W 𝓣 0 ps·0 r·0 (claims· .0) (claims· .1) "hnsr_circuit::queue::asking") (known1 : Plain.Known 𝓤 H A W 𝓣 1 ps·1 r·1 (claims· .2)
             (claims· .3) "hnsr_circuit::tables::inflight::scan_actions") (known2 : Plain.Known 𝓤 H A W 𝓣 0 ps·2 r·2 (claims· .4) (claims· .5)

@@ -7,18 +7,20 @@ use Rattle.hnsr_circuit.proofs.answer.HnsrAnswer
 use Rattle.hnsr_circuit.proofs.answer.HnsrAnswer.Laws
 use Rattle.hnsr_circuit.proofs.close.ClosePlan
 use Rattle.hnsr_circuit.proofs.close.ClosePlan.Laws as Laws'
+use Rattle.hnsr_circuit.proofs.places.Places
+use Rattle.hnsr_circuit.proofs.places.Places.Laws as Laws''
 use Rattle.hnsr_circuit.proofs.records.ActionQuestion
-use Rattle.hnsr_circuit.proofs.records.ActionQuestion.Laws as Laws''
+use Rattle.hnsr_circuit.proofs.records.ActionQuestion.Laws as Laws'''
 use Rattle.hnsr_circuit.proofs.records.ActionScan
-use Rattle.hnsr_circuit.proofs.records.ActionScan.Laws as Laws'''
+use Rattle.hnsr_circuit.proofs.records.ActionScan.Laws as Laws''''
 use Rattle.hnsr_circuit.proofs.records.Outgoing
-use Rattle.hnsr_circuit.proofs.records.Outgoing.Laws as Laws''''
+use Rattle.hnsr_circuit.proofs.records.Outgoing.Laws as Laws'''''
 use Rattle.hnsr_circuit.proofs.records.RelayPacket
-use Rattle.hnsr_circuit.proofs.records.RelayPacket.Laws as Laws'''''
+use Rattle.hnsr_circuit.proofs.records.RelayPacket.Laws as Laws''''''
 use Rattle.hnsr_circuit.proofs.runtime.OpaqueRelayRuntime
-use Rattle.hnsr_circuit.proofs.runtime.OpaqueRelayRuntime.Laws as Laws''''''
+use Rattle.hnsr_circuit.proofs.runtime.OpaqueRelayRuntime.Laws as Laws'''''''
 use Rattle.hnsr_circuit.proofs.runtime.Relayed
-use Rattle.hnsr_circuit.proofs.runtime.Relayed.Laws as Laws'''''''
+use Rattle.hnsr_circuit.proofs.runtime.Relayed.Laws as Laws''''''''
 use borrow.Author.Called
 use borrow.Fn.Any
 use borrow.Fn.Call
@@ -60,12 +62,12 @@ use borrow.Table.Rows
 use borrow.Table.Typed
 use contract.Lifetimes
 use denote.Enum.Declared
-use denote.Enum.Laws as Laws''''''''
+use denote.Enum.Laws as Laws'''''''''
 use denote.Exit
-use denote.Laws as Laws'''''''''
+use denote.Laws as Laws''''''''''
 use denote.Struct.At
 use denote.Struct.Declared as Declared'
-use denote.Struct.Laws as Laws''''''''''
+use denote.Struct.Laws as Laws'''''''''''
 use denote.Triple.Clauses
 use denote.Triple.Statement
 use ghost.Atoms
@@ -108,212 +110,251 @@ ref12 = Syntax.tyRef (Syntax.named 5) Syntax.imm (Syntax.tyInt Syntax.w8)
 abbrev pub ps : List.List (Kinds.PK 6)
 ps = (MutSlice.pMutS RelayPending.row 0 tt) ∷ (MutSlice.pMutS RelayCircuit.row 1 tt) ∷ (MutSlice.pMutS InflightAction.row 2 tt) ∷ (MutSlice.pMutS
     (Referent.rtF (Referent.fInt Syntax.w32)) 3 tt) ∷ (Value.pVal record { ty = Declared'.row OpaqueRelayRuntime.the-type; one = Path.refl; val =
-    Laws''''''''''.val OpaqueRelayRuntime.the-type Laws''''''.the-laws; tells = Laws''''''''''.tells OpaqueRelayRuntime.the-type Laws''''''.the-laws;
-    still = Laws''''''''''.still OpaqueRelayRuntime.the-type Laws''''''.the-copy Exit.yes; row = Rows.whole (Declared'.row
-    OpaqueRelayRuntime.the-type); rd = λ x. x; mk = λ x. x; } λ M 𝓤 H A W. record { copies = Laws''''''''''.copy OpaqueRelayRuntime.the-type
-    Laws''''''.the-copy 𝓤 H A W; lawful = Laws''''''''''.lawful OpaqueRelayRuntime.the-type Laws''''''.the-laws 𝓤 H A W; makes = Laws''''''''''.makes
-    OpaqueRelayRuntime.the-type Laws''''''.the-plain 𝓤 H A; in-mem = Local.mem-whole 𝓤 H A W (Declared'.row OpaqueRelayRuntime.the-type); of-mem =
-    Local.whole-mem 𝓤 H A W (Declared'.row OpaqueRelayRuntime.the-type); }) ∷ (Value.pVal record { ty = Declared'.row RelayPacket.the-type; one =
-    Path.refl; val = Laws''''''''''.val RelayPacket.the-type Laws'''''.the-laws; tells = Laws''''''''''.tells RelayPacket.the-type Laws'''''.the-laws;
-    still = Laws''''''''''.still RelayPacket.the-type Laws'''''.the-copy Exit.yes; row = Rows.whole (Declared'.row RelayPacket.the-type); rd = λ x. x;
-    mk = λ x. x; } λ M 𝓤 H A W. record { copies = Laws''''''''''.copy RelayPacket.the-type Laws'''''.the-copy 𝓤 H A W; lawful = Laws''''''''''.lawful
-    RelayPacket.the-type Laws'''''.the-laws 𝓤 H A W; makes = Laws''''''''''.makes RelayPacket.the-type Laws'''''.the-plain 𝓤 H A; in-mem =
-    Local.mem-whole 𝓤 H A W (Declared'.row RelayPacket.the-type); of-mem = Local.whole-mem 𝓤 H A W (Declared'.row RelayPacket.the-type); }) ∷
-    (ShrSlice.pShrS (Referent.rtF (Referent.fInt Syntax.w8)) 4 tt) ∷ (ShrSlice.pShrS (Referent.rtF (Referent.fInt Syntax.w8)) 5 tt) ∷ List.[]
+    Laws'''''''''''.val OpaqueRelayRuntime.the-type Laws'''''''.the-laws; tells = Laws'''''''''''.tells OpaqueRelayRuntime.the-type
+    Laws'''''''.the-laws; still = Laws'''''''''''.still OpaqueRelayRuntime.the-type Laws'''''''.the-copy Exit.yes; row = Rows.whole (Declared'.row
+    OpaqueRelayRuntime.the-type); rd = λ x. x; mk = λ x. x; } λ M 𝓤 H A W. record { copies = Laws'''''''''''.copy OpaqueRelayRuntime.the-type
+    Laws'''''''.the-copy 𝓤 H A W; lawful = Laws'''''''''''.lawful OpaqueRelayRuntime.the-type Laws'''''''.the-laws 𝓤 H A W; makes =
+    Laws'''''''''''.makes OpaqueRelayRuntime.the-type Laws'''''''.the-plain 𝓤 H A; in-mem = Local.mem-whole 𝓤 H A W (Declared'.row
+    OpaqueRelayRuntime.the-type); of-mem = Local.whole-mem 𝓤 H A W (Declared'.row OpaqueRelayRuntime.the-type); }) ∷ (Value.pVal record { ty =
+    Declared'.row Places.the-type; one = Path.refl; val = Laws'''''''''''.val Places.the-type Laws''.the-laws; tells = Laws'''''''''''.tells
+    Places.the-type Laws''.the-laws; still = Laws'''''''''''.still Places.the-type Laws''.the-copy Exit.yes; row = Rows.whole (Declared'.row
+    Places.the-type); rd = λ x. x; mk = λ x. x; } λ M 𝓤 H A W. record { copies = Laws'''''''''''.copy Places.the-type Laws''.the-copy 𝓤 H A W; lawful
+    = Laws'''''''''''.lawful Places.the-type Laws''.the-laws 𝓤 H A W; makes = Laws'''''''''''.makes Places.the-type Laws''.the-plain 𝓤 H A; in-mem =
+    Local.mem-whole 𝓤 H A W (Declared'.row Places.the-type); of-mem = Local.whole-mem 𝓤 H A W (Declared'.row Places.the-type); }) ∷ (Value.pVal record
+    { ty = Declared'.row RelayPacket.the-type; one = Path.refl; val = Laws'''''''''''.val RelayPacket.the-type Laws''''''.the-laws; tells =
+    Laws'''''''''''.tells RelayPacket.the-type Laws''''''.the-laws; still = Laws'''''''''''.still RelayPacket.the-type Laws''''''.the-copy Exit.yes;
+    row = Rows.whole (Declared'.row RelayPacket.the-type); rd = λ x. x; mk = λ x. x; } λ M 𝓤 H A W. record { copies = Laws'''''''''''.copy
+    RelayPacket.the-type Laws''''''.the-copy 𝓤 H A W; lawful = Laws'''''''''''.lawful RelayPacket.the-type Laws''''''.the-laws 𝓤 H A W; makes =
+    Laws'''''''''''.makes RelayPacket.the-type Laws''''''.the-plain 𝓤 H A; in-mem = Local.mem-whole 𝓤 H A W (Declared'.row RelayPacket.the-type);
+    of-mem = Local.whole-mem 𝓤 H A W (Declared'.row RelayPacket.the-type); }) ∷ (ShrSlice.pShrS (Referent.rtF (Referent.fInt Syntax.w8)) 4 tt) ∷
+    (ShrSlice.pShrS (Referent.rtF (Referent.fInt Syntax.w8)) 5 tt) ∷ List.[]
 abbrev pub r : Kinds.RK 6
-r = Value.rVal record { ty = Declared'.row Relayed.the-type; one = Path.refl; val = Laws''''''''''.val Relayed.the-type Laws'''''''.the-laws; tells =
-    Laws''''''''''.tells Relayed.the-type Laws'''''''.the-laws; still = Laws''''''''''.still Relayed.the-type Laws'''''''.the-copy Exit.yes; row =
-    Rows.whole (Declared'.row Relayed.the-type); rd = λ x. x; mk = λ x. x; } λ M 𝓤 H A W. record { copies = Laws''''''''''.copy Relayed.the-type
-    Laws'''''''.the-copy 𝓤 H A W; lawful = Laws''''''''''.lawful Relayed.the-type Laws'''''''.the-laws 𝓤 H A W; makes = Laws''''''''''.makes
-    Relayed.the-type Laws'''''''.the-plain 𝓤 H A; in-mem = Local.mem-whole 𝓤 H A W (Declared'.row Relayed.the-type); of-mem = Local.whole-mem 𝓤 H A W
+r = Value.rVal record { ty = Declared'.row Relayed.the-type; one = Path.refl; val = Laws'''''''''''.val Relayed.the-type Laws''''''''.the-laws; tells
+    = Laws'''''''''''.tells Relayed.the-type Laws''''''''.the-laws; still = Laws'''''''''''.still Relayed.the-type Laws''''''''.the-copy Exit.yes; row
+    = Rows.whole (Declared'.row Relayed.the-type); rd = λ x. x; mk = λ x. x; } λ M 𝓤 H A W. record { copies = Laws'''''''''''.copy Relayed.the-type
+    Laws''''''''.the-copy 𝓤 H A W; lawful = Laws'''''''''''.lawful Relayed.the-type Laws''''''''.the-laws 𝓤 H A W; makes = Laws'''''''''''.makes
+    Relayed.the-type Laws''''''''.the-plain 𝓤 H A; in-mem = Local.mem-whole 𝓤 H A W (Declared'.row Relayed.the-type); of-mem = Local.whole-mem 𝓤 H A W
     (Declared'.row Relayed.the-type); }
 abbrev pub xs : List.List Syntax.Ty
-xs = Laws'.mir ∷ Laws.mir ∷ Laws''''''.mir ∷ Laws''''.mir ∷ Laws''.mir ∷ Laws'''.mir ∷ ref0 ∷ (Syntax.tyStruct (38 ∷ 91 ∷ 93 ∷ List.[]) (Syntax.tcons
-    ref0 (Syntax.tcons (Syntax.tyInt Syntax.w64) Syntax.tnil))) ∷ ref1 ∷ (Syntax.tyStruct (38 ∷ 91 ∷ 93 ∷ List.[]) (Syntax.tcons ref1 (Syntax.tcons
-    (Syntax.tyInt Syntax.w64) Syntax.tnil))) ∷ Syntax.tyUnit ∷ ref2 ∷ (Syntax.tyStruct (38 ∷ 91 ∷ 93 ∷ List.[]) (Syntax.tcons ref2 (Syntax.tcons
-    (Syntax.tyInt Syntax.w64) Syntax.tnil))) ∷ ref3 ∷ (Syntax.tyStruct (38 ∷ 91 ∷ 93 ∷ List.[]) (Syntax.tcons ref3 (Syntax.tcons (Syntax.tyInt
-    Syntax.w64) Syntax.tnil))) ∷ ref4 ∷ (Syntax.tyStruct (38 ∷ 91 ∷ 93 ∷ List.[]) (Syntax.tcons ref4 (Syntax.tcons (Syntax.tyInt Syntax.w64)
-    Syntax.tnil))) ∷ ref5 ∷ (Syntax.tyStruct (38 ∷ 91 ∷ 93 ∷ List.[]) (Syntax.tcons ref5 (Syntax.tcons (Syntax.tyInt Syntax.w64) Syntax.tnil))) ∷ ref4
-    ∷ (Syntax.tyStruct (38 ∷ 91 ∷ 93 ∷ List.[]) (Syntax.tcons ref4 (Syntax.tcons (Syntax.tyInt Syntax.w64) Syntax.tnil))) ∷ ref6 ∷ (Syntax.tyStruct
-    (38 ∷ 91 ∷ 93 ∷ List.[]) (Syntax.tcons ref6 (Syntax.tcons (Syntax.tyInt Syntax.w64) Syntax.tnil))) ∷ List.[]
+xs = Laws'.mir ∷ Laws.mir ∷ Laws'''''''.mir ∷ Laws'''''.mir ∷ Laws'''.mir ∷ Laws''''.mir ∷ ref0 ∷ (Syntax.tyStruct (38 ∷ 91 ∷ 93 ∷ List.[])
+    (Syntax.tcons ref0 (Syntax.tcons (Syntax.tyInt Syntax.w64) Syntax.tnil))) ∷ ref1 ∷ (Syntax.tyStruct (38 ∷ 91 ∷ 93 ∷ List.[]) (Syntax.tcons ref1
+    (Syntax.tcons (Syntax.tyInt Syntax.w64) Syntax.tnil))) ∷ Syntax.tyUnit ∷ ref2 ∷ (Syntax.tyStruct (38 ∷ 91 ∷ 93 ∷ List.[]) (Syntax.tcons ref2
+    (Syntax.tcons (Syntax.tyInt Syntax.w64) Syntax.tnil))) ∷ ref3 ∷ (Syntax.tyStruct (38 ∷ 91 ∷ 93 ∷ List.[]) (Syntax.tcons ref3 (Syntax.tcons
+    (Syntax.tyInt Syntax.w64) Syntax.tnil))) ∷ ref4 ∷ (Syntax.tyStruct (38 ∷ 91 ∷ 93 ∷ List.[]) (Syntax.tcons ref4 (Syntax.tcons (Syntax.tyInt
+    Syntax.w64) Syntax.tnil))) ∷ ref5 ∷ (Syntax.tyStruct (38 ∷ 91 ∷ 93 ∷ List.[]) (Syntax.tcons ref5 (Syntax.tcons (Syntax.tyInt Syntax.w64)
+    Syntax.tnil))) ∷ ref4 ∷ (Syntax.tyStruct (38 ∷ 91 ∷ 93 ∷ List.[]) (Syntax.tcons ref4 (Syntax.tcons (Syntax.tyInt Syntax.w64) Syntax.tnil))) ∷ ref6
+    ∷ (Syntax.tyStruct (38 ∷ 91 ∷ 93 ∷ List.[]) (Syntax.tcons ref6 (Syntax.tcons (Syntax.tyInt Syntax.w64) Syntax.tnil))) ∷ List.[]
 abbrev pub m : Nat.ℕ
 m = 8
 abbrev pub ps·0 : List.List (Kinds.PK 4)
 ps·0 = (ShrSlice.pShrS RelayPending.row 0 tt) ∷ (ShrSlice.pShrS RelayCircuit.row 1 tt) ∷ (Value.pVal record { ty = Declared'.row
-    OpaqueRelayRuntime.the-type; one = Path.refl; val = Laws''''''''''.val OpaqueRelayRuntime.the-type Laws''''''.the-laws; tells =
-    Laws''''''''''.tells OpaqueRelayRuntime.the-type Laws''''''.the-laws; still = Laws''''''''''.still OpaqueRelayRuntime.the-type Laws''''''.the-copy
-    Exit.yes; row = Rows.whole (Declared'.row OpaqueRelayRuntime.the-type); rd = λ x. x; mk = λ x. x; } λ M 𝓤 H A W. record { copies =
-    Laws''''''''''.copy OpaqueRelayRuntime.the-type Laws''''''.the-copy 𝓤 H A W; lawful = Laws''''''''''.lawful OpaqueRelayRuntime.the-type
-    Laws''''''.the-laws 𝓤 H A W; makes = Laws''''''''''.makes OpaqueRelayRuntime.the-type Laws''''''.the-plain 𝓤 H A; in-mem = Local.mem-whole 𝓤 H A W
-    (Declared'.row OpaqueRelayRuntime.the-type); of-mem = Local.whole-mem 𝓤 H A W (Declared'.row OpaqueRelayRuntime.the-type); }) ∷ (Value.pVal record
-    { ty = Declared'.row RelayPacket.the-type; one = Path.refl; val = Laws''''''''''.val RelayPacket.the-type Laws'''''.the-laws; tells =
-    Laws''''''''''.tells RelayPacket.the-type Laws'''''.the-laws; still = Laws''''''''''.still RelayPacket.the-type Laws'''''.the-copy Exit.yes; row =
-    Rows.whole (Declared'.row RelayPacket.the-type); rd = λ x. x; mk = λ x. x; } λ M 𝓤 H A W. record { copies = Laws''''''''''.copy
-    RelayPacket.the-type Laws'''''.the-copy 𝓤 H A W; lawful = Laws''''''''''.lawful RelayPacket.the-type Laws'''''.the-laws 𝓤 H A W; makes =
-    Laws''''''''''.makes RelayPacket.the-type Laws'''''.the-plain 𝓤 H A; in-mem = Local.mem-whole 𝓤 H A W (Declared'.row RelayPacket.the-type); of-mem
-    = Local.whole-mem 𝓤 H A W (Declared'.row RelayPacket.the-type); }) ∷ (ShrSlice.pShrS (Referent.rtF (Referent.fInt Syntax.w8)) 2 tt) ∷
-    (ShrSlice.pShrS (Referent.rtF (Referent.fInt Syntax.w8)) 3 tt) ∷ List.[]
+    OpaqueRelayRuntime.the-type; one = Path.refl; val = Laws'''''''''''.val OpaqueRelayRuntime.the-type Laws'''''''.the-laws; tells =
+    Laws'''''''''''.tells OpaqueRelayRuntime.the-type Laws'''''''.the-laws; still = Laws'''''''''''.still OpaqueRelayRuntime.the-type
+    Laws'''''''.the-copy Exit.yes; row = Rows.whole (Declared'.row OpaqueRelayRuntime.the-type); rd = λ x. x; mk = λ x. x; } λ M 𝓤 H A W. record {
+    copies = Laws'''''''''''.copy OpaqueRelayRuntime.the-type Laws'''''''.the-copy 𝓤 H A W; lawful = Laws'''''''''''.lawful
+    OpaqueRelayRuntime.the-type Laws'''''''.the-laws 𝓤 H A W; makes = Laws'''''''''''.makes OpaqueRelayRuntime.the-type Laws'''''''.the-plain 𝓤 H A;
+    in-mem = Local.mem-whole 𝓤 H A W (Declared'.row OpaqueRelayRuntime.the-type); of-mem = Local.whole-mem 𝓤 H A W (Declared'.row
+    OpaqueRelayRuntime.the-type); }) ∷ (Value.pVal record { ty = Declared'.row Places.the-type; one = Path.refl; val = Laws'''''''''''.val
+    Places.the-type Laws''.the-laws; tells = Laws'''''''''''.tells Places.the-type Laws''.the-laws; still = Laws'''''''''''.still Places.the-type
+    Laws''.the-copy Exit.yes; row = Rows.whole (Declared'.row Places.the-type); rd = λ x. x; mk = λ x. x; } λ M 𝓤 H A W. record { copies =
+    Laws'''''''''''.copy Places.the-type Laws''.the-copy 𝓤 H A W; lawful = Laws'''''''''''.lawful Places.the-type Laws''.the-laws 𝓤 H A W; makes =
+    Laws'''''''''''.makes Places.the-type Laws''.the-plain 𝓤 H A; in-mem = Local.mem-whole 𝓤 H A W (Declared'.row Places.the-type); of-mem =
+    Local.whole-mem 𝓤 H A W (Declared'.row Places.the-type); }) ∷ (Value.pVal record { ty = Declared'.row RelayPacket.the-type; one = Path.refl; val =
+    Laws'''''''''''.val RelayPacket.the-type Laws''''''.the-laws; tells = Laws'''''''''''.tells RelayPacket.the-type Laws''''''.the-laws; still =
+    Laws'''''''''''.still RelayPacket.the-type Laws''''''.the-copy Exit.yes; row = Rows.whole (Declared'.row RelayPacket.the-type); rd = λ x. x; mk =
+    λ x. x; } λ M 𝓤 H A W. record { copies = Laws'''''''''''.copy RelayPacket.the-type Laws''''''.the-copy 𝓤 H A W; lawful = Laws'''''''''''.lawful
+    RelayPacket.the-type Laws''''''.the-laws 𝓤 H A W; makes = Laws'''''''''''.makes RelayPacket.the-type Laws''''''.the-plain 𝓤 H A; in-mem =
+    Local.mem-whole 𝓤 H A W (Declared'.row RelayPacket.the-type); of-mem = Local.whole-mem 𝓤 H A W (Declared'.row RelayPacket.the-type); }) ∷
+    (ShrSlice.pShrS (Referent.rtF (Referent.fInt Syntax.w8)) 2 tt) ∷ (ShrSlice.pShrS (Referent.rtF (Referent.fInt Syntax.w8)) 3 tt) ∷ List.[]
 abbrev pub r·0 : Kinds.RK 4
-r·0 = Value.rVal record { ty = Declared'.row ClosePlan.the-type; one = Path.refl; val = Laws''''''''''.val ClosePlan.the-type Laws'.the-laws; tells =
-    Laws''''''''''.tells ClosePlan.the-type Laws'.the-laws; still = Laws''''''''''.still ClosePlan.the-type Laws'.the-copy Exit.yes; row = Rows.whole
-    (Declared'.row ClosePlan.the-type); rd = λ x. x; mk = λ x. x; } λ M 𝓤 H A W. record { copies = Laws''''''''''.copy ClosePlan.the-type
-    Laws'.the-copy 𝓤 H A W; lawful = Laws''''''''''.lawful ClosePlan.the-type Laws'.the-laws 𝓤 H A W; makes = Laws''''''''''.makes ClosePlan.the-type
-    Laws'.the-plain 𝓤 H A; in-mem = Local.mem-whole 𝓤 H A W (Declared'.row ClosePlan.the-type); of-mem = Local.whole-mem 𝓤 H A W (Declared'.row
-    ClosePlan.the-type); }
+r·0 = Value.rVal record { ty = Declared'.row ClosePlan.the-type; one = Path.refl; val = Laws'''''''''''.val ClosePlan.the-type Laws'.the-laws; tells =
+    Laws'''''''''''.tells ClosePlan.the-type Laws'.the-laws; still = Laws'''''''''''.still ClosePlan.the-type Laws'.the-copy Exit.yes; row =
+    Rows.whole (Declared'.row ClosePlan.the-type); rd = λ x. x; mk = λ x. x; } λ M 𝓤 H A W. record { copies = Laws'''''''''''.copy ClosePlan.the-type
+    Laws'.the-copy 𝓤 H A W; lawful = Laws'''''''''''.lawful ClosePlan.the-type Laws'.the-laws 𝓤 H A W; makes = Laws'''''''''''.makes
+    ClosePlan.the-type Laws'.the-plain 𝓤 H A; in-mem = Local.mem-whole 𝓤 H A W (Declared'.row ClosePlan.the-type); of-mem = Local.whole-mem 𝓤 H A W
+    (Declared'.row ClosePlan.the-type); }
 abbrev pub ps·1 : List.List (Kinds.PK 1)
-ps·1 = (MutSlice.pMutS RelayPending.row 0 tt) ∷ Bool.pBool ∷ (Num.pNum Syntax.w64) ∷ List.[]
+ps·1 = (MutSlice.pMutS RelayPending.row 0 tt) ∷ (Value.pVal record { ty = Declared'.row Places.the-type; one = Path.refl; val = Laws'''''''''''.val
+    Places.the-type Laws''.the-laws; tells = Laws'''''''''''.tells Places.the-type Laws''.the-laws; still = Laws'''''''''''.still Places.the-type
+    Laws''.the-copy Exit.yes; row = Rows.whole (Declared'.row Places.the-type); rd = λ x. x; mk = λ x. x; } λ M 𝓤 H A W. record { copies =
+    Laws'''''''''''.copy Places.the-type Laws''.the-copy 𝓤 H A W; lawful = Laws'''''''''''.lawful Places.the-type Laws''.the-laws 𝓤 H A W; makes =
+    Laws'''''''''''.makes Places.the-type Laws''.the-plain 𝓤 H A; in-mem = Local.mem-whole 𝓤 H A W (Declared'.row Places.the-type); of-mem =
+    Local.whole-mem 𝓤 H A W (Declared'.row Places.the-type); }) ∷ Bool.pBool ∷ (Num.pNum Syntax.w64) ∷ List.[]
 abbrev pub r·1 : Kinds.RK 1
 r·1 = Unit.rUnit
 abbrev pub ps·2 : List.List (Kinds.PK 1)
-ps·2 = (MutSlice.pMutS RelayCircuit.row 0 tt) ∷ Bool.pBool ∷ (Num.pNum Syntax.w64) ∷ List.[]
+ps·2 = (MutSlice.pMutS RelayCircuit.row 0 tt) ∷ (Value.pVal record { ty = Declared'.row Places.the-type; one = Path.refl; val = Laws'''''''''''.val
+    Places.the-type Laws''.the-laws; tells = Laws'''''''''''.tells Places.the-type Laws''.the-laws; still = Laws'''''''''''.still Places.the-type
+    Laws''.the-copy Exit.yes; row = Rows.whole (Declared'.row Places.the-type); rd = λ x. x; mk = λ x. x; } λ M 𝓤 H A W. record { copies =
+    Laws'''''''''''.copy Places.the-type Laws''.the-copy 𝓤 H A W; lawful = Laws'''''''''''.lawful Places.the-type Laws''.the-laws 𝓤 H A W; makes =
+    Laws'''''''''''.makes Places.the-type Laws''.the-plain 𝓤 H A; in-mem = Local.mem-whole 𝓤 H A W (Declared'.row Places.the-type); of-mem =
+    Local.whole-mem 𝓤 H A W (Declared'.row Places.the-type); }) ∷ Bool.pBool ∷ (Num.pNum Syntax.w64) ∷ List.[]
 abbrev pub r·2 : Kinds.RK 1
 r·2 = Unit.rUnit
 abbrev pub ps·3 : List.List (Kinds.PK 1)
-ps·3 = (MutSlice.pMutS InflightAction.row 0 tt) ∷ Bool.pBool ∷ (Num.pNum Syntax.w64) ∷ List.[]
+ps·3 = (MutSlice.pMutS InflightAction.row 0 tt) ∷ (Value.pVal record { ty = Declared'.row Places.the-type; one = Path.refl; val = Laws'''''''''''.val
+    Places.the-type Laws''.the-laws; tells = Laws'''''''''''.tells Places.the-type Laws''.the-laws; still = Laws'''''''''''.still Places.the-type
+    Laws''.the-copy Exit.yes; row = Rows.whole (Declared'.row Places.the-type); rd = λ x. x; mk = λ x. x; } λ M 𝓤 H A W. record { copies =
+    Laws'''''''''''.copy Places.the-type Laws''.the-copy 𝓤 H A W; lawful = Laws'''''''''''.lawful Places.the-type Laws''.the-laws 𝓤 H A W; makes =
+    Laws'''''''''''.makes Places.the-type Laws''.the-plain 𝓤 H A; in-mem = Local.mem-whole 𝓤 H A W (Declared'.row Places.the-type); of-mem =
+    Local.whole-mem 𝓤 H A W (Declared'.row Places.the-type); }) ∷ Bool.pBool ∷ (Num.pNum Syntax.w64) ∷ List.[]
 abbrev pub r·3 : Kinds.RK 1
 r·3 = Unit.rUnit
 abbrev pub ps·4 : List.List (Kinds.PK 0)
-ps·4 = (Value.pVal record { ty = Declared'.row OpaqueRelayRuntime.the-type; one = Path.refl; val = Laws''''''''''.val OpaqueRelayRuntime.the-type
-    Laws''''''.the-laws; tells = Laws''''''''''.tells OpaqueRelayRuntime.the-type Laws''''''.the-laws; still = Laws''''''''''.still
-    OpaqueRelayRuntime.the-type Laws''''''.the-copy Exit.yes; row = Rows.whole (Declared'.row OpaqueRelayRuntime.the-type); rd = λ x. x; mk = λ x. x;
-    } λ M 𝓤 H A W. record { copies = Laws''''''''''.copy OpaqueRelayRuntime.the-type Laws''''''.the-copy 𝓤 H A W; lawful = Laws''''''''''.lawful
-    OpaqueRelayRuntime.the-type Laws''''''.the-laws 𝓤 H A W; makes = Laws''''''''''.makes OpaqueRelayRuntime.the-type Laws''''''.the-plain 𝓤 H A;
+ps·4 = (Value.pVal record { ty = Declared'.row OpaqueRelayRuntime.the-type; one = Path.refl; val = Laws'''''''''''.val OpaqueRelayRuntime.the-type
+    Laws'''''''.the-laws; tells = Laws'''''''''''.tells OpaqueRelayRuntime.the-type Laws'''''''.the-laws; still = Laws'''''''''''.still
+    OpaqueRelayRuntime.the-type Laws'''''''.the-copy Exit.yes; row = Rows.whole (Declared'.row OpaqueRelayRuntime.the-type); rd = λ x. x; mk = λ x. x;
+    } λ M 𝓤 H A W. record { copies = Laws'''''''''''.copy OpaqueRelayRuntime.the-type Laws'''''''.the-copy 𝓤 H A W; lawful = Laws'''''''''''.lawful
+    OpaqueRelayRuntime.the-type Laws'''''''.the-laws 𝓤 H A W; makes = Laws'''''''''''.makes OpaqueRelayRuntime.the-type Laws'''''''.the-plain 𝓤 H A;
     in-mem = Local.mem-whole 𝓤 H A W (Declared'.row OpaqueRelayRuntime.the-type); of-mem = Local.whole-mem 𝓤 H A W (Declared'.row
-    OpaqueRelayRuntime.the-type); }) ∷ (Value.pVal record { ty = Declared'.row Outgoing.the-type; one = Path.refl; val = Laws''''''''''.val
-    Outgoing.the-type Laws''''.the-laws; tells = Laws''''''''''.tells Outgoing.the-type Laws''''.the-laws; still = Laws''''''''''.still
-    Outgoing.the-type Laws''''.the-copy Exit.yes; row = Rows.whole (Declared'.row Outgoing.the-type); rd = λ x. x; mk = λ x. x; } λ M 𝓤 H A W. record
-    { copies = Laws''''''''''.copy Outgoing.the-type Laws''''.the-copy 𝓤 H A W; lawful = Laws''''''''''.lawful Outgoing.the-type Laws''''.the-laws 𝓤 H
-    A W; makes = Laws''''''''''.makes Outgoing.the-type Laws''''.the-plain 𝓤 H A; in-mem = Local.mem-whole 𝓤 H A W (Declared'.row Outgoing.the-type);
-    of-mem = Local.whole-mem 𝓤 H A W (Declared'.row Outgoing.the-type); }) ∷ List.[]
+    OpaqueRelayRuntime.the-type); }) ∷ (Value.pVal record { ty = Declared'.row Outgoing.the-type; one = Path.refl; val = Laws'''''''''''.val
+    Outgoing.the-type Laws'''''.the-laws; tells = Laws'''''''''''.tells Outgoing.the-type Laws'''''.the-laws; still = Laws'''''''''''.still
+    Outgoing.the-type Laws'''''.the-copy Exit.yes; row = Rows.whole (Declared'.row Outgoing.the-type); rd = λ x. x; mk = λ x. x; } λ M 𝓤 H A W. record
+    { copies = Laws'''''''''''.copy Outgoing.the-type Laws'''''.the-copy 𝓤 H A W; lawful = Laws'''''''''''.lawful Outgoing.the-type Laws'''''.the-laws
+    𝓤 H A W; makes = Laws'''''''''''.makes Outgoing.the-type Laws'''''.the-plain 𝓤 H A; in-mem = Local.mem-whole 𝓤 H A W (Declared'.row
+    Outgoing.the-type); of-mem = Local.whole-mem 𝓤 H A W (Declared'.row Outgoing.the-type); }) ∷ List.[]
 abbrev pub r·4 : Kinds.RK 0
-r·4 = Value.rVal record { ty = Declared'.row ActionQuestion.the-type; one = Path.refl; val = Laws''''''''''.val ActionQuestion.the-type
-    Laws''.the-laws; tells = Laws''''''''''.tells ActionQuestion.the-type Laws''.the-laws; still = Laws''''''''''.still ActionQuestion.the-type
-    Laws''.the-copy Exit.yes; row = Rows.whole (Declared'.row ActionQuestion.the-type); rd = λ x. x; mk = λ x. x; } λ M 𝓤 H A W. record { copies =
-    Laws''''''''''.copy ActionQuestion.the-type Laws''.the-copy 𝓤 H A W; lawful = Laws''''''''''.lawful ActionQuestion.the-type Laws''.the-laws 𝓤 H A
-    W; makes = Laws''''''''''.makes ActionQuestion.the-type Laws''.the-plain 𝓤 H A; in-mem = Local.mem-whole 𝓤 H A W (Declared'.row
+r·4 = Value.rVal record { ty = Declared'.row ActionQuestion.the-type; one = Path.refl; val = Laws'''''''''''.val ActionQuestion.the-type
+    Laws'''.the-laws; tells = Laws'''''''''''.tells ActionQuestion.the-type Laws'''.the-laws; still = Laws'''''''''''.still ActionQuestion.the-type
+    Laws'''.the-copy Exit.yes; row = Rows.whole (Declared'.row ActionQuestion.the-type); rd = λ x. x; mk = λ x. x; } λ M 𝓤 H A W. record { copies =
+    Laws'''''''''''.copy ActionQuestion.the-type Laws'''.the-copy 𝓤 H A W; lawful = Laws'''''''''''.lawful ActionQuestion.the-type Laws'''.the-laws 𝓤
+    H A W; makes = Laws'''''''''''.makes ActionQuestion.the-type Laws'''.the-plain 𝓤 H A; in-mem = Local.mem-whole 𝓤 H A W (Declared'.row
     ActionQuestion.the-type); of-mem = Local.whole-mem 𝓤 H A W (Declared'.row ActionQuestion.the-type); }
 abbrev pub ps·5 : List.List (Kinds.PK 1)
-ps·5 = (ShrSlice.pShrS InflightAction.row 0 tt) ∷ (Value.pVal record { ty = Declared'.row ActionQuestion.the-type; one = Path.refl; val =
-    Laws''''''''''.val ActionQuestion.the-type Laws''.the-laws; tells = Laws''''''''''.tells ActionQuestion.the-type Laws''.the-laws; still =
-    Laws''''''''''.still ActionQuestion.the-type Laws''.the-copy Exit.yes; row = Rows.whole (Declared'.row ActionQuestion.the-type); rd = λ x. x; mk =
-    λ x. x; } λ M 𝓤 H A W. record { copies = Laws''''''''''.copy ActionQuestion.the-type Laws''.the-copy 𝓤 H A W; lawful = Laws''''''''''.lawful
-    ActionQuestion.the-type Laws''.the-laws 𝓤 H A W; makes = Laws''''''''''.makes ActionQuestion.the-type Laws''.the-plain 𝓤 H A; in-mem =
-    Local.mem-whole 𝓤 H A W (Declared'.row ActionQuestion.the-type); of-mem = Local.whole-mem 𝓤 H A W (Declared'.row ActionQuestion.the-type); }) ∷
-    List.[]
+ps·5 = (ShrSlice.pShrS InflightAction.row 0 tt) ∷ (Value.pVal record { ty = Declared'.row Places.the-type; one = Path.refl; val = Laws'''''''''''.val
+    Places.the-type Laws''.the-laws; tells = Laws'''''''''''.tells Places.the-type Laws''.the-laws; still = Laws'''''''''''.still Places.the-type
+    Laws''.the-copy Exit.yes; row = Rows.whole (Declared'.row Places.the-type); rd = λ x. x; mk = λ x. x; } λ M 𝓤 H A W. record { copies =
+    Laws'''''''''''.copy Places.the-type Laws''.the-copy 𝓤 H A W; lawful = Laws'''''''''''.lawful Places.the-type Laws''.the-laws 𝓤 H A W; makes =
+    Laws'''''''''''.makes Places.the-type Laws''.the-plain 𝓤 H A; in-mem = Local.mem-whole 𝓤 H A W (Declared'.row Places.the-type); of-mem =
+    Local.whole-mem 𝓤 H A W (Declared'.row Places.the-type); }) ∷ (Value.pVal record { ty = Declared'.row ActionQuestion.the-type; one = Path.refl;
+    val = Laws'''''''''''.val ActionQuestion.the-type Laws'''.the-laws; tells = Laws'''''''''''.tells ActionQuestion.the-type Laws'''.the-laws; still
+    = Laws'''''''''''.still ActionQuestion.the-type Laws'''.the-copy Exit.yes; row = Rows.whole (Declared'.row ActionQuestion.the-type); rd = λ x. x;
+    mk = λ x. x; } λ M 𝓤 H A W. record { copies = Laws'''''''''''.copy ActionQuestion.the-type Laws'''.the-copy 𝓤 H A W; lawful =
+    Laws'''''''''''.lawful ActionQuestion.the-type Laws'''.the-laws 𝓤 H A W; makes = Laws'''''''''''.makes ActionQuestion.the-type Laws'''.the-plain 𝓤
+    H A; in-mem = Local.mem-whole 𝓤 H A W (Declared'.row ActionQuestion.the-type); of-mem = Local.whole-mem 𝓤 H A W (Declared'.row
+    ActionQuestion.the-type); }) ∷ List.[]
 abbrev pub r·5 : Kinds.RK 1
-r·5 = Value.rVal record { ty = Declared'.row ActionScan.the-type; one = Path.refl; val = Laws''''''''''.val ActionScan.the-type Laws'''.the-laws;
-    tells = Laws''''''''''.tells ActionScan.the-type Laws'''.the-laws; still = Laws''''''''''.still ActionScan.the-type Laws'''.the-copy Exit.yes; row
-    = Rows.whole (Declared'.row ActionScan.the-type); rd = λ x. x; mk = λ x. x; } λ M 𝓤 H A W. record { copies = Laws''''''''''.copy
-    ActionScan.the-type Laws'''.the-copy 𝓤 H A W; lawful = Laws''''''''''.lawful ActionScan.the-type Laws'''.the-laws 𝓤 H A W; makes =
-    Laws''''''''''.makes ActionScan.the-type Laws'''.the-plain 𝓤 H A; in-mem = Local.mem-whole 𝓤 H A W (Declared'.row ActionScan.the-type); of-mem =
+r·5 = Value.rVal record { ty = Declared'.row ActionScan.the-type; one = Path.refl; val = Laws'''''''''''.val ActionScan.the-type Laws''''.the-laws;
+    tells = Laws'''''''''''.tells ActionScan.the-type Laws''''.the-laws; still = Laws'''''''''''.still ActionScan.the-type Laws''''.the-copy Exit.yes;
+    row = Rows.whole (Declared'.row ActionScan.the-type); rd = λ x. x; mk = λ x. x; } λ M 𝓤 H A W. record { copies = Laws'''''''''''.copy
+    ActionScan.the-type Laws''''.the-copy 𝓤 H A W; lawful = Laws'''''''''''.lawful ActionScan.the-type Laws''''.the-laws 𝓤 H A W; makes =
+    Laws'''''''''''.makes ActionScan.the-type Laws''''.the-plain 𝓤 H A; in-mem = Local.mem-whole 𝓤 H A W (Declared'.row ActionScan.the-type); of-mem =
     Local.whole-mem 𝓤 H A W (Declared'.row ActionScan.the-type); }
 abbrev pub ps·6 : List.List (Kinds.PK 3)
 ps·6 = (MutSlice.pMutS InflightAction.row 0 tt) ∷ (MutSlice.pMutS (Referent.rtF (Referent.fInt Syntax.w32)) 1 tt) ∷ (Value.pVal record { ty =
-    Declared.row HnsrAnswer.the-type; one = Path.refl; val = Laws''''''''.val HnsrAnswer.the-type Laws.the-laws; tells = Laws''''''''.tells
-    HnsrAnswer.the-type Laws.the-laws; still = Laws''''''''.still HnsrAnswer.the-type Laws.the-copy Exit.yes; row = Rows.whole (Declared.row
-    HnsrAnswer.the-type); rd = λ x. x; mk = λ x. x; } λ M 𝓤 H A W. record { copies = Laws''''''''.copy HnsrAnswer.the-type Laws.the-copy 𝓤 H A W;
-    lawful = Laws''''''''.lawful HnsrAnswer.the-type Laws.the-laws 𝓤 H A W tt; makes = Laws''''''''.makes HnsrAnswer.the-type Laws.the-plain 𝓤 H A;
+    Declared.row HnsrAnswer.the-type; one = Path.refl; val = Laws'''''''''.val HnsrAnswer.the-type Laws.the-laws; tells = Laws'''''''''.tells
+    HnsrAnswer.the-type Laws.the-laws; still = Laws'''''''''.still HnsrAnswer.the-type Laws.the-copy Exit.yes; row = Rows.whole (Declared.row
+    HnsrAnswer.the-type); rd = λ x. x; mk = λ x. x; } λ M 𝓤 H A W. record { copies = Laws'''''''''.copy HnsrAnswer.the-type Laws.the-copy 𝓤 H A W;
+    lawful = Laws'''''''''.lawful HnsrAnswer.the-type Laws.the-laws 𝓤 H A W tt; makes = Laws'''''''''.makes HnsrAnswer.the-type Laws.the-plain 𝓤 H A;
     in-mem = Local.mem-whole 𝓤 H A W (Declared.row HnsrAnswer.the-type); of-mem = Local.whole-mem 𝓤 H A W (Declared.row HnsrAnswer.the-type); }) ∷
-    (Value.pVal record { ty = Declared'.row OpaqueRelayRuntime.the-type; one = Path.refl; val = Laws''''''''''.val OpaqueRelayRuntime.the-type
-    Laws''''''.the-laws; tells = Laws''''''''''.tells OpaqueRelayRuntime.the-type Laws''''''.the-laws; still = Laws''''''''''.still
-    OpaqueRelayRuntime.the-type Laws''''''.the-copy Exit.yes; row = Rows.whole (Declared'.row OpaqueRelayRuntime.the-type); rd = λ x. x; mk = λ x. x;
-    } λ M 𝓤 H A W. record { copies = Laws''''''''''.copy OpaqueRelayRuntime.the-type Laws''''''.the-copy 𝓤 H A W; lawful = Laws''''''''''.lawful
-    OpaqueRelayRuntime.the-type Laws''''''.the-laws 𝓤 H A W; makes = Laws''''''''''.makes OpaqueRelayRuntime.the-type Laws''''''.the-plain 𝓤 H A;
+    (Value.pVal record { ty = Declared'.row OpaqueRelayRuntime.the-type; one = Path.refl; val = Laws'''''''''''.val OpaqueRelayRuntime.the-type
+    Laws'''''''.the-laws; tells = Laws'''''''''''.tells OpaqueRelayRuntime.the-type Laws'''''''.the-laws; still = Laws'''''''''''.still
+    OpaqueRelayRuntime.the-type Laws'''''''.the-copy Exit.yes; row = Rows.whole (Declared'.row OpaqueRelayRuntime.the-type); rd = λ x. x; mk = λ x. x;
+    } λ M 𝓤 H A W. record { copies = Laws'''''''''''.copy OpaqueRelayRuntime.the-type Laws'''''''.the-copy 𝓤 H A W; lawful = Laws'''''''''''.lawful
+    OpaqueRelayRuntime.the-type Laws'''''''.the-laws 𝓤 H A W; makes = Laws'''''''''''.makes OpaqueRelayRuntime.the-type Laws'''''''.the-plain 𝓤 H A;
     in-mem = Local.mem-whole 𝓤 H A W (Declared'.row OpaqueRelayRuntime.the-type); of-mem = Local.whole-mem 𝓤 H A W (Declared'.row
-    OpaqueRelayRuntime.the-type); }) ∷ (Value.pVal record { ty = Declared'.row Outgoing.the-type; one = Path.refl; val = Laws''''''''''.val
-    Outgoing.the-type Laws''''.the-laws; tells = Laws''''''''''.tells Outgoing.the-type Laws''''.the-laws; still = Laws''''''''''.still
-    Outgoing.the-type Laws''''.the-copy Exit.yes; row = Rows.whole (Declared'.row Outgoing.the-type); rd = λ x. x; mk = λ x. x; } λ M 𝓤 H A W. record
-    { copies = Laws''''''''''.copy Outgoing.the-type Laws''''.the-copy 𝓤 H A W; lawful = Laws''''''''''.lawful Outgoing.the-type Laws''''.the-laws 𝓤 H
-    A W; makes = Laws''''''''''.makes Outgoing.the-type Laws''''.the-plain 𝓤 H A; in-mem = Local.mem-whole 𝓤 H A W (Declared'.row Outgoing.the-type);
-    of-mem = Local.whole-mem 𝓤 H A W (Declared'.row Outgoing.the-type); }) ∷ (Value.pVal record { ty = Declared'.row ActionScan.the-type; one =
-    Path.refl; val = Laws''''''''''.val ActionScan.the-type Laws'''.the-laws; tells = Laws''''''''''.tells ActionScan.the-type Laws'''.the-laws; still
-    = Laws''''''''''.still ActionScan.the-type Laws'''.the-copy Exit.yes; row = Rows.whole (Declared'.row ActionScan.the-type); rd = λ x. x; mk = λ x.
-    x; } λ M 𝓤 H A W. record { copies = Laws''''''''''.copy ActionScan.the-type Laws'''.the-copy 𝓤 H A W; lawful = Laws''''''''''.lawful
-    ActionScan.the-type Laws'''.the-laws 𝓤 H A W; makes = Laws''''''''''.makes ActionScan.the-type Laws'''.the-plain 𝓤 H A; in-mem = Local.mem-whole 𝓤
-    H A W (Declared'.row ActionScan.the-type); of-mem = Local.whole-mem 𝓤 H A W (Declared'.row ActionScan.the-type); }) ∷ (ShrSlice.pShrS
-    (Referent.rtF (Referent.fInt Syntax.w8)) 2 tt) ∷ List.[]
+    OpaqueRelayRuntime.the-type); }) ∷ (Value.pVal record { ty = Declared'.row Places.the-type; one = Path.refl; val = Laws'''''''''''.val
+    Places.the-type Laws''.the-laws; tells = Laws'''''''''''.tells Places.the-type Laws''.the-laws; still = Laws'''''''''''.still Places.the-type
+    Laws''.the-copy Exit.yes; row = Rows.whole (Declared'.row Places.the-type); rd = λ x. x; mk = λ x. x; } λ M 𝓤 H A W. record { copies =
+    Laws'''''''''''.copy Places.the-type Laws''.the-copy 𝓤 H A W; lawful = Laws'''''''''''.lawful Places.the-type Laws''.the-laws 𝓤 H A W; makes =
+    Laws'''''''''''.makes Places.the-type Laws''.the-plain 𝓤 H A; in-mem = Local.mem-whole 𝓤 H A W (Declared'.row Places.the-type); of-mem =
+    Local.whole-mem 𝓤 H A W (Declared'.row Places.the-type); }) ∷ (Value.pVal record { ty = Declared'.row Outgoing.the-type; one = Path.refl; val =
+    Laws'''''''''''.val Outgoing.the-type Laws'''''.the-laws; tells = Laws'''''''''''.tells Outgoing.the-type Laws'''''.the-laws; still =
+    Laws'''''''''''.still Outgoing.the-type Laws'''''.the-copy Exit.yes; row = Rows.whole (Declared'.row Outgoing.the-type); rd = λ x. x; mk = λ x. x;
+    } λ M 𝓤 H A W. record { copies = Laws'''''''''''.copy Outgoing.the-type Laws'''''.the-copy 𝓤 H A W; lawful = Laws'''''''''''.lawful
+    Outgoing.the-type Laws'''''.the-laws 𝓤 H A W; makes = Laws'''''''''''.makes Outgoing.the-type Laws'''''.the-plain 𝓤 H A; in-mem = Local.mem-whole
+    𝓤 H A W (Declared'.row Outgoing.the-type); of-mem = Local.whole-mem 𝓤 H A W (Declared'.row Outgoing.the-type); }) ∷ (Value.pVal record { ty =
+    Declared'.row ActionScan.the-type; one = Path.refl; val = Laws'''''''''''.val ActionScan.the-type Laws''''.the-laws; tells = Laws'''''''''''.tells
+    ActionScan.the-type Laws''''.the-laws; still = Laws'''''''''''.still ActionScan.the-type Laws''''.the-copy Exit.yes; row = Rows.whole
+    (Declared'.row ActionScan.the-type); rd = λ x. x; mk = λ x. x; } λ M 𝓤 H A W. record { copies = Laws'''''''''''.copy ActionScan.the-type
+    Laws''''.the-copy 𝓤 H A W; lawful = Laws'''''''''''.lawful ActionScan.the-type Laws''''.the-laws 𝓤 H A W; makes = Laws'''''''''''.makes
+    ActionScan.the-type Laws''''.the-plain 𝓤 H A; in-mem = Local.mem-whole 𝓤 H A W (Declared'.row ActionScan.the-type); of-mem = Local.whole-mem 𝓤 H A
+    W (Declared'.row ActionScan.the-type); }) ∷ (ShrSlice.pShrS (Referent.rtF (Referent.fInt Syntax.w8)) 2 tt) ∷ List.[]
 abbrev pub r·6 : Kinds.RK 3
-r·6 = Value.rVal record { ty = Declared'.row Relayed.the-type; one = Path.refl; val = Laws''''''''''.val Relayed.the-type Laws'''''''.the-laws; tells
-    = Laws''''''''''.tells Relayed.the-type Laws'''''''.the-laws; still = Laws''''''''''.still Relayed.the-type Laws'''''''.the-copy Exit.yes; row =
-    Rows.whole (Declared'.row Relayed.the-type); rd = λ x. x; mk = λ x. x; } λ M 𝓤 H A W. record { copies = Laws''''''''''.copy Relayed.the-type
-    Laws'''''''.the-copy 𝓤 H A W; lawful = Laws''''''''''.lawful Relayed.the-type Laws'''''''.the-laws 𝓤 H A W; makes = Laws''''''''''.makes
-    Relayed.the-type Laws'''''''.the-plain 𝓤 H A; in-mem = Local.mem-whole 𝓤 H A W (Declared'.row Relayed.the-type); of-mem = Local.whole-mem 𝓤 H A W
-    (Declared'.row Relayed.the-type); }
+r·6 = Value.rVal record { ty = Declared'.row Relayed.the-type; one = Path.refl; val = Laws'''''''''''.val Relayed.the-type Laws''''''''.the-laws;
+    tells = Laws'''''''''''.tells Relayed.the-type Laws''''''''.the-laws; still = Laws'''''''''''.still Relayed.the-type Laws''''''''.the-copy
+    Exit.yes; row = Rows.whole (Declared'.row Relayed.the-type); rd = λ x. x; mk = λ x. x; } λ M 𝓤 H A W. record { copies = Laws'''''''''''.copy
+    Relayed.the-type Laws''''''''.the-copy 𝓤 H A W; lawful = Laws'''''''''''.lawful Relayed.the-type Laws''''''''.the-laws 𝓤 H A W; makes =
+    Laws'''''''''''.makes Relayed.the-type Laws''''''''.the-plain 𝓤 H A; in-mem = Local.mem-whole 𝓤 H A W (Declared'.row Relayed.the-type); of-mem =
+    Local.whole-mem 𝓤 H A W (Declared'.row Relayed.the-type); }
 abbrev pub hs : List.List Syntax.Home
 hs = Syntax.valueLocal ∷ Syntax.valueLocal ∷ Syntax.valueLocal ∷ Syntax.valueLocal ∷ Syntax.valueLocal ∷ Syntax.valueLocal ∷ Syntax.valueLocal ∷
     Syntax.valueLocal ∷ Syntax.valueLocal ∷ Syntax.valueLocal ∷ Syntax.valueLocal ∷ Syntax.valueLocal ∷ Syntax.valueLocal ∷ Syntax.valueLocal ∷
     Syntax.valueLocal ∷ Syntax.valueLocal ∷ Syntax.valueLocal ∷ Syntax.valueLocal ∷ Syntax.valueLocal ∷ Syntax.valueLocal ∷ Syntax.valueLocal ∷
     Syntax.valueLocal ∷ Syntax.valueLocal ∷ Syntax.valueLocal ∷ Syntax.valueLocal ∷ Syntax.valueLocal ∷ Syntax.valueLocal ∷ Syntax.valueLocal ∷
-    Syntax.valueLocal ∷ Syntax.valueLocal ∷ Syntax.valueLocal ∷ Syntax.valueLocal ∷ List.[]
+    Syntax.valueLocal ∷ Syntax.valueLocal ∷ Syntax.valueLocal ∷ Syntax.valueLocal ∷ Syntax.valueLocal ∷ List.[]
 abbrev b0 : Syntax.Body
-b0 = Syntax.assign (Syntax.place 15 List.[]) (Syntax.addrOf (Syntax.place 1 ((Syntax.field 0) ∷ (Syntax.deref RelayPending.ty) ∷ List.[])))
+b0 = Syntax.assign (Syntax.place 16 List.[]) (Syntax.addrOf (Syntax.place 1 ((Syntax.field 0) ∷ (Syntax.deref RelayPending.ty) ∷ List.[])))
 abbrev b1 : Syntax.Body
-b1 = Syntax.assign (Syntax.place 16 List.[]) (Syntax.aggregate ((Syntax.copy (Syntax.place 15 List.[])) ∷ (Syntax.copy (Syntax.place 1 ((Syntax.field
+b1 = Syntax.assign (Syntax.place 17 List.[]) (Syntax.aggregate ((Syntax.copy (Syntax.place 16 List.[])) ∷ (Syntax.copy (Syntax.place 1 ((Syntax.field
     1) ∷ List.[]))) ∷ List.[]))
 abbrev b2 : Syntax.Body
-b2 = Syntax.assign (Syntax.place 17 List.[]) (Syntax.addrOf (Syntax.place 2 ((Syntax.field 0) ∷ (Syntax.deref RelayCircuit.ty) ∷ List.[])))
+b2 = Syntax.assign (Syntax.place 18 List.[]) (Syntax.addrOf (Syntax.place 2 ((Syntax.field 0) ∷ (Syntax.deref RelayCircuit.ty) ∷ List.[])))
 abbrev b3 : Syntax.Body
-b3 = Syntax.assign (Syntax.place 18 List.[]) (Syntax.aggregate ((Syntax.copy (Syntax.place 17 List.[])) ∷ (Syntax.copy (Syntax.place 2 ((Syntax.field
+b3 = Syntax.assign (Syntax.place 19 List.[]) (Syntax.aggregate ((Syntax.copy (Syntax.place 18 List.[])) ∷ (Syntax.copy (Syntax.place 2 ((Syntax.field
     1) ∷ List.[]))) ∷ List.[]))
 abbrev b4 : Syntax.Body
-b4 = Syntax.call "hnsr_circuit::handle_close::plan_close" ((Syntax.copy (Syntax.place 16 List.[])) ∷ (Syntax.copy (Syntax.place 18 List.[])) ∷
+b4 = Syntax.call "hnsr_circuit::handle_close::plan_close" ((Syntax.copy (Syntax.place 17 List.[])) ∷ (Syntax.copy (Syntax.place 19 List.[])) ∷
     (Syntax.copy (Syntax.place 5 List.[])) ∷ (Syntax.copy (Syntax.place 6 List.[])) ∷ (Syntax.copy (Syntax.place 7 List.[])) ∷ (Syntax.copy
-    (Syntax.place 8 List.[])) ∷ List.[]) (Syntax.place 9 List.[])
+    (Syntax.place 8 List.[])) ∷ (Syntax.copy (Syntax.place 9 List.[])) ∷ List.[]) (Syntax.place 10 List.[])
 abbrev b5 : Syntax.Body
-b5 = Syntax.assign (Syntax.place 10 List.[]) (Syntax.rvOpd (Syntax.copy (Syntax.place 9 ((Syntax.field 0) ∷ List.[]))))
+b5 = Syntax.assign (Syntax.place 11 List.[]) (Syntax.rvOpd (Syntax.copy (Syntax.place 10 ((Syntax.field 0) ∷ List.[]))))
 abbrev b6 : Syntax.Body
-b6 = Syntax.assign (Syntax.place 11 List.[]) (Syntax.rvOpd (Syntax.copy (Syntax.place 9 ((Syntax.field 7) ∷ List.[]))))
+b6 = Syntax.assign (Syntax.place 12 List.[]) (Syntax.rvOpd (Syntax.copy (Syntax.place 10 ((Syntax.field 7) ∷ List.[]))))
 abbrev b7 : Syntax.Body
-b7 = Syntax.assign (Syntax.place 12 List.[]) (Syntax.rvOpd (Syntax.copy (Syntax.place 9 ((Syntax.field 8) ∷ List.[]))))
+b7 = Syntax.assign (Syntax.place 13 List.[]) (Syntax.rvOpd (Syntax.copy (Syntax.place 10 ((Syntax.field 8) ∷ List.[]))))
 abbrev b8 : Syntax.Body
-b8 = Syntax.assign (Syntax.place 20 List.[]) (Syntax.addrOf (Syntax.place 1 ((Syntax.field 0) ∷ (Syntax.deref RelayPending.ty) ∷ List.[])))
+b8 = Syntax.assign (Syntax.place 21 List.[]) (Syntax.addrOf (Syntax.place 1 ((Syntax.field 0) ∷ (Syntax.deref RelayPending.ty) ∷ List.[])))
 abbrev b9 : Syntax.Body
-b9 = Syntax.assign (Syntax.place 21 List.[]) (Syntax.aggregate ((Syntax.copy (Syntax.place 20 List.[])) ∷ (Syntax.copy (Syntax.place 1 ((Syntax.field
+b9 = Syntax.assign (Syntax.place 22 List.[]) (Syntax.aggregate ((Syntax.copy (Syntax.place 21 List.[])) ∷ (Syntax.copy (Syntax.place 1 ((Syntax.field
     1) ∷ List.[]))) ∷ List.[]))
 abbrev b10 : Syntax.Body
-b10 = Syntax.call "hnsr_circuit::handle_close::unmark_pending" ((Syntax.copy (Syntax.place 21 List.[])) ∷ (Syntax.copy (Syntax.place 9 ((Syntax.field
-    2) ∷ List.[]))) ∷ (Syntax.copy (Syntax.place 9 ((Syntax.field 4) ∷ List.[]))) ∷ List.[]) (Syntax.place 19 List.[])
+b10 = Syntax.call "hnsr_circuit::handle_close::unmark_pending" ((Syntax.copy (Syntax.place 22 List.[])) ∷ (Syntax.copy (Syntax.place 6 List.[])) ∷
+    (Syntax.copy (Syntax.place 10 ((Syntax.field 2) ∷ List.[]))) ∷ (Syntax.copy (Syntax.place 10 ((Syntax.field 4) ∷ List.[]))) ∷ List.[])
+    (Syntax.place 20 List.[])
 abbrev b11 : Syntax.Body
-b11 = Syntax.assign (Syntax.place 22 List.[]) (Syntax.addrOf (Syntax.place 2 ((Syntax.field 0) ∷ (Syntax.deref RelayCircuit.ty) ∷ List.[])))
+b11 = Syntax.assign (Syntax.place 23 List.[]) (Syntax.addrOf (Syntax.place 2 ((Syntax.field 0) ∷ (Syntax.deref RelayCircuit.ty) ∷ List.[])))
 abbrev b12 : Syntax.Body
-b12 = Syntax.assign (Syntax.place 23 List.[]) (Syntax.aggregate ((Syntax.copy (Syntax.place 22 List.[])) ∷ (Syntax.copy (Syntax.place 2 ((Syntax.field
+b12 = Syntax.assign (Syntax.place 24 List.[]) (Syntax.aggregate ((Syntax.copy (Syntax.place 23 List.[])) ∷ (Syntax.copy (Syntax.place 2 ((Syntax.field
     1) ∷ List.[]))) ∷ List.[]))
 abbrev b13 : Syntax.Body
-b13 = Syntax.call "hnsr_circuit::handle_close::unmark_circuit" ((Syntax.copy (Syntax.place 23 List.[])) ∷ (Syntax.copy (Syntax.place 9 ((Syntax.field
-    3) ∷ List.[]))) ∷ (Syntax.copy (Syntax.place 9 ((Syntax.field 5) ∷ List.[]))) ∷ List.[]) (Syntax.place 19 List.[])
+b13 = Syntax.call "hnsr_circuit::handle_close::unmark_circuit" ((Syntax.copy (Syntax.place 24 List.[])) ∷ (Syntax.copy (Syntax.place 6 List.[])) ∷
+    (Syntax.copy (Syntax.place 10 ((Syntax.field 3) ∷ List.[]))) ∷ (Syntax.copy (Syntax.place 10 ((Syntax.field 5) ∷ List.[]))) ∷ List.[])
+    (Syntax.place 20 List.[])
 abbrev b14 : Syntax.Body
-b14 = Syntax.assign (Syntax.place 24 List.[]) (Syntax.addrOf (Syntax.place 3 ((Syntax.field 0) ∷ (Syntax.deref InflightAction.ty) ∷ List.[])))
+b14 = Syntax.assign (Syntax.place 25 List.[]) (Syntax.addrOf (Syntax.place 3 ((Syntax.field 0) ∷ (Syntax.deref InflightAction.ty) ∷ List.[])))
 abbrev b15 : Syntax.Body
-b15 = Syntax.assign (Syntax.place 25 List.[]) (Syntax.aggregate ((Syntax.copy (Syntax.place 24 List.[])) ∷ (Syntax.copy (Syntax.place 3 ((Syntax.field
+b15 = Syntax.assign (Syntax.place 26 List.[]) (Syntax.aggregate ((Syntax.copy (Syntax.place 25 List.[])) ∷ (Syntax.copy (Syntax.place 3 ((Syntax.field
     1) ∷ List.[]))) ∷ List.[]))
 abbrev b16 : Syntax.Body
-b16 = Syntax.call "hnsr_circuit::lookup::drop_actions" ((Syntax.copy (Syntax.place 25 List.[])) ∷ (Syntax.copy (Syntax.place 9 ((Syntax.field 1) ∷
-    List.[]))) ∷ (Syntax.copy (Syntax.place 9 ((Syntax.field 6) ∷ List.[]))) ∷ List.[]) (Syntax.place 19 List.[])
+b16 = Syntax.call "hnsr_circuit::lookup::drop_actions" ((Syntax.copy (Syntax.place 26 List.[])) ∷ (Syntax.copy (Syntax.place 6 List.[])) ∷
+    (Syntax.copy (Syntax.place 10 ((Syntax.field 1) ∷ List.[]))) ∷ (Syntax.copy (Syntax.place 10 ((Syntax.field 6) ∷ List.[]))) ∷ List.[])
+    (Syntax.place 20 List.[])
 abbrev b17 : Syntax.Body
-b17 = Syntax.call "hnsr_circuit::queue::asking" ((Syntax.copy (Syntax.place 11 List.[])) ∷ (Syntax.copy (Syntax.place 12 List.[])) ∷ List.[])
-    (Syntax.place 13 List.[])
+b17 = Syntax.call "hnsr_circuit::queue::asking" ((Syntax.copy (Syntax.place 12 List.[])) ∷ (Syntax.copy (Syntax.place 13 List.[])) ∷ List.[])
+    (Syntax.place 14 List.[])
 abbrev b18 : Syntax.Body
-b18 = Syntax.assign (Syntax.place 26 List.[]) (Syntax.addrOf (Syntax.place 3 ((Syntax.field 0) ∷ (Syntax.deref InflightAction.ty) ∷ List.[])))
+b18 = Syntax.assign (Syntax.place 27 List.[]) (Syntax.addrOf (Syntax.place 3 ((Syntax.field 0) ∷ (Syntax.deref InflightAction.ty) ∷ List.[])))
 abbrev b19 : Syntax.Body
-b19 = Syntax.assign (Syntax.place 27 List.[]) (Syntax.aggregate ((Syntax.copy (Syntax.place 26 List.[])) ∷ (Syntax.copy (Syntax.place 3 ((Syntax.field
+b19 = Syntax.assign (Syntax.place 28 List.[]) (Syntax.aggregate ((Syntax.copy (Syntax.place 27 List.[])) ∷ (Syntax.copy (Syntax.place 3 ((Syntax.field
     1) ∷ List.[]))) ∷ List.[]))
 abbrev b20 : Syntax.Body
-b20 = Syntax.call "hnsr_circuit::tables::inflight::scan_actions" ((Syntax.copy (Syntax.place 27 List.[])) ∷ (Syntax.copy (Syntax.place 13 List.[])) ∷
-    List.[]) (Syntax.place 14 List.[])
+b20 = Syntax.call "hnsr_circuit::tables::inflight::scan_actions" ((Syntax.copy (Syntax.place 28 List.[])) ∷ (Syntax.copy (Syntax.place 6 List.[])) ∷
+    (Syntax.copy (Syntax.place 14 List.[])) ∷ List.[]) (Syntax.place 15 List.[])
 abbrev b21 : Syntax.Body
-b21 = Syntax.assign (Syntax.place 28 List.[]) (Syntax.addrOf (Syntax.place 3 ((Syntax.field 0) ∷ (Syntax.deref InflightAction.ty) ∷ List.[])))
+b21 = Syntax.assign (Syntax.place 29 List.[]) (Syntax.addrOf (Syntax.place 3 ((Syntax.field 0) ∷ (Syntax.deref InflightAction.ty) ∷ List.[])))
 abbrev b22 : Syntax.Body
-b22 = Syntax.assign (Syntax.place 29 List.[]) (Syntax.aggregate ((Syntax.copy (Syntax.place 28 List.[])) ∷ (Syntax.copy (Syntax.place 3 ((Syntax.field
+b22 = Syntax.assign (Syntax.place 30 List.[]) (Syntax.aggregate ((Syntax.copy (Syntax.place 29 List.[])) ∷ (Syntax.copy (Syntax.place 3 ((Syntax.field
     1) ∷ List.[]))) ∷ List.[]))
 abbrev b23 : Syntax.Body
-b23 = Syntax.assign (Syntax.place 30 List.[]) (Syntax.addrOf (Syntax.place 4 ((Syntax.field 0) ∷ (Syntax.deref (Syntax.tyInt Syntax.w32)) ∷ List.[])))
+b23 = Syntax.assign (Syntax.place 31 List.[]) (Syntax.addrOf (Syntax.place 4 ((Syntax.field 0) ∷ (Syntax.deref (Syntax.tyInt Syntax.w32)) ∷ List.[])))
 abbrev b24 : Syntax.Body
-b24 = Syntax.assign (Syntax.place 31 List.[]) (Syntax.aggregate ((Syntax.copy (Syntax.place 30 List.[])) ∷ (Syntax.copy (Syntax.place 4 ((Syntax.field
+b24 = Syntax.assign (Syntax.place 32 List.[]) (Syntax.aggregate ((Syntax.copy (Syntax.place 31 List.[])) ∷ (Syntax.copy (Syntax.place 4 ((Syntax.field
     1) ∷ List.[]))) ∷ List.[]))
 abbrev b25 : Syntax.Body
-b25 = Syntax.call "hnsr_circuit::queue::send" ((Syntax.copy (Syntax.place 29 List.[])) ∷ (Syntax.copy (Syntax.place 31 List.[])) ∷ (Syntax.copy
-    (Syntax.place 10 List.[])) ∷ (Syntax.copy (Syntax.place 11 List.[])) ∷ (Syntax.copy (Syntax.place 12 List.[])) ∷ (Syntax.copy (Syntax.place 14
-    List.[])) ∷ (Syntax.copy (Syntax.place 8 List.[])) ∷ List.[]) (Syntax.place 0 List.[])
+b25 = Syntax.call "hnsr_circuit::queue::send" ((Syntax.copy (Syntax.place 30 List.[])) ∷ (Syntax.copy (Syntax.place 32 List.[])) ∷ (Syntax.copy
+    (Syntax.place 11 List.[])) ∷ (Syntax.copy (Syntax.place 12 List.[])) ∷ (Syntax.copy (Syntax.place 6 List.[])) ∷ (Syntax.copy (Syntax.place 13
+    List.[])) ∷ (Syntax.copy (Syntax.place 15 List.[])) ∷ (Syntax.copy (Syntax.place 9 List.[])) ∷ List.[]) (Syntax.place 0 List.[])
 abbrev b26 : Syntax.Body
 b26 = Syntax.return
 abbrev b27 : Syntax.Body
@@ -374,7 +415,7 @@ abbrev pub Claims : Type 1
 Claims = Kinds.In 4 ps·0 × Kinds.Out 4 ps·0 r·0 × Kinds.In 1 ps·1 × Kinds.Out 1 ps·1 r·1 × Kinds.In 1 ps·2 × Kinds.Out 1 ps·2 r·2 × Kinds.In 1 ps·3 ×
     Kinds.Out 1 ps·3 r·3 × Kinds.In 0 ps·4 × Kinds.Out 0 ps·4 r·4 × Kinds.In 1 ps·5 × Kinds.Out 1 ps·5 r·5 × Kinds.In 3 ps·6 × Kinds.Out 3 ps·6 r·6
 abbrev e0 : Row.Entry
-e0 = (0, Rows.any-gone Laws'''''''.mir)
+e0 = (0, Rows.any-gone Laws''''''''.mir)
 abbrev e1 : Row.Entry
 e1 = (1, Mut.mslice RelayPending.row ref7 0)
 abbrev e2 : Row.Entry
@@ -386,492 +427,509 @@ e4 = (4, Mut.mslice (Referent.rtF (Referent.fInt Syntax.w32)) ref10 3)
 abbrev e5 : Row.Entry
 e5 = (5, Rows.whole (Declared'.row OpaqueRelayRuntime.the-type))
 abbrev e6 : Row.Entry
-e6 = (6, Rows.whole (Declared'.row RelayPacket.the-type))
+e6 = (6, Rows.whole (Declared'.row Places.the-type))
 abbrev e7 : Row.Entry
-e7 = (7, Rows.sslice (Referent.rtF (Referent.fInt Syntax.w8)) ref11 4)
+e7 = (7, Rows.whole (Declared'.row RelayPacket.the-type))
 abbrev e8 : Row.Entry
-e8 = (8, Rows.sslice (Referent.rtF (Referent.fInt Syntax.w8)) ref12 5)
+e8 = (8, Rows.sslice (Referent.rtF (Referent.fInt Syntax.w8)) ref11 4)
 abbrev e9 : Row.Entry
-e9 = (9, Rows.any-gone Laws'.mir)
+e9 = (9, Rows.sslice (Referent.rtF (Referent.fInt Syntax.w8)) ref12 5)
 abbrev e10 : Row.Entry
-e10 = (10, Rows.any-gone Laws.mir)
+e10 = (10, Rows.any-gone Laws'.mir)
 abbrev e11 : Row.Entry
-e11 = (11, Rows.any-gone Laws''''''.mir)
+e11 = (11, Rows.any-gone Laws.mir)
 abbrev e12 : Row.Entry
-e12 = (12, Rows.any-gone Laws''''.mir)
+e12 = (12, Rows.any-gone Laws'''''''.mir)
 abbrev e13 : Row.Entry
-e13 = (13, Rows.any-gone Laws''.mir)
+e13 = (13, Rows.any-gone Laws'''''.mir)
 abbrev e14 : Row.Entry
 e14 = (14, Rows.any-gone Laws'''.mir)
 abbrev e15 : Row.Entry
-e15 = (15, Rows.any-gone ref0)
+e15 = (15, Rows.any-gone Laws''''.mir)
 abbrev e16 : Row.Entry
-e16 = (16, Rows.any-gone (Syntax.tyStruct (38 ∷ 91 ∷ 93 ∷ List.[]) (Syntax.tcons ref0 (Syntax.tcons (Syntax.tyInt Syntax.w64) Syntax.tnil))))
+e16 = (16, Rows.any-gone ref0)
 abbrev e17 : Row.Entry
-e17 = (17, Rows.any-gone ref1)
+e17 = (17, Rows.any-gone (Syntax.tyStruct (38 ∷ 91 ∷ 93 ∷ List.[]) (Syntax.tcons ref0 (Syntax.tcons (Syntax.tyInt Syntax.w64) Syntax.tnil))))
 abbrev e18 : Row.Entry
-e18 = (18, Rows.any-gone (Syntax.tyStruct (38 ∷ 91 ∷ 93 ∷ List.[]) (Syntax.tcons ref1 (Syntax.tcons (Syntax.tyInt Syntax.w64) Syntax.tnil))))
+e18 = (18, Rows.any-gone ref1)
 abbrev e19 : Row.Entry
-e19 = (19, Rows.any-gone Syntax.tyUnit)
+e19 = (19, Rows.any-gone (Syntax.tyStruct (38 ∷ 91 ∷ 93 ∷ List.[]) (Syntax.tcons ref1 (Syntax.tcons (Syntax.tyInt Syntax.w64) Syntax.tnil))))
 abbrev e20 : Row.Entry
-e20 = (20, Rows.any-gone ref2)
+e20 = (20, Rows.any-gone Syntax.tyUnit)
 abbrev e21 : Row.Entry
-e21 = (21, Rows.any-gone (Syntax.tyStruct (38 ∷ 91 ∷ 93 ∷ List.[]) (Syntax.tcons ref2 (Syntax.tcons (Syntax.tyInt Syntax.w64) Syntax.tnil))))
+e21 = (21, Rows.any-gone ref2)
 abbrev e22 : Row.Entry
-e22 = (22, Rows.any-gone ref3)
+e22 = (22, Rows.any-gone (Syntax.tyStruct (38 ∷ 91 ∷ 93 ∷ List.[]) (Syntax.tcons ref2 (Syntax.tcons (Syntax.tyInt Syntax.w64) Syntax.tnil))))
 abbrev e23 : Row.Entry
-e23 = (23, Rows.any-gone (Syntax.tyStruct (38 ∷ 91 ∷ 93 ∷ List.[]) (Syntax.tcons ref3 (Syntax.tcons (Syntax.tyInt Syntax.w64) Syntax.tnil))))
+e23 = (23, Rows.any-gone ref3)
 abbrev e24 : Row.Entry
-e24 = (24, Rows.any-gone ref4)
+e24 = (24, Rows.any-gone (Syntax.tyStruct (38 ∷ 91 ∷ 93 ∷ List.[]) (Syntax.tcons ref3 (Syntax.tcons (Syntax.tyInt Syntax.w64) Syntax.tnil))))
 abbrev e25 : Row.Entry
-e25 = (25, Rows.any-gone (Syntax.tyStruct (38 ∷ 91 ∷ 93 ∷ List.[]) (Syntax.tcons ref4 (Syntax.tcons (Syntax.tyInt Syntax.w64) Syntax.tnil))))
+e25 = (25, Rows.any-gone ref4)
 abbrev e26 : Row.Entry
-e26 = (26, Rows.any-gone ref5)
+e26 = (26, Rows.any-gone (Syntax.tyStruct (38 ∷ 91 ∷ 93 ∷ List.[]) (Syntax.tcons ref4 (Syntax.tcons (Syntax.tyInt Syntax.w64) Syntax.tnil))))
 abbrev e27 : Row.Entry
-e27 = (27, Rows.any-gone (Syntax.tyStruct (38 ∷ 91 ∷ 93 ∷ List.[]) (Syntax.tcons ref5 (Syntax.tcons (Syntax.tyInt Syntax.w64) Syntax.tnil))))
+e27 = (27, Rows.any-gone ref5)
 abbrev e28 : Row.Entry
-e28 = (28, Rows.any-gone ref4)
+e28 = (28, Rows.any-gone (Syntax.tyStruct (38 ∷ 91 ∷ 93 ∷ List.[]) (Syntax.tcons ref5 (Syntax.tcons (Syntax.tyInt Syntax.w64) Syntax.tnil))))
 abbrev e29 : Row.Entry
-e29 = (29, Rows.any-gone (Syntax.tyStruct (38 ∷ 91 ∷ 93 ∷ List.[]) (Syntax.tcons ref4 (Syntax.tcons (Syntax.tyInt Syntax.w64) Syntax.tnil))))
+e29 = (29, Rows.any-gone ref4)
 abbrev e30 : Row.Entry
-e30 = (30, Rows.any-gone ref6)
+e30 = (30, Rows.any-gone (Syntax.tyStruct (38 ∷ 91 ∷ 93 ∷ List.[]) (Syntax.tcons ref4 (Syntax.tcons (Syntax.tyInt Syntax.w64) Syntax.tnil))))
 abbrev e31 : Row.Entry
-e31 = (31, Rows.any-gone (Syntax.tyStruct (38 ∷ 91 ∷ 93 ∷ List.[]) (Syntax.tcons ref6 (Syntax.tcons (Syntax.tyInt Syntax.w64) Syntax.tnil))))
+e31 = (31, Rows.any-gone ref6)
+abbrev e32 : Row.Entry
+e32 = (32, Rows.any-gone (Syntax.tyStruct (38 ∷ 91 ∷ 93 ∷ List.[]) (Syntax.tcons ref6 (Syntax.tcons (Syntax.tyInt Syntax.w64) Syntax.tnil))))
 abbrev e0·1 : Row.Entry
 e0·1 = (0, Rows.whole (Declared'.row Relayed.the-type))
 abbrev e5·1 : Row.Entry
-e5·1 = (5, Rows.any-gone Laws''''''.mir)
+e5·1 = (5, Rows.any-gone Laws'''''''.mir)
 abbrev e6·1 : Row.Entry
-e6·1 = (6, Rows.any-gone Laws'''''.mir)
+e6·1 = (6, Rows.any-gone Laws''.mir)
+abbrev e7·1 : Row.Entry
+e7·1 = (7, Rows.any-gone Laws''''''.mir)
 abbrev e1·1 : Row.Entry
 e1·1 = (1, Reshare.mslice-owedS RelayPending.row ref7 0 6 Row.off)
-abbrev e15·1 : Row.Entry
-e15·1 = (15, Relend.ssptr RelayPending.row ref0 6)
 abbrev e16·1 : Row.Entry
-e16·1 = (16, Rows.sslice RelayPending.row ref0 6)
+e16·1 = (16, Relend.ssptr RelayPending.row ref0 6)
+abbrev e17·1 : Row.Entry
+e17·1 = (17, Rows.sslice RelayPending.row ref0 6)
 abbrev e2·1 : Row.Entry
 e2·1 = (2, Reshare.mslice-owedS RelayCircuit.row ref8 1 7 Row.off)
-abbrev e17·1 : Row.Entry
-e17·1 = (17, Relend.ssptr RelayCircuit.row ref1 7)
 abbrev e18·1 : Row.Entry
-e18·1 = (18, Rows.sslice RelayCircuit.row ref1 7)
-abbrev e9·1 : Row.Entry
-e9·1 = (9, Rows.whole (Declared'.row ClosePlan.the-type))
+e18·1 = (18, Relend.ssptr RelayCircuit.row ref1 7)
+abbrev e19·1 : Row.Entry
+e19·1 = (19, Rows.sslice RelayCircuit.row ref1 7)
 abbrev e10·1 : Row.Entry
-e10·1 = (10, Rows.whole (Declared.row HnsrAnswer.the-type))
+e10·1 = (10, Rows.whole (Declared'.row ClosePlan.the-type))
 abbrev e11·1 : Row.Entry
-e11·1 = (11, Rows.whole (Declared'.row OpaqueRelayRuntime.the-type))
+e11·1 = (11, Rows.whole (Declared.row HnsrAnswer.the-type))
 abbrev e12·1 : Row.Entry
-e12·1 = (12, Rows.whole (Declared'.row Outgoing.the-type))
+e12·1 = (12, Rows.whole (Declared'.row OpaqueRelayRuntime.the-type))
+abbrev e13·1 : Row.Entry
+e13·1 = (13, Rows.whole (Declared'.row Outgoing.the-type))
 abbrev e1·2 : Row.Entry
 e1·2 = (1, Relend.mslice-owed RelayPending.row ref7 0 8 Row.off)
-abbrev e20·1 : Row.Entry
-e20·1 = (20, Relend.msptr RelayPending.row ref2 8)
 abbrev e21·1 : Row.Entry
-e21·1 = (21, Mut.mslice RelayPending.row ref2 8)
-abbrev e19·1 : Row.Entry
-e19·1 = (19, Rows.sc-here Row.sUnit)
-abbrev e21·2 : Row.Entry
-e21·2 = (21, Mut.msleft RelayPending.row ref2)
+e21·1 = (21, Relend.msptr RelayPending.row ref2 8)
+abbrev e22·1 : Row.Entry
+e22·1 = (22, Mut.mslice RelayPending.row ref2 8)
+abbrev e20·1 : Row.Entry
+e20·1 = (20, Rows.sc-here Row.sUnit)
+abbrev e22·2 : Row.Entry
+e22·2 = (22, Mut.msleft RelayPending.row ref2)
 abbrev e2·2 : Row.Entry
 e2·2 = (2, Relend.mslice-owed RelayCircuit.row ref8 1 9 Row.off)
-abbrev e22·1 : Row.Entry
-e22·1 = (22, Relend.msptr RelayCircuit.row ref3 9)
 abbrev e23·1 : Row.Entry
-e23·1 = (23, Mut.mslice RelayCircuit.row ref3 9)
-abbrev e23·2 : Row.Entry
-e23·2 = (23, Mut.msleft RelayCircuit.row ref3)
+e23·1 = (23, Relend.msptr RelayCircuit.row ref3 9)
+abbrev e24·1 : Row.Entry
+e24·1 = (24, Mut.mslice RelayCircuit.row ref3 9)
+abbrev e24·2 : Row.Entry
+e24·2 = (24, Mut.msleft RelayCircuit.row ref3)
 abbrev e3·1 : Row.Entry
 e3·1 = (3, Relend.mslice-owed InflightAction.row ref9 2 10 Row.off)
-abbrev e24·1 : Row.Entry
-e24·1 = (24, Relend.msptr InflightAction.row ref4 10)
 abbrev e25·1 : Row.Entry
-e25·1 = (25, Mut.mslice InflightAction.row ref4 10)
-abbrev e25·2 : Row.Entry
-e25·2 = (25, Mut.msleft InflightAction.row ref4)
-abbrev e13·1 : Row.Entry
-e13·1 = (13, Rows.whole (Declared'.row ActionQuestion.the-type))
+e25·1 = (25, Relend.msptr InflightAction.row ref4 10)
+abbrev e26·1 : Row.Entry
+e26·1 = (26, Mut.mslice InflightAction.row ref4 10)
+abbrev e26·2 : Row.Entry
+e26·2 = (26, Mut.msleft InflightAction.row ref4)
+abbrev e14·1 : Row.Entry
+e14·1 = (14, Rows.whole (Declared'.row ActionQuestion.the-type))
 abbrev e3·2 : Row.Entry
 e3·2 = (3, Reshare.mslice-owedS InflightAction.row ref9 2 11 Row.off)
-abbrev e26·1 : Row.Entry
-e26·1 = (26, Relend.ssptr InflightAction.row ref5 11)
 abbrev e27·1 : Row.Entry
-e27·1 = (27, Rows.sslice InflightAction.row ref5 11)
-abbrev e14·1 : Row.Entry
-e14·1 = (14, Rows.whole (Declared'.row ActionScan.the-type))
+e27·1 = (27, Relend.ssptr InflightAction.row ref5 11)
+abbrev e28·1 : Row.Entry
+e28·1 = (28, Rows.sslice InflightAction.row ref5 11)
+abbrev e15·1 : Row.Entry
+e15·1 = (15, Rows.whole (Declared'.row ActionScan.the-type))
 abbrev e3·3 : Row.Entry
 e3·3 = (3, Relend.mslice-owed InflightAction.row ref9 2 12 Row.off)
-abbrev e28·1 : Row.Entry
-e28·1 = (28, Relend.msptr InflightAction.row ref4 12)
 abbrev e29·1 : Row.Entry
-e29·1 = (29, Mut.mslice InflightAction.row ref4 12)
+e29·1 = (29, Relend.msptr InflightAction.row ref4 12)
+abbrev e30·1 : Row.Entry
+e30·1 = (30, Mut.mslice InflightAction.row ref4 12)
 abbrev e4·1 : Row.Entry
 e4·1 = (4, Relend.mslice-owed (Referent.rtF (Referent.fInt Syntax.w32)) ref10 3 13 Row.off)
-abbrev e30·1 : Row.Entry
-e30·1 = (30, Relend.msptr (Referent.rtF (Referent.fInt Syntax.w32)) ref6 13)
 abbrev e31·1 : Row.Entry
-e31·1 = (31, Mut.mslice (Referent.rtF (Referent.fInt Syntax.w32)) ref6 13)
-abbrev e29·2 : Row.Entry
-e29·2 = (29, Mut.msleft InflightAction.row ref4)
-abbrev e31·2 : Row.Entry
-e31·2 = (31, Mut.msleft (Referent.rtF (Referent.fInt Syntax.w32)) ref6)
+e31·1 = (31, Relend.msptr (Referent.rtF (Referent.fInt Syntax.w32)) ref6 13)
+abbrev e32·1 : Row.Entry
+e32·1 = (32, Mut.mslice (Referent.rtF (Referent.fInt Syntax.w32)) ref6 13)
+abbrev e30·2 : Row.Entry
+e30·2 = (30, Mut.msleft InflightAction.row ref4)
+abbrev e32·2 : Row.Entry
+e32·2 = (32, Mut.msleft (Referent.rtF (Referent.fInt Syntax.w32)) ref6)
 abbrev pub t0 : List.List Row.Entry
 t0 = e0 ∷ e1 ∷ e2 ∷ e3 ∷ e4 ∷ e5 ∷ e6 ∷ e7 ∷ e8 ∷ e9 ∷ e10 ∷ e11 ∷ e12 ∷ e13 ∷ e14 ∷ e15 ∷ List.[]
 abbrev pub t1 : List.List Row.Entry
 t1 = e16 ∷ e17 ∷ e18 ∷ e19 ∷ e20 ∷ e21 ∷ e22 ∷ e23 ∷ e24 ∷ e25 ∷ e26 ∷ e27 ∷ e28 ∷ e29 ∷ e30 ∷ e31 ∷ List.[]
 abbrev pub t2 : List.List Row.Entry
-t2 = e0·1 ∷ e1 ∷ e2 ∷ e3 ∷ e4 ∷ e5·1 ∷ e6·1 ∷ e7 ∷ e8 ∷ e9 ∷ e10 ∷ e11 ∷ e12 ∷ e13 ∷ e14 ∷ e15 ∷ List.[]
+t2 = e32 ∷ List.[]
 abbrev pub t3 : List.List Row.Entry
-t3 = e0 ∷ e1·1 ∷ e2 ∷ e3 ∷ e4 ∷ e5 ∷ e6 ∷ e7 ∷ e8 ∷ e9 ∷ e10 ∷ e11 ∷ e12 ∷ e13 ∷ e14 ∷ e15·1 ∷ List.[]
+t3 = e0·1 ∷ e1 ∷ e2 ∷ e3 ∷ e4 ∷ e5·1 ∷ e6·1 ∷ e7·1 ∷ e8 ∷ e9 ∷ e10 ∷ e11 ∷ e12 ∷ e13 ∷ e14 ∷ e15 ∷ List.[]
 abbrev pub t4 : List.List Row.Entry
 t4 = e0 ∷ e1·1 ∷ e2 ∷ e3 ∷ e4 ∷ e5 ∷ e6 ∷ e7 ∷ e8 ∷ e9 ∷ e10 ∷ e11 ∷ e12 ∷ e13 ∷ e14 ∷ e15 ∷ List.[]
 abbrev pub t5 : List.List Row.Entry
 t5 = e16·1 ∷ e17 ∷ e18 ∷ e19 ∷ e20 ∷ e21 ∷ e22 ∷ e23 ∷ e24 ∷ e25 ∷ e26 ∷ e27 ∷ e28 ∷ e29 ∷ e30 ∷ e31 ∷ List.[]
 abbrev pub t6 : List.List Row.Entry
-t6 = e0 ∷ e1·1 ∷ e2·1 ∷ e3 ∷ e4 ∷ e5 ∷ e6 ∷ e7 ∷ e8 ∷ e9 ∷ e10 ∷ e11 ∷ e12 ∷ e13 ∷ e14 ∷ e15 ∷ List.[]
+t6 = e16 ∷ e17·1 ∷ e18 ∷ e19 ∷ e20 ∷ e21 ∷ e22 ∷ e23 ∷ e24 ∷ e25 ∷ e26 ∷ e27 ∷ e28 ∷ e29 ∷ e30 ∷ e31 ∷ List.[]
 abbrev pub t7 : List.List Row.Entry
-t7 = e16·1 ∷ e17·1 ∷ e18 ∷ e19 ∷ e20 ∷ e21 ∷ e22 ∷ e23 ∷ e24 ∷ e25 ∷ e26 ∷ e27 ∷ e28 ∷ e29 ∷ e30 ∷ e31 ∷ List.[]
+t7 = e0 ∷ e1·1 ∷ e2·1 ∷ e3 ∷ e4 ∷ e5 ∷ e6 ∷ e7 ∷ e8 ∷ e9 ∷ e10 ∷ e11 ∷ e12 ∷ e13 ∷ e14 ∷ e15 ∷ List.[]
 abbrev pub t8 : List.List Row.Entry
-t8 = e16·1 ∷ e17 ∷ e18·1 ∷ e19 ∷ e20 ∷ e21 ∷ e22 ∷ e23 ∷ e24 ∷ e25 ∷ e26 ∷ e27 ∷ e28 ∷ e29 ∷ e30 ∷ e31 ∷ List.[]
+t8 = e16 ∷ e17·1 ∷ e18·1 ∷ e19 ∷ e20 ∷ e21 ∷ e22 ∷ e23 ∷ e24 ∷ e25 ∷ e26 ∷ e27 ∷ e28 ∷ e29 ∷ e30 ∷ e31 ∷ List.[]
 abbrev pub t9 : List.List Row.Entry
-t9 = e0 ∷ e1·1 ∷ e2·1 ∷ e3 ∷ e4 ∷ e5 ∷ e6 ∷ e7 ∷ e8 ∷ e9·1 ∷ e10 ∷ e11 ∷ e12 ∷ e13 ∷ e14 ∷ e15 ∷ List.[]
+t9 = e16 ∷ e17·1 ∷ e18 ∷ e19·1 ∷ e20 ∷ e21 ∷ e22 ∷ e23 ∷ e24 ∷ e25 ∷ e26 ∷ e27 ∷ e28 ∷ e29 ∷ e30 ∷ e31 ∷ List.[]
 abbrev pub t10 : List.List Row.Entry
-t10 = e16 ∷ e17 ∷ e18·1 ∷ e19 ∷ e20 ∷ e21 ∷ e22 ∷ e23 ∷ e24 ∷ e25 ∷ e26 ∷ e27 ∷ e28 ∷ e29 ∷ e30 ∷ e31 ∷ List.[]
+t10 = e0 ∷ e1·1 ∷ e2·1 ∷ e3 ∷ e4 ∷ e5 ∷ e6 ∷ e7 ∷ e8 ∷ e9 ∷ e10·1 ∷ e11 ∷ e12 ∷ e13 ∷ e14 ∷ e15 ∷ List.[]
 abbrev pub t11 : List.List Row.Entry
-t11 = e0 ∷ e1·1 ∷ e2·1 ∷ e3 ∷ e4 ∷ e5·1 ∷ e6 ∷ e7 ∷ e8 ∷ e9·1 ∷ e10 ∷ e11 ∷ e12 ∷ e13 ∷ e14 ∷ e15 ∷ List.[]
+t11 = e16 ∷ e17 ∷ e18 ∷ e19·1 ∷ e20 ∷ e21 ∷ e22 ∷ e23 ∷ e24 ∷ e25 ∷ e26 ∷ e27 ∷ e28 ∷ e29 ∷ e30 ∷ e31 ∷ List.[]
 abbrev pub t12 : List.List Row.Entry
-t12 = e0 ∷ e1·1 ∷ e2·1 ∷ e3 ∷ e4 ∷ e5·1 ∷ e6·1 ∷ e7 ∷ e8 ∷ e9·1 ∷ e10 ∷ e11 ∷ e12 ∷ e13 ∷ e14 ∷ e15 ∷ List.[]
+t12 = e0 ∷ e1·1 ∷ e2·1 ∷ e3 ∷ e4 ∷ e5·1 ∷ e6 ∷ e7 ∷ e8 ∷ e9 ∷ e10·1 ∷ e11 ∷ e12 ∷ e13 ∷ e14 ∷ e15 ∷ List.[]
 abbrev pub t13 : List.List Row.Entry
-t13 = e0 ∷ e1 ∷ e2·1 ∷ e3 ∷ e4 ∷ e5·1 ∷ e6·1 ∷ e7 ∷ e8 ∷ e9·1 ∷ e10 ∷ e11 ∷ e12 ∷ e13 ∷ e14 ∷ e15 ∷ List.[]
+t13 = e0 ∷ e1·1 ∷ e2·1 ∷ e3 ∷ e4 ∷ e5·1 ∷ e6 ∷ e7·1 ∷ e8 ∷ e9 ∷ e10·1 ∷ e11 ∷ e12 ∷ e13 ∷ e14 ∷ e15 ∷ List.[]
 abbrev pub t14 : List.List Row.Entry
-t14 = e0 ∷ e1 ∷ e2 ∷ e3 ∷ e4 ∷ e5·1 ∷ e6·1 ∷ e7 ∷ e8 ∷ e9·1 ∷ e10 ∷ e11 ∷ e12 ∷ e13 ∷ e14 ∷ e15 ∷ List.[]
+t14 = e0 ∷ e1 ∷ e2·1 ∷ e3 ∷ e4 ∷ e5·1 ∷ e6 ∷ e7·1 ∷ e8 ∷ e9 ∷ e10·1 ∷ e11 ∷ e12 ∷ e13 ∷ e14 ∷ e15 ∷ List.[]
 abbrev pub t15 : List.List Row.Entry
-t15 = e0 ∷ e1 ∷ e2 ∷ e3 ∷ e4 ∷ e5·1 ∷ e6·1 ∷ e7 ∷ e8 ∷ e9·1 ∷ e10·1 ∷ e11 ∷ e12 ∷ e13 ∷ e14 ∷ e15 ∷ List.[]
+t15 = e0 ∷ e1 ∷ e2 ∷ e3 ∷ e4 ∷ e5·1 ∷ e6 ∷ e7·1 ∷ e8 ∷ e9 ∷ e10·1 ∷ e11 ∷ e12 ∷ e13 ∷ e14 ∷ e15 ∷ List.[]
 abbrev pub t16 : List.List Row.Entry
-t16 = e0 ∷ e1 ∷ e2 ∷ e3 ∷ e4 ∷ e5·1 ∷ e6·1 ∷ e7 ∷ e8 ∷ e9·1 ∷ e10·1 ∷ e11·1 ∷ e12 ∷ e13 ∷ e14 ∷ e15 ∷ List.[]
+t16 = e0 ∷ e1 ∷ e2 ∷ e3 ∷ e4 ∷ e5·1 ∷ e6 ∷ e7·1 ∷ e8 ∷ e9 ∷ e10·1 ∷ e11·1 ∷ e12 ∷ e13 ∷ e14 ∷ e15 ∷ List.[]
 abbrev pub t17 : List.List Row.Entry
-t17 = e0 ∷ e1 ∷ e2 ∷ e3 ∷ e4 ∷ e5·1 ∷ e6·1 ∷ e7 ∷ e8 ∷ e9·1 ∷ e10·1 ∷ e11·1 ∷ e12·1 ∷ e13 ∷ e14 ∷ e15 ∷ List.[]
+t17 = e0 ∷ e1 ∷ e2 ∷ e3 ∷ e4 ∷ e5·1 ∷ e6 ∷ e7·1 ∷ e8 ∷ e9 ∷ e10·1 ∷ e11·1 ∷ e12·1 ∷ e13 ∷ e14 ∷ e15 ∷ List.[]
 abbrev pub t18 : List.List Row.Entry
-t18 = e0 ∷ e1·2 ∷ e2 ∷ e3 ∷ e4 ∷ e5·1 ∷ e6·1 ∷ e7 ∷ e8 ∷ e9·1 ∷ e10·1 ∷ e11·1 ∷ e12·1 ∷ e13 ∷ e14 ∷ e15 ∷ List.[]
+t18 = e0 ∷ e1 ∷ e2 ∷ e3 ∷ e4 ∷ e5·1 ∷ e6 ∷ e7·1 ∷ e8 ∷ e9 ∷ e10·1 ∷ e11·1 ∷ e12·1 ∷ e13·1 ∷ e14 ∷ e15 ∷ List.[]
 abbrev pub t19 : List.List Row.Entry
-t19 = e16 ∷ e17 ∷ e18 ∷ e19 ∷ e20·1 ∷ e21 ∷ e22 ∷ e23 ∷ e24 ∷ e25 ∷ e26 ∷ e27 ∷ e28 ∷ e29 ∷ e30 ∷ e31 ∷ List.[]
+t19 = e0 ∷ e1·2 ∷ e2 ∷ e3 ∷ e4 ∷ e5·1 ∷ e6 ∷ e7·1 ∷ e8 ∷ e9 ∷ e10·1 ∷ e11·1 ∷ e12·1 ∷ e13·1 ∷ e14 ∷ e15 ∷ List.[]
 abbrev pub t20 : List.List Row.Entry
 t20 = e16 ∷ e17 ∷ e18 ∷ e19 ∷ e20 ∷ e21·1 ∷ e22 ∷ e23 ∷ e24 ∷ e25 ∷ e26 ∷ e27 ∷ e28 ∷ e29 ∷ e30 ∷ e31 ∷ List.[]
 abbrev pub t21 : List.List Row.Entry
-t21 = e16 ∷ e17 ∷ e18 ∷ e19·1 ∷ e20 ∷ e21·2 ∷ e22 ∷ e23 ∷ e24 ∷ e25 ∷ e26 ∷ e27 ∷ e28 ∷ e29 ∷ e30 ∷ e31 ∷ List.[]
+t21 = e16 ∷ e17 ∷ e18 ∷ e19 ∷ e20 ∷ e21 ∷ e22·1 ∷ e23 ∷ e24 ∷ e25 ∷ e26 ∷ e27 ∷ e28 ∷ e29 ∷ e30 ∷ e31 ∷ List.[]
 abbrev pub t22 : List.List Row.Entry
-t22 = e16 ∷ e17 ∷ e18 ∷ e19 ∷ e20 ∷ e21·2 ∷ e22 ∷ e23 ∷ e24 ∷ e25 ∷ e26 ∷ e27 ∷ e28 ∷ e29 ∷ e30 ∷ e31 ∷ List.[]
+t22 = e16 ∷ e17 ∷ e18 ∷ e19 ∷ e20·1 ∷ e21 ∷ e22·2 ∷ e23 ∷ e24 ∷ e25 ∷ e26 ∷ e27 ∷ e28 ∷ e29 ∷ e30 ∷ e31 ∷ List.[]
 abbrev pub t23 : List.List Row.Entry
-t23 = e0 ∷ e1 ∷ e2·2 ∷ e3 ∷ e4 ∷ e5·1 ∷ e6·1 ∷ e7 ∷ e8 ∷ e9·1 ∷ e10·1 ∷ e11·1 ∷ e12·1 ∷ e13 ∷ e14 ∷ e15 ∷ List.[]
+t23 = e16 ∷ e17 ∷ e18 ∷ e19 ∷ e20 ∷ e21 ∷ e22·2 ∷ e23 ∷ e24 ∷ e25 ∷ e26 ∷ e27 ∷ e28 ∷ e29 ∷ e30 ∷ e31 ∷ List.[]
 abbrev pub t24 : List.List Row.Entry
-t24 = e16 ∷ e17 ∷ e18 ∷ e19 ∷ e20 ∷ e21 ∷ e22·1 ∷ e23 ∷ e24 ∷ e25 ∷ e26 ∷ e27 ∷ e28 ∷ e29 ∷ e30 ∷ e31 ∷ List.[]
+t24 = e0 ∷ e1 ∷ e2·2 ∷ e3 ∷ e4 ∷ e5·1 ∷ e6 ∷ e7·1 ∷ e8 ∷ e9 ∷ e10·1 ∷ e11·1 ∷ e12·1 ∷ e13·1 ∷ e14 ∷ e15 ∷ List.[]
 abbrev pub t25 : List.List Row.Entry
 t25 = e16 ∷ e17 ∷ e18 ∷ e19 ∷ e20 ∷ e21 ∷ e22 ∷ e23·1 ∷ e24 ∷ e25 ∷ e26 ∷ e27 ∷ e28 ∷ e29 ∷ e30 ∷ e31 ∷ List.[]
 abbrev pub t26 : List.List Row.Entry
-t26 = e16 ∷ e17 ∷ e18 ∷ e19·1 ∷ e20 ∷ e21 ∷ e22 ∷ e23·2 ∷ e24 ∷ e25 ∷ e26 ∷ e27 ∷ e28 ∷ e29 ∷ e30 ∷ e31 ∷ List.[]
+t26 = e16 ∷ e17 ∷ e18 ∷ e19 ∷ e20 ∷ e21 ∷ e22 ∷ e23 ∷ e24·1 ∷ e25 ∷ e26 ∷ e27 ∷ e28 ∷ e29 ∷ e30 ∷ e31 ∷ List.[]
 abbrev pub t27 : List.List Row.Entry
-t27 = e16 ∷ e17 ∷ e18 ∷ e19 ∷ e20 ∷ e21 ∷ e22 ∷ e23·2 ∷ e24 ∷ e25 ∷ e26 ∷ e27 ∷ e28 ∷ e29 ∷ e30 ∷ e31 ∷ List.[]
+t27 = e16 ∷ e17 ∷ e18 ∷ e19 ∷ e20·1 ∷ e21 ∷ e22 ∷ e23 ∷ e24·2 ∷ e25 ∷ e26 ∷ e27 ∷ e28 ∷ e29 ∷ e30 ∷ e31 ∷ List.[]
 abbrev pub t28 : List.List Row.Entry
-t28 = e0 ∷ e1 ∷ e2 ∷ e3·1 ∷ e4 ∷ e5·1 ∷ e6·1 ∷ e7 ∷ e8 ∷ e9·1 ∷ e10·1 ∷ e11·1 ∷ e12·1 ∷ e13 ∷ e14 ∷ e15 ∷ List.[]
+t28 = e16 ∷ e17 ∷ e18 ∷ e19 ∷ e20 ∷ e21 ∷ e22 ∷ e23 ∷ e24·2 ∷ e25 ∷ e26 ∷ e27 ∷ e28 ∷ e29 ∷ e30 ∷ e31 ∷ List.[]
 abbrev pub t29 : List.List Row.Entry
-t29 = e16 ∷ e17 ∷ e18 ∷ e19 ∷ e20 ∷ e21 ∷ e22 ∷ e23 ∷ e24·1 ∷ e25 ∷ e26 ∷ e27 ∷ e28 ∷ e29 ∷ e30 ∷ e31 ∷ List.[]
+t29 = e0 ∷ e1 ∷ e2 ∷ e3·1 ∷ e4 ∷ e5·1 ∷ e6 ∷ e7·1 ∷ e8 ∷ e9 ∷ e10·1 ∷ e11·1 ∷ e12·1 ∷ e13·1 ∷ e14 ∷ e15 ∷ List.[]
 abbrev pub t30 : List.List Row.Entry
 t30 = e16 ∷ e17 ∷ e18 ∷ e19 ∷ e20 ∷ e21 ∷ e22 ∷ e23 ∷ e24 ∷ e25·1 ∷ e26 ∷ e27 ∷ e28 ∷ e29 ∷ e30 ∷ e31 ∷ List.[]
 abbrev pub t31 : List.List Row.Entry
-t31 = e16 ∷ e17 ∷ e18 ∷ e19·1 ∷ e20 ∷ e21 ∷ e22 ∷ e23 ∷ e24 ∷ e25·2 ∷ e26 ∷ e27 ∷ e28 ∷ e29 ∷ e30 ∷ e31 ∷ List.[]
+t31 = e16 ∷ e17 ∷ e18 ∷ e19 ∷ e20 ∷ e21 ∷ e22 ∷ e23 ∷ e24 ∷ e25 ∷ e26·1 ∷ e27 ∷ e28 ∷ e29 ∷ e30 ∷ e31 ∷ List.[]
 abbrev pub t32 : List.List Row.Entry
-t32 = e0 ∷ e1 ∷ e2 ∷ e3·1 ∷ e4 ∷ e5·1 ∷ e6·1 ∷ e7 ∷ e8 ∷ e9 ∷ e10·1 ∷ e11·1 ∷ e12·1 ∷ e13 ∷ e14 ∷ e15 ∷ List.[]
+t32 = e16 ∷ e17 ∷ e18 ∷ e19 ∷ e20·1 ∷ e21 ∷ e22 ∷ e23 ∷ e24 ∷ e25 ∷ e26·2 ∷ e27 ∷ e28 ∷ e29 ∷ e30 ∷ e31 ∷ List.[]
 abbrev pub t33 : List.List Row.Entry
-t33 = e16 ∷ e17 ∷ e18 ∷ e19 ∷ e20 ∷ e21 ∷ e22 ∷ e23 ∷ e24 ∷ e25·2 ∷ e26 ∷ e27 ∷ e28 ∷ e29 ∷ e30 ∷ e31 ∷ List.[]
+t33 = e0 ∷ e1 ∷ e2 ∷ e3·1 ∷ e4 ∷ e5·1 ∷ e6 ∷ e7·1 ∷ e8 ∷ e9 ∷ e10 ∷ e11·1 ∷ e12·1 ∷ e13·1 ∷ e14 ∷ e15 ∷ List.[]
 abbrev pub t34 : List.List Row.Entry
-t34 = e0 ∷ e1 ∷ e2 ∷ e3 ∷ e4 ∷ e5·1 ∷ e6·1 ∷ e7 ∷ e8 ∷ e9 ∷ e10·1 ∷ e11·1 ∷ e12·1 ∷ e13 ∷ e14 ∷ e15 ∷ List.[]
+t34 = e16 ∷ e17 ∷ e18 ∷ e19 ∷ e20 ∷ e21 ∷ e22 ∷ e23 ∷ e24 ∷ e25 ∷ e26·2 ∷ e27 ∷ e28 ∷ e29 ∷ e30 ∷ e31 ∷ List.[]
 abbrev pub t35 : List.List Row.Entry
-t35 = e0 ∷ e1 ∷ e2 ∷ e3 ∷ e4 ∷ e5·1 ∷ e6·1 ∷ e7 ∷ e8 ∷ e9 ∷ e10·1 ∷ e11·1 ∷ e12·1 ∷ e13·1 ∷ e14 ∷ e15 ∷ List.[]
+t35 = e0 ∷ e1 ∷ e2 ∷ e3 ∷ e4 ∷ e5·1 ∷ e6 ∷ e7·1 ∷ e8 ∷ e9 ∷ e10 ∷ e11·1 ∷ e12·1 ∷ e13·1 ∷ e14 ∷ e15 ∷ List.[]
 abbrev pub t36 : List.List Row.Entry
-t36 = e0 ∷ e1 ∷ e2 ∷ e3·2 ∷ e4 ∷ e5·1 ∷ e6·1 ∷ e7 ∷ e8 ∷ e9 ∷ e10·1 ∷ e11·1 ∷ e12·1 ∷ e13·1 ∷ e14 ∷ e15 ∷ List.[]
+t36 = e0 ∷ e1 ∷ e2 ∷ e3 ∷ e4 ∷ e5·1 ∷ e6 ∷ e7·1 ∷ e8 ∷ e9 ∷ e10 ∷ e11·1 ∷ e12·1 ∷ e13·1 ∷ e14·1 ∷ e15 ∷ List.[]
 abbrev pub t37 : List.List Row.Entry
-t37 = e16 ∷ e17 ∷ e18 ∷ e19 ∷ e20 ∷ e21 ∷ e22 ∷ e23 ∷ e24 ∷ e25 ∷ e26·1 ∷ e27 ∷ e28 ∷ e29 ∷ e30 ∷ e31 ∷ List.[]
+t37 = e0 ∷ e1 ∷ e2 ∷ e3·2 ∷ e4 ∷ e5·1 ∷ e6 ∷ e7·1 ∷ e8 ∷ e9 ∷ e10 ∷ e11·1 ∷ e12·1 ∷ e13·1 ∷ e14·1 ∷ e15 ∷ List.[]
 abbrev pub t38 : List.List Row.Entry
 t38 = e16 ∷ e17 ∷ e18 ∷ e19 ∷ e20 ∷ e21 ∷ e22 ∷ e23 ∷ e24 ∷ e25 ∷ e26 ∷ e27·1 ∷ e28 ∷ e29 ∷ e30 ∷ e31 ∷ List.[]
 abbrev pub t39 : List.List Row.Entry
-t39 = e0 ∷ e1 ∷ e2 ∷ e3·2 ∷ e4 ∷ e5·1 ∷ e6·1 ∷ e7 ∷ e8 ∷ e9 ∷ e10·1 ∷ e11·1 ∷ e12·1 ∷ e13·1 ∷ e14·1 ∷ e15 ∷ List.[]
+t39 = e16 ∷ e17 ∷ e18 ∷ e19 ∷ e20 ∷ e21 ∷ e22 ∷ e23 ∷ e24 ∷ e25 ∷ e26 ∷ e27 ∷ e28·1 ∷ e29 ∷ e30 ∷ e31 ∷ List.[]
 abbrev pub t40 : List.List Row.Entry
-t40 = e0 ∷ e1 ∷ e2 ∷ e3·2 ∷ e4 ∷ e5·1 ∷ e6·1 ∷ e7 ∷ e8 ∷ e9 ∷ e10·1 ∷ e11·1 ∷ e12·1 ∷ e13 ∷ e14·1 ∷ e15 ∷ List.[]
+t40 = e0 ∷ e1 ∷ e2 ∷ e3·2 ∷ e4 ∷ e5·1 ∷ e6 ∷ e7·1 ∷ e8 ∷ e9 ∷ e10 ∷ e11·1 ∷ e12·1 ∷ e13·1 ∷ e14·1 ∷ e15·1 ∷ List.[]
 abbrev pub t41 : List.List Row.Entry
-t41 = e0 ∷ e1 ∷ e2 ∷ e3 ∷ e4 ∷ e5·1 ∷ e6·1 ∷ e7 ∷ e8 ∷ e9 ∷ e10·1 ∷ e11·1 ∷ e12·1 ∷ e13 ∷ e14·1 ∷ e15 ∷ List.[]
+t41 = e0 ∷ e1 ∷ e2 ∷ e3·2 ∷ e4 ∷ e5·1 ∷ e6 ∷ e7·1 ∷ e8 ∷ e9 ∷ e10 ∷ e11·1 ∷ e12·1 ∷ e13·1 ∷ e14 ∷ e15·1 ∷ List.[]
 abbrev pub t42 : List.List Row.Entry
-t42 = e0 ∷ e1 ∷ e2 ∷ e3·3 ∷ e4 ∷ e5·1 ∷ e6·1 ∷ e7 ∷ e8 ∷ e9 ∷ e10·1 ∷ e11·1 ∷ e12·1 ∷ e13 ∷ e14·1 ∷ e15 ∷ List.[]
+t42 = e0 ∷ e1 ∷ e2 ∷ e3 ∷ e4 ∷ e5·1 ∷ e6 ∷ e7·1 ∷ e8 ∷ e9 ∷ e10 ∷ e11·1 ∷ e12·1 ∷ e13·1 ∷ e14 ∷ e15·1 ∷ List.[]
 abbrev pub t43 : List.List Row.Entry
-t43 = e16 ∷ e17 ∷ e18 ∷ e19 ∷ e20 ∷ e21 ∷ e22 ∷ e23 ∷ e24 ∷ e25 ∷ e26 ∷ e27 ∷ e28·1 ∷ e29 ∷ e30 ∷ e31 ∷ List.[]
+t43 = e0 ∷ e1 ∷ e2 ∷ e3·3 ∷ e4 ∷ e5·1 ∷ e6 ∷ e7·1 ∷ e8 ∷ e9 ∷ e10 ∷ e11·1 ∷ e12·1 ∷ e13·1 ∷ e14 ∷ e15·1 ∷ List.[]
 abbrev pub t44 : List.List Row.Entry
 t44 = e16 ∷ e17 ∷ e18 ∷ e19 ∷ e20 ∷ e21 ∷ e22 ∷ e23 ∷ e24 ∷ e25 ∷ e26 ∷ e27 ∷ e28 ∷ e29·1 ∷ e30 ∷ e31 ∷ List.[]
 abbrev pub t45 : List.List Row.Entry
-t45 = e0 ∷ e1 ∷ e2 ∷ e3·3 ∷ e4·1 ∷ e5·1 ∷ e6·1 ∷ e7 ∷ e8 ∷ e9 ∷ e10·1 ∷ e11·1 ∷ e12·1 ∷ e13 ∷ e14·1 ∷ e15 ∷ List.[]
+t45 = e16 ∷ e17 ∷ e18 ∷ e19 ∷ e20 ∷ e21 ∷ e22 ∷ e23 ∷ e24 ∷ e25 ∷ e26 ∷ e27 ∷ e28 ∷ e29 ∷ e30·1 ∷ e31 ∷ List.[]
 abbrev pub t46 : List.List Row.Entry
-t46 = e16 ∷ e17 ∷ e18 ∷ e19 ∷ e20 ∷ e21 ∷ e22 ∷ e23 ∷ e24 ∷ e25 ∷ e26 ∷ e27 ∷ e28 ∷ e29·1 ∷ e30·1 ∷ e31 ∷ List.[]
+t46 = e0 ∷ e1 ∷ e2 ∷ e3·3 ∷ e4·1 ∷ e5·1 ∷ e6 ∷ e7·1 ∷ e8 ∷ e9 ∷ e10 ∷ e11·1 ∷ e12·1 ∷ e13·1 ∷ e14 ∷ e15·1 ∷ List.[]
 abbrev pub t47 : List.List Row.Entry
-t47 = e16 ∷ e17 ∷ e18 ∷ e19 ∷ e20 ∷ e21 ∷ e22 ∷ e23 ∷ e24 ∷ e25 ∷ e26 ∷ e27 ∷ e28 ∷ e29·1 ∷ e30 ∷ e31·1 ∷ List.[]
+t47 = e16 ∷ e17 ∷ e18 ∷ e19 ∷ e20 ∷ e21 ∷ e22 ∷ e23 ∷ e24 ∷ e25 ∷ e26 ∷ e27 ∷ e28 ∷ e29 ∷ e30·1 ∷ e31·1 ∷ List.[]
 abbrev pub t48 : List.List Row.Entry
-t48 = e0·1 ∷ e1 ∷ e2 ∷ e3·3 ∷ e4·1 ∷ e5·1 ∷ e6·1 ∷ e7 ∷ e8 ∷ e9 ∷ e10·1 ∷ e11·1 ∷ e12·1 ∷ e13 ∷ e14·1 ∷ e15 ∷ List.[]
+t48 = e32·1 ∷ List.[]
 abbrev pub t49 : List.List Row.Entry
-t49 = e16 ∷ e17 ∷ e18 ∷ e19 ∷ e20 ∷ e21 ∷ e22 ∷ e23 ∷ e24 ∷ e25 ∷ e26 ∷ e27 ∷ e28 ∷ e29·2 ∷ e30 ∷ e31·2 ∷ List.[]
+t49 = e0·1 ∷ e1 ∷ e2 ∷ e3·3 ∷ e4·1 ∷ e5·1 ∷ e6 ∷ e7·1 ∷ e8 ∷ e9 ∷ e10 ∷ e11·1 ∷ e12·1 ∷ e13·1 ∷ e14 ∷ e15·1 ∷ List.[]
 abbrev pub t50 : List.List Row.Entry
-t50 = e0·1 ∷ e1 ∷ e2 ∷ e3·3 ∷ e4·1 ∷ e5·1 ∷ e6·1 ∷ e7 ∷ e8 ∷ e9 ∷ e10 ∷ e11·1 ∷ e12·1 ∷ e13 ∷ e14·1 ∷ e15 ∷ List.[]
+t50 = e16 ∷ e17 ∷ e18 ∷ e19 ∷ e20 ∷ e21 ∷ e22 ∷ e23 ∷ e24 ∷ e25 ∷ e26 ∷ e27 ∷ e28 ∷ e29 ∷ e30·2 ∷ e31 ∷ List.[]
 abbrev pub t51 : List.List Row.Entry
-t51 = e0·1 ∷ e1 ∷ e2 ∷ e3·3 ∷ e4·1 ∷ e5·1 ∷ e6·1 ∷ e7 ∷ e8 ∷ e9 ∷ e10 ∷ e11 ∷ e12·1 ∷ e13 ∷ e14·1 ∷ e15 ∷ List.[]
+t51 = e32·2 ∷ List.[]
 abbrev pub t52 : List.List Row.Entry
-t52 = e0·1 ∷ e1 ∷ e2 ∷ e3·3 ∷ e4·1 ∷ e5·1 ∷ e6·1 ∷ e7 ∷ e8 ∷ e9 ∷ e10 ∷ e11 ∷ e12 ∷ e13 ∷ e14·1 ∷ e15 ∷ List.[]
+t52 = e0·1 ∷ e1 ∷ e2 ∷ e3·3 ∷ e4·1 ∷ e5·1 ∷ e6·1 ∷ e7·1 ∷ e8 ∷ e9 ∷ e10 ∷ e11·1 ∷ e12·1 ∷ e13·1 ∷ e14 ∷ e15·1 ∷ List.[]
 abbrev pub t53 : List.List Row.Entry
-t53 = e0·1 ∷ e1 ∷ e2 ∷ e3·3 ∷ e4·1 ∷ e5·1 ∷ e6·1 ∷ e7 ∷ e8 ∷ e9 ∷ e10 ∷ e11 ∷ e12 ∷ e13 ∷ e14 ∷ e15 ∷ List.[]
+t53 = e0·1 ∷ e1 ∷ e2 ∷ e3·3 ∷ e4·1 ∷ e5·1 ∷ e6·1 ∷ e7·1 ∷ e8 ∷ e9 ∷ e10 ∷ e11 ∷ e12·1 ∷ e13·1 ∷ e14 ∷ e15·1 ∷ List.[]
 abbrev pub t54 : List.List Row.Entry
-t54 = e0·1 ∷ e1 ∷ e2 ∷ e3 ∷ e4·1 ∷ e5·1 ∷ e6·1 ∷ e7 ∷ e8 ∷ e9 ∷ e10 ∷ e11 ∷ e12 ∷ e13 ∷ e14 ∷ e15 ∷ List.[]
+t54 = e0·1 ∷ e1 ∷ e2 ∷ e3·3 ∷ e4·1 ∷ e5·1 ∷ e6·1 ∷ e7·1 ∷ e8 ∷ e9 ∷ e10 ∷ e11 ∷ e12 ∷ e13·1 ∷ e14 ∷ e15·1 ∷ List.[]
 abbrev pub t55 : List.List Row.Entry
-t55 = e16 ∷ e17 ∷ e18 ∷ e19 ∷ e20 ∷ e21 ∷ e22 ∷ e23 ∷ e24 ∷ e25 ∷ e26 ∷ e27 ∷ e28 ∷ e29 ∷ e30 ∷ e31·2 ∷ List.[]
+t55 = e0·1 ∷ e1 ∷ e2 ∷ e3·3 ∷ e4·1 ∷ e5·1 ∷ e6·1 ∷ e7·1 ∷ e8 ∷ e9 ∷ e10 ∷ e11 ∷ e12 ∷ e13 ∷ e14 ∷ e15·1 ∷ List.[]
+abbrev pub t56 : List.List Row.Entry
+t56 = e0·1 ∷ e1 ∷ e2 ∷ e3·3 ∷ e4·1 ∷ e5·1 ∷ e6·1 ∷ e7·1 ∷ e8 ∷ e9 ∷ e10 ∷ e11 ∷ e12 ∷ e13 ∷ e14 ∷ e15 ∷ List.[]
+abbrev pub t57 : List.List Row.Entry
+t57 = e0·1 ∷ e1 ∷ e2 ∷ e3 ∷ e4·1 ∷ e5·1 ∷ e6·1 ∷ e7·1 ∷ e8 ∷ e9 ∷ e10 ∷ e11 ∷ e12 ∷ e13 ∷ e14 ∷ e15 ∷ List.[]
 abbrev pub T0 : Row.Cx
-T0 = record { locals = List._++_ t0 t1; slots = List.[] }
+T0 = record { locals = List._++_ t0 (List._++_ t1 t2); slots = List.[] }
 abbrev pub T1 : Row.Cx
-T1 = record { locals = List._++_ t2 t1; slots = List.[] }
+T1 = record { locals = List._++_ t3 (List._++_ t1 t2); slots = List.[] }
 abbrev pub T2 : Row.Cx
-T2 = record { locals = List._++_ t0 t1; slots = List.[] }
+T2 = record { locals = List._++_ t0 (List._++_ t1 t2); slots = List.[] }
 abbrev pub T3 : Row.Cx
-T3 = record { locals = List._++_ t0 t1; slots = List.[] }
+T3 = record { locals = List._++_ t0 (List._++_ t1 t2); slots = List.[] }
 abbrev pub T4 : Row.Cx
-T4 = record { locals = List._++_ t0 t1; slots = List.[] }
+T4 = record { locals = List._++_ t0 (List._++_ t1 t2); slots = List.[] }
 abbrev pub T6 : Row.Cx
-T6 = record { locals = List._++_ t3 t1; slots = List.[] }
+T6 = record { locals = List._++_ t4 (List._++_ t5 t2); slots = List.[] }
 abbrev pub T7 : Row.Cx
-T7 = record { locals = List._++_ t4 t5; slots = List.[] }
+T7 = record { locals = List._++_ t4 (List._++_ t6 t2); slots = List.[] }
 abbrev pub T9 : Row.Cx
-T9 = record { locals = List._++_ t6 t7; slots = List.[] }
+T9 = record { locals = List._++_ t7 (List._++_ t8 t2); slots = List.[] }
 abbrev pub T10 : Row.Cx
-T10 = record { locals = List._++_ t6 t8; slots = List.[] }
+T10 = record { locals = List._++_ t7 (List._++_ t9 t2); slots = List.[] }
 abbrev pub T11 : Row.Cx
-T11 = record { locals = List._++_ t9 t8; slots = List.[] }
+T11 = record { locals = List._++_ t10 (List._++_ t9 t2); slots = List.[] }
 abbrev pub T12 : Row.Cx
-T12 = record { locals = List._++_ t9 t10; slots = List.[] }
+T12 = record { locals = List._++_ t10 (List._++_ t11 t2); slots = List.[] }
 abbrev pub T13 : Row.Cx
-T13 = record { locals = List._++_ t9 t1; slots = List.[] }
+T13 = record { locals = List._++_ t10 (List._++_ t1 t2); slots = List.[] }
 abbrev pub T14 : Row.Cx
-T14 = record { locals = List._++_ t11 t1; slots = List.[] }
+T14 = record { locals = List._++_ t12 (List._++_ t1 t2); slots = List.[] }
 abbrev pub T15 : Row.Cx
-T15 = record { locals = List._++_ t12 t1; slots = List.[] }
+T15 = record { locals = List._++_ t13 (List._++_ t1 t2); slots = List.[] }
 abbrev pub T17 : Row.Cx
-T17 = record { locals = List._++_ t13 t1; slots = List.[] }
+T17 = record { locals = List._++_ t14 (List._++_ t1 t2); slots = List.[] }
 abbrev pub T20 : Row.Cx
-T20 = record { locals = List._++_ t14 t1; slots = List.[] }
+T20 = record { locals = List._++_ t15 (List._++_ t1 t2); slots = List.[] }
 abbrev pub T22 : Row.Cx
-T22 = record { locals = List._++_ t15 t1; slots = List.[] }
+T22 = record { locals = List._++_ t16 (List._++_ t1 t2); slots = List.[] }
 abbrev pub T23 : Row.Cx
-T23 = record { locals = List._++_ t16 t1; slots = List.[] }
+T23 = record { locals = List._++_ t17 (List._++_ t1 t2); slots = List.[] }
 abbrev pub T24 : Row.Cx
-T24 = record { locals = List._++_ t17 t1; slots = List.[] }
+T24 = record { locals = List._++_ t18 (List._++_ t1 t2); slots = List.[] }
 abbrev pub T26 : Row.Cx
-T26 = record { locals = List._++_ t18 t19; slots = List.[] }
+T26 = record { locals = List._++_ t19 (List._++_ t20 t2); slots = List.[] }
 abbrev pub T27 : Row.Cx
-T27 = record { locals = List._++_ t18 t20; slots = List.[] }
+T27 = record { locals = List._++_ t19 (List._++_ t21 t2); slots = List.[] }
 abbrev pub T28 : Row.Cx
-T28 = record { locals = List._++_ t18 t21; slots = List.[] }
+T28 = record { locals = List._++_ t19 (List._++_ t22 t2); slots = List.[] }
 abbrev pub T29 : Row.Cx
-T29 = record { locals = List._++_ t18 t22; slots = List.[] }
+T29 = record { locals = List._++_ t19 (List._++_ t23 t2); slots = List.[] }
 abbrev pub T31 : Row.Cx
-T31 = record { locals = List._++_ t17 t1; slots = List.[] }
+T31 = record { locals = List._++_ t18 (List._++_ t1 t2); slots = List.[] }
 abbrev pub T34 : Row.Cx
-T34 = record { locals = List._++_ t23 t24; slots = List.[] }
+T34 = record { locals = List._++_ t24 (List._++_ t25 t2); slots = List.[] }
 abbrev pub T35 : Row.Cx
-T35 = record { locals = List._++_ t23 t25; slots = List.[] }
+T35 = record { locals = List._++_ t24 (List._++_ t26 t2); slots = List.[] }
 abbrev pub T36 : Row.Cx
-T36 = record { locals = List._++_ t23 t26; slots = List.[] }
+T36 = record { locals = List._++_ t24 (List._++_ t27 t2); slots = List.[] }
 abbrev pub T37 : Row.Cx
-T37 = record { locals = List._++_ t23 t27; slots = List.[] }
+T37 = record { locals = List._++_ t24 (List._++_ t28 t2); slots = List.[] }
 abbrev pub T39 : Row.Cx
-T39 = record { locals = List._++_ t17 t1; slots = List.[] }
+T39 = record { locals = List._++_ t18 (List._++_ t1 t2); slots = List.[] }
 abbrev pub T42 : Row.Cx
-T42 = record { locals = List._++_ t28 t29; slots = List.[] }
+T42 = record { locals = List._++_ t29 (List._++_ t30 t2); slots = List.[] }
 abbrev pub T43 : Row.Cx
-T43 = record { locals = List._++_ t28 t30; slots = List.[] }
+T43 = record { locals = List._++_ t29 (List._++_ t31 t2); slots = List.[] }
 abbrev pub T44 : Row.Cx
-T44 = record { locals = List._++_ t28 t31; slots = List.[] }
+T44 = record { locals = List._++_ t29 (List._++_ t32 t2); slots = List.[] }
 abbrev pub T45 : Row.Cx
-T45 = record { locals = List._++_ t32 t31; slots = List.[] }
+T45 = record { locals = List._++_ t33 (List._++_ t32 t2); slots = List.[] }
 abbrev pub T46 : Row.Cx
-T46 = record { locals = List._++_ t32 t33; slots = List.[] }
+T46 = record { locals = List._++_ t33 (List._++_ t34 t2); slots = List.[] }
 abbrev pub T48 : Row.Cx
-T48 = record { locals = List._++_ t34 t1; slots = List.[] }
+T48 = record { locals = List._++_ t35 (List._++_ t1 t2); slots = List.[] }
 abbrev pub T50 : Row.Cx
-T50 = record { locals = List._++_ t35 t1; slots = List.[] }
+T50 = record { locals = List._++_ t36 (List._++_ t1 t2); slots = List.[] }
 abbrev pub T52 : Row.Cx
-T52 = record { locals = List._++_ t36 t37; slots = List.[] }
+T52 = record { locals = List._++_ t37 (List._++_ t38 t2); slots = List.[] }
 abbrev pub T53 : Row.Cx
-T53 = record { locals = List._++_ t36 t38; slots = List.[] }
+T53 = record { locals = List._++_ t37 (List._++_ t39 t2); slots = List.[] }
 abbrev pub T54 : Row.Cx
-T54 = record { locals = List._++_ t39 t38; slots = List.[] }
+T54 = record { locals = List._++_ t40 (List._++_ t39 t2); slots = List.[] }
 abbrev pub T55 : Row.Cx
-T55 = record { locals = List._++_ t39 t1; slots = List.[] }
+T55 = record { locals = List._++_ t40 (List._++_ t1 t2); slots = List.[] }
 abbrev pub T56 : Row.Cx
-T56 = record { locals = List._++_ t40 t1; slots = List.[] }
+T56 = record { locals = List._++_ t41 (List._++_ t1 t2); slots = List.[] }
 abbrev pub T58 : Row.Cx
-T58 = record { locals = List._++_ t41 t1; slots = List.[] }
+T58 = record { locals = List._++_ t42 (List._++_ t1 t2); slots = List.[] }
 abbrev pub T61 : Row.Cx
-T61 = record { locals = List._++_ t42 t43; slots = List.[] }
+T61 = record { locals = List._++_ t43 (List._++_ t44 t2); slots = List.[] }
 abbrev pub T62 : Row.Cx
-T62 = record { locals = List._++_ t42 t44; slots = List.[] }
+T62 = record { locals = List._++_ t43 (List._++_ t45 t2); slots = List.[] }
 abbrev pub T64 : Row.Cx
-T64 = record { locals = List._++_ t45 t46; slots = List.[] }
+T64 = record { locals = List._++_ t46 (List._++_ t47 t2); slots = List.[] }
 abbrev pub T65 : Row.Cx
-T65 = record { locals = List._++_ t45 t47; slots = List.[] }
+T65 = record { locals = List._++_ t46 (List._++_ t45 t48); slots = List.[] }
 abbrev pub T66 : Row.Cx
-T66 = record { locals = List._++_ t48 t49; slots = List.[] }
+T66 = record { locals = List._++_ t49 (List._++_ t50 t51); slots = List.[] }
 abbrev pub T67 : Row.Cx
-T67 = record { locals = List._++_ t50 t49; slots = List.[] }
+T67 = record { locals = List._++_ t52 (List._++_ t50 t51); slots = List.[] }
 abbrev pub T68 : Row.Cx
-T68 = record { locals = List._++_ t51 t49; slots = List.[] }
+T68 = record { locals = List._++_ t53 (List._++_ t50 t51); slots = List.[] }
 abbrev pub T69 : Row.Cx
-T69 = record { locals = List._++_ t52 t49; slots = List.[] }
+T69 = record { locals = List._++_ t54 (List._++_ t50 t51); slots = List.[] }
 abbrev pub T70 : Row.Cx
-T70 = record { locals = List._++_ t53 t49; slots = List.[] }
-abbrev pub T72 : Row.Cx
-T72 = record { locals = List._++_ t54 t55; slots = List.[] }
-abbrev pub T75 : Row.Cx
-T75 = record { locals = List._++_ t2 t1; slots = List.[] }
+T70 = record { locals = List._++_ t55 (List._++_ t50 t51); slots = List.[] }
+abbrev pub T71 : Row.Cx
+T71 = record { locals = List._++_ t56 (List._++_ t50 t51); slots = List.[] }
+abbrev pub T73 : Row.Cx
+T73 = record { locals = List._++_ t57 (List._++_ t1 t51); slots = List.[] }
 abbrev pub T76 : Row.Cx
-T76 = record { locals = List._++_ t2 t1; slots = List.[] }
+T76 = record { locals = List._++_ t3 (List._++_ t1 t2); slots = List.[] }
+abbrev pub T77 : Row.Cx
+T77 = record { locals = List._++_ t3 (List._++_ t1 t2); slots = List.[] }
 abbrev pub O0 : Typed.Outs
 O0 = record { next = Option.none; exits = List.[]; returns = Option.some T1 }
 module _ (claims· : Claims) where
   abbrev s0 : (bs : List.List Nat.ℕ) → Typed.Gives T0 T2
   s0 = λ bs. Know.k-sl-known (Referent.fInt Syntax.w32) T0 4 3 ref10 Row.off 0 λ x. x
   abbrev s1 : (bs : List.List Nat.ℕ) → Typed.Gives T2 T3
-  s1 = λ bs. Know.k-shs-known (Referent.fInt Syntax.w8) T2 7 4 ref11 Row.off 0 λ x. x
+  s1 = λ bs. Know.k-shs-known (Referent.fInt Syntax.w8) T2 8 4 ref11 Row.off 0 λ x. x
   abbrev s2 : (bs : List.List Nat.ℕ) → Typed.Gives T3 T4
-  s2 = λ bs. Know.k-shs-known (Referent.fInt Syntax.w8) T3 8 5 ref12 Row.off 0 λ x. x
+  s2 = λ bs. Know.k-shs-known (Referent.fInt Syntax.w8) T3 9 5 ref12 Row.off 0 λ x. x
   abbrev s4 : (bs : List.List Nat.ℕ) → Typed.Gives T4 T6
-  s4 = λ bs. Reshare.k-sl-reshare RelayPending.row T4 1 15 0 6 ref7 ref0 Row.off λ x. x
+  s4 = λ bs. Reshare.k-sl-reshare RelayPending.row T4 1 16 0 6 ref7 ref0 Row.off λ x. x
   abbrev s5 : (bs : List.List Nat.ℕ) → Typed.Asks T6 T7
-  s5 = λ bs. Relend.k-sl-aggregate RelayPending.row (Relend.asShr RelayPending.row) T6 15 16 6 ref0 ref0 (λ x. x) (Scalar.oFld 1 ((Syntax.field 1) ∷
+  s5 = λ bs. Relend.k-sl-aggregate RelayPending.row (Relend.asShr RelayPending.row) T6 16 17 6 ref0 ref0 (λ x. x) (Scalar.oFld 1 ((Syntax.field 1) ∷
       List.[]) (Syntax.tyInt Syntax.w64) 8 λ v. Shared.lenV (v .0))
   abbrev s7 : (bs : List.List Nat.ℕ) → Typed.Gives T7 T9
-  s7 = λ bs. Reshare.k-sl-reshare RelayCircuit.row T7 2 17 1 7 ref8 ref1 Row.off λ x. x
+  s7 = λ bs. Reshare.k-sl-reshare RelayCircuit.row T7 2 18 1 7 ref8 ref1 Row.off λ x. x
   abbrev s8 : (bs : List.List Nat.ℕ) → Typed.Asks T9 T10
-  s8 = λ bs. Relend.k-sl-aggregate RelayCircuit.row (Relend.asShr RelayCircuit.row) T9 17 18 7 ref1 ref1 (λ x. x) (Scalar.oFld 2 ((Syntax.field 1) ∷
+  s8 = λ bs. Relend.k-sl-aggregate RelayCircuit.row (Relend.asShr RelayCircuit.row) T9 18 19 7 ref1 ref1 (λ x. x) (Scalar.oFld 2 ((Syntax.field 1) ∷
       List.[]) (Syntax.tyInt Syntax.w64) 8 λ v. Shared.lenV (v .0))
   abbrev s9 : (bs : List.List Nat.ℕ) → Typed.Both T10 T11
-  s9 = λ bs. Call.callB ps·0 r·0 (claims· .0) (claims· .1) T10 (record { pos = 16; ty = Syntax.tyRef Syntax.erased Syntax.imm RelayPending.to; ref = λ
-      x. x; }, (record { pos = 18; ty = Syntax.tyRef Syntax.erased Syntax.imm RelayCircuit.to; ref = λ x. x; }, (record { pos = 5; st = List.[]; d =
-      0; at = λ x. x }, (record { pos = 6; st = List.[]; d = 0; at = λ x. x }, (record { pos = 7; ty = Syntax.tyRef (Syntax.named 4) Syntax.imm
-      (Syntax.tyInt Syntax.w8); ref = λ x. x; }, (record { pos = 8; ty = Syntax.tyRef (Syntax.named 5) Syntax.imm (Syntax.tyInt Syntax.w8); ref = λ x.
-      x; }, tt,),),),),),) 9 (6 ∷ 7 ∷ 4 ∷ 5 ∷ List.[]) Laws'.mir
+  s9 = λ bs. Call.callB ps·0 r·0 (claims· .0) (claims· .1) T10 (record { pos = 17; ty = Syntax.tyRef Syntax.erased Syntax.imm RelayPending.to; ref = λ
+      x. x; }, (record { pos = 19; ty = Syntax.tyRef Syntax.erased Syntax.imm RelayCircuit.to; ref = λ x. x; }, (record { pos = 5; st = List.[]; d =
+      0; at = λ x. x }, (record { pos = 6; st = List.[]; d = 0; at = λ x. x }, (record { pos = 7; st = List.[]; d = 0; at = λ x. x }, (record { pos =
+      8; ty = Syntax.tyRef (Syntax.named 4) Syntax.imm (Syntax.tyInt Syntax.w8); ref = λ x. x; }, (record { pos = 9; ty = Syntax.tyRef (Syntax.named
+      5) Syntax.imm (Syntax.tyInt Syntax.w8); ref = λ x. x; }, tt,),),),),),),) 10 (6 ∷ 7 ∷ 4 ∷ 5 ∷ List.[]) Laws'.mir
   abbrev s10 : (bs : List.List Nat.ℕ) → Typed.Mo T11 → Typed.Mo T12
-  s10 = λ bs. Scalar.n-room T11 16 (Syntax.tyStruct (38 ∷ 91 ∷ 93 ∷ List.[]) (Syntax.tcons ref0 (Syntax.tcons (Syntax.tyInt Syntax.w64) Syntax.tnil)))
+  s10 = λ bs. Scalar.n-room T11 17 (Syntax.tyStruct (38 ∷ 91 ∷ 93 ∷ List.[]) (Syntax.tcons ref0 (Syntax.tcons (Syntax.tyInt Syntax.w64) Syntax.tnil)))
   abbrev s11 : (bs : List.List Nat.ℕ) → Typed.Mo T12 → Typed.Mo T13
-  s11 = λ bs. Scalar.n-room T12 18 (Syntax.tyStruct (38 ∷ 91 ∷ 93 ∷ List.[]) (Syntax.tcons ref1 (Syntax.tcons (Syntax.tyInt Syntax.w64) Syntax.tnil)))
+  s11 = λ bs. Scalar.n-room T12 19 (Syntax.tyStruct (38 ∷ 91 ∷ 93 ∷ List.[]) (Syntax.tcons ref1 (Syntax.tcons (Syntax.tyInt Syntax.w64) Syntax.tnil)))
   abbrev s12 : (bs : List.List Nat.ℕ) → Typed.Mo T13 → Typed.Mo T14
-  s12 = λ bs. Scalar.n-room T13 5 Laws''''''.mir
+  s12 = λ bs. Scalar.n-room T13 5 Laws'''''''.mir
   abbrev s13 : (bs : List.List Nat.ℕ) → Typed.Mo T14 → Typed.Mo T15
-  s13 = λ bs. Scalar.n-room T14 6 Laws'''''.mir
+  s13 = λ bs. Scalar.n-room T14 7 Laws''''''.mir
   abbrev s15 : (bs : List.List Nat.ℕ) → Typed.Mo T15 → Typed.Mo T17
   s15 = λ bs. Reshare.n-back-sl-shr RelayPending.row T15 1 0 6 ref7 Row.off λ x. x
   abbrev s18 : (bs : List.List Nat.ℕ) → Typed.Mo T17 → Typed.Mo T20
   s18 = λ bs. Reshare.n-back-sl-shr RelayCircuit.row T17 2 1 7 ref8 Row.off λ x. x
   abbrev s20 : (bs : List.List Nat.ℕ) → Typed.Mo T20 → Typed.Mo T22
-  s20 = λ bs. Make.n-make (Declared.row HnsrAnswer.the-type) T20 10 λ m. ClosePlan.struct .as-values (m .1 .1 .1 .1 .1 .1 .1 .1 .1 .0) .0
+  s20 = λ bs. Make.n-make (Declared.row HnsrAnswer.the-type) T20 11 λ m. ClosePlan.struct .as-values (m .1 .1 .1 .1 .1 .1 .1 .1 .1 .1 .0) .0
   abbrev s21 : (bs : List.List Nat.ℕ) → Typed.Both T22 T23
-  s21 = λ bs. WayStmt.k-way-copy-out T22 (Row.out 9 (T22 .locals)) (λ u. Row.drop 9 (T22 .locals) u) 11 (Rows.whole (Declared'.row
-      OpaqueRelayRuntime.the-type)) (λ u. At.getAt (ClosePlan.the-type .parts) 7 (ClosePlan.struct .as-values (u .1 .1 .1 .1 .1 .1 .1 .1 .1 .0))) (λ
-      T′. record { locals = Row.setRow 9 (9, Rows.whole (Declared'.row ClosePlan.the-type)) T′; slots = List.[]; }) (λ u T′ m′. Row.set 9 (9,
-      Rows.whole (Declared'.row ClosePlan.the-type)) (u .1 .1 .1 .1 .1 .1 .1 .1 .1 .0) T′ m′) (λ u. Unit) λ u. Unit
+  s21 = λ bs. WayStmt.k-way-copy-out T22 (Row.out 10 (T22 .locals)) (λ u. Row.drop 10 (T22 .locals) u) 12 (Rows.whole (Declared'.row
+      OpaqueRelayRuntime.the-type)) (λ u. At.getAt (ClosePlan.the-type .parts) 7 (ClosePlan.struct .as-values (u .1 .1 .1 .1 .1 .1 .1 .1 .1 .1 .0)))
+      (λ T′. record { locals = Row.setRow 10 (10, Rows.whole (Declared'.row ClosePlan.the-type)) T′; slots = List.[]; }) (λ u T′ m′. Row.set 10 (10,
+      Rows.whole (Declared'.row ClosePlan.the-type)) (u .1 .1 .1 .1 .1 .1 .1 .1 .1 .1 .0) T′ m′) (λ u. Unit) λ u. Unit
   abbrev s22 : (bs : List.List Nat.ℕ) → Typed.Both T23 T24
-  s22 = λ bs. WayStmt.k-way-copy-out T23 (Row.out 9 (T23 .locals)) (λ u. Row.drop 9 (T23 .locals) u) 12 (Rows.whole (Declared'.row Outgoing.the-type))
-      (λ u. At.getAt (ClosePlan.the-type .parts) 8 (ClosePlan.struct .as-values (u .1 .1 .1 .1 .1 .1 .1 .1 .1 .0))) (λ T′. record { locals =
-      Row.setRow 9 (9, Rows.whole (Declared'.row ClosePlan.the-type)) T′; slots = List.[]; }) (λ u T′ m′. Row.set 9 (9, Rows.whole (Declared'.row
-      ClosePlan.the-type)) (u .1 .1 .1 .1 .1 .1 .1 .1 .1 .0) T′ m′) (λ u. Unit) λ u. Unit
+  s22 = λ bs. WayStmt.k-way-copy-out T23 (Row.out 10 (T23 .locals)) (λ u. Row.drop 10 (T23 .locals) u) 13 (Rows.whole (Declared'.row
+      Outgoing.the-type)) (λ u. At.getAt (ClosePlan.the-type .parts) 8 (ClosePlan.struct .as-values (u .1 .1 .1 .1 .1 .1 .1 .1 .1 .1 .0))) (λ T′.
+      record { locals = Row.setRow 10 (10, Rows.whole (Declared'.row ClosePlan.the-type)) T′; slots = List.[]; }) (λ u T′ m′. Row.set 10 (10,
+      Rows.whole (Declared'.row ClosePlan.the-type)) (u .1 .1 .1 .1 .1 .1 .1 .1 .1 .1 .0) T′ m′) (λ u. Unit) λ u. Unit
   abbrev s24 : (bs : List.List Nat.ℕ) → Typed.Gives T24 T26
-  s24 = λ bs. Relend.k-sl-relend RelayPending.row T24 1 20 0 8 ref7 ref2 Row.off λ x. x
+  s24 = λ bs. Relend.k-sl-relend RelayPending.row T24 1 21 0 8 ref7 ref2 Row.off λ x. x
   abbrev s25 : (bs : List.List Nat.ℕ) → Typed.Asks T26 T27
-  s25 = λ bs. Relend.k-sl-aggregate RelayPending.row (Relend.asMut RelayPending.row) T26 20 21 8 ref2 ref2 (λ x. x) (Scalar.oFld 1 ((Syntax.field 1) ∷
+  s25 = λ bs. Relend.k-sl-aggregate RelayPending.row (Relend.asMut RelayPending.row) T26 21 22 8 ref2 ref2 (λ x. x) (Scalar.oFld 1 ((Syntax.field 1) ∷
       List.[]) (Syntax.tyInt Syntax.w64) 8 λ v. Shared.lenV (v .0))
   abbrev s26 : (bs : List.List Nat.ℕ) → Typed.Both T27 T28
-  s26 = λ bs. Call.callB ps·1 r·1 (claims· .2) (claims· .3) T27 (record { pos = 21; ty = Syntax.tyRef Syntax.erased Syntax.mut RelayPending.to; ref =
-      λ x. x; }, (Bool.bFld 9 ((Syntax.field 2) ∷ List.[]) 49 λ x. ClosePlan.struct .as-values x .1 .1 .0, (Num.vFld 9 ((Syntax.field 4) ∷ List.[]) 56
-      λ x. ClosePlan.struct .as-values x .1 .1 .1 .1 .0, tt,),),) 19 (8 ∷ List.[]) Syntax.tyUnit
+  s26 = λ bs. Call.callB ps·1 r·1 (claims· .2) (claims· .3) T27 (record { pos = 22; ty = Syntax.tyRef Syntax.erased Syntax.mut RelayPending.to; ref =
+      λ x. x; }, (record { pos = 6; st = List.[]; d = 0; at = λ x. x }, (Bool.bFld 10 ((Syntax.field 2) ∷ List.[]) 49 λ x. ClosePlan.struct .as-values
+      x .1 .1 .0, (Num.vFld 10 ((Syntax.field 4) ∷ List.[]) 56 λ x. ClosePlan.struct .as-values x .1 .1 .1 .1 .0, tt,),),),) 20 (8 ∷ List.[])
+      Syntax.tyUnit
   abbrev s27 : (bs : List.List Nat.ℕ) → Typed.Mo T28 → Typed.Mo T29
-  s27 = λ bs. Scalar.n-room T28 19 Syntax.tyUnit
+  s27 = λ bs. Scalar.n-room T28 20 Syntax.tyUnit
   abbrev s29 : (bs : List.List Nat.ℕ) → Typed.Both T29 T31
-  s29 = λ bs. Relend.k-back-sl RelayPending.row T29 21 1 0 8 ref7 ref2 Row.off (λ x. x) λ x. x
+  s29 = λ bs. Relend.k-back-sl RelayPending.row T29 22 1 0 8 ref7 ref2 Row.off (λ x. x) λ x. x
   abbrev s32 : (bs : List.List Nat.ℕ) → Typed.Gives T31 T34
-  s32 = λ bs. Relend.k-sl-relend RelayCircuit.row T31 2 22 1 9 ref8 ref3 Row.off λ x. x
+  s32 = λ bs. Relend.k-sl-relend RelayCircuit.row T31 2 23 1 9 ref8 ref3 Row.off λ x. x
   abbrev s33 : (bs : List.List Nat.ℕ) → Typed.Asks T34 T35
-  s33 = λ bs. Relend.k-sl-aggregate RelayCircuit.row (Relend.asMut RelayCircuit.row) T34 22 23 9 ref3 ref3 (λ x. x) (Scalar.oFld 2 ((Syntax.field 1) ∷
+  s33 = λ bs. Relend.k-sl-aggregate RelayCircuit.row (Relend.asMut RelayCircuit.row) T34 23 24 9 ref3 ref3 (λ x. x) (Scalar.oFld 2 ((Syntax.field 1) ∷
       List.[]) (Syntax.tyInt Syntax.w64) 8 λ v. Shared.lenV (v .0))
   abbrev s34 : (bs : List.List Nat.ℕ) → Typed.Both T35 T36
-  s34 = λ bs. Call.callB ps·2 r·2 (claims· .4) (claims· .5) T35 (record { pos = 23; ty = Syntax.tyRef Syntax.erased Syntax.mut RelayCircuit.to; ref =
-      λ x. x; }, (Bool.bFld 9 ((Syntax.field 3) ∷ List.[]) 50 λ x. ClosePlan.struct .as-values x .1 .1 .1 .0, (Num.vFld 9 ((Syntax.field 5) ∷ List.[])
-      64 λ x. ClosePlan.struct .as-values x .1 .1 .1 .1 .1 .0, tt,),),) 19 (9 ∷ List.[]) Syntax.tyUnit
+  s34 = λ bs. Call.callB ps·2 r·2 (claims· .4) (claims· .5) T35 (record { pos = 24; ty = Syntax.tyRef Syntax.erased Syntax.mut RelayCircuit.to; ref =
+      λ x. x; }, (record { pos = 6; st = List.[]; d = 0; at = λ x. x }, (Bool.bFld 10 ((Syntax.field 3) ∷ List.[]) 50 λ x. ClosePlan.struct .as-values
+      x .1 .1 .1 .0, (Num.vFld 10 ((Syntax.field 5) ∷ List.[]) 64 λ x. ClosePlan.struct .as-values x .1 .1 .1 .1 .1 .0, tt,),),),) 20 (9 ∷ List.[])
+      Syntax.tyUnit
   abbrev s35 : (bs : List.List Nat.ℕ) → Typed.Mo T36 → Typed.Mo T37
-  s35 = λ bs. Scalar.n-room T36 19 Syntax.tyUnit
+  s35 = λ bs. Scalar.n-room T36 20 Syntax.tyUnit
   abbrev s37 : (bs : List.List Nat.ℕ) → Typed.Both T37 T39
-  s37 = λ bs. Relend.k-back-sl RelayCircuit.row T37 23 2 1 9 ref8 ref3 Row.off (λ x. x) λ x. x
+  s37 = λ bs. Relend.k-back-sl RelayCircuit.row T37 24 2 1 9 ref8 ref3 Row.off (λ x. x) λ x. x
   abbrev s40 : (bs : List.List Nat.ℕ) → Typed.Gives T39 T42
-  s40 = λ bs. Relend.k-sl-relend InflightAction.row T39 3 24 2 10 ref9 ref4 Row.off λ x. x
+  s40 = λ bs. Relend.k-sl-relend InflightAction.row T39 3 25 2 10 ref9 ref4 Row.off λ x. x
   abbrev s41 : (bs : List.List Nat.ℕ) → Typed.Asks T42 T43
-  s41 = λ bs. Relend.k-sl-aggregate InflightAction.row (Relend.asMut InflightAction.row) T42 24 25 10 ref4 ref4 (λ x. x) (Scalar.oFld 3 ((Syntax.field
+  s41 = λ bs. Relend.k-sl-aggregate InflightAction.row (Relend.asMut InflightAction.row) T42 25 26 10 ref4 ref4 (λ x. x) (Scalar.oFld 3 ((Syntax.field
       1) ∷ List.[]) (Syntax.tyInt Syntax.w64) 8 λ v. Shared.lenV (v .0))
   abbrev s42 : (bs : List.List Nat.ℕ) → Typed.Both T43 T44
-  s42 = λ bs. Call.callB ps·3 r·3 (claims· .6) (claims· .7) T43 (record { pos = 25; ty = Syntax.tyRef Syntax.erased Syntax.mut InflightAction.to; ref
-      = λ x. x; }, (Bool.bFld 9 ((Syntax.field 1) ∷ List.[]) 48 λ x. ClosePlan.struct .as-values x .1 .0, (Num.vFld 9 ((Syntax.field 6) ∷ List.[]) 72
-      λ x. ClosePlan.struct .as-values x .1 .1 .1 .1 .1 .1 .0, tt,),),) 19 (10 ∷ List.[]) Syntax.tyUnit
+  s42 = λ bs. Call.callB ps·3 r·3 (claims· .6) (claims· .7) T43 (record { pos = 26; ty = Syntax.tyRef Syntax.erased Syntax.mut InflightAction.to; ref
+      = λ x. x; }, (record { pos = 6; st = List.[]; d = 0; at = λ x. x }, (Bool.bFld 10 ((Syntax.field 1) ∷ List.[]) 48 λ x. ClosePlan.struct
+      .as-values x .1 .0, (Num.vFld 10 ((Syntax.field 6) ∷ List.[]) 72 λ x. ClosePlan.struct .as-values x .1 .1 .1 .1 .1 .1 .0, tt,),),),) 20 (10 ∷
+      List.[]) Syntax.tyUnit
   abbrev s43 : (bs : List.List Nat.ℕ) → Typed.Mo T44 → Typed.Mo T45
-  s43 = λ bs. Scalar.n-room T44 9 Laws'.mir
+  s43 = λ bs. Scalar.n-room T44 10 Laws'.mir
   abbrev s44 : (bs : List.List Nat.ℕ) → Typed.Mo T45 → Typed.Mo T46
-  s44 = λ bs. Scalar.n-room T45 19 Syntax.tyUnit
+  s44 = λ bs. Scalar.n-room T45 20 Syntax.tyUnit
   abbrev s46 : (bs : List.List Nat.ℕ) → Typed.Both T46 T48
-  s46 = λ bs. Relend.k-back-sl InflightAction.row T46 25 3 2 10 ref9 ref4 Row.off (λ x. x) λ x. x
+  s46 = λ bs. Relend.k-back-sl InflightAction.row T46 26 3 2 10 ref9 ref4 Row.off (λ x. x) λ x. x
   abbrev s48 : (bs : List.List Nat.ℕ) → Typed.Both T48 T50
-  s48 = λ bs. Call.callB ps·4 r·4 (claims· .8) (claims· .9) T48 (record { pos = 11; st = List.[]; d = 0; at = λ x. x }, (record { pos = 12; st =
-      List.[]; d = 0; at = λ x. x }, tt),) 13 List.[] Laws''.mir
+  s48 = λ bs. Call.callB ps·4 r·4 (claims· .8) (claims· .9) T48 (record { pos = 12; st = List.[]; d = 0; at = λ x. x }, (record { pos = 13; st =
+      List.[]; d = 0; at = λ x. x }, tt),) 14 List.[] Laws'''.mir
   abbrev s50 : (bs : List.List Nat.ℕ) → Typed.Gives T50 T52
-  s50 = λ bs. Reshare.k-sl-reshare InflightAction.row T50 3 26 2 11 ref9 ref5 Row.off λ x. x
+  s50 = λ bs. Reshare.k-sl-reshare InflightAction.row T50 3 27 2 11 ref9 ref5 Row.off λ x. x
   abbrev s51 : (bs : List.List Nat.ℕ) → Typed.Asks T52 T53
-  s51 = λ bs. Relend.k-sl-aggregate InflightAction.row (Relend.asShr InflightAction.row) T52 26 27 11 ref5 ref5 (λ x. x) (Scalar.oFld 3 ((Syntax.field
+  s51 = λ bs. Relend.k-sl-aggregate InflightAction.row (Relend.asShr InflightAction.row) T52 27 28 11 ref5 ref5 (λ x. x) (Scalar.oFld 3 ((Syntax.field
       1) ∷ List.[]) (Syntax.tyInt Syntax.w64) 8 λ v. Shared.lenV (v .0))
   abbrev s52 : (bs : List.List Nat.ℕ) → Typed.Both T53 T54
-  s52 = λ bs. Call.callB ps·5 r·5 (claims· .10) (claims· .11) T53 (record { pos = 27; ty = Syntax.tyRef Syntax.erased Syntax.imm InflightAction.to;
-      ref = λ x. x; }, (record { pos = 13; st = List.[]; d = 0; at = λ x. x }, tt),) 14 (11 ∷ List.[]) Laws'''.mir
+  s52 = λ bs. Call.callB ps·5 r·5 (claims· .10) (claims· .11) T53 (record { pos = 28; ty = Syntax.tyRef Syntax.erased Syntax.imm InflightAction.to;
+      ref = λ x. x; }, (record { pos = 6; st = List.[]; d = 0; at = λ x. x }, (record { pos = 14; st = List.[]; d = 0; at = λ x. x }, tt),),) 15 (11 ∷
+      List.[]) Laws''''.mir
   abbrev s53 : (bs : List.List Nat.ℕ) → Typed.Mo T54 → Typed.Mo T55
-  s53 = λ bs. Scalar.n-room T54 27 (Syntax.tyStruct (38 ∷ 91 ∷ 93 ∷ List.[]) (Syntax.tcons ref5 (Syntax.tcons (Syntax.tyInt Syntax.w64) Syntax.tnil)))
+  s53 = λ bs. Scalar.n-room T54 28 (Syntax.tyStruct (38 ∷ 91 ∷ 93 ∷ List.[]) (Syntax.tcons ref5 (Syntax.tcons (Syntax.tyInt Syntax.w64) Syntax.tnil)))
   abbrev s54 : (bs : List.List Nat.ℕ) → Typed.Mo T55 → Typed.Mo T56
-  s54 = λ bs. Scalar.n-room T55 13 Laws''.mir
+  s54 = λ bs. Scalar.n-room T55 14 Laws'''.mir
   abbrev s56 : (bs : List.List Nat.ℕ) → Typed.Mo T56 → Typed.Mo T58
   s56 = λ bs. Reshare.n-back-sl-shr InflightAction.row T56 3 2 11 ref9 Row.off λ x. x
   abbrev s59 : (bs : List.List Nat.ℕ) → Typed.Gives T58 T61
-  s59 = λ bs. Relend.k-sl-relend InflightAction.row T58 3 28 2 12 ref9 ref4 Row.off λ x. x
+  s59 = λ bs. Relend.k-sl-relend InflightAction.row T58 3 29 2 12 ref9 ref4 Row.off λ x. x
   abbrev s60 : (bs : List.List Nat.ℕ) → Typed.Asks T61 T62
-  s60 = λ bs. Relend.k-sl-aggregate InflightAction.row (Relend.asMut InflightAction.row) T61 28 29 12 ref4 ref4 (λ x. x) (Scalar.oFld 3 ((Syntax.field
+  s60 = λ bs. Relend.k-sl-aggregate InflightAction.row (Relend.asMut InflightAction.row) T61 29 30 12 ref4 ref4 (λ x. x) (Scalar.oFld 3 ((Syntax.field
       1) ∷ List.[]) (Syntax.tyInt Syntax.w64) 8 λ v. Shared.lenV (v .0))
   abbrev s62 : (bs : List.List Nat.ℕ) → Typed.Gives T62 T64
-  s62 = λ bs. Relend.k-sl-relend (Referent.rtF (Referent.fInt Syntax.w32)) T62 4 30 3 13 ref10 ref6 Row.off λ x. x
+  s62 = λ bs. Relend.k-sl-relend (Referent.rtF (Referent.fInt Syntax.w32)) T62 4 31 3 13 ref10 ref6 Row.off λ x. x
   abbrev s63 : (bs : List.List Nat.ℕ) → Typed.Asks T64 T65
-  s63 = λ bs. Relend.k-sl-aggregate (Referent.rtF (Referent.fInt Syntax.w32)) (Relend.asMut (Referent.rtF (Referent.fInt Syntax.w32))) T64 30 31 13
+  s63 = λ bs. Relend.k-sl-aggregate (Referent.rtF (Referent.fInt Syntax.w32)) (Relend.asMut (Referent.rtF (Referent.fInt Syntax.w32))) T64 31 32 13
       ref6 ref6 (λ x. x) (Scalar.oFld 4 ((Syntax.field 1) ∷ List.[]) (Syntax.tyInt Syntax.w64) 8 λ v. Shared.lenV (v .0))
   abbrev s64 : (bs : List.List Nat.ℕ) → Typed.Both T65 T66
-  s64 = λ bs. Call.callB ps·6 r·6 (claims· .12) (claims· .13) T65 (record { pos = 29; ty = Syntax.tyRef Syntax.erased Syntax.mut InflightAction.to;
-      ref = λ x. x; }, (record { pos = 31; ty = Syntax.tyRef Syntax.erased Syntax.mut (Syntax.tyInt Syntax.w32); ref = λ x. x; }, (record { pos = 10;
-      st = List.[]; d = 0; at = λ x. x }, (record { pos = 11; st = List.[]; d = 0; at = λ x. x }, (record { pos = 12; st = List.[]; d = 0; at = λ x. x
-      }, (record { pos = 14; st = List.[]; d = 0; at = λ x. x }, (record { pos = 8; ty = Syntax.tyRef (Syntax.named 5) Syntax.imm (Syntax.tyInt
-      Syntax.w8); ref = λ x. x; }, tt,),),),),),),) 0 (12 ∷ 13 ∷ 5 ∷ List.[]) Laws'''''''.mir
+  s64 = λ bs. Call.callB ps·6 r·6 (claims· .12) (claims· .13) T65 (record { pos = 30; ty = Syntax.tyRef Syntax.erased Syntax.mut InflightAction.to;
+      ref = λ x. x; }, (record { pos = 32; ty = Syntax.tyRef Syntax.erased Syntax.mut (Syntax.tyInt Syntax.w32); ref = λ x. x; }, (record { pos = 11;
+      st = List.[]; d = 0; at = λ x. x }, (record { pos = 12; st = List.[]; d = 0; at = λ x. x }, (record { pos = 6; st = List.[]; d = 0; at = λ x. x
+      }, (record { pos = 13; st = List.[]; d = 0; at = λ x. x }, (record { pos = 15; st = List.[]; d = 0; at = λ x. x }, (record { pos = 9; ty =
+      Syntax.tyRef (Syntax.named 5) Syntax.imm (Syntax.tyInt Syntax.w8); ref = λ x. x; }, tt,),),),),),),),) 0 (12 ∷ 13 ∷ 5 ∷ List.[])
+      Laws''''''''.mir
   abbrev s65 : (bs : List.List Nat.ℕ) → Typed.Mo T66 → Typed.Mo T67
-  s65 = λ bs. Scalar.n-room T66 10 Laws.mir
+  s65 = λ bs. Scalar.n-room T66 6 Laws''.mir
   abbrev s66 : (bs : List.List Nat.ℕ) → Typed.Mo T67 → Typed.Mo T68
-  s66 = λ bs. Scalar.n-room T67 11 Laws''''''.mir
+  s66 = λ bs. Scalar.n-room T67 11 Laws.mir
   abbrev s67 : (bs : List.List Nat.ℕ) → Typed.Mo T68 → Typed.Mo T69
-  s67 = λ bs. Scalar.n-room T68 12 Laws''''.mir
+  s67 = λ bs. Scalar.n-room T68 12 Laws'''''''.mir
   abbrev s68 : (bs : List.List Nat.ℕ) → Typed.Mo T69 → Typed.Mo T70
-  s68 = λ bs. Scalar.n-room T69 14 Laws'''.mir
-  abbrev s70 : (bs : List.List Nat.ℕ) → Typed.Both T70 T72
-  s70 = λ bs. Relend.k-back-sl InflightAction.row T70 29 3 2 12 ref9 ref4 Row.off (λ x. x) λ x. x
-  abbrev s73 : (bs : List.List Nat.ℕ) → Typed.Both T72 T75
-  s73 = λ bs. Relend.k-back-sl (Referent.rtF (Referent.fInt Syntax.w32)) T72 31 4 3 13 ref10 ref6 Row.off (λ x. x) λ x. x
-  abbrev s74 : (bs : List.List Nat.ℕ) → Typed.Gives T75 T76
-  s74 = λ bs. Know.k-sl-known (Referent.fInt Syntax.w32) T75 4 3 ref10 Row.off 0 λ x. x
+  s68 = λ bs. Scalar.n-room T69 13 Laws'''''.mir
+  abbrev s69 : (bs : List.List Nat.ℕ) → Typed.Mo T70 → Typed.Mo T71
+  s69 = λ bs. Scalar.n-room T70 15 Laws''''.mir
+  abbrev s71 : (bs : List.List Nat.ℕ) → Typed.Both T71 T73
+  s71 = λ bs. Relend.k-back-sl InflightAction.row T71 30 3 2 12 ref9 ref4 Row.off (λ x. x) λ x. x
+  abbrev s74 : (bs : List.List Nat.ℕ) → Typed.Both T73 T76
+  s74 = λ bs. Relend.k-back-sl (Referent.rtF (Referent.fInt Syntax.w32)) T73 32 4 3 13 ref10 ref6 Row.off (λ x. x) λ x. x
+  abbrev s75 : (bs : List.List Nat.ℕ) → Typed.Gives T76 T77
+  s75 = λ bs. Know.k-sl-known (Referent.fInt Syntax.w32) T76 4 3 ref10 Row.off 0 λ x. x
   module _ (Pre· : (κs : Lifetimes.Lfts 6) → Kinds.Dens κs ps → Type 0) (Post· : (κs : Lifetimes.Lfts 6) → (a : Kinds.Dens κs ps) → Kinds.Plain 6 ps r
       κs) where
     module _ (M : Type 1) where
@@ -885,162 +943,164 @@ module _ (claims· : Claims) where
           𝓤 H A W 𝓣 3 ps·6 r·6 (claims· .12) (claims· .13) "hnsr_circuit::queue::send") → Statement.Triple 𝓤 (Wp.WpFn 𝓤 H (𝓣 .C) (𝓣 .Λ) (Function.fnOf
           6 ps r xs m hs body)) (Function.plainOf 𝓤 H A 6 ps r Pre· Post·)
     module _ where
-      abbrev at0 : (bs : List.List Nat.ℕ) → Typed.TF T76 O0
+      abbrev at0 : (bs : List.List Nat.ℕ) → Typed.TF T77 O0
       at0 = λ bs. Typed.atRet O0
-      abbrev at1 : (bs : List.List Nat.ℕ) → Typed.TF T76 O0
+      abbrev at1 : (bs : List.List Nat.ℕ) → Typed.TF T77 O0
       at1 = λ bs. λ Ψ. at0 bs Ψ
-      abbrev at2 : (bs : List.List Nat.ℕ) → Typed.TF T75 O0
-      at2 = λ bs. λ Ψ. Typed.give (s74 bs) (at1 bs Ψ)
-      abbrev at3 : (bs : List.List Nat.ℕ) → Typed.TF T72 O0
-      at3 = λ bs. λ Ψ. Typed.both (s73 bs) (at2 bs Ψ)
-      abbrev at4 : (bs : List.List Nat.ℕ) → Typed.TF T72 O0
+      abbrev at2 : (bs : List.List Nat.ℕ) → Typed.TF T76 O0
+      at2 = λ bs. λ Ψ. Typed.give (s75 bs) (at1 bs Ψ)
+      abbrev at3 : (bs : List.List Nat.ℕ) → Typed.TF T73 O0
+      at3 = λ bs. λ Ψ. Typed.both (s74 bs) (at2 bs Ψ)
+      abbrev at4 : (bs : List.List Nat.ℕ) → Typed.TF T73 O0
       at4 = λ bs. λ Ψ. at3 bs Ψ
-      abbrev at5 : (bs : List.List Nat.ℕ) → Typed.TF T72 O0
+      abbrev at5 : (bs : List.List Nat.ℕ) → Typed.TF T73 O0
       at5 = λ bs. λ Ψ. at4 bs Ψ
-      abbrev at6 : (bs : List.List Nat.ℕ) → Typed.TF T70 O0
-      at6 = λ bs. λ Ψ. Typed.both (s70 bs) (at5 bs Ψ)
-      abbrev at7 : (bs : List.List Nat.ℕ) → Typed.TF T70 O0
+      abbrev at6 : (bs : List.List Nat.ℕ) → Typed.TF T71 O0
+      at6 = λ bs. λ Ψ. Typed.both (s71 bs) (at5 bs Ψ)
+      abbrev at7 : (bs : List.List Nat.ℕ) → Typed.TF T71 O0
       at7 = λ bs. λ Ψ. at6 bs Ψ
-      abbrev at8 : (bs : List.List Nat.ℕ) → Typed.TF T69 O0
-      at8 = λ bs. λ Ψ. Typed.pass T69 T70 (s68 bs) (at7 bs Ψ)
-      abbrev at9 : (bs : List.List Nat.ℕ) → Typed.TF T68 O0
-      at9 = λ bs. λ Ψ. Typed.pass T68 T69 (s67 bs) (at8 bs Ψ)
-      abbrev at10 : (bs : List.List Nat.ℕ) → Typed.TF T67 O0
-      at10 = λ bs. λ Ψ. Typed.pass T67 T68 (s66 bs) (at9 bs Ψ)
-      abbrev at11 : (bs : List.List Nat.ℕ) → Typed.TF T66 O0
-      at11 = λ bs. λ Ψ. Typed.pass T66 T67 (s65 bs) (at10 bs Ψ)
-      abbrev at12 : (bs : List.List Nat.ℕ) → Typed.TF T65 O0
-      at12 = λ bs. λ Ψ. Typed.both (s64 bs) (at11 bs Ψ)
-      abbrev at13 : (bs : List.List Nat.ℕ) → Typed.TF T64 O0
-      at13 = λ bs. λ Ψ. Typed.ask (s63 bs) (at12 bs Ψ)
-      abbrev at14 : (bs : List.List Nat.ℕ) → Typed.TF T62 O0
-      at14 = λ bs. λ Ψ. Typed.give (s62 bs) (at13 bs Ψ)
+      abbrev at8 : (bs : List.List Nat.ℕ) → Typed.TF T70 O0
+      at8 = λ bs. λ Ψ. Typed.pass T70 T71 (s69 bs) (at7 bs Ψ)
+      abbrev at9 : (bs : List.List Nat.ℕ) → Typed.TF T69 O0
+      at9 = λ bs. λ Ψ. Typed.pass T69 T70 (s68 bs) (at8 bs Ψ)
+      abbrev at10 : (bs : List.List Nat.ℕ) → Typed.TF T68 O0
+      at10 = λ bs. λ Ψ. Typed.pass T68 T69 (s67 bs) (at9 bs Ψ)
+      abbrev at11 : (bs : List.List Nat.ℕ) → Typed.TF T67 O0
+      at11 = λ bs. λ Ψ. Typed.pass T67 T68 (s66 bs) (at10 bs Ψ)
+      abbrev at12 : (bs : List.List Nat.ℕ) → Typed.TF T66 O0
+      at12 = λ bs. λ Ψ. Typed.pass T66 T67 (s65 bs) (at11 bs Ψ)
+      abbrev at13 : (bs : List.List Nat.ℕ) → Typed.TF T65 O0
+      at13 = λ bs. λ Ψ. Typed.both (s64 bs) (at12 bs Ψ)
+      abbrev at14 : (bs : List.List Nat.ℕ) → Typed.TF T64 O0
+      at14 = λ bs. λ Ψ. Typed.ask (s63 bs) (at13 bs Ψ)
       abbrev at15 : (bs : List.List Nat.ℕ) → Typed.TF T62 O0
-      at15 = λ bs. λ Ψ. at14 bs Ψ
-      abbrev at16 : (bs : List.List Nat.ℕ) → Typed.TF T61 O0
-      at16 = λ bs. λ Ψ. Typed.ask (s60 bs) (at15 bs Ψ)
-      abbrev at17 : (bs : List.List Nat.ℕ) → Typed.TF T58 O0
-      at17 = λ bs. λ Ψ. Typed.give (s59 bs) (at16 bs Ψ)
+      at15 = λ bs. λ Ψ. Typed.give (s62 bs) (at14 bs Ψ)
+      abbrev at16 : (bs : List.List Nat.ℕ) → Typed.TF T62 O0
+      at16 = λ bs. λ Ψ. at15 bs Ψ
+      abbrev at17 : (bs : List.List Nat.ℕ) → Typed.TF T61 O0
+      at17 = λ bs. λ Ψ. Typed.ask (s60 bs) (at16 bs Ψ)
       abbrev at18 : (bs : List.List Nat.ℕ) → Typed.TF T58 O0
-      at18 = λ bs. λ Ψ. at17 bs Ψ
+      at18 = λ bs. λ Ψ. Typed.give (s59 bs) (at17 bs Ψ)
       abbrev at19 : (bs : List.List Nat.ℕ) → Typed.TF T58 O0
       at19 = λ bs. λ Ψ. at18 bs Ψ
-      abbrev at20 : (bs : List.List Nat.ℕ) → Typed.TF T56 O0
-      at20 = λ bs. λ Ψ. Typed.pass T56 T58 (s56 bs) (at19 bs Ψ)
+      abbrev at20 : (bs : List.List Nat.ℕ) → Typed.TF T58 O0
+      at20 = λ bs. λ Ψ. at19 bs Ψ
       abbrev at21 : (bs : List.List Nat.ℕ) → Typed.TF T56 O0
-      at21 = λ bs. λ Ψ. at20 bs Ψ
-      abbrev at22 : (bs : List.List Nat.ℕ) → Typed.TF T55 O0
-      at22 = λ bs. λ Ψ. Typed.pass T55 T56 (s54 bs) (at21 bs Ψ)
-      abbrev at23 : (bs : List.List Nat.ℕ) → Typed.TF T54 O0
-      at23 = λ bs. λ Ψ. Typed.pass T54 T55 (s53 bs) (at22 bs Ψ)
-      abbrev at24 : (bs : List.List Nat.ℕ) → Typed.TF T53 O0
-      at24 = λ bs. λ Ψ. Typed.both (s52 bs) (at23 bs Ψ)
-      abbrev at25 : (bs : List.List Nat.ℕ) → Typed.TF T52 O0
-      at25 = λ bs. λ Ψ. Typed.ask (s51 bs) (at24 bs Ψ)
-      abbrev at26 : (bs : List.List Nat.ℕ) → Typed.TF T50 O0
-      at26 = λ bs. λ Ψ. Typed.give (s50 bs) (at25 bs Ψ)
+      at21 = λ bs. λ Ψ. Typed.pass T56 T58 (s56 bs) (at20 bs Ψ)
+      abbrev at22 : (bs : List.List Nat.ℕ) → Typed.TF T56 O0
+      at22 = λ bs. λ Ψ. at21 bs Ψ
+      abbrev at23 : (bs : List.List Nat.ℕ) → Typed.TF T55 O0
+      at23 = λ bs. λ Ψ. Typed.pass T55 T56 (s54 bs) (at22 bs Ψ)
+      abbrev at24 : (bs : List.List Nat.ℕ) → Typed.TF T54 O0
+      at24 = λ bs. λ Ψ. Typed.pass T54 T55 (s53 bs) (at23 bs Ψ)
+      abbrev at25 : (bs : List.List Nat.ℕ) → Typed.TF T53 O0
+      at25 = λ bs. λ Ψ. Typed.both (s52 bs) (at24 bs Ψ)
+      abbrev at26 : (bs : List.List Nat.ℕ) → Typed.TF T52 O0
+      at26 = λ bs. λ Ψ. Typed.ask (s51 bs) (at25 bs Ψ)
       abbrev at27 : (bs : List.List Nat.ℕ) → Typed.TF T50 O0
-      at27 = λ bs. λ Ψ. at26 bs Ψ
-      abbrev at28 : (bs : List.List Nat.ℕ) → Typed.TF T48 O0
-      at28 = λ bs. λ Ψ. Typed.both (s48 bs) (at27 bs Ψ)
+      at27 = λ bs. λ Ψ. Typed.give (s50 bs) (at26 bs Ψ)
+      abbrev at28 : (bs : List.List Nat.ℕ) → Typed.TF T50 O0
+      at28 = λ bs. λ Ψ. at27 bs Ψ
       abbrev at29 : (bs : List.List Nat.ℕ) → Typed.TF T48 O0
-      at29 = λ bs. λ Ψ. at28 bs Ψ
-      abbrev at30 : (bs : List.List Nat.ℕ) → Typed.TF T46 O0
-      at30 = λ bs. λ Ψ. Typed.both (s46 bs) (at29 bs Ψ)
+      at29 = λ bs. λ Ψ. Typed.both (s48 bs) (at28 bs Ψ)
+      abbrev at30 : (bs : List.List Nat.ℕ) → Typed.TF T48 O0
+      at30 = λ bs. λ Ψ. at29 bs Ψ
       abbrev at31 : (bs : List.List Nat.ℕ) → Typed.TF T46 O0
-      at31 = λ bs. λ Ψ. at30 bs Ψ
-      abbrev at32 : (bs : List.List Nat.ℕ) → Typed.TF T45 O0
-      at32 = λ bs. λ Ψ. Typed.pass T45 T46 (s44 bs) (at31 bs Ψ)
-      abbrev at33 : (bs : List.List Nat.ℕ) → Typed.TF T44 O0
-      at33 = λ bs. λ Ψ. Typed.pass T44 T45 (s43 bs) (at32 bs Ψ)
-      abbrev at34 : (bs : List.List Nat.ℕ) → Typed.TF T43 O0
-      at34 = λ bs. λ Ψ. Typed.both (s42 bs) (at33 bs Ψ)
-      abbrev at35 : (bs : List.List Nat.ℕ) → Typed.TF T42 O0
-      at35 = λ bs. λ Ψ. Typed.ask (s41 bs) (at34 bs Ψ)
-      abbrev at36 : (bs : List.List Nat.ℕ) → Typed.TF T39 O0
-      at36 = λ bs. λ Ψ. Typed.give (s40 bs) (at35 bs Ψ)
+      at31 = λ bs. λ Ψ. Typed.both (s46 bs) (at30 bs Ψ)
+      abbrev at32 : (bs : List.List Nat.ℕ) → Typed.TF T46 O0
+      at32 = λ bs. λ Ψ. at31 bs Ψ
+      abbrev at33 : (bs : List.List Nat.ℕ) → Typed.TF T45 O0
+      at33 = λ bs. λ Ψ. Typed.pass T45 T46 (s44 bs) (at32 bs Ψ)
+      abbrev at34 : (bs : List.List Nat.ℕ) → Typed.TF T44 O0
+      at34 = λ bs. λ Ψ. Typed.pass T44 T45 (s43 bs) (at33 bs Ψ)
+      abbrev at35 : (bs : List.List Nat.ℕ) → Typed.TF T43 O0
+      at35 = λ bs. λ Ψ. Typed.both (s42 bs) (at34 bs Ψ)
+      abbrev at36 : (bs : List.List Nat.ℕ) → Typed.TF T42 O0
+      at36 = λ bs. λ Ψ. Typed.ask (s41 bs) (at35 bs Ψ)
       abbrev at37 : (bs : List.List Nat.ℕ) → Typed.TF T39 O0
-      at37 = λ bs. λ Ψ. at36 bs Ψ
+      at37 = λ bs. λ Ψ. Typed.give (s40 bs) (at36 bs Ψ)
       abbrev at38 : (bs : List.List Nat.ℕ) → Typed.TF T39 O0
       at38 = λ bs. λ Ψ. at37 bs Ψ
-      abbrev at39 : (bs : List.List Nat.ℕ) → Typed.TF T37 O0
-      at39 = λ bs. λ Ψ. Typed.both (s37 bs) (at38 bs Ψ)
+      abbrev at39 : (bs : List.List Nat.ℕ) → Typed.TF T39 O0
+      at39 = λ bs. λ Ψ. at38 bs Ψ
       abbrev at40 : (bs : List.List Nat.ℕ) → Typed.TF T37 O0
-      at40 = λ bs. λ Ψ. at39 bs Ψ
-      abbrev at41 : (bs : List.List Nat.ℕ) → Typed.TF T36 O0
-      at41 = λ bs. λ Ψ. Typed.pass T36 T37 (s35 bs) (at40 bs Ψ)
-      abbrev at42 : (bs : List.List Nat.ℕ) → Typed.TF T35 O0
-      at42 = λ bs. λ Ψ. Typed.both (s34 bs) (at41 bs Ψ)
-      abbrev at43 : (bs : List.List Nat.ℕ) → Typed.TF T34 O0
-      at43 = λ bs. λ Ψ. Typed.ask (s33 bs) (at42 bs Ψ)
-      abbrev at44 : (bs : List.List Nat.ℕ) → Typed.TF T31 O0
-      at44 = λ bs. λ Ψ. Typed.give (s32 bs) (at43 bs Ψ)
+      at40 = λ bs. λ Ψ. Typed.both (s37 bs) (at39 bs Ψ)
+      abbrev at41 : (bs : List.List Nat.ℕ) → Typed.TF T37 O0
+      at41 = λ bs. λ Ψ. at40 bs Ψ
+      abbrev at42 : (bs : List.List Nat.ℕ) → Typed.TF T36 O0
+      at42 = λ bs. λ Ψ. Typed.pass T36 T37 (s35 bs) (at41 bs Ψ)
+      abbrev at43 : (bs : List.List Nat.ℕ) → Typed.TF T35 O0
+      at43 = λ bs. λ Ψ. Typed.both (s34 bs) (at42 bs Ψ)
+      abbrev at44 : (bs : List.List Nat.ℕ) → Typed.TF T34 O0
+      at44 = λ bs. λ Ψ. Typed.ask (s33 bs) (at43 bs Ψ)
       abbrev at45 : (bs : List.List Nat.ℕ) → Typed.TF T31 O0
-      at45 = λ bs. λ Ψ. at44 bs Ψ
+      at45 = λ bs. λ Ψ. Typed.give (s32 bs) (at44 bs Ψ)
       abbrev at46 : (bs : List.List Nat.ℕ) → Typed.TF T31 O0
       at46 = λ bs. λ Ψ. at45 bs Ψ
-      abbrev at47 : (bs : List.List Nat.ℕ) → Typed.TF T29 O0
-      at47 = λ bs. λ Ψ. Typed.both (s29 bs) (at46 bs Ψ)
+      abbrev at47 : (bs : List.List Nat.ℕ) → Typed.TF T31 O0
+      at47 = λ bs. λ Ψ. at46 bs Ψ
       abbrev at48 : (bs : List.List Nat.ℕ) → Typed.TF T29 O0
-      at48 = λ bs. λ Ψ. at47 bs Ψ
-      abbrev at49 : (bs : List.List Nat.ℕ) → Typed.TF T28 O0
-      at49 = λ bs. λ Ψ. Typed.pass T28 T29 (s27 bs) (at48 bs Ψ)
-      abbrev at50 : (bs : List.List Nat.ℕ) → Typed.TF T27 O0
-      at50 = λ bs. λ Ψ. Typed.both (s26 bs) (at49 bs Ψ)
-      abbrev at51 : (bs : List.List Nat.ℕ) → Typed.TF T26 O0
-      at51 = λ bs. λ Ψ. Typed.ask (s25 bs) (at50 bs Ψ)
-      abbrev at52 : (bs : List.List Nat.ℕ) → Typed.TF T24 O0
-      at52 = λ bs. λ Ψ. Typed.give (s24 bs) (at51 bs Ψ)
+      at48 = λ bs. λ Ψ. Typed.both (s29 bs) (at47 bs Ψ)
+      abbrev at49 : (bs : List.List Nat.ℕ) → Typed.TF T29 O0
+      at49 = λ bs. λ Ψ. at48 bs Ψ
+      abbrev at50 : (bs : List.List Nat.ℕ) → Typed.TF T28 O0
+      at50 = λ bs. λ Ψ. Typed.pass T28 T29 (s27 bs) (at49 bs Ψ)
+      abbrev at51 : (bs : List.List Nat.ℕ) → Typed.TF T27 O0
+      at51 = λ bs. λ Ψ. Typed.both (s26 bs) (at50 bs Ψ)
+      abbrev at52 : (bs : List.List Nat.ℕ) → Typed.TF T26 O0
+      at52 = λ bs. λ Ψ. Typed.ask (s25 bs) (at51 bs Ψ)
       abbrev at53 : (bs : List.List Nat.ℕ) → Typed.TF T24 O0
-      at53 = λ bs. λ Ψ. at52 bs Ψ
-      abbrev at54 : (bs : List.List Nat.ℕ) → Typed.TF T23 O0
-      at54 = λ bs. λ Ψ. Typed.both (s22 bs) (at53 bs Ψ)
-      abbrev at55 : (bs : List.List Nat.ℕ) → Typed.TF T22 O0
-      at55 = λ bs. λ Ψ. Typed.both (s21 bs) (at54 bs Ψ)
-      abbrev at56 : (bs : List.List Nat.ℕ) → Typed.TF T20 O0
-      at56 = λ bs. λ Ψ. Typed.pass T20 T22 (s20 bs) (at55 bs Ψ)
+      at53 = λ bs. λ Ψ. Typed.give (s24 bs) (at52 bs Ψ)
+      abbrev at54 : (bs : List.List Nat.ℕ) → Typed.TF T24 O0
+      at54 = λ bs. λ Ψ. at53 bs Ψ
+      abbrev at55 : (bs : List.List Nat.ℕ) → Typed.TF T23 O0
+      at55 = λ bs. λ Ψ. Typed.both (s22 bs) (at54 bs Ψ)
+      abbrev at56 : (bs : List.List Nat.ℕ) → Typed.TF T22 O0
+      at56 = λ bs. λ Ψ. Typed.both (s21 bs) (at55 bs Ψ)
       abbrev at57 : (bs : List.List Nat.ℕ) → Typed.TF T20 O0
-      at57 = λ bs. λ Ψ. at56 bs Ψ
-      abbrev at58 : (bs : List.List Nat.ℕ) → Typed.TF T17 O0
-      at58 = λ bs. λ Ψ. Typed.pass T17 T20 (s18 bs) (at57 bs Ψ)
+      at57 = λ bs. λ Ψ. Typed.pass T20 T22 (s20 bs) (at56 bs Ψ)
+      abbrev at58 : (bs : List.List Nat.ℕ) → Typed.TF T20 O0
+      at58 = λ bs. λ Ψ. at57 bs Ψ
       abbrev at59 : (bs : List.List Nat.ℕ) → Typed.TF T17 O0
-      at59 = λ bs. λ Ψ. at58 bs Ψ
+      at59 = λ bs. λ Ψ. Typed.pass T17 T20 (s18 bs) (at58 bs Ψ)
       abbrev at60 : (bs : List.List Nat.ℕ) → Typed.TF T17 O0
       at60 = λ bs. λ Ψ. at59 bs Ψ
-      abbrev at61 : (bs : List.List Nat.ℕ) → Typed.TF T15 O0
-      at61 = λ bs. λ Ψ. Typed.pass T15 T17 (s15 bs) (at60 bs Ψ)
+      abbrev at61 : (bs : List.List Nat.ℕ) → Typed.TF T17 O0
+      at61 = λ bs. λ Ψ. at60 bs Ψ
       abbrev at62 : (bs : List.List Nat.ℕ) → Typed.TF T15 O0
-      at62 = λ bs. λ Ψ. at61 bs Ψ
-      abbrev at63 : (bs : List.List Nat.ℕ) → Typed.TF T14 O0
-      at63 = λ bs. λ Ψ. Typed.pass T14 T15 (s13 bs) (at62 bs Ψ)
-      abbrev at64 : (bs : List.List Nat.ℕ) → Typed.TF T13 O0
-      at64 = λ bs. λ Ψ. Typed.pass T13 T14 (s12 bs) (at63 bs Ψ)
-      abbrev at65 : (bs : List.List Nat.ℕ) → Typed.TF T12 O0
-      at65 = λ bs. λ Ψ. Typed.pass T12 T13 (s11 bs) (at64 bs Ψ)
-      abbrev at66 : (bs : List.List Nat.ℕ) → Typed.TF T11 O0
-      at66 = λ bs. λ Ψ. Typed.pass T11 T12 (s10 bs) (at65 bs Ψ)
-      abbrev at67 : (bs : List.List Nat.ℕ) → Typed.TF T10 O0
-      at67 = λ bs. λ Ψ. Typed.both (s9 bs) (at66 bs Ψ)
-      abbrev at68 : (bs : List.List Nat.ℕ) → Typed.TF T9 O0
-      at68 = λ bs. λ Ψ. Typed.ask (s8 bs) (at67 bs Ψ)
-      abbrev at69 : (bs : List.List Nat.ℕ) → Typed.TF T7 O0
-      at69 = λ bs. λ Ψ. Typed.give (s7 bs) (at68 bs Ψ)
+      at62 = λ bs. λ Ψ. Typed.pass T15 T17 (s15 bs) (at61 bs Ψ)
+      abbrev at63 : (bs : List.List Nat.ℕ) → Typed.TF T15 O0
+      at63 = λ bs. λ Ψ. at62 bs Ψ
+      abbrev at64 : (bs : List.List Nat.ℕ) → Typed.TF T14 O0
+      at64 = λ bs. λ Ψ. Typed.pass T14 T15 (s13 bs) (at63 bs Ψ)
+      abbrev at65 : (bs : List.List Nat.ℕ) → Typed.TF T13 O0
+      at65 = λ bs. λ Ψ. Typed.pass T13 T14 (s12 bs) (at64 bs Ψ)
+      abbrev at66 : (bs : List.List Nat.ℕ) → Typed.TF T12 O0
+      at66 = λ bs. λ Ψ. Typed.pass T12 T13 (s11 bs) (at65 bs Ψ)
+      abbrev at67 : (bs : List.List Nat.ℕ) → Typed.TF T11 O0
+      at67 = λ bs. λ Ψ. Typed.pass T11 T12 (s10 bs) (at66 bs Ψ)
+      abbrev at68 : (bs : List.List Nat.ℕ) → Typed.TF T10 O0
+      at68 = λ bs. λ Ψ. Typed.both (s9 bs) (at67 bs Ψ)
+      abbrev at69 : (bs : List.List Nat.ℕ) → Typed.TF T9 O0
+      at69 = λ bs. λ Ψ. Typed.ask (s8 bs) (at68 bs Ψ)
       abbrev at70 : (bs : List.List Nat.ℕ) → Typed.TF T7 O0
-      at70 = λ bs. λ Ψ. at69 bs Ψ
-      abbrev at71 : (bs : List.List Nat.ℕ) → Typed.TF T6 O0
-      at71 = λ bs. λ Ψ. Typed.ask (s5 bs) (at70 bs Ψ)
-      abbrev at72 : (bs : List.List Nat.ℕ) → Typed.TF T4 O0
-      at72 = λ bs. λ Ψ. Typed.give (s4 bs) (at71 bs Ψ)
+      at70 = λ bs. λ Ψ. Typed.give (s7 bs) (at69 bs Ψ)
+      abbrev at71 : (bs : List.List Nat.ℕ) → Typed.TF T7 O0
+      at71 = λ bs. λ Ψ. at70 bs Ψ
+      abbrev at72 : (bs : List.List Nat.ℕ) → Typed.TF T6 O0
+      at72 = λ bs. λ Ψ. Typed.ask (s5 bs) (at71 bs Ψ)
       abbrev at73 : (bs : List.List Nat.ℕ) → Typed.TF T4 O0
-      at73 = λ bs. λ Ψ. at72 bs Ψ
-      abbrev at74 : (bs : List.List Nat.ℕ) → Typed.TF T3 O0
-      at74 = λ bs. λ Ψ. Typed.give (s2 bs) (at73 bs Ψ)
-      abbrev at75 : (bs : List.List Nat.ℕ) → Typed.TF T2 O0
-      at75 = λ bs. λ Ψ. Typed.give (s1 bs) (at74 bs Ψ)
-      abbrev at76 : (bs : List.List Nat.ℕ) → Typed.TF T0 O0
-      at76 = λ bs. λ Ψ. Typed.give (s0 bs) (at75 bs Ψ)
+      at73 = λ bs. λ Ψ. Typed.give (s4 bs) (at72 bs Ψ)
+      abbrev at74 : (bs : List.List Nat.ℕ) → Typed.TF T4 O0
+      at74 = λ bs. λ Ψ. at73 bs Ψ
+      abbrev at75 : (bs : List.List Nat.ℕ) → Typed.TF T3 O0
+      at75 = λ bs. λ Ψ. Typed.give (s2 bs) (at74 bs Ψ)
+      abbrev at76 : (bs : List.List Nat.ℕ) → Typed.TF T2 O0
+      at76 = λ bs. λ Ψ. Typed.give (s1 bs) (at75 bs Ψ)
+      abbrev at77 : (bs : List.List Nat.ℕ) → Typed.TF T0 O0
+      at77 = λ bs. λ Ψ. Typed.give (s0 bs) (at76 bs Ψ)
       abbrev pub Φ : (bs : List.List Nat.ℕ) → Typed.TF T0 O0
-      Φ = λ bs. at76 bs
+      Φ = λ bs. at77 bs
       module _ { M : Type 1 } (𝓤 : URA.URA M) (H : Wp.Heap 𝓤) (A : Atoms.Atoms 𝓤) (W : Kit.Given 𝓤 H A) (𝓣 : Wp.Tables 𝓤 H) where
         abbrev Knowns : Type 1
         Knowns = Plain.Known 𝓤 H A W 𝓣 4 ps·0 r·0 (claims· .0) (claims· .1) "hnsr_circuit::handle_close::plan_close" × Plain.Known 𝓤 H A W 𝓣 1 ps·1
@@ -1062,798 +1122,833 @@ module _ (claims· : Claims) where
         life4 = Row.lease (κs .1 .1 .1 .1 .0) (qs .1 .1 .1 .1 .0)
         abbrev life5 : Row.Life
         life5 = Row.lease (κs .1 .1 .1 .1 .1 .0) (qs .1 .1 .1 .1 .1 .0)
-        abbrev g3 : List.List Row.Entry
-        g3 = (0, Rows.any-gone Laws'''''''.mir,) ∷ (1, Reshare.mslice-owedS RelayPending.row ref7 0 6 life0,) ∷ (2, Mut.mslice RelayCircuit.row ref8
-            1,) ∷ (3, Mut.mslice InflightAction.row ref9 2,) ∷ (4, Mut.mslice (Referent.rtF (Referent.fInt Syntax.w32)) ref10 3,) ∷ (5, Rows.whole
-            (Declared'.row OpaqueRelayRuntime.the-type)) ∷ (6, Rows.whole (Declared'.row RelayPacket.the-type),) ∷ (7, Rows.sslice (Referent.rtF
-            (Referent.fInt Syntax.w8)) ref11 4,) ∷ (8, Rows.sslice (Referent.rtF (Referent.fInt Syntax.w8)) ref12 5,) ∷ (9, Rows.any-gone Laws'.mir,)
-            ∷ (10, Rows.any-gone Laws.mir,) ∷ (11, Rows.any-gone Laws''''''.mir,) ∷ (12, Rows.any-gone Laws''''.mir,) ∷ (13, Rows.any-gone
-            Laws''.mir,) ∷ (14, Rows.any-gone Laws'''.mir,) ∷ (15, Relend.ssptr RelayPending.row ref0 6,) ∷ List.[]
         abbrev g4 : List.List Row.Entry
-        g4 = (0, Rows.any-gone Laws'''''''.mir,) ∷ (1, Reshare.mslice-owedS RelayPending.row ref7 0 6 life0,) ∷ (2, Mut.mslice RelayCircuit.row ref8
+        g4 = (0, Rows.any-gone Laws''''''''.mir,) ∷ (1, Reshare.mslice-owedS RelayPending.row ref7 0 6 life0,) ∷ (2, Mut.mslice RelayCircuit.row ref8
             1,) ∷ (3, Mut.mslice InflightAction.row ref9 2,) ∷ (4, Mut.mslice (Referent.rtF (Referent.fInt Syntax.w32)) ref10 3,) ∷ (5, Rows.whole
-            (Declared'.row OpaqueRelayRuntime.the-type)) ∷ (6, Rows.whole (Declared'.row RelayPacket.the-type),) ∷ (7, Rows.sslice (Referent.rtF
-            (Referent.fInt Syntax.w8)) ref11 4,) ∷ (8, Rows.sslice (Referent.rtF (Referent.fInt Syntax.w8)) ref12 5,) ∷ (9, Rows.any-gone Laws'.mir,)
-            ∷ (10, Rows.any-gone Laws.mir,) ∷ (11, Rows.any-gone Laws''''''.mir,) ∷ (12, Rows.any-gone Laws''''.mir,) ∷ (13, Rows.any-gone
-            Laws''.mir,) ∷ (14, Rows.any-gone Laws'''.mir,) ∷ (15, Rows.any-gone ref0,) ∷ List.[]
-        abbrev g6 : List.List Row.Entry
-        g6 = (0, Rows.any-gone Laws'''''''.mir,) ∷ (1, Reshare.mslice-owedS RelayPending.row ref7 0 6 life0,) ∷ (2, Reshare.mslice-owedS
+            (Declared'.row OpaqueRelayRuntime.the-type)) ∷ (6, Rows.whole (Declared'.row Places.the-type),) ∷ (7, Rows.whole (Declared'.row
+            RelayPacket.the-type)) ∷ (8, Rows.sslice (Referent.rtF (Referent.fInt Syntax.w8)) ref11 4,) ∷ (9, Rows.sslice (Referent.rtF (Referent.fInt
+            Syntax.w8)) ref12 5,) ∷ (10, Rows.any-gone Laws'.mir,) ∷ (11, Rows.any-gone Laws.mir,) ∷ (12, Rows.any-gone Laws'''''''.mir,) ∷ (13,
+            Rows.any-gone Laws'''''.mir,) ∷ (14, Rows.any-gone Laws'''.mir,) ∷ (15, Rows.any-gone Laws''''.mir,) ∷ List.[]
+        abbrev g7 : List.List Row.Entry
+        g7 = (0, Rows.any-gone Laws''''''''.mir,) ∷ (1, Reshare.mslice-owedS RelayPending.row ref7 0 6 life0,) ∷ (2, Reshare.mslice-owedS
             RelayCircuit.row ref8 1 7 life1,) ∷ (3, Mut.mslice InflightAction.row ref9 2,) ∷ (4, Mut.mslice (Referent.rtF (Referent.fInt Syntax.w32))
-            ref10 3,) ∷ (5, Rows.whole (Declared'.row OpaqueRelayRuntime.the-type)) ∷ (6, Rows.whole (Declared'.row RelayPacket.the-type),) ∷ (7,
-            Rows.sslice (Referent.rtF (Referent.fInt Syntax.w8)) ref11 4,) ∷ (8, Rows.sslice (Referent.rtF (Referent.fInt Syntax.w8)) ref12 5,) ∷ (9,
-            Rows.any-gone Laws'.mir,) ∷ (10, Rows.any-gone Laws.mir,) ∷ (11, Rows.any-gone Laws''''''.mir,) ∷ (12, Rows.any-gone Laws''''.mir,) ∷ (13,
-            Rows.any-gone Laws''.mir,) ∷ (14, Rows.any-gone Laws'''.mir,) ∷ (15, Rows.any-gone ref0,) ∷ List.[]
-        abbrev g9 : List.List Row.Entry
-        g9 = (0, Rows.any-gone Laws'''''''.mir,) ∷ (1, Reshare.mslice-owedS RelayPending.row ref7 0 6 life0,) ∷ (2, Reshare.mslice-owedS
+            ref10 3,) ∷ (5, Rows.whole (Declared'.row OpaqueRelayRuntime.the-type)) ∷ (6, Rows.whole (Declared'.row Places.the-type),) ∷ (7,
+            Rows.whole (Declared'.row RelayPacket.the-type)) ∷ (8, Rows.sslice (Referent.rtF (Referent.fInt Syntax.w8)) ref11 4,) ∷ (9, Rows.sslice
+            (Referent.rtF (Referent.fInt Syntax.w8)) ref12 5,) ∷ (10, Rows.any-gone Laws'.mir,) ∷ (11, Rows.any-gone Laws.mir,) ∷ (12, Rows.any-gone
+            Laws'''''''.mir,) ∷ (13, Rows.any-gone Laws'''''.mir,) ∷ (14, Rows.any-gone Laws'''.mir,) ∷ (15, Rows.any-gone Laws''''.mir,) ∷ List.[]
+        abbrev g10 : List.List Row.Entry
+        g10 = (0, Rows.any-gone Laws''''''''.mir,) ∷ (1, Reshare.mslice-owedS RelayPending.row ref7 0 6 life0,) ∷ (2, Reshare.mslice-owedS
             RelayCircuit.row ref8 1 7 life1,) ∷ (3, Mut.mslice InflightAction.row ref9 2,) ∷ (4, Mut.mslice (Referent.rtF (Referent.fInt Syntax.w32))
-            ref10 3,) ∷ (5, Rows.whole (Declared'.row OpaqueRelayRuntime.the-type)) ∷ (6, Rows.whole (Declared'.row RelayPacket.the-type),) ∷ (7,
-            Rows.sslice (Referent.rtF (Referent.fInt Syntax.w8)) ref11 4,) ∷ (8, Rows.sslice (Referent.rtF (Referent.fInt Syntax.w8)) ref12 5,) ∷ (9,
-            Rows.whole (Declared'.row ClosePlan.the-type)) ∷ (10, Rows.any-gone Laws.mir,) ∷ (11, Rows.any-gone Laws''''''.mir,) ∷ (12, Rows.any-gone
-            Laws''''.mir,) ∷ (13, Rows.any-gone Laws''.mir,) ∷ (14, Rows.any-gone Laws'''.mir,) ∷ (15, Rows.any-gone ref0,) ∷ List.[]
-        abbrev g11 : List.List Row.Entry
-        g11 = (0, Rows.any-gone Laws'''''''.mir,) ∷ (1, Reshare.mslice-owedS RelayPending.row ref7 0 6 life0,) ∷ (2, Reshare.mslice-owedS
-            RelayCircuit.row ref8 1 7 life1,) ∷ (3, Mut.mslice InflightAction.row ref9 2,) ∷ (4, Mut.mslice (Referent.rtF (Referent.fInt Syntax.w32))
-            ref10 3,) ∷ (5, Rows.any-gone Laws''''''.mir,) ∷ (6, Rows.whole (Declared'.row RelayPacket.the-type)) ∷ (7, Rows.sslice (Referent.rtF
-            (Referent.fInt Syntax.w8)) ref11 4,) ∷ (8, Rows.sslice (Referent.rtF (Referent.fInt Syntax.w8)) ref12 5,) ∷ (9, Rows.whole (Declared'.row
-            ClosePlan.the-type)) ∷ (10, Rows.any-gone Laws.mir,) ∷ (11, Rows.any-gone Laws''''''.mir,) ∷ (12, Rows.any-gone Laws''''.mir,) ∷ (13,
-            Rows.any-gone Laws''.mir,) ∷ (14, Rows.any-gone Laws'''.mir,) ∷ (15, Rows.any-gone ref0,) ∷ List.[]
+            ref10 3,) ∷ (5, Rows.whole (Declared'.row OpaqueRelayRuntime.the-type)) ∷ (6, Rows.whole (Declared'.row Places.the-type),) ∷ (7,
+            Rows.whole (Declared'.row RelayPacket.the-type)) ∷ (8, Rows.sslice (Referent.rtF (Referent.fInt Syntax.w8)) ref11 4,) ∷ (9, Rows.sslice
+            (Referent.rtF (Referent.fInt Syntax.w8)) ref12 5,) ∷ (10, Rows.whole (Declared'.row ClosePlan.the-type)) ∷ (11, Rows.any-gone Laws.mir,) ∷
+            (12, Rows.any-gone Laws'''''''.mir,) ∷ (13, Rows.any-gone Laws'''''.mir,) ∷ (14, Rows.any-gone Laws'''.mir,) ∷ (15, Rows.any-gone
+            Laws''''.mir,) ∷ List.[]
         abbrev g12 : List.List Row.Entry
-        g12 = (0, Rows.any-gone Laws'''''''.mir,) ∷ (1, Reshare.mslice-owedS RelayPending.row ref7 0 6 life0,) ∷ (2, Reshare.mslice-owedS
+        g12 = (0, Rows.any-gone Laws''''''''.mir,) ∷ (1, Reshare.mslice-owedS RelayPending.row ref7 0 6 life0,) ∷ (2, Reshare.mslice-owedS
             RelayCircuit.row ref8 1 7 life1,) ∷ (3, Mut.mslice InflightAction.row ref9 2,) ∷ (4, Mut.mslice (Referent.rtF (Referent.fInt Syntax.w32))
-            ref10 3,) ∷ (5, Rows.any-gone Laws''''''.mir,) ∷ (6, Rows.any-gone Laws'''''.mir,) ∷ (7, Rows.sslice (Referent.rtF (Referent.fInt
-            Syntax.w8)) ref11 4,) ∷ (8, Rows.sslice (Referent.rtF (Referent.fInt Syntax.w8)) ref12 5,) ∷ (9, Rows.whole (Declared'.row
-            ClosePlan.the-type)) ∷ (10, Rows.any-gone Laws.mir,) ∷ (11, Rows.any-gone Laws''''''.mir,) ∷ (12, Rows.any-gone Laws''''.mir,) ∷ (13,
-            Rows.any-gone Laws''.mir,) ∷ (14, Rows.any-gone Laws'''.mir,) ∷ (15, Rows.any-gone ref0,) ∷ List.[]
+            ref10 3,) ∷ (5, Rows.any-gone Laws'''''''.mir,) ∷ (6, Rows.whole (Declared'.row Places.the-type)) ∷ (7, Rows.whole (Declared'.row
+            RelayPacket.the-type),) ∷ (8, Rows.sslice (Referent.rtF (Referent.fInt Syntax.w8)) ref11 4,) ∷ (9, Rows.sslice (Referent.rtF
+            (Referent.fInt Syntax.w8)) ref12 5,) ∷ (10, Rows.whole (Declared'.row ClosePlan.the-type)) ∷ (11, Rows.any-gone Laws.mir,) ∷ (12,
+            Rows.any-gone Laws'''''''.mir,) ∷ (13, Rows.any-gone Laws'''''.mir,) ∷ (14, Rows.any-gone Laws'''.mir,) ∷ (15, Rows.any-gone
+            Laws''''.mir,) ∷ List.[]
         abbrev g13 : List.List Row.Entry
-        g13 = (0, Rows.any-gone Laws'''''''.mir,) ∷ (1, Mut.mslice RelayPending.row ref7 0,) ∷ (2, Reshare.mslice-owedS RelayCircuit.row ref8 1 7
+        g13 = (0, Rows.any-gone Laws''''''''.mir,) ∷ (1, Reshare.mslice-owedS RelayPending.row ref7 0 6 life0,) ∷ (2, Reshare.mslice-owedS
+            RelayCircuit.row ref8 1 7 life1,) ∷ (3, Mut.mslice InflightAction.row ref9 2,) ∷ (4, Mut.mslice (Referent.rtF (Referent.fInt Syntax.w32))
+            ref10 3,) ∷ (5, Rows.any-gone Laws'''''''.mir,) ∷ (6, Rows.whole (Declared'.row Places.the-type)) ∷ (7, Rows.any-gone Laws''''''.mir,) ∷
+            (8, Rows.sslice (Referent.rtF (Referent.fInt Syntax.w8)) ref11 4,) ∷ (9, Rows.sslice (Referent.rtF (Referent.fInt Syntax.w8)) ref12 5,) ∷
+            (10, Rows.whole (Declared'.row ClosePlan.the-type)) ∷ (11, Rows.any-gone Laws.mir,) ∷ (12, Rows.any-gone Laws'''''''.mir,) ∷ (13,
+            Rows.any-gone Laws'''''.mir,) ∷ (14, Rows.any-gone Laws'''.mir,) ∷ (15, Rows.any-gone Laws''''.mir,) ∷ List.[]
+        abbrev g14 : List.List Row.Entry
+        g14 = (0, Rows.any-gone Laws''''''''.mir,) ∷ (1, Mut.mslice RelayPending.row ref7 0,) ∷ (2, Reshare.mslice-owedS RelayCircuit.row ref8 1 7
             life1,) ∷ (3, Mut.mslice InflightAction.row ref9 2,) ∷ (4, Mut.mslice (Referent.rtF (Referent.fInt Syntax.w32)) ref10 3,) ∷ (5,
-            Rows.any-gone Laws''''''.mir,) ∷ (6, Rows.any-gone Laws'''''.mir,) ∷ (7, Rows.sslice (Referent.rtF (Referent.fInt Syntax.w8)) ref11 4,) ∷
-            (8, Rows.sslice (Referent.rtF (Referent.fInt Syntax.w8)) ref12 5,) ∷ (9, Rows.whole (Declared'.row ClosePlan.the-type)) ∷ (10,
-            Rows.any-gone Laws.mir,) ∷ (11, Rows.any-gone Laws''''''.mir,) ∷ (12, Rows.any-gone Laws''''.mir,) ∷ (13, Rows.any-gone Laws''.mir,) ∷
-            (14, Rows.any-gone Laws'''.mir,) ∷ (15, Rows.any-gone ref0,) ∷ List.[]
-        abbrev g18 : List.List Row.Entry
-        g18 = (0, Rows.any-gone Laws'''''''.mir,) ∷ (1, Relend.mslice-owed RelayPending.row ref7 0 8 life0,) ∷ (2, Mut.mslice RelayCircuit.row ref8
+            Rows.any-gone Laws'''''''.mir,) ∷ (6, Rows.whole (Declared'.row Places.the-type)) ∷ (7, Rows.any-gone Laws''''''.mir,) ∷ (8, Rows.sslice
+            (Referent.rtF (Referent.fInt Syntax.w8)) ref11 4,) ∷ (9, Rows.sslice (Referent.rtF (Referent.fInt Syntax.w8)) ref12 5,) ∷ (10, Rows.whole
+            (Declared'.row ClosePlan.the-type)) ∷ (11, Rows.any-gone Laws.mir,) ∷ (12, Rows.any-gone Laws'''''''.mir,) ∷ (13, Rows.any-gone
+            Laws'''''.mir,) ∷ (14, Rows.any-gone Laws'''.mir,) ∷ (15, Rows.any-gone Laws''''.mir,) ∷ List.[]
+        abbrev g19 : List.List Row.Entry
+        g19 = (0, Rows.any-gone Laws''''''''.mir,) ∷ (1, Relend.mslice-owed RelayPending.row ref7 0 8 life0,) ∷ (2, Mut.mslice RelayCircuit.row ref8
             1,) ∷ (3, Mut.mslice InflightAction.row ref9 2,) ∷ (4, Mut.mslice (Referent.rtF (Referent.fInt Syntax.w32)) ref10 3,) ∷ (5, Rows.any-gone
-            Laws''''''.mir,) ∷ (6, Rows.any-gone Laws'''''.mir,) ∷ (7, Rows.sslice (Referent.rtF (Referent.fInt Syntax.w8)) ref11 4,) ∷ (8,
-            Rows.sslice (Referent.rtF (Referent.fInt Syntax.w8)) ref12 5,) ∷ (9, Rows.whole (Declared'.row ClosePlan.the-type)) ∷ (10, Rows.whole
-            (Declared.row HnsrAnswer.the-type),) ∷ (11, Rows.whole (Declared'.row OpaqueRelayRuntime.the-type)) ∷ (12, Rows.whole (Declared'.row
-            Outgoing.the-type),) ∷ (13, Rows.any-gone Laws''.mir,) ∷ (14, Rows.any-gone Laws'''.mir,) ∷ (15, Rows.any-gone ref0,) ∷ List.[]
-        abbrev g23 : List.List Row.Entry
-        g23 = (0, Rows.any-gone Laws'''''''.mir,) ∷ (1, Mut.mslice RelayPending.row ref7 0,) ∷ (2, Relend.mslice-owed RelayCircuit.row ref8 1 9
+            Laws'''''''.mir,) ∷ (6, Rows.whole (Declared'.row Places.the-type)) ∷ (7, Rows.any-gone Laws''''''.mir,) ∷ (8, Rows.sslice (Referent.rtF
+            (Referent.fInt Syntax.w8)) ref11 4,) ∷ (9, Rows.sslice (Referent.rtF (Referent.fInt Syntax.w8)) ref12 5,) ∷ (10, Rows.whole (Declared'.row
+            ClosePlan.the-type)) ∷ (11, Rows.whole (Declared.row HnsrAnswer.the-type),) ∷ (12, Rows.whole (Declared'.row OpaqueRelayRuntime.the-type))
+            ∷ (13, Rows.whole (Declared'.row Outgoing.the-type),) ∷ (14, Rows.any-gone Laws'''.mir,) ∷ (15, Rows.any-gone Laws''''.mir,) ∷ List.[]
+        abbrev g24 : List.List Row.Entry
+        g24 = (0, Rows.any-gone Laws''''''''.mir,) ∷ (1, Mut.mslice RelayPending.row ref7 0,) ∷ (2, Relend.mslice-owed RelayCircuit.row ref8 1 9
             life1,) ∷ (3, Mut.mslice InflightAction.row ref9 2,) ∷ (4, Mut.mslice (Referent.rtF (Referent.fInt Syntax.w32)) ref10 3,) ∷ (5,
-            Rows.any-gone Laws''''''.mir,) ∷ (6, Rows.any-gone Laws'''''.mir,) ∷ (7, Rows.sslice (Referent.rtF (Referent.fInt Syntax.w8)) ref11 4,) ∷
-            (8, Rows.sslice (Referent.rtF (Referent.fInt Syntax.w8)) ref12 5,) ∷ (9, Rows.whole (Declared'.row ClosePlan.the-type)) ∷ (10, Rows.whole
-            (Declared.row HnsrAnswer.the-type),) ∷ (11, Rows.whole (Declared'.row OpaqueRelayRuntime.the-type)) ∷ (12, Rows.whole (Declared'.row
-            Outgoing.the-type),) ∷ (13, Rows.any-gone Laws''.mir,) ∷ (14, Rows.any-gone Laws'''.mir,) ∷ (15, Rows.any-gone ref0,) ∷ List.[]
-        abbrev g28 : List.List Row.Entry
-        g28 = (0, Rows.any-gone Laws'''''''.mir,) ∷ (1, Mut.mslice RelayPending.row ref7 0,) ∷ (2, Mut.mslice RelayCircuit.row ref8 1,) ∷ (3,
+            Rows.any-gone Laws'''''''.mir,) ∷ (6, Rows.whole (Declared'.row Places.the-type)) ∷ (7, Rows.any-gone Laws''''''.mir,) ∷ (8, Rows.sslice
+            (Referent.rtF (Referent.fInt Syntax.w8)) ref11 4,) ∷ (9, Rows.sslice (Referent.rtF (Referent.fInt Syntax.w8)) ref12 5,) ∷ (10, Rows.whole
+            (Declared'.row ClosePlan.the-type)) ∷ (11, Rows.whole (Declared.row HnsrAnswer.the-type),) ∷ (12, Rows.whole (Declared'.row
+            OpaqueRelayRuntime.the-type)) ∷ (13, Rows.whole (Declared'.row Outgoing.the-type),) ∷ (14, Rows.any-gone Laws'''.mir,) ∷ (15,
+            Rows.any-gone Laws''''.mir,) ∷ List.[]
+        abbrev g29 : List.List Row.Entry
+        g29 = (0, Rows.any-gone Laws''''''''.mir,) ∷ (1, Mut.mslice RelayPending.row ref7 0,) ∷ (2, Mut.mslice RelayCircuit.row ref8 1,) ∷ (3,
             Relend.mslice-owed InflightAction.row ref9 2 10 life2,) ∷ (4, Mut.mslice (Referent.rtF (Referent.fInt Syntax.w32)) ref10 3,) ∷ (5,
-            Rows.any-gone Laws''''''.mir,) ∷ (6, Rows.any-gone Laws'''''.mir,) ∷ (7, Rows.sslice (Referent.rtF (Referent.fInt Syntax.w8)) ref11 4,) ∷
-            (8, Rows.sslice (Referent.rtF (Referent.fInt Syntax.w8)) ref12 5,) ∷ (9, Rows.whole (Declared'.row ClosePlan.the-type)) ∷ (10, Rows.whole
-            (Declared.row HnsrAnswer.the-type),) ∷ (11, Rows.whole (Declared'.row OpaqueRelayRuntime.the-type)) ∷ (12, Rows.whole (Declared'.row
-            Outgoing.the-type),) ∷ (13, Rows.any-gone Laws''.mir,) ∷ (14, Rows.any-gone Laws'''.mir,) ∷ (15, Rows.any-gone ref0,) ∷ List.[]
-        abbrev g32 : List.List Row.Entry
-        g32 = (0, Rows.any-gone Laws'''''''.mir,) ∷ (1, Mut.mslice RelayPending.row ref7 0,) ∷ (2, Mut.mslice RelayCircuit.row ref8 1,) ∷ (3,
+            Rows.any-gone Laws'''''''.mir,) ∷ (6, Rows.whole (Declared'.row Places.the-type)) ∷ (7, Rows.any-gone Laws''''''.mir,) ∷ (8, Rows.sslice
+            (Referent.rtF (Referent.fInt Syntax.w8)) ref11 4,) ∷ (9, Rows.sslice (Referent.rtF (Referent.fInt Syntax.w8)) ref12 5,) ∷ (10, Rows.whole
+            (Declared'.row ClosePlan.the-type)) ∷ (11, Rows.whole (Declared.row HnsrAnswer.the-type),) ∷ (12, Rows.whole (Declared'.row
+            OpaqueRelayRuntime.the-type)) ∷ (13, Rows.whole (Declared'.row Outgoing.the-type),) ∷ (14, Rows.any-gone Laws'''.mir,) ∷ (15,
+            Rows.any-gone Laws''''.mir,) ∷ List.[]
+        abbrev g33 : List.List Row.Entry
+        g33 = (0, Rows.any-gone Laws''''''''.mir,) ∷ (1, Mut.mslice RelayPending.row ref7 0,) ∷ (2, Mut.mslice RelayCircuit.row ref8 1,) ∷ (3,
             Relend.mslice-owed InflightAction.row ref9 2 10 life2,) ∷ (4, Mut.mslice (Referent.rtF (Referent.fInt Syntax.w32)) ref10 3,) ∷ (5,
-            Rows.any-gone Laws''''''.mir,) ∷ (6, Rows.any-gone Laws'''''.mir,) ∷ (7, Rows.sslice (Referent.rtF (Referent.fInt Syntax.w8)) ref11 4,) ∷
-            (8, Rows.sslice (Referent.rtF (Referent.fInt Syntax.w8)) ref12 5,) ∷ (9, Rows.any-gone Laws'.mir,) ∷ (10, Rows.whole (Declared.row
-            HnsrAnswer.the-type)) ∷ (11, Rows.whole (Declared'.row OpaqueRelayRuntime.the-type),) ∷ (12, Rows.whole (Declared'.row Outgoing.the-type))
-            ∷ (13, Rows.any-gone Laws''.mir,) ∷ (14, Rows.any-gone Laws'''.mir,) ∷ (15, Rows.any-gone ref0,) ∷ List.[]
-        abbrev g36 : List.List Row.Entry
-        g36 = (0, Rows.any-gone Laws'''''''.mir,) ∷ (1, Mut.mslice RelayPending.row ref7 0,) ∷ (2, Mut.mslice RelayCircuit.row ref8 1,) ∷ (3,
+            Rows.any-gone Laws'''''''.mir,) ∷ (6, Rows.whole (Declared'.row Places.the-type)) ∷ (7, Rows.any-gone Laws''''''.mir,) ∷ (8, Rows.sslice
+            (Referent.rtF (Referent.fInt Syntax.w8)) ref11 4,) ∷ (9, Rows.sslice (Referent.rtF (Referent.fInt Syntax.w8)) ref12 5,) ∷ (10,
+            Rows.any-gone Laws'.mir,) ∷ (11, Rows.whole (Declared.row HnsrAnswer.the-type)) ∷ (12, Rows.whole (Declared'.row
+            OpaqueRelayRuntime.the-type),) ∷ (13, Rows.whole (Declared'.row Outgoing.the-type)) ∷ (14, Rows.any-gone Laws'''.mir,) ∷ (15,
+            Rows.any-gone Laws''''.mir,) ∷ List.[]
+        abbrev g37 : List.List Row.Entry
+        g37 = (0, Rows.any-gone Laws''''''''.mir,) ∷ (1, Mut.mslice RelayPending.row ref7 0,) ∷ (2, Mut.mslice RelayCircuit.row ref8 1,) ∷ (3,
             Reshare.mslice-owedS InflightAction.row ref9 2 11 life2,) ∷ (4, Mut.mslice (Referent.rtF (Referent.fInt Syntax.w32)) ref10 3,) ∷ (5,
-            Rows.any-gone Laws''''''.mir,) ∷ (6, Rows.any-gone Laws'''''.mir,) ∷ (7, Rows.sslice (Referent.rtF (Referent.fInt Syntax.w8)) ref11 4,) ∷
-            (8, Rows.sslice (Referent.rtF (Referent.fInt Syntax.w8)) ref12 5,) ∷ (9, Rows.any-gone Laws'.mir,) ∷ (10, Rows.whole (Declared.row
-            HnsrAnswer.the-type)) ∷ (11, Rows.whole (Declared'.row OpaqueRelayRuntime.the-type),) ∷ (12, Rows.whole (Declared'.row Outgoing.the-type))
-            ∷ (13, Rows.whole (Declared'.row ActionQuestion.the-type),) ∷ (14, Rows.any-gone Laws'''.mir,) ∷ (15, Rows.any-gone ref0,) ∷ List.[]
-        abbrev g39 : List.List Row.Entry
-        g39 = (0, Rows.any-gone Laws'''''''.mir,) ∷ (1, Mut.mslice RelayPending.row ref7 0,) ∷ (2, Mut.mslice RelayCircuit.row ref8 1,) ∷ (3,
-            Reshare.mslice-owedS InflightAction.row ref9 2 11 life2,) ∷ (4, Mut.mslice (Referent.rtF (Referent.fInt Syntax.w32)) ref10 3,) ∷ (5,
-            Rows.any-gone Laws''''''.mir,) ∷ (6, Rows.any-gone Laws'''''.mir,) ∷ (7, Rows.sslice (Referent.rtF (Referent.fInt Syntax.w8)) ref11 4,) ∷
-            (8, Rows.sslice (Referent.rtF (Referent.fInt Syntax.w8)) ref12 5,) ∷ (9, Rows.any-gone Laws'.mir,) ∷ (10, Rows.whole (Declared.row
-            HnsrAnswer.the-type)) ∷ (11, Rows.whole (Declared'.row OpaqueRelayRuntime.the-type),) ∷ (12, Rows.whole (Declared'.row Outgoing.the-type))
-            ∷ (13, Rows.whole (Declared'.row ActionQuestion.the-type),) ∷ (14, Rows.whole (Declared'.row ActionScan.the-type)) ∷ (15, Rows.any-gone
-            ref0,) ∷ List.[]
+            Rows.any-gone Laws'''''''.mir,) ∷ (6, Rows.whole (Declared'.row Places.the-type)) ∷ (7, Rows.any-gone Laws''''''.mir,) ∷ (8, Rows.sslice
+            (Referent.rtF (Referent.fInt Syntax.w8)) ref11 4,) ∷ (9, Rows.sslice (Referent.rtF (Referent.fInt Syntax.w8)) ref12 5,) ∷ (10,
+            Rows.any-gone Laws'.mir,) ∷ (11, Rows.whole (Declared.row HnsrAnswer.the-type)) ∷ (12, Rows.whole (Declared'.row
+            OpaqueRelayRuntime.the-type),) ∷ (13, Rows.whole (Declared'.row Outgoing.the-type)) ∷ (14, Rows.whole (Declared'.row
+            ActionQuestion.the-type),) ∷ (15, Rows.any-gone Laws''''.mir,) ∷ List.[]
         abbrev g40 : List.List Row.Entry
-        g40 = (0, Rows.any-gone Laws'''''''.mir,) ∷ (1, Mut.mslice RelayPending.row ref7 0,) ∷ (2, Mut.mslice RelayCircuit.row ref8 1,) ∷ (3,
+        g40 = (0, Rows.any-gone Laws''''''''.mir,) ∷ (1, Mut.mslice RelayPending.row ref7 0,) ∷ (2, Mut.mslice RelayCircuit.row ref8 1,) ∷ (3,
             Reshare.mslice-owedS InflightAction.row ref9 2 11 life2,) ∷ (4, Mut.mslice (Referent.rtF (Referent.fInt Syntax.w32)) ref10 3,) ∷ (5,
-            Rows.any-gone Laws''''''.mir,) ∷ (6, Rows.any-gone Laws'''''.mir,) ∷ (7, Rows.sslice (Referent.rtF (Referent.fInt Syntax.w8)) ref11 4,) ∷
-            (8, Rows.sslice (Referent.rtF (Referent.fInt Syntax.w8)) ref12 5,) ∷ (9, Rows.any-gone Laws'.mir,) ∷ (10, Rows.whole (Declared.row
-            HnsrAnswer.the-type)) ∷ (11, Rows.whole (Declared'.row OpaqueRelayRuntime.the-type),) ∷ (12, Rows.whole (Declared'.row Outgoing.the-type))
-            ∷ (13, Rows.any-gone Laws''.mir,) ∷ (14, Rows.whole (Declared'.row ActionScan.the-type)) ∷ (15, Rows.any-gone ref0,) ∷ List.[]
-        abbrev g42 : List.List Row.Entry
-        g42 = (0, Rows.any-gone Laws'''''''.mir,) ∷ (1, Mut.mslice RelayPending.row ref7 0,) ∷ (2, Mut.mslice RelayCircuit.row ref8 1,) ∷ (3,
+            Rows.any-gone Laws'''''''.mir,) ∷ (6, Rows.whole (Declared'.row Places.the-type)) ∷ (7, Rows.any-gone Laws''''''.mir,) ∷ (8, Rows.sslice
+            (Referent.rtF (Referent.fInt Syntax.w8)) ref11 4,) ∷ (9, Rows.sslice (Referent.rtF (Referent.fInt Syntax.w8)) ref12 5,) ∷ (10,
+            Rows.any-gone Laws'.mir,) ∷ (11, Rows.whole (Declared.row HnsrAnswer.the-type)) ∷ (12, Rows.whole (Declared'.row
+            OpaqueRelayRuntime.the-type),) ∷ (13, Rows.whole (Declared'.row Outgoing.the-type)) ∷ (14, Rows.whole (Declared'.row
+            ActionQuestion.the-type),) ∷ (15, Rows.whole (Declared'.row ActionScan.the-type)) ∷ List.[]
+        abbrev g41 : List.List Row.Entry
+        g41 = (0, Rows.any-gone Laws''''''''.mir,) ∷ (1, Mut.mslice RelayPending.row ref7 0,) ∷ (2, Mut.mslice RelayCircuit.row ref8 1,) ∷ (3,
+            Reshare.mslice-owedS InflightAction.row ref9 2 11 life2,) ∷ (4, Mut.mslice (Referent.rtF (Referent.fInt Syntax.w32)) ref10 3,) ∷ (5,
+            Rows.any-gone Laws'''''''.mir,) ∷ (6, Rows.whole (Declared'.row Places.the-type)) ∷ (7, Rows.any-gone Laws''''''.mir,) ∷ (8, Rows.sslice
+            (Referent.rtF (Referent.fInt Syntax.w8)) ref11 4,) ∷ (9, Rows.sslice (Referent.rtF (Referent.fInt Syntax.w8)) ref12 5,) ∷ (10,
+            Rows.any-gone Laws'.mir,) ∷ (11, Rows.whole (Declared.row HnsrAnswer.the-type)) ∷ (12, Rows.whole (Declared'.row
+            OpaqueRelayRuntime.the-type),) ∷ (13, Rows.whole (Declared'.row Outgoing.the-type)) ∷ (14, Rows.any-gone Laws'''.mir,) ∷ (15, Rows.whole
+            (Declared'.row ActionScan.the-type)) ∷ List.[]
+        abbrev g43 : List.List Row.Entry
+        g43 = (0, Rows.any-gone Laws''''''''.mir,) ∷ (1, Mut.mslice RelayPending.row ref7 0,) ∷ (2, Mut.mslice RelayCircuit.row ref8 1,) ∷ (3,
             Relend.mslice-owed InflightAction.row ref9 2 12 life2,) ∷ (4, Mut.mslice (Referent.rtF (Referent.fInt Syntax.w32)) ref10 3,) ∷ (5,
-            Rows.any-gone Laws''''''.mir,) ∷ (6, Rows.any-gone Laws'''''.mir,) ∷ (7, Rows.sslice (Referent.rtF (Referent.fInt Syntax.w8)) ref11 4,) ∷
-            (8, Rows.sslice (Referent.rtF (Referent.fInt Syntax.w8)) ref12 5,) ∷ (9, Rows.any-gone Laws'.mir,) ∷ (10, Rows.whole (Declared.row
-            HnsrAnswer.the-type)) ∷ (11, Rows.whole (Declared'.row OpaqueRelayRuntime.the-type),) ∷ (12, Rows.whole (Declared'.row Outgoing.the-type))
-            ∷ (13, Rows.any-gone Laws''.mir,) ∷ (14, Rows.whole (Declared'.row ActionScan.the-type)) ∷ (15, Rows.any-gone ref0,) ∷ List.[]
-        abbrev g45 : List.List Row.Entry
-        g45 = (0, Rows.any-gone Laws'''''''.mir,) ∷ (1, Mut.mslice RelayPending.row ref7 0,) ∷ (2, Mut.mslice RelayCircuit.row ref8 1,) ∷ (3,
+            Rows.any-gone Laws'''''''.mir,) ∷ (6, Rows.whole (Declared'.row Places.the-type)) ∷ (7, Rows.any-gone Laws''''''.mir,) ∷ (8, Rows.sslice
+            (Referent.rtF (Referent.fInt Syntax.w8)) ref11 4,) ∷ (9, Rows.sslice (Referent.rtF (Referent.fInt Syntax.w8)) ref12 5,) ∷ (10,
+            Rows.any-gone Laws'.mir,) ∷ (11, Rows.whole (Declared.row HnsrAnswer.the-type)) ∷ (12, Rows.whole (Declared'.row
+            OpaqueRelayRuntime.the-type),) ∷ (13, Rows.whole (Declared'.row Outgoing.the-type)) ∷ (14, Rows.any-gone Laws'''.mir,) ∷ (15, Rows.whole
+            (Declared'.row ActionScan.the-type)) ∷ List.[]
+        abbrev g46 : List.List Row.Entry
+        g46 = (0, Rows.any-gone Laws''''''''.mir,) ∷ (1, Mut.mslice RelayPending.row ref7 0,) ∷ (2, Mut.mslice RelayCircuit.row ref8 1,) ∷ (3,
             Relend.mslice-owed InflightAction.row ref9 2 12 life2,) ∷ (4, Relend.mslice-owed (Referent.rtF (Referent.fInt Syntax.w32)) ref10 3 13
-            life3,) ∷ (5, Rows.any-gone Laws''''''.mir,) ∷ (6, Rows.any-gone Laws'''''.mir,) ∷ (7, Rows.sslice (Referent.rtF (Referent.fInt
-            Syntax.w8)) ref11 4,) ∷ (8, Rows.sslice (Referent.rtF (Referent.fInt Syntax.w8)) ref12 5,) ∷ (9, Rows.any-gone Laws'.mir,) ∷ (10,
-            Rows.whole (Declared.row HnsrAnswer.the-type)) ∷ (11, Rows.whole (Declared'.row OpaqueRelayRuntime.the-type),) ∷ (12, Rows.whole
-            (Declared'.row Outgoing.the-type)) ∷ (13, Rows.any-gone Laws''.mir,) ∷ (14, Rows.whole (Declared'.row ActionScan.the-type)) ∷ (15,
-            Rows.any-gone ref0,) ∷ List.[]
-        abbrev g48 : List.List Row.Entry
-        g48 = (0, Rows.whole (Declared'.row Relayed.the-type)) ∷ (1, Mut.mslice RelayPending.row ref7 0,) ∷ (2, Mut.mslice RelayCircuit.row ref8 1,) ∷
+            life3,) ∷ (5, Rows.any-gone Laws'''''''.mir,) ∷ (6, Rows.whole (Declared'.row Places.the-type)) ∷ (7, Rows.any-gone Laws''''''.mir,) ∷ (8,
+            Rows.sslice (Referent.rtF (Referent.fInt Syntax.w8)) ref11 4,) ∷ (9, Rows.sslice (Referent.rtF (Referent.fInt Syntax.w8)) ref12 5,) ∷ (10,
+            Rows.any-gone Laws'.mir,) ∷ (11, Rows.whole (Declared.row HnsrAnswer.the-type)) ∷ (12, Rows.whole (Declared'.row
+            OpaqueRelayRuntime.the-type),) ∷ (13, Rows.whole (Declared'.row Outgoing.the-type)) ∷ (14, Rows.any-gone Laws'''.mir,) ∷ (15, Rows.whole
+            (Declared'.row ActionScan.the-type)) ∷ List.[]
+        abbrev g49 : List.List Row.Entry
+        g49 = (0, Rows.whole (Declared'.row Relayed.the-type)) ∷ (1, Mut.mslice RelayPending.row ref7 0,) ∷ (2, Mut.mslice RelayCircuit.row ref8 1,) ∷
             (3, Relend.mslice-owed InflightAction.row ref9 2 12 life2,) ∷ (4, Relend.mslice-owed (Referent.rtF (Referent.fInt Syntax.w32)) ref10 3 13
-            life3,) ∷ (5, Rows.any-gone Laws''''''.mir,) ∷ (6, Rows.any-gone Laws'''''.mir,) ∷ (7, Rows.sslice (Referent.rtF (Referent.fInt
-            Syntax.w8)) ref11 4,) ∷ (8, Rows.sslice (Referent.rtF (Referent.fInt Syntax.w8)) ref12 5,) ∷ (9, Rows.any-gone Laws'.mir,) ∷ (10,
-            Rows.whole (Declared.row HnsrAnswer.the-type)) ∷ (11, Rows.whole (Declared'.row OpaqueRelayRuntime.the-type),) ∷ (12, Rows.whole
-            (Declared'.row Outgoing.the-type)) ∷ (13, Rows.any-gone Laws''.mir,) ∷ (14, Rows.whole (Declared'.row ActionScan.the-type)) ∷ (15,
-            Rows.any-gone ref0,) ∷ List.[]
-        abbrev g50 : List.List Row.Entry
-        g50 = (0, Rows.whole (Declared'.row Relayed.the-type)) ∷ (1, Mut.mslice RelayPending.row ref7 0,) ∷ (2, Mut.mslice RelayCircuit.row ref8 1,) ∷
-            (3, Relend.mslice-owed InflightAction.row ref9 2 12 life2,) ∷ (4, Relend.mslice-owed (Referent.rtF (Referent.fInt Syntax.w32)) ref10 3 13
-            life3,) ∷ (5, Rows.any-gone Laws''''''.mir,) ∷ (6, Rows.any-gone Laws'''''.mir,) ∷ (7, Rows.sslice (Referent.rtF (Referent.fInt
-            Syntax.w8)) ref11 4,) ∷ (8, Rows.sslice (Referent.rtF (Referent.fInt Syntax.w8)) ref12 5,) ∷ (9, Rows.any-gone Laws'.mir,) ∷ (10,
-            Rows.any-gone Laws.mir,) ∷ (11, Rows.whole (Declared'.row OpaqueRelayRuntime.the-type)) ∷ (12, Rows.whole (Declared'.row
-            Outgoing.the-type),) ∷ (13, Rows.any-gone Laws''.mir,) ∷ (14, Rows.whole (Declared'.row ActionScan.the-type)) ∷ (15, Rows.any-gone ref0,)
-            ∷ List.[]
-        abbrev g51 : List.List Row.Entry
-        g51 = (0, Rows.whole (Declared'.row Relayed.the-type)) ∷ (1, Mut.mslice RelayPending.row ref7 0,) ∷ (2, Mut.mslice RelayCircuit.row ref8 1,) ∷
-            (3, Relend.mslice-owed InflightAction.row ref9 2 12 life2,) ∷ (4, Relend.mslice-owed (Referent.rtF (Referent.fInt Syntax.w32)) ref10 3 13
-            life3,) ∷ (5, Rows.any-gone Laws''''''.mir,) ∷ (6, Rows.any-gone Laws'''''.mir,) ∷ (7, Rows.sslice (Referent.rtF (Referent.fInt
-            Syntax.w8)) ref11 4,) ∷ (8, Rows.sslice (Referent.rtF (Referent.fInt Syntax.w8)) ref12 5,) ∷ (9, Rows.any-gone Laws'.mir,) ∷ (10,
-            Rows.any-gone Laws.mir,) ∷ (11, Rows.any-gone Laws''''''.mir,) ∷ (12, Rows.whole (Declared'.row Outgoing.the-type)) ∷ (13, Rows.any-gone
-            Laws''.mir,) ∷ (14, Rows.whole (Declared'.row ActionScan.the-type)) ∷ (15, Rows.any-gone ref0,) ∷ List.[]
+            life3,) ∷ (5, Rows.any-gone Laws'''''''.mir,) ∷ (6, Rows.whole (Declared'.row Places.the-type)) ∷ (7, Rows.any-gone Laws''''''.mir,) ∷ (8,
+            Rows.sslice (Referent.rtF (Referent.fInt Syntax.w8)) ref11 4,) ∷ (9, Rows.sslice (Referent.rtF (Referent.fInt Syntax.w8)) ref12 5,) ∷ (10,
+            Rows.any-gone Laws'.mir,) ∷ (11, Rows.whole (Declared.row HnsrAnswer.the-type)) ∷ (12, Rows.whole (Declared'.row
+            OpaqueRelayRuntime.the-type),) ∷ (13, Rows.whole (Declared'.row Outgoing.the-type)) ∷ (14, Rows.any-gone Laws'''.mir,) ∷ (15, Rows.whole
+            (Declared'.row ActionScan.the-type)) ∷ List.[]
         abbrev g52 : List.List Row.Entry
         g52 = (0, Rows.whole (Declared'.row Relayed.the-type)) ∷ (1, Mut.mslice RelayPending.row ref7 0,) ∷ (2, Mut.mslice RelayCircuit.row ref8 1,) ∷
             (3, Relend.mslice-owed InflightAction.row ref9 2 12 life2,) ∷ (4, Relend.mslice-owed (Referent.rtF (Referent.fInt Syntax.w32)) ref10 3 13
-            life3,) ∷ (5, Rows.any-gone Laws''''''.mir,) ∷ (6, Rows.any-gone Laws'''''.mir,) ∷ (7, Rows.sslice (Referent.rtF (Referent.fInt
-            Syntax.w8)) ref11 4,) ∷ (8, Rows.sslice (Referent.rtF (Referent.fInt Syntax.w8)) ref12 5,) ∷ (9, Rows.any-gone Laws'.mir,) ∷ (10,
-            Rows.any-gone Laws.mir,) ∷ (11, Rows.any-gone Laws''''''.mir,) ∷ (12, Rows.any-gone Laws''''.mir,) ∷ (13, Rows.any-gone Laws''.mir,) ∷
-            (14, Rows.whole (Declared'.row ActionScan.the-type)) ∷ (15, Rows.any-gone ref0,) ∷ List.[]
+            life3,) ∷ (5, Rows.any-gone Laws'''''''.mir,) ∷ (6, Rows.any-gone Laws''.mir,) ∷ (7, Rows.any-gone Laws''''''.mir,) ∷ (8, Rows.sslice
+            (Referent.rtF (Referent.fInt Syntax.w8)) ref11 4,) ∷ (9, Rows.sslice (Referent.rtF (Referent.fInt Syntax.w8)) ref12 5,) ∷ (10,
+            Rows.any-gone Laws'.mir,) ∷ (11, Rows.whole (Declared.row HnsrAnswer.the-type)) ∷ (12, Rows.whole (Declared'.row
+            OpaqueRelayRuntime.the-type),) ∷ (13, Rows.whole (Declared'.row Outgoing.the-type)) ∷ (14, Rows.any-gone Laws'''.mir,) ∷ (15, Rows.whole
+            (Declared'.row ActionScan.the-type)) ∷ List.[]
         abbrev g53 : List.List Row.Entry
         g53 = (0, Rows.whole (Declared'.row Relayed.the-type)) ∷ (1, Mut.mslice RelayPending.row ref7 0,) ∷ (2, Mut.mslice RelayCircuit.row ref8 1,) ∷
             (3, Relend.mslice-owed InflightAction.row ref9 2 12 life2,) ∷ (4, Relend.mslice-owed (Referent.rtF (Referent.fInt Syntax.w32)) ref10 3 13
-            life3,) ∷ (5, Rows.any-gone Laws''''''.mir,) ∷ (6, Rows.any-gone Laws'''''.mir,) ∷ (7, Rows.sslice (Referent.rtF (Referent.fInt
-            Syntax.w8)) ref11 4,) ∷ (8, Rows.sslice (Referent.rtF (Referent.fInt Syntax.w8)) ref12 5,) ∷ (9, Rows.any-gone Laws'.mir,) ∷ (10,
-            Rows.any-gone Laws.mir,) ∷ (11, Rows.any-gone Laws''''''.mir,) ∷ (12, Rows.any-gone Laws''''.mir,) ∷ (13, Rows.any-gone Laws''.mir,) ∷
-            (14, Rows.any-gone Laws'''.mir,) ∷ (15, Rows.any-gone ref0,) ∷ List.[]
+            life3,) ∷ (5, Rows.any-gone Laws'''''''.mir,) ∷ (6, Rows.any-gone Laws''.mir,) ∷ (7, Rows.any-gone Laws''''''.mir,) ∷ (8, Rows.sslice
+            (Referent.rtF (Referent.fInt Syntax.w8)) ref11 4,) ∷ (9, Rows.sslice (Referent.rtF (Referent.fInt Syntax.w8)) ref12 5,) ∷ (10,
+            Rows.any-gone Laws'.mir,) ∷ (11, Rows.any-gone Laws.mir,) ∷ (12, Rows.whole (Declared'.row OpaqueRelayRuntime.the-type)) ∷ (13, Rows.whole
+            (Declared'.row Outgoing.the-type),) ∷ (14, Rows.any-gone Laws'''.mir,) ∷ (15, Rows.whole (Declared'.row ActionScan.the-type)) ∷ List.[]
         abbrev g54 : List.List Row.Entry
         g54 = (0, Rows.whole (Declared'.row Relayed.the-type)) ∷ (1, Mut.mslice RelayPending.row ref7 0,) ∷ (2, Mut.mslice RelayCircuit.row ref8 1,) ∷
+            (3, Relend.mslice-owed InflightAction.row ref9 2 12 life2,) ∷ (4, Relend.mslice-owed (Referent.rtF (Referent.fInt Syntax.w32)) ref10 3 13
+            life3,) ∷ (5, Rows.any-gone Laws'''''''.mir,) ∷ (6, Rows.any-gone Laws''.mir,) ∷ (7, Rows.any-gone Laws''''''.mir,) ∷ (8, Rows.sslice
+            (Referent.rtF (Referent.fInt Syntax.w8)) ref11 4,) ∷ (9, Rows.sslice (Referent.rtF (Referent.fInt Syntax.w8)) ref12 5,) ∷ (10,
+            Rows.any-gone Laws'.mir,) ∷ (11, Rows.any-gone Laws.mir,) ∷ (12, Rows.any-gone Laws'''''''.mir,) ∷ (13, Rows.whole (Declared'.row
+            Outgoing.the-type)) ∷ (14, Rows.any-gone Laws'''.mir,) ∷ (15, Rows.whole (Declared'.row ActionScan.the-type)) ∷ List.[]
+        abbrev g55 : List.List Row.Entry
+        g55 = (0, Rows.whole (Declared'.row Relayed.the-type)) ∷ (1, Mut.mslice RelayPending.row ref7 0,) ∷ (2, Mut.mslice RelayCircuit.row ref8 1,) ∷
+            (3, Relend.mslice-owed InflightAction.row ref9 2 12 life2,) ∷ (4, Relend.mslice-owed (Referent.rtF (Referent.fInt Syntax.w32)) ref10 3 13
+            life3,) ∷ (5, Rows.any-gone Laws'''''''.mir,) ∷ (6, Rows.any-gone Laws''.mir,) ∷ (7, Rows.any-gone Laws''''''.mir,) ∷ (8, Rows.sslice
+            (Referent.rtF (Referent.fInt Syntax.w8)) ref11 4,) ∷ (9, Rows.sslice (Referent.rtF (Referent.fInt Syntax.w8)) ref12 5,) ∷ (10,
+            Rows.any-gone Laws'.mir,) ∷ (11, Rows.any-gone Laws.mir,) ∷ (12, Rows.any-gone Laws'''''''.mir,) ∷ (13, Rows.any-gone Laws'''''.mir,) ∷
+            (14, Rows.any-gone Laws'''.mir,) ∷ (15, Rows.whole (Declared'.row ActionScan.the-type)) ∷ List.[]
+        abbrev g56 : List.List Row.Entry
+        g56 = (0, Rows.whole (Declared'.row Relayed.the-type)) ∷ (1, Mut.mslice RelayPending.row ref7 0,) ∷ (2, Mut.mslice RelayCircuit.row ref8 1,) ∷
+            (3, Relend.mslice-owed InflightAction.row ref9 2 12 life2,) ∷ (4, Relend.mslice-owed (Referent.rtF (Referent.fInt Syntax.w32)) ref10 3 13
+            life3,) ∷ (5, Rows.any-gone Laws'''''''.mir,) ∷ (6, Rows.any-gone Laws''.mir,) ∷ (7, Rows.any-gone Laws''''''.mir,) ∷ (8, Rows.sslice
+            (Referent.rtF (Referent.fInt Syntax.w8)) ref11 4,) ∷ (9, Rows.sslice (Referent.rtF (Referent.fInt Syntax.w8)) ref12 5,) ∷ (10,
+            Rows.any-gone Laws'.mir,) ∷ (11, Rows.any-gone Laws.mir,) ∷ (12, Rows.any-gone Laws'''''''.mir,) ∷ (13, Rows.any-gone Laws'''''.mir,) ∷
+            (14, Rows.any-gone Laws'''.mir,) ∷ (15, Rows.any-gone Laws''''.mir,) ∷ List.[]
+        abbrev g57 : List.List Row.Entry
+        g57 = (0, Rows.whole (Declared'.row Relayed.the-type)) ∷ (1, Mut.mslice RelayPending.row ref7 0,) ∷ (2, Mut.mslice RelayCircuit.row ref8 1,) ∷
             (3, Mut.mslice InflightAction.row ref9 2,) ∷ (4, Relend.mslice-owed (Referent.rtF (Referent.fInt Syntax.w32)) ref10 3 13 life3,) ∷ (5,
-            Rows.any-gone Laws''''''.mir,) ∷ (6, Rows.any-gone Laws'''''.mir,) ∷ (7, Rows.sslice (Referent.rtF (Referent.fInt Syntax.w8)) ref11 4,) ∷
-            (8, Rows.sslice (Referent.rtF (Referent.fInt Syntax.w8)) ref12 5,) ∷ (9, Rows.any-gone Laws'.mir,) ∷ (10, Rows.any-gone Laws.mir,) ∷ (11,
-            Rows.any-gone Laws''''''.mir,) ∷ (12, Rows.any-gone Laws''''.mir,) ∷ (13, Rows.any-gone Laws''.mir,) ∷ (14, Rows.any-gone Laws'''.mir,) ∷
-            (15, Rows.any-gone ref0,) ∷ List.[]
+            Rows.any-gone Laws'''''''.mir,) ∷ (6, Rows.any-gone Laws''.mir,) ∷ (7, Rows.any-gone Laws''''''.mir,) ∷ (8, Rows.sslice (Referent.rtF
+            (Referent.fInt Syntax.w8)) ref11 4,) ∷ (9, Rows.sslice (Referent.rtF (Referent.fInt Syntax.w8)) ref12 5,) ∷ (10, Rows.any-gone Laws'.mir,)
+            ∷ (11, Rows.any-gone Laws.mir,) ∷ (12, Rows.any-gone Laws'''''''.mir,) ∷ (13, Rows.any-gone Laws'''''.mir,) ∷ (14, Rows.any-gone
+            Laws'''.mir,) ∷ (15, Rows.any-gone Laws''''.mir,) ∷ List.[]
         abbrev G0 : Row.Cx
-        G0 = record { locals = List._++_ t0 t1; slots = life0 ∷ life1 ∷ life2 ∷ life3 ∷ life4 ∷ life5 ∷ Row.off ∷ Row.off ∷ Row.off ∷ Row.off ∷
-            Row.off ∷ Row.off ∷ Row.off ∷ Row.off ∷ List.[]; }
+        G0 = record { locals = List._++_ t0 (List._++_ t1 t2); slots = life0 ∷ life1 ∷ life2 ∷ life3 ∷ life4 ∷ life5 ∷ Row.off ∷ Row.off ∷ Row.off ∷
+            Row.off ∷ Row.off ∷ Row.off ∷ Row.off ∷ Row.off ∷ List.[]; }
         abbrev G1 : Row.Cx
-        G1 = record { locals = List._++_ t2 t1; slots = life0 ∷ life1 ∷ life2 ∷ life3 ∷ life4 ∷ life5 ∷ Row.off ∷ Row.off ∷ Row.off ∷ Row.off ∷
-            Row.off ∷ Row.off ∷ Row.off ∷ Row.off ∷ List.[]; }
+        G1 = record { locals = List._++_ t3 (List._++_ t1 t2); slots = life0 ∷ life1 ∷ life2 ∷ life3 ∷ life4 ∷ life5 ∷ Row.off ∷ Row.off ∷ Row.off ∷
+            Row.off ∷ Row.off ∷ Row.off ∷ Row.off ∷ Row.off ∷ List.[]; }
         abbrev G2 : Row.Cx
-        G2 = record { locals = List._++_ t0 t1; slots = life0 ∷ life1 ∷ life2 ∷ life3 ∷ life4 ∷ life5 ∷ Row.off ∷ Row.off ∷ Row.off ∷ Row.off ∷
-            Row.off ∷ Row.off ∷ Row.off ∷ Row.off ∷ List.[]; }
+        G2 = record { locals = List._++_ t0 (List._++_ t1 t2); slots = life0 ∷ life1 ∷ life2 ∷ life3 ∷ life4 ∷ life5 ∷ Row.off ∷ Row.off ∷ Row.off ∷
+            Row.off ∷ Row.off ∷ Row.off ∷ Row.off ∷ Row.off ∷ List.[]; }
         abbrev G3 : Row.Cx
-        G3 = record { locals = List._++_ t0 t1; slots = life0 ∷ life1 ∷ life2 ∷ life3 ∷ life4 ∷ life5 ∷ Row.off ∷ Row.off ∷ Row.off ∷ Row.off ∷
-            Row.off ∷ Row.off ∷ Row.off ∷ Row.off ∷ List.[]; }
+        G3 = record { locals = List._++_ t0 (List._++_ t1 t2); slots = life0 ∷ life1 ∷ life2 ∷ life3 ∷ life4 ∷ life5 ∷ Row.off ∷ Row.off ∷ Row.off ∷
+            Row.off ∷ Row.off ∷ Row.off ∷ Row.off ∷ Row.off ∷ List.[]; }
         abbrev G4 : Row.Cx
-        G4 = record { locals = List._++_ t0 t1; slots = life0 ∷ life1 ∷ life2 ∷ life3 ∷ life4 ∷ life5 ∷ Row.off ∷ Row.off ∷ Row.off ∷ Row.off ∷
-            Row.off ∷ Row.off ∷ Row.off ∷ Row.off ∷ List.[]; }
+        G4 = record { locals = List._++_ t0 (List._++_ t1 t2); slots = life0 ∷ life1 ∷ life2 ∷ life3 ∷ life4 ∷ life5 ∷ Row.off ∷ Row.off ∷ Row.off ∷
+            Row.off ∷ Row.off ∷ Row.off ∷ Row.off ∷ Row.off ∷ List.[]; }
         abbrev G5 : Row.Cx
-        G5 = record { locals = List._++_ t0 t1; slots = life0 ∷ life1 ∷ life2 ∷ life3 ∷ life4 ∷ life5 ∷ Row.alive ∷ Row.off ∷ Row.off ∷ Row.off ∷
-            Row.off ∷ Row.off ∷ Row.off ∷ Row.off ∷ List.[]; }
+        G5 = record { locals = List._++_ t0 (List._++_ t1 t2); slots = life0 ∷ life1 ∷ life2 ∷ life3 ∷ life4 ∷ life5 ∷ Row.alive ∷ Row.off ∷ Row.off ∷
+            Row.off ∷ Row.off ∷ Row.off ∷ Row.off ∷ Row.off ∷ List.[]; }
         abbrev G6 : Row.Cx
-        G6 = record { locals = List._++_ g3 t1; slots = Row.off ∷ life1 ∷ life2 ∷ life3 ∷ life4 ∷ life5 ∷ Row.alive ∷ Row.off ∷ Row.off ∷ Row.off ∷
-            Row.off ∷ Row.off ∷ Row.off ∷ Row.off ∷ List.[]; }
+        G6 = record { locals = List._++_ g4 (List._++_ t5 t2); slots = Row.off ∷ life1 ∷ life2 ∷ life3 ∷ life4 ∷ life5 ∷ Row.alive ∷ Row.off ∷ Row.off
+            ∷ Row.off ∷ Row.off ∷ Row.off ∷ Row.off ∷ Row.off ∷ List.[]; }
         abbrev G7 : Row.Cx
-        G7 = record { locals = List._++_ g4 t5; slots = Row.off ∷ life1 ∷ life2 ∷ life3 ∷ life4 ∷ life5 ∷ Row.alive ∷ Row.off ∷ Row.off ∷ Row.off ∷
-            Row.off ∷ Row.off ∷ Row.off ∷ Row.off ∷ List.[]; }
+        G7 = record { locals = List._++_ g4 (List._++_ t6 t2); slots = Row.off ∷ life1 ∷ life2 ∷ life3 ∷ life4 ∷ life5 ∷ Row.alive ∷ Row.off ∷ Row.off
+            ∷ Row.off ∷ Row.off ∷ Row.off ∷ Row.off ∷ Row.off ∷ List.[]; }
         abbrev G8 : Row.Cx
-        G8 = record { locals = List._++_ g4 t5; slots = Row.off ∷ life1 ∷ life2 ∷ life3 ∷ life4 ∷ life5 ∷ Row.alive ∷ Row.alive ∷ Row.off ∷ Row.off ∷
-            Row.off ∷ Row.off ∷ Row.off ∷ Row.off ∷ List.[]; }
+        G8 = record { locals = List._++_ g4 (List._++_ t6 t2); slots = Row.off ∷ life1 ∷ life2 ∷ life3 ∷ life4 ∷ life5 ∷ Row.alive ∷ Row.alive ∷
+            Row.off ∷ Row.off ∷ Row.off ∷ Row.off ∷ Row.off ∷ Row.off ∷ List.[]; }
         abbrev G9 : Row.Cx
-        G9 = record { locals = List._++_ g6 t7; slots = Row.off ∷ Row.off ∷ life2 ∷ life3 ∷ life4 ∷ life5 ∷ Row.alive ∷ Row.alive ∷ Row.off ∷ Row.off
-            ∷ Row.off ∷ Row.off ∷ Row.off ∷ Row.off ∷ List.[]; }
+        G9 = record { locals = List._++_ g7 (List._++_ t8 t2); slots = Row.off ∷ Row.off ∷ life2 ∷ life3 ∷ life4 ∷ life5 ∷ Row.alive ∷ Row.alive ∷
+            Row.off ∷ Row.off ∷ Row.off ∷ Row.off ∷ Row.off ∷ Row.off ∷ List.[]; }
         abbrev G10 : Row.Cx
-        G10 = record { locals = List._++_ g6 t8; slots = Row.off ∷ Row.off ∷ life2 ∷ life3 ∷ life4 ∷ life5 ∷ Row.alive ∷ Row.alive ∷ Row.off ∷ Row.off
-            ∷ Row.off ∷ Row.off ∷ Row.off ∷ Row.off ∷ List.[]; }
+        G10 = record { locals = List._++_ g7 (List._++_ t9 t2); slots = Row.off ∷ Row.off ∷ life2 ∷ life3 ∷ life4 ∷ life5 ∷ Row.alive ∷ Row.alive ∷
+            Row.off ∷ Row.off ∷ Row.off ∷ Row.off ∷ Row.off ∷ Row.off ∷ List.[]; }
         abbrev G11 : Row.Cx
-        G11 = record { locals = List._++_ g9 t8; slots = Row.off ∷ Row.off ∷ life2 ∷ life3 ∷ life4 ∷ life5 ∷ Row.alive ∷ Row.alive ∷ Row.off ∷ Row.off
-            ∷ Row.off ∷ Row.off ∷ Row.off ∷ Row.off ∷ List.[]; }
+        G11 = record { locals = List._++_ g10 (List._++_ t9 t2); slots = Row.off ∷ Row.off ∷ life2 ∷ life3 ∷ life4 ∷ life5 ∷ Row.alive ∷ Row.alive ∷
+            Row.off ∷ Row.off ∷ Row.off ∷ Row.off ∷ Row.off ∷ Row.off ∷ List.[]; }
         abbrev G12 : Row.Cx
-        G12 = record { locals = List._++_ g9 t10; slots = Row.off ∷ Row.off ∷ life2 ∷ life3 ∷ life4 ∷ life5 ∷ Row.alive ∷ Row.alive ∷ Row.off ∷
-            Row.off ∷ Row.off ∷ Row.off ∷ Row.off ∷ Row.off ∷ List.[]; }
+        G12 = record { locals = List._++_ g10 (List._++_ t11 t2); slots = Row.off ∷ Row.off ∷ life2 ∷ life3 ∷ life4 ∷ life5 ∷ Row.alive ∷ Row.alive ∷
+            Row.off ∷ Row.off ∷ Row.off ∷ Row.off ∷ Row.off ∷ Row.off ∷ List.[]; }
         abbrev G13 : Row.Cx
-        G13 = record { locals = List._++_ g9 t1; slots = Row.off ∷ Row.off ∷ life2 ∷ life3 ∷ life4 ∷ life5 ∷ Row.alive ∷ Row.alive ∷ Row.off ∷ Row.off
-            ∷ Row.off ∷ Row.off ∷ Row.off ∷ Row.off ∷ List.[]; }
+        G13 = record { locals = List._++_ g10 (List._++_ t1 t2); slots = Row.off ∷ Row.off ∷ life2 ∷ life3 ∷ life4 ∷ life5 ∷ Row.alive ∷ Row.alive ∷
+            Row.off ∷ Row.off ∷ Row.off ∷ Row.off ∷ Row.off ∷ Row.off ∷ List.[]; }
         abbrev G14 : Row.Cx
-        G14 = record { locals = List._++_ g11 t1; slots = Row.off ∷ Row.off ∷ life2 ∷ life3 ∷ life4 ∷ life5 ∷ Row.alive ∷ Row.alive ∷ Row.off ∷
-            Row.off ∷ Row.off ∷ Row.off ∷ Row.off ∷ Row.off ∷ List.[]; }
+        G14 = record { locals = List._++_ g12 (List._++_ t1 t2); slots = Row.off ∷ Row.off ∷ life2 ∷ life3 ∷ life4 ∷ life5 ∷ Row.alive ∷ Row.alive ∷
+            Row.off ∷ Row.off ∷ Row.off ∷ Row.off ∷ Row.off ∷ Row.off ∷ List.[]; }
         abbrev G15 : Row.Cx
-        G15 = record { locals = List._++_ g12 t1; slots = Row.off ∷ Row.off ∷ life2 ∷ life3 ∷ life4 ∷ life5 ∷ Row.alive ∷ Row.alive ∷ Row.off ∷
-            Row.off ∷ Row.off ∷ Row.off ∷ Row.off ∷ Row.off ∷ List.[]; }
+        G15 = record { locals = List._++_ g13 (List._++_ t1 t2); slots = Row.off ∷ Row.off ∷ life2 ∷ life3 ∷ life4 ∷ life5 ∷ Row.alive ∷ Row.alive ∷
+            Row.off ∷ Row.off ∷ Row.off ∷ Row.off ∷ Row.off ∷ Row.off ∷ List.[]; }
         abbrev G16 : Row.Cx
-        G16 = record { locals = List._++_ g12 t1; slots = Row.off ∷ Row.off ∷ life2 ∷ life3 ∷ life4 ∷ life5 ∷ Row.dead ∷ Row.alive ∷ Row.off ∷ Row.off
-            ∷ Row.off ∷ Row.off ∷ Row.off ∷ Row.off ∷ List.[]; }
+        G16 = record { locals = List._++_ g13 (List._++_ t1 t2); slots = Row.off ∷ Row.off ∷ life2 ∷ life3 ∷ life4 ∷ life5 ∷ Row.dead ∷ Row.alive ∷
+            Row.off ∷ Row.off ∷ Row.off ∷ Row.off ∷ Row.off ∷ Row.off ∷ List.[]; }
         abbrev G17 : Row.Cx
-        G17 = record { locals = List._++_ g13 t1; slots = life0 ∷ Row.off ∷ life2 ∷ life3 ∷ life4 ∷ life5 ∷ Row.dead ∷ Row.alive ∷ Row.off ∷ Row.off ∷
-            Row.off ∷ Row.off ∷ Row.off ∷ Row.off ∷ List.[]; }
+        G17 = record { locals = List._++_ g14 (List._++_ t1 t2); slots = life0 ∷ Row.off ∷ life2 ∷ life3 ∷ life4 ∷ life5 ∷ Row.dead ∷ Row.alive ∷
+            Row.off ∷ Row.off ∷ Row.off ∷ Row.off ∷ Row.off ∷ Row.off ∷ List.[]; }
         abbrev G18 : Row.Cx
-        G18 = record { locals = List._++_ g13 t1; slots = life0 ∷ Row.off ∷ life2 ∷ life3 ∷ life4 ∷ life5 ∷ Row.off ∷ Row.alive ∷ Row.off ∷ Row.off ∷
-            Row.off ∷ Row.off ∷ Row.off ∷ Row.off ∷ List.[]; }
+        G18 = record { locals = List._++_ g14 (List._++_ t1 t2); slots = life0 ∷ Row.off ∷ life2 ∷ life3 ∷ life4 ∷ life5 ∷ Row.off ∷ Row.alive ∷
+            Row.off ∷ Row.off ∷ Row.off ∷ Row.off ∷ Row.off ∷ Row.off ∷ List.[]; }
         abbrev G19 : Row.Cx
-        G19 = record { locals = List._++_ g13 t1; slots = life0 ∷ Row.off ∷ life2 ∷ life3 ∷ life4 ∷ life5 ∷ Row.off ∷ Row.dead ∷ Row.off ∷ Row.off ∷
-            Row.off ∷ Row.off ∷ Row.off ∷ Row.off ∷ List.[]; }
+        G19 = record { locals = List._++_ g14 (List._++_ t1 t2); slots = life0 ∷ Row.off ∷ life2 ∷ life3 ∷ life4 ∷ life5 ∷ Row.off ∷ Row.dead ∷
+            Row.off ∷ Row.off ∷ Row.off ∷ Row.off ∷ Row.off ∷ Row.off ∷ List.[]; }
         abbrev G20 : Row.Cx
-        G20 = record { locals = List._++_ t14 t1; slots = life0 ∷ life1 ∷ life2 ∷ life3 ∷ life4 ∷ life5 ∷ Row.off ∷ Row.dead ∷ Row.off ∷ Row.off ∷
-            Row.off ∷ Row.off ∷ Row.off ∷ Row.off ∷ List.[]; }
+        G20 = record { locals = List._++_ t15 (List._++_ t1 t2); slots = life0 ∷ life1 ∷ life2 ∷ life3 ∷ life4 ∷ life5 ∷ Row.off ∷ Row.dead ∷ Row.off
+            ∷ Row.off ∷ Row.off ∷ Row.off ∷ Row.off ∷ Row.off ∷ List.[]; }
         abbrev G21 : Row.Cx
-        G21 = record { locals = List._++_ t14 t1; slots = life0 ∷ life1 ∷ life2 ∷ life3 ∷ life4 ∷ life5 ∷ Row.off ∷ Row.off ∷ Row.off ∷ Row.off ∷
-            Row.off ∷ Row.off ∷ Row.off ∷ Row.off ∷ List.[]; }
+        G21 = record { locals = List._++_ t15 (List._++_ t1 t2); slots = life0 ∷ life1 ∷ life2 ∷ life3 ∷ life4 ∷ life5 ∷ Row.off ∷ Row.off ∷ Row.off ∷
+            Row.off ∷ Row.off ∷ Row.off ∷ Row.off ∷ Row.off ∷ List.[]; }
         abbrev G22 : Row.Cx
-        G22 = record { locals = List._++_ t15 t1; slots = life0 ∷ life1 ∷ life2 ∷ life3 ∷ life4 ∷ life5 ∷ Row.off ∷ Row.off ∷ Row.off ∷ Row.off ∷
-            Row.off ∷ Row.off ∷ Row.off ∷ Row.off ∷ List.[]; }
+        G22 = record { locals = List._++_ t16 (List._++_ t1 t2); slots = life0 ∷ life1 ∷ life2 ∷ life3 ∷ life4 ∷ life5 ∷ Row.off ∷ Row.off ∷ Row.off ∷
+            Row.off ∷ Row.off ∷ Row.off ∷ Row.off ∷ Row.off ∷ List.[]; }
         abbrev G23 : Row.Cx
-        G23 = record { locals = List._++_ t16 t1; slots = life0 ∷ life1 ∷ life2 ∷ life3 ∷ life4 ∷ life5 ∷ Row.off ∷ Row.off ∷ Row.off ∷ Row.off ∷
-            Row.off ∷ Row.off ∷ Row.off ∷ Row.off ∷ List.[]; }
+        G23 = record { locals = List._++_ t17 (List._++_ t1 t2); slots = life0 ∷ life1 ∷ life2 ∷ life3 ∷ life4 ∷ life5 ∷ Row.off ∷ Row.off ∷ Row.off ∷
+            Row.off ∷ Row.off ∷ Row.off ∷ Row.off ∷ Row.off ∷ List.[]; }
         abbrev G24 : Row.Cx
-        G24 = record { locals = List._++_ t17 t1; slots = life0 ∷ life1 ∷ life2 ∷ life3 ∷ life4 ∷ life5 ∷ Row.off ∷ Row.off ∷ Row.off ∷ Row.off ∷
-            Row.off ∷ Row.off ∷ Row.off ∷ Row.off ∷ List.[]; }
+        G24 = record { locals = List._++_ t18 (List._++_ t1 t2); slots = life0 ∷ life1 ∷ life2 ∷ life3 ∷ life4 ∷ life5 ∷ Row.off ∷ Row.off ∷ Row.off ∷
+            Row.off ∷ Row.off ∷ Row.off ∷ Row.off ∷ Row.off ∷ List.[]; }
         abbrev G25 : Row.Cx
-        G25 = record { locals = List._++_ t17 t1; slots = life0 ∷ life1 ∷ life2 ∷ life3 ∷ life4 ∷ life5 ∷ Row.off ∷ Row.off ∷ Row.alive ∷ Row.off ∷
-            Row.off ∷ Row.off ∷ Row.off ∷ Row.off ∷ List.[]; }
+        G25 = record { locals = List._++_ t18 (List._++_ t1 t2); slots = life0 ∷ life1 ∷ life2 ∷ life3 ∷ life4 ∷ life5 ∷ Row.off ∷ Row.off ∷ Row.alive
+            ∷ Row.off ∷ Row.off ∷ Row.off ∷ Row.off ∷ Row.off ∷ List.[]; }
         abbrev G26 : Row.Cx
-        G26 = record { locals = List._++_ g18 t19; slots = Row.off ∷ life1 ∷ life2 ∷ life3 ∷ life4 ∷ life5 ∷ Row.off ∷ Row.off ∷ Row.alive ∷ Row.off ∷
-            Row.off ∷ Row.off ∷ Row.off ∷ Row.off ∷ List.[]; }
+        G26 = record { locals = List._++_ g19 (List._++_ t20 t2); slots = Row.off ∷ life1 ∷ life2 ∷ life3 ∷ life4 ∷ life5 ∷ Row.off ∷ Row.off ∷
+            Row.alive ∷ Row.off ∷ Row.off ∷ Row.off ∷ Row.off ∷ Row.off ∷ List.[]; }
         abbrev G27 : Row.Cx
-        G27 = record { locals = List._++_ g18 t20; slots = Row.off ∷ life1 ∷ life2 ∷ life3 ∷ life4 ∷ life5 ∷ Row.off ∷ Row.off ∷ Row.alive ∷ Row.off ∷
-            Row.off ∷ Row.off ∷ Row.off ∷ Row.off ∷ List.[]; }
+        G27 = record { locals = List._++_ g19 (List._++_ t21 t2); slots = Row.off ∷ life1 ∷ life2 ∷ life3 ∷ life4 ∷ life5 ∷ Row.off ∷ Row.off ∷
+            Row.alive ∷ Row.off ∷ Row.off ∷ Row.off ∷ Row.off ∷ Row.off ∷ List.[]; }
         abbrev G28 : Row.Cx
-        G28 = record { locals = List._++_ g18 t21; slots = Row.off ∷ life1 ∷ life2 ∷ life3 ∷ life4 ∷ life5 ∷ Row.off ∷ Row.off ∷ Row.alive ∷ Row.off ∷
-            Row.off ∷ Row.off ∷ Row.off ∷ Row.off ∷ List.[]; }
+        G28 = record { locals = List._++_ g19 (List._++_ t22 t2); slots = Row.off ∷ life1 ∷ life2 ∷ life3 ∷ life4 ∷ life5 ∷ Row.off ∷ Row.off ∷
+            Row.alive ∷ Row.off ∷ Row.off ∷ Row.off ∷ Row.off ∷ Row.off ∷ List.[]; }
         abbrev G29 : Row.Cx
-        G29 = record { locals = List._++_ g18 t22; slots = Row.off ∷ life1 ∷ life2 ∷ life3 ∷ life4 ∷ life5 ∷ Row.off ∷ Row.off ∷ Row.alive ∷ Row.off ∷
-            Row.off ∷ Row.off ∷ Row.off ∷ Row.off ∷ List.[]; }
+        G29 = record { locals = List._++_ g19 (List._++_ t23 t2); slots = Row.off ∷ life1 ∷ life2 ∷ life3 ∷ life4 ∷ life5 ∷ Row.off ∷ Row.off ∷
+            Row.alive ∷ Row.off ∷ Row.off ∷ Row.off ∷ Row.off ∷ Row.off ∷ List.[]; }
         abbrev G30 : Row.Cx
-        G30 = record { locals = List._++_ g18 t22; slots = Row.off ∷ life1 ∷ life2 ∷ life3 ∷ life4 ∷ life5 ∷ Row.off ∷ Row.off ∷ Row.dead ∷ Row.off ∷
-            Row.off ∷ Row.off ∷ Row.off ∷ Row.off ∷ List.[]; }
+        G30 = record { locals = List._++_ g19 (List._++_ t23 t2); slots = Row.off ∷ life1 ∷ life2 ∷ life3 ∷ life4 ∷ life5 ∷ Row.off ∷ Row.off ∷
+            Row.dead ∷ Row.off ∷ Row.off ∷ Row.off ∷ Row.off ∷ Row.off ∷ List.[]; }
         abbrev G31 : Row.Cx
-        G31 = record { locals = List._++_ t17 t1; slots = life0 ∷ life1 ∷ life2 ∷ life3 ∷ life4 ∷ life5 ∷ Row.off ∷ Row.off ∷ Row.dead ∷ Row.off ∷
-            Row.off ∷ Row.off ∷ Row.off ∷ Row.off ∷ List.[]; }
+        G31 = record { locals = List._++_ t18 (List._++_ t1 t2); slots = life0 ∷ life1 ∷ life2 ∷ life3 ∷ life4 ∷ life5 ∷ Row.off ∷ Row.off ∷ Row.dead
+            ∷ Row.off ∷ Row.off ∷ Row.off ∷ Row.off ∷ Row.off ∷ List.[]; }
         abbrev G32 : Row.Cx
-        G32 = record { locals = List._++_ t17 t1; slots = life0 ∷ life1 ∷ life2 ∷ life3 ∷ life4 ∷ life5 ∷ Row.off ∷ Row.off ∷ Row.off ∷ Row.off ∷
-            Row.off ∷ Row.off ∷ Row.off ∷ Row.off ∷ List.[]; }
+        G32 = record { locals = List._++_ t18 (List._++_ t1 t2); slots = life0 ∷ life1 ∷ life2 ∷ life3 ∷ life4 ∷ life5 ∷ Row.off ∷ Row.off ∷ Row.off ∷
+            Row.off ∷ Row.off ∷ Row.off ∷ Row.off ∷ Row.off ∷ List.[]; }
         abbrev G33 : Row.Cx
-        G33 = record { locals = List._++_ t17 t1; slots = life0 ∷ life1 ∷ life2 ∷ life3 ∷ life4 ∷ life5 ∷ Row.off ∷ Row.off ∷ Row.off ∷ Row.alive ∷
-            Row.off ∷ Row.off ∷ Row.off ∷ Row.off ∷ List.[]; }
+        G33 = record { locals = List._++_ t18 (List._++_ t1 t2); slots = life0 ∷ life1 ∷ life2 ∷ life3 ∷ life4 ∷ life5 ∷ Row.off ∷ Row.off ∷ Row.off ∷
+            Row.alive ∷ Row.off ∷ Row.off ∷ Row.off ∷ Row.off ∷ List.[]; }
         abbrev G34 : Row.Cx
-        G34 = record { locals = List._++_ g23 t24; slots = life0 ∷ Row.off ∷ life2 ∷ life3 ∷ life4 ∷ life5 ∷ Row.off ∷ Row.off ∷ Row.off ∷ Row.alive ∷
-            Row.off ∷ Row.off ∷ Row.off ∷ Row.off ∷ List.[]; }
+        G34 = record { locals = List._++_ g24 (List._++_ t25 t2); slots = life0 ∷ Row.off ∷ life2 ∷ life3 ∷ life4 ∷ life5 ∷ Row.off ∷ Row.off ∷
+            Row.off ∷ Row.alive ∷ Row.off ∷ Row.off ∷ Row.off ∷ Row.off ∷ List.[]; }
         abbrev G35 : Row.Cx
-        G35 = record { locals = List._++_ g23 t25; slots = life0 ∷ Row.off ∷ life2 ∷ life3 ∷ life4 ∷ life5 ∷ Row.off ∷ Row.off ∷ Row.off ∷ Row.alive ∷
-            Row.off ∷ Row.off ∷ Row.off ∷ Row.off ∷ List.[]; }
+        G35 = record { locals = List._++_ g24 (List._++_ t26 t2); slots = life0 ∷ Row.off ∷ life2 ∷ life3 ∷ life4 ∷ life5 ∷ Row.off ∷ Row.off ∷
+            Row.off ∷ Row.alive ∷ Row.off ∷ Row.off ∷ Row.off ∷ Row.off ∷ List.[]; }
         abbrev G36 : Row.Cx
-        G36 = record { locals = List._++_ g23 t26; slots = life0 ∷ Row.off ∷ life2 ∷ life3 ∷ life4 ∷ life5 ∷ Row.off ∷ Row.off ∷ Row.off ∷ Row.alive ∷
-            Row.off ∷ Row.off ∷ Row.off ∷ Row.off ∷ List.[]; }
+        G36 = record { locals = List._++_ g24 (List._++_ t27 t2); slots = life0 ∷ Row.off ∷ life2 ∷ life3 ∷ life4 ∷ life5 ∷ Row.off ∷ Row.off ∷
+            Row.off ∷ Row.alive ∷ Row.off ∷ Row.off ∷ Row.off ∷ Row.off ∷ List.[]; }
         abbrev G37 : Row.Cx
-        G37 = record { locals = List._++_ g23 t27; slots = life0 ∷ Row.off ∷ life2 ∷ life3 ∷ life4 ∷ life5 ∷ Row.off ∷ Row.off ∷ Row.off ∷ Row.alive ∷
-            Row.off ∷ Row.off ∷ Row.off ∷ Row.off ∷ List.[]; }
+        G37 = record { locals = List._++_ g24 (List._++_ t28 t2); slots = life0 ∷ Row.off ∷ life2 ∷ life3 ∷ life4 ∷ life5 ∷ Row.off ∷ Row.off ∷
+            Row.off ∷ Row.alive ∷ Row.off ∷ Row.off ∷ Row.off ∷ Row.off ∷ List.[]; }
         abbrev G38 : Row.Cx
-        G38 = record { locals = List._++_ g23 t27; slots = life0 ∷ Row.off ∷ life2 ∷ life3 ∷ life4 ∷ life5 ∷ Row.off ∷ Row.off ∷ Row.off ∷ Row.dead ∷
-            Row.off ∷ Row.off ∷ Row.off ∷ Row.off ∷ List.[]; }
+        G38 = record { locals = List._++_ g24 (List._++_ t28 t2); slots = life0 ∷ Row.off ∷ life2 ∷ life3 ∷ life4 ∷ life5 ∷ Row.off ∷ Row.off ∷
+            Row.off ∷ Row.dead ∷ Row.off ∷ Row.off ∷ Row.off ∷ Row.off ∷ List.[]; }
         abbrev G39 : Row.Cx
-        G39 = record { locals = List._++_ t17 t1; slots = life0 ∷ life1 ∷ life2 ∷ life3 ∷ life4 ∷ life5 ∷ Row.off ∷ Row.off ∷ Row.off ∷ Row.dead ∷
-            Row.off ∷ Row.off ∷ Row.off ∷ Row.off ∷ List.[]; }
+        G39 = record { locals = List._++_ t18 (List._++_ t1 t2); slots = life0 ∷ life1 ∷ life2 ∷ life3 ∷ life4 ∷ life5 ∷ Row.off ∷ Row.off ∷ Row.off ∷
+            Row.dead ∷ Row.off ∷ Row.off ∷ Row.off ∷ Row.off ∷ List.[]; }
         abbrev G40 : Row.Cx
-        G40 = record { locals = List._++_ t17 t1; slots = life0 ∷ life1 ∷ life2 ∷ life3 ∷ life4 ∷ life5 ∷ Row.off ∷ Row.off ∷ Row.off ∷ Row.off ∷
-            Row.off ∷ Row.off ∷ Row.off ∷ Row.off ∷ List.[]; }
+        G40 = record { locals = List._++_ t18 (List._++_ t1 t2); slots = life0 ∷ life1 ∷ life2 ∷ life3 ∷ life4 ∷ life5 ∷ Row.off ∷ Row.off ∷ Row.off ∷
+            Row.off ∷ Row.off ∷ Row.off ∷ Row.off ∷ Row.off ∷ List.[]; }
         abbrev G41 : Row.Cx
-        G41 = record { locals = List._++_ t17 t1; slots = life0 ∷ life1 ∷ life2 ∷ life3 ∷ life4 ∷ life5 ∷ Row.off ∷ Row.off ∷ Row.off ∷ Row.off ∷
-            Row.alive ∷ Row.off ∷ Row.off ∷ Row.off ∷ List.[]; }
+        G41 = record { locals = List._++_ t18 (List._++_ t1 t2); slots = life0 ∷ life1 ∷ life2 ∷ life3 ∷ life4 ∷ life5 ∷ Row.off ∷ Row.off ∷ Row.off ∷
+            Row.off ∷ Row.alive ∷ Row.off ∷ Row.off ∷ Row.off ∷ List.[]; }
         abbrev G42 : Row.Cx
-        G42 = record { locals = List._++_ g28 t29; slots = life0 ∷ life1 ∷ Row.off ∷ life3 ∷ life4 ∷ life5 ∷ Row.off ∷ Row.off ∷ Row.off ∷ Row.off ∷
-            Row.alive ∷ Row.off ∷ Row.off ∷ Row.off ∷ List.[]; }
+        G42 = record { locals = List._++_ g29 (List._++_ t30 t2); slots = life0 ∷ life1 ∷ Row.off ∷ life3 ∷ life4 ∷ life5 ∷ Row.off ∷ Row.off ∷
+            Row.off ∷ Row.off ∷ Row.alive ∷ Row.off ∷ Row.off ∷ Row.off ∷ List.[]; }
         abbrev G43 : Row.Cx
-        G43 = record { locals = List._++_ g28 t30; slots = life0 ∷ life1 ∷ Row.off ∷ life3 ∷ life4 ∷ life5 ∷ Row.off ∷ Row.off ∷ Row.off ∷ Row.off ∷
-            Row.alive ∷ Row.off ∷ Row.off ∷ Row.off ∷ List.[]; }
+        G43 = record { locals = List._++_ g29 (List._++_ t31 t2); slots = life0 ∷ life1 ∷ Row.off ∷ life3 ∷ life4 ∷ life5 ∷ Row.off ∷ Row.off ∷
+            Row.off ∷ Row.off ∷ Row.alive ∷ Row.off ∷ Row.off ∷ Row.off ∷ List.[]; }
         abbrev G44 : Row.Cx
-        G44 = record { locals = List._++_ g28 t31; slots = life0 ∷ life1 ∷ Row.off ∷ life3 ∷ life4 ∷ life5 ∷ Row.off ∷ Row.off ∷ Row.off ∷ Row.off ∷
-            Row.alive ∷ Row.off ∷ Row.off ∷ Row.off ∷ List.[]; }
+        G44 = record { locals = List._++_ g29 (List._++_ t32 t2); slots = life0 ∷ life1 ∷ Row.off ∷ life3 ∷ life4 ∷ life5 ∷ Row.off ∷ Row.off ∷
+            Row.off ∷ Row.off ∷ Row.alive ∷ Row.off ∷ Row.off ∷ Row.off ∷ List.[]; }
         abbrev G45 : Row.Cx
-        G45 = record { locals = List._++_ g32 t31; slots = life0 ∷ life1 ∷ Row.off ∷ life3 ∷ life4 ∷ life5 ∷ Row.off ∷ Row.off ∷ Row.off ∷ Row.off ∷
-            Row.alive ∷ Row.off ∷ Row.off ∷ Row.off ∷ List.[]; }
+        G45 = record { locals = List._++_ g33 (List._++_ t32 t2); slots = life0 ∷ life1 ∷ Row.off ∷ life3 ∷ life4 ∷ life5 ∷ Row.off ∷ Row.off ∷
+            Row.off ∷ Row.off ∷ Row.alive ∷ Row.off ∷ Row.off ∷ Row.off ∷ List.[]; }
         abbrev G46 : Row.Cx
-        G46 = record { locals = List._++_ g32 t33; slots = life0 ∷ life1 ∷ Row.off ∷ life3 ∷ life4 ∷ life5 ∷ Row.off ∷ Row.off ∷ Row.off ∷ Row.off ∷
-            Row.alive ∷ Row.off ∷ Row.off ∷ Row.off ∷ List.[]; }
+        G46 = record { locals = List._++_ g33 (List._++_ t34 t2); slots = life0 ∷ life1 ∷ Row.off ∷ life3 ∷ life4 ∷ life5 ∷ Row.off ∷ Row.off ∷
+            Row.off ∷ Row.off ∷ Row.alive ∷ Row.off ∷ Row.off ∷ Row.off ∷ List.[]; }
         abbrev G47 : Row.Cx
-        G47 = record { locals = List._++_ g32 t33; slots = life0 ∷ life1 ∷ Row.off ∷ life3 ∷ life4 ∷ life5 ∷ Row.off ∷ Row.off ∷ Row.off ∷ Row.off ∷
-            Row.dead ∷ Row.off ∷ Row.off ∷ Row.off ∷ List.[]; }
+        G47 = record { locals = List._++_ g33 (List._++_ t34 t2); slots = life0 ∷ life1 ∷ Row.off ∷ life3 ∷ life4 ∷ life5 ∷ Row.off ∷ Row.off ∷
+            Row.off ∷ Row.off ∷ Row.dead ∷ Row.off ∷ Row.off ∷ Row.off ∷ List.[]; }
         abbrev G48 : Row.Cx
-        G48 = record { locals = List._++_ t34 t1; slots = life0 ∷ life1 ∷ life2 ∷ life3 ∷ life4 ∷ life5 ∷ Row.off ∷ Row.off ∷ Row.off ∷ Row.off ∷
-            Row.dead ∷ Row.off ∷ Row.off ∷ Row.off ∷ List.[]; }
+        G48 = record { locals = List._++_ t35 (List._++_ t1 t2); slots = life0 ∷ life1 ∷ life2 ∷ life3 ∷ life4 ∷ life5 ∷ Row.off ∷ Row.off ∷ Row.off ∷
+            Row.off ∷ Row.dead ∷ Row.off ∷ Row.off ∷ Row.off ∷ List.[]; }
         abbrev G49 : Row.Cx
-        G49 = record { locals = List._++_ t34 t1; slots = life0 ∷ life1 ∷ life2 ∷ life3 ∷ life4 ∷ life5 ∷ Row.off ∷ Row.off ∷ Row.off ∷ Row.off ∷
-            Row.off ∷ Row.off ∷ Row.off ∷ Row.off ∷ List.[]; }
+        G49 = record { locals = List._++_ t35 (List._++_ t1 t2); slots = life0 ∷ life1 ∷ life2 ∷ life3 ∷ life4 ∷ life5 ∷ Row.off ∷ Row.off ∷ Row.off ∷
+            Row.off ∷ Row.off ∷ Row.off ∷ Row.off ∷ Row.off ∷ List.[]; }
         abbrev G50 : Row.Cx
-        G50 = record { locals = List._++_ t35 t1; slots = life0 ∷ life1 ∷ life2 ∷ life3 ∷ life4 ∷ life5 ∷ Row.off ∷ Row.off ∷ Row.off ∷ Row.off ∷
-            Row.off ∷ Row.off ∷ Row.off ∷ Row.off ∷ List.[]; }
+        G50 = record { locals = List._++_ t36 (List._++_ t1 t2); slots = life0 ∷ life1 ∷ life2 ∷ life3 ∷ life4 ∷ life5 ∷ Row.off ∷ Row.off ∷ Row.off ∷
+            Row.off ∷ Row.off ∷ Row.off ∷ Row.off ∷ Row.off ∷ List.[]; }
         abbrev G51 : Row.Cx
-        G51 = record { locals = List._++_ t35 t1; slots = life0 ∷ life1 ∷ life2 ∷ life3 ∷ life4 ∷ life5 ∷ Row.off ∷ Row.off ∷ Row.off ∷ Row.off ∷
-            Row.off ∷ Row.alive ∷ Row.off ∷ Row.off ∷ List.[]; }
+        G51 = record { locals = List._++_ t36 (List._++_ t1 t2); slots = life0 ∷ life1 ∷ life2 ∷ life3 ∷ life4 ∷ life5 ∷ Row.off ∷ Row.off ∷ Row.off ∷
+            Row.off ∷ Row.off ∷ Row.alive ∷ Row.off ∷ Row.off ∷ List.[]; }
         abbrev G52 : Row.Cx
-        G52 = record { locals = List._++_ g36 t37; slots = life0 ∷ life1 ∷ Row.off ∷ life3 ∷ life4 ∷ life5 ∷ Row.off ∷ Row.off ∷ Row.off ∷ Row.off ∷
-            Row.off ∷ Row.alive ∷ Row.off ∷ Row.off ∷ List.[]; }
+        G52 = record { locals = List._++_ g37 (List._++_ t38 t2); slots = life0 ∷ life1 ∷ Row.off ∷ life3 ∷ life4 ∷ life5 ∷ Row.off ∷ Row.off ∷
+            Row.off ∷ Row.off ∷ Row.off ∷ Row.alive ∷ Row.off ∷ Row.off ∷ List.[]; }
         abbrev G53 : Row.Cx
-        G53 = record { locals = List._++_ g36 t38; slots = life0 ∷ life1 ∷ Row.off ∷ life3 ∷ life4 ∷ life5 ∷ Row.off ∷ Row.off ∷ Row.off ∷ Row.off ∷
-            Row.off ∷ Row.alive ∷ Row.off ∷ Row.off ∷ List.[]; }
+        G53 = record { locals = List._++_ g37 (List._++_ t39 t2); slots = life0 ∷ life1 ∷ Row.off ∷ life3 ∷ life4 ∷ life5 ∷ Row.off ∷ Row.off ∷
+            Row.off ∷ Row.off ∷ Row.off ∷ Row.alive ∷ Row.off ∷ Row.off ∷ List.[]; }
         abbrev G54 : Row.Cx
-        G54 = record { locals = List._++_ g39 t38; slots = life0 ∷ life1 ∷ Row.off ∷ life3 ∷ life4 ∷ life5 ∷ Row.off ∷ Row.off ∷ Row.off ∷ Row.off ∷
-            Row.off ∷ Row.alive ∷ Row.off ∷ Row.off ∷ List.[]; }
+        G54 = record { locals = List._++_ g40 (List._++_ t39 t2); slots = life0 ∷ life1 ∷ Row.off ∷ life3 ∷ life4 ∷ life5 ∷ Row.off ∷ Row.off ∷
+            Row.off ∷ Row.off ∷ Row.off ∷ Row.alive ∷ Row.off ∷ Row.off ∷ List.[]; }
         abbrev G55 : Row.Cx
-        G55 = record { locals = List._++_ g39 t1; slots = life0 ∷ life1 ∷ Row.off ∷ life3 ∷ life4 ∷ life5 ∷ Row.off ∷ Row.off ∷ Row.off ∷ Row.off ∷
-            Row.off ∷ Row.alive ∷ Row.off ∷ Row.off ∷ List.[]; }
+        G55 = record { locals = List._++_ g40 (List._++_ t1 t2); slots = life0 ∷ life1 ∷ Row.off ∷ life3 ∷ life4 ∷ life5 ∷ Row.off ∷ Row.off ∷ Row.off
+            ∷ Row.off ∷ Row.off ∷ Row.alive ∷ Row.off ∷ Row.off ∷ List.[]; }
         abbrev G56 : Row.Cx
-        G56 = record { locals = List._++_ g40 t1; slots = life0 ∷ life1 ∷ Row.off ∷ life3 ∷ life4 ∷ life5 ∷ Row.off ∷ Row.off ∷ Row.off ∷ Row.off ∷
-            Row.off ∷ Row.alive ∷ Row.off ∷ Row.off ∷ List.[]; }
+        G56 = record { locals = List._++_ g41 (List._++_ t1 t2); slots = life0 ∷ life1 ∷ Row.off ∷ life3 ∷ life4 ∷ life5 ∷ Row.off ∷ Row.off ∷ Row.off
+            ∷ Row.off ∷ Row.off ∷ Row.alive ∷ Row.off ∷ Row.off ∷ List.[]; }
         abbrev G57 : Row.Cx
-        G57 = record { locals = List._++_ g40 t1; slots = life0 ∷ life1 ∷ Row.off ∷ life3 ∷ life4 ∷ life5 ∷ Row.off ∷ Row.off ∷ Row.off ∷ Row.off ∷
-            Row.off ∷ Row.dead ∷ Row.off ∷ Row.off ∷ List.[]; }
+        G57 = record { locals = List._++_ g41 (List._++_ t1 t2); slots = life0 ∷ life1 ∷ Row.off ∷ life3 ∷ life4 ∷ life5 ∷ Row.off ∷ Row.off ∷ Row.off
+            ∷ Row.off ∷ Row.off ∷ Row.dead ∷ Row.off ∷ Row.off ∷ List.[]; }
         abbrev G58 : Row.Cx
-        G58 = record { locals = List._++_ t41 t1; slots = life0 ∷ life1 ∷ life2 ∷ life3 ∷ life4 ∷ life5 ∷ Row.off ∷ Row.off ∷ Row.off ∷ Row.off ∷
-            Row.off ∷ Row.dead ∷ Row.off ∷ Row.off ∷ List.[]; }
+        G58 = record { locals = List._++_ t42 (List._++_ t1 t2); slots = life0 ∷ life1 ∷ life2 ∷ life3 ∷ life4 ∷ life5 ∷ Row.off ∷ Row.off ∷ Row.off ∷
+            Row.off ∷ Row.off ∷ Row.dead ∷ Row.off ∷ Row.off ∷ List.[]; }
         abbrev G59 : Row.Cx
-        G59 = record { locals = List._++_ t41 t1; slots = life0 ∷ life1 ∷ life2 ∷ life3 ∷ life4 ∷ life5 ∷ Row.off ∷ Row.off ∷ Row.off ∷ Row.off ∷
-            Row.off ∷ Row.off ∷ Row.off ∷ Row.off ∷ List.[]; }
+        G59 = record { locals = List._++_ t42 (List._++_ t1 t2); slots = life0 ∷ life1 ∷ life2 ∷ life3 ∷ life4 ∷ life5 ∷ Row.off ∷ Row.off ∷ Row.off ∷
+            Row.off ∷ Row.off ∷ Row.off ∷ Row.off ∷ Row.off ∷ List.[]; }
         abbrev G60 : Row.Cx
-        G60 = record { locals = List._++_ t41 t1; slots = life0 ∷ life1 ∷ life2 ∷ life3 ∷ life4 ∷ life5 ∷ Row.off ∷ Row.off ∷ Row.off ∷ Row.off ∷
-            Row.off ∷ Row.off ∷ Row.alive ∷ Row.off ∷ List.[]; }
+        G60 = record { locals = List._++_ t42 (List._++_ t1 t2); slots = life0 ∷ life1 ∷ life2 ∷ life3 ∷ life4 ∷ life5 ∷ Row.off ∷ Row.off ∷ Row.off ∷
+            Row.off ∷ Row.off ∷ Row.off ∷ Row.alive ∷ Row.off ∷ List.[]; }
         abbrev G61 : Row.Cx
-        G61 = record { locals = List._++_ g42 t43; slots = life0 ∷ life1 ∷ Row.off ∷ life3 ∷ life4 ∷ life5 ∷ Row.off ∷ Row.off ∷ Row.off ∷ Row.off ∷
-            Row.off ∷ Row.off ∷ Row.alive ∷ Row.off ∷ List.[]; }
+        G61 = record { locals = List._++_ g43 (List._++_ t44 t2); slots = life0 ∷ life1 ∷ Row.off ∷ life3 ∷ life4 ∷ life5 ∷ Row.off ∷ Row.off ∷
+            Row.off ∷ Row.off ∷ Row.off ∷ Row.off ∷ Row.alive ∷ Row.off ∷ List.[]; }
         abbrev G62 : Row.Cx
-        G62 = record { locals = List._++_ g42 t44; slots = life0 ∷ life1 ∷ Row.off ∷ life3 ∷ life4 ∷ life5 ∷ Row.off ∷ Row.off ∷ Row.off ∷ Row.off ∷
-            Row.off ∷ Row.off ∷ Row.alive ∷ Row.off ∷ List.[]; }
+        G62 = record { locals = List._++_ g43 (List._++_ t45 t2); slots = life0 ∷ life1 ∷ Row.off ∷ life3 ∷ life4 ∷ life5 ∷ Row.off ∷ Row.off ∷
+            Row.off ∷ Row.off ∷ Row.off ∷ Row.off ∷ Row.alive ∷ Row.off ∷ List.[]; }
         abbrev G63 : Row.Cx
-        G63 = record { locals = List._++_ g42 t44; slots = life0 ∷ life1 ∷ Row.off ∷ life3 ∷ life4 ∷ life5 ∷ Row.off ∷ Row.off ∷ Row.off ∷ Row.off ∷
-            Row.off ∷ Row.off ∷ Row.alive ∷ Row.alive ∷ List.[]; }
+        G63 = record { locals = List._++_ g43 (List._++_ t45 t2); slots = life0 ∷ life1 ∷ Row.off ∷ life3 ∷ life4 ∷ life5 ∷ Row.off ∷ Row.off ∷
+            Row.off ∷ Row.off ∷ Row.off ∷ Row.off ∷ Row.alive ∷ Row.alive ∷ List.[]; }
         abbrev G64 : Row.Cx
-        G64 = record { locals = List._++_ g45 t46; slots = life0 ∷ life1 ∷ Row.off ∷ Row.off ∷ life4 ∷ life5 ∷ Row.off ∷ Row.off ∷ Row.off ∷ Row.off ∷
-            Row.off ∷ Row.off ∷ Row.alive ∷ Row.alive ∷ List.[]; }
+        G64 = record { locals = List._++_ g46 (List._++_ t47 t2); slots = life0 ∷ life1 ∷ Row.off ∷ Row.off ∷ life4 ∷ life5 ∷ Row.off ∷ Row.off ∷
+            Row.off ∷ Row.off ∷ Row.off ∷ Row.off ∷ Row.alive ∷ Row.alive ∷ List.[]; }
         abbrev G65 : Row.Cx
-        G65 = record { locals = List._++_ g45 t47; slots = life0 ∷ life1 ∷ Row.off ∷ Row.off ∷ life4 ∷ life5 ∷ Row.off ∷ Row.off ∷ Row.off ∷ Row.off ∷
-            Row.off ∷ Row.off ∷ Row.alive ∷ Row.alive ∷ List.[]; }
+        G65 = record { locals = List._++_ g46 (List._++_ t45 t48); slots = life0 ∷ life1 ∷ Row.off ∷ Row.off ∷ life4 ∷ life5 ∷ Row.off ∷ Row.off ∷
+            Row.off ∷ Row.off ∷ Row.off ∷ Row.off ∷ Row.alive ∷ Row.alive ∷ List.[]; }
         abbrev G66 : Row.Cx
-        G66 = record { locals = List._++_ g48 t49; slots = life0 ∷ life1 ∷ Row.off ∷ Row.off ∷ life4 ∷ life5 ∷ Row.off ∷ Row.off ∷ Row.off ∷ Row.off ∷
-            Row.off ∷ Row.off ∷ Row.alive ∷ Row.alive ∷ List.[]; }
+        G66 = record { locals = List._++_ g49 (List._++_ t50 t51); slots = life0 ∷ life1 ∷ Row.off ∷ Row.off ∷ life4 ∷ life5 ∷ Row.off ∷ Row.off ∷
+            Row.off ∷ Row.off ∷ Row.off ∷ Row.off ∷ Row.alive ∷ Row.alive ∷ List.[]; }
         abbrev G67 : Row.Cx
-        G67 = record { locals = List._++_ g50 t49; slots = life0 ∷ life1 ∷ Row.off ∷ Row.off ∷ life4 ∷ life5 ∷ Row.off ∷ Row.off ∷ Row.off ∷ Row.off ∷
-            Row.off ∷ Row.off ∷ Row.alive ∷ Row.alive ∷ List.[]; }
+        G67 = record { locals = List._++_ g52 (List._++_ t50 t51); slots = life0 ∷ life1 ∷ Row.off ∷ Row.off ∷ life4 ∷ life5 ∷ Row.off ∷ Row.off ∷
+            Row.off ∷ Row.off ∷ Row.off ∷ Row.off ∷ Row.alive ∷ Row.alive ∷ List.[]; }
         abbrev G68 : Row.Cx
-        G68 = record { locals = List._++_ g51 t49; slots = life0 ∷ life1 ∷ Row.off ∷ Row.off ∷ life4 ∷ life5 ∷ Row.off ∷ Row.off ∷ Row.off ∷ Row.off ∷
-            Row.off ∷ Row.off ∷ Row.alive ∷ Row.alive ∷ List.[]; }
+        G68 = record { locals = List._++_ g53 (List._++_ t50 t51); slots = life0 ∷ life1 ∷ Row.off ∷ Row.off ∷ life4 ∷ life5 ∷ Row.off ∷ Row.off ∷
+            Row.off ∷ Row.off ∷ Row.off ∷ Row.off ∷ Row.alive ∷ Row.alive ∷ List.[]; }
         abbrev G69 : Row.Cx
-        G69 = record { locals = List._++_ g52 t49; slots = life0 ∷ life1 ∷ Row.off ∷ Row.off ∷ life4 ∷ life5 ∷ Row.off ∷ Row.off ∷ Row.off ∷ Row.off ∷
-            Row.off ∷ Row.off ∷ Row.alive ∷ Row.alive ∷ List.[]; }
+        G69 = record { locals = List._++_ g54 (List._++_ t50 t51); slots = life0 ∷ life1 ∷ Row.off ∷ Row.off ∷ life4 ∷ life5 ∷ Row.off ∷ Row.off ∷
+            Row.off ∷ Row.off ∷ Row.off ∷ Row.off ∷ Row.alive ∷ Row.alive ∷ List.[]; }
         abbrev G70 : Row.Cx
-        G70 = record { locals = List._++_ g53 t49; slots = life0 ∷ life1 ∷ Row.off ∷ Row.off ∷ life4 ∷ life5 ∷ Row.off ∷ Row.off ∷ Row.off ∷ Row.off ∷
-            Row.off ∷ Row.off ∷ Row.alive ∷ Row.alive ∷ List.[]; }
+        G70 = record { locals = List._++_ g55 (List._++_ t50 t51); slots = life0 ∷ life1 ∷ Row.off ∷ Row.off ∷ life4 ∷ life5 ∷ Row.off ∷ Row.off ∷
+            Row.off ∷ Row.off ∷ Row.off ∷ Row.off ∷ Row.alive ∷ Row.alive ∷ List.[]; }
         abbrev G71 : Row.Cx
-        G71 = record { locals = List._++_ g53 t49; slots = life0 ∷ life1 ∷ Row.off ∷ Row.off ∷ life4 ∷ life5 ∷ Row.off ∷ Row.off ∷ Row.off ∷ Row.off ∷
-            Row.off ∷ Row.off ∷ Row.dead ∷ Row.alive ∷ List.[]; }
+        G71 = record { locals = List._++_ g56 (List._++_ t50 t51); slots = life0 ∷ life1 ∷ Row.off ∷ Row.off ∷ life4 ∷ life5 ∷ Row.off ∷ Row.off ∷
+            Row.off ∷ Row.off ∷ Row.off ∷ Row.off ∷ Row.alive ∷ Row.alive ∷ List.[]; }
         abbrev G72 : Row.Cx
-        G72 = record { locals = List._++_ g54 t55; slots = life0 ∷ life1 ∷ life2 ∷ Row.off ∷ life4 ∷ life5 ∷ Row.off ∷ Row.off ∷ Row.off ∷ Row.off ∷
-            Row.off ∷ Row.off ∷ Row.dead ∷ Row.alive ∷ List.[]; }
+        G72 = record { locals = List._++_ g56 (List._++_ t50 t51); slots = life0 ∷ life1 ∷ Row.off ∷ Row.off ∷ life4 ∷ life5 ∷ Row.off ∷ Row.off ∷
+            Row.off ∷ Row.off ∷ Row.off ∷ Row.off ∷ Row.dead ∷ Row.alive ∷ List.[]; }
         abbrev G73 : Row.Cx
-        G73 = record { locals = List._++_ g54 t55; slots = life0 ∷ life1 ∷ life2 ∷ Row.off ∷ life4 ∷ life5 ∷ Row.off ∷ Row.off ∷ Row.off ∷ Row.off ∷
-            Row.off ∷ Row.off ∷ Row.off ∷ Row.alive ∷ List.[]; }
+        G73 = record { locals = List._++_ g57 (List._++_ t1 t51); slots = life0 ∷ life1 ∷ life2 ∷ Row.off ∷ life4 ∷ life5 ∷ Row.off ∷ Row.off ∷
+            Row.off ∷ Row.off ∷ Row.off ∷ Row.off ∷ Row.dead ∷ Row.alive ∷ List.[]; }
         abbrev G74 : Row.Cx
-        G74 = record { locals = List._++_ g54 t55; slots = life0 ∷ life1 ∷ life2 ∷ Row.off ∷ life4 ∷ life5 ∷ Row.off ∷ Row.off ∷ Row.off ∷ Row.off ∷
-            Row.off ∷ Row.off ∷ Row.off ∷ Row.dead ∷ List.[]; }
+        G74 = record { locals = List._++_ g57 (List._++_ t1 t51); slots = life0 ∷ life1 ∷ life2 ∷ Row.off ∷ life4 ∷ life5 ∷ Row.off ∷ Row.off ∷
+            Row.off ∷ Row.off ∷ Row.off ∷ Row.off ∷ Row.off ∷ Row.alive ∷ List.[]; }
         abbrev G75 : Row.Cx
-        G75 = record { locals = List._++_ t2 t1; slots = life0 ∷ life1 ∷ life2 ∷ life3 ∷ life4 ∷ life5 ∷ Row.off ∷ Row.off ∷ Row.off ∷ Row.off ∷
-            Row.off ∷ Row.off ∷ Row.off ∷ Row.dead ∷ List.[]; }
+        G75 = record { locals = List._++_ g57 (List._++_ t1 t51); slots = life0 ∷ life1 ∷ life2 ∷ Row.off ∷ life4 ∷ life5 ∷ Row.off ∷ Row.off ∷
+            Row.off ∷ Row.off ∷ Row.off ∷ Row.off ∷ Row.off ∷ Row.dead ∷ List.[]; }
         abbrev G76 : Row.Cx
-        G76 = record { locals = List._++_ t2 t1; slots = life0 ∷ life1 ∷ life2 ∷ life3 ∷ life4 ∷ life5 ∷ Row.off ∷ Row.off ∷ Row.off ∷ Row.off ∷
-            Row.off ∷ Row.off ∷ Row.off ∷ Row.dead ∷ List.[]; }
+        G76 = record { locals = List._++_ t3 (List._++_ t1 t2); slots = life0 ∷ life1 ∷ life2 ∷ life3 ∷ life4 ∷ life5 ∷ Row.off ∷ Row.off ∷ Row.off ∷
+            Row.off ∷ Row.off ∷ Row.off ∷ Row.off ∷ Row.dead ∷ List.[]; }
         abbrev G77 : Row.Cx
-        G77 = record { locals = List._++_ t2 t1; slots = life0 ∷ life1 ∷ life2 ∷ life3 ∷ life4 ∷ life5 ∷ Row.off ∷ Row.off ∷ Row.off ∷ Row.off ∷
-            Row.off ∷ Row.off ∷ Row.off ∷ Row.off ∷ List.[]; }
+        G77 = record { locals = List._++_ t3 (List._++_ t1 t2); slots = life0 ∷ life1 ∷ life2 ∷ life3 ∷ life4 ∷ life5 ∷ Row.off ∷ Row.off ∷ Row.off ∷
+            Row.off ∷ Row.off ∷ Row.off ∷ Row.off ∷ Row.dead ∷ List.[]; }
+        abbrev G78 : Row.Cx
+        G78 = record { locals = List._++_ t3 (List._++_ t1 t2); slots = life0 ∷ life1 ∷ life2 ∷ life3 ∷ life4 ∷ life5 ∷ Row.off ∷ Row.off ∷ Row.off ∷
+            Row.off ∷ Row.off ∷ Row.off ∷ Row.off ∷ Row.off ∷ List.[]; }
         abbrev Δ0 : Typed.Outs
         Δ0 = record { next = Option.none; exits = List.[]; returns = Option.some G1 }
         module _ { M : Type 1 } (𝓤 : URA.URA M) (H : Wp.Heap 𝓤) (A : Atoms.Atoms 𝓤) (W : Kit.Given 𝓤 H A) (𝓣 : Wp.Tables 𝓤 H) (known : Knowns 𝓤 H A W
             𝓣) (bs : List.List Nat.ℕ) (bd : Lifetimes.AllOutlive 6 (Kinds.osR r) κs) where
           abbrev E : Wp.Env 𝓤 H
           E = Frame.EnvOf 𝓤 H ((Kinds.tyR r) ∷ (Enter.tysP ps xs)) bs
-          d0 : Typed.Typed 𝓤 H A 𝓣 E G77 b26 Δ0 (at0 bs)
+          d0 : Typed.Typed 𝓤 H A 𝓣 E G78 b26 Δ0 (at0 bs)
           d0 = Typed.t-return 𝓤 H A W 𝓣 E Δ0 tt
-          d1 : Typed.Typed 𝓤 H A 𝓣 E G76 b26 Δ0 (at1 bs)
-          d1 = Typed.g-pre 𝓤 H A W 𝓣 E G76 G77 b26 Δ0 (λ Ψ. Ψ) (at0 bs) (Lifetime.g-forget 𝓤 H A W E G76 13 Row.dead Path.refl) d0
-          d2 : Typed.Typed 𝓤 H A 𝓣 E G75 b26 Δ0 (at2 bs)
-          d2 = Typed.g-pre 𝓤 H A W 𝓣 E G75 G76 b26 Δ0 (Typed.give (s74 bs)) (at1 bs) (Know.g-sl-known 𝓤 H A W (Referent.fInt Syntax.w32) E G75 4 3
+          d1 : Typed.Typed 𝓤 H A 𝓣 E G77 b26 Δ0 (at1 bs)
+          d1 = Typed.g-pre 𝓤 H A W 𝓣 E G77 G78 b26 Δ0 (λ Ψ. Ψ) (at0 bs) (Lifetime.g-forget 𝓤 H A W E G77 13 Row.dead Path.refl) d0
+          d2 : Typed.Typed 𝓤 H A 𝓣 E G76 b26 Δ0 (at2 bs)
+          d2 = Typed.g-pre 𝓤 H A W 𝓣 E G76 G77 b26 Δ0 (Typed.give (s75 bs)) (at1 bs) (Know.g-sl-known 𝓤 H A W (Referent.fInt Syntax.w32) E G76 4 3
               ref10 life3 0 (λ x. x) record { fits = Dec.lit< tt } (Reads'.as-is 𝓤 H A (Mut.mslice (Referent.rtF (Referent.fInt Syntax.w32)) ref10 3))
               Path.refl tt) d1
-          d3 : Typed.Typed 𝓤 H A 𝓣 E G74 b26 Δ0 (at3 bs)
-          d3 = Typed.g-pre 𝓤 H A W 𝓣 E G74 G75 b26 Δ0 (Typed.both (s73 bs)) (at2 bs) (Relend.g-back-sl 𝓤 H A W E (Referent.rtF (Referent.fInt
-              Syntax.w32)) G74 31 4 3 13 ref10 ref6 life3 (λ x. x) (λ x. x) (Reads'.as-is 𝓤 H A (Mut.msleft (Referent.rtF (Referent.fInt Syntax.w32))
+          d3 : Typed.Typed 𝓤 H A 𝓣 E G75 b26 Δ0 (at3 bs)
+          d3 = Typed.g-pre 𝓤 H A W 𝓣 E G75 G76 b26 Δ0 (Typed.both (s74 bs)) (at2 bs) (Relend.g-back-sl 𝓤 H A W E (Referent.rtF (Referent.fInt
+              Syntax.w32)) G75 32 4 3 13 ref10 ref6 life3 (λ x. x) (λ x. x) (Reads'.as-is 𝓤 H A (Mut.msleft (Referent.rtF (Referent.fInt Syntax.w32))
               ref6)) (Reads'.as-is 𝓤 H A (Relend.mslice-owed (Referent.rtF (Referent.fInt Syntax.w32)) ref10 3 13 life3)) Path.refl Path.refl) d2
-          d4 : Typed.Typed 𝓤 H A 𝓣 E G73 b26 Δ0 (at4 bs)
-          d4 = Typed.g-pre 𝓤 H A W 𝓣 E G73 G74 b26 Δ0 (λ Ψ. Ψ) (at3 bs) (Lifetime.g-end 𝓤 H A W E G73 13 Path.refl) d3
-          d5 : Typed.Typed 𝓤 H A 𝓣 E G72 b26 Δ0 (at5 bs)
-          d5 = Typed.g-pre 𝓤 H A W 𝓣 E G72 G73 b26 Δ0 (λ Ψ. Ψ) (at4 bs) (Lifetime.g-forget 𝓤 H A W E G72 12 Row.dead Path.refl) d4
-          d6 : Typed.Typed 𝓤 H A 𝓣 E G71 b26 Δ0 (at6 bs)
-          d6 = Typed.g-pre 𝓤 H A W 𝓣 E G71 G72 b26 Δ0 (Typed.both (s70 bs)) (at5 bs) (Relend.g-back-sl 𝓤 H A W E InflightAction.row G71 29 3 2 12 ref9
+          d4 : Typed.Typed 𝓤 H A 𝓣 E G74 b26 Δ0 (at4 bs)
+          d4 = Typed.g-pre 𝓤 H A W 𝓣 E G74 G75 b26 Δ0 (λ Ψ. Ψ) (at3 bs) (Lifetime.g-end 𝓤 H A W E G74 13 Path.refl) d3
+          d5 : Typed.Typed 𝓤 H A 𝓣 E G73 b26 Δ0 (at5 bs)
+          d5 = Typed.g-pre 𝓤 H A W 𝓣 E G73 G74 b26 Δ0 (λ Ψ. Ψ) (at4 bs) (Lifetime.g-forget 𝓤 H A W E G73 12 Row.dead Path.refl) d4
+          d6 : Typed.Typed 𝓤 H A 𝓣 E G72 b26 Δ0 (at6 bs)
+          d6 = Typed.g-pre 𝓤 H A W 𝓣 E G72 G73 b26 Δ0 (Typed.both (s71 bs)) (at5 bs) (Relend.g-back-sl 𝓤 H A W E InflightAction.row G72 30 3 2 12 ref9
               ref4 life2 (λ x. x) (λ x. x) (Reads'.as-is 𝓤 H A (Mut.msleft InflightAction.row ref4)) (Reads'.as-is 𝓤 H A (Relend.mslice-owed
               InflightAction.row ref9 2 12 life2)) Path.refl Path.refl) d5
-          d7 : Typed.Typed 𝓤 H A 𝓣 E G70 b26 Δ0 (at7 bs)
-          d7 = Typed.g-pre 𝓤 H A W 𝓣 E G70 G71 b26 Δ0 (λ Ψ. Ψ) (at6 bs) (Lifetime.g-end 𝓤 H A W E G70 12 Path.refl) d6
-          d8 : Typed.Typed 𝓤 H A 𝓣 E G69 b26 Δ0 (at8 bs)
-          d8 = Typed.g-pre 𝓤 H A W 𝓣 E G69 G70 b26 Δ0 (Typed.pass T69 T70 (s68 bs)) (at7 bs) (Scalar.g-room 𝓤 H A W E G69 14 Laws'''.mir
-              (Local.room-whole 𝓤 H A W (Declared'.row ActionScan.the-type) Laws'''.mir Path.refl)) d7
-          d9 : Typed.Typed 𝓤 H A 𝓣 E G68 b26 Δ0 (at9 bs)
-          d9 = Typed.g-pre 𝓤 H A W 𝓣 E G68 G69 b26 Δ0 (Typed.pass T68 T69 (s67 bs)) (at8 bs) (Scalar.g-room 𝓤 H A W E G68 12 Laws''''.mir
-              (Local.room-whole 𝓤 H A W (Declared'.row Outgoing.the-type) Laws''''.mir Path.refl)) d8
-          d10 : Typed.Typed 𝓤 H A 𝓣 E G67 b26 Δ0 (at10 bs)
-          d10 = Typed.g-pre 𝓤 H A W 𝓣 E G67 G68 b26 Δ0 (Typed.pass T67 T68 (s66 bs)) (at9 bs) (Scalar.g-room 𝓤 H A W E G67 11 Laws''''''.mir
-              (Local.room-whole 𝓤 H A W (Declared'.row OpaqueRelayRuntime.the-type) Laws''''''.mir Path.refl)) d9
-          d11 : Typed.Typed 𝓤 H A 𝓣 E G66 b26 Δ0 (at11 bs)
-          d11 = Typed.g-pre 𝓤 H A W 𝓣 E G66 G67 b26 Δ0 (Typed.pass T66 T67 (s65 bs)) (at10 bs) (Scalar.g-room 𝓤 H A W E G66 10 Laws.mir
+          d7 : Typed.Typed 𝓤 H A 𝓣 E G71 b26 Δ0 (at7 bs)
+          d7 = Typed.g-pre 𝓤 H A W 𝓣 E G71 G72 b26 Δ0 (λ Ψ. Ψ) (at6 bs) (Lifetime.g-end 𝓤 H A W E G71 12 Path.refl) d6
+          d8 : Typed.Typed 𝓤 H A 𝓣 E G70 b26 Δ0 (at8 bs)
+          d8 = Typed.g-pre 𝓤 H A W 𝓣 E G70 G71 b26 Δ0 (Typed.pass T70 T71 (s69 bs)) (at7 bs) (Scalar.g-room 𝓤 H A W E G70 15 Laws''''.mir
+              (Local.room-whole 𝓤 H A W (Declared'.row ActionScan.the-type) Laws''''.mir Path.refl)) d7
+          d9 : Typed.Typed 𝓤 H A 𝓣 E G69 b26 Δ0 (at9 bs)
+          d9 = Typed.g-pre 𝓤 H A W 𝓣 E G69 G70 b26 Δ0 (Typed.pass T69 T70 (s68 bs)) (at8 bs) (Scalar.g-room 𝓤 H A W E G69 13 Laws'''''.mir
+              (Local.room-whole 𝓤 H A W (Declared'.row Outgoing.the-type) Laws'''''.mir Path.refl)) d8
+          d10 : Typed.Typed 𝓤 H A 𝓣 E G68 b26 Δ0 (at10 bs)
+          d10 = Typed.g-pre 𝓤 H A W 𝓣 E G68 G69 b26 Δ0 (Typed.pass T68 T69 (s67 bs)) (at9 bs) (Scalar.g-room 𝓤 H A W E G68 12 Laws'''''''.mir
+              (Local.room-whole 𝓤 H A W (Declared'.row OpaqueRelayRuntime.the-type) Laws'''''''.mir Path.refl)) d9
+          d11 : Typed.Typed 𝓤 H A 𝓣 E G67 b26 Δ0 (at11 bs)
+          d11 = Typed.g-pre 𝓤 H A W 𝓣 E G67 G68 b26 Δ0 (Typed.pass T67 T68 (s66 bs)) (at10 bs) (Scalar.g-room 𝓤 H A W E G67 11 Laws.mir
               (Local.room-whole 𝓤 H A W (Declared.row HnsrAnswer.the-type) Laws.mir Path.refl)) d10
-          d12 : Typed.Typed 𝓤 H A 𝓣 E G65 b27 Δ0 (at12 bs)
-          d12 = Typed.s-seq 𝓤 H A W 𝓣 E G65 G66 b25 b26 Δ0 (Typed.both (s64 bs)) (at11 bs) (Plain.t-call-plain 𝓤 H A W 𝓣 3 ps·6 r·6 (claims· .12)
-              (claims· .13) "hnsr_circuit::queue::send" (known .6) E (λ pos β. β) G65 (record { pos = 29; ty = Syntax.tyRef Syntax.erased Syntax.mut
-              InflightAction.to; ref = λ x. x; }, (record { pos = 31; ty = Syntax.tyRef Syntax.erased Syntax.mut (Syntax.tyInt Syntax.w32); ref = λ x.
-              x; }, (record { pos = 10; st = List.[]; d = 0; at = λ x. x }, (record { pos = 11; st = List.[]; d = 0; at = λ x. x }, (record { pos =
-              12; st = List.[]; d = 0; at = λ x. x }, (record { pos = 14; st = List.[]; d = 0; at = λ x. x }, (record { pos = 8; ty = Syntax.tyRef
-              (Syntax.named 5) Syntax.imm (Syntax.tyInt Syntax.w8); ref = λ x. x; }, tt,),),),),),),) 0 (12 ∷ 13 ∷ 5 ∷ List.[]) (Call.sub-id 𝓤 H A W
-              (G65 .slots)) (Reads'.as-is 𝓤 H A (Mut.mslice InflightAction.row ref4 12), Mut.reads-mslice 𝓤 H A W InflightAction.row ref4 12,
-              Path.refl, (Reads'.as-is 𝓤 H A (Mut.mslice (Referent.rtF (Referent.fInt Syntax.w32)) ref6 13), Mut.reads-mslice 𝓤 H A W (Referent.rtF
-              (Referent.fInt Syntax.w32)) ref6 13, Path.refl, ((Yields.yields-copy 𝓤 H A W (λ ρ. Unit) (Declared.row HnsrAnswer.the-type) Path.refl
-              (Copies.cEnum HnsrAnswer.the-type Laws.the-laws Laws.the-copy .copy 𝓤 H A W) (Rows.whole (Declared.row HnsrAnswer.the-type)) (λ x. x) (λ
-              x. x) (λ ρ told. Local.mem-whole 𝓤 H A W (Declared.row HnsrAnswer.the-type) ρ) λ ρ told. Local.whole-mem 𝓤 H A W (Declared.row
-              HnsrAnswer.the-type) ρ, Path.refl,), ((Yields.yields-copy 𝓤 H A W (λ ρ. Unit) (Declared'.row OpaqueRelayRuntime.the-type) Path.refl
-              (Copies.cStruct OpaqueRelayRuntime.the-type Laws''''''.the-laws Laws''''''.the-copy .copy 𝓤 H A W) (Rows.whole (Declared'.row
-              OpaqueRelayRuntime.the-type)) (λ x. x) (λ x. x) (λ ρ told. Local.mem-whole 𝓤 H A W (Declared'.row OpaqueRelayRuntime.the-type) ρ) λ ρ
-              told. Local.whole-mem 𝓤 H A W (Declared'.row OpaqueRelayRuntime.the-type) ρ, Path.refl,), ((Yields.yields-copy 𝓤 H A W (λ ρ. Unit)
-              (Declared'.row Outgoing.the-type) Path.refl (Copies.cStruct Outgoing.the-type Laws''''.the-laws Laws''''.the-copy .copy 𝓤 H A W)
-              (Rows.whole (Declared'.row Outgoing.the-type)) (λ x. x) (λ x. x) (λ ρ told. Local.mem-whole 𝓤 H A W (Declared'.row Outgoing.the-type) ρ)
-              λ ρ told. Local.whole-mem 𝓤 H A W (Declared'.row Outgoing.the-type) ρ, Path.refl,), ((Yields.yields-copy 𝓤 H A W (λ ρ. Unit)
-              (Declared'.row ActionScan.the-type) Path.refl (Copies.cStruct ActionScan.the-type Laws'''.the-laws Laws'''.the-copy .copy 𝓤 H A W)
-              (Rows.whole (Declared'.row ActionScan.the-type)) (λ x. x) (λ x. x) (λ ρ told. Local.mem-whole 𝓤 H A W (Declared'.row
-              ActionScan.the-type) ρ) λ ρ told. Local.whole-mem 𝓤 H A W (Declared'.row ActionScan.the-type) ρ, Path.refl,), (ShrSlice.spares-sslice 𝓤
-              H A W (Referent.rtF (Referent.fInt Syntax.w8)) ref12 5, Shared.reads-sslice 𝓤 H A W (Referent.rtF (Referent.fInt Syntax.w8)) ref12 5,
-              Path.refl, tt,),),),),),),) (Reads'.room-gone 𝓤 H A Laws'''''''.mir) (tt, (tt, (tt, tt))) Path.refl) d11
-          d13 : Typed.Typed 𝓤 H A 𝓣 E G64 b28 Δ0 (at13 bs)
-          d13 = Typed.s-seq 𝓤 H A W 𝓣 E G64 G65 b24 b27 Δ0 (Typed.ask (s63 bs)) (at12 bs) (Relend.t-sl-aggregate 𝓤 H A W E (Referent.rtF
-              (Referent.fInt Syntax.w32)) 𝓣 (Relend.asMut (Referent.rtF (Referent.fInt Syntax.w32))) G64 30 31 13 ref6 ref6 (λ x. x) (Scalar.oFld 4
+          d12 : Typed.Typed 𝓤 H A 𝓣 E G66 b26 Δ0 (at12 bs)
+          d12 = Typed.g-pre 𝓤 H A W 𝓣 E G66 G67 b26 Δ0 (Typed.pass T66 T67 (s65 bs)) (at11 bs) (Scalar.g-room 𝓤 H A W E G66 6 Laws''.mir
+              (Local.room-whole 𝓤 H A W (Declared'.row Places.the-type) Laws''.mir Path.refl)) d11
+          d13 : Typed.Typed 𝓤 H A 𝓣 E G65 b27 Δ0 (at13 bs)
+          d13 = Typed.s-seq 𝓤 H A W 𝓣 E G65 G66 b25 b26 Δ0 (Typed.both (s64 bs)) (at12 bs) (Plain.t-call-plain 𝓤 H A W 𝓣 3 ps·6 r·6 (claims· .12)
+              (claims· .13) "hnsr_circuit::queue::send" (known .6) E (λ pos β. β) G65 (record { pos = 30; ty = Syntax.tyRef Syntax.erased Syntax.mut
+              InflightAction.to; ref = λ x. x; }, (record { pos = 32; ty = Syntax.tyRef Syntax.erased Syntax.mut (Syntax.tyInt Syntax.w32); ref = λ x.
+              x; }, (record { pos = 11; st = List.[]; d = 0; at = λ x. x }, (record { pos = 12; st = List.[]; d = 0; at = λ x. x }, (record { pos = 6;
+              st = List.[]; d = 0; at = λ x. x }, (record { pos = 13; st = List.[]; d = 0; at = λ x. x }, (record { pos = 15; st = List.[]; d = 0; at
+              = λ x. x }, (record { pos = 9; ty = Syntax.tyRef (Syntax.named 5) Syntax.imm (Syntax.tyInt Syntax.w8); ref = λ x. x; },
+              tt,),),),),),),),) 0 (12 ∷ 13 ∷ 5 ∷ List.[]) (Call.sub-id 𝓤 H A W (G65 .slots)) (Reads'.as-is 𝓤 H A (Mut.mslice InflightAction.row ref4
+              12), Mut.reads-mslice 𝓤 H A W InflightAction.row ref4 12, Path.refl, (Reads'.as-is 𝓤 H A (Mut.mslice (Referent.rtF (Referent.fInt
+              Syntax.w32)) ref6 13), Mut.reads-mslice 𝓤 H A W (Referent.rtF (Referent.fInt Syntax.w32)) ref6 13, Path.refl, ((Yields.yields-copy 𝓤 H A
+              W (λ ρ. Unit) (Declared.row HnsrAnswer.the-type) Path.refl (Copies.cEnum HnsrAnswer.the-type Laws.the-laws Laws.the-copy .copy 𝓤 H A W)
+              (Rows.whole (Declared.row HnsrAnswer.the-type)) (λ x. x) (λ x. x) (λ ρ told. Local.mem-whole 𝓤 H A W (Declared.row HnsrAnswer.the-type)
+              ρ) λ ρ told. Local.whole-mem 𝓤 H A W (Declared.row HnsrAnswer.the-type) ρ, Path.refl,), ((Yields.yields-copy 𝓤 H A W (λ ρ. Unit)
+              (Declared'.row OpaqueRelayRuntime.the-type) Path.refl (Copies.cStruct OpaqueRelayRuntime.the-type Laws'''''''.the-laws
+              Laws'''''''.the-copy .copy 𝓤 H A W) (Rows.whole (Declared'.row OpaqueRelayRuntime.the-type)) (λ x. x) (λ x. x) (λ ρ told.
+              Local.mem-whole 𝓤 H A W (Declared'.row OpaqueRelayRuntime.the-type) ρ) λ ρ told. Local.whole-mem 𝓤 H A W (Declared'.row
+              OpaqueRelayRuntime.the-type) ρ, Path.refl,), ((Yields.yields-copy 𝓤 H A W (λ ρ. Unit) (Declared'.row Places.the-type) Path.refl
+              (Copies.cStruct Places.the-type Laws''.the-laws Laws''.the-copy .copy 𝓤 H A W) (Rows.whole (Declared'.row Places.the-type)) (λ x. x) (λ
+              x. x) (λ ρ told. Local.mem-whole 𝓤 H A W (Declared'.row Places.the-type) ρ) λ ρ told. Local.whole-mem 𝓤 H A W (Declared'.row
+              Places.the-type) ρ, Path.refl,), ((Yields.yields-copy 𝓤 H A W (λ ρ. Unit) (Declared'.row Outgoing.the-type) Path.refl (Copies.cStruct
+              Outgoing.the-type Laws'''''.the-laws Laws'''''.the-copy .copy 𝓤 H A W) (Rows.whole (Declared'.row Outgoing.the-type)) (λ x. x) (λ x. x)
+              (λ ρ told. Local.mem-whole 𝓤 H A W (Declared'.row Outgoing.the-type) ρ) λ ρ told. Local.whole-mem 𝓤 H A W (Declared'.row
+              Outgoing.the-type) ρ, Path.refl,), ((Yields.yields-copy 𝓤 H A W (λ ρ. Unit) (Declared'.row ActionScan.the-type) Path.refl
+              (Copies.cStruct ActionScan.the-type Laws''''.the-laws Laws''''.the-copy .copy 𝓤 H A W) (Rows.whole (Declared'.row ActionScan.the-type))
+              (λ x. x) (λ x. x) (λ ρ told. Local.mem-whole 𝓤 H A W (Declared'.row ActionScan.the-type) ρ) λ ρ told. Local.whole-mem 𝓤 H A W
+              (Declared'.row ActionScan.the-type) ρ, Path.refl,), (ShrSlice.spares-sslice 𝓤 H A W (Referent.rtF (Referent.fInt Syntax.w8)) ref12 5,
+              Shared.reads-sslice 𝓤 H A W (Referent.rtF (Referent.fInt Syntax.w8)) ref12 5, Path.refl, tt,),),),),),),),) (Reads'.room-gone 𝓤 H A
+              Laws''''''''.mir) (tt, (tt, (tt, tt))) Path.refl) d12
+          d14 : Typed.Typed 𝓤 H A 𝓣 E G64 b28 Δ0 (at14 bs)
+          d14 = Typed.s-seq 𝓤 H A W 𝓣 E G64 G65 b24 b27 Δ0 (Typed.ask (s63 bs)) (at13 bs) (Relend.t-sl-aggregate 𝓤 H A W E (Referent.rtF
+              (Referent.fInt Syntax.w32)) 𝓣 (Relend.asMut (Referent.rtF (Referent.fInt Syntax.w32))) G64 31 32 13 ref6 ref6 (λ x. x) (Scalar.oFld 4
               ((Syntax.field 1) ∷ List.[]) (Syntax.tyInt Syntax.w64) 8 λ v. Shared.lenV (v .0)) (Reads'.as-is 𝓤 H A (Relend.msptr (Referent.rtF
               (Referent.fInt Syntax.w32)) ref6 13)) (Reads'.room-gone 𝓤 H A (Syntax.tyStruct (38 ∷ 91 ∷ 93 ∷ List.[]) (Syntax.tcons ref6 (Syntax.tcons
               (Syntax.tyInt Syntax.w64) Syntax.tnil)))) (Relend.reads-owed-len 𝓤 H A W (Referent.rtF (Referent.fInt Syntax.w32)) ref10 3 13 life3 8
-              Path.refl, Path.refl,) Path.refl Path.refl λ b o k. tt) d12
-          d14 : Typed.Typed 𝓤 H A 𝓣 E G63 b29 Δ0 (at14 bs)
-          d14 = Typed.s-seq 𝓤 H A W 𝓣 E G63 G64 b23 b28 Δ0 (Typed.give (s62 bs)) (at13 bs) (Relend.t-sl-relend 𝓤 H A W E (Referent.rtF (Referent.fInt
-              Syntax.w32)) 𝓣 G63 4 30 3 13 ref10 ref6 life3 0 (λ x. x) (Reads'.as-is 𝓤 H A (Mut.mslice (Referent.rtF (Referent.fInt Syntax.w32)) ref10
-              3)) (Reads'.room-gone 𝓤 H A ref6) Path.refl tt Path.refl Path.refl Path.refl λ b o. tt) d13
-          d15 : Typed.Typed 𝓤 H A 𝓣 E G62 b29 Δ0 (at15 bs)
-          d15 = Typed.g-pre 𝓤 H A W 𝓣 E G62 G63 b29 Δ0 (λ Ψ. Ψ) (at14 bs) (Lifetime.g-begin 𝓤 H A W E G62 13 (tt, (tt, (tt, ((tt, tt), (tt, (tt, (tt,
-              (tt, (tt, (tt, (tt, (tt, (tt, (tt, (tt, (tt, (tt, (tt, (tt, (tt, (tt, (tt, (tt, (tt, (tt, (tt, (tt, (tt, (tt, (tt, (tt, (tt,
-              tt))),),),),),),),),),),),),),),),),),),),),),),),),),),),),),)) d14
-          d16 : Typed.Typed 𝓤 H A 𝓣 E G61 b30 Δ0 (at16 bs)
-          d16 = Typed.s-seq 𝓤 H A W 𝓣 E G61 G62 b22 b29 Δ0 (Typed.ask (s60 bs)) (at15 bs) (Relend.t-sl-aggregate 𝓤 H A W E InflightAction.row 𝓣
-              (Relend.asMut InflightAction.row) G61 28 29 12 ref4 ref4 (λ x. x) (Scalar.oFld 3 ((Syntax.field 1) ∷ List.[]) (Syntax.tyInt Syntax.w64)
+              Path.refl, Path.refl,) Path.refl Path.refl λ b o k. tt) d13
+          d15 : Typed.Typed 𝓤 H A 𝓣 E G63 b29 Δ0 (at15 bs)
+          d15 = Typed.s-seq 𝓤 H A W 𝓣 E G63 G64 b23 b28 Δ0 (Typed.give (s62 bs)) (at14 bs) (Relend.t-sl-relend 𝓤 H A W E (Referent.rtF (Referent.fInt
+              Syntax.w32)) 𝓣 G63 4 31 3 13 ref10 ref6 life3 0 (λ x. x) (Reads'.as-is 𝓤 H A (Mut.mslice (Referent.rtF (Referent.fInt Syntax.w32)) ref10
+              3)) (Reads'.room-gone 𝓤 H A ref6) Path.refl tt Path.refl Path.refl Path.refl λ b o. tt) d14
+          d16 : Typed.Typed 𝓤 H A 𝓣 E G62 b29 Δ0 (at16 bs)
+          d16 = Typed.g-pre 𝓤 H A W 𝓣 E G62 G63 b29 Δ0 (λ Ψ. Ψ) (at15 bs) (Lifetime.g-begin 𝓤 H A W E G62 13 (tt, (tt, (tt, ((tt, tt), (tt, (tt, (tt,
+              (tt, (tt, (tt, (tt, (tt, (tt, (tt, (tt, (tt, (tt, (tt, (tt, (tt, (tt, (tt, (tt, (tt, (tt, (tt, (tt, (tt, (tt, (tt, (tt, (tt, (tt,
+              tt))),),),),),),),),),),),),),),),),),),),),),),),),),),),),),),)) d15
+          d17 : Typed.Typed 𝓤 H A 𝓣 E G61 b30 Δ0 (at17 bs)
+          d17 = Typed.s-seq 𝓤 H A W 𝓣 E G61 G62 b22 b29 Δ0 (Typed.ask (s60 bs)) (at16 bs) (Relend.t-sl-aggregate 𝓤 H A W E InflightAction.row 𝓣
+              (Relend.asMut InflightAction.row) G61 29 30 12 ref4 ref4 (λ x. x) (Scalar.oFld 3 ((Syntax.field 1) ∷ List.[]) (Syntax.tyInt Syntax.w64)
               8 λ v. Shared.lenV (v .0)) (Reads'.as-is 𝓤 H A (Relend.msptr InflightAction.row ref4 12)) (Reads'.room-gone 𝓤 H A (Syntax.tyStruct (38 ∷
               91 ∷ 93 ∷ List.[]) (Syntax.tcons ref4 (Syntax.tcons (Syntax.tyInt Syntax.w64) Syntax.tnil)))) (Relend.reads-owed-len 𝓤 H A W
-              InflightAction.row ref9 2 12 life2 8 Path.refl, Path.refl,) Path.refl Path.refl λ b o k. tt) d15
-          d17 : Typed.Typed 𝓤 H A 𝓣 E G60 b31 Δ0 (at17 bs)
-          d17 = Typed.s-seq 𝓤 H A W 𝓣 E G60 G61 b21 b30 Δ0 (Typed.give (s59 bs)) (at16 bs) (Relend.t-sl-relend 𝓤 H A W E InflightAction.row 𝓣 G60 3 28
+              InflightAction.row ref9 2 12 life2 8 Path.refl, Path.refl,) Path.refl Path.refl λ b o k. tt) d16
+          d18 : Typed.Typed 𝓤 H A 𝓣 E G60 b31 Δ0 (at18 bs)
+          d18 = Typed.s-seq 𝓤 H A W 𝓣 E G60 G61 b21 b30 Δ0 (Typed.give (s59 bs)) (at17 bs) (Relend.t-sl-relend 𝓤 H A W E InflightAction.row 𝓣 G60 3 29
               2 12 ref9 ref4 life2 0 (λ x. x) (Reads'.as-is 𝓤 H A (Mut.mslice InflightAction.row ref9 2)) (Reads'.room-gone 𝓤 H A ref4) Path.refl tt
-              Path.refl Path.refl Path.refl λ b o. tt) d16
-          d18 : Typed.Typed 𝓤 H A 𝓣 E G59 b31 Δ0 (at18 bs)
-          d18 = Typed.g-pre 𝓤 H A W 𝓣 E G59 G60 b31 Δ0 (λ Ψ. Ψ) (at17 bs) (Lifetime.g-begin 𝓤 H A W E G59 12 (tt, (tt, (tt, (tt, (tt, (tt, (tt, (tt,
-              (tt, (tt, (tt, (tt, (tt, (tt, (tt, (tt, (tt, (tt, (tt, (tt, (tt, (tt, (tt, (tt, (tt, (tt, (tt, (tt, (tt, (tt, (tt, (tt,
-              tt))),),),),),),),),),),),),),),),),),),),),),),),),),),),),),)) d17
-          d19 : Typed.Typed 𝓤 H A 𝓣 E G58 b31 Δ0 (at19 bs)
-          d19 = Typed.g-pre 𝓤 H A W 𝓣 E G58 G59 b31 Δ0 (λ Ψ. Ψ) (at18 bs) (Lifetime.g-forget 𝓤 H A W E G58 11 Row.dead Path.refl) d18
-          d20 : Typed.Typed 𝓤 H A 𝓣 E G57 b31 Δ0 (at20 bs)
-          d20 = Typed.g-pre 𝓤 H A W 𝓣 E G57 G58 b31 Δ0 (Typed.pass T56 T58 (s56 bs)) (at19 bs) (Reshare.g-back-sl-shr 𝓤 H A W E InflightAction.row G57
-              3 2 11 ref9 life2 (λ x. x) (Reads'.as-is 𝓤 H A (Reshare.mslice-owedS InflightAction.row ref9 2 11 life2)) Path.refl Path.refl) d19
-          d21 : Typed.Typed 𝓤 H A 𝓣 E G56 b31 Δ0 (at21 bs)
-          d21 = Typed.g-pre 𝓤 H A W 𝓣 E G56 G57 b31 Δ0 (λ Ψ. Ψ) (at20 bs) (Lifetime.g-end 𝓤 H A W E G56 11 Path.refl) d20
-          d22 : Typed.Typed 𝓤 H A 𝓣 E G55 b31 Δ0 (at22 bs)
-          d22 = Typed.g-pre 𝓤 H A W 𝓣 E G55 G56 b31 Δ0 (Typed.pass T55 T56 (s54 bs)) (at21 bs) (Scalar.g-room 𝓤 H A W E G55 13 Laws''.mir
-              (Local.room-whole 𝓤 H A W (Declared'.row ActionQuestion.the-type) Laws''.mir Path.refl)) d21
-          d23 : Typed.Typed 𝓤 H A 𝓣 E G54 b31 Δ0 (at23 bs)
-          d23 = Typed.g-pre 𝓤 H A W 𝓣 E G54 G55 b31 Δ0 (Typed.pass T54 T55 (s53 bs)) (at22 bs) (Scalar.g-room 𝓤 H A W E G54 27 (Syntax.tyStruct (38 ∷
+              Path.refl Path.refl Path.refl λ b o. tt) d17
+          d19 : Typed.Typed 𝓤 H A 𝓣 E G59 b31 Δ0 (at19 bs)
+          d19 = Typed.g-pre 𝓤 H A W 𝓣 E G59 G60 b31 Δ0 (λ Ψ. Ψ) (at18 bs) (Lifetime.g-begin 𝓤 H A W E G59 12 (tt, (tt, (tt, (tt, (tt, (tt, (tt, (tt,
+              (tt, (tt, (tt, (tt, (tt, (tt, (tt, (tt, (tt, (tt, (tt, (tt, (tt, (tt, (tt, (tt, (tt, (tt, (tt, (tt, (tt, (tt, (tt, (tt, (tt,
+              tt))),),),),),),),),),),),),),),),),),),),),),),),),),),),),),),)) d18
+          d20 : Typed.Typed 𝓤 H A 𝓣 E G58 b31 Δ0 (at20 bs)
+          d20 = Typed.g-pre 𝓤 H A W 𝓣 E G58 G59 b31 Δ0 (λ Ψ. Ψ) (at19 bs) (Lifetime.g-forget 𝓤 H A W E G58 11 Row.dead Path.refl) d19
+          d21 : Typed.Typed 𝓤 H A 𝓣 E G57 b31 Δ0 (at21 bs)
+          d21 = Typed.g-pre 𝓤 H A W 𝓣 E G57 G58 b31 Δ0 (Typed.pass T56 T58 (s56 bs)) (at20 bs) (Reshare.g-back-sl-shr 𝓤 H A W E InflightAction.row G57
+              3 2 11 ref9 life2 (λ x. x) (Reads'.as-is 𝓤 H A (Reshare.mslice-owedS InflightAction.row ref9 2 11 life2)) Path.refl Path.refl) d20
+          d22 : Typed.Typed 𝓤 H A 𝓣 E G56 b31 Δ0 (at22 bs)
+          d22 = Typed.g-pre 𝓤 H A W 𝓣 E G56 G57 b31 Δ0 (λ Ψ. Ψ) (at21 bs) (Lifetime.g-end 𝓤 H A W E G56 11 Path.refl) d21
+          d23 : Typed.Typed 𝓤 H A 𝓣 E G55 b31 Δ0 (at23 bs)
+          d23 = Typed.g-pre 𝓤 H A W 𝓣 E G55 G56 b31 Δ0 (Typed.pass T55 T56 (s54 bs)) (at22 bs) (Scalar.g-room 𝓤 H A W E G55 14 Laws'''.mir
+              (Local.room-whole 𝓤 H A W (Declared'.row ActionQuestion.the-type) Laws'''.mir Path.refl)) d22
+          d24 : Typed.Typed 𝓤 H A 𝓣 E G54 b31 Δ0 (at24 bs)
+          d24 = Typed.g-pre 𝓤 H A W 𝓣 E G54 G55 b31 Δ0 (Typed.pass T54 T55 (s53 bs)) (at23 bs) (Scalar.g-room 𝓤 H A W E G54 28 (Syntax.tyStruct (38 ∷
               91 ∷ 93 ∷ List.[]) (Syntax.tcons ref5 (Syntax.tcons (Syntax.tyInt Syntax.w64) Syntax.tnil))) (Shared.room-sslice 𝓤 H A W
-              InflightAction.row ref5 11)) d22
-          d24 : Typed.Typed 𝓤 H A 𝓣 E G53 b32 Δ0 (at24 bs)
-          d24 = Typed.s-seq 𝓤 H A W 𝓣 E G53 G54 b20 b31 Δ0 (Typed.both (s52 bs)) (at23 bs) (Plain.t-call-plain 𝓤 H A W 𝓣 1 ps·5 r·5 (claims· .10)
-              (claims· .11) "hnsr_circuit::tables::inflight::scan_actions" (known .5) E (λ pos β. β) G53 (record { pos = 27; ty = Syntax.tyRef
-              Syntax.erased Syntax.imm InflightAction.to; ref = λ x. x; }, (record { pos = 13; st = List.[]; d = 0; at = λ x. x }, tt),) 14 (11 ∷
-              List.[]) (Call.sub-id 𝓤 H A W (G53 .slots)) (ShrSlice.spares-sslice 𝓤 H A W InflightAction.row ref5 11, Shared.reads-sslice 𝓤 H A W
-              InflightAction.row ref5 11, Path.refl, ((Yields.yields-copy 𝓤 H A W (λ ρ. Unit) (Declared'.row ActionQuestion.the-type) Path.refl
-              (Copies.cStruct ActionQuestion.the-type Laws''.the-laws Laws''.the-copy .copy 𝓤 H A W) (Rows.whole (Declared'.row
-              ActionQuestion.the-type)) (λ x. x) (λ x. x) (λ ρ told. Local.mem-whole 𝓤 H A W (Declared'.row ActionQuestion.the-type) ρ) λ ρ told.
-              Local.whole-mem 𝓤 H A W (Declared'.row ActionQuestion.the-type) ρ, Path.refl,), tt,),) (Reads'.room-gone 𝓤 H A Laws'''.mir) (tt, tt)
-              Path.refl) d23
-          d25 : Typed.Typed 𝓤 H A 𝓣 E G52 b33 Δ0 (at25 bs)
-          d25 = Typed.s-seq 𝓤 H A W 𝓣 E G52 G53 b19 b32 Δ0 (Typed.ask (s51 bs)) (at24 bs) (Relend.t-sl-aggregate 𝓤 H A W E InflightAction.row 𝓣
-              (Relend.asShr InflightAction.row) G52 26 27 11 ref5 ref5 (λ x. x) (Scalar.oFld 3 ((Syntax.field 1) ∷ List.[]) (Syntax.tyInt Syntax.w64)
+              InflightAction.row ref5 11)) d23
+          d25 : Typed.Typed 𝓤 H A 𝓣 E G53 b32 Δ0 (at25 bs)
+          d25 = Typed.s-seq 𝓤 H A W 𝓣 E G53 G54 b20 b31 Δ0 (Typed.both (s52 bs)) (at24 bs) (Plain.t-call-plain 𝓤 H A W 𝓣 1 ps·5 r·5 (claims· .10)
+              (claims· .11) "hnsr_circuit::tables::inflight::scan_actions" (known .5) E (λ pos β. β) G53 (record { pos = 28; ty = Syntax.tyRef
+              Syntax.erased Syntax.imm InflightAction.to; ref = λ x. x; }, (record { pos = 6; st = List.[]; d = 0; at = λ x. x }, (record { pos = 14;
+              st = List.[]; d = 0; at = λ x. x }, tt),),) 15 (11 ∷ List.[]) (Call.sub-id 𝓤 H A W (G53 .slots)) (ShrSlice.spares-sslice 𝓤 H A W
+              InflightAction.row ref5 11, Shared.reads-sslice 𝓤 H A W InflightAction.row ref5 11, Path.refl, ((Yields.yields-copy 𝓤 H A W (λ ρ. Unit)
+              (Declared'.row Places.the-type) Path.refl (Copies.cStruct Places.the-type Laws''.the-laws Laws''.the-copy .copy 𝓤 H A W) (Rows.whole
+              (Declared'.row Places.the-type)) (λ x. x) (λ x. x) (λ ρ told. Local.mem-whole 𝓤 H A W (Declared'.row Places.the-type) ρ) λ ρ told.
+              Local.whole-mem 𝓤 H A W (Declared'.row Places.the-type) ρ, Path.refl,), ((Yields.yields-copy 𝓤 H A W (λ ρ. Unit) (Declared'.row
+              ActionQuestion.the-type) Path.refl (Copies.cStruct ActionQuestion.the-type Laws'''.the-laws Laws'''.the-copy .copy 𝓤 H A W) (Rows.whole
+              (Declared'.row ActionQuestion.the-type)) (λ x. x) (λ x. x) (λ ρ told. Local.mem-whole 𝓤 H A W (Declared'.row ActionQuestion.the-type) ρ)
+              λ ρ told. Local.whole-mem 𝓤 H A W (Declared'.row ActionQuestion.the-type) ρ, Path.refl,), tt,),),) (Reads'.room-gone 𝓤 H A Laws''''.mir)
+              (tt, tt) Path.refl) d24
+          d26 : Typed.Typed 𝓤 H A 𝓣 E G52 b33 Δ0 (at26 bs)
+          d26 = Typed.s-seq 𝓤 H A W 𝓣 E G52 G53 b19 b32 Δ0 (Typed.ask (s51 bs)) (at25 bs) (Relend.t-sl-aggregate 𝓤 H A W E InflightAction.row 𝓣
+              (Relend.asShr InflightAction.row) G52 27 28 11 ref5 ref5 (λ x. x) (Scalar.oFld 3 ((Syntax.field 1) ∷ List.[]) (Syntax.tyInt Syntax.w64)
               8 λ v. Shared.lenV (v .0)) (Reads'.as-is 𝓤 H A (Relend.ssptr InflightAction.row ref5 11)) (Reads'.room-gone 𝓤 H A (Syntax.tyStruct (38 ∷
               91 ∷ 93 ∷ List.[]) (Syntax.tcons ref5 (Syntax.tcons (Syntax.tyInt Syntax.w64) Syntax.tnil)))) (Reshare.reads-owedS-len 𝓤 H A W
-              InflightAction.row ref9 2 11 life2 8 Path.refl, Path.refl,) Path.refl Path.refl λ b o k. tt) d24
-          d26 : Typed.Typed 𝓤 H A 𝓣 E G51 b34 Δ0 (at26 bs)
-          d26 = Typed.s-seq 𝓤 H A W 𝓣 E G51 G52 b18 b33 Δ0 (Typed.give (s50 bs)) (at25 bs) (Reshare.t-sl-reshare 𝓤 H A W E InflightAction.row 𝓣 G51 3
-              26 2 11 ref9 ref5 life2 0 (λ x. x) (Reads'.as-is 𝓤 H A (Mut.mslice InflightAction.row ref9 2)) (Reads'.room-gone 𝓤 H A ref5) Path.refl
-              tt Path.refl Path.refl Path.refl λ b o. tt) d25
-          d27 : Typed.Typed 𝓤 H A 𝓣 E G50 b34 Δ0 (at27 bs)
-          d27 = Typed.g-pre 𝓤 H A W 𝓣 E G50 G51 b34 Δ0 (λ Ψ. Ψ) (at26 bs) (Lifetime.g-begin 𝓤 H A W E G50 11 (tt, (tt, (tt, (tt, (tt, (tt, (tt, (tt,
-              (tt, (tt, (tt, (tt, (tt, (tt, (tt, (tt, (tt, (tt, (tt, (tt, (tt, (tt, (tt, (tt, (tt, (tt, (tt, (tt, (tt, (tt, (tt, (tt,
-              tt))),),),),),),),),),),),),),),),),),),),),),),),),),),),),),)) d26
-          d28 : Typed.Typed 𝓤 H A 𝓣 E G49 b35 Δ0 (at28 bs)
-          d28 = Typed.s-seq 𝓤 H A W 𝓣 E G49 G50 b17 b34 Δ0 (Typed.both (s48 bs)) (at27 bs) (Plain.t-call-plain 𝓤 H A W 𝓣 0 ps·4 r·4 (claims· .8)
-              (claims· .9) "hnsr_circuit::queue::asking" (known .4) E (λ pos β. β) G49 (record { pos = 11; st = List.[]; d = 0; at = λ x. x }, (record
-              { pos = 12; st = List.[]; d = 0; at = λ x. x }, tt),) 13 List.[] (Call.sub-id 𝓤 H A W (G49 .slots)) ((Yields.yields-copy 𝓤 H A W (λ ρ.
-              Unit) (Declared'.row OpaqueRelayRuntime.the-type) Path.refl (Copies.cStruct OpaqueRelayRuntime.the-type Laws''''''.the-laws
-              Laws''''''.the-copy .copy 𝓤 H A W) (Rows.whole (Declared'.row OpaqueRelayRuntime.the-type)) (λ x. x) (λ x. x) (λ ρ told. Local.mem-whole
-              𝓤 H A W (Declared'.row OpaqueRelayRuntime.the-type) ρ) λ ρ told. Local.whole-mem 𝓤 H A W (Declared'.row OpaqueRelayRuntime.the-type) ρ,
-              Path.refl,), ((Yields.yields-copy 𝓤 H A W (λ ρ. Unit) (Declared'.row Outgoing.the-type) Path.refl (Copies.cStruct Outgoing.the-type
-              Laws''''.the-laws Laws''''.the-copy .copy 𝓤 H A W) (Rows.whole (Declared'.row Outgoing.the-type)) (λ x. x) (λ x. x) (λ ρ told.
-              Local.mem-whole 𝓤 H A W (Declared'.row Outgoing.the-type) ρ) λ ρ told. Local.whole-mem 𝓤 H A W (Declared'.row Outgoing.the-type) ρ,
-              Path.refl,), tt,),) (Reads'.room-gone 𝓤 H A Laws''.mir) tt Path.refl) d27
-          d29 : Typed.Typed 𝓤 H A 𝓣 E G48 b35 Δ0 (at29 bs)
-          d29 = Typed.g-pre 𝓤 H A W 𝓣 E G48 G49 b35 Δ0 (λ Ψ. Ψ) (at28 bs) (Lifetime.g-forget 𝓤 H A W E G48 10 Row.dead Path.refl) d28
-          d30 : Typed.Typed 𝓤 H A 𝓣 E G47 b35 Δ0 (at30 bs)
-          d30 = Typed.g-pre 𝓤 H A W 𝓣 E G47 G48 b35 Δ0 (Typed.both (s46 bs)) (at29 bs) (Relend.g-back-sl 𝓤 H A W E InflightAction.row G47 25 3 2 10
+              InflightAction.row ref9 2 11 life2 8 Path.refl, Path.refl,) Path.refl Path.refl λ b o k. tt) d25
+          d27 : Typed.Typed 𝓤 H A 𝓣 E G51 b34 Δ0 (at27 bs)
+          d27 = Typed.s-seq 𝓤 H A W 𝓣 E G51 G52 b18 b33 Δ0 (Typed.give (s50 bs)) (at26 bs) (Reshare.t-sl-reshare 𝓤 H A W E InflightAction.row 𝓣 G51 3
+              27 2 11 ref9 ref5 life2 0 (λ x. x) (Reads'.as-is 𝓤 H A (Mut.mslice InflightAction.row ref9 2)) (Reads'.room-gone 𝓤 H A ref5) Path.refl
+              tt Path.refl Path.refl Path.refl λ b o. tt) d26
+          d28 : Typed.Typed 𝓤 H A 𝓣 E G50 b34 Δ0 (at28 bs)
+          d28 = Typed.g-pre 𝓤 H A W 𝓣 E G50 G51 b34 Δ0 (λ Ψ. Ψ) (at27 bs) (Lifetime.g-begin 𝓤 H A W E G50 11 (tt, (tt, (tt, (tt, (tt, (tt, (tt, (tt,
+              (tt, (tt, (tt, (tt, (tt, (tt, (tt, (tt, (tt, (tt, (tt, (tt, (tt, (tt, (tt, (tt, (tt, (tt, (tt, (tt, (tt, (tt, (tt, (tt, (tt,
+              tt))),),),),),),),),),),),),),),),),),),),),),),),),),),),),),),)) d27
+          d29 : Typed.Typed 𝓤 H A 𝓣 E G49 b35 Δ0 (at29 bs)
+          d29 = Typed.s-seq 𝓤 H A W 𝓣 E G49 G50 b17 b34 Δ0 (Typed.both (s48 bs)) (at28 bs) (Plain.t-call-plain 𝓤 H A W 𝓣 0 ps·4 r·4 (claims· .8)
+              (claims· .9) "hnsr_circuit::queue::asking" (known .4) E (λ pos β. β) G49 (record { pos = 12; st = List.[]; d = 0; at = λ x. x }, (record
+              { pos = 13; st = List.[]; d = 0; at = λ x. x }, tt),) 14 List.[] (Call.sub-id 𝓤 H A W (G49 .slots)) ((Yields.yields-copy 𝓤 H A W (λ ρ.
+              Unit) (Declared'.row OpaqueRelayRuntime.the-type) Path.refl (Copies.cStruct OpaqueRelayRuntime.the-type Laws'''''''.the-laws
+              Laws'''''''.the-copy .copy 𝓤 H A W) (Rows.whole (Declared'.row OpaqueRelayRuntime.the-type)) (λ x. x) (λ x. x) (λ ρ told.
+              Local.mem-whole 𝓤 H A W (Declared'.row OpaqueRelayRuntime.the-type) ρ) λ ρ told. Local.whole-mem 𝓤 H A W (Declared'.row
+              OpaqueRelayRuntime.the-type) ρ, Path.refl,), ((Yields.yields-copy 𝓤 H A W (λ ρ. Unit) (Declared'.row Outgoing.the-type) Path.refl
+              (Copies.cStruct Outgoing.the-type Laws'''''.the-laws Laws'''''.the-copy .copy 𝓤 H A W) (Rows.whole (Declared'.row Outgoing.the-type)) (λ
+              x. x) (λ x. x) (λ ρ told. Local.mem-whole 𝓤 H A W (Declared'.row Outgoing.the-type) ρ) λ ρ told. Local.whole-mem 𝓤 H A W (Declared'.row
+              Outgoing.the-type) ρ, Path.refl,), tt,),) (Reads'.room-gone 𝓤 H A Laws'''.mir) tt Path.refl) d28
+          d30 : Typed.Typed 𝓤 H A 𝓣 E G48 b35 Δ0 (at30 bs)
+          d30 = Typed.g-pre 𝓤 H A W 𝓣 E G48 G49 b35 Δ0 (λ Ψ. Ψ) (at29 bs) (Lifetime.g-forget 𝓤 H A W E G48 10 Row.dead Path.refl) d29
+          d31 : Typed.Typed 𝓤 H A 𝓣 E G47 b35 Δ0 (at31 bs)
+          d31 = Typed.g-pre 𝓤 H A W 𝓣 E G47 G48 b35 Δ0 (Typed.both (s46 bs)) (at30 bs) (Relend.g-back-sl 𝓤 H A W E InflightAction.row G47 26 3 2 10
               ref9 ref4 life2 (λ x. x) (λ x. x) (Reads'.as-is 𝓤 H A (Mut.msleft InflightAction.row ref4)) (Reads'.as-is 𝓤 H A (Relend.mslice-owed
-              InflightAction.row ref9 2 10 life2)) Path.refl Path.refl) d29
-          d31 : Typed.Typed 𝓤 H A 𝓣 E G46 b35 Δ0 (at31 bs)
-          d31 = Typed.g-pre 𝓤 H A W 𝓣 E G46 G47 b35 Δ0 (λ Ψ. Ψ) (at30 bs) (Lifetime.g-end 𝓤 H A W E G46 10 Path.refl) d30
-          d32 : Typed.Typed 𝓤 H A 𝓣 E G45 b35 Δ0 (at32 bs)
-          d32 = Typed.g-pre 𝓤 H A W 𝓣 E G45 G46 b35 Δ0 (Typed.pass T45 T46 (s44 bs)) (at31 bs) (Scalar.g-room 𝓤 H A W E G45 19 Syntax.tyUnit
-              (Scalar.room-sc 𝓤 H A W Row.sUnit)) d31
-          d33 : Typed.Typed 𝓤 H A 𝓣 E G44 b35 Δ0 (at33 bs)
-          d33 = Typed.g-pre 𝓤 H A W 𝓣 E G44 G45 b35 Δ0 (Typed.pass T44 T45 (s43 bs)) (at32 bs) (Scalar.g-room 𝓤 H A W E G44 9 Laws'.mir
-              (Local.room-whole 𝓤 H A W (Declared'.row ClosePlan.the-type) Laws'.mir Path.refl)) d32
-          d34 : Typed.Typed 𝓤 H A 𝓣 E G43 b36 Δ0 (at34 bs)
-          d34 = Typed.s-seq 𝓤 H A W 𝓣 E G43 G44 b16 b35 Δ0 (Typed.both (s42 bs)) (at33 bs) (Plain.t-call-plain 𝓤 H A W 𝓣 1 ps·3 r·3 (claims· .6)
-              (claims· .7) "hnsr_circuit::lookup::drop_actions" (known .3) E (λ pos β. β) G43 (record { pos = 25; ty = Syntax.tyRef Syntax.erased
-              Syntax.mut InflightAction.to; ref = λ x. x; }, (Bool.bFld 9 ((Syntax.field 1) ∷ List.[]) 48 λ x. ClosePlan.struct .as-values x .1 .0,
-              (Num.vFld 9 ((Syntax.field 6) ∷ List.[]) 72 λ x. ClosePlan.struct .as-values x .1 .1 .1 .1 .1 .1 .0, tt,),),) 19 (10 ∷ List.[])
-              (Call.sub-id 𝓤 H A W (G43 .slots)) (Reads'.as-is 𝓤 H A (Mut.mslice InflightAction.row ref4 10), Mut.reads-mslice 𝓤 H A W
-              InflightAction.row ref4 10, Path.refl, ((Reads.reads-field 𝓤 H A W ClosePlan.the-type Laws'.the-laws 1 Syntax.tyBool 48 Path.refl,
-              Path.refl,), ((Reads.reads-field 𝓤 H A W ClosePlan.the-type Laws'.the-laws 6 (Syntax.tyInt Syntax.w64) 72 Path.refl, Path.refl,),
-              tt,),),) (Reads'.room-gone 𝓤 H A Syntax.tyUnit) (tt, tt) Path.refl) d33
-          d35 : Typed.Typed 𝓤 H A 𝓣 E G42 b37 Δ0 (at35 bs)
-          d35 = Typed.s-seq 𝓤 H A W 𝓣 E G42 G43 b15 b36 Δ0 (Typed.ask (s41 bs)) (at34 bs) (Relend.t-sl-aggregate 𝓤 H A W E InflightAction.row 𝓣
-              (Relend.asMut InflightAction.row) G42 24 25 10 ref4 ref4 (λ x. x) (Scalar.oFld 3 ((Syntax.field 1) ∷ List.[]) (Syntax.tyInt Syntax.w64)
+              InflightAction.row ref9 2 10 life2)) Path.refl Path.refl) d30
+          d32 : Typed.Typed 𝓤 H A 𝓣 E G46 b35 Δ0 (at32 bs)
+          d32 = Typed.g-pre 𝓤 H A W 𝓣 E G46 G47 b35 Δ0 (λ Ψ. Ψ) (at31 bs) (Lifetime.g-end 𝓤 H A W E G46 10 Path.refl) d31
+          d33 : Typed.Typed 𝓤 H A 𝓣 E G45 b35 Δ0 (at33 bs)
+          d33 = Typed.g-pre 𝓤 H A W 𝓣 E G45 G46 b35 Δ0 (Typed.pass T45 T46 (s44 bs)) (at32 bs) (Scalar.g-room 𝓤 H A W E G45 20 Syntax.tyUnit
+              (Scalar.room-sc 𝓤 H A W Row.sUnit)) d32
+          d34 : Typed.Typed 𝓤 H A 𝓣 E G44 b35 Δ0 (at34 bs)
+          d34 = Typed.g-pre 𝓤 H A W 𝓣 E G44 G45 b35 Δ0 (Typed.pass T44 T45 (s43 bs)) (at33 bs) (Scalar.g-room 𝓤 H A W E G44 10 Laws'.mir
+              (Local.room-whole 𝓤 H A W (Declared'.row ClosePlan.the-type) Laws'.mir Path.refl)) d33
+          d35 : Typed.Typed 𝓤 H A 𝓣 E G43 b36 Δ0 (at35 bs)
+          d35 = Typed.s-seq 𝓤 H A W 𝓣 E G43 G44 b16 b35 Δ0 (Typed.both (s42 bs)) (at34 bs) (Plain.t-call-plain 𝓤 H A W 𝓣 1 ps·3 r·3 (claims· .6)
+              (claims· .7) "hnsr_circuit::lookup::drop_actions" (known .3) E (λ pos β. β) G43 (record { pos = 26; ty = Syntax.tyRef Syntax.erased
+              Syntax.mut InflightAction.to; ref = λ x. x; }, (record { pos = 6; st = List.[]; d = 0; at = λ x. x }, (Bool.bFld 10 ((Syntax.field 1) ∷
+              List.[]) 48 λ x. ClosePlan.struct .as-values x .1 .0, (Num.vFld 10 ((Syntax.field 6) ∷ List.[]) 72 λ x. ClosePlan.struct .as-values x .1
+              .1 .1 .1 .1 .1 .0, tt,),),),) 20 (10 ∷ List.[]) (Call.sub-id 𝓤 H A W (G43 .slots)) (Reads'.as-is 𝓤 H A (Mut.mslice InflightAction.row
+              ref4 10), Mut.reads-mslice 𝓤 H A W InflightAction.row ref4 10, Path.refl, ((Yields.yields-copy 𝓤 H A W (λ ρ. Unit) (Declared'.row
+              Places.the-type) Path.refl (Copies.cStruct Places.the-type Laws''.the-laws Laws''.the-copy .copy 𝓤 H A W) (Rows.whole (Declared'.row
+              Places.the-type)) (λ x. x) (λ x. x) (λ ρ told. Local.mem-whole 𝓤 H A W (Declared'.row Places.the-type) ρ) λ ρ told. Local.whole-mem 𝓤 H
+              A W (Declared'.row Places.the-type) ρ, Path.refl,), ((Reads.reads-field 𝓤 H A W ClosePlan.the-type Laws'.the-laws 1 Syntax.tyBool 48
+              Path.refl, Path.refl,), ((Reads.reads-field 𝓤 H A W ClosePlan.the-type Laws'.the-laws 6 (Syntax.tyInt Syntax.w64) 72 Path.refl,
+              Path.refl,), tt,),),),) (Reads'.room-gone 𝓤 H A Syntax.tyUnit) (tt, tt) Path.refl) d34
+          d36 : Typed.Typed 𝓤 H A 𝓣 E G42 b37 Δ0 (at36 bs)
+          d36 = Typed.s-seq 𝓤 H A W 𝓣 E G42 G43 b15 b36 Δ0 (Typed.ask (s41 bs)) (at35 bs) (Relend.t-sl-aggregate 𝓤 H A W E InflightAction.row 𝓣
+              (Relend.asMut InflightAction.row) G42 25 26 10 ref4 ref4 (λ x. x) (Scalar.oFld 3 ((Syntax.field 1) ∷ List.[]) (Syntax.tyInt Syntax.w64)
               8 λ v. Shared.lenV (v .0)) (Reads'.as-is 𝓤 H A (Relend.msptr InflightAction.row ref4 10)) (Reads'.room-gone 𝓤 H A (Syntax.tyStruct (38 ∷
               91 ∷ 93 ∷ List.[]) (Syntax.tcons ref4 (Syntax.tcons (Syntax.tyInt Syntax.w64) Syntax.tnil)))) (Relend.reads-owed-len 𝓤 H A W
-              InflightAction.row ref9 2 10 life2 8 Path.refl, Path.refl,) Path.refl Path.refl λ b o k. tt) d34
-          d36 : Typed.Typed 𝓤 H A 𝓣 E G41 b38 Δ0 (at36 bs)
-          d36 = Typed.s-seq 𝓤 H A W 𝓣 E G41 G42 b14 b37 Δ0 (Typed.give (s40 bs)) (at35 bs) (Relend.t-sl-relend 𝓤 H A W E InflightAction.row 𝓣 G41 3 24
+              InflightAction.row ref9 2 10 life2 8 Path.refl, Path.refl,) Path.refl Path.refl λ b o k. tt) d35
+          d37 : Typed.Typed 𝓤 H A 𝓣 E G41 b38 Δ0 (at37 bs)
+          d37 = Typed.s-seq 𝓤 H A W 𝓣 E G41 G42 b14 b37 Δ0 (Typed.give (s40 bs)) (at36 bs) (Relend.t-sl-relend 𝓤 H A W E InflightAction.row 𝓣 G41 3 25
               2 10 ref9 ref4 life2 0 (λ x. x) (Reads'.as-is 𝓤 H A (Mut.mslice InflightAction.row ref9 2)) (Reads'.room-gone 𝓤 H A ref4) Path.refl tt
-              Path.refl Path.refl Path.refl λ b o. tt) d35
-          d37 : Typed.Typed 𝓤 H A 𝓣 E G40 b38 Δ0 (at37 bs)
-          d37 = Typed.g-pre 𝓤 H A W 𝓣 E G40 G41 b38 Δ0 (λ Ψ. Ψ) (at36 bs) (Lifetime.g-begin 𝓤 H A W E G40 10 (tt, (tt, (tt, (tt, (tt, (tt, (tt, (tt,
-              (tt, (tt, (tt, (tt, (tt, (tt, (tt, (tt, (tt, (tt, (tt, (tt, (tt, (tt, (tt, (tt, (tt, (tt, (tt, (tt, (tt, (tt, (tt, (tt,
-              tt))),),),),),),),),),),),),),),),),),),),),),),),),),),),),),)) d36
-          d38 : Typed.Typed 𝓤 H A 𝓣 E G39 b38 Δ0 (at38 bs)
-          d38 = Typed.g-pre 𝓤 H A W 𝓣 E G39 G40 b38 Δ0 (λ Ψ. Ψ) (at37 bs) (Lifetime.g-forget 𝓤 H A W E G39 9 Row.dead Path.refl) d37
-          d39 : Typed.Typed 𝓤 H A 𝓣 E G38 b38 Δ0 (at39 bs)
-          d39 = Typed.g-pre 𝓤 H A W 𝓣 E G38 G39 b38 Δ0 (Typed.both (s37 bs)) (at38 bs) (Relend.g-back-sl 𝓤 H A W E RelayCircuit.row G38 23 2 1 9 ref8
+              Path.refl Path.refl Path.refl λ b o. tt) d36
+          d38 : Typed.Typed 𝓤 H A 𝓣 E G40 b38 Δ0 (at38 bs)
+          d38 = Typed.g-pre 𝓤 H A W 𝓣 E G40 G41 b38 Δ0 (λ Ψ. Ψ) (at37 bs) (Lifetime.g-begin 𝓤 H A W E G40 10 (tt, (tt, (tt, (tt, (tt, (tt, (tt, (tt,
+              (tt, (tt, (tt, (tt, (tt, (tt, (tt, (tt, (tt, (tt, (tt, (tt, (tt, (tt, (tt, (tt, (tt, (tt, (tt, (tt, (tt, (tt, (tt, (tt, (tt,
+              tt))),),),),),),),),),),),),),),),),),),),),),),),),),),),),),),)) d37
+          d39 : Typed.Typed 𝓤 H A 𝓣 E G39 b38 Δ0 (at39 bs)
+          d39 = Typed.g-pre 𝓤 H A W 𝓣 E G39 G40 b38 Δ0 (λ Ψ. Ψ) (at38 bs) (Lifetime.g-forget 𝓤 H A W E G39 9 Row.dead Path.refl) d38
+          d40 : Typed.Typed 𝓤 H A 𝓣 E G38 b38 Δ0 (at40 bs)
+          d40 = Typed.g-pre 𝓤 H A W 𝓣 E G38 G39 b38 Δ0 (Typed.both (s37 bs)) (at39 bs) (Relend.g-back-sl 𝓤 H A W E RelayCircuit.row G38 24 2 1 9 ref8
               ref3 life1 (λ x. x) (λ x. x) (Reads'.as-is 𝓤 H A (Mut.msleft RelayCircuit.row ref3)) (Reads'.as-is 𝓤 H A (Relend.mslice-owed
-              RelayCircuit.row ref8 1 9 life1)) Path.refl Path.refl) d38
-          d40 : Typed.Typed 𝓤 H A 𝓣 E G37 b38 Δ0 (at40 bs)
-          d40 = Typed.g-pre 𝓤 H A W 𝓣 E G37 G38 b38 Δ0 (λ Ψ. Ψ) (at39 bs) (Lifetime.g-end 𝓤 H A W E G37 9 Path.refl) d39
-          d41 : Typed.Typed 𝓤 H A 𝓣 E G36 b38 Δ0 (at41 bs)
-          d41 = Typed.g-pre 𝓤 H A W 𝓣 E G36 G37 b38 Δ0 (Typed.pass T36 T37 (s35 bs)) (at40 bs) (Scalar.g-room 𝓤 H A W E G36 19 Syntax.tyUnit
-              (Scalar.room-sc 𝓤 H A W Row.sUnit)) d40
-          d42 : Typed.Typed 𝓤 H A 𝓣 E G35 b39 Δ0 (at42 bs)
-          d42 = Typed.s-seq 𝓤 H A W 𝓣 E G35 G36 b13 b38 Δ0 (Typed.both (s34 bs)) (at41 bs) (Plain.t-call-plain 𝓤 H A W 𝓣 1 ps·2 r·2 (claims· .4)
-              (claims· .5) "hnsr_circuit::handle_close::unmark_circuit" (known .2) E (λ pos β. β) G35 (record { pos = 23; ty = Syntax.tyRef
-              Syntax.erased Syntax.mut RelayCircuit.to; ref = λ x. x; }, (Bool.bFld 9 ((Syntax.field 3) ∷ List.[]) 50 λ x. ClosePlan.struct .as-values
-              x .1 .1 .1 .0, (Num.vFld 9 ((Syntax.field 5) ∷ List.[]) 64 λ x. ClosePlan.struct .as-values x .1 .1 .1 .1 .1 .0, tt,),),) 19 (9 ∷
-              List.[]) (Call.sub-id 𝓤 H A W (G35 .slots)) (Reads'.as-is 𝓤 H A (Mut.mslice RelayCircuit.row ref3 9), Mut.reads-mslice 𝓤 H A W
-              RelayCircuit.row ref3 9, Path.refl, ((Reads.reads-field 𝓤 H A W ClosePlan.the-type Laws'.the-laws 3 Syntax.tyBool 50 Path.refl,
-              Path.refl,), ((Reads.reads-field 𝓤 H A W ClosePlan.the-type Laws'.the-laws 5 (Syntax.tyInt Syntax.w64) 64 Path.refl, Path.refl,),
-              tt,),),) (Reads'.room-gone 𝓤 H A Syntax.tyUnit) (tt, tt) Path.refl) d41
-          d43 : Typed.Typed 𝓤 H A 𝓣 E G34 b40 Δ0 (at43 bs)
-          d43 = Typed.s-seq 𝓤 H A W 𝓣 E G34 G35 b12 b39 Δ0 (Typed.ask (s33 bs)) (at42 bs) (Relend.t-sl-aggregate 𝓤 H A W E RelayCircuit.row 𝓣
-              (Relend.asMut RelayCircuit.row) G34 22 23 9 ref3 ref3 (λ x. x) (Scalar.oFld 2 ((Syntax.field 1) ∷ List.[]) (Syntax.tyInt Syntax.w64) 8 λ
+              RelayCircuit.row ref8 1 9 life1)) Path.refl Path.refl) d39
+          d41 : Typed.Typed 𝓤 H A 𝓣 E G37 b38 Δ0 (at41 bs)
+          d41 = Typed.g-pre 𝓤 H A W 𝓣 E G37 G38 b38 Δ0 (λ Ψ. Ψ) (at40 bs) (Lifetime.g-end 𝓤 H A W E G37 9 Path.refl) d40
+          d42 : Typed.Typed 𝓤 H A 𝓣 E G36 b38 Δ0 (at42 bs)
+          d42 = Typed.g-pre 𝓤 H A W 𝓣 E G36 G37 b38 Δ0 (Typed.pass T36 T37 (s35 bs)) (at41 bs) (Scalar.g-room 𝓤 H A W E G36 20 Syntax.tyUnit
+              (Scalar.room-sc 𝓤 H A W Row.sUnit)) d41
+          d43 : Typed.Typed 𝓤 H A 𝓣 E G35 b39 Δ0 (at43 bs)
+          d43 = Typed.s-seq 𝓤 H A W 𝓣 E G35 G36 b13 b38 Δ0 (Typed.both (s34 bs)) (at42 bs) (Plain.t-call-plain 𝓤 H A W 𝓣 1 ps·2 r·2 (claims· .4)
+              (claims· .5) "hnsr_circuit::handle_close::unmark_circuit" (known .2) E (λ pos β. β) G35 (record { pos = 24; ty = Syntax.tyRef
+              Syntax.erased Syntax.mut RelayCircuit.to; ref = λ x. x; }, (record { pos = 6; st = List.[]; d = 0; at = λ x. x }, (Bool.bFld 10
+              ((Syntax.field 3) ∷ List.[]) 50 λ x. ClosePlan.struct .as-values x .1 .1 .1 .0, (Num.vFld 10 ((Syntax.field 5) ∷ List.[]) 64 λ x.
+              ClosePlan.struct .as-values x .1 .1 .1 .1 .1 .0, tt,),),),) 20 (9 ∷ List.[]) (Call.sub-id 𝓤 H A W (G35 .slots)) (Reads'.as-is 𝓤 H A
+              (Mut.mslice RelayCircuit.row ref3 9), Mut.reads-mslice 𝓤 H A W RelayCircuit.row ref3 9, Path.refl, ((Yields.yields-copy 𝓤 H A W (λ ρ.
+              Unit) (Declared'.row Places.the-type) Path.refl (Copies.cStruct Places.the-type Laws''.the-laws Laws''.the-copy .copy 𝓤 H A W)
+              (Rows.whole (Declared'.row Places.the-type)) (λ x. x) (λ x. x) (λ ρ told. Local.mem-whole 𝓤 H A W (Declared'.row Places.the-type) ρ) λ ρ
+              told. Local.whole-mem 𝓤 H A W (Declared'.row Places.the-type) ρ, Path.refl,), ((Reads.reads-field 𝓤 H A W ClosePlan.the-type
+              Laws'.the-laws 3 Syntax.tyBool 50 Path.refl, Path.refl,), ((Reads.reads-field 𝓤 H A W ClosePlan.the-type Laws'.the-laws 5 (Syntax.tyInt
+              Syntax.w64) 64 Path.refl, Path.refl,), tt,),),),) (Reads'.room-gone 𝓤 H A Syntax.tyUnit) (tt, tt) Path.refl) d42
+          d44 : Typed.Typed 𝓤 H A 𝓣 E G34 b40 Δ0 (at44 bs)
+          d44 = Typed.s-seq 𝓤 H A W 𝓣 E G34 G35 b12 b39 Δ0 (Typed.ask (s33 bs)) (at43 bs) (Relend.t-sl-aggregate 𝓤 H A W E RelayCircuit.row 𝓣
+              (Relend.asMut RelayCircuit.row) G34 23 24 9 ref3 ref3 (λ x. x) (Scalar.oFld 2 ((Syntax.field 1) ∷ List.[]) (Syntax.tyInt Syntax.w64) 8 λ
               v. Shared.lenV (v .0)) (Reads'.as-is 𝓤 H A (Relend.msptr RelayCircuit.row ref3 9)) (Reads'.room-gone 𝓤 H A (Syntax.tyStruct (38 ∷ 91 ∷
               93 ∷ List.[]) (Syntax.tcons ref3 (Syntax.tcons (Syntax.tyInt Syntax.w64) Syntax.tnil)))) (Relend.reads-owed-len 𝓤 H A W RelayCircuit.row
-              ref8 1 9 life1 8 Path.refl, Path.refl,) Path.refl Path.refl λ b o k. tt) d42
-          d44 : Typed.Typed 𝓤 H A 𝓣 E G33 b41 Δ0 (at44 bs)
-          d44 = Typed.s-seq 𝓤 H A W 𝓣 E G33 G34 b11 b40 Δ0 (Typed.give (s32 bs)) (at43 bs) (Relend.t-sl-relend 𝓤 H A W E RelayCircuit.row 𝓣 G33 2 22 1
+              ref8 1 9 life1 8 Path.refl, Path.refl,) Path.refl Path.refl λ b o k. tt) d43
+          d45 : Typed.Typed 𝓤 H A 𝓣 E G33 b41 Δ0 (at45 bs)
+          d45 = Typed.s-seq 𝓤 H A W 𝓣 E G33 G34 b11 b40 Δ0 (Typed.give (s32 bs)) (at44 bs) (Relend.t-sl-relend 𝓤 H A W E RelayCircuit.row 𝓣 G33 2 23 1
               9 ref8 ref3 life1 0 (λ x. x) (Reads'.as-is 𝓤 H A (Mut.mslice RelayCircuit.row ref8 1)) (Reads'.room-gone 𝓤 H A ref3) Path.refl tt
-              Path.refl Path.refl Path.refl λ b o. tt) d43
-          d45 : Typed.Typed 𝓤 H A 𝓣 E G32 b41 Δ0 (at45 bs)
-          d45 = Typed.g-pre 𝓤 H A W 𝓣 E G32 G33 b41 Δ0 (λ Ψ. Ψ) (at44 bs) (Lifetime.g-begin 𝓤 H A W E G32 9 (tt, (tt, (tt, (tt, (tt, (tt, (tt, (tt,
-              (tt, (tt, (tt, (tt, (tt, (tt, (tt, (tt, (tt, (tt, (tt, (tt, (tt, (tt, (tt, (tt, (tt, (tt, (tt, (tt, (tt, (tt, (tt, (tt,
-              tt))),),),),),),),),),),),),),),),),),),),),),),),),),),),),),)) d44
-          d46 : Typed.Typed 𝓤 H A 𝓣 E G31 b41 Δ0 (at46 bs)
-          d46 = Typed.g-pre 𝓤 H A W 𝓣 E G31 G32 b41 Δ0 (λ Ψ. Ψ) (at45 bs) (Lifetime.g-forget 𝓤 H A W E G31 8 Row.dead Path.refl) d45
-          d47 : Typed.Typed 𝓤 H A 𝓣 E G30 b41 Δ0 (at47 bs)
-          d47 = Typed.g-pre 𝓤 H A W 𝓣 E G30 G31 b41 Δ0 (Typed.both (s29 bs)) (at46 bs) (Relend.g-back-sl 𝓤 H A W E RelayPending.row G30 21 1 0 8 ref7
+              Path.refl Path.refl Path.refl λ b o. tt) d44
+          d46 : Typed.Typed 𝓤 H A 𝓣 E G32 b41 Δ0 (at46 bs)
+          d46 = Typed.g-pre 𝓤 H A W 𝓣 E G32 G33 b41 Δ0 (λ Ψ. Ψ) (at45 bs) (Lifetime.g-begin 𝓤 H A W E G32 9 (tt, (tt, (tt, (tt, (tt, (tt, (tt, (tt,
+              (tt, (tt, (tt, (tt, (tt, (tt, (tt, (tt, (tt, (tt, (tt, (tt, (tt, (tt, (tt, (tt, (tt, (tt, (tt, (tt, (tt, (tt, (tt, (tt, (tt,
+              tt))),),),),),),),),),),),),),),),),),),),),),),),),),),),),),),)) d45
+          d47 : Typed.Typed 𝓤 H A 𝓣 E G31 b41 Δ0 (at47 bs)
+          d47 = Typed.g-pre 𝓤 H A W 𝓣 E G31 G32 b41 Δ0 (λ Ψ. Ψ) (at46 bs) (Lifetime.g-forget 𝓤 H A W E G31 8 Row.dead Path.refl) d46
+          d48 : Typed.Typed 𝓤 H A 𝓣 E G30 b41 Δ0 (at48 bs)
+          d48 = Typed.g-pre 𝓤 H A W 𝓣 E G30 G31 b41 Δ0 (Typed.both (s29 bs)) (at47 bs) (Relend.g-back-sl 𝓤 H A W E RelayPending.row G30 22 1 0 8 ref7
               ref2 life0 (λ x. x) (λ x. x) (Reads'.as-is 𝓤 H A (Mut.msleft RelayPending.row ref2)) (Reads'.as-is 𝓤 H A (Relend.mslice-owed
-              RelayPending.row ref7 0 8 life0)) Path.refl Path.refl) d46
-          d48 : Typed.Typed 𝓤 H A 𝓣 E G29 b41 Δ0 (at48 bs)
-          d48 = Typed.g-pre 𝓤 H A W 𝓣 E G29 G30 b41 Δ0 (λ Ψ. Ψ) (at47 bs) (Lifetime.g-end 𝓤 H A W E G29 8 Path.refl) d47
-          d49 : Typed.Typed 𝓤 H A 𝓣 E G28 b41 Δ0 (at49 bs)
-          d49 = Typed.g-pre 𝓤 H A W 𝓣 E G28 G29 b41 Δ0 (Typed.pass T28 T29 (s27 bs)) (at48 bs) (Scalar.g-room 𝓤 H A W E G28 19 Syntax.tyUnit
-              (Scalar.room-sc 𝓤 H A W Row.sUnit)) d48
-          d50 : Typed.Typed 𝓤 H A 𝓣 E G27 b42 Δ0 (at50 bs)
-          d50 = Typed.s-seq 𝓤 H A W 𝓣 E G27 G28 b10 b41 Δ0 (Typed.both (s26 bs)) (at49 bs) (Plain.t-call-plain 𝓤 H A W 𝓣 1 ps·1 r·1 (claims· .2)
-              (claims· .3) "hnsr_circuit::handle_close::unmark_pending" (known .1) E (λ pos β. β) G27 (record { pos = 21; ty = Syntax.tyRef
-              Syntax.erased Syntax.mut RelayPending.to; ref = λ x. x; }, (Bool.bFld 9 ((Syntax.field 2) ∷ List.[]) 49 λ x. ClosePlan.struct .as-values
-              x .1 .1 .0, (Num.vFld 9 ((Syntax.field 4) ∷ List.[]) 56 λ x. ClosePlan.struct .as-values x .1 .1 .1 .1 .0, tt,),),) 19 (8 ∷ List.[])
-              (Call.sub-id 𝓤 H A W (G27 .slots)) (Reads'.as-is 𝓤 H A (Mut.mslice RelayPending.row ref2 8), Mut.reads-mslice 𝓤 H A W RelayPending.row
-              ref2 8, Path.refl, ((Reads.reads-field 𝓤 H A W ClosePlan.the-type Laws'.the-laws 2 Syntax.tyBool 49 Path.refl, Path.refl,),
-              ((Reads.reads-field 𝓤 H A W ClosePlan.the-type Laws'.the-laws 4 (Syntax.tyInt Syntax.w64) 56 Path.refl, Path.refl,), tt,),),)
-              (Reads'.room-gone 𝓤 H A Syntax.tyUnit) (tt, tt) Path.refl) d49
-          d51 : Typed.Typed 𝓤 H A 𝓣 E G26 b43 Δ0 (at51 bs)
-          d51 = Typed.s-seq 𝓤 H A W 𝓣 E G26 G27 b9 b42 Δ0 (Typed.ask (s25 bs)) (at50 bs) (Relend.t-sl-aggregate 𝓤 H A W E RelayPending.row 𝓣
-              (Relend.asMut RelayPending.row) G26 20 21 8 ref2 ref2 (λ x. x) (Scalar.oFld 1 ((Syntax.field 1) ∷ List.[]) (Syntax.tyInt Syntax.w64) 8 λ
+              RelayPending.row ref7 0 8 life0)) Path.refl Path.refl) d47
+          d49 : Typed.Typed 𝓤 H A 𝓣 E G29 b41 Δ0 (at49 bs)
+          d49 = Typed.g-pre 𝓤 H A W 𝓣 E G29 G30 b41 Δ0 (λ Ψ. Ψ) (at48 bs) (Lifetime.g-end 𝓤 H A W E G29 8 Path.refl) d48
+          d50 : Typed.Typed 𝓤 H A 𝓣 E G28 b41 Δ0 (at50 bs)
+          d50 = Typed.g-pre 𝓤 H A W 𝓣 E G28 G29 b41 Δ0 (Typed.pass T28 T29 (s27 bs)) (at49 bs) (Scalar.g-room 𝓤 H A W E G28 20 Syntax.tyUnit
+              (Scalar.room-sc 𝓤 H A W Row.sUnit)) d49
+          d51 : Typed.Typed 𝓤 H A 𝓣 E G27 b42 Δ0 (at51 bs)
+          d51 = Typed.s-seq 𝓤 H A W 𝓣 E G27 G28 b10 b41 Δ0 (Typed.both (s26 bs)) (at50 bs) (Plain.t-call-plain 𝓤 H A W 𝓣 1 ps·1 r·1 (claims· .2)
+              (claims· .3) "hnsr_circuit::handle_close::unmark_pending" (known .1) E (λ pos β. β) G27 (record { pos = 22; ty = Syntax.tyRef
+              Syntax.erased Syntax.mut RelayPending.to; ref = λ x. x; }, (record { pos = 6; st = List.[]; d = 0; at = λ x. x }, (Bool.bFld 10
+              ((Syntax.field 2) ∷ List.[]) 49 λ x. ClosePlan.struct .as-values x .1 .1 .0, (Num.vFld 10 ((Syntax.field 4) ∷ List.[]) 56 λ x.
+              ClosePlan.struct .as-values x .1 .1 .1 .1 .0, tt,),),),) 20 (8 ∷ List.[]) (Call.sub-id 𝓤 H A W (G27 .slots)) (Reads'.as-is 𝓤 H A
+              (Mut.mslice RelayPending.row ref2 8), Mut.reads-mslice 𝓤 H A W RelayPending.row ref2 8, Path.refl, ((Yields.yields-copy 𝓤 H A W (λ ρ.
+              Unit) (Declared'.row Places.the-type) Path.refl (Copies.cStruct Places.the-type Laws''.the-laws Laws''.the-copy .copy 𝓤 H A W)
+              (Rows.whole (Declared'.row Places.the-type)) (λ x. x) (λ x. x) (λ ρ told. Local.mem-whole 𝓤 H A W (Declared'.row Places.the-type) ρ) λ ρ
+              told. Local.whole-mem 𝓤 H A W (Declared'.row Places.the-type) ρ, Path.refl,), ((Reads.reads-field 𝓤 H A W ClosePlan.the-type
+              Laws'.the-laws 2 Syntax.tyBool 49 Path.refl, Path.refl,), ((Reads.reads-field 𝓤 H A W ClosePlan.the-type Laws'.the-laws 4 (Syntax.tyInt
+              Syntax.w64) 56 Path.refl, Path.refl,), tt,),),),) (Reads'.room-gone 𝓤 H A Syntax.tyUnit) (tt, tt) Path.refl) d50
+          d52 : Typed.Typed 𝓤 H A 𝓣 E G26 b43 Δ0 (at52 bs)
+          d52 = Typed.s-seq 𝓤 H A W 𝓣 E G26 G27 b9 b42 Δ0 (Typed.ask (s25 bs)) (at51 bs) (Relend.t-sl-aggregate 𝓤 H A W E RelayPending.row 𝓣
+              (Relend.asMut RelayPending.row) G26 21 22 8 ref2 ref2 (λ x. x) (Scalar.oFld 1 ((Syntax.field 1) ∷ List.[]) (Syntax.tyInt Syntax.w64) 8 λ
               v. Shared.lenV (v .0)) (Reads'.as-is 𝓤 H A (Relend.msptr RelayPending.row ref2 8)) (Reads'.room-gone 𝓤 H A (Syntax.tyStruct (38 ∷ 91 ∷
               93 ∷ List.[]) (Syntax.tcons ref2 (Syntax.tcons (Syntax.tyInt Syntax.w64) Syntax.tnil)))) (Relend.reads-owed-len 𝓤 H A W RelayPending.row
-              ref7 0 8 life0 8 Path.refl, Path.refl,) Path.refl Path.refl λ b o k. tt) d50
-          d52 : Typed.Typed 𝓤 H A 𝓣 E G25 b44 Δ0 (at52 bs)
-          d52 = Typed.s-seq 𝓤 H A W 𝓣 E G25 G26 b8 b43 Δ0 (Typed.give (s24 bs)) (at51 bs) (Relend.t-sl-relend 𝓤 H A W E RelayPending.row 𝓣 G25 1 20 0
+              ref7 0 8 life0 8 Path.refl, Path.refl,) Path.refl Path.refl λ b o k. tt) d51
+          d53 : Typed.Typed 𝓤 H A 𝓣 E G25 b44 Δ0 (at53 bs)
+          d53 = Typed.s-seq 𝓤 H A W 𝓣 E G25 G26 b8 b43 Δ0 (Typed.give (s24 bs)) (at52 bs) (Relend.t-sl-relend 𝓤 H A W E RelayPending.row 𝓣 G25 1 21 0
               8 ref7 ref2 life0 0 (λ x. x) (Reads'.as-is 𝓤 H A (Mut.mslice RelayPending.row ref7 0)) (Reads'.room-gone 𝓤 H A ref2) Path.refl tt
-              Path.refl Path.refl Path.refl λ b o. tt) d51
-          d53 : Typed.Typed 𝓤 H A 𝓣 E G24 b44 Δ0 (at53 bs)
-          d53 = Typed.g-pre 𝓤 H A W 𝓣 E G24 G25 b44 Δ0 (λ Ψ. Ψ) (at52 bs) (Lifetime.g-begin 𝓤 H A W E G24 8 (tt, (tt, (tt, (tt, (tt, (tt, (tt, (tt,
-              (tt, (tt, (tt, (tt, (tt, (tt, (tt, (tt, (tt, (tt, (tt, (tt, (tt, (tt, (tt, (tt, (tt, (tt, (tt, (tt, (tt, (tt, (tt, (tt,
-              tt))),),),),),),),),),),),),),),),),),),),),),),),),),),),),),)) d52
-          d54 : Typed.Typed 𝓤 H A 𝓣 E G23 b45 Δ0 (at54 bs)
-          d54 = Typed.s-seq 𝓤 H A W 𝓣 E G23 G24 b7 b44 Δ0 (Typed.both (s22 bs)) (at53 bs) (WayStmt.t-way-copy-out 𝓤 H A W E 𝓣 (Declared'.row
-              Outgoing.the-type) Path.refl (Copies.cStruct Outgoing.the-type Laws''''.the-laws Laws''''.the-copy .copy 𝓤 H A W) (λ ρ. Unit) G23
-              (Row.out 9 (G23 .locals)) (λ u. Row.drop 9 (G23 .locals) u) (G23 .slots) 9 (λ t. (Syntax.field 8) ∷ t) Laws''''.mir Laws''''.mir 12
+              Path.refl Path.refl Path.refl λ b o. tt) d52
+          d54 : Typed.Typed 𝓤 H A 𝓣 E G24 b44 Δ0 (at54 bs)
+          d54 = Typed.g-pre 𝓤 H A W 𝓣 E G24 G25 b44 Δ0 (λ Ψ. Ψ) (at53 bs) (Lifetime.g-begin 𝓤 H A W E G24 8 (tt, (tt, (tt, (tt, (tt, (tt, (tt, (tt,
+              (tt, (tt, (tt, (tt, (tt, (tt, (tt, (tt, (tt, (tt, (tt, (tt, (tt, (tt, (tt, (tt, (tt, (tt, (tt, (tt, (tt, (tt, (tt, (tt, (tt,
+              tt))),),),),),),),),),),),),),),),),),),),),),),),),),),),),),),)) d53
+          d55 : Typed.Typed 𝓤 H A 𝓣 E G23 b45 Δ0 (at55 bs)
+          d55 = Typed.s-seq 𝓤 H A W 𝓣 E G23 G24 b7 b44 Δ0 (Typed.both (s22 bs)) (at54 bs) (WayStmt.t-way-copy-out 𝓤 H A W E 𝓣 (Declared'.row
+              Outgoing.the-type) Path.refl (Copies.cStruct Outgoing.the-type Laws'''''.the-laws Laws'''''.the-copy .copy 𝓤 H A W) (λ ρ. Unit) G23
+              (Row.out 10 (G23 .locals)) (λ u. Row.drop 10 (G23 .locals) u) (G23 .slots) 10 (λ t. (Syntax.field 8) ∷ t) Laws'''''.mir Laws'''''.mir 13
               (Rows.whole (Declared'.row Outgoing.the-type)) (λ x. x) (λ u. At.getAt (ClosePlan.the-type .parts) 8 (ClosePlan.struct .as-values (u .1
-              .1 .1 .1 .1 .1 .1 .1 .1 .0))) (λ u. (Row.hd 0 (Row.tl (Row.tl (Row.tl (Row.tl (Row.tl (Row.tl (Row.tl (Row.tl (Row.tl bs))))))))),
-              Nat._+_ 0 240,)) (λ T′. record { locals = Row.setRow 9 (9, Rows.whole (Declared'.row ClosePlan.the-type)) T′; slots = G23 .slots; }) (λ
-              u T′ m′. Row.set 9 (9, Rows.whole (Declared'.row ClosePlan.the-type)) (u .1 .1 .1 .1 .1 .1 .1 .1 .1 .0) T′ m′) (λ u. Unit) (λ x. Unit)
-              (Own.told-none 𝓤 H A (G23 .slots)) (DerefMove.learns-nothing 𝓤 H A (Declared'.row Outgoing.the-type)) (λ ρ told u asked. Way'.w-partˢ 𝓤
-              H A W E (Declared'.row ClosePlan.the-type) (Declared'.row Outgoing.the-type) Laws'.mir Laws''''.mir 8 240 (u .1 .1 .1 .1 .1 .1 .1 .1 .1
-              .0) (At.getAt (ClosePlan.the-type .parts) 8 (ClosePlan.struct .as-values (u .1 .1 .1 .1 .1 .1 .1 .1 .1 .0))) (Row.hd 0 (Row.tl (Row.tl
-              (Row.tl (Row.tl (Row.tl (Row.tl (Row.tl (Row.tl (Row.tl bs))))))))), 0,) (Way.w-look 𝓤 H A W E (Way.w-local 𝓤 H A W E G23 ρ u (G23
-              .slots) 9 (Declared'.row ClosePlan.the-type) (Rows.whole (Declared'.row ClosePlan.the-type)) (λ x. x) (λ x. x) (u .1 .1 .1 .1 .1 .1 .1
-              .1 .1 .0) (Local.mem-whole 𝓤 H A W (Declared'.row ClosePlan.the-type) ρ (u .1 .1 .1 .1 .1 .1 .1 .1 .1 .0) (Row.hd 0 (Row.tl (Row.tl
-              (Row.tl (Row.tl (Row.tl (Row.tl (Row.tl (Row.tl (Row.tl bs))))))))))) (Local.whole-mem 𝓤 H A W (Declared'.row ClosePlan.the-type) ρ (u
-              .1 .1 .1 .1 .1 .1 .1 .1 .1 .0) (Row.hd 0 (Row.tl (Row.tl (Row.tl (Row.tl (Row.tl (Row.tl (Row.tl (Row.tl (Row.tl bs)))))))))))))
-              Path.refl λ q. Inner.cut-record 𝓤 H A q (Declared'.row ClosePlan.the-type) Outgoing.the-type 240 (u .1 .1 .1 .1 .1 .1 .1 .1 .1 .0) (u .1
-              .1 .1 .1 .1 .1 .1 .1 .1 .0) (At.getAt (ClosePlan.the-type .parts) 8 (ClosePlan.struct .as-values (u .1 .1 .1 .1 .1 .1 .1 .1 .1 .0)))
-              (At.getAt (ClosePlan.the-type .parts) 8 (ClosePlan.struct .as-values (u .1 .1 .1 .1 .1 .1 .1 .1 .1 .0))) (Row.hd 0 (Row.tl (Row.tl
-              (Row.tl (Row.tl (Row.tl (Row.tl (Row.tl (Row.tl (Row.tl bs))))))))), 0,) (Behind.look-at 𝓤 H A W q ClosePlan.the-type Laws'.the-laws 8
-              240 Path.refl Path.refl (Row.hd 0 (Row.tl (Row.tl (Row.tl (Row.tl (Row.tl (Row.tl (Row.tl (Row.tl (Row.tl bs))))))))), 0,) (u .1 .1 .1
-              .1 .1 .1 .1 .1 .1 .0) (ClosePlan.struct .as-values (u .1 .1 .1 .1 .1 .1 .1 .1 .1 .0)) Path.refl)) (Reads'.room-gone 𝓤 H A Laws''''.mir)
-              (Yields.makes-mem 𝓤 H A W (λ ρ. Unit) (Declared'.row Outgoing.the-type) Path.refl (Rows.whole (Declared'.row Outgoing.the-type)) (λ x.
-              x) λ ρ told. Local.whole-mem 𝓤 H A W (Declared'.row Outgoing.the-type) ρ) Path.refl Path.refl Path.refl) d53
-          d55 : Typed.Typed 𝓤 H A 𝓣 E G22 b46 Δ0 (at55 bs)
-          d55 = Typed.s-seq 𝓤 H A W 𝓣 E G22 G23 b6 b45 Δ0 (Typed.both (s21 bs)) (at54 bs) (WayStmt.t-way-copy-out 𝓤 H A W E 𝓣 (Declared'.row
-              OpaqueRelayRuntime.the-type) Path.refl (Copies.cStruct OpaqueRelayRuntime.the-type Laws''''''.the-laws Laws''''''.the-copy .copy 𝓤 H A
-              W) (λ ρ. Unit) G22 (Row.out 9 (G22 .locals)) (λ u. Row.drop 9 (G22 .locals) u) (G22 .slots) 9 (λ t. (Syntax.field 7) ∷ t) Laws''''''.mir
-              Laws''''''.mir 11 (Rows.whole (Declared'.row OpaqueRelayRuntime.the-type)) (λ x. x) (λ u. At.getAt (ClosePlan.the-type .parts) 7
-              (ClosePlan.struct .as-values (u .1 .1 .1 .1 .1 .1 .1 .1 .1 .0))) (λ u. (Row.hd 0 (Row.tl (Row.tl (Row.tl (Row.tl (Row.tl (Row.tl (Row.tl
-              (Row.tl (Row.tl bs))))))))), Nat._+_ 0 80,)) (λ T′. record { locals = Row.setRow 9 (9, Rows.whole (Declared'.row ClosePlan.the-type))
-              T′; slots = G22 .slots; }) (λ u T′ m′. Row.set 9 (9, Rows.whole (Declared'.row ClosePlan.the-type)) (u .1 .1 .1 .1 .1 .1 .1 .1 .1 .0) T′
-              m′) (λ u. Unit) (λ x. Unit) (Own.told-none 𝓤 H A (G22 .slots)) (DerefMove.learns-nothing 𝓤 H A (Declared'.row
-              OpaqueRelayRuntime.the-type)) (λ ρ told u asked. Way'.w-partˢ 𝓤 H A W E (Declared'.row ClosePlan.the-type) (Declared'.row
-              OpaqueRelayRuntime.the-type) Laws'.mir Laws''''''.mir 7 80 (u .1 .1 .1 .1 .1 .1 .1 .1 .1 .0) (At.getAt (ClosePlan.the-type .parts) 7
-              (ClosePlan.struct .as-values (u .1 .1 .1 .1 .1 .1 .1 .1 .1 .0))) (Row.hd 0 (Row.tl (Row.tl (Row.tl (Row.tl (Row.tl (Row.tl (Row.tl
-              (Row.tl (Row.tl bs))))))))), 0,) (Way.w-look 𝓤 H A W E (Way.w-local 𝓤 H A W E G22 ρ u (G22 .slots) 9 (Declared'.row ClosePlan.the-type)
-              (Rows.whole (Declared'.row ClosePlan.the-type)) (λ x. x) (λ x. x) (u .1 .1 .1 .1 .1 .1 .1 .1 .1 .0) (Local.mem-whole 𝓤 H A W
-              (Declared'.row ClosePlan.the-type) ρ (u .1 .1 .1 .1 .1 .1 .1 .1 .1 .0) (Row.hd 0 (Row.tl (Row.tl (Row.tl (Row.tl (Row.tl (Row.tl (Row.tl
-              (Row.tl (Row.tl bs))))))))))) (Local.whole-mem 𝓤 H A W (Declared'.row ClosePlan.the-type) ρ (u .1 .1 .1 .1 .1 .1 .1 .1 .1 .0) (Row.hd 0
-              (Row.tl (Row.tl (Row.tl (Row.tl (Row.tl (Row.tl (Row.tl (Row.tl (Row.tl bs))))))))))))) Path.refl λ q. Inner.cut-record 𝓤 H A q
-              (Declared'.row ClosePlan.the-type) OpaqueRelayRuntime.the-type 80 (u .1 .1 .1 .1 .1 .1 .1 .1 .1 .0) (u .1 .1 .1 .1 .1 .1 .1 .1 .1 .0)
-              (At.getAt (ClosePlan.the-type .parts) 7 (ClosePlan.struct .as-values (u .1 .1 .1 .1 .1 .1 .1 .1 .1 .0))) (At.getAt (ClosePlan.the-type
-              .parts) 7 (ClosePlan.struct .as-values (u .1 .1 .1 .1 .1 .1 .1 .1 .1 .0))) (Row.hd 0 (Row.tl (Row.tl (Row.tl (Row.tl (Row.tl (Row.tl
-              (Row.tl (Row.tl (Row.tl bs))))))))), 0,) (Behind.look-at 𝓤 H A W q ClosePlan.the-type Laws'.the-laws 7 80 Path.refl Path.refl (Row.hd 0
-              (Row.tl (Row.tl (Row.tl (Row.tl (Row.tl (Row.tl (Row.tl (Row.tl (Row.tl bs))))))))), 0,) (u .1 .1 .1 .1 .1 .1 .1 .1 .1 .0)
-              (ClosePlan.struct .as-values (u .1 .1 .1 .1 .1 .1 .1 .1 .1 .0)) Path.refl)) (Reads'.room-gone 𝓤 H A Laws''''''.mir) (Yields.makes-mem 𝓤
-              H A W (λ ρ. Unit) (Declared'.row OpaqueRelayRuntime.the-type) Path.refl (Rows.whole (Declared'.row OpaqueRelayRuntime.the-type)) (λ x.
-              x) λ ρ told. Local.whole-mem 𝓤 H A W (Declared'.row OpaqueRelayRuntime.the-type) ρ) Path.refl Path.refl Path.refl) d54
-          d56 : Typed.Typed 𝓤 H A 𝓣 E G21 b47 Δ0 (at56 bs)
-          d56 = Typed.s-seq 𝓤 H A W 𝓣 E G21 G22 b5 b46 Δ0 (Typed.pass T20 T22 (s20 bs)) (at55 bs) (CopyOut.t-copy-told 𝓤 H A W E 𝓣 (Declared.row
-              HnsrAnswer.the-type) Path.refl (Laws''''''''.val HnsrAnswer.the-type Laws.the-laws) (Laws''''''''.lawful HnsrAnswer.the-type
-              Laws.the-laws 𝓤 H A W tt) (Laws''''''''.makes HnsrAnswer.the-type Laws.the-plain 𝓤 H A) G21 10 (Scalar.oFld 9 ((Syntax.field 0) ∷
-              List.[]) Laws.mir 0 λ x. Laws''''''''.val HnsrAnswer.the-type Laws.the-laws (ClosePlan.struct .as-values x .0)) (λ m. ClosePlan.struct
-              .as-values (m .1 .1 .1 .1 .1 .1 .1 .1 .1 .0) .0) (λ m. Laws'''''''''.Is (Declared'.row ClosePlan.the-type) (m .1 .1 .1 .1 .1 .1 .1 .1 .1
-              .0) (Laws''''''''''.vals ClosePlan.the-type Laws'.the-laws (m .1 .1 .1 .1 .1 .1 .1 .1 .1 .0))) (Reads'.room-gone 𝓤 H A Laws.mir)
-              (Reads.reads-field 𝓤 H A W ClosePlan.the-type Laws'.the-laws 0 Laws.mir 0 Path.refl, Path.refl,) Path.refl (λ ρ m. Make.tells-row 𝓤 H A
-              W E ρ (Row.out 10 (G21 .locals)) m 9 (Laws'''''''''.Is (Declared'.row ClosePlan.the-type) (m .1 .1 .1 .1 .1 .1 .1 .1 .1 .0)
-              (Laws''''''''''.vals ClosePlan.the-type Laws'.the-laws (m .1 .1 .1 .1 .1 .1 .1 .1 .1 .0))) (Make.whole-is 𝓤 H A W E (Declared'.row
-              ClosePlan.the-type) Path.refl (Laws''''''''''.val ClosePlan.the-type Laws'.the-laws) (Laws''''''''''.tells ClosePlan.the-type
-              Laws'.the-laws) ρ 9 (m .1 .1 .1 .1 .1 .1 .1 .1 .1 .0))) (λ m k wa. Path.refl) λ m k wa. Laws''''''''''.owed ClosePlan.the-type
-              Laws'.the-laws (m .1 .1 .1 .1 .1 .1 .1 .1 .1 .0) (Laws''''''''''.vals ClosePlan.the-type Laws'.the-laws (m .1 .1 .1 .1 .1 .1 .1 .1 .1
-              .0)) k .0) d55
-          d57 : Typed.Typed 𝓤 H A 𝓣 E G20 b47 Δ0 (at57 bs)
-          d57 = Typed.g-pre 𝓤 H A W 𝓣 E G20 G21 b47 Δ0 (λ Ψ. Ψ) (at56 bs) (Lifetime.g-forget 𝓤 H A W E G20 7 Row.dead Path.refl) d56
-          d58 : Typed.Typed 𝓤 H A 𝓣 E G19 b47 Δ0 (at58 bs)
-          d58 = Typed.g-pre 𝓤 H A W 𝓣 E G19 G20 b47 Δ0 (Typed.pass T17 T20 (s18 bs)) (at57 bs) (Reshare.g-back-sl-shr 𝓤 H A W E RelayCircuit.row G19 2
-              1 7 ref8 life1 (λ x. x) (Reads'.as-is 𝓤 H A (Reshare.mslice-owedS RelayCircuit.row ref8 1 7 life1)) Path.refl Path.refl) d57
-          d59 : Typed.Typed 𝓤 H A 𝓣 E G18 b47 Δ0 (at59 bs)
-          d59 = Typed.g-pre 𝓤 H A W 𝓣 E G18 G19 b47 Δ0 (λ Ψ. Ψ) (at58 bs) (Lifetime.g-end 𝓤 H A W E G18 7 Path.refl) d58
-          d60 : Typed.Typed 𝓤 H A 𝓣 E G17 b47 Δ0 (at60 bs)
-          d60 = Typed.g-pre 𝓤 H A W 𝓣 E G17 G18 b47 Δ0 (λ Ψ. Ψ) (at59 bs) (Lifetime.g-forget 𝓤 H A W E G17 6 Row.dead Path.refl) d59
-          d61 : Typed.Typed 𝓤 H A 𝓣 E G16 b47 Δ0 (at61 bs)
-          d61 = Typed.g-pre 𝓤 H A W 𝓣 E G16 G17 b47 Δ0 (Typed.pass T15 T17 (s15 bs)) (at60 bs) (Reshare.g-back-sl-shr 𝓤 H A W E RelayPending.row G16 1
-              0 6 ref7 life0 (λ x. x) (Reads'.as-is 𝓤 H A (Reshare.mslice-owedS RelayPending.row ref7 0 6 life0)) Path.refl Path.refl) d60
-          d62 : Typed.Typed 𝓤 H A 𝓣 E G15 b47 Δ0 (at62 bs)
-          d62 = Typed.g-pre 𝓤 H A W 𝓣 E G15 G16 b47 Δ0 (λ Ψ. Ψ) (at61 bs) (Lifetime.g-end 𝓤 H A W E G15 6 Path.refl) d61
-          d63 : Typed.Typed 𝓤 H A 𝓣 E G14 b47 Δ0 (at63 bs)
-          d63 = Typed.g-pre 𝓤 H A W 𝓣 E G14 G15 b47 Δ0 (Typed.pass T14 T15 (s13 bs)) (at62 bs) (Scalar.g-room 𝓤 H A W E G14 6 Laws'''''.mir
-              (Local.room-whole 𝓤 H A W (Declared'.row RelayPacket.the-type) Laws'''''.mir Path.refl)) d62
-          d64 : Typed.Typed 𝓤 H A 𝓣 E G13 b47 Δ0 (at64 bs)
-          d64 = Typed.g-pre 𝓤 H A W 𝓣 E G13 G14 b47 Δ0 (Typed.pass T13 T14 (s12 bs)) (at63 bs) (Scalar.g-room 𝓤 H A W E G13 5 Laws''''''.mir
-              (Local.room-whole 𝓤 H A W (Declared'.row OpaqueRelayRuntime.the-type) Laws''''''.mir Path.refl)) d63
-          d65 : Typed.Typed 𝓤 H A 𝓣 E G12 b47 Δ0 (at65 bs)
-          d65 = Typed.g-pre 𝓤 H A W 𝓣 E G12 G13 b47 Δ0 (Typed.pass T12 T13 (s11 bs)) (at64 bs) (Scalar.g-room 𝓤 H A W E G12 18 (Syntax.tyStruct (38 ∷
+              .1 .1 .1 .1 .1 .1 .1 .1 .1 .0))) (λ u. (Row.hd 0 (Row.tl (Row.tl (Row.tl (Row.tl (Row.tl (Row.tl (Row.tl (Row.tl (Row.tl (Row.tl
+              bs)))))))))), Nat._+_ 0 240,)) (λ T′. record { locals = Row.setRow 10 (10, Rows.whole (Declared'.row ClosePlan.the-type)) T′; slots =
+              G23 .slots; }) (λ u T′ m′. Row.set 10 (10, Rows.whole (Declared'.row ClosePlan.the-type)) (u .1 .1 .1 .1 .1 .1 .1 .1 .1 .1 .0) T′ m′) (λ
+              u. Unit) (λ x. Unit) (Own.told-none 𝓤 H A (G23 .slots)) (DerefMove.learns-nothing 𝓤 H A (Declared'.row Outgoing.the-type)) (λ ρ told u
+              asked. Way'.w-partˢ 𝓤 H A W E (Declared'.row ClosePlan.the-type) (Declared'.row Outgoing.the-type) Laws'.mir Laws'''''.mir 8 240 (u .1
+              .1 .1 .1 .1 .1 .1 .1 .1 .1 .0) (At.getAt (ClosePlan.the-type .parts) 8 (ClosePlan.struct .as-values (u .1 .1 .1 .1 .1 .1 .1 .1 .1 .1
+              .0))) (Row.hd 0 (Row.tl (Row.tl (Row.tl (Row.tl (Row.tl (Row.tl (Row.tl (Row.tl (Row.tl (Row.tl bs)))))))))), 0,) (Way.w-look 𝓤 H A W E
+              (Way.w-local 𝓤 H A W E G23 ρ u (G23 .slots) 10 (Declared'.row ClosePlan.the-type) (Rows.whole (Declared'.row ClosePlan.the-type)) (λ x.
+              x) (λ x. x) (u .1 .1 .1 .1 .1 .1 .1 .1 .1 .1 .0) (Local.mem-whole 𝓤 H A W (Declared'.row ClosePlan.the-type) ρ (u .1 .1 .1 .1 .1 .1 .1
+              .1 .1 .1 .0) (Row.hd 0 (Row.tl (Row.tl (Row.tl (Row.tl (Row.tl (Row.tl (Row.tl (Row.tl (Row.tl (Row.tl bs)))))))))))) (Local.whole-mem 𝓤
+              H A W (Declared'.row ClosePlan.the-type) ρ (u .1 .1 .1 .1 .1 .1 .1 .1 .1 .1 .0) (Row.hd 0 (Row.tl (Row.tl (Row.tl (Row.tl (Row.tl
+              (Row.tl (Row.tl (Row.tl (Row.tl (Row.tl bs)))))))))))))) Path.refl λ q. Inner.cut-record 𝓤 H A q (Declared'.row ClosePlan.the-type)
+              Outgoing.the-type 240 (u .1 .1 .1 .1 .1 .1 .1 .1 .1 .1 .0) (u .1 .1 .1 .1 .1 .1 .1 .1 .1 .1 .0) (At.getAt (ClosePlan.the-type .parts) 8
+              (ClosePlan.struct .as-values (u .1 .1 .1 .1 .1 .1 .1 .1 .1 .1 .0))) (At.getAt (ClosePlan.the-type .parts) 8 (ClosePlan.struct .as-values
+              (u .1 .1 .1 .1 .1 .1 .1 .1 .1 .1 .0))) (Row.hd 0 (Row.tl (Row.tl (Row.tl (Row.tl (Row.tl (Row.tl (Row.tl (Row.tl (Row.tl (Row.tl
+              bs)))))))))), 0,) (Behind.look-at 𝓤 H A W q ClosePlan.the-type Laws'.the-laws 8 240 Path.refl Path.refl (Row.hd 0 (Row.tl (Row.tl
+              (Row.tl (Row.tl (Row.tl (Row.tl (Row.tl (Row.tl (Row.tl (Row.tl bs)))))))))), 0,) (u .1 .1 .1 .1 .1 .1 .1 .1 .1 .1 .0) (ClosePlan.struct
+              .as-values (u .1 .1 .1 .1 .1 .1 .1 .1 .1 .1 .0)) Path.refl)) (Reads'.room-gone 𝓤 H A Laws'''''.mir) (Yields.makes-mem 𝓤 H A W (λ ρ.
+              Unit) (Declared'.row Outgoing.the-type) Path.refl (Rows.whole (Declared'.row Outgoing.the-type)) (λ x. x) λ ρ told. Local.whole-mem 𝓤 H
+              A W (Declared'.row Outgoing.the-type) ρ) Path.refl Path.refl Path.refl) d54
+          d56 : Typed.Typed 𝓤 H A 𝓣 E G22 b46 Δ0 (at56 bs)
+          d56 = Typed.s-seq 𝓤 H A W 𝓣 E G22 G23 b6 b45 Δ0 (Typed.both (s21 bs)) (at55 bs) (WayStmt.t-way-copy-out 𝓤 H A W E 𝓣 (Declared'.row
+              OpaqueRelayRuntime.the-type) Path.refl (Copies.cStruct OpaqueRelayRuntime.the-type Laws'''''''.the-laws Laws'''''''.the-copy .copy 𝓤 H A
+              W) (λ ρ. Unit) G22 (Row.out 10 (G22 .locals)) (λ u. Row.drop 10 (G22 .locals) u) (G22 .slots) 10 (λ t. (Syntax.field 7) ∷ t)
+              Laws'''''''.mir Laws'''''''.mir 12 (Rows.whole (Declared'.row OpaqueRelayRuntime.the-type)) (λ x. x) (λ u. At.getAt (ClosePlan.the-type
+              .parts) 7 (ClosePlan.struct .as-values (u .1 .1 .1 .1 .1 .1 .1 .1 .1 .1 .0))) (λ u. (Row.hd 0 (Row.tl (Row.tl (Row.tl (Row.tl (Row.tl
+              (Row.tl (Row.tl (Row.tl (Row.tl (Row.tl bs)))))))))), Nat._+_ 0 80,)) (λ T′. record { locals = Row.setRow 10 (10, Rows.whole
+              (Declared'.row ClosePlan.the-type)) T′; slots = G22 .slots; }) (λ u T′ m′. Row.set 10 (10, Rows.whole (Declared'.row
+              ClosePlan.the-type)) (u .1 .1 .1 .1 .1 .1 .1 .1 .1 .1 .0) T′ m′) (λ u. Unit) (λ x. Unit) (Own.told-none 𝓤 H A (G22 .slots))
+              (DerefMove.learns-nothing 𝓤 H A (Declared'.row OpaqueRelayRuntime.the-type)) (λ ρ told u asked. Way'.w-partˢ 𝓤 H A W E (Declared'.row
+              ClosePlan.the-type) (Declared'.row OpaqueRelayRuntime.the-type) Laws'.mir Laws'''''''.mir 7 80 (u .1 .1 .1 .1 .1 .1 .1 .1 .1 .1 .0)
+              (At.getAt (ClosePlan.the-type .parts) 7 (ClosePlan.struct .as-values (u .1 .1 .1 .1 .1 .1 .1 .1 .1 .1 .0))) (Row.hd 0 (Row.tl (Row.tl
+              (Row.tl (Row.tl (Row.tl (Row.tl (Row.tl (Row.tl (Row.tl (Row.tl bs)))))))))), 0,) (Way.w-look 𝓤 H A W E (Way.w-local 𝓤 H A W E G22 ρ u
+              (G22 .slots) 10 (Declared'.row ClosePlan.the-type) (Rows.whole (Declared'.row ClosePlan.the-type)) (λ x. x) (λ x. x) (u .1 .1 .1 .1 .1
+              .1 .1 .1 .1 .1 .0) (Local.mem-whole 𝓤 H A W (Declared'.row ClosePlan.the-type) ρ (u .1 .1 .1 .1 .1 .1 .1 .1 .1 .1 .0) (Row.hd 0 (Row.tl
+              (Row.tl (Row.tl (Row.tl (Row.tl (Row.tl (Row.tl (Row.tl (Row.tl (Row.tl bs)))))))))))) (Local.whole-mem 𝓤 H A W (Declared'.row
+              ClosePlan.the-type) ρ (u .1 .1 .1 .1 .1 .1 .1 .1 .1 .1 .0) (Row.hd 0 (Row.tl (Row.tl (Row.tl (Row.tl (Row.tl (Row.tl (Row.tl (Row.tl
+              (Row.tl (Row.tl bs)))))))))))))) Path.refl λ q. Inner.cut-record 𝓤 H A q (Declared'.row ClosePlan.the-type) OpaqueRelayRuntime.the-type
+              80 (u .1 .1 .1 .1 .1 .1 .1 .1 .1 .1 .0) (u .1 .1 .1 .1 .1 .1 .1 .1 .1 .1 .0) (At.getAt (ClosePlan.the-type .parts) 7 (ClosePlan.struct
+              .as-values (u .1 .1 .1 .1 .1 .1 .1 .1 .1 .1 .0))) (At.getAt (ClosePlan.the-type .parts) 7 (ClosePlan.struct .as-values (u .1 .1 .1 .1 .1
+              .1 .1 .1 .1 .1 .0))) (Row.hd 0 (Row.tl (Row.tl (Row.tl (Row.tl (Row.tl (Row.tl (Row.tl (Row.tl (Row.tl (Row.tl bs)))))))))), 0,)
+              (Behind.look-at 𝓤 H A W q ClosePlan.the-type Laws'.the-laws 7 80 Path.refl Path.refl (Row.hd 0 (Row.tl (Row.tl (Row.tl (Row.tl (Row.tl
+              (Row.tl (Row.tl (Row.tl (Row.tl (Row.tl bs)))))))))), 0,) (u .1 .1 .1 .1 .1 .1 .1 .1 .1 .1 .0) (ClosePlan.struct .as-values (u .1 .1 .1
+              .1 .1 .1 .1 .1 .1 .1 .0)) Path.refl)) (Reads'.room-gone 𝓤 H A Laws'''''''.mir) (Yields.makes-mem 𝓤 H A W (λ ρ. Unit) (Declared'.row
+              OpaqueRelayRuntime.the-type) Path.refl (Rows.whole (Declared'.row OpaqueRelayRuntime.the-type)) (λ x. x) λ ρ told. Local.whole-mem 𝓤 H A
+              W (Declared'.row OpaqueRelayRuntime.the-type) ρ) Path.refl Path.refl Path.refl) d55
+          d57 : Typed.Typed 𝓤 H A 𝓣 E G21 b47 Δ0 (at57 bs)
+          d57 = Typed.s-seq 𝓤 H A W 𝓣 E G21 G22 b5 b46 Δ0 (Typed.pass T20 T22 (s20 bs)) (at56 bs) (CopyOut.t-copy-told 𝓤 H A W E 𝓣 (Declared.row
+              HnsrAnswer.the-type) Path.refl (Laws'''''''''.val HnsrAnswer.the-type Laws.the-laws) (Laws'''''''''.lawful HnsrAnswer.the-type
+              Laws.the-laws 𝓤 H A W tt) (Laws'''''''''.makes HnsrAnswer.the-type Laws.the-plain 𝓤 H A) G21 11 (Scalar.oFld 10 ((Syntax.field 0) ∷
+              List.[]) Laws.mir 0 λ x. Laws'''''''''.val HnsrAnswer.the-type Laws.the-laws (ClosePlan.struct .as-values x .0)) (λ m. ClosePlan.struct
+              .as-values (m .1 .1 .1 .1 .1 .1 .1 .1 .1 .1 .0) .0) (λ m. Laws''''''''''.Is (Declared'.row ClosePlan.the-type) (m .1 .1 .1 .1 .1 .1 .1
+              .1 .1 .1 .0) (Laws'''''''''''.vals ClosePlan.the-type Laws'.the-laws (m .1 .1 .1 .1 .1 .1 .1 .1 .1 .1 .0))) (Reads'.room-gone 𝓤 H A
+              Laws.mir) (Reads.reads-field 𝓤 H A W ClosePlan.the-type Laws'.the-laws 0 Laws.mir 0 Path.refl, Path.refl,) Path.refl (λ ρ m.
+              Make.tells-row 𝓤 H A W E ρ (Row.out 11 (G21 .locals)) m 10 (Laws''''''''''.Is (Declared'.row ClosePlan.the-type) (m .1 .1 .1 .1 .1 .1 .1
+              .1 .1 .1 .0) (Laws'''''''''''.vals ClosePlan.the-type Laws'.the-laws (m .1 .1 .1 .1 .1 .1 .1 .1 .1 .1 .0))) (Make.whole-is 𝓤 H A W E
+              (Declared'.row ClosePlan.the-type) Path.refl (Laws'''''''''''.val ClosePlan.the-type Laws'.the-laws) (Laws'''''''''''.tells
+              ClosePlan.the-type Laws'.the-laws) ρ 10 (m .1 .1 .1 .1 .1 .1 .1 .1 .1 .1 .0))) (λ m k wa. Path.refl) λ m k wa. Laws'''''''''''.owed
+              ClosePlan.the-type Laws'.the-laws (m .1 .1 .1 .1 .1 .1 .1 .1 .1 .1 .0) (Laws'''''''''''.vals ClosePlan.the-type Laws'.the-laws (m .1 .1
+              .1 .1 .1 .1 .1 .1 .1 .1 .0)) k .0) d56
+          d58 : Typed.Typed 𝓤 H A 𝓣 E G20 b47 Δ0 (at58 bs)
+          d58 = Typed.g-pre 𝓤 H A W 𝓣 E G20 G21 b47 Δ0 (λ Ψ. Ψ) (at57 bs) (Lifetime.g-forget 𝓤 H A W E G20 7 Row.dead Path.refl) d57
+          d59 : Typed.Typed 𝓤 H A 𝓣 E G19 b47 Δ0 (at59 bs)
+          d59 = Typed.g-pre 𝓤 H A W 𝓣 E G19 G20 b47 Δ0 (Typed.pass T17 T20 (s18 bs)) (at58 bs) (Reshare.g-back-sl-shr 𝓤 H A W E RelayCircuit.row G19 2
+              1 7 ref8 life1 (λ x. x) (Reads'.as-is 𝓤 H A (Reshare.mslice-owedS RelayCircuit.row ref8 1 7 life1)) Path.refl Path.refl) d58
+          d60 : Typed.Typed 𝓤 H A 𝓣 E G18 b47 Δ0 (at60 bs)
+          d60 = Typed.g-pre 𝓤 H A W 𝓣 E G18 G19 b47 Δ0 (λ Ψ. Ψ) (at59 bs) (Lifetime.g-end 𝓤 H A W E G18 7 Path.refl) d59
+          d61 : Typed.Typed 𝓤 H A 𝓣 E G17 b47 Δ0 (at61 bs)
+          d61 = Typed.g-pre 𝓤 H A W 𝓣 E G17 G18 b47 Δ0 (λ Ψ. Ψ) (at60 bs) (Lifetime.g-forget 𝓤 H A W E G17 6 Row.dead Path.refl) d60
+          d62 : Typed.Typed 𝓤 H A 𝓣 E G16 b47 Δ0 (at62 bs)
+          d62 = Typed.g-pre 𝓤 H A W 𝓣 E G16 G17 b47 Δ0 (Typed.pass T15 T17 (s15 bs)) (at61 bs) (Reshare.g-back-sl-shr 𝓤 H A W E RelayPending.row G16 1
+              0 6 ref7 life0 (λ x. x) (Reads'.as-is 𝓤 H A (Reshare.mslice-owedS RelayPending.row ref7 0 6 life0)) Path.refl Path.refl) d61
+          d63 : Typed.Typed 𝓤 H A 𝓣 E G15 b47 Δ0 (at63 bs)
+          d63 = Typed.g-pre 𝓤 H A W 𝓣 E G15 G16 b47 Δ0 (λ Ψ. Ψ) (at62 bs) (Lifetime.g-end 𝓤 H A W E G15 6 Path.refl) d62
+          d64 : Typed.Typed 𝓤 H A 𝓣 E G14 b47 Δ0 (at64 bs)
+          d64 = Typed.g-pre 𝓤 H A W 𝓣 E G14 G15 b47 Δ0 (Typed.pass T14 T15 (s13 bs)) (at63 bs) (Scalar.g-room 𝓤 H A W E G14 7 Laws''''''.mir
+              (Local.room-whole 𝓤 H A W (Declared'.row RelayPacket.the-type) Laws''''''.mir Path.refl)) d63
+          d65 : Typed.Typed 𝓤 H A 𝓣 E G13 b47 Δ0 (at65 bs)
+          d65 = Typed.g-pre 𝓤 H A W 𝓣 E G13 G14 b47 Δ0 (Typed.pass T13 T14 (s12 bs)) (at64 bs) (Scalar.g-room 𝓤 H A W E G13 5 Laws'''''''.mir
+              (Local.room-whole 𝓤 H A W (Declared'.row OpaqueRelayRuntime.the-type) Laws'''''''.mir Path.refl)) d64
+          d66 : Typed.Typed 𝓤 H A 𝓣 E G12 b47 Δ0 (at66 bs)
+          d66 = Typed.g-pre 𝓤 H A W 𝓣 E G12 G13 b47 Δ0 (Typed.pass T12 T13 (s11 bs)) (at65 bs) (Scalar.g-room 𝓤 H A W E G12 19 (Syntax.tyStruct (38 ∷
               91 ∷ 93 ∷ List.[]) (Syntax.tcons ref1 (Syntax.tcons (Syntax.tyInt Syntax.w64) Syntax.tnil))) (Shared.room-sslice 𝓤 H A W
-              RelayCircuit.row ref1 7)) d64
-          d66 : Typed.Typed 𝓤 H A 𝓣 E G11 b47 Δ0 (at66 bs)
-          d66 = Typed.g-pre 𝓤 H A W 𝓣 E G11 G12 b47 Δ0 (Typed.pass T11 T12 (s10 bs)) (at65 bs) (Scalar.g-room 𝓤 H A W E G11 16 (Syntax.tyStruct (38 ∷
+              RelayCircuit.row ref1 7)) d65
+          d67 : Typed.Typed 𝓤 H A 𝓣 E G11 b47 Δ0 (at67 bs)
+          d67 = Typed.g-pre 𝓤 H A W 𝓣 E G11 G12 b47 Δ0 (Typed.pass T11 T12 (s10 bs)) (at66 bs) (Scalar.g-room 𝓤 H A W E G11 17 (Syntax.tyStruct (38 ∷
               91 ∷ 93 ∷ List.[]) (Syntax.tcons ref0 (Syntax.tcons (Syntax.tyInt Syntax.w64) Syntax.tnil))) (Shared.room-sslice 𝓤 H A W
-              RelayPending.row ref0 6)) d65
-          d67 : Typed.Typed 𝓤 H A 𝓣 E G10 b48 Δ0 (at67 bs)
-          d67 = Typed.s-seq 𝓤 H A W 𝓣 E G10 G11 b4 b47 Δ0 (Typed.both (s9 bs)) (at66 bs) (Plain.t-call-plain 𝓤 H A W 𝓣 4 ps·0 r·0 (claims· .0)
-              (claims· .1) "hnsr_circuit::handle_close::plan_close" (known .0) E (λ pos β. β) G10 (record { pos = 16; ty = Syntax.tyRef Syntax.erased
-              Syntax.imm RelayPending.to; ref = λ x. x; }, (record { pos = 18; ty = Syntax.tyRef Syntax.erased Syntax.imm RelayCircuit.to; ref = λ x.
+              RelayPending.row ref0 6)) d66
+          d68 : Typed.Typed 𝓤 H A 𝓣 E G10 b48 Δ0 (at68 bs)
+          d68 = Typed.s-seq 𝓤 H A W 𝓣 E G10 G11 b4 b47 Δ0 (Typed.both (s9 bs)) (at67 bs) (Plain.t-call-plain 𝓤 H A W 𝓣 4 ps·0 r·0 (claims· .0)
+              (claims· .1) "hnsr_circuit::handle_close::plan_close" (known .0) E (λ pos β. β) G10 (record { pos = 17; ty = Syntax.tyRef Syntax.erased
+              Syntax.imm RelayPending.to; ref = λ x. x; }, (record { pos = 19; ty = Syntax.tyRef Syntax.erased Syntax.imm RelayCircuit.to; ref = λ x.
               x; }, (record { pos = 5; st = List.[]; d = 0; at = λ x. x }, (record { pos = 6; st = List.[]; d = 0; at = λ x. x }, (record { pos = 7;
-              ty = Syntax.tyRef (Syntax.named 4) Syntax.imm (Syntax.tyInt Syntax.w8); ref = λ x. x; }, (record { pos = 8; ty = Syntax.tyRef
-              (Syntax.named 5) Syntax.imm (Syntax.tyInt Syntax.w8); ref = λ x. x; }, tt,),),),),),) 9 (6 ∷ 7 ∷ 4 ∷ 5 ∷ List.[]) (Call.sub-id 𝓤 H A W
-              (G10 .slots)) (ShrSlice.spares-sslice 𝓤 H A W RelayPending.row ref0 6, Shared.reads-sslice 𝓤 H A W RelayPending.row ref0 6, Path.refl,
-              (ShrSlice.spares-sslice 𝓤 H A W RelayCircuit.row ref1 7, Shared.reads-sslice 𝓤 H A W RelayCircuit.row ref1 7, Path.refl,
-              ((Yields.yields-copy 𝓤 H A W (λ ρ. Unit) (Declared'.row OpaqueRelayRuntime.the-type) Path.refl (Copies.cStruct
-              OpaqueRelayRuntime.the-type Laws''''''.the-laws Laws''''''.the-copy .copy 𝓤 H A W) (Rows.whole (Declared'.row
-              OpaqueRelayRuntime.the-type)) (λ x. x) (λ x. x) (λ ρ told. Local.mem-whole 𝓤 H A W (Declared'.row OpaqueRelayRuntime.the-type) ρ) λ ρ
-              told. Local.whole-mem 𝓤 H A W (Declared'.row OpaqueRelayRuntime.the-type) ρ, Path.refl,), ((Yields.yields-copy 𝓤 H A W (λ ρ. Unit)
-              (Declared'.row RelayPacket.the-type) Path.refl (Copies.cStruct RelayPacket.the-type Laws'''''.the-laws Laws'''''.the-copy .copy 𝓤 H A W)
-              (Rows.whole (Declared'.row RelayPacket.the-type)) (λ x. x) (λ x. x) (λ ρ told. Local.mem-whole 𝓤 H A W (Declared'.row
-              RelayPacket.the-type) ρ) λ ρ told. Local.whole-mem 𝓤 H A W (Declared'.row RelayPacket.the-type) ρ, Path.refl,), (ShrSlice.spares-sslice
-              𝓤 H A W (Referent.rtF (Referent.fInt Syntax.w8)) ref11 4, Shared.reads-sslice 𝓤 H A W (Referent.rtF (Referent.fInt Syntax.w8)) ref11 4,
-              Path.refl, (ShrSlice.spares-sslice 𝓤 H A W (Referent.rtF (Referent.fInt Syntax.w8)) ref12 5, Shared.reads-sslice 𝓤 H A W (Referent.rtF
-              (Referent.fInt Syntax.w8)) ref12 5, Path.refl, tt,),),),),),) (Reads'.room-gone 𝓤 H A Laws'.mir) (tt, (tt, (tt, (tt, tt)))) Path.refl)
-              d66
-          d68 : Typed.Typed 𝓤 H A 𝓣 E G9 b49 Δ0 (at68 bs)
-          d68 = Typed.s-seq 𝓤 H A W 𝓣 E G9 G10 b3 b48 Δ0 (Typed.ask (s8 bs)) (at67 bs) (Relend.t-sl-aggregate 𝓤 H A W E RelayCircuit.row 𝓣
-              (Relend.asShr RelayCircuit.row) G9 17 18 7 ref1 ref1 (λ x. x) (Scalar.oFld 2 ((Syntax.field 1) ∷ List.[]) (Syntax.tyInt Syntax.w64) 8 λ
+              st = List.[]; d = 0; at = λ x. x }, (record { pos = 8; ty = Syntax.tyRef (Syntax.named 4) Syntax.imm (Syntax.tyInt Syntax.w8); ref = λ
+              x. x; }, (record { pos = 9; ty = Syntax.tyRef (Syntax.named 5) Syntax.imm (Syntax.tyInt Syntax.w8); ref = λ x. x; }, tt,),),),),),),) 10
+              (6 ∷ 7 ∷ 4 ∷ 5 ∷ List.[]) (Call.sub-id 𝓤 H A W (G10 .slots)) (ShrSlice.spares-sslice 𝓤 H A W RelayPending.row ref0 6,
+              Shared.reads-sslice 𝓤 H A W RelayPending.row ref0 6, Path.refl, (ShrSlice.spares-sslice 𝓤 H A W RelayCircuit.row ref1 7,
+              Shared.reads-sslice 𝓤 H A W RelayCircuit.row ref1 7, Path.refl, ((Yields.yields-copy 𝓤 H A W (λ ρ. Unit) (Declared'.row
+              OpaqueRelayRuntime.the-type) Path.refl (Copies.cStruct OpaqueRelayRuntime.the-type Laws'''''''.the-laws Laws'''''''.the-copy .copy 𝓤 H A
+              W) (Rows.whole (Declared'.row OpaqueRelayRuntime.the-type)) (λ x. x) (λ x. x) (λ ρ told. Local.mem-whole 𝓤 H A W (Declared'.row
+              OpaqueRelayRuntime.the-type) ρ) λ ρ told. Local.whole-mem 𝓤 H A W (Declared'.row OpaqueRelayRuntime.the-type) ρ, Path.refl,),
+              ((Yields.yields-copy 𝓤 H A W (λ ρ. Unit) (Declared'.row Places.the-type) Path.refl (Copies.cStruct Places.the-type Laws''.the-laws
+              Laws''.the-copy .copy 𝓤 H A W) (Rows.whole (Declared'.row Places.the-type)) (λ x. x) (λ x. x) (λ ρ told. Local.mem-whole 𝓤 H A W
+              (Declared'.row Places.the-type) ρ) λ ρ told. Local.whole-mem 𝓤 H A W (Declared'.row Places.the-type) ρ, Path.refl,),
+              ((Yields.yields-copy 𝓤 H A W (λ ρ. Unit) (Declared'.row RelayPacket.the-type) Path.refl (Copies.cStruct RelayPacket.the-type
+              Laws''''''.the-laws Laws''''''.the-copy .copy 𝓤 H A W) (Rows.whole (Declared'.row RelayPacket.the-type)) (λ x. x) (λ x. x) (λ ρ told.
+              Local.mem-whole 𝓤 H A W (Declared'.row RelayPacket.the-type) ρ) λ ρ told. Local.whole-mem 𝓤 H A W (Declared'.row RelayPacket.the-type)
+              ρ, Path.refl,), (ShrSlice.spares-sslice 𝓤 H A W (Referent.rtF (Referent.fInt Syntax.w8)) ref11 4, Shared.reads-sslice 𝓤 H A W
+              (Referent.rtF (Referent.fInt Syntax.w8)) ref11 4, Path.refl, (ShrSlice.spares-sslice 𝓤 H A W (Referent.rtF (Referent.fInt Syntax.w8))
+              ref12 5, Shared.reads-sslice 𝓤 H A W (Referent.rtF (Referent.fInt Syntax.w8)) ref12 5, Path.refl, tt,),),),),),),) (Reads'.room-gone 𝓤 H
+              A Laws'.mir) (tt, (tt, (tt, (tt, tt)))) Path.refl) d67
+          d69 : Typed.Typed 𝓤 H A 𝓣 E G9 b49 Δ0 (at69 bs)
+          d69 = Typed.s-seq 𝓤 H A W 𝓣 E G9 G10 b3 b48 Δ0 (Typed.ask (s8 bs)) (at68 bs) (Relend.t-sl-aggregate 𝓤 H A W E RelayCircuit.row 𝓣
+              (Relend.asShr RelayCircuit.row) G9 18 19 7 ref1 ref1 (λ x. x) (Scalar.oFld 2 ((Syntax.field 1) ∷ List.[]) (Syntax.tyInt Syntax.w64) 8 λ
               v. Shared.lenV (v .0)) (Reads'.as-is 𝓤 H A (Relend.ssptr RelayCircuit.row ref1 7)) (Reads'.room-gone 𝓤 H A (Syntax.tyStruct (38 ∷ 91 ∷
               93 ∷ List.[]) (Syntax.tcons ref1 (Syntax.tcons (Syntax.tyInt Syntax.w64) Syntax.tnil)))) (Reshare.reads-owedS-len 𝓤 H A W
-              RelayCircuit.row ref8 1 7 life1 8 Path.refl, Path.refl,) Path.refl Path.refl λ b o k. tt) d67
-          d69 : Typed.Typed 𝓤 H A 𝓣 E G8 b50 Δ0 (at69 bs)
-          d69 = Typed.s-seq 𝓤 H A W 𝓣 E G8 G9 b2 b49 Δ0 (Typed.give (s7 bs)) (at68 bs) (Reshare.t-sl-reshare 𝓤 H A W E RelayCircuit.row 𝓣 G8 2 17 1 7
+              RelayCircuit.row ref8 1 7 life1 8 Path.refl, Path.refl,) Path.refl Path.refl λ b o k. tt) d68
+          d70 : Typed.Typed 𝓤 H A 𝓣 E G8 b50 Δ0 (at70 bs)
+          d70 = Typed.s-seq 𝓤 H A W 𝓣 E G8 G9 b2 b49 Δ0 (Typed.give (s7 bs)) (at69 bs) (Reshare.t-sl-reshare 𝓤 H A W E RelayCircuit.row 𝓣 G8 2 18 1 7
               ref8 ref1 life1 0 (λ x. x) (Reads'.as-is 𝓤 H A (Mut.mslice RelayCircuit.row ref8 1)) (Reads'.room-gone 𝓤 H A ref1) Path.refl tt
-              Path.refl Path.refl Path.refl λ b o. tt) d68
-          d70 : Typed.Typed 𝓤 H A 𝓣 E G7 b50 Δ0 (at70 bs)
-          d70 = Typed.g-pre 𝓤 H A W 𝓣 E G7 G8 b50 Δ0 (λ Ψ. Ψ) (at69 bs) (Lifetime.g-begin 𝓤 H A W E G7 7 (tt, ((tt, tt), (tt, (tt, (tt, (tt, (tt, (tt,
-              (tt, (tt, (tt, (tt, (tt, (tt, (tt, (tt, (tt, (tt, (tt, (tt, (tt, (tt, (tt, (tt, (tt, (tt, (tt, (tt, (tt, (tt, (tt, (tt,
-              tt))),),),),),),),),),),),),),),),),),),),),),),),),),),),),),)) d69
-          d71 : Typed.Typed 𝓤 H A 𝓣 E G6 b51 Δ0 (at71 bs)
-          d71 = Typed.s-seq 𝓤 H A W 𝓣 E G6 G7 b1 b50 Δ0 (Typed.ask (s5 bs)) (at70 bs) (Relend.t-sl-aggregate 𝓤 H A W E RelayPending.row 𝓣
-              (Relend.asShr RelayPending.row) G6 15 16 6 ref0 ref0 (λ x. x) (Scalar.oFld 1 ((Syntax.field 1) ∷ List.[]) (Syntax.tyInt Syntax.w64) 8 λ
+              Path.refl Path.refl Path.refl λ b o. tt) d69
+          d71 : Typed.Typed 𝓤 H A 𝓣 E G7 b50 Δ0 (at71 bs)
+          d71 = Typed.g-pre 𝓤 H A W 𝓣 E G7 G8 b50 Δ0 (λ Ψ. Ψ) (at70 bs) (Lifetime.g-begin 𝓤 H A W E G7 7 (tt, ((tt, tt), (tt, (tt, (tt, (tt, (tt, (tt,
+              (tt, (tt, (tt, (tt, (tt, (tt, (tt, (tt, (tt, (tt, (tt, (tt, (tt, (tt, (tt, (tt, (tt, (tt, (tt, (tt, (tt, (tt, (tt, (tt, (tt,
+              tt))),),),),),),),),),),),),),),),),),),),),),),),),),),),),),),)) d70
+          d72 : Typed.Typed 𝓤 H A 𝓣 E G6 b51 Δ0 (at72 bs)
+          d72 = Typed.s-seq 𝓤 H A W 𝓣 E G6 G7 b1 b50 Δ0 (Typed.ask (s5 bs)) (at71 bs) (Relend.t-sl-aggregate 𝓤 H A W E RelayPending.row 𝓣
+              (Relend.asShr RelayPending.row) G6 16 17 6 ref0 ref0 (λ x. x) (Scalar.oFld 1 ((Syntax.field 1) ∷ List.[]) (Syntax.tyInt Syntax.w64) 8 λ
               v. Shared.lenV (v .0)) (Reads'.as-is 𝓤 H A (Relend.ssptr RelayPending.row ref0 6)) (Reads'.room-gone 𝓤 H A (Syntax.tyStruct (38 ∷ 91 ∷
               93 ∷ List.[]) (Syntax.tcons ref0 (Syntax.tcons (Syntax.tyInt Syntax.w64) Syntax.tnil)))) (Reshare.reads-owedS-len 𝓤 H A W
-              RelayPending.row ref7 0 6 life0 8 Path.refl, Path.refl,) Path.refl Path.refl λ b o k. tt) d70
-          d72 : Typed.Typed 𝓤 H A 𝓣 E G5 b52 Δ0 (at72 bs)
-          d72 = Typed.s-seq 𝓤 H A W 𝓣 E G5 G6 b0 b51 Δ0 (Typed.give (s4 bs)) (at71 bs) (Reshare.t-sl-reshare 𝓤 H A W E RelayPending.row 𝓣 G5 1 15 0 6
+              RelayPending.row ref7 0 6 life0 8 Path.refl, Path.refl,) Path.refl Path.refl λ b o k. tt) d71
+          d73 : Typed.Typed 𝓤 H A 𝓣 E G5 b52 Δ0 (at73 bs)
+          d73 = Typed.s-seq 𝓤 H A W 𝓣 E G5 G6 b0 b51 Δ0 (Typed.give (s4 bs)) (at72 bs) (Reshare.t-sl-reshare 𝓤 H A W E RelayPending.row 𝓣 G5 1 16 0 6
               ref7 ref0 life0 0 (λ x. x) (Reads'.as-is 𝓤 H A (Mut.mslice RelayPending.row ref7 0)) (Reads'.room-gone 𝓤 H A ref0) Path.refl tt
-              Path.refl Path.refl Path.refl λ b o. tt) d71
-          d73 : Typed.Typed 𝓤 H A 𝓣 E G4 b52 Δ0 (at73 bs)
-          d73 = Typed.g-pre 𝓤 H A W 𝓣 E G4 G5 b52 Δ0 (λ Ψ. Ψ) (at72 bs) (Lifetime.g-begin 𝓤 H A W E G4 6 (tt, (tt, (tt, (tt, (tt, (tt, (tt, (tt, (tt,
-              (tt, (tt, (tt, (tt, (tt, (tt, (tt, (tt, (tt, (tt, (tt, (tt, (tt, (tt, (tt, (tt, (tt, (tt, (tt, (tt, (tt, (tt, (tt,
-              tt))),),),),),),),),),),),),),),),),),),),),),),),),),),),),),)) d72
-          d74 : Typed.Typed 𝓤 H A 𝓣 E G3 b52 Δ0 (at74 bs)
-          d74 = Typed.g-pre 𝓤 H A W 𝓣 E G3 G4 b52 Δ0 (Typed.give (s2 bs)) (at73 bs) (Know.g-shs-known 𝓤 H A W (Referent.fInt Syntax.w8) E G3 8 5 ref12
+              Path.refl Path.refl Path.refl λ b o. tt) d72
+          d74 : Typed.Typed 𝓤 H A 𝓣 E G4 b52 Δ0 (at74 bs)
+          d74 = Typed.g-pre 𝓤 H A W 𝓣 E G4 G5 b52 Δ0 (λ Ψ. Ψ) (at73 bs) (Lifetime.g-begin 𝓤 H A W E G4 6 (tt, (tt, (tt, (tt, (tt, (tt, (tt, (tt, (tt,
+              (tt, (tt, (tt, (tt, (tt, (tt, (tt, (tt, (tt, (tt, (tt, (tt, (tt, (tt, (tt, (tt, (tt, (tt, (tt, (tt, (tt, (tt, (tt, (tt,
+              tt))),),),),),),),),),),),),),),),),),),),),),),),),),),),),),),)) d73
+          d75 : Typed.Typed 𝓤 H A 𝓣 E G3 b52 Δ0 (at75 bs)
+          d75 = Typed.g-pre 𝓤 H A W 𝓣 E G3 G4 b52 Δ0 (Typed.give (s2 bs)) (at74 bs) (Know.g-shs-known 𝓤 H A W (Referent.fInt Syntax.w8) E G3 9 5 ref12
               life5 0 (λ x. x) record { fits = Dec.lit< tt } (Reads'.as-is 𝓤 H A (Rows.sslice (Referent.rtF (Referent.fInt Syntax.w8)) ref12 5))
-              Path.refl tt) d73
-          d75 : Typed.Typed 𝓤 H A 𝓣 E G2 b52 Δ0 (at75 bs)
-          d75 = Typed.g-pre 𝓤 H A W 𝓣 E G2 G3 b52 Δ0 (Typed.give (s1 bs)) (at74 bs) (Know.g-shs-known 𝓤 H A W (Referent.fInt Syntax.w8) E G2 7 4 ref11
-              life4 0 (λ x. x) record { fits = Dec.lit< tt } (Reads'.as-is 𝓤 H A (Rows.sslice (Referent.rtF (Referent.fInt Syntax.w8)) ref11 4))
               Path.refl tt) d74
-          d76 : Typed.Typed 𝓤 H A 𝓣 E G0 b52 Δ0 (at76 bs)
-          d76 = Typed.g-pre 𝓤 H A W 𝓣 E G0 G2 b52 Δ0 (Typed.give (s0 bs)) (at75 bs) (Know.g-sl-known 𝓤 H A W (Referent.fInt Syntax.w32) E G0 4 3 ref10
-              life3 0 (λ x. x) record { fits = Dec.lit< tt } (Reads'.as-is 𝓤 H A (Mut.mslice (Referent.rtF (Referent.fInt Syntax.w32)) ref10 3))
+          d76 : Typed.Typed 𝓤 H A 𝓣 E G2 b52 Δ0 (at76 bs)
+          d76 = Typed.g-pre 𝓤 H A W 𝓣 E G2 G3 b52 Δ0 (Typed.give (s1 bs)) (at75 bs) (Know.g-shs-known 𝓤 H A W (Referent.fInt Syntax.w8) E G2 8 4 ref11
+              life4 0 (λ x. x) record { fits = Dec.lit< tt } (Reads'.as-is 𝓤 H A (Rows.sslice (Referent.rtF (Referent.fInt Syntax.w8)) ref11 4))
               Path.refl tt) d75
+          d77 : Typed.Typed 𝓤 H A 𝓣 E G0 b52 Δ0 (at77 bs)
+          d77 = Typed.g-pre 𝓤 H A W 𝓣 E G0 G2 b52 Δ0 (Typed.give (s0 bs)) (at76 bs) (Know.g-sl-known 𝓤 H A W (Referent.fInt Syntax.w32) E G0 4 3 ref10
+              life3 0 (λ x. x) record { fits = Dec.lit< tt } (Reads'.as-is 𝓤 H A (Mut.mslice (Referent.rtF (Referent.fInt Syntax.w32)) ref10 3))
+              Path.refl tt) d76
           pub typed : Typed.Typed 𝓤 H A 𝓣 E (Function.Γin 6 ps r xs m κs qs) b52 (Function.Δret 6 ps r xs m κs qs) (Φ bs)
-          typed = d76
+          typed = d77
       module _ (κs : Lifetimes.Lfts 6) where
         pub record Args : Type 0 where
           pub pending : Kinds.Den { n = 6 } κs (MutSlice.pMutS RelayPending.row 0 tt)
@@ -1861,23 +1956,30 @@ module _ (claims· : Claims) where
           pub inflight : Kinds.Den { n = 6 } κs (MutSlice.pMutS InflightAction.row 2 tt)
           pub out : Kinds.Den { n = 6 } κs (MutSlice.pMutS (Referent.rtF (Referent.fInt Syntax.w32)) 3 tt)
           pub runtime : Kinds.Den { n = 6 } κs (Value.pVal record { ty = Declared'.row OpaqueRelayRuntime.the-type; one = Path.refl; val =
-              Laws''''''''''.val OpaqueRelayRuntime.the-type Laws''''''.the-laws; tells = Laws''''''''''.tells OpaqueRelayRuntime.the-type
-              Laws''''''.the-laws; still = Laws''''''''''.still OpaqueRelayRuntime.the-type Laws''''''.the-copy Exit.yes; row = Rows.whole
-              (Declared'.row OpaqueRelayRuntime.the-type); rd = λ x. x; mk = λ x. x; } λ M 𝓤 H A W. record { copies = Laws''''''''''.copy
-              OpaqueRelayRuntime.the-type Laws''''''.the-copy 𝓤 H A W; lawful = Laws''''''''''.lawful OpaqueRelayRuntime.the-type Laws''''''.the-laws
-              𝓤 H A W; makes = Laws''''''''''.makes OpaqueRelayRuntime.the-type Laws''''''.the-plain 𝓤 H A; in-mem = Local.mem-whole 𝓤 H A W
-              (Declared'.row OpaqueRelayRuntime.the-type); of-mem = Local.whole-mem 𝓤 H A W (Declared'.row OpaqueRelayRuntime.the-type); })
-          pub packet : Kinds.Den { n = 6 } κs (Value.pVal record { ty = Declared'.row RelayPacket.the-type; one = Path.refl; val = Laws''''''''''.val
-              RelayPacket.the-type Laws'''''.the-laws; tells = Laws''''''''''.tells RelayPacket.the-type Laws'''''.the-laws; still =
-              Laws''''''''''.still RelayPacket.the-type Laws'''''.the-copy Exit.yes; row = Rows.whole (Declared'.row RelayPacket.the-type); rd = λ x.
-              x; mk = λ x. x; } λ M 𝓤 H A W. record { copies = Laws''''''''''.copy RelayPacket.the-type Laws'''''.the-copy 𝓤 H A W; lawful =
-              Laws''''''''''.lawful RelayPacket.the-type Laws'''''.the-laws 𝓤 H A W; makes = Laws''''''''''.makes RelayPacket.the-type
-              Laws'''''.the-plain 𝓤 H A; in-mem = Local.mem-whole 𝓤 H A W (Declared'.row RelayPacket.the-type); of-mem = Local.whole-mem 𝓤 H A W
+              Laws'''''''''''.val OpaqueRelayRuntime.the-type Laws'''''''.the-laws; tells = Laws'''''''''''.tells OpaqueRelayRuntime.the-type
+              Laws'''''''.the-laws; still = Laws'''''''''''.still OpaqueRelayRuntime.the-type Laws'''''''.the-copy Exit.yes; row = Rows.whole
+              (Declared'.row OpaqueRelayRuntime.the-type); rd = λ x. x; mk = λ x. x; } λ M 𝓤 H A W. record { copies = Laws'''''''''''.copy
+              OpaqueRelayRuntime.the-type Laws'''''''.the-copy 𝓤 H A W; lawful = Laws'''''''''''.lawful OpaqueRelayRuntime.the-type
+              Laws'''''''.the-laws 𝓤 H A W; makes = Laws'''''''''''.makes OpaqueRelayRuntime.the-type Laws'''''''.the-plain 𝓤 H A; in-mem =
+              Local.mem-whole 𝓤 H A W (Declared'.row OpaqueRelayRuntime.the-type); of-mem = Local.whole-mem 𝓤 H A W (Declared'.row
+              OpaqueRelayRuntime.the-type); })
+          pub places : Kinds.Den { n = 6 } κs (Value.pVal record { ty = Declared'.row Places.the-type; one = Path.refl; val = Laws'''''''''''.val
+              Places.the-type Laws''.the-laws; tells = Laws'''''''''''.tells Places.the-type Laws''.the-laws; still = Laws'''''''''''.still
+              Places.the-type Laws''.the-copy Exit.yes; row = Rows.whole (Declared'.row Places.the-type); rd = λ x. x; mk = λ x. x; } λ M 𝓤 H A W.
+              record { copies = Laws'''''''''''.copy Places.the-type Laws''.the-copy 𝓤 H A W; lawful = Laws'''''''''''.lawful Places.the-type
+              Laws''.the-laws 𝓤 H A W; makes = Laws'''''''''''.makes Places.the-type Laws''.the-plain 𝓤 H A; in-mem = Local.mem-whole 𝓤 H A W
+              (Declared'.row Places.the-type); of-mem = Local.whole-mem 𝓤 H A W (Declared'.row Places.the-type); })
+          pub packet : Kinds.Den { n = 6 } κs (Value.pVal record { ty = Declared'.row RelayPacket.the-type; one = Path.refl; val = Laws'''''''''''.val
+              RelayPacket.the-type Laws''''''.the-laws; tells = Laws'''''''''''.tells RelayPacket.the-type Laws''''''.the-laws; still =
+              Laws'''''''''''.still RelayPacket.the-type Laws''''''.the-copy Exit.yes; row = Rows.whole (Declared'.row RelayPacket.the-type); rd = λ
+              x. x; mk = λ x. x; } λ M 𝓤 H A W. record { copies = Laws'''''''''''.copy RelayPacket.the-type Laws''''''.the-copy 𝓤 H A W; lawful =
+              Laws'''''''''''.lawful RelayPacket.the-type Laws''''''.the-laws 𝓤 H A W; makes = Laws'''''''''''.makes RelayPacket.the-type
+              Laws''''''.the-plain 𝓤 H A; in-mem = Local.mem-whole 𝓤 H A W (Declared'.row RelayPacket.the-type); of-mem = Local.whole-mem 𝓤 H A W
               (Declared'.row RelayPacket.the-type); })
           pub source : Kinds.Den { n = 6 } κs (ShrSlice.pShrS (Referent.rtF (Referent.fInt Syntax.w8)) 4 tt)
           pub body : Kinds.Den { n = 6 } κs (ShrSlice.pShrS (Referent.rtF (Referent.fInt Syntax.w8)) 5 tt)
         abbrev pub dens : (a : Args) → Kinds.Dens κs ps
-        dens = λ a. (a .pending, (a .circuits, (a .inflight, (a .out, (a .runtime, (a .packet, (a .source, (a .body, tt)))))),),)
+        dens = λ a. (a .pending, (a .circuits, (a .inflight, (a .out, (a .runtime, (a .places, (a .packet, (a .source, (a .body, tt)))))),),),)
       abbrev pub m0 : (κs : Lifetimes.Lfts 6) → (args : Args κs) → (blocks : List.List Nat.ℕ) → Typed.Mo T0
       m0 = λ κs args blocks. (tt, Enter.partsP κs 1 ps xs (dens κs args))
       abbrev W0 : (κs : Lifetimes.Lfts 6) → (args : Args κs) → (blocks : List.List Nat.ℕ) → Typed.Want O0
@@ -1948,21 +2050,23 @@ module _ (claims· : Claims) where
           given
       module _ (before· : After-plan-close-arg2) where
         abbrev pub After-plan-close·own : Type 0
-        After-plan-close·own = Called.Called ps·0 r·0 (claims· .1) T10 (record { pos = 16; ty = Syntax.tyRef Syntax.erased Syntax.imm RelayPending.to;
-            ref = λ x. x; }, (record { pos = 18; ty = Syntax.tyRef Syntax.erased Syntax.imm RelayCircuit.to; ref = λ x. x; }, (record { pos = 5; st =
-            List.[]; d = 0; at = λ x. x }, (record { pos = 6; st = List.[]; d = 0; at = λ x. x }, (record { pos = 7; ty = Syntax.tyRef (Syntax.named
-            4) Syntax.imm (Syntax.tyInt Syntax.w8); ref = λ x. x; }, (record { pos = 8; ty = Syntax.tyRef (Syntax.named 5) Syntax.imm (Syntax.tyInt
-            Syntax.w8); ref = λ x. x; }, tt,),),),),),) (m7 (before· .before) (before· .plan-close-arg2 .given))
+        After-plan-close·own = Called.Called ps·0 r·0 (claims· .1) T10 (record { pos = 17; ty = Syntax.tyRef Syntax.erased Syntax.imm RelayPending.to;
+            ref = λ x. x; }, (record { pos = 19; ty = Syntax.tyRef Syntax.erased Syntax.imm RelayCircuit.to; ref = λ x. x; }, (record { pos = 5; st =
+            List.[]; d = 0; at = λ x. x }, (record { pos = 6; st = List.[]; d = 0; at = λ x. x }, (record { pos = 7; st = List.[]; d = 0; at = λ x. x
+            }, (record { pos = 8; ty = Syntax.tyRef (Syntax.named 4) Syntax.imm (Syntax.tyInt Syntax.w8); ref = λ x. x; }, (record { pos = 9; ty =
+            Syntax.tyRef (Syntax.named 5) Syntax.imm (Syntax.tyInt Syntax.w8); ref = λ x. x; }, tt,),),),),),),) (m7 (before· .before) (before·
+            .plan-close-arg2 .given))
       pub record After-plan-close : Type 0 where
         pub before : After-plan-close-arg2
         pub plan-close : After-plan-close·own before
       abbrev pub After-plan-close·gave : (c : After-plan-close) → s9 (c .before .before .before .before .before .before .blocks) .gives (m7 (c .before
           .before) (c .before .plan-close-arg2 .given))
-      After-plan-close·gave = λ c. Called.given ps·0 r·0 (claims· .1) T10 (record { pos = 16; ty = Syntax.tyRef Syntax.erased Syntax.imm
-          RelayPending.to; ref = λ x. x; }, (record { pos = 18; ty = Syntax.tyRef Syntax.erased Syntax.imm RelayCircuit.to; ref = λ x. x; }, (record {
-          pos = 5; st = List.[]; d = 0; at = λ x. x }, (record { pos = 6; st = List.[]; d = 0; at = λ x. x }, (record { pos = 7; ty = Syntax.tyRef
-          (Syntax.named 4) Syntax.imm (Syntax.tyInt Syntax.w8); ref = λ x. x; }, (record { pos = 8; ty = Syntax.tyRef (Syntax.named 5) Syntax.imm
-          (Syntax.tyInt Syntax.w8); ref = λ x. x; }, tt,),),),),),) (m7 (c .before .before) (c .before .plan-close-arg2 .given)) (c .plan-close)
+      After-plan-close·gave = λ c. Called.given ps·0 r·0 (claims· .1) T10 (record { pos = 17; ty = Syntax.tyRef Syntax.erased Syntax.imm
+          RelayPending.to; ref = λ x. x; }, (record { pos = 19; ty = Syntax.tyRef Syntax.erased Syntax.imm RelayCircuit.to; ref = λ x. x; }, (record {
+          pos = 5; st = List.[]; d = 0; at = λ x. x }, (record { pos = 6; st = List.[]; d = 0; at = λ x. x }, (record { pos = 7; st = List.[]; d = 0;
+          at = λ x. x }, (record { pos = 8; ty = Syntax.tyRef (Syntax.named 4) Syntax.imm (Syntax.tyInt Syntax.w8); ref = λ x. x; }, (record { pos =
+          9; ty = Syntax.tyRef (Syntax.named 5) Syntax.imm (Syntax.tyInt Syntax.w8); ref = λ x. x; }, tt,),),),),),),) (m7 (c .before .before) (c
+          .before .plan-close-arg2 .given)) (c .plan-close)
       abbrev pub m9 : (before : After-plan-close-arg2) → (given : s9 (before .before .before .before .before .before .blocks) .gives (m7 (before
           .before) (before .plan-close-arg2 .given))) → Typed.Mo T12
       m9 = λ before given. s10 (before .before .before .before .before .before .blocks) (m8 before given)
@@ -2029,19 +2133,19 @@ module _ (claims· : Claims) where
           (before .unmark-pending-arg .given)) given
       module _ (before· : After-unmark-pending-arg) where
         abbrev pub After-unmark-pending·own : Type 0
-        After-unmark-pending·own = Called.Called ps·1 r·1 (claims· .3) T27 (record { pos = 21; ty = Syntax.tyRef Syntax.erased Syntax.mut
-            RelayPending.to; ref = λ x. x; }, (Bool.bFld 9 ((Syntax.field 2) ∷ List.[]) 49 λ x. ClosePlan.struct .as-values x .1 .1 .0, (Num.vFld 9
-            ((Syntax.field 4) ∷ List.[]) 56 λ x. ClosePlan.struct .as-values x .1 .1 .1 .1 .0, tt,),),) (m19 (before· .before) (before·
-            .unmark-pending-arg .given))
+        After-unmark-pending·own = Called.Called ps·1 r·1 (claims· .3) T27 (record { pos = 22; ty = Syntax.tyRef Syntax.erased Syntax.mut
+            RelayPending.to; ref = λ x. x; }, (record { pos = 6; st = List.[]; d = 0; at = λ x. x }, (Bool.bFld 10 ((Syntax.field 2) ∷ List.[]) 49 λ
+            x. ClosePlan.struct .as-values x .1 .1 .0, (Num.vFld 10 ((Syntax.field 4) ∷ List.[]) 56 λ x. ClosePlan.struct .as-values x .1 .1 .1 .1 .0,
+            tt,),),),) (m19 (before· .before) (before· .unmark-pending-arg .given))
       pub record After-unmark-pending : Type 0 where
         pub before : After-unmark-pending-arg
         pub unmark-pending : After-unmark-pending·own before
       abbrev pub After-unmark-pending·gave : (c : After-unmark-pending) → s26 (c .before .before .before .before .before .before .before .before
           .before .before .blocks) .gives (m19 (c .before .before) (c .before .unmark-pending-arg .given))
-      After-unmark-pending·gave = λ c. Called.given ps·1 r·1 (claims· .3) T27 (record { pos = 21; ty = Syntax.tyRef Syntax.erased Syntax.mut
-          RelayPending.to; ref = λ x. x; }, (Bool.bFld 9 ((Syntax.field 2) ∷ List.[]) 49 λ x. ClosePlan.struct .as-values x .1 .1 .0, (Num.vFld 9
-          ((Syntax.field 4) ∷ List.[]) 56 λ x. ClosePlan.struct .as-values x .1 .1 .1 .1 .0, tt,),),) (m19 (c .before .before) (c .before
-          .unmark-pending-arg .given)) (c .unmark-pending)
+      After-unmark-pending·gave = λ c. Called.given ps·1 r·1 (claims· .3) T27 (record { pos = 22; ty = Syntax.tyRef Syntax.erased Syntax.mut
+          RelayPending.to; ref = λ x. x; }, (record { pos = 6; st = List.[]; d = 0; at = λ x. x }, (Bool.bFld 10 ((Syntax.field 2) ∷ List.[]) 49 λ x.
+          ClosePlan.struct .as-values x .1 .1 .0, (Num.vFld 10 ((Syntax.field 4) ∷ List.[]) 56 λ x. ClosePlan.struct .as-values x .1 .1 .1 .1 .0,
+          tt,),),),) (m19 (c .before .before) (c .before .unmark-pending-arg .given)) (c .unmark-pending)
       abbrev pub m21 : (before : After-unmark-pending-arg) → (given : s26 (before .before .before .before .before .before .before .before .before
           .before .blocks) .gives (m19 (before .before) (before .unmark-pending-arg .given))) → Typed.Mo T29
       m21 = λ before given. s27 (before .before .before .before .before .before .before .before .before .before .blocks) (m20 before given)
@@ -2080,19 +2184,19 @@ module _ (claims· : Claims) where
           (m24 (before .before) (before .unmark-circuit-arg .given)) given
       module _ (before· : After-unmark-circuit-arg) where
         abbrev pub After-unmark-circuit·own : Type 0
-        After-unmark-circuit·own = Called.Called ps·2 r·2 (claims· .5) T35 (record { pos = 23; ty = Syntax.tyRef Syntax.erased Syntax.mut
-            RelayCircuit.to; ref = λ x. x; }, (Bool.bFld 9 ((Syntax.field 3) ∷ List.[]) 50 λ x. ClosePlan.struct .as-values x .1 .1 .1 .0, (Num.vFld 9
-            ((Syntax.field 5) ∷ List.[]) 64 λ x. ClosePlan.struct .as-values x .1 .1 .1 .1 .1 .0, tt,),),) (m24 (before· .before) (before·
-            .unmark-circuit-arg .given))
+        After-unmark-circuit·own = Called.Called ps·2 r·2 (claims· .5) T35 (record { pos = 24; ty = Syntax.tyRef Syntax.erased Syntax.mut
+            RelayCircuit.to; ref = λ x. x; }, (record { pos = 6; st = List.[]; d = 0; at = λ x. x }, (Bool.bFld 10 ((Syntax.field 3) ∷ List.[]) 50 λ
+            x. ClosePlan.struct .as-values x .1 .1 .1 .0, (Num.vFld 10 ((Syntax.field 5) ∷ List.[]) 64 λ x. ClosePlan.struct .as-values x .1 .1 .1 .1
+            .1 .0, tt,),),),) (m24 (before· .before) (before· .unmark-circuit-arg .given))
       pub record After-unmark-circuit : Type 0 where
         pub before : After-unmark-circuit-arg
         pub unmark-circuit : After-unmark-circuit·own before
       abbrev pub After-unmark-circuit·gave : (c : After-unmark-circuit) → s34 (c .before .before .before .before .before .before .before .before
           .before .before .before .before .before .blocks) .gives (m24 (c .before .before) (c .before .unmark-circuit-arg .given))
-      After-unmark-circuit·gave = λ c. Called.given ps·2 r·2 (claims· .5) T35 (record { pos = 23; ty = Syntax.tyRef Syntax.erased Syntax.mut
-          RelayCircuit.to; ref = λ x. x; }, (Bool.bFld 9 ((Syntax.field 3) ∷ List.[]) 50 λ x. ClosePlan.struct .as-values x .1 .1 .1 .0, (Num.vFld 9
-          ((Syntax.field 5) ∷ List.[]) 64 λ x. ClosePlan.struct .as-values x .1 .1 .1 .1 .1 .0, tt,),),) (m24 (c .before .before) (c .before
-          .unmark-circuit-arg .given)) (c .unmark-circuit)
+      After-unmark-circuit·gave = λ c. Called.given ps·2 r·2 (claims· .5) T35 (record { pos = 24; ty = Syntax.tyRef Syntax.erased Syntax.mut
+          RelayCircuit.to; ref = λ x. x; }, (record { pos = 6; st = List.[]; d = 0; at = λ x. x }, (Bool.bFld 10 ((Syntax.field 3) ∷ List.[]) 50 λ x.
+          ClosePlan.struct .as-values x .1 .1 .1 .0, (Num.vFld 10 ((Syntax.field 5) ∷ List.[]) 64 λ x. ClosePlan.struct .as-values x .1 .1 .1 .1 .1
+          .0, tt,),),),) (m24 (c .before .before) (c .before .unmark-circuit-arg .given)) (c .unmark-circuit)
       abbrev pub m26 : (before : After-unmark-circuit-arg) → (given : s34 (before .before .before .before .before .before .before .before .before
           .before .before .before .before .blocks) .gives (m24 (before .before) (before .unmark-circuit-arg .given))) → Typed.Mo T37
       m26 = λ before given. s35 (before .before .before .before .before .before .before .before .before .before .before .before .before .blocks) (m25
@@ -2133,19 +2237,19 @@ module _ (claims· : Claims) where
           .before .before .blocks) .next (m29 (before .before) (before .drop-actions-arg .given)) given
       module _ (before· : After-drop-actions-arg) where
         abbrev pub After-drop-actions·own : Type 0
-        After-drop-actions·own = Called.Called ps·3 r·3 (claims· .7) T43 (record { pos = 25; ty = Syntax.tyRef Syntax.erased Syntax.mut
-            InflightAction.to; ref = λ x. x; }, (Bool.bFld 9 ((Syntax.field 1) ∷ List.[]) 48 λ x. ClosePlan.struct .as-values x .1 .0, (Num.vFld 9
-            ((Syntax.field 6) ∷ List.[]) 72 λ x. ClosePlan.struct .as-values x .1 .1 .1 .1 .1 .1 .0, tt,),),) (m29 (before· .before) (before·
-            .drop-actions-arg .given))
+        After-drop-actions·own = Called.Called ps·3 r·3 (claims· .7) T43 (record { pos = 26; ty = Syntax.tyRef Syntax.erased Syntax.mut
+            InflightAction.to; ref = λ x. x; }, (record { pos = 6; st = List.[]; d = 0; at = λ x. x }, (Bool.bFld 10 ((Syntax.field 1) ∷ List.[]) 48 λ
+            x. ClosePlan.struct .as-values x .1 .0, (Num.vFld 10 ((Syntax.field 6) ∷ List.[]) 72 λ x. ClosePlan.struct .as-values x .1 .1 .1 .1 .1 .1
+            .0, tt,),),),) (m29 (before· .before) (before· .drop-actions-arg .given))
       pub record After-drop-actions : Type 0 where
         pub before : After-drop-actions-arg
         pub drop-actions : After-drop-actions·own before
       abbrev pub After-drop-actions·gave : (c : After-drop-actions) → s42 (c .before .before .before .before .before .before .before .before .before
           .before .before .before .before .before .before .before .blocks) .gives (m29 (c .before .before) (c .before .drop-actions-arg .given))
-      After-drop-actions·gave = λ c. Called.given ps·3 r·3 (claims· .7) T43 (record { pos = 25; ty = Syntax.tyRef Syntax.erased Syntax.mut
-          InflightAction.to; ref = λ x. x; }, (Bool.bFld 9 ((Syntax.field 1) ∷ List.[]) 48 λ x. ClosePlan.struct .as-values x .1 .0, (Num.vFld 9
-          ((Syntax.field 6) ∷ List.[]) 72 λ x. ClosePlan.struct .as-values x .1 .1 .1 .1 .1 .1 .0, tt,),),) (m29 (c .before .before) (c .before
-          .drop-actions-arg .given)) (c .drop-actions)
+      After-drop-actions·gave = λ c. Called.given ps·3 r·3 (claims· .7) T43 (record { pos = 26; ty = Syntax.tyRef Syntax.erased Syntax.mut
+          InflightAction.to; ref = λ x. x; }, (record { pos = 6; st = List.[]; d = 0; at = λ x. x }, (Bool.bFld 10 ((Syntax.field 1) ∷ List.[]) 48 λ
+          x. ClosePlan.struct .as-values x .1 .0, (Num.vFld 10 ((Syntax.field 6) ∷ List.[]) 72 λ x. ClosePlan.struct .as-values x .1 .1 .1 .1 .1 .1
+          .0, tt,),),),) (m29 (c .before .before) (c .before .drop-actions-arg .given)) (c .drop-actions)
       abbrev pub m31 : (before : After-drop-actions-arg) → (given : s42 (before .before .before .before .before .before .before .before .before
           .before .before .before .before .before .before .before .blocks) .gives (m29 (before .before) (before .drop-actions-arg .given))) → Typed.Mo
           T45
@@ -2178,14 +2282,14 @@ module _ (claims· : Claims) where
           .before .before .before .before .blocks) .next (m33 (before .before) (before .inflight .given)) given
       module _ (before· : After-inflight) where
         abbrev pub After-asking·own : Type 0
-        After-asking·own = Called.Called ps·4 r·4 (claims· .9) T48 (record { pos = 11; st = List.[]; d = 0; at = λ x. x }, (record { pos = 12; st =
+        After-asking·own = Called.Called ps·4 r·4 (claims· .9) T48 (record { pos = 12; st = List.[]; d = 0; at = λ x. x }, (record { pos = 13; st =
             List.[]; d = 0; at = λ x. x }, tt),) (m33 (before· .before) (before· .inflight .given))
       pub record After-asking : Type 0 where
         pub before : After-inflight
         pub asking : After-asking·own before
       abbrev pub After-asking·gave : (c : After-asking) → s48 (c .before .before .before .before .before .before .before .before .before .before
           .before .before .before .before .before .before .before .before .blocks) .gives (m33 (c .before .before) (c .before .inflight .given))
-      After-asking·gave = λ c. Called.given ps·4 r·4 (claims· .9) T48 (record { pos = 11; st = List.[]; d = 0; at = λ x. x }, (record { pos = 12; st =
+      After-asking·gave = λ c. Called.given ps·4 r·4 (claims· .9) T48 (record { pos = 12; st = List.[]; d = 0; at = λ x. x }, (record { pos = 13; st =
           List.[]; d = 0; at = λ x. x }, tt),) (m33 (c .before .before) (c .before .inflight .given)) (c .asking)
       abbrev pub m35 : (before : After-asking) → (given : s50 (before .before .before .before .before .before .before .before .before .before .before
           .before .before .before .before .before .before .before .before .blocks) .gives (m34 (before .before) (After-asking·gave before))) →
@@ -2215,18 +2319,18 @@ module _ (claims· : Claims) where
           .before .before .before .before .before .before .blocks) .next (m36 (before .before) (before .scan-actions-arg .given)) given
       module _ (before· : After-scan-actions-arg) where
         abbrev pub After-scan-actions·own : Type 0
-        After-scan-actions·own = Called.Called ps·5 r·5 (claims· .11) T53 (record { pos = 27; ty = Syntax.tyRef Syntax.erased Syntax.imm
-            InflightAction.to; ref = λ x. x; }, (record { pos = 13; st = List.[]; d = 0; at = λ x. x }, tt),) (m36 (before· .before) (before·
-            .scan-actions-arg .given))
+        After-scan-actions·own = Called.Called ps·5 r·5 (claims· .11) T53 (record { pos = 28; ty = Syntax.tyRef Syntax.erased Syntax.imm
+            InflightAction.to; ref = λ x. x; }, (record { pos = 6; st = List.[]; d = 0; at = λ x. x }, (record { pos = 14; st = List.[]; d = 0; at = λ
+            x. x }, tt),),) (m36 (before· .before) (before· .scan-actions-arg .given))
       pub record After-scan-actions : Type 0 where
         pub before : After-scan-actions-arg
         pub scan-actions : After-scan-actions·own before
       abbrev pub After-scan-actions·gave : (c : After-scan-actions) → s52 (c .before .before .before .before .before .before .before .before .before
           .before .before .before .before .before .before .before .before .before .before .before .blocks) .gives (m36 (c .before .before) (c .before
           .scan-actions-arg .given))
-      After-scan-actions·gave = λ c. Called.given ps·5 r·5 (claims· .11) T53 (record { pos = 27; ty = Syntax.tyRef Syntax.erased Syntax.imm
-          InflightAction.to; ref = λ x. x; }, (record { pos = 13; st = List.[]; d = 0; at = λ x. x }, tt),) (m36 (c .before .before) (c .before
-          .scan-actions-arg .given)) (c .scan-actions)
+      After-scan-actions·gave = λ c. Called.given ps·5 r·5 (claims· .11) T53 (record { pos = 28; ty = Syntax.tyRef Syntax.erased Syntax.imm
+          InflightAction.to; ref = λ x. x; }, (record { pos = 6; st = List.[]; d = 0; at = λ x. x }, (record { pos = 14; st = List.[]; d = 0; at = λ
+          x. x }, tt),),) (m36 (c .before .before) (c .before .scan-actions-arg .given)) (c .scan-actions)
       abbrev pub m38 : (before : After-scan-actions-arg) → (given : s52 (before .before .before .before .before .before .before .before .before
           .before .before .before .before .before .before .before .before .before .before .before .blocks) .gives (m36 (before .before) (before
           .scan-actions-arg .given))) → Typed.Mo T55
@@ -2288,22 +2392,24 @@ module _ (claims· : Claims) where
           given
       module _ (before· : After-send-arg2) where
         abbrev pub After-send·own : Type 0
-        After-send·own = Called.Called ps·6 r·6 (claims· .13) T65 (record { pos = 29; ty = Syntax.tyRef Syntax.erased Syntax.mut InflightAction.to;
-            ref = λ x. x; }, (record { pos = 31; ty = Syntax.tyRef Syntax.erased Syntax.mut (Syntax.tyInt Syntax.w32); ref = λ x. x; }, (record { pos
-            = 10; st = List.[]; d = 0; at = λ x. x }, (record { pos = 11; st = List.[]; d = 0; at = λ x. x }, (record { pos = 12; st = List.[]; d = 0;
-            at = λ x. x }, (record { pos = 14; st = List.[]; d = 0; at = λ x. x }, (record { pos = 8; ty = Syntax.tyRef (Syntax.named 5) Syntax.imm
-            (Syntax.tyInt Syntax.w8); ref = λ x. x; }, tt,),),),),),),) (m44 (before· .before) (before· .send-arg2 .given))
+        After-send·own = Called.Called ps·6 r·6 (claims· .13) T65 (record { pos = 30; ty = Syntax.tyRef Syntax.erased Syntax.mut InflightAction.to;
+            ref = λ x. x; }, (record { pos = 32; ty = Syntax.tyRef Syntax.erased Syntax.mut (Syntax.tyInt Syntax.w32); ref = λ x. x; }, (record { pos
+            = 11; st = List.[]; d = 0; at = λ x. x }, (record { pos = 12; st = List.[]; d = 0; at = λ x. x }, (record { pos = 6; st = List.[]; d = 0;
+            at = λ x. x }, (record { pos = 13; st = List.[]; d = 0; at = λ x. x }, (record { pos = 15; st = List.[]; d = 0; at = λ x. x }, (record {
+            pos = 9; ty = Syntax.tyRef (Syntax.named 5) Syntax.imm (Syntax.tyInt Syntax.w8); ref = λ x. x; }, tt,),),),),),),),) (m44 (before·
+            .before) (before· .send-arg2 .given))
       pub record After-send : Type 0 where
         pub before : After-send-arg2
         pub send : After-send·own before
       abbrev pub After-send·gave : (c : After-send) → s64 (c .before .before .before .before .before .before .before .before .before .before .before
           .before .before .before .before .before .before .before .before .before .before .before .before .blocks) .gives (m44 (c .before .before) (c
           .before .send-arg2 .given))
-      After-send·gave = λ c. Called.given ps·6 r·6 (claims· .13) T65 (record { pos = 29; ty = Syntax.tyRef Syntax.erased Syntax.mut InflightAction.to;
-          ref = λ x. x; }, (record { pos = 31; ty = Syntax.tyRef Syntax.erased Syntax.mut (Syntax.tyInt Syntax.w32); ref = λ x. x; }, (record { pos =
-          10; st = List.[]; d = 0; at = λ x. x }, (record { pos = 11; st = List.[]; d = 0; at = λ x. x }, (record { pos = 12; st = List.[]; d = 0; at
-          = λ x. x }, (record { pos = 14; st = List.[]; d = 0; at = λ x. x }, (record { pos = 8; ty = Syntax.tyRef (Syntax.named 5) Syntax.imm
-          (Syntax.tyInt Syntax.w8); ref = λ x. x; }, tt,),),),),),),) (m44 (c .before .before) (c .before .send-arg2 .given)) (c .send)
+      After-send·gave = λ c. Called.given ps·6 r·6 (claims· .13) T65 (record { pos = 30; ty = Syntax.tyRef Syntax.erased Syntax.mut InflightAction.to;
+          ref = λ x. x; }, (record { pos = 32; ty = Syntax.tyRef Syntax.erased Syntax.mut (Syntax.tyInt Syntax.w32); ref = λ x. x; }, (record { pos =
+          11; st = List.[]; d = 0; at = λ x. x }, (record { pos = 12; st = List.[]; d = 0; at = λ x. x }, (record { pos = 6; st = List.[]; d = 0; at =
+          λ x. x }, (record { pos = 13; st = List.[]; d = 0; at = λ x. x }, (record { pos = 15; st = List.[]; d = 0; at = λ x. x }, (record { pos = 9;
+          ty = Syntax.tyRef (Syntax.named 5) Syntax.imm (Syntax.tyInt Syntax.w8); ref = λ x. x; }, tt,),),),),),),),) (m44 (c .before .before) (c
+          .before .send-arg2 .given)) (c .send)
       abbrev pub m46 : (before : After-send-arg2) → (given : s64 (before .before .before .before .before .before .before .before .before .before
           .before .before .before .before .before .before .before .before .before .before .before .before .before .blocks) .gives (m44 (before
           .before) (before .send-arg2 .given))) → Typed.Mo T67
@@ -2324,68 +2430,73 @@ module _ (claims· : Claims) where
           .before) (before .send-arg2 .given))) → Typed.Mo T70
       m49 = λ before given. s68 (before .before .before .before .before .before .before .before .before .before .before .before .before .before
           .before .before .before .before .before .before .before .before .before .blocks) (m48 before given)
-      abbrev pub m50 : (before : After-send) → (given : s70 (before .before .before .before .before .before .before .before .before .before .before
-          .before .before .before .before .before .before .before .before .before .before .before .before .before .blocks) .gives (m49 (before
-          .before) (After-send·gave before))) → Typed.Mo T72
-      m50 = λ before given. s70 (before .before .before .before .before .before .before .before .before .before .before .before .before .before
-          .before .before .before .before .before .before .before .before .before .before .blocks) .next (m49 (before .before) (After-send·gave
+      abbrev pub m50 : (before : After-send-arg2) → (given : s64 (before .before .before .before .before .before .before .before .before .before
+          .before .before .before .before .before .before .before .before .before .before .before .before .before .blocks) .gives (m44 (before
+          .before) (before .send-arg2 .given))) → Typed.Mo T71
+      m50 = λ before given. s69 (before .before .before .before .before .before .before .before .before .before .before .before .before .before
+          .before .before .before .before .before .before .before .before .before .blocks) (m49 before given)
+      abbrev pub m51 : (before : After-send) → (given : s71 (before .before .before .before .before .before .before .before .before .before .before
+          .before .before .before .before .before .before .before .before .before .before .before .before .before .blocks) .gives (m50 (before
+          .before) (After-send·gave before))) → Typed.Mo T73
+      m51 = λ before given. s71 (before .before .before .before .before .before .before .before .before .before .before .before .before .before
+          .before .before .before .before .before .before .before .before .before .before .blocks) .next (m50 (before .before) (After-send·gave
           before)) given
       module _ (before· : After-send) where
         pub record After-inflight2·own : Type 0 where
-          pub given : s70 (before· .before .before .before .before .before .before .before .before .before .before .before .before .before .before
-              .before .before .before .before .before .before .before .before .before .blocks) .gives (m49 (before· .before) (After-send·gave
+          pub given : s71 (before· .before .before .before .before .before .before .before .before .before .before .before .before .before .before
+              .before .before .before .before .before .before .before .before .before .blocks) .gives (m50 (before· .before) (After-send·gave
               before·))
       pub record After-inflight2 : Type 0 where
         pub before : After-send
         pub inflight2 : After-inflight2·own before
-      abbrev pub m51 : (before : After-inflight2) → (given : s73 (before .before .before .before .before .before .before .before .before .before
-          .before .before .before .before .before .before .before .before .before .before .before .before .before .before .before .blocks) .gives (m50
-          (before .before) (before .inflight2 .given))) → Typed.Mo T75
-      m51 = λ before given. s73 (before .before .before .before .before .before .before .before .before .before .before .before .before .before
-          .before .before .before .before .before .before .before .before .before .before .before .blocks) .next (m50 (before .before) (before
+      abbrev pub m52 : (before : After-inflight2) → (given : s74 (before .before .before .before .before .before .before .before .before .before
+          .before .before .before .before .before .before .before .before .before .before .before .before .before .before .before .blocks) .gives (m51
+          (before .before) (before .inflight2 .given))) → Typed.Mo T76
+      m52 = λ before given. s74 (before .before .before .before .before .before .before .before .before .before .before .before .before .before
+          .before .before .before .before .before .before .before .before .before .before .before .blocks) .next (m51 (before .before) (before
           .inflight2 .given)) given
       module _ (before· : After-inflight2) where
         pub record After-out·own : Type 0 where
-          pub given : s73 (before· .before .before .before .before .before .before .before .before .before .before .before .before .before .before
-              .before .before .before .before .before .before .before .before .before .before .blocks) .gives (m50 (before· .before) (before·
+          pub given : s74 (before· .before .before .before .before .before .before .before .before .before .before .before .before .before .before
+              .before .before .before .before .before .before .before .before .before .before .blocks) .gives (m51 (before· .before) (before·
               .inflight2 .given))
       pub record After-out : Type 0 where
         pub before : After-inflight2
         pub out : After-out·own before
-      abbrev pub m52 : (before : After-out) → (given : s74 (before .before .before .before .before .before .before .before .before .before .before
-          .before .before .before .before .before .before .before .before .before .before .before .before .before .before .before .blocks) .gives (m51
-          (before .before) (before .out .given))) → Typed.Mo T76
-      m52 = λ before given. s74 (before .before .before .before .before .before .before .before .before .before .before .before .before .before
-          .before .before .before .before .before .before .before .before .before .before .before .before .blocks) .next (m51 (before .before) (before
+      abbrev pub m53 : (before : After-out) → (given : s75 (before .before .before .before .before .before .before .before .before .before .before
+          .before .before .before .before .before .before .before .before .before .before .before .before .before .before .before .blocks) .gives (m52
+          (before .before) (before .out .given))) → Typed.Mo T77
+      m53 = λ before given. s75 (before .before .before .before .before .before .before .before .before .before .before .before .before .before
+          .before .before .before .before .before .before .before .before .before .before .before .before .blocks) .next (m52 (before .before) (before
           .out .given)) given
       module _ (before· : After-out) where
         pub record After-slice-known2·own : Type 0 where
-          pub given : s74 (before· .before .before .before .before .before .before .before .before .before .before .before .before .before .before
-              .before .before .before .before .before .before .before .before .before .before .before .blocks) .gives (m51 (before· .before) (before·
+          pub given : s75 (before· .before .before .before .before .before .before .before .before .before .before .before .before .before .before
+              .before .before .before .before .before .before .before .before .before .before .before .blocks) .gives (m52 (before· .before) (before·
               .out .given))
       pub record After-slice-known2 : Type 0 where
         pub before : After-out
         pub slice-known2 : After-slice-known2·own before
       abbrev pub Need-same-length : Type 0
-      Need-same-length = (c : After-slice-known2) → MutSlice.SameLen (Row.get 1 (T76 .locals) (m52 (c .before) (c .slice-known2 .given))) (dens (c
+      Need-same-length = (c : After-slice-known2) → MutSlice.SameLen (Row.get 1 (T77 .locals) (m53 (c .before) (c .slice-known2 .given))) (dens (c
           .before .before .before .before .before .before .before .before .before .before .before .before .before .before .before .before .before
           .before .before .before .before .before .before .before .before .before .κs) (c .before .before .before .before .before .before .before
           .before .before .before .before .before .before .before .before .before .before .before .before .before .before .before .before .before
           .before .before .args) .0)
       abbrev pub Need-same-length-2 : Type 0
-      Need-same-length-2 = (c : After-slice-known2) → MutSlice.SameLen (Row.get 2 (T76 .locals) (m52 (c .before) (c .slice-known2 .given))) (dens (c
+      Need-same-length-2 = (c : After-slice-known2) → MutSlice.SameLen (Row.get 2 (T77 .locals) (m53 (c .before) (c .slice-known2 .given))) (dens (c
           .before .before .before .before .before .before .before .before .before .before .before .before .before .before .before .before .before
           .before .before .before .before .before .before .before .before .before .κs) (c .before .before .before .before .before .before .before
           .before .before .before .before .before .before .before .before .before .before .before .before .before .before .before .before .before
           .before .before .args) .1 .0)
       abbrev pub Need-same-length-3 : Type 0
-      Need-same-length-3 = (c : After-slice-known2) → MutSlice.SameLen (Row.get 3 (T76 .locals) (m52 (c .before) (c .slice-known2 .given))) (dens (c
+      Need-same-length-3 = (c : After-slice-known2) → MutSlice.SameLen (Row.get 3 (T77 .locals) (m53 (c .before) (c .slice-known2 .given))) (dens (c
           .before .before .before .before .before .before .before .before .before .before .before .before .before .before .before .before .before
           .before .before .before .before .before .before .before .before .before .κs) (c .before .before .before .before .before .before .before
           .before .before .before .before .before .before .before .before .before .before .before .before .before .before .before .before .before
           .before .before .args) .1 .1 .0)
       abbrev pub Need-same-length-4 : Type 0
-      Need-same-length-4 = (c : After-slice-known2) → MutSlice.SameLen (Row.get 4 (T76 .locals) (m52 (c .before) (c .slice-known2 .given))) (dens (c
+      Need-same-length-4 = (c : After-slice-known2) → MutSlice.SameLen (Row.get 4 (T77 .locals) (m53 (c .before) (c .slice-known2 .given))) (dens (c
           .before .before .before .before .before .before .before .before .before .before .before .before .before .before .before .before .before
           .before .before .before .before .before .before .before .before .before .κs) (c .before .before .before .before .before .before .before
           .before .before .before .before .before .before .before .before .before .before .before .before .before .before .before .before .before
@@ -2397,7 +2508,7 @@ module _ (claims· : Claims) where
           .before .before .before .before .before .before .before .before .before .κs) (c .before .before .before .before .before .before .before
           .before .before .before .before .before .before .before .before .before .before .before .before .before .before .before .before .before
           .before .before .args)) (Function.resV r (c .before .before .before .before .before .before .before .before .before .before .before .before
-          .before .before .before .before .before .before .before .before .before .before .before .before .before .before .κs) (m52 (c .before) (c
+          .before .before .before .before .before .before .before .before .before .before .before .before .before .before .κs) (m53 (c .before) (c
           .slice-known2 .given) .0)) (Clauses.atExit (Kinds.endedOf 6 ps r) (c .before .before .before .before .before .before .before .before .before
           .before .before .before .before .before .before .before .before .before .before .before .before .before .before .before .before .before .κs)
           (dens (c .before .before .before .before .before .before .before .before .before .before .before .before .before .before .before .before
@@ -2408,58 +2519,58 @@ module _ (claims· : Claims) where
           (c .before .before .before .before .before .before .before .before .before .before .before .before .before .before .before .before .before
           .before .before .before .before .before .before .before .before .before .κs) (c .before .before .before .before .before .before .before
           .before .before .before .before .before .before .before .before .before .before .before .before .before .before .before .before .before
-          .before .before .args)) (m52 (c .before) (c .slice-known2 .given) .1)))
+          .before .before .args)) (m53 (c .before) (c .slice-known2 .given) .1)))
       module _ (plan-close-requires : Need-plan-close-requires) (unmark-pending-requires : Need-unmark-pending-requires) (unmark-circuit-requires :
           Need-unmark-circuit-requires) (drop-actions-requires : Need-drop-actions-requires) (asking-requires : Need-asking-requires)
           (scan-actions-requires : Need-scan-actions-requires) (send-requires : Need-send-requires) (same-length : Need-same-length) (same-length-2 :
           Need-same-length-2) (same-length-3 : Need-same-length-3) (same-length-4 : Need-same-length-4) (returns : Need-returns) where
-        lay7 : (c : After-send) → at11 (c .before .before .before .before .before .before .before .before .before .before .before .before .before
+        lay7 : (c : After-send) → at12 (c .before .before .before .before .before .before .before .before .before .before .before .before .before
             .before .before .before .before .before .before .before .before .before .before .blocks) (W0 (c .before .before .before .before .before
             .before .before .before .before .before .before .before .before .before .before .before .before .before .before .before .before .before
             .before .κs) (c .before .before .before .before .before .before .before .before .before .before .before .before .before .before .before
             .before .before .before .before .before .before .before .before .args) (c .before .before .before .before .before .before .before .before
             .before .before .before .before .before .before .before .before .before .before .before .before .before .before .before .blocks)) (m45 (c
             .before) (After-send·gave c))
-        lay7 = λ c. (Path.refl, λ g. (Path.refl, λ g'. λ g''. ((MutSlice.fix-len (Row.get 1 (T76 .locals) (m52 record { before = record { before =
+        lay7 = λ c. (Path.refl, λ g. (Path.refl, λ g'. λ g''. ((MutSlice.fix-len (Row.get 1 (T77 .locals) (m53 record { before = record { before =
             record { before = c .before; send = c .send }; inflight2 = record { given = g }; }; out = record { given = g' }; } g'') .ptr) (Row.get 1
-            (T76 .locals) (m52 record { before = record { before = record { before = c .before; send = c .send }; inflight2 = record { given = g }; };
-            out = record { given = g' }; } g'') .name) (Row.get 1 (T76 .locals) (m52 record { before = record { before = record { before = c .before;
+            (T77 .locals) (m53 record { before = record { before = record { before = c .before; send = c .send }; inflight2 = record { given = g }; };
+            out = record { given = g' }; } g'') .name) (Row.get 1 (T77 .locals) (m53 record { before = record { before = record { before = c .before;
             send = c .send }; inflight2 = record { given = g }; }; out = record { given = g' }; } g'') .now) (dens (c .before .before .before .before
             .before .before .before .before .before .before .before .before .before .before .before .before .before .before .before .before .before
             .before .before .κs) (c .before .before .before .before .before .before .before .before .before .before .before .before .before .before
             .before .before .before .before .before .before .before .before .before .args) .0 .now) (same-length record { before = record { before =
             record { before = record { before = c .before; send = c .send }; inflight2 = record { given = g }; }; out = record { given = g' }; };
-            slice-known2 = record { given = g'' }; }), (MutSlice.fix-len (Row.get 2 (T76 .locals) (m52 record { before = record { before = record {
-            before = c .before; send = c .send }; inflight2 = record { given = g }; }; out = record { given = g' }; } g'') .ptr) (Row.get 2 (T76
-            .locals) (m52 record { before = record { before = record { before = c .before; send = c .send }; inflight2 = record { given = g }; }; out
-            = record { given = g' }; } g'') .name) (Row.get 2 (T76 .locals) (m52 record { before = record { before = record { before = c .before; send
+            slice-known2 = record { given = g'' }; }), (MutSlice.fix-len (Row.get 2 (T77 .locals) (m53 record { before = record { before = record {
+            before = c .before; send = c .send }; inflight2 = record { given = g }; }; out = record { given = g' }; } g'') .ptr) (Row.get 2 (T77
+            .locals) (m53 record { before = record { before = record { before = c .before; send = c .send }; inflight2 = record { given = g }; }; out
+            = record { given = g' }; } g'') .name) (Row.get 2 (T77 .locals) (m53 record { before = record { before = record { before = c .before; send
             = c .send }; inflight2 = record { given = g }; }; out = record { given = g' }; } g'') .now) (dens (c .before .before .before .before
             .before .before .before .before .before .before .before .before .before .before .before .before .before .before .before .before .before
             .before .before .κs) (c .before .before .before .before .before .before .before .before .before .before .before .before .before .before
             .before .before .before .before .before .before .before .before .before .args) .1 .0 .now) (same-length-2 record { before = record {
             before = record { before = record { before = c .before; send = c .send }; inflight2 = record { given = g }; }; out = record { given = g'
-            }; }; slice-known2 = record { given = g'' }; }), (MutSlice.fix-len (Row.get 3 (T76 .locals) (m52 record { before = record { before =
+            }; }; slice-known2 = record { given = g'' }; }), (MutSlice.fix-len (Row.get 3 (T77 .locals) (m53 record { before = record { before =
             record { before = c .before; send = c .send }; inflight2 = record { given = g }; }; out = record { given = g' }; } g'') .ptr) (Row.get 3
-            (T76 .locals) (m52 record { before = record { before = record { before = c .before; send = c .send }; inflight2 = record { given = g }; };
-            out = record { given = g' }; } g'') .name) (Row.get 3 (T76 .locals) (m52 record { before = record { before = record { before = c .before;
+            (T77 .locals) (m53 record { before = record { before = record { before = c .before; send = c .send }; inflight2 = record { given = g }; };
+            out = record { given = g' }; } g'') .name) (Row.get 3 (T77 .locals) (m53 record { before = record { before = record { before = c .before;
             send = c .send }; inflight2 = record { given = g }; }; out = record { given = g' }; } g'') .now) (dens (c .before .before .before .before
             .before .before .before .before .before .before .before .before .before .before .before .before .before .before .before .before .before
             .before .before .κs) (c .before .before .before .before .before .before .before .before .before .before .before .before .before .before
             .before .before .before .before .before .before .before .before .before .args) .1 .1 .0 .now) (same-length-3 record { before = record {
             before = record { before = record { before = c .before; send = c .send }; inflight2 = record { given = g }; }; out = record { given = g'
-            }; }; slice-known2 = record { given = g'' }; }), (MutSlice.fix-len (Row.get 4 (T76 .locals) (m52 record { before = record { before =
+            }; }; slice-known2 = record { given = g'' }; }), (MutSlice.fix-len (Row.get 4 (T77 .locals) (m53 record { before = record { before =
             record { before = c .before; send = c .send }; inflight2 = record { given = g }; }; out = record { given = g' }; } g'') .ptr) (Row.get 4
-            (T76 .locals) (m52 record { before = record { before = record { before = c .before; send = c .send }; inflight2 = record { given = g }; };
-            out = record { given = g' }; } g'') .name) (Row.get 4 (T76 .locals) (m52 record { before = record { before = record { before = c .before;
+            (T77 .locals) (m53 record { before = record { before = record { before = c .before; send = c .send }; inflight2 = record { given = g }; };
+            out = record { given = g' }; } g'') .name) (Row.get 4 (T77 .locals) (m53 record { before = record { before = record { before = c .before;
             send = c .send }; inflight2 = record { given = g }; }; out = record { given = g' }; } g'') .now) (dens (c .before .before .before .before
             .before .before .before .before .before .before .before .before .before .before .before .before .before .before .before .before .before
             .before .before .κs) (c .before .before .before .before .before .before .before .before .before .before .before .before .before .before
             .before .before .before .before .before .before .before .before .before .args) .1 .1 .1 .0 .now) (same-length-4 record { before = record {
             before = record { before = record { before = c .before; send = c .send }; inflight2 = record { given = g }; }; out = record { given = g'
-            }; }; slice-known2 = record { given = g'' }; }), (tt, (tt, (Path.refl, (Path.refl, tt)))),),),),), returns record { before = record {
-            before = record { before = record { before = c .before; send = c .send }; inflight2 = record { given = g }; }; out = record { given = g'
+            }; }; slice-known2 = record { given = g'' }; }), (tt, (tt, (tt, (Path.refl, (Path.refl, tt))))),),),),), returns record { before = record
+            { before = record { before = record { before = c .before; send = c .send }; inflight2 = record { given = g }; }; out = record { given = g'
             }; }; slice-known2 = record { given = g'' }; },),),)
-        lay6 : (c : After-scan-actions) → at23 (c .before .before .before .before .before .before .before .before .before .before .before .before
+        lay6 : (c : After-scan-actions) → at24 (c .before .before .before .before .before .before .before .before .before .before .before .before
             .before .before .before .before .before .before .before .before .blocks) (W0 (c .before .before .before .before .before .before .before
             .before .before .before .before .before .before .before .before .before .before .before .before .before .κs) (c .before .before .before
             .before .before .before .before .before .before .before .before .before .before .before .before .before .before .before .before .before
@@ -2468,13 +2579,13 @@ module _ (claims· : Claims) where
         lay6 = λ c. λ g. (Path.refl, λ g'. (Path.refl, (send-requires record { before = record { before = record { before = c .before; scan-actions =
             c .scan-actions }; send-arg = record { given = g }; }; send-arg2 = record { given = g' }; }, λ g''. lay7 record { before = record { before
             = record { before = record { before = c .before; scan-actions = c .scan-actions }; send-arg = record { given = g }; }; send-arg2 = record
-            { given = g' }; }; send = Called.called ps·6 r·6 (claims· .13) T65 (record { pos = 29; ty = Syntax.tyRef Syntax.erased Syntax.mut
-            InflightAction.to; ref = λ x. x; }, (record { pos = 31; ty = Syntax.tyRef Syntax.erased Syntax.mut (Syntax.tyInt Syntax.w32); ref = λ x.
-            x; }, (record { pos = 10; st = List.[]; d = 0; at = λ x. x }, (record { pos = 11; st = List.[]; d = 0; at = λ x. x }, (record { pos = 12;
-            st = List.[]; d = 0; at = λ x. x }, (record { pos = 14; st = List.[]; d = 0; at = λ x. x }, (record { pos = 8; ty = Syntax.tyRef
-            (Syntax.named 5) Syntax.imm (Syntax.tyInt Syntax.w8); ref = λ x. x; }, tt,),),),),),),) (m44 record { before = record { before = c
-            .before; scan-actions = c .scan-actions }; send-arg = record { given = g }; } g') g''; },),),)
-        lay5 : (c : After-asking) → at27 (c .before .before .before .before .before .before .before .before .before .before .before .before .before
+            { given = g' }; }; send = Called.called ps·6 r·6 (claims· .13) T65 (record { pos = 30; ty = Syntax.tyRef Syntax.erased Syntax.mut
+            InflightAction.to; ref = λ x. x; }, (record { pos = 32; ty = Syntax.tyRef Syntax.erased Syntax.mut (Syntax.tyInt Syntax.w32); ref = λ x.
+            x; }, (record { pos = 11; st = List.[]; d = 0; at = λ x. x }, (record { pos = 12; st = List.[]; d = 0; at = λ x. x }, (record { pos = 6;
+            st = List.[]; d = 0; at = λ x. x }, (record { pos = 13; st = List.[]; d = 0; at = λ x. x }, (record { pos = 15; st = List.[]; d = 0; at =
+            λ x. x }, (record { pos = 9; ty = Syntax.tyRef (Syntax.named 5) Syntax.imm (Syntax.tyInt Syntax.w8); ref = λ x. x; }, tt,),),),),),),),)
+            (m44 record { before = record { before = c .before; scan-actions = c .scan-actions }; send-arg = record { given = g }; } g') g''; },),),)
+        lay5 : (c : After-asking) → at28 (c .before .before .before .before .before .before .before .before .before .before .before .before .before
             .before .before .before .before .before .blocks) (W0 (c .before .before .before .before .before .before .before .before .before .before
             .before .before .before .before .before .before .before .before .κs) (c .before .before .before .before .before .before .before .before
             .before .before .before .before .before .before .before .before .before .before .args) (c .before .before .before .before .before .before
@@ -2482,73 +2593,75 @@ module _ (claims· : Claims) where
             (After-asking·gave c))
         lay5 = λ c. λ g. (Path.refl, (scan-actions-requires record { before = record { before = c .before; asking = c .asking }; scan-actions-arg =
             record { given = g }; }, λ g'. lay6 record { before = record { before = record { before = c .before; asking = c .asking };
-            scan-actions-arg = record { given = g }; }; scan-actions = Called.called ps·5 r·5 (claims· .11) T53 (record { pos = 27; ty = Syntax.tyRef
-            Syntax.erased Syntax.imm InflightAction.to; ref = λ x. x; }, (record { pos = 13; st = List.[]; d = 0; at = λ x. x }, tt),) (m36 record {
-            before = c .before; asking = c .asking } g) g'; },),)
-        lay4 : (c : After-drop-actions) → at33 (c .before .before .before .before .before .before .before .before .before .before .before .before
+            scan-actions-arg = record { given = g }; }; scan-actions = Called.called ps·5 r·5 (claims· .11) T53 (record { pos = 28; ty = Syntax.tyRef
+            Syntax.erased Syntax.imm InflightAction.to; ref = λ x. x; }, (record { pos = 6; st = List.[]; d = 0; at = λ x. x }, (record { pos = 14; st
+            = List.[]; d = 0; at = λ x. x }, tt),),) (m36 record { before = c .before; asking = c .asking } g) g'; },),)
+        lay4 : (c : After-drop-actions) → at34 (c .before .before .before .before .before .before .before .before .before .before .before .before
             .before .before .before .before .blocks) (W0 (c .before .before .before .before .before .before .before .before .before .before .before
             .before .before .before .before .before .κs) (c .before .before .before .before .before .before .before .before .before .before .before
             .before .before .before .before .before .args) (c .before .before .before .before .before .before .before .before .before .before .before
             .before .before .before .before .before .blocks)) (m30 (c .before) (After-drop-actions·gave c))
         lay4 = λ c. (Path.refl, λ g. (asking-requires record { before = record { before = c .before; drop-actions = c .drop-actions }; inflight =
             record { given = g }; }, λ g'. lay5 record { before = record { before = record { before = c .before; drop-actions = c .drop-actions };
-            inflight = record { given = g }; }; asking = Called.called ps·4 r·4 (claims· .9) T48 (record { pos = 11; st = List.[]; d = 0; at = λ x. x
-            }, (record { pos = 12; st = List.[]; d = 0; at = λ x. x }, tt),) (m33 record { before = c .before; drop-actions = c .drop-actions } g) g';
+            inflight = record { given = g }; }; asking = Called.called ps·4 r·4 (claims· .9) T48 (record { pos = 12; st = List.[]; d = 0; at = λ x. x
+            }, (record { pos = 13; st = List.[]; d = 0; at = λ x. x }, tt),) (m33 record { before = c .before; drop-actions = c .drop-actions } g) g';
             },),)
-        lay3 : (c : After-unmark-circuit) → at41 (c .before .before .before .before .before .before .before .before .before .before .before .before
+        lay3 : (c : After-unmark-circuit) → at42 (c .before .before .before .before .before .before .before .before .before .before .before .before
             .before .blocks) (W0 (c .before .before .before .before .before .before .before .before .before .before .before .before .before .κs) (c
             .before .before .before .before .before .before .before .before .before .before .before .before .before .args) (c .before .before .before
             .before .before .before .before .before .before .before .before .before .before .blocks)) (m25 (c .before) (After-unmark-circuit·gave c))
         lay3 = λ c. (Path.refl, λ g. λ g'. (Path.refl, (drop-actions-requires record { before = record { before = record { before = c .before;
             unmark-circuit = c .unmark-circuit }; circuits = record { given = g }; }; drop-actions-arg = record { given = g' }; }, λ g''. lay4 record
             { before = record { before = record { before = record { before = c .before; unmark-circuit = c .unmark-circuit }; circuits = record {
-            given = g }; }; drop-actions-arg = record { given = g' }; }; drop-actions = Called.called ps·3 r·3 (claims· .7) T43 (record { pos = 25; ty
-            = Syntax.tyRef Syntax.erased Syntax.mut InflightAction.to; ref = λ x. x; }, (Bool.bFld 9 ((Syntax.field 1) ∷ List.[]) 48 λ x.
-            ClosePlan.struct .as-values x .1 .0, (Num.vFld 9 ((Syntax.field 6) ∷ List.[]) 72 λ x. ClosePlan.struct .as-values x .1 .1 .1 .1 .1 .1 .0,
-            tt,),),) (m29 record { before = record { before = c .before; unmark-circuit = c .unmark-circuit }; circuits = record { given = g }; } g')
-            g''; },),),)
-        lay2 : (c : After-unmark-pending) → at49 (c .before .before .before .before .before .before .before .before .before .before .blocks) (W0 (c
+            given = g }; }; drop-actions-arg = record { given = g' }; }; drop-actions = Called.called ps·3 r·3 (claims· .7) T43 (record { pos = 26; ty
+            = Syntax.tyRef Syntax.erased Syntax.mut InflightAction.to; ref = λ x. x; }, (record { pos = 6; st = List.[]; d = 0; at = λ x. x },
+            (Bool.bFld 10 ((Syntax.field 1) ∷ List.[]) 48 λ x. ClosePlan.struct .as-values x .1 .0, (Num.vFld 10 ((Syntax.field 6) ∷ List.[]) 72 λ x.
+            ClosePlan.struct .as-values x .1 .1 .1 .1 .1 .1 .0, tt,),),),) (m29 record { before = record { before = c .before; unmark-circuit = c
+            .unmark-circuit }; circuits = record { given = g }; } g') g''; },),),)
+        lay2 : (c : After-unmark-pending) → at50 (c .before .before .before .before .before .before .before .before .before .before .blocks) (W0 (c
             .before .before .before .before .before .before .before .before .before .before .κs) (c .before .before .before .before .before .before
             .before .before .before .before .args) (c .before .before .before .before .before .before .before .before .before .before .blocks)) (m20
             (c .before) (After-unmark-pending·gave c))
         lay2 = λ c. (Path.refl, λ g. λ g'. (Path.refl, (unmark-circuit-requires record { before = record { before = record { before = c .before;
             unmark-pending = c .unmark-pending }; pending = record { given = g }; }; unmark-circuit-arg = record { given = g' }; }, λ g''. lay3 record
             { before = record { before = record { before = record { before = c .before; unmark-pending = c .unmark-pending }; pending = record { given
-            = g }; }; unmark-circuit-arg = record { given = g' }; }; unmark-circuit = Called.called ps·2 r·2 (claims· .5) T35 (record { pos = 23; ty =
-            Syntax.tyRef Syntax.erased Syntax.mut RelayCircuit.to; ref = λ x. x; }, (Bool.bFld 9 ((Syntax.field 3) ∷ List.[]) 50 λ x. ClosePlan.struct
-            .as-values x .1 .1 .1 .0, (Num.vFld 9 ((Syntax.field 5) ∷ List.[]) 64 λ x. ClosePlan.struct .as-values x .1 .1 .1 .1 .1 .0, tt,),),) (m24
-            record { before = record { before = c .before; unmark-pending = c .unmark-pending }; pending = record { given = g }; } g') g''; },),),)
-        lay1 : (c : After-plan-close) → at66 (c .before .before .before .before .before .before .blocks) (W0 (c .before .before .before .before
+            = g }; }; unmark-circuit-arg = record { given = g' }; }; unmark-circuit = Called.called ps·2 r·2 (claims· .5) T35 (record { pos = 24; ty =
+            Syntax.tyRef Syntax.erased Syntax.mut RelayCircuit.to; ref = λ x. x; }, (record { pos = 6; st = List.[]; d = 0; at = λ x. x }, (Bool.bFld
+            10 ((Syntax.field 3) ∷ List.[]) 50 λ x. ClosePlan.struct .as-values x .1 .1 .1 .0, (Num.vFld 10 ((Syntax.field 5) ∷ List.[]) 64 λ x.
+            ClosePlan.struct .as-values x .1 .1 .1 .1 .1 .0, tt,),),),) (m24 record { before = record { before = c .before; unmark-pending = c
+            .unmark-pending }; pending = record { given = g }; } g') g''; },),),)
+        lay1 : (c : After-plan-close) → at67 (c .before .before .before .before .before .before .blocks) (W0 (c .before .before .before .before
             .before .before .κs) (c .before .before .before .before .before .before .args) (c .before .before .before .before .before .before
             .blocks)) (m8 (c .before) (After-plan-close·gave c))
         lay1 = λ c. (tt, λ g. (tt, λ g'. λ g''. (Path.refl, (unmark-pending-requires record { before = record { before = record { before = record {
             before = c .before; plan-close = c .plan-close }; counted = record { given = g }; }; message = record { given = g' }; };
             unmark-pending-arg = record { given = g'' }; }, λ g'3. lay2 record { before = record { before = record { before = record { before = record
             { before = c .before; plan-close = c .plan-close }; counted = record { given = g }; }; message = record { given = g' }; };
-            unmark-pending-arg = record { given = g'' }; }; unmark-pending = Called.called ps·1 r·1 (claims· .3) T27 (record { pos = 21; ty =
-            Syntax.tyRef Syntax.erased Syntax.mut RelayPending.to; ref = λ x. x; }, (Bool.bFld 9 ((Syntax.field 2) ∷ List.[]) 49 λ x. ClosePlan.struct
-            .as-values x .1 .1 .0, (Num.vFld 9 ((Syntax.field 4) ∷ List.[]) 56 λ x. ClosePlan.struct .as-values x .1 .1 .1 .1 .0, tt,),),) (m19 record
-            { before = record { before = record { before = c .before; plan-close = c .plan-close }; counted = record { given = g }; }; message =
-            record { given = g' }; } g'') g'3; },),),),)
-        pub laid : (c : Start) → at76 (c .blocks) (W0 (c .κs) (c .args) (c .blocks)) (m0 (c .κs) (c .args) (c .blocks))
+            unmark-pending-arg = record { given = g'' }; }; unmark-pending = Called.called ps·1 r·1 (claims· .3) T27 (record { pos = 22; ty =
+            Syntax.tyRef Syntax.erased Syntax.mut RelayPending.to; ref = λ x. x; }, (record { pos = 6; st = List.[]; d = 0; at = λ x. x }, (Bool.bFld
+            10 ((Syntax.field 2) ∷ List.[]) 49 λ x. ClosePlan.struct .as-values x .1 .1 .0, (Num.vFld 10 ((Syntax.field 4) ∷ List.[]) 56 λ x.
+            ClosePlan.struct .as-values x .1 .1 .1 .1 .0, tt,),),),) (m19 record { before = record { before = record { before = c .before; plan-close
+            = c .plan-close }; counted = record { given = g }; }; message = record { given = g' }; } g'') g'3; },),),),)
+        pub laid : (c : Start) → at77 (c .blocks) (W0 (c .κs) (c .args) (c .blocks)) (m0 (c .κs) (c .args) (c .blocks))
         laid = λ c. λ g. λ g'. λ g''. λ g'3. (Path.refl, λ g'4. (Path.refl, (plan-close-requires record { before = record { before = record { before =
             record { before = record { before = c; slice-known = record { given = g } }; shared-slice-known = record { given = g' }; };
             shared-slice-known2 = record { given = g'' }; }; plan-close-arg = record { given = g'3 }; }; plan-close-arg2 = record { given = g'4 }; },
             λ g'5. lay1 record { before = record { before = record { before = record { before = record { before = record { before = c; slice-known =
             record { given = g } }; shared-slice-known = record { given = g' }; }; shared-slice-known2 = record { given = g'' }; }; plan-close-arg =
             record { given = g'3 }; }; plan-close-arg2 = record { given = g'4 }; }; plan-close = Called.called ps·0 r·0 (claims· .1) T10 (record { pos
-            = 16; ty = Syntax.tyRef Syntax.erased Syntax.imm RelayPending.to; ref = λ x. x; }, (record { pos = 18; ty = Syntax.tyRef Syntax.erased
+            = 17; ty = Syntax.tyRef Syntax.erased Syntax.imm RelayPending.to; ref = λ x. x; }, (record { pos = 19; ty = Syntax.tyRef Syntax.erased
             Syntax.imm RelayCircuit.to; ref = λ x. x; }, (record { pos = 5; st = List.[]; d = 0; at = λ x. x }, (record { pos = 6; st = List.[]; d =
-            0; at = λ x. x }, (record { pos = 7; ty = Syntax.tyRef (Syntax.named 4) Syntax.imm (Syntax.tyInt Syntax.w8); ref = λ x. x; }, (record {
-            pos = 8; ty = Syntax.tyRef (Syntax.named 5) Syntax.imm (Syntax.tyInt Syntax.w8); ref = λ x. x; }, tt,),),),),),) (m7 record { before =
-            record { before = record { before = record { before = c; slice-known = record { given = g } }; shared-slice-known = record { given = g' };
-            }; shared-slice-known2 = record { given = g'' }; }; plan-close-arg = record { given = g'3 }; } g'4) g'5; },),),)
+            0; at = λ x. x }, (record { pos = 7; st = List.[]; d = 0; at = λ x. x }, (record { pos = 8; ty = Syntax.tyRef (Syntax.named 4) Syntax.imm
+            (Syntax.tyInt Syntax.w8); ref = λ x. x; }, (record { pos = 9; ty = Syntax.tyRef (Syntax.named 5) Syntax.imm (Syntax.tyInt Syntax.w8); ref
+            = λ x. x; }, tt,),),),),),),) (m7 record { before = record { before = record { before = record { before = c; slice-known = record { given
+            = g } }; shared-slice-known = record { given = g' }; }; shared-slice-known2 = record { given = g'' }; }; plan-close-arg = record { given =
+            g'3 }; } g'4) g'5; },),),)
         module _ (κs : Lifetimes.Lfts 6) (qs : Lifetimes.Shares 6) where
           pub asked : (a : Kinds.Dens κs ps) → (good : Kinds.GoodsP κs ps a) → (pre : Pre· κs a) → (bs : List.List Nat.ℕ) → Φ bs (Any.wantQ 6 ps r xs
               m κs qs a (Post· κs a)) (Function.init 6 ps r xs m κs qs a)
           asked = λ a good pre bs. laid record { κs = κs; args = record { pending = a .0; circuits = a .1 .0; inflight = a .1 .1 .0; out = a .1 .1 .1
-              .0; runtime = a .1 .1 .1 .1 .0; packet = a .1 .1 .1 .1 .1 .0; source = a .1 .1 .1 .1 .1 .1 .0; body = a .1 .1 .1 .1 .1 .1 .1 .0; };
-              blocks = bs; good = good; pre = pre; }
+              .0; runtime = a .1 .1 .1 .1 .0; places = a .1 .1 .1 .1 .1 .0; packet = a .1 .1 .1 .1 .1 .1 .0; source = a .1 .1 .1 .1 .1 .1 .1 .0; body
+              = a .1 .1 .1 .1 .1 .1 .1 .1 .0; }; blocks = bs; good = good; pre = pre; }
         module _ { M : Type 1 } (𝓤 : URA.URA M) (H : Wp.Heap 𝓤) (A : Atoms.Atoms 𝓤) (W : Kit.Given 𝓤 H A) (𝓣 : Wp.Tables 𝓤 H) (known0 : Plain.Known 𝓤
             H A W 𝓣 4 ps·0 r·0 (claims· .0) (claims· .1) "hnsr_circuit::handle_close::plan_close") (known1 : Plain.Known 𝓤 H A W 𝓣 1 ps·1 r·1 (claims·
             .2) (claims· .3) "hnsr_circuit::handle_close::unmark_pending") (known2 : Plain.Known 𝓤 H A W 𝓣 1 ps·2 r·2 (claims· .4) (claims· .5)

@@ -5,10 +5,12 @@ use Rattle.hnsr_body.proofs.values.ReservationId.Laws
 use Rattle.hnsr_circuit.proofs.By.ReservationUsage
 use Rattle.hnsr_circuit.proofs.open.LedgerRoom
 use Rattle.hnsr_circuit.proofs.open.LedgerRoom.Laws as Laws'
+use Rattle.hnsr_circuit.proofs.places.Places
+use Rattle.hnsr_circuit.proofs.places.Places.Laws as Laws''
 use Rattle.hnsr_circuit.proofs.records.Question
-use Rattle.hnsr_circuit.proofs.records.Question.Laws as Laws''
+use Rattle.hnsr_circuit.proofs.records.Question.Laws as Laws'''
 use Rattle.hnsr_circuit.proofs.records.RelayTicket
-use Rattle.hnsr_circuit.proofs.records.RelayTicket.Laws as Laws'''
+use Rattle.hnsr_circuit.proofs.records.RelayTicket.Laws as Laws''''
 use borrow.Author.Called
 use borrow.Fn.Any
 use borrow.Fn.Call
@@ -40,7 +42,7 @@ use contract.Lifetimes
 use denote.Exit
 use denote.Struct.At
 use denote.Struct.Declared
-use denote.Struct.Laws as Laws''''
+use denote.Struct.Laws as Laws'''''
 use denote.Triple.Clauses
 use denote.Triple.Statement
 use ghost.Atoms
@@ -56,89 +58,104 @@ use mathlib.Core.List.{_∷_}
 abbrev ref0 : Syntax.Ty
 ref0 = Syntax.tyRef (Syntax.named 0) Syntax.imm ReservationUsage.to
 abbrev pub ps : List.List (Kinds.PK 1)
-ps = (ShrSlice.pShrS ReservationUsage.row 0 tt) ∷ (Value.pVal record { ty = Declared.row RelayTicket.the-type; one = Path.refl; val = Laws''''.val
-    RelayTicket.the-type Laws'''.the-laws; tells = Laws''''.tells RelayTicket.the-type Laws'''.the-laws; still = Laws''''.still RelayTicket.the-type
-    Laws'''.the-copy Exit.yes; row = Rows.whole (Declared.row RelayTicket.the-type); rd = λ x. x; mk = λ x. x; } λ M 𝓤 H A W. record { copies =
-    Laws''''.copy RelayTicket.the-type Laws'''.the-copy 𝓤 H A W; lawful = Laws''''.lawful RelayTicket.the-type Laws'''.the-laws 𝓤 H A W; makes =
-    Laws''''.makes RelayTicket.the-type Laws'''.the-plain 𝓤 H A; in-mem = Local.mem-whole 𝓤 H A W (Declared.row RelayTicket.the-type); of-mem =
-    Local.whole-mem 𝓤 H A W (Declared.row RelayTicket.the-type); }) ∷ List.[]
+ps = (ShrSlice.pShrS ReservationUsage.row 0 tt) ∷ (Value.pVal record { ty = Declared.row Places.the-type; one = Path.refl; val = Laws'''''.val
+    Places.the-type Laws''.the-laws; tells = Laws'''''.tells Places.the-type Laws''.the-laws; still = Laws'''''.still Places.the-type Laws''.the-copy
+    Exit.yes; row = Rows.whole (Declared.row Places.the-type); rd = λ x. x; mk = λ x. x; } λ M 𝓤 H A W. record { copies = Laws'''''.copy
+    Places.the-type Laws''.the-copy 𝓤 H A W; lawful = Laws'''''.lawful Places.the-type Laws''.the-laws 𝓤 H A W; makes = Laws'''''.makes
+    Places.the-type Laws''.the-plain 𝓤 H A; in-mem = Local.mem-whole 𝓤 H A W (Declared.row Places.the-type); of-mem = Local.whole-mem 𝓤 H A W
+    (Declared.row Places.the-type); }) ∷ (Value.pVal record { ty = Declared.row RelayTicket.the-type; one = Path.refl; val = Laws'''''.val
+    RelayTicket.the-type Laws''''.the-laws; tells = Laws'''''.tells RelayTicket.the-type Laws''''.the-laws; still = Laws'''''.still
+    RelayTicket.the-type Laws''''.the-copy Exit.yes; row = Rows.whole (Declared.row RelayTicket.the-type); rd = λ x. x; mk = λ x. x; } λ M 𝓤 H A W.
+    record { copies = Laws'''''.copy RelayTicket.the-type Laws''''.the-copy 𝓤 H A W; lawful = Laws'''''.lawful RelayTicket.the-type Laws''''.the-laws
+    𝓤 H A W; makes = Laws'''''.makes RelayTicket.the-type Laws''''.the-plain 𝓤 H A; in-mem = Local.mem-whole 𝓤 H A W (Declared.row
+    RelayTicket.the-type); of-mem = Local.whole-mem 𝓤 H A W (Declared.row RelayTicket.the-type); }) ∷ List.[]
 abbrev pub r : Kinds.RK 1
-r = Value.rVal record { ty = Declared.row LedgerRoom.the-type; one = Path.refl; val = Laws''''.val LedgerRoom.the-type Laws'.the-laws; tells =
-    Laws''''.tells LedgerRoom.the-type Laws'.the-laws; still = Laws''''.still LedgerRoom.the-type Laws'.the-copy Exit.yes; row = Rows.whole
-    (Declared.row LedgerRoom.the-type); rd = λ x. x; mk = λ x. x; } λ M 𝓤 H A W. record { copies = Laws''''.copy LedgerRoom.the-type Laws'.the-copy 𝓤
-    H A W; lawful = Laws''''.lawful LedgerRoom.the-type Laws'.the-laws 𝓤 H A W; makes = Laws''''.makes LedgerRoom.the-type Laws'.the-plain 𝓤 H A;
+r = Value.rVal record { ty = Declared.row LedgerRoom.the-type; one = Path.refl; val = Laws'''''.val LedgerRoom.the-type Laws'.the-laws; tells =
+    Laws'''''.tells LedgerRoom.the-type Laws'.the-laws; still = Laws'''''.still LedgerRoom.the-type Laws'.the-copy Exit.yes; row = Rows.whole
+    (Declared.row LedgerRoom.the-type); rd = λ x. x; mk = λ x. x; } λ M 𝓤 H A W. record { copies = Laws'''''.copy LedgerRoom.the-type Laws'.the-copy 𝓤
+    H A W; lawful = Laws'''''.lawful LedgerRoom.the-type Laws'.the-laws 𝓤 H A W; makes = Laws'''''.makes LedgerRoom.the-type Laws'.the-plain 𝓤 H A;
     in-mem = Local.mem-whole 𝓤 H A W (Declared.row LedgerRoom.the-type); of-mem = Local.whole-mem 𝓤 H A W (Declared.row LedgerRoom.the-type); }
 abbrev pub xs : List.List Syntax.Ty
-xs = Laws.mir ∷ Laws''.mir ∷ (Syntax.tyInt Syntax.w64) ∷ Laws''.mir ∷ (Syntax.tyInt Syntax.w64) ∷ (Syntax.tyInt Syntax.w64) ∷ List.[]
+xs = Laws.mir ∷ Laws'''.mir ∷ (Syntax.tyInt Syntax.w64) ∷ Laws'''.mir ∷ (Syntax.tyInt Syntax.w64) ∷ (Syntax.tyInt Syntax.w64) ∷ List.[]
 abbrev pub m : Nat.ℕ
 m = 0
 abbrev pub ps·0 : List.List (Kinds.PK 0)
-ps·0 = (Value.pVal record { ty = Declared.row ReservationId.the-type; one = Path.refl; val = Laws''''.val ReservationId.the-type Laws.the-laws; tells
-    = Laws''''.tells ReservationId.the-type Laws.the-laws; still = Laws''''.still ReservationId.the-type Laws.the-copy Exit.yes; row = Rows.whole
-    (Declared.row ReservationId.the-type); rd = λ x. x; mk = λ x. x; } λ M 𝓤 H A W. record { copies = Laws''''.copy ReservationId.the-type
-    Laws.the-copy 𝓤 H A W; lawful = Laws''''.lawful ReservationId.the-type Laws.the-laws 𝓤 H A W; makes = Laws''''.makes ReservationId.the-type
+ps·0 = (Value.pVal record { ty = Declared.row ReservationId.the-type; one = Path.refl; val = Laws'''''.val ReservationId.the-type Laws.the-laws; tells
+    = Laws'''''.tells ReservationId.the-type Laws.the-laws; still = Laws'''''.still ReservationId.the-type Laws.the-copy Exit.yes; row = Rows.whole
+    (Declared.row ReservationId.the-type); rd = λ x. x; mk = λ x. x; } λ M 𝓤 H A W. record { copies = Laws'''''.copy ReservationId.the-type
+    Laws.the-copy 𝓤 H A W; lawful = Laws'''''.lawful ReservationId.the-type Laws.the-laws 𝓤 H A W; makes = Laws'''''.makes ReservationId.the-type
     Laws.the-plain 𝓤 H A; in-mem = Local.mem-whole 𝓤 H A W (Declared.row ReservationId.the-type); of-mem = Local.whole-mem 𝓤 H A W (Declared.row
     ReservationId.the-type); }) ∷ List.[]
 abbrev pub r·0 : Kinds.RK 0
-r·0 = Value.rVal record { ty = Declared.row Question.the-type; one = Path.refl; val = Laws''''.val Question.the-type Laws''.the-laws; tells =
-    Laws''''.tells Question.the-type Laws''.the-laws; still = Laws''''.still Question.the-type Laws''.the-copy Exit.yes; row = Rows.whole
-    (Declared.row Question.the-type); rd = λ x. x; mk = λ x. x; } λ M 𝓤 H A W. record { copies = Laws''''.copy Question.the-type Laws''.the-copy 𝓤 H A
-    W; lawful = Laws''''.lawful Question.the-type Laws''.the-laws 𝓤 H A W; makes = Laws''''.makes Question.the-type Laws''.the-plain 𝓤 H A; in-mem =
-    Local.mem-whole 𝓤 H A W (Declared.row Question.the-type); of-mem = Local.whole-mem 𝓤 H A W (Declared.row Question.the-type); }
+r·0 = Value.rVal record { ty = Declared.row Question.the-type; one = Path.refl; val = Laws'''''.val Question.the-type Laws'''.the-laws; tells =
+    Laws'''''.tells Question.the-type Laws'''.the-laws; still = Laws'''''.still Question.the-type Laws'''.the-copy Exit.yes; row = Rows.whole
+    (Declared.row Question.the-type); rd = λ x. x; mk = λ x. x; } λ M 𝓤 H A W. record { copies = Laws'''''.copy Question.the-type Laws'''.the-copy 𝓤 H
+    A W; lawful = Laws'''''.lawful Question.the-type Laws'''.the-laws 𝓤 H A W; makes = Laws'''''.makes Question.the-type Laws'''.the-plain 𝓤 H A;
+    in-mem = Local.mem-whole 𝓤 H A W (Declared.row Question.the-type); of-mem = Local.whole-mem 𝓤 H A W (Declared.row Question.the-type); }
 abbrev pub ps·1 : List.List (Kinds.PK 1)
-ps·1 = (ShrSlice.pShrS ReservationUsage.row 0 tt) ∷ (Value.pVal record { ty = Declared.row Question.the-type; one = Path.refl; val = Laws''''.val
-    Question.the-type Laws''.the-laws; tells = Laws''''.tells Question.the-type Laws''.the-laws; still = Laws''''.still Question.the-type
-    Laws''.the-copy Exit.yes; row = Rows.whole (Declared.row Question.the-type); rd = λ x. x; mk = λ x. x; } λ M 𝓤 H A W. record { copies =
-    Laws''''.copy Question.the-type Laws''.the-copy 𝓤 H A W; lawful = Laws''''.lawful Question.the-type Laws''.the-laws 𝓤 H A W; makes =
-    Laws''''.makes Question.the-type Laws''.the-plain 𝓤 H A; in-mem = Local.mem-whole 𝓤 H A W (Declared.row Question.the-type); of-mem =
+ps·1 = (ShrSlice.pShrS ReservationUsage.row 0 tt) ∷ (Value.pVal record { ty = Declared.row Places.the-type; one = Path.refl; val = Laws'''''.val
+    Places.the-type Laws''.the-laws; tells = Laws'''''.tells Places.the-type Laws''.the-laws; still = Laws'''''.still Places.the-type Laws''.the-copy
+    Exit.yes; row = Rows.whole (Declared.row Places.the-type); rd = λ x. x; mk = λ x. x; } λ M 𝓤 H A W. record { copies = Laws'''''.copy
+    Places.the-type Laws''.the-copy 𝓤 H A W; lawful = Laws'''''.lawful Places.the-type Laws''.the-laws 𝓤 H A W; makes = Laws'''''.makes
+    Places.the-type Laws''.the-plain 𝓤 H A; in-mem = Local.mem-whole 𝓤 H A W (Declared.row Places.the-type); of-mem = Local.whole-mem 𝓤 H A W
+    (Declared.row Places.the-type); }) ∷ (Value.pVal record { ty = Declared.row Question.the-type; one = Path.refl; val = Laws'''''.val
+    Question.the-type Laws'''.the-laws; tells = Laws'''''.tells Question.the-type Laws'''.the-laws; still = Laws'''''.still Question.the-type
+    Laws'''.the-copy Exit.yes; row = Rows.whole (Declared.row Question.the-type); rd = λ x. x; mk = λ x. x; } λ M 𝓤 H A W. record { copies =
+    Laws'''''.copy Question.the-type Laws'''.the-copy 𝓤 H A W; lawful = Laws'''''.lawful Question.the-type Laws'''.the-laws 𝓤 H A W; makes =
+    Laws'''''.makes Question.the-type Laws'''.the-plain 𝓤 H A; in-mem = Local.mem-whole 𝓤 H A W (Declared.row Question.the-type); of-mem =
     Local.whole-mem 𝓤 H A W (Declared.row Question.the-type); }) ∷ List.[]
 abbrev pub r·1 : Kinds.RK 1
 r·1 = Num.rNum Syntax.w64
 abbrev pub ps·2 : List.List (Kinds.PK 0)
 ps·2 = List.[]
 abbrev pub r·2 : Kinds.RK 0
-r·2 = Value.rVal record { ty = Declared.row Question.the-type; one = Path.refl; val = Laws''''.val Question.the-type Laws''.the-laws; tells =
-    Laws''''.tells Question.the-type Laws''.the-laws; still = Laws''''.still Question.the-type Laws''.the-copy Exit.yes; row = Rows.whole
-    (Declared.row Question.the-type); rd = λ x. x; mk = λ x. x; } λ M 𝓤 H A W. record { copies = Laws''''.copy Question.the-type Laws''.the-copy 𝓤 H A
-    W; lawful = Laws''''.lawful Question.the-type Laws''.the-laws 𝓤 H A W; makes = Laws''''.makes Question.the-type Laws''.the-plain 𝓤 H A; in-mem =
-    Local.mem-whole 𝓤 H A W (Declared.row Question.the-type); of-mem = Local.whole-mem 𝓤 H A W (Declared.row Question.the-type); }
+r·2 = Value.rVal record { ty = Declared.row Question.the-type; one = Path.refl; val = Laws'''''.val Question.the-type Laws'''.the-laws; tells =
+    Laws'''''.tells Question.the-type Laws'''.the-laws; still = Laws'''''.still Question.the-type Laws'''.the-copy Exit.yes; row = Rows.whole
+    (Declared.row Question.the-type); rd = λ x. x; mk = λ x. x; } λ M 𝓤 H A W. record { copies = Laws'''''.copy Question.the-type Laws'''.the-copy 𝓤 H
+    A W; lawful = Laws'''''.lawful Question.the-type Laws'''.the-laws 𝓤 H A W; makes = Laws'''''.makes Question.the-type Laws'''.the-plain 𝓤 H A;
+    in-mem = Local.mem-whole 𝓤 H A W (Declared.row Question.the-type); of-mem = Local.whole-mem 𝓤 H A W (Declared.row Question.the-type); }
 abbrev pub ps·3 : List.List (Kinds.PK 1)
-ps·3 = (ShrSlice.pShrS ReservationUsage.row 0 tt) ∷ (Value.pVal record { ty = Declared.row Question.the-type; one = Path.refl; val = Laws''''.val
-    Question.the-type Laws''.the-laws; tells = Laws''''.tells Question.the-type Laws''.the-laws; still = Laws''''.still Question.the-type
-    Laws''.the-copy Exit.yes; row = Rows.whole (Declared.row Question.the-type); rd = λ x. x; mk = λ x. x; } λ M 𝓤 H A W. record { copies =
-    Laws''''.copy Question.the-type Laws''.the-copy 𝓤 H A W; lawful = Laws''''.lawful Question.the-type Laws''.the-laws 𝓤 H A W; makes =
-    Laws''''.makes Question.the-type Laws''.the-plain 𝓤 H A; in-mem = Local.mem-whole 𝓤 H A W (Declared.row Question.the-type); of-mem =
+ps·3 = (ShrSlice.pShrS ReservationUsage.row 0 tt) ∷ (Value.pVal record { ty = Declared.row Places.the-type; one = Path.refl; val = Laws'''''.val
+    Places.the-type Laws''.the-laws; tells = Laws'''''.tells Places.the-type Laws''.the-laws; still = Laws'''''.still Places.the-type Laws''.the-copy
+    Exit.yes; row = Rows.whole (Declared.row Places.the-type); rd = λ x. x; mk = λ x. x; } λ M 𝓤 H A W. record { copies = Laws'''''.copy
+    Places.the-type Laws''.the-copy 𝓤 H A W; lawful = Laws'''''.lawful Places.the-type Laws''.the-laws 𝓤 H A W; makes = Laws'''''.makes
+    Places.the-type Laws''.the-plain 𝓤 H A; in-mem = Local.mem-whole 𝓤 H A W (Declared.row Places.the-type); of-mem = Local.whole-mem 𝓤 H A W
+    (Declared.row Places.the-type); }) ∷ (Value.pVal record { ty = Declared.row Question.the-type; one = Path.refl; val = Laws'''''.val
+    Question.the-type Laws'''.the-laws; tells = Laws'''''.tells Question.the-type Laws'''.the-laws; still = Laws'''''.still Question.the-type
+    Laws'''.the-copy Exit.yes; row = Rows.whole (Declared.row Question.the-type); rd = λ x. x; mk = λ x. x; } λ M 𝓤 H A W. record { copies =
+    Laws'''''.copy Question.the-type Laws'''.the-copy 𝓤 H A W; lawful = Laws'''''.lawful Question.the-type Laws'''.the-laws 𝓤 H A W; makes =
+    Laws'''''.makes Question.the-type Laws'''.the-plain 𝓤 H A; in-mem = Local.mem-whole 𝓤 H A W (Declared.row Question.the-type); of-mem =
     Local.whole-mem 𝓤 H A W (Declared.row Question.the-type); }) ∷ List.[]
 abbrev pub r·3 : Kinds.RK 1
 r·3 = Num.rNum Syntax.w64
 abbrev pub ps·4 : List.List (Kinds.PK 0)
 ps·4 = (Num.pNum Syntax.w64) ∷ (Num.pNum Syntax.w64) ∷ (Num.pNum Syntax.w64) ∷ List.[]
 abbrev pub r·4 : Kinds.RK 0
-r·4 = Value.rVal record { ty = Declared.row LedgerRoom.the-type; one = Path.refl; val = Laws''''.val LedgerRoom.the-type Laws'.the-laws; tells =
-    Laws''''.tells LedgerRoom.the-type Laws'.the-laws; still = Laws''''.still LedgerRoom.the-type Laws'.the-copy Exit.yes; row = Rows.whole
-    (Declared.row LedgerRoom.the-type); rd = λ x. x; mk = λ x. x; } λ M 𝓤 H A W. record { copies = Laws''''.copy LedgerRoom.the-type Laws'.the-copy 𝓤
-    H A W; lawful = Laws''''.lawful LedgerRoom.the-type Laws'.the-laws 𝓤 H A W; makes = Laws''''.makes LedgerRoom.the-type Laws'.the-plain 𝓤 H A;
+r·4 = Value.rVal record { ty = Declared.row LedgerRoom.the-type; one = Path.refl; val = Laws'''''.val LedgerRoom.the-type Laws'.the-laws; tells =
+    Laws'''''.tells LedgerRoom.the-type Laws'.the-laws; still = Laws'''''.still LedgerRoom.the-type Laws'.the-copy Exit.yes; row = Rows.whole
+    (Declared.row LedgerRoom.the-type); rd = λ x. x; mk = λ x. x; } λ M 𝓤 H A W. record { copies = Laws'''''.copy LedgerRoom.the-type Laws'.the-copy 𝓤
+    H A W; lawful = Laws'''''.lawful LedgerRoom.the-type Laws'.the-laws 𝓤 H A W; makes = Laws'''''.makes LedgerRoom.the-type Laws'.the-plain 𝓤 H A;
     in-mem = Local.mem-whole 𝓤 H A W (Declared.row LedgerRoom.the-type); of-mem = Local.whole-mem 𝓤 H A W (Declared.row LedgerRoom.the-type); }
 abbrev pub hs : List.List Syntax.Home
 hs = Syntax.valueLocal ∷ Syntax.valueLocal ∷ Syntax.valueLocal ∷ Syntax.valueLocal ∷ Syntax.valueLocal ∷ Syntax.valueLocal ∷ Syntax.valueLocal ∷
-    Syntax.valueLocal ∷ Syntax.valueLocal ∷ List.[]
+    Syntax.valueLocal ∷ Syntax.valueLocal ∷ Syntax.valueLocal ∷ List.[]
 abbrev b0 : Syntax.Body
-b0 = Syntax.assign (Syntax.place 3 List.[]) (Syntax.rvOpd (Syntax.copy (Syntax.place 2 ((Syntax.field 0) ∷ List.[]))))
+b0 = Syntax.assign (Syntax.place 4 List.[]) (Syntax.rvOpd (Syntax.copy (Syntax.place 3 ((Syntax.field 0) ∷ List.[]))))
 abbrev b1 : Syntax.Body
-b1 = Syntax.call "hnsr_circuit::question::at_reservation" ((Syntax.copy (Syntax.place 3 List.[])) ∷ List.[]) (Syntax.place 4 List.[])
+b1 = Syntax.call "hnsr_circuit::question::at_reservation" ((Syntax.copy (Syntax.place 4 List.[])) ∷ List.[]) (Syntax.place 5 List.[])
 abbrev b2 : Syntax.Body
-b2 = Syntax.call "hnsr_circuit::tables::ledger::find_usage" ((Syntax.copy (Syntax.place 1 List.[])) ∷ (Syntax.copy (Syntax.place 4 List.[])) ∷
-    List.[]) (Syntax.place 5 List.[])
+b2 = Syntax.call "hnsr_circuit::tables::ledger::find_usage" ((Syntax.copy (Syntax.place 1 List.[])) ∷ (Syntax.copy (Syntax.place 2 List.[])) ∷
+    (Syntax.copy (Syntax.place 5 List.[])) ∷ List.[]) (Syntax.place 6 List.[])
 abbrev b3 : Syntax.Body
-b3 = Syntax.call "hnsr_circuit::question::used" List.[] (Syntax.place 6 List.[])
+b3 = Syntax.call "hnsr_circuit::question::used" List.[] (Syntax.place 7 List.[])
 abbrev b4 : Syntax.Body
-b4 = Syntax.call "hnsr_circuit::tables::ledger::count_usage" ((Syntax.copy (Syntax.place 1 List.[])) ∷ (Syntax.copy (Syntax.place 6 List.[])) ∷
-    List.[]) (Syntax.place 7 List.[])
+b4 = Syntax.call "hnsr_circuit::tables::ledger::count_usage" ((Syntax.copy (Syntax.place 1 List.[])) ∷ (Syntax.copy (Syntax.place 2 List.[])) ∷
+    (Syntax.copy (Syntax.place 7 List.[])) ∷ List.[]) (Syntax.place 8 List.[])
 abbrev b5 : Syntax.Body
-b5 = Syntax.assign (Syntax.place 8 List.[]) (Syntax.rvOpd (Syntax.copy (Syntax.place 1 ((Syntax.field 1) ∷ List.[]))))
+b5 = Syntax.assign (Syntax.place 9 List.[]) (Syntax.rvOpd (Syntax.copy (Syntax.place 1 ((Syntax.field 1) ∷ List.[]))))
 abbrev b6 : Syntax.Body
-b6 = Syntax.call "hnsr_circuit::open::ledger_room" ((Syntax.copy (Syntax.place 5 List.[])) ∷ (Syntax.copy (Syntax.place 7 List.[])) ∷ (Syntax.copy
-    (Syntax.place 8 List.[])) ∷ List.[]) (Syntax.place 0 List.[])
+b6 = Syntax.call "hnsr_circuit::open::ledger_room" ((Syntax.copy (Syntax.place 6 List.[])) ∷ (Syntax.copy (Syntax.place 8 List.[])) ∷ (Syntax.copy
+    (Syntax.place 9 List.[])) ∷ List.[]) (Syntax.place 0 List.[])
 abbrev b7 : Syntax.Body
 b7 = Syntax.return
 abbrev b8 : Syntax.Body
@@ -165,65 +182,71 @@ e0 = (0, Rows.any-gone Laws'.mir)
 abbrev e1 : Row.Entry
 e1 = (1, Rows.sslice ReservationUsage.row ref0 0)
 abbrev e2 : Row.Entry
-e2 = (2, Rows.whole (Declared.row RelayTicket.the-type))
+e2 = (2, Rows.whole (Declared.row Places.the-type))
 abbrev e3 : Row.Entry
-e3 = (3, Rows.any-gone Laws.mir)
+e3 = (3, Rows.whole (Declared.row RelayTicket.the-type))
 abbrev e4 : Row.Entry
-e4 = (4, Rows.any-gone Laws''.mir)
+e4 = (4, Rows.any-gone Laws.mir)
 abbrev e5 : Row.Entry
-e5 = (5, Rows.any-gone (Syntax.tyInt Syntax.w64))
+e5 = (5, Rows.any-gone Laws'''.mir)
 abbrev e6 : Row.Entry
-e6 = (6, Rows.any-gone Laws''.mir)
+e6 = (6, Rows.any-gone (Syntax.tyInt Syntax.w64))
 abbrev e7 : Row.Entry
-e7 = (7, Rows.any-gone (Syntax.tyInt Syntax.w64))
+e7 = (7, Rows.any-gone Laws'''.mir)
 abbrev e8 : Row.Entry
 e8 = (8, Rows.any-gone (Syntax.tyInt Syntax.w64))
+abbrev e9 : Row.Entry
+e9 = (9, Rows.any-gone (Syntax.tyInt Syntax.w64))
 abbrev e0·1 : Row.Entry
 e0·1 = (0, Rows.whole (Declared.row LedgerRoom.the-type))
 abbrev e2·1 : Row.Entry
-e2·1 = (2, Rows.any-gone Laws'''.mir)
+e2·1 = (2, Rows.any-gone Laws''.mir)
 abbrev e3·1 : Row.Entry
-e3·1 = (3, Rows.whole (Declared.row ReservationId.the-type))
+e3·1 = (3, Rows.any-gone Laws''''.mir)
 abbrev e4·1 : Row.Entry
-e4·1 = (4, Rows.whole (Declared.row Question.the-type))
+e4·1 = (4, Rows.whole (Declared.row ReservationId.the-type))
 abbrev e5·1 : Row.Entry
-e5·1 = (5, Rows.sc-here (Row.sInt Syntax.w64))
+e5·1 = (5, Rows.whole (Declared.row Question.the-type))
 abbrev e6·1 : Row.Entry
-e6·1 = (6, Rows.whole (Declared.row Question.the-type))
+e6·1 = (6, Rows.sc-here (Row.sInt Syntax.w64))
 abbrev e7·1 : Row.Entry
-e7·1 = (7, Rows.sc-here (Row.sInt Syntax.w64))
+e7·1 = (7, Rows.whole (Declared.row Question.the-type))
 abbrev e8·1 : Row.Entry
 e8·1 = (8, Rows.sc-here (Row.sInt Syntax.w64))
+abbrev e9·1 : Row.Entry
+e9·1 = (9, Rows.sc-here (Row.sInt Syntax.w64))
 abbrev pub t0 : List.List Row.Entry
-t0 = e0 ∷ e1 ∷ e2 ∷ e3 ∷ e4 ∷ e5 ∷ e6 ∷ e7 ∷ e8 ∷ List.[]
+t0 = e0 ∷ e1 ∷ e2 ∷ e3 ∷ e4 ∷ e5 ∷ e6 ∷ e7 ∷ e8 ∷ e9 ∷ List.[]
 abbrev pub t1 : List.List Row.Entry
-t1 = e0·1 ∷ e1 ∷ e2·1 ∷ e3 ∷ e4 ∷ e5 ∷ e6 ∷ e7 ∷ e8 ∷ List.[]
+t1 = e0·1 ∷ e1 ∷ e2·1 ∷ e3·1 ∷ e4 ∷ e5 ∷ e6 ∷ e7 ∷ e8 ∷ e9 ∷ List.[]
 abbrev pub t2 : List.List Row.Entry
-t2 = e0 ∷ e1 ∷ e2 ∷ e3·1 ∷ e4 ∷ e5 ∷ e6 ∷ e7 ∷ e8 ∷ List.[]
+t2 = e0 ∷ e1 ∷ e2 ∷ e3 ∷ e4·1 ∷ e5 ∷ e6 ∷ e7 ∷ e8 ∷ e9 ∷ List.[]
 abbrev pub t3 : List.List Row.Entry
-t3 = e0 ∷ e1 ∷ e2·1 ∷ e3·1 ∷ e4 ∷ e5 ∷ e6 ∷ e7 ∷ e8 ∷ List.[]
+t3 = e0 ∷ e1 ∷ e2 ∷ e3·1 ∷ e4·1 ∷ e5 ∷ e6 ∷ e7 ∷ e8 ∷ e9 ∷ List.[]
 abbrev pub t4 : List.List Row.Entry
-t4 = e0 ∷ e1 ∷ e2·1 ∷ e3·1 ∷ e4·1 ∷ e5 ∷ e6 ∷ e7 ∷ e8 ∷ List.[]
+t4 = e0 ∷ e1 ∷ e2 ∷ e3·1 ∷ e4·1 ∷ e5·1 ∷ e6 ∷ e7 ∷ e8 ∷ e9 ∷ List.[]
 abbrev pub t5 : List.List Row.Entry
-t5 = e0 ∷ e1 ∷ e2·1 ∷ e3 ∷ e4·1 ∷ e5 ∷ e6 ∷ e7 ∷ e8 ∷ List.[]
+t5 = e0 ∷ e1 ∷ e2 ∷ e3·1 ∷ e4 ∷ e5·1 ∷ e6 ∷ e7 ∷ e8 ∷ e9 ∷ List.[]
 abbrev pub t6 : List.List Row.Entry
-t6 = e0 ∷ e1 ∷ e2·1 ∷ e3 ∷ e4·1 ∷ e5·1 ∷ e6 ∷ e7 ∷ e8 ∷ List.[]
+t6 = e0 ∷ e1 ∷ e2 ∷ e3·1 ∷ e4 ∷ e5·1 ∷ e6·1 ∷ e7 ∷ e8 ∷ e9 ∷ List.[]
 abbrev pub t7 : List.List Row.Entry
-t7 = e0 ∷ e1 ∷ e2·1 ∷ e3 ∷ e4 ∷ e5·1 ∷ e6 ∷ e7 ∷ e8 ∷ List.[]
+t7 = e0 ∷ e1 ∷ e2 ∷ e3·1 ∷ e4 ∷ e5 ∷ e6·1 ∷ e7 ∷ e8 ∷ e9 ∷ List.[]
 abbrev pub t8 : List.List Row.Entry
-t8 = e0 ∷ e1 ∷ e2·1 ∷ e3 ∷ e4 ∷ e5·1 ∷ e6·1 ∷ e7 ∷ e8 ∷ List.[]
+t8 = e0 ∷ e1 ∷ e2 ∷ e3·1 ∷ e4 ∷ e5 ∷ e6·1 ∷ e7·1 ∷ e8 ∷ e9 ∷ List.[]
 abbrev pub t9 : List.List Row.Entry
-t9 = e0 ∷ e1 ∷ e2·1 ∷ e3 ∷ e4 ∷ e5·1 ∷ e6·1 ∷ e7·1 ∷ e8 ∷ List.[]
+t9 = e0 ∷ e1 ∷ e2 ∷ e3·1 ∷ e4 ∷ e5 ∷ e6·1 ∷ e7·1 ∷ e8·1 ∷ e9 ∷ List.[]
 abbrev pub t10 : List.List Row.Entry
-t10 = e0 ∷ e1 ∷ e2·1 ∷ e3 ∷ e4 ∷ e5·1 ∷ e6 ∷ e7·1 ∷ e8 ∷ List.[]
+t10 = e0 ∷ e1 ∷ e2·1 ∷ e3·1 ∷ e4 ∷ e5 ∷ e6·1 ∷ e7·1 ∷ e8·1 ∷ e9 ∷ List.[]
 abbrev pub t11 : List.List Row.Entry
-t11 = e0 ∷ e1 ∷ e2·1 ∷ e3 ∷ e4 ∷ e5·1 ∷ e6 ∷ e7·1 ∷ e8·1 ∷ List.[]
+t11 = e0 ∷ e1 ∷ e2·1 ∷ e3·1 ∷ e4 ∷ e5 ∷ e6·1 ∷ e7 ∷ e8·1 ∷ e9 ∷ List.[]
 abbrev pub t12 : List.List Row.Entry
-t12 = e0·1 ∷ e1 ∷ e2·1 ∷ e3 ∷ e4 ∷ e5·1 ∷ e6 ∷ e7·1 ∷ e8·1 ∷ List.[]
+t12 = e0 ∷ e1 ∷ e2·1 ∷ e3·1 ∷ e4 ∷ e5 ∷ e6·1 ∷ e7 ∷ e8·1 ∷ e9·1 ∷ List.[]
 abbrev pub t13 : List.List Row.Entry
-t13 = e0·1 ∷ e1 ∷ e2·1 ∷ e3 ∷ e4 ∷ e5 ∷ e6 ∷ e7·1 ∷ e8·1 ∷ List.[]
+t13 = e0·1 ∷ e1 ∷ e2·1 ∷ e3·1 ∷ e4 ∷ e5 ∷ e6·1 ∷ e7 ∷ e8·1 ∷ e9·1 ∷ List.[]
 abbrev pub t14 : List.List Row.Entry
-t14 = e0·1 ∷ e1 ∷ e2·1 ∷ e3 ∷ e4 ∷ e5 ∷ e6 ∷ e7 ∷ e8·1 ∷ List.[]
+t14 = e0·1 ∷ e1 ∷ e2·1 ∷ e3·1 ∷ e4 ∷ e5 ∷ e6 ∷ e7 ∷ e8·1 ∷ e9·1 ∷ List.[]
+abbrev pub t15 : List.List Row.Entry
+t15 = e0·1 ∷ e1 ∷ e2·1 ∷ e3·1 ∷ e4 ∷ e5 ∷ e6 ∷ e7 ∷ e8 ∷ e9·1 ∷ List.[]
 abbrev pub T0 : Row.Cx
 T0 = record { locals = t0; slots = List.[] }
 abbrev pub T1 : Row.Cx
@@ -255,44 +278,50 @@ T13 = record { locals = t13; slots = List.[] }
 abbrev pub T14 : Row.Cx
 T14 = record { locals = t14; slots = List.[] }
 abbrev pub T15 : Row.Cx
-T15 = record { locals = t1; slots = List.[] }
+T15 = record { locals = t15; slots = List.[] }
+abbrev pub T16 : Row.Cx
+T16 = record { locals = t1; slots = List.[] }
 abbrev pub O0 : Typed.Outs
 O0 = record { next = Option.none; exits = List.[]; returns = Option.some T1 }
 module _ (claims· : Claims) where
   abbrev s0 : (bs : List.List Nat.ℕ) → Typed.Both T0 T2
-  s0 = λ bs. WayStmt.k-way-copy-out T0 (Row.out 2 (T0 .locals)) (λ u. Row.drop 2 (T0 .locals) u) 3 (Rows.whole (Declared.row ReservationId.the-type))
-      (λ u. At.getAt (RelayTicket.the-type .parts) 0 (RelayTicket.struct .as-values (u .1 .1 .0))) (λ T′. record { locals = Row.setRow 2 (2,
-      Rows.whole (Declared.row RelayTicket.the-type)) T′; slots = List.[]; }) (λ u T′ m′. Row.set 2 (2, Rows.whole (Declared.row
-      RelayTicket.the-type)) (u .1 .1 .0) T′ m′) (λ u. Unit) λ u. Unit
+  s0 = λ bs. WayStmt.k-way-copy-out T0 (Row.out 3 (T0 .locals)) (λ u. Row.drop 3 (T0 .locals) u) 4 (Rows.whole (Declared.row ReservationId.the-type))
+      (λ u. At.getAt (RelayTicket.the-type .parts) 0 (RelayTicket.struct .as-values (u .1 .1 .1 .0))) (λ T′. record { locals = Row.setRow 3 (3,
+      Rows.whole (Declared.row RelayTicket.the-type)) T′; slots = List.[]; }) (λ u T′ m′. Row.set 3 (3, Rows.whole (Declared.row
+      RelayTicket.the-type)) (u .1 .1 .1 .0) T′ m′) (λ u. Unit) λ u. Unit
   abbrev s1 : (bs : List.List Nat.ℕ) → Typed.Mo T2 → Typed.Mo T3
-  s1 = λ bs. Scalar.n-room T2 2 Laws'''.mir
+  s1 = λ bs. Scalar.n-room T2 3 Laws''''.mir
   abbrev s2 : (bs : List.List Nat.ℕ) → Typed.Both T3 T4
-  s2 = λ bs. Call.callB ps·0 r·0 (claims· .0) (claims· .1) T3 (record { pos = 3; st = List.[]; d = 0; at = λ x. x }, tt,) 4 List.[] Laws''.mir
+  s2 = λ bs. Call.callB ps·0 r·0 (claims· .0) (claims· .1) T3 (record { pos = 4; st = List.[]; d = 0; at = λ x. x }, tt,) 5 List.[] Laws'''.mir
   abbrev s3 : (bs : List.List Nat.ℕ) → Typed.Mo T4 → Typed.Mo T5
-  s3 = λ bs. Scalar.n-room T4 3 Laws.mir
+  s3 = λ bs. Scalar.n-room T4 4 Laws.mir
   abbrev s4 : (bs : List.List Nat.ℕ) → Typed.Both T5 T6
   s4 = λ bs. Call.callB ps·1 r·1 (claims· .2) (claims· .3) T5 (record { pos = 1; ty = Syntax.tyRef (Syntax.named 0) Syntax.imm ReservationUsage.to;
-      ref = λ x. x; }, (record { pos = 4; st = List.[]; d = 0; at = λ x. x }, tt),) 5 (0 ∷ List.[]) (Syntax.tyInt Syntax.w64)
+      ref = λ x. x; }, (record { pos = 2; st = List.[]; d = 0; at = λ x. x }, (record { pos = 5; st = List.[]; d = 0; at = λ x. x }, tt),),) 6 (0 ∷
+      List.[]) (Syntax.tyInt Syntax.w64)
   abbrev s5 : (bs : List.List Nat.ℕ) → Typed.Mo T6 → Typed.Mo T7
-  s5 = λ bs. Scalar.n-room T6 4 Laws''.mir
+  s5 = λ bs. Scalar.n-room T6 5 Laws'''.mir
   abbrev s6 : (bs : List.List Nat.ℕ) → Typed.Both T7 T8
-  s6 = λ bs. Call.callB ps·2 r·2 (claims· .4) (claims· .5) T7 tt 6 List.[] Laws''.mir
+  s6 = λ bs. Call.callB ps·2 r·2 (claims· .4) (claims· .5) T7 tt 7 List.[] Laws'''.mir
   abbrev s7 : (bs : List.List Nat.ℕ) → Typed.Both T8 T9
   s7 = λ bs. Call.callB ps·3 r·3 (claims· .6) (claims· .7) T8 (record { pos = 1; ty = Syntax.tyRef (Syntax.named 0) Syntax.imm ReservationUsage.to;
-      ref = λ x. x; }, (record { pos = 6; st = List.[]; d = 0; at = λ x. x }, tt),) 7 (0 ∷ List.[]) (Syntax.tyInt Syntax.w64)
+      ref = λ x. x; }, (record { pos = 2; st = List.[]; d = 0; at = λ x. x }, (record { pos = 7; st = List.[]; d = 0; at = λ x. x }, tt),),) 8 (0 ∷
+      List.[]) (Syntax.tyInt Syntax.w64)
   abbrev s8 : (bs : List.List Nat.ℕ) → Typed.Mo T9 → Typed.Mo T10
-  s8 = λ bs. Scalar.n-room T9 6 Laws''.mir
+  s8 = λ bs. Scalar.n-room T9 2 Laws''.mir
   abbrev s9 : (bs : List.List Nat.ℕ) → Typed.Mo T10 → Typed.Mo T11
-  s9 = λ bs. Scalar.n-use T10 (Scalar.oFld 1 ((Syntax.field 1) ∷ List.[]) (Syntax.tyInt Syntax.w64) 8 Shared.lenV) 8 (Rows.sc-here (Row.sInt
+  s9 = λ bs. Scalar.n-room T10 7 Laws'''.mir
+  abbrev s10 : (bs : List.List Nat.ℕ) → Typed.Mo T11 → Typed.Mo T12
+  s10 = λ bs. Scalar.n-use T11 (Scalar.oFld 1 ((Syntax.field 1) ∷ List.[]) (Syntax.tyInt Syntax.w64) 8 Shared.lenV) 9 (Rows.sc-here (Row.sInt
       Syntax.w64)) (Row.sInt Syntax.w64 .of)
-  abbrev s10 : (bs : List.List Nat.ℕ) → Typed.Both T11 T12
-  s10 = λ bs. Call.callB ps·4 r·4 (claims· .8) (claims· .9) T11 (Num.vAt 5 λ x. x, (Num.vAt 7 λ x. x, (Num.vAt 8 λ x. x, tt)),) 0 List.[] Laws'.mir
-  abbrev s11 : (bs : List.List Nat.ℕ) → Typed.Mo T12 → Typed.Mo T13
-  s11 = λ bs. Scalar.n-room T12 5 (Syntax.tyInt Syntax.w64)
+  abbrev s11 : (bs : List.List Nat.ℕ) → Typed.Both T12 T13
+  s11 = λ bs. Call.callB ps·4 r·4 (claims· .8) (claims· .9) T12 (Num.vAt 6 λ x. x, (Num.vAt 8 λ x. x, (Num.vAt 9 λ x. x, tt)),) 0 List.[] Laws'.mir
   abbrev s12 : (bs : List.List Nat.ℕ) → Typed.Mo T13 → Typed.Mo T14
-  s12 = λ bs. Scalar.n-room T13 7 (Syntax.tyInt Syntax.w64)
+  s12 = λ bs. Scalar.n-room T13 6 (Syntax.tyInt Syntax.w64)
   abbrev s13 : (bs : List.List Nat.ℕ) → Typed.Mo T14 → Typed.Mo T15
   s13 = λ bs. Scalar.n-room T14 8 (Syntax.tyInt Syntax.w64)
+  abbrev s14 : (bs : List.List Nat.ℕ) → Typed.Mo T15 → Typed.Mo T16
+  s14 = λ bs. Scalar.n-room T15 9 (Syntax.tyInt Syntax.w64)
   module _ (Pre· : (κs : Lifetimes.Lfts 1) → Kinds.Dens κs ps → Type 0) (Post· : (κs : Lifetimes.Lfts 1) → (a : Kinds.Dens κs ps) → Kinds.Plain 1 ps r
       κs) where
     module _ (M : Type 1) where
@@ -305,38 +334,40 @@ module _ (claims· : Claims) where
           "hnsr_circuit::open::ledger_room") → Statement.Triple 𝓤 (Wp.WpFn 𝓤 H (𝓣 .C) (𝓣 .Λ) (Function.fnOf 1 ps r xs m hs body)) (Function.plainOf 𝓤
           H A 1 ps r Pre· Post·)
     module _ where
-      abbrev at0 : (bs : List.List Nat.ℕ) → Typed.TF T15 O0
+      abbrev at0 : (bs : List.List Nat.ℕ) → Typed.TF T16 O0
       at0 = λ bs. Typed.atRet O0
-      abbrev at1 : (bs : List.List Nat.ℕ) → Typed.TF T14 O0
-      at1 = λ bs. λ Ψ. Typed.pass T14 T15 (s13 bs) (at0 bs Ψ)
-      abbrev at2 : (bs : List.List Nat.ℕ) → Typed.TF T13 O0
-      at2 = λ bs. λ Ψ. Typed.pass T13 T14 (s12 bs) (at1 bs Ψ)
-      abbrev at3 : (bs : List.List Nat.ℕ) → Typed.TF T12 O0
-      at3 = λ bs. λ Ψ. Typed.pass T12 T13 (s11 bs) (at2 bs Ψ)
-      abbrev at4 : (bs : List.List Nat.ℕ) → Typed.TF T11 O0
-      at4 = λ bs. λ Ψ. Typed.both (s10 bs) (at3 bs Ψ)
-      abbrev at5 : (bs : List.List Nat.ℕ) → Typed.TF T10 O0
-      at5 = λ bs. λ Ψ. Typed.pass T10 T11 (s9 bs) (at4 bs Ψ)
-      abbrev at6 : (bs : List.List Nat.ℕ) → Typed.TF T9 O0
-      at6 = λ bs. λ Ψ. Typed.pass T9 T10 (s8 bs) (at5 bs Ψ)
-      abbrev at7 : (bs : List.List Nat.ℕ) → Typed.TF T8 O0
-      at7 = λ bs. λ Ψ. Typed.both (s7 bs) (at6 bs Ψ)
-      abbrev at8 : (bs : List.List Nat.ℕ) → Typed.TF T7 O0
-      at8 = λ bs. λ Ψ. Typed.both (s6 bs) (at7 bs Ψ)
-      abbrev at9 : (bs : List.List Nat.ℕ) → Typed.TF T6 O0
-      at9 = λ bs. λ Ψ. Typed.pass T6 T7 (s5 bs) (at8 bs Ψ)
-      abbrev at10 : (bs : List.List Nat.ℕ) → Typed.TF T5 O0
-      at10 = λ bs. λ Ψ. Typed.both (s4 bs) (at9 bs Ψ)
-      abbrev at11 : (bs : List.List Nat.ℕ) → Typed.TF T4 O0
-      at11 = λ bs. λ Ψ. Typed.pass T4 T5 (s3 bs) (at10 bs Ψ)
-      abbrev at12 : (bs : List.List Nat.ℕ) → Typed.TF T3 O0
-      at12 = λ bs. λ Ψ. Typed.both (s2 bs) (at11 bs Ψ)
-      abbrev at13 : (bs : List.List Nat.ℕ) → Typed.TF T2 O0
-      at13 = λ bs. λ Ψ. Typed.pass T2 T3 (s1 bs) (at12 bs Ψ)
-      abbrev at14 : (bs : List.List Nat.ℕ) → Typed.TF T0 O0
-      at14 = λ bs. λ Ψ. Typed.both (s0 bs) (at13 bs Ψ)
+      abbrev at1 : (bs : List.List Nat.ℕ) → Typed.TF T15 O0
+      at1 = λ bs. λ Ψ. Typed.pass T15 T16 (s14 bs) (at0 bs Ψ)
+      abbrev at2 : (bs : List.List Nat.ℕ) → Typed.TF T14 O0
+      at2 = λ bs. λ Ψ. Typed.pass T14 T15 (s13 bs) (at1 bs Ψ)
+      abbrev at3 : (bs : List.List Nat.ℕ) → Typed.TF T13 O0
+      at3 = λ bs. λ Ψ. Typed.pass T13 T14 (s12 bs) (at2 bs Ψ)
+      abbrev at4 : (bs : List.List Nat.ℕ) → Typed.TF T12 O0
+      at4 = λ bs. λ Ψ. Typed.both (s11 bs) (at3 bs Ψ)
+      abbrev at5 : (bs : List.List Nat.ℕ) → Typed.TF T11 O0
+      at5 = λ bs. λ Ψ. Typed.pass T11 T12 (s10 bs) (at4 bs Ψ)
+      abbrev at6 : (bs : List.List Nat.ℕ) → Typed.TF T10 O0
+      at6 = λ bs. λ Ψ. Typed.pass T10 T11 (s9 bs) (at5 bs Ψ)
+      abbrev at7 : (bs : List.List Nat.ℕ) → Typed.TF T9 O0
+      at7 = λ bs. λ Ψ. Typed.pass T9 T10 (s8 bs) (at6 bs Ψ)
+      abbrev at8 : (bs : List.List Nat.ℕ) → Typed.TF T8 O0
+      at8 = λ bs. λ Ψ. Typed.both (s7 bs) (at7 bs Ψ)
+      abbrev at9 : (bs : List.List Nat.ℕ) → Typed.TF T7 O0
+      at9 = λ bs. λ Ψ. Typed.both (s6 bs) (at8 bs Ψ)
+      abbrev at10 : (bs : List.List Nat.ℕ) → Typed.TF T6 O0
+      at10 = λ bs. λ Ψ. Typed.pass T6 T7 (s5 bs) (at9 bs Ψ)
+      abbrev at11 : (bs : List.List Nat.ℕ) → Typed.TF T5 O0
+      at11 = λ bs. λ Ψ. Typed.both (s4 bs) (at10 bs Ψ)
+      abbrev at12 : (bs : List.List Nat.ℕ) → Typed.TF T4 O0
+      at12 = λ bs. λ Ψ. Typed.pass T4 T5 (s3 bs) (at11 bs Ψ)
+      abbrev at13 : (bs : List.List Nat.ℕ) → Typed.TF T3 O0
+      at13 = λ bs. λ Ψ. Typed.both (s2 bs) (at12 bs Ψ)
+      abbrev at14 : (bs : List.List Nat.ℕ) → Typed.TF T2 O0
+      at14 = λ bs. λ Ψ. Typed.pass T2 T3 (s1 bs) (at13 bs Ψ)
+      abbrev at15 : (bs : List.List Nat.ℕ) → Typed.TF T0 O0
+      at15 = λ bs. λ Ψ. Typed.both (s0 bs) (at14 bs Ψ)
       abbrev pub Φ : (bs : List.List Nat.ℕ) → Typed.TF T0 O0
-      Φ = λ bs. at14 bs
+      Φ = λ bs. at15 bs
       module _ { M : Type 1 } (𝓤 : URA.URA M) (H : Wp.Heap 𝓤) (A : Atoms.Atoms 𝓤) (W : Kit.Given 𝓤 H A) (𝓣 : Wp.Tables 𝓤 H) where
         abbrev Knowns : Type 1
         Knowns = Plain.Known 𝓤 H A W 𝓣 0 ps·0 r·0 (claims· .0) (claims· .1) "hnsr_circuit::question::at_reservation" × Plain.Known 𝓤 H A W 𝓣 1 ps·1
@@ -377,110 +408,128 @@ module _ (claims· : Claims) where
         abbrev G14 : Row.Cx
         G14 = record { locals = t14; slots = life0 ∷ List.[] }
         abbrev G15 : Row.Cx
-        G15 = record { locals = t1; slots = life0 ∷ List.[] }
+        G15 = record { locals = t15; slots = life0 ∷ List.[] }
+        abbrev G16 : Row.Cx
+        G16 = record { locals = t1; slots = life0 ∷ List.[] }
         abbrev Δ0 : Typed.Outs
         Δ0 = record { next = Option.none; exits = List.[]; returns = Option.some G1 }
         module _ { M : Type 1 } (𝓤 : URA.URA M) (H : Wp.Heap 𝓤) (A : Atoms.Atoms 𝓤) (W : Kit.Given 𝓤 H A) (𝓣 : Wp.Tables 𝓤 H) (known : Knowns 𝓤 H A W
             𝓣) (bs : List.List Nat.ℕ) (bd : Lifetimes.AllOutlive 1 (Kinds.osR r) κs) where
           abbrev E : Wp.Env 𝓤 H
           E = Frame.EnvOf 𝓤 H ((Kinds.tyR r) ∷ (Enter.tysP ps xs)) bs
-          d0 : Typed.Typed 𝓤 H A 𝓣 E G15 b7 Δ0 (at0 bs)
+          d0 : Typed.Typed 𝓤 H A 𝓣 E G16 b7 Δ0 (at0 bs)
           d0 = Typed.t-return 𝓤 H A W 𝓣 E Δ0 tt
-          d1 : Typed.Typed 𝓤 H A 𝓣 E G14 b7 Δ0 (at1 bs)
-          d1 = Typed.g-pre 𝓤 H A W 𝓣 E G14 G15 b7 Δ0 (Typed.pass T14 T15 (s13 bs)) (at0 bs) (Scalar.g-room 𝓤 H A W E G14 8 (Syntax.tyInt Syntax.w64)
+          d1 : Typed.Typed 𝓤 H A 𝓣 E G15 b7 Δ0 (at1 bs)
+          d1 = Typed.g-pre 𝓤 H A W 𝓣 E G15 G16 b7 Δ0 (Typed.pass T15 T16 (s14 bs)) (at0 bs) (Scalar.g-room 𝓤 H A W E G15 9 (Syntax.tyInt Syntax.w64)
               (Scalar.room-sc 𝓤 H A W (Row.sInt Syntax.w64))) d0
-          d2 : Typed.Typed 𝓤 H A 𝓣 E G13 b7 Δ0 (at2 bs)
-          d2 = Typed.g-pre 𝓤 H A W 𝓣 E G13 G14 b7 Δ0 (Typed.pass T13 T14 (s12 bs)) (at1 bs) (Scalar.g-room 𝓤 H A W E G13 7 (Syntax.tyInt Syntax.w64)
+          d2 : Typed.Typed 𝓤 H A 𝓣 E G14 b7 Δ0 (at2 bs)
+          d2 = Typed.g-pre 𝓤 H A W 𝓣 E G14 G15 b7 Δ0 (Typed.pass T14 T15 (s13 bs)) (at1 bs) (Scalar.g-room 𝓤 H A W E G14 8 (Syntax.tyInt Syntax.w64)
               (Scalar.room-sc 𝓤 H A W (Row.sInt Syntax.w64))) d1
-          d3 : Typed.Typed 𝓤 H A 𝓣 E G12 b7 Δ0 (at3 bs)
-          d3 = Typed.g-pre 𝓤 H A W 𝓣 E G12 G13 b7 Δ0 (Typed.pass T12 T13 (s11 bs)) (at2 bs) (Scalar.g-room 𝓤 H A W E G12 5 (Syntax.tyInt Syntax.w64)
+          d3 : Typed.Typed 𝓤 H A 𝓣 E G13 b7 Δ0 (at3 bs)
+          d3 = Typed.g-pre 𝓤 H A W 𝓣 E G13 G14 b7 Δ0 (Typed.pass T13 T14 (s12 bs)) (at2 bs) (Scalar.g-room 𝓤 H A W E G13 6 (Syntax.tyInt Syntax.w64)
               (Scalar.room-sc 𝓤 H A W (Row.sInt Syntax.w64))) d2
-          d4 : Typed.Typed 𝓤 H A 𝓣 E G11 b8 Δ0 (at4 bs)
-          d4 = Typed.s-seq 𝓤 H A W 𝓣 E G11 G12 b6 b7 Δ0 (Typed.both (s10 bs)) (at3 bs) (Plain.t-call-plain 𝓤 H A W 𝓣 0 ps·4 r·4 (claims· .8) (claims·
-              .9) "hnsr_circuit::open::ledger_room" (known .4) E (λ pos β. β) G11 (Num.vAt 5 λ x. x, (Num.vAt 7 λ x. x, (Num.vAt 8 λ x. x, tt))) 0
-              List.[] (Call.sub-id 𝓤 H A W (G11 .slots)) ((Scalar.reads-sc 𝓤 H A W (Row.sInt Syntax.w64), Path.refl), ((Scalar.reads-sc 𝓤 H A W
+          d4 : Typed.Typed 𝓤 H A 𝓣 E G12 b8 Δ0 (at4 bs)
+          d4 = Typed.s-seq 𝓤 H A W 𝓣 E G12 G13 b6 b7 Δ0 (Typed.both (s11 bs)) (at3 bs) (Plain.t-call-plain 𝓤 H A W 𝓣 0 ps·4 r·4 (claims· .8) (claims·
+              .9) "hnsr_circuit::open::ledger_room" (known .4) E (λ pos β. β) G12 (Num.vAt 6 λ x. x, (Num.vAt 8 λ x. x, (Num.vAt 9 λ x. x, tt))) 0
+              List.[] (Call.sub-id 𝓤 H A W (G12 .slots)) ((Scalar.reads-sc 𝓤 H A W (Row.sInt Syntax.w64), Path.refl), ((Scalar.reads-sc 𝓤 H A W
               (Row.sInt Syntax.w64), Path.refl), ((Scalar.reads-sc 𝓤 H A W (Row.sInt Syntax.w64), Path.refl), tt),),) (Reads.room-gone 𝓤 H A
               Laws'.mir) tt Path.refl) d3
-          d5 : Typed.Typed 𝓤 H A 𝓣 E G10 b9 Δ0 (at5 bs)
-          d5 = Typed.s-seq 𝓤 H A W 𝓣 E G10 G11 b5 b8 Δ0 (Typed.pass T10 T11 (s9 bs)) (at4 bs) (Scalar.t-use 𝓤 H A W E 𝓣 G10 (Scalar.oFld 1
-              ((Syntax.field 1) ∷ List.[]) (Syntax.tyInt Syntax.w64) 8 Shared.lenV) 8 (Rows.sc-here (Row.sInt Syntax.w64)) (Syntax.tyInt Syntax.w64)
+          d5 : Typed.Typed 𝓤 H A 𝓣 E G11 b9 Δ0 (at5 bs)
+          d5 = Typed.s-seq 𝓤 H A W 𝓣 E G11 G12 b5 b8 Δ0 (Typed.pass T11 T12 (s10 bs)) (at4 bs) (Scalar.t-use 𝓤 H A W E 𝓣 G11 (Scalar.oFld 1
+              ((Syntax.field 1) ∷ List.[]) (Syntax.tyInt Syntax.w64) 8 Shared.lenV) 9 (Rows.sc-here (Row.sInt Syntax.w64)) (Syntax.tyInt Syntax.w64)
               (Row.valS (Row.sInt Syntax.w64)) (Row.sInt Syntax.w64 .of) (Shared.reads-sslice-len 𝓤 H A W ReservationUsage.row ref0 0 8 Path.refl,
               Path.refl,) (Reads.room-gone 𝓤 H A (Syntax.tyInt Syntax.w64)) (Scalar.holds-sc 𝓤 H A W (Row.sInt Syntax.w64)) Path.refl (λ u. Path.refl)
               λ u. tt) d4
-          d6 : Typed.Typed 𝓤 H A 𝓣 E G9 b9 Δ0 (at6 bs)
-          d6 = Typed.g-pre 𝓤 H A W 𝓣 E G9 G10 b9 Δ0 (Typed.pass T9 T10 (s8 bs)) (at5 bs) (Scalar.g-room 𝓤 H A W E G9 6 Laws''.mir (Local.room-whole 𝓤
-              H A W (Declared.row Question.the-type) Laws''.mir Path.refl)) d5
-          d7 : Typed.Typed 𝓤 H A 𝓣 E G8 b10 Δ0 (at7 bs)
-          d7 = Typed.s-seq 𝓤 H A W 𝓣 E G8 G9 b4 b9 Δ0 (Typed.both (s7 bs)) (at6 bs) (Plain.t-call-plain 𝓤 H A W 𝓣 1 ps·3 r·3 (claims· .6) (claims· .7)
+          d6 : Typed.Typed 𝓤 H A 𝓣 E G10 b9 Δ0 (at6 bs)
+          d6 = Typed.g-pre 𝓤 H A W 𝓣 E G10 G11 b9 Δ0 (Typed.pass T10 T11 (s9 bs)) (at5 bs) (Scalar.g-room 𝓤 H A W E G10 7 Laws'''.mir
+              (Local.room-whole 𝓤 H A W (Declared.row Question.the-type) Laws'''.mir Path.refl)) d5
+          d7 : Typed.Typed 𝓤 H A 𝓣 E G9 b9 Δ0 (at7 bs)
+          d7 = Typed.g-pre 𝓤 H A W 𝓣 E G9 G10 b9 Δ0 (Typed.pass T9 T10 (s8 bs)) (at6 bs) (Scalar.g-room 𝓤 H A W E G9 2 Laws''.mir (Local.room-whole 𝓤
+              H A W (Declared.row Places.the-type) Laws''.mir Path.refl)) d6
+          d8 : Typed.Typed 𝓤 H A 𝓣 E G8 b10 Δ0 (at8 bs)
+          d8 = Typed.s-seq 𝓤 H A W 𝓣 E G8 G9 b4 b9 Δ0 (Typed.both (s7 bs)) (at7 bs) (Plain.t-call-plain 𝓤 H A W 𝓣 1 ps·3 r·3 (claims· .6) (claims· .7)
               "hnsr_circuit::tables::ledger::count_usage" (known .3) E (λ pos β. β) G8 (record { pos = 1; ty = Syntax.tyRef (Syntax.named 0)
-              Syntax.imm ReservationUsage.to; ref = λ x. x; }, (record { pos = 6; st = List.[]; d = 0; at = λ x. x }, tt),) 7 (0 ∷ List.[])
-              (Call.sub-id 𝓤 H A W (G8 .slots)) (ShrSlice.spares-sslice 𝓤 H A W ReservationUsage.row ref0 0, Shared.reads-sslice 𝓤 H A W
-              ReservationUsage.row ref0 0, Path.refl, ((Yields.yields-copy 𝓤 H A W (λ ρ. Unit) (Declared.row Question.the-type) Path.refl
-              (Copies.cStruct Question.the-type Laws''.the-laws Laws''.the-copy .copy 𝓤 H A W) (Rows.whole (Declared.row Question.the-type)) (λ x. x)
-              (λ x. x) (λ ρ told. Local.mem-whole 𝓤 H A W (Declared.row Question.the-type) ρ) λ ρ told. Local.whole-mem 𝓤 H A W (Declared.row
-              Question.the-type) ρ, Path.refl,), tt,),) (Reads.room-gone 𝓤 H A (Syntax.tyInt Syntax.w64)) (tt, tt) Path.refl) d6
-          d8 : Typed.Typed 𝓤 H A 𝓣 E G7 b11 Δ0 (at8 bs)
-          d8 = Typed.s-seq 𝓤 H A W 𝓣 E G7 G8 b3 b10 Δ0 (Typed.both (s6 bs)) (at7 bs) (Plain.t-call-plain 𝓤 H A W 𝓣 0 ps·2 r·2 (claims· .4) (claims·
-              .5) "hnsr_circuit::question::used" (known .2) E (λ pos β. β) G7 tt 6 List.[] (Call.sub-id 𝓤 H A W (G7 .slots)) tt (Reads.room-gone 𝓤 H A
-              Laws''.mir) tt Path.refl) d7
-          d9 : Typed.Typed 𝓤 H A 𝓣 E G6 b11 Δ0 (at9 bs)
-          d9 = Typed.g-pre 𝓤 H A W 𝓣 E G6 G7 b11 Δ0 (Typed.pass T6 T7 (s5 bs)) (at8 bs) (Scalar.g-room 𝓤 H A W E G6 4 Laws''.mir (Local.room-whole 𝓤 H
-              A W (Declared.row Question.the-type) Laws''.mir Path.refl)) d8
-          d10 : Typed.Typed 𝓤 H A 𝓣 E G5 b12 Δ0 (at10 bs)
-          d10 = Typed.s-seq 𝓤 H A W 𝓣 E G5 G6 b2 b11 Δ0 (Typed.both (s4 bs)) (at9 bs) (Plain.t-call-plain 𝓤 H A W 𝓣 1 ps·1 r·1 (claims· .2) (claims·
+              Syntax.imm ReservationUsage.to; ref = λ x. x; }, (record { pos = 2; st = List.[]; d = 0; at = λ x. x }, (record { pos = 7; st = List.[];
+              d = 0; at = λ x. x }, tt),),) 8 (0 ∷ List.[]) (Call.sub-id 𝓤 H A W (G8 .slots)) (ShrSlice.spares-sslice 𝓤 H A W ReservationUsage.row
+              ref0 0, Shared.reads-sslice 𝓤 H A W ReservationUsage.row ref0 0, Path.refl, ((Yields.yields-copy 𝓤 H A W (λ ρ. Unit) (Declared.row
+              Places.the-type) Path.refl (Copies.cStruct Places.the-type Laws''.the-laws Laws''.the-copy .copy 𝓤 H A W) (Rows.whole (Declared.row
+              Places.the-type)) (λ x. x) (λ x. x) (λ ρ told. Local.mem-whole 𝓤 H A W (Declared.row Places.the-type) ρ) λ ρ told. Local.whole-mem 𝓤 H A
+              W (Declared.row Places.the-type) ρ, Path.refl,), ((Yields.yields-copy 𝓤 H A W (λ ρ. Unit) (Declared.row Question.the-type) Path.refl
+              (Copies.cStruct Question.the-type Laws'''.the-laws Laws'''.the-copy .copy 𝓤 H A W) (Rows.whole (Declared.row Question.the-type)) (λ x.
+              x) (λ x. x) (λ ρ told. Local.mem-whole 𝓤 H A W (Declared.row Question.the-type) ρ) λ ρ told. Local.whole-mem 𝓤 H A W (Declared.row
+              Question.the-type) ρ, Path.refl,), tt,),),) (Reads.room-gone 𝓤 H A (Syntax.tyInt Syntax.w64)) (tt, tt) Path.refl) d7
+          d9 : Typed.Typed 𝓤 H A 𝓣 E G7 b11 Δ0 (at9 bs)
+          d9 = Typed.s-seq 𝓤 H A W 𝓣 E G7 G8 b3 b10 Δ0 (Typed.both (s6 bs)) (at8 bs) (Plain.t-call-plain 𝓤 H A W 𝓣 0 ps·2 r·2 (claims· .4) (claims·
+              .5) "hnsr_circuit::question::used" (known .2) E (λ pos β. β) G7 tt 7 List.[] (Call.sub-id 𝓤 H A W (G7 .slots)) tt (Reads.room-gone 𝓤 H A
+              Laws'''.mir) tt Path.refl) d8
+          d10 : Typed.Typed 𝓤 H A 𝓣 E G6 b11 Δ0 (at10 bs)
+          d10 = Typed.g-pre 𝓤 H A W 𝓣 E G6 G7 b11 Δ0 (Typed.pass T6 T7 (s5 bs)) (at9 bs) (Scalar.g-room 𝓤 H A W E G6 5 Laws'''.mir (Local.room-whole 𝓤
+              H A W (Declared.row Question.the-type) Laws'''.mir Path.refl)) d9
+          d11 : Typed.Typed 𝓤 H A 𝓣 E G5 b12 Δ0 (at11 bs)
+          d11 = Typed.s-seq 𝓤 H A W 𝓣 E G5 G6 b2 b11 Δ0 (Typed.both (s4 bs)) (at10 bs) (Plain.t-call-plain 𝓤 H A W 𝓣 1 ps·1 r·1 (claims· .2) (claims·
               .3) "hnsr_circuit::tables::ledger::find_usage" (known .1) E (λ pos β. β) G5 (record { pos = 1; ty = Syntax.tyRef (Syntax.named 0)
-              Syntax.imm ReservationUsage.to; ref = λ x. x; }, (record { pos = 4; st = List.[]; d = 0; at = λ x. x }, tt),) 5 (0 ∷ List.[])
-              (Call.sub-id 𝓤 H A W (G5 .slots)) (ShrSlice.spares-sslice 𝓤 H A W ReservationUsage.row ref0 0, Shared.reads-sslice 𝓤 H A W
-              ReservationUsage.row ref0 0, Path.refl, ((Yields.yields-copy 𝓤 H A W (λ ρ. Unit) (Declared.row Question.the-type) Path.refl
-              (Copies.cStruct Question.the-type Laws''.the-laws Laws''.the-copy .copy 𝓤 H A W) (Rows.whole (Declared.row Question.the-type)) (λ x. x)
-              (λ x. x) (λ ρ told. Local.mem-whole 𝓤 H A W (Declared.row Question.the-type) ρ) λ ρ told. Local.whole-mem 𝓤 H A W (Declared.row
-              Question.the-type) ρ, Path.refl,), tt,),) (Reads.room-gone 𝓤 H A (Syntax.tyInt Syntax.w64)) (tt, tt) Path.refl) d9
-          d11 : Typed.Typed 𝓤 H A 𝓣 E G4 b12 Δ0 (at11 bs)
-          d11 = Typed.g-pre 𝓤 H A W 𝓣 E G4 G5 b12 Δ0 (Typed.pass T4 T5 (s3 bs)) (at10 bs) (Scalar.g-room 𝓤 H A W E G4 3 Laws.mir (Local.room-whole 𝓤 H
-              A W (Declared.row ReservationId.the-type) Laws.mir Path.refl)) d10
-          d12 : Typed.Typed 𝓤 H A 𝓣 E G3 b13 Δ0 (at12 bs)
-          d12 = Typed.s-seq 𝓤 H A W 𝓣 E G3 G4 b1 b12 Δ0 (Typed.both (s2 bs)) (at11 bs) (Plain.t-call-plain 𝓤 H A W 𝓣 0 ps·0 r·0 (claims· .0) (claims·
-              .1) "hnsr_circuit::question::at_reservation" (known .0) E (λ pos β. β) G3 (record { pos = 3; st = List.[]; d = 0; at = λ x. x }, tt) 4
+              Syntax.imm ReservationUsage.to; ref = λ x. x; }, (record { pos = 2; st = List.[]; d = 0; at = λ x. x }, (record { pos = 5; st = List.[];
+              d = 0; at = λ x. x }, tt),),) 6 (0 ∷ List.[]) (Call.sub-id 𝓤 H A W (G5 .slots)) (ShrSlice.spares-sslice 𝓤 H A W ReservationUsage.row
+              ref0 0, Shared.reads-sslice 𝓤 H A W ReservationUsage.row ref0 0, Path.refl, ((Yields.yields-copy 𝓤 H A W (λ ρ. Unit) (Declared.row
+              Places.the-type) Path.refl (Copies.cStruct Places.the-type Laws''.the-laws Laws''.the-copy .copy 𝓤 H A W) (Rows.whole (Declared.row
+              Places.the-type)) (λ x. x) (λ x. x) (λ ρ told. Local.mem-whole 𝓤 H A W (Declared.row Places.the-type) ρ) λ ρ told. Local.whole-mem 𝓤 H A
+              W (Declared.row Places.the-type) ρ, Path.refl,), ((Yields.yields-copy 𝓤 H A W (λ ρ. Unit) (Declared.row Question.the-type) Path.refl
+              (Copies.cStruct Question.the-type Laws'''.the-laws Laws'''.the-copy .copy 𝓤 H A W) (Rows.whole (Declared.row Question.the-type)) (λ x.
+              x) (λ x. x) (λ ρ told. Local.mem-whole 𝓤 H A W (Declared.row Question.the-type) ρ) λ ρ told. Local.whole-mem 𝓤 H A W (Declared.row
+              Question.the-type) ρ, Path.refl,), tt,),),) (Reads.room-gone 𝓤 H A (Syntax.tyInt Syntax.w64)) (tt, tt) Path.refl) d10
+          d12 : Typed.Typed 𝓤 H A 𝓣 E G4 b12 Δ0 (at12 bs)
+          d12 = Typed.g-pre 𝓤 H A W 𝓣 E G4 G5 b12 Δ0 (Typed.pass T4 T5 (s3 bs)) (at11 bs) (Scalar.g-room 𝓤 H A W E G4 4 Laws.mir (Local.room-whole 𝓤 H
+              A W (Declared.row ReservationId.the-type) Laws.mir Path.refl)) d11
+          d13 : Typed.Typed 𝓤 H A 𝓣 E G3 b13 Δ0 (at13 bs)
+          d13 = Typed.s-seq 𝓤 H A W 𝓣 E G3 G4 b1 b12 Δ0 (Typed.both (s2 bs)) (at12 bs) (Plain.t-call-plain 𝓤 H A W 𝓣 0 ps·0 r·0 (claims· .0) (claims·
+              .1) "hnsr_circuit::question::at_reservation" (known .0) E (λ pos β. β) G3 (record { pos = 4; st = List.[]; d = 0; at = λ x. x }, tt) 5
               List.[] (Call.sub-id 𝓤 H A W (G3 .slots)) ((Yields.yields-copy 𝓤 H A W (λ ρ. Unit) (Declared.row ReservationId.the-type) Path.refl
               (Copies.cStruct ReservationId.the-type Laws.the-laws Laws.the-copy .copy 𝓤 H A W) (Rows.whole (Declared.row ReservationId.the-type)) (λ
               x. x) (λ x. x) (λ ρ told. Local.mem-whole 𝓤 H A W (Declared.row ReservationId.the-type) ρ) λ ρ told. Local.whole-mem 𝓤 H A W
-              (Declared.row ReservationId.the-type) ρ, Path.refl,), tt,) (Reads.room-gone 𝓤 H A Laws''.mir) tt Path.refl) d11
-          d13 : Typed.Typed 𝓤 H A 𝓣 E G2 b13 Δ0 (at13 bs)
-          d13 = Typed.g-pre 𝓤 H A W 𝓣 E G2 G3 b13 Δ0 (Typed.pass T2 T3 (s1 bs)) (at12 bs) (Scalar.g-room 𝓤 H A W E G2 2 Laws'''.mir (Local.room-whole
-              𝓤 H A W (Declared.row RelayTicket.the-type) Laws'''.mir Path.refl)) d12
-          d14 : Typed.Typed 𝓤 H A 𝓣 E G0 b14 Δ0 (at14 bs)
-          d14 = Typed.s-seq 𝓤 H A W 𝓣 E G0 G2 b0 b13 Δ0 (Typed.both (s0 bs)) (at13 bs) (WayStmt.t-way-copy-out 𝓤 H A W E 𝓣 (Declared.row
+              (Declared.row ReservationId.the-type) ρ, Path.refl,), tt,) (Reads.room-gone 𝓤 H A Laws'''.mir) tt Path.refl) d12
+          d14 : Typed.Typed 𝓤 H A 𝓣 E G2 b13 Δ0 (at14 bs)
+          d14 = Typed.g-pre 𝓤 H A W 𝓣 E G2 G3 b13 Δ0 (Typed.pass T2 T3 (s1 bs)) (at13 bs) (Scalar.g-room 𝓤 H A W E G2 3 Laws''''.mir (Local.room-whole
+              𝓤 H A W (Declared.row RelayTicket.the-type) Laws''''.mir Path.refl)) d13
+          d15 : Typed.Typed 𝓤 H A 𝓣 E G0 b14 Δ0 (at15 bs)
+          d15 = Typed.s-seq 𝓤 H A W 𝓣 E G0 G2 b0 b13 Δ0 (Typed.both (s0 bs)) (at14 bs) (WayStmt.t-way-copy-out 𝓤 H A W E 𝓣 (Declared.row
               ReservationId.the-type) Path.refl (Copies.cStruct ReservationId.the-type Laws.the-laws Laws.the-copy .copy 𝓤 H A W) (λ ρ. Unit) G0
-              (Row.out 2 (G0 .locals)) (λ u. Row.drop 2 (G0 .locals) u) (G0 .slots) 2 (λ t. (Syntax.field 0) ∷ t) Laws.mir Laws.mir 3 (Rows.whole
+              (Row.out 3 (G0 .locals)) (λ u. Row.drop 3 (G0 .locals) u) (G0 .slots) 3 (λ t. (Syntax.field 0) ∷ t) Laws.mir Laws.mir 4 (Rows.whole
               (Declared.row ReservationId.the-type)) (λ x. x) (λ u. At.getAt (RelayTicket.the-type .parts) 0 (RelayTicket.struct .as-values (u .1 .1
-              .0))) (λ u. (Row.hd 0 (Row.tl (Row.tl bs)), Nat._+_ 0 0)) (λ T′. record { locals = Row.setRow 2 (2, Rows.whole (Declared.row
-              RelayTicket.the-type)) T′; slots = G0 .slots; }) (λ u T′ m′. Row.set 2 (2, Rows.whole (Declared.row RelayTicket.the-type)) (u .1 .1 .0)
-              T′ m′) (λ u. Unit) (λ x. Unit) (Own.told-none 𝓤 H A (G0 .slots)) (DerefMove.learns-nothing 𝓤 H A (Declared.row ReservationId.the-type))
-              (λ ρ told u asked. Way'.w-partˢ 𝓤 H A W E (Declared.row RelayTicket.the-type) (Declared.row ReservationId.the-type) Laws'''.mir Laws.mir
-              0 0 (u .1 .1 .0) (At.getAt (RelayTicket.the-type .parts) 0 (RelayTicket.struct .as-values (u .1 .1 .0))) (Row.hd 0 (Row.tl (Row.tl bs)),
-              0) (Way.w-look 𝓤 H A W E (Way.w-local 𝓤 H A W E G0 ρ u (G0 .slots) 2 (Declared.row RelayTicket.the-type) (Rows.whole (Declared.row
-              RelayTicket.the-type)) (λ x. x) (λ x. x) (u .1 .1 .0) (Local.mem-whole 𝓤 H A W (Declared.row RelayTicket.the-type) ρ (u .1 .1 .0)
-              (Row.hd 0 (Row.tl (Row.tl bs)))) (Local.whole-mem 𝓤 H A W (Declared.row RelayTicket.the-type) ρ (u .1 .1 .0) (Row.hd 0 (Row.tl (Row.tl
-              bs)))))) Path.refl λ q. Inner.cut-record 𝓤 H A q (Declared.row RelayTicket.the-type) ReservationId.the-type 0 (u .1 .1 .0) (u .1 .1 .0)
-              (At.getAt (RelayTicket.the-type .parts) 0 (RelayTicket.struct .as-values (u .1 .1 .0))) (At.getAt (RelayTicket.the-type .parts) 0
-              (RelayTicket.struct .as-values (u .1 .1 .0))) (Row.hd 0 (Row.tl (Row.tl bs)), 0) (Behind.look-at 𝓤 H A W q RelayTicket.the-type
-              Laws'''.the-laws 0 0 Path.refl Path.refl (Row.hd 0 (Row.tl (Row.tl bs)), 0) (u .1 .1 .0) (RelayTicket.struct .as-values (u .1 .1 .0))
-              Path.refl)) (Reads.room-gone 𝓤 H A Laws.mir) (Yields.makes-mem 𝓤 H A W (λ ρ. Unit) (Declared.row ReservationId.the-type) Path.refl
-              (Rows.whole (Declared.row ReservationId.the-type)) (λ x. x) λ ρ told. Local.whole-mem 𝓤 H A W (Declared.row ReservationId.the-type) ρ)
-              Path.refl Path.refl Path.refl) d13
+              .1 .0))) (λ u. (Row.hd 0 (Row.tl (Row.tl (Row.tl bs))), Nat._+_ 0 0)) (λ T′. record { locals = Row.setRow 3 (3, Rows.whole (Declared.row
+              RelayTicket.the-type)) T′; slots = G0 .slots; }) (λ u T′ m′. Row.set 3 (3, Rows.whole (Declared.row RelayTicket.the-type)) (u .1 .1 .1
+              .0) T′ m′) (λ u. Unit) (λ x. Unit) (Own.told-none 𝓤 H A (G0 .slots)) (DerefMove.learns-nothing 𝓤 H A (Declared.row
+              ReservationId.the-type)) (λ ρ told u asked. Way'.w-partˢ 𝓤 H A W E (Declared.row RelayTicket.the-type) (Declared.row
+              ReservationId.the-type) Laws''''.mir Laws.mir 0 0 (u .1 .1 .1 .0) (At.getAt (RelayTicket.the-type .parts) 0 (RelayTicket.struct
+              .as-values (u .1 .1 .1 .0))) (Row.hd 0 (Row.tl (Row.tl (Row.tl bs))), 0) (Way.w-look 𝓤 H A W E (Way.w-local 𝓤 H A W E G0 ρ u (G0 .slots)
+              3 (Declared.row RelayTicket.the-type) (Rows.whole (Declared.row RelayTicket.the-type)) (λ x. x) (λ x. x) (u .1 .1 .1 .0)
+              (Local.mem-whole 𝓤 H A W (Declared.row RelayTicket.the-type) ρ (u .1 .1 .1 .0) (Row.hd 0 (Row.tl (Row.tl (Row.tl bs)))))
+              (Local.whole-mem 𝓤 H A W (Declared.row RelayTicket.the-type) ρ (u .1 .1 .1 .0) (Row.hd 0 (Row.tl (Row.tl (Row.tl bs))))))) Path.refl λ
+              q. Inner.cut-record 𝓤 H A q (Declared.row RelayTicket.the-type) ReservationId.the-type 0 (u .1 .1 .1 .0) (u .1 .1 .1 .0) (At.getAt
+              (RelayTicket.the-type .parts) 0 (RelayTicket.struct .as-values (u .1 .1 .1 .0))) (At.getAt (RelayTicket.the-type .parts) 0
+              (RelayTicket.struct .as-values (u .1 .1 .1 .0))) (Row.hd 0 (Row.tl (Row.tl (Row.tl bs))), 0) (Behind.look-at 𝓤 H A W q
+              RelayTicket.the-type Laws''''.the-laws 0 0 Path.refl Path.refl (Row.hd 0 (Row.tl (Row.tl (Row.tl bs))), 0) (u .1 .1 .1 .0)
+              (RelayTicket.struct .as-values (u .1 .1 .1 .0)) Path.refl)) (Reads.room-gone 𝓤 H A Laws.mir) (Yields.makes-mem 𝓤 H A W (λ ρ. Unit)
+              (Declared.row ReservationId.the-type) Path.refl (Rows.whole (Declared.row ReservationId.the-type)) (λ x. x) λ ρ told. Local.whole-mem 𝓤
+              H A W (Declared.row ReservationId.the-type) ρ) Path.refl Path.refl Path.refl) d14
           pub typed : Typed.Typed 𝓤 H A 𝓣 E (Function.Γin 1 ps r xs m κs qs) b14 (Function.Δret 1 ps r xs m κs qs) (Φ bs)
-          typed = d14
+          typed = d15
       module _ (κs : Lifetimes.Lfts 1) where
         pub record Args : Type 0 where
           pub ledger : Kinds.Den { n = 1 } κs (ShrSlice.pShrS ReservationUsage.row 0 tt)
-          pub ticket : Kinds.Den { n = 1 } κs (Value.pVal record { ty = Declared.row RelayTicket.the-type; one = Path.refl; val = Laws''''.val
-              RelayTicket.the-type Laws'''.the-laws; tells = Laws''''.tells RelayTicket.the-type Laws'''.the-laws; still = Laws''''.still
-              RelayTicket.the-type Laws'''.the-copy Exit.yes; row = Rows.whole (Declared.row RelayTicket.the-type); rd = λ x. x; mk = λ x. x; } λ M 𝓤
-              H A W. record { copies = Laws''''.copy RelayTicket.the-type Laws'''.the-copy 𝓤 H A W; lawful = Laws''''.lawful RelayTicket.the-type
-              Laws'''.the-laws 𝓤 H A W; makes = Laws''''.makes RelayTicket.the-type Laws'''.the-plain 𝓤 H A; in-mem = Local.mem-whole 𝓤 H A W
+          pub places : Kinds.Den { n = 1 } κs (Value.pVal record { ty = Declared.row Places.the-type; one = Path.refl; val = Laws'''''.val
+              Places.the-type Laws''.the-laws; tells = Laws'''''.tells Places.the-type Laws''.the-laws; still = Laws'''''.still Places.the-type
+              Laws''.the-copy Exit.yes; row = Rows.whole (Declared.row Places.the-type); rd = λ x. x; mk = λ x. x; } λ M 𝓤 H A W. record { copies =
+              Laws'''''.copy Places.the-type Laws''.the-copy 𝓤 H A W; lawful = Laws'''''.lawful Places.the-type Laws''.the-laws 𝓤 H A W; makes =
+              Laws'''''.makes Places.the-type Laws''.the-plain 𝓤 H A; in-mem = Local.mem-whole 𝓤 H A W (Declared.row Places.the-type); of-mem =
+              Local.whole-mem 𝓤 H A W (Declared.row Places.the-type); })
+          pub ticket : Kinds.Den { n = 1 } κs (Value.pVal record { ty = Declared.row RelayTicket.the-type; one = Path.refl; val = Laws'''''.val
+              RelayTicket.the-type Laws''''.the-laws; tells = Laws'''''.tells RelayTicket.the-type Laws''''.the-laws; still = Laws'''''.still
+              RelayTicket.the-type Laws''''.the-copy Exit.yes; row = Rows.whole (Declared.row RelayTicket.the-type); rd = λ x. x; mk = λ x. x; } λ M 𝓤
+              H A W. record { copies = Laws'''''.copy RelayTicket.the-type Laws''''.the-copy 𝓤 H A W; lawful = Laws'''''.lawful RelayTicket.the-type
+              Laws''''.the-laws 𝓤 H A W; makes = Laws'''''.makes RelayTicket.the-type Laws''''.the-plain 𝓤 H A; in-mem = Local.mem-whole 𝓤 H A W
               (Declared.row RelayTicket.the-type); of-mem = Local.whole-mem 𝓤 H A W (Declared.row RelayTicket.the-type); })
         abbrev pub dens : (a : Args) → Kinds.Dens κs ps
-        dens = λ a. (a .ledger, (a .ticket, tt))
+        dens = λ a. (a .ledger, (a .places, (a .ticket, tt)))
       abbrev pub m0 : (κs : Lifetimes.Lfts 1) → (args : Args κs) → (blocks : List.List Nat.ℕ) → Typed.Mo T0
       m0 = λ κs args blocks. (tt, Enter.partsP κs 1 ps xs (dens κs args))
       abbrev W0 : (κs : Lifetimes.Lfts 1) → (args : Args κs) → (blocks : List.List Nat.ℕ) → Typed.Want O0
@@ -508,14 +557,14 @@ module _ (claims· : Claims) where
       m3 = λ before given. s2 (before .before .blocks) .next (m2 (before .before) (before .id .given)) given
       module _ (before· : After-id) where
         abbrev pub After-at-reservation·own : Type 0
-        After-at-reservation·own = Called.Called ps·0 r·0 (claims· .1) T3 (record { pos = 3; st = List.[]; d = 0; at = λ x. x }, tt,) (m2 (before·
+        After-at-reservation·own = Called.Called ps·0 r·0 (claims· .1) T3 (record { pos = 4; st = List.[]; d = 0; at = λ x. x }, tt,) (m2 (before·
             .before) (before· .id .given))
       pub record After-at-reservation : Type 0 where
         pub before : After-id
         pub at-reservation : After-at-reservation·own before
       abbrev pub After-at-reservation·gave : (c : After-at-reservation) → s2 (c .before .before .blocks) .gives (m2 (c .before .before) (c .before .id
           .given))
-      After-at-reservation·gave = λ c. Called.given ps·0 r·0 (claims· .1) T3 (record { pos = 3; st = List.[]; d = 0; at = λ x. x }, tt,) (m2 (c
+      After-at-reservation·gave = λ c. Called.given ps·0 r·0 (claims· .1) T3 (record { pos = 4; st = List.[]; d = 0; at = λ x. x }, tt,) (m2 (c
           .before .before) (c .before .id .given)) (c .at-reservation)
       abbrev pub m4 : (before : After-id) → (given : s2 (before .before .blocks) .gives (m2 (before .before) (before .id .given))) → Typed.Mo T5
       m4 = λ before given. s3 (before .before .blocks) (m3 before given)
@@ -527,16 +576,16 @@ module _ (claims· : Claims) where
       module _ (before· : After-at-reservation) where
         abbrev pub After-find-usage·own : Type 0
         After-find-usage·own = Called.Called ps·1 r·1 (claims· .3) T5 (record { pos = 1; ty = Syntax.tyRef (Syntax.named 0) Syntax.imm
-            ReservationUsage.to; ref = λ x. x; }, (record { pos = 4; st = List.[]; d = 0; at = λ x. x }, tt),) (m4 (before· .before)
-            (After-at-reservation·gave before·))
+            ReservationUsage.to; ref = λ x. x; }, (record { pos = 2; st = List.[]; d = 0; at = λ x. x }, (record { pos = 5; st = List.[]; d = 0; at =
+            λ x. x }, tt),),) (m4 (before· .before) (After-at-reservation·gave before·))
       pub record After-find-usage : Type 0 where
         pub before : After-at-reservation
         pub find-usage : After-find-usage·own before
       abbrev pub After-find-usage·gave : (c : After-find-usage) → s4 (c .before .before .before .blocks) .gives (m4 (c .before .before)
           (After-at-reservation·gave (c .before)))
       After-find-usage·gave = λ c. Called.given ps·1 r·1 (claims· .3) T5 (record { pos = 1; ty = Syntax.tyRef (Syntax.named 0) Syntax.imm
-          ReservationUsage.to; ref = λ x. x; }, (record { pos = 4; st = List.[]; d = 0; at = λ x. x }, tt),) (m4 (c .before .before)
-          (After-at-reservation·gave (c .before))) (c .find-usage)
+          ReservationUsage.to; ref = λ x. x; }, (record { pos = 2; st = List.[]; d = 0; at = λ x. x }, (record { pos = 5; st = List.[]; d = 0; at = λ
+          x. x }, tt),),) (m4 (c .before .before) (After-at-reservation·gave (c .before))) (c .find-usage)
       abbrev pub m6 : (before : After-at-reservation) → (given : s4 (before .before .before .blocks) .gives (m4 (before .before)
           (After-at-reservation·gave before))) → Typed.Mo T7
       m6 = λ before given. s5 (before .before .before .blocks) (m5 before given)
@@ -562,93 +611,97 @@ module _ (claims· : Claims) where
       module _ (before· : After-used) where
         abbrev pub After-count-usage·own : Type 0
         After-count-usage·own = Called.Called ps·3 r·3 (claims· .7) T8 (record { pos = 1; ty = Syntax.tyRef (Syntax.named 0) Syntax.imm
-            ReservationUsage.to; ref = λ x. x; }, (record { pos = 6; st = List.[]; d = 0; at = λ x. x }, tt),) (m7 (before· .before) (After-used·gave
-            before·))
+            ReservationUsage.to; ref = λ x. x; }, (record { pos = 2; st = List.[]; d = 0; at = λ x. x }, (record { pos = 7; st = List.[]; d = 0; at =
+            λ x. x }, tt),),) (m7 (before· .before) (After-used·gave before·))
       pub record After-count-usage : Type 0 where
         pub before : After-used
         pub count-usage : After-count-usage·own before
       abbrev pub After-count-usage·gave : (c : After-count-usage) → s7 (c .before .before .before .before .before .blocks) .gives (m7 (c .before
           .before) (After-used·gave (c .before)))
       After-count-usage·gave = λ c. Called.given ps·3 r·3 (claims· .7) T8 (record { pos = 1; ty = Syntax.tyRef (Syntax.named 0) Syntax.imm
-          ReservationUsage.to; ref = λ x. x; }, (record { pos = 6; st = List.[]; d = 0; at = λ x. x }, tt),) (m7 (c .before .before) (After-used·gave
-          (c .before))) (c .count-usage)
+          ReservationUsage.to; ref = λ x. x; }, (record { pos = 2; st = List.[]; d = 0; at = λ x. x }, (record { pos = 7; st = List.[]; d = 0; at = λ
+          x. x }, tt),),) (m7 (c .before .before) (After-used·gave (c .before))) (c .count-usage)
       abbrev pub m9 : (before : After-used) → (given : s7 (before .before .before .before .before .blocks) .gives (m7 (before .before)
           (After-used·gave before))) → Typed.Mo T10
       m9 = λ before given. s8 (before .before .before .before .before .blocks) (m8 before given)
       abbrev pub m10 : (before : After-used) → (given : s7 (before .before .before .before .before .blocks) .gives (m7 (before .before)
           (After-used·gave before))) → Typed.Mo T11
       m10 = λ before given. s9 (before .before .before .before .before .blocks) (m9 before given)
+      abbrev pub m11 : (before : After-used) → (given : s7 (before .before .before .before .before .blocks) .gives (m7 (before .before)
+          (After-used·gave before))) → Typed.Mo T12
+      m11 = λ before given. s10 (before .before .before .before .before .blocks) (m10 before given)
       abbrev pub Need-ledger-room-requires : Type 0
-      Need-ledger-room-requires = (c : After-count-usage) → s10 (c .before .before .before .before .before .blocks) .asks (m10 (c .before)
+      Need-ledger-room-requires = (c : After-count-usage) → s11 (c .before .before .before .before .before .blocks) .asks (m11 (c .before)
           (After-count-usage·gave c))
-      abbrev pub m11 : (before : After-count-usage) → (given : s10 (before .before .before .before .before .before .blocks) .gives (m10 (before
-          .before) (After-count-usage·gave before))) → Typed.Mo T12
-      m11 = λ before given. s10 (before .before .before .before .before .before .blocks) .next (m10 (before .before) (After-count-usage·gave before))
+      abbrev pub m12 : (before : After-count-usage) → (given : s11 (before .before .before .before .before .before .blocks) .gives (m11 (before
+          .before) (After-count-usage·gave before))) → Typed.Mo T13
+      m12 = λ before given. s11 (before .before .before .before .before .before .blocks) .next (m11 (before .before) (After-count-usage·gave before))
           given
       module _ (before· : After-count-usage) where
         abbrev pub After-ledger-room·own : Type 0
-        After-ledger-room·own = Called.Called ps·4 r·4 (claims· .9) T11 (Num.vAt 5 λ x. x, (Num.vAt 7 λ x. x, (Num.vAt 8 λ x. x, tt)),) (m10 (before·
+        After-ledger-room·own = Called.Called ps·4 r·4 (claims· .9) T12 (Num.vAt 6 λ x. x, (Num.vAt 8 λ x. x, (Num.vAt 9 λ x. x, tt)),) (m11 (before·
             .before) (After-count-usage·gave before·))
       pub record After-ledger-room : Type 0 where
         pub before : After-count-usage
         pub ledger-room : After-ledger-room·own before
-      abbrev pub After-ledger-room·gave : (c : After-ledger-room) → s10 (c .before .before .before .before .before .before .blocks) .gives (m10 (c
+      abbrev pub After-ledger-room·gave : (c : After-ledger-room) → s11 (c .before .before .before .before .before .before .blocks) .gives (m11 (c
           .before .before) (After-count-usage·gave (c .before)))
-      After-ledger-room·gave = λ c. Called.given ps·4 r·4 (claims· .9) T11 (Num.vAt 5 λ x. x, (Num.vAt 7 λ x. x, (Num.vAt 8 λ x. x, tt)),) (m10 (c
+      After-ledger-room·gave = λ c. Called.given ps·4 r·4 (claims· .9) T12 (Num.vAt 6 λ x. x, (Num.vAt 8 λ x. x, (Num.vAt 9 λ x. x, tt)),) (m11 (c
           .before .before) (After-count-usage·gave (c .before))) (c .ledger-room)
-      abbrev pub m12 : (before : After-count-usage) → (given : s10 (before .before .before .before .before .before .blocks) .gives (m10 (before
-          .before) (After-count-usage·gave before))) → Typed.Mo T13
-      m12 = λ before given. s11 (before .before .before .before .before .before .blocks) (m11 before given)
-      abbrev pub m13 : (before : After-count-usage) → (given : s10 (before .before .before .before .before .before .blocks) .gives (m10 (before
+      abbrev pub m13 : (before : After-count-usage) → (given : s11 (before .before .before .before .before .before .blocks) .gives (m11 (before
           .before) (After-count-usage·gave before))) → Typed.Mo T14
       m13 = λ before given. s12 (before .before .before .before .before .before .blocks) (m12 before given)
-      abbrev pub m14 : (before : After-count-usage) → (given : s10 (before .before .before .before .before .before .blocks) .gives (m10 (before
+      abbrev pub m14 : (before : After-count-usage) → (given : s11 (before .before .before .before .before .before .blocks) .gives (m11 (before
           .before) (After-count-usage·gave before))) → Typed.Mo T15
       m14 = λ before given. s13 (before .before .before .before .before .before .blocks) (m13 before given)
+      abbrev pub m15 : (before : After-count-usage) → (given : s11 (before .before .before .before .before .before .blocks) .gives (m11 (before
+          .before) (After-count-usage·gave before))) → Typed.Mo T16
+      m15 = λ before given. s14 (before .before .before .before .before .before .blocks) (m14 before given)
       abbrev pub Need-returns : Type 0
       Need-returns = (c : After-ledger-room) → Post· (c .before .before .before .before .before .before .κs) (dens (c .before .before .before .before
           .before .before .κs) (c .before .before .before .before .before .before .args)) (Function.resV r (c .before .before .before .before .before
-          .before .κs) (m14 (c .before) (After-ledger-room·gave c) .0)) (Clauses.atExit (Kinds.endedOf 1 ps r) (c .before .before .before .before
+          .before .κs) (m15 (c .before) (After-ledger-room·gave c) .0)) (Clauses.atExit (Kinds.endedOf 1 ps r) (c .before .before .before .before
           .before .before .κs) (dens (c .before .before .before .before .before .before .κs) (c .before .before .before .before .before .before
           .args)) (Enter.lastsP (c .before .before .before .before .before .before .κs) 1 ps xs (dens (c .before .before .before .before .before
-          .before .κs) (c .before .before .before .before .before .before .args)) (m14 (c .before) (After-ledger-room·gave c) .1)))
+          .before .κs) (c .before .before .before .before .before .before .args)) (m15 (c .before) (After-ledger-room·gave c) .1)))
       module _ (at-reservation-requires : Need-at-reservation-requires) (find-usage-requires : Need-find-usage-requires) (used-requires :
           Need-used-requires) (count-usage-requires : Need-count-usage-requires) (ledger-room-requires : Need-ledger-room-requires) (returns :
           Need-returns) where
         lay5 : (c : After-ledger-room) → at3 (c .before .before .before .before .before .before .blocks) (W0 (c .before .before .before .before
             .before .before .κs) (c .before .before .before .before .before .before .args) (c .before .before .before .before .before .before
-            .blocks)) (m11 (c .before) (After-ledger-room·gave c))
-        lay5 = λ c. ((Path.refl, (tt, tt)), returns record { before = c .before; ledger-room = c .ledger-room },)
-        lay4 : (c : After-count-usage) → at6 (c .before .before .before .before .before .blocks) (W0 (c .before .before .before .before .before .κs)
+            .blocks)) (m12 (c .before) (After-ledger-room·gave c))
+        lay5 = λ c. ((Path.refl, (tt, (tt, tt))), returns record { before = c .before; ledger-room = c .ledger-room },)
+        lay4 : (c : After-count-usage) → at7 (c .before .before .before .before .before .blocks) (W0 (c .before .before .before .before .before .κs)
             (c .before .before .before .before .before .args) (c .before .before .before .before .before .blocks)) (m8 (c .before)
             (After-count-usage·gave c))
         lay4 = λ c. (ledger-room-requires record { before = c .before; count-usage = c .count-usage }, λ g. lay5 record { before = record { before = c
-            .before; count-usage = c .count-usage }; ledger-room = Called.called ps·4 r·4 (claims· .9) T11 (Num.vAt 5 λ x. x, (Num.vAt 7 λ x. x,
-            (Num.vAt 8 λ x. x, tt)),) (m10 (c .before) (After-count-usage·gave c)) g; },)
-        lay3 : (c : After-used) → at7 (c .before .before .before .before .blocks) (W0 (c .before .before .before .before .κs) (c .before .before
+            .before; count-usage = c .count-usage }; ledger-room = Called.called ps·4 r·4 (claims· .9) T12 (Num.vAt 6 λ x. x, (Num.vAt 8 λ x. x,
+            (Num.vAt 9 λ x. x, tt)),) (m11 (c .before) (After-count-usage·gave c)) g; },)
+        lay3 : (c : After-used) → at8 (c .before .before .before .before .blocks) (W0 (c .before .before .before .before .κs) (c .before .before
             .before .before .args) (c .before .before .before .before .blocks)) (m7 (c .before) (After-used·gave c))
         lay3 = λ c. (count-usage-requires record { before = c .before; used = c .used }, λ g. lay4 record { before = record { before = c .before; used
             = c .used }; count-usage = Called.called ps·3 r·3 (claims· .7) T8 (record { pos = 1; ty = Syntax.tyRef (Syntax.named 0) Syntax.imm
-            ReservationUsage.to; ref = λ x. x; }, (record { pos = 6; st = List.[]; d = 0; at = λ x. x }, tt),) (m7 (c .before) (After-used·gave c)) g;
-            },)
-        lay2 : (c : After-find-usage) → at9 (c .before .before .before .blocks) (W0 (c .before .before .before .κs) (c .before .before .before .args)
+            ReservationUsage.to; ref = λ x. x; }, (record { pos = 2; st = List.[]; d = 0; at = λ x. x }, (record { pos = 7; st = List.[]; d = 0; at =
+            λ x. x }, tt),),) (m7 (c .before) (After-used·gave c)) g; },)
+        lay2 : (c : After-find-usage) → at10 (c .before .before .before .blocks) (W0 (c .before .before .before .κs) (c .before .before .before .args)
             (c .before .before .before .blocks)) (m5 (c .before) (After-find-usage·gave c))
         lay2 = λ c. (used-requires record { before = c .before; find-usage = c .find-usage }, λ g. lay3 record { before = record { before = c .before;
             find-usage = c .find-usage }; used = Called.called ps·2 r·2 (claims· .5) T7 tt (m6 (c .before) (After-find-usage·gave c)) g; },)
-        lay1 : (c : After-at-reservation) → at11 (c .before .before .blocks) (W0 (c .before .before .κs) (c .before .before .args) (c .before .before
+        lay1 : (c : After-at-reservation) → at12 (c .before .before .blocks) (W0 (c .before .before .κs) (c .before .before .args) (c .before .before
             .blocks)) (m3 (c .before) (After-at-reservation·gave c))
         lay1 = λ c. (find-usage-requires record { before = c .before; at-reservation = c .at-reservation }, λ g. lay2 record { before = record {
             before = c .before; at-reservation = c .at-reservation }; find-usage = Called.called ps·1 r·1 (claims· .3) T5 (record { pos = 1; ty =
-            Syntax.tyRef (Syntax.named 0) Syntax.imm ReservationUsage.to; ref = λ x. x; }, (record { pos = 4; st = List.[]; d = 0; at = λ x. x },
-            tt),) (m4 (c .before) (After-at-reservation·gave c)) g; },)
-        pub laid : (c : Start) → at14 (c .blocks) (W0 (c .κs) (c .args) (c .blocks)) (m0 (c .κs) (c .args) (c .blocks))
+            Syntax.tyRef (Syntax.named 0) Syntax.imm ReservationUsage.to; ref = λ x. x; }, (record { pos = 2; st = List.[]; d = 0; at = λ x. x },
+            (record { pos = 5; st = List.[]; d = 0; at = λ x. x }, tt),),) (m4 (c .before) (After-at-reservation·gave c)) g; },)
+        pub laid : (c : Start) → at15 (c .blocks) (W0 (c .κs) (c .args) (c .blocks)) (m0 (c .κs) (c .args) (c .blocks))
         laid = λ c. (tt, λ g. (at-reservation-requires record { before = c; id = record { given = g } }, λ g'. lay1 record { before = record { before
-            = c; id = record { given = g } }; at-reservation = Called.called ps·0 r·0 (claims· .1) T3 (record { pos = 3; st = List.[]; d = 0; at = λ
+            = c; id = record { given = g } }; at-reservation = Called.called ps·0 r·0 (claims· .1) T3 (record { pos = 4; st = List.[]; d = 0; at = λ
             x. x }, tt,) (m2 c g) g'; },),)
         module _ (κs : Lifetimes.Lfts 1) (qs : Lifetimes.Shares 1) where
           pub asked : (a : Kinds.Dens κs ps) → (good : Kinds.GoodsP κs ps a) → (pre : Pre· κs a) → (bs : List.List Nat.ℕ) → Φ bs (Any.wantQ 1 ps r xs
               m κs qs a (Post· κs a)) (Function.init 1 ps r xs m κs qs a)
-          asked = λ a good pre bs. laid record { κs = κs; args = record { ledger = a .0; ticket = a .1 .0 }; blocks = bs; good = good; pre = pre; }
+          asked = λ a good pre bs. laid record { κs = κs; args = record { ledger = a .0; places = a .1 .0; ticket = a .1 .1 .0 }; blocks = bs; good =
+              good; pre = pre; }
         module _ { M : Type 1 } (𝓤 : URA.URA M) (H : Wp.Heap 𝓤) (A : Atoms.Atoms 𝓤) (W : Kit.Given 𝓤 H A) (𝓣 : Wp.Tables 𝓤 H) (known0 : Plain.Known 𝓤
             H A W 𝓣 0 ps·0 r·0 (claims· .0) (claims· .1) "hnsr_circuit::question::at_reservation") (known1 : Plain.Known 𝓤 H A W 𝓣 1 ps·1 r·1 (claims·
             .2) (claims· .3) "hnsr_circuit::tables::ledger::find_usage") (known2 : Plain.Known 𝓤 H A W 𝓣 0 ps·2 r·2 (claims· .4) (claims· .5)

@@ -3,12 +3,14 @@ use Prim.Native.Nat
 use Rattle.hnsr_body.proofs.values.ReservationId
 use Rattle.hnsr_body.proofs.values.ReservationId.Laws
 use Rattle.hnsr_circuit.proofs.By.ReservationUsage
+use Rattle.hnsr_circuit.proofs.places.Places
+use Rattle.hnsr_circuit.proofs.places.Places.Laws as Laws'
 use Rattle.hnsr_circuit.proofs.records.Question
-use Rattle.hnsr_circuit.proofs.records.Question.Laws as Laws'
+use Rattle.hnsr_circuit.proofs.records.Question.Laws as Laws''
 use Rattle.hnsr_circuit.proofs.records.RelayTicket
-use Rattle.hnsr_circuit.proofs.records.RelayTicket.Laws as Laws''
+use Rattle.hnsr_circuit.proofs.records.RelayTicket.Laws as Laws'''
 use Rattle.hnsr_circuit.proofs.records.UsageFound
-use Rattle.hnsr_circuit.proofs.records.UsageFound.Laws as Laws'''
+use Rattle.hnsr_circuit.proofs.records.UsageFound.Laws as Laws''''
 use borrow.Author.Called
 use borrow.Fn.Any
 use borrow.Fn.Call
@@ -36,10 +38,11 @@ use borrow.Rule.WayStmt
 use borrow.Rule.Yields
 use borrow.Struct.Behind
 use borrow.Struct.Inner
+use borrow.Struct.Reads
 use borrow.Struct.Way as Way'
 use borrow.Table.Copies
 use borrow.Table.Own
-use borrow.Table.Reads
+use borrow.Table.Reads as Reads'
 use borrow.Table.Row
 use borrow.Table.Rows
 use borrow.Table.Typed
@@ -47,7 +50,7 @@ use contract.Lifetimes
 use denote.Exit
 use denote.Struct.At
 use denote.Struct.Declared
-use denote.Struct.Laws as Laws''''
+use denote.Struct.Laws as Laws'''''
 use denote.Triple.Clauses
 use denote.Triple.Statement
 use ghost.Atoms
@@ -67,316 +70,354 @@ ref1 = Syntax.tyRef Syntax.erased Syntax.mut ReservationUsage.to
 abbrev ref2 : Syntax.Ty
 ref2 = Syntax.tyRef (Syntax.named 0) Syntax.mut ReservationUsage.to
 abbrev pub ps : List.List (Kinds.PK 1)
-ps = (MutSlice.pMutS ReservationUsage.row 0 tt) ∷ Bool.pBool ∷ (Value.pVal record { ty = Declared.row RelayTicket.the-type; one = Path.refl; val =
-    Laws''''.val RelayTicket.the-type Laws''.the-laws; tells = Laws''''.tells RelayTicket.the-type Laws''.the-laws; still = Laws''''.still
-    RelayTicket.the-type Laws''.the-copy Exit.yes; row = Rows.whole (Declared.row RelayTicket.the-type); rd = λ x. x; mk = λ x. x; } λ M 𝓤 H A W.
-    record { copies = Laws''''.copy RelayTicket.the-type Laws''.the-copy 𝓤 H A W; lawful = Laws''''.lawful RelayTicket.the-type Laws''.the-laws 𝓤 H A
-    W; makes = Laws''''.makes RelayTicket.the-type Laws''.the-plain 𝓤 H A; in-mem = Local.mem-whole 𝓤 H A W (Declared.row RelayTicket.the-type);
-    of-mem = Local.whole-mem 𝓤 H A W (Declared.row RelayTicket.the-type); }) ∷ List.[]
+ps = (MutSlice.pMutS ReservationUsage.row 0 tt) ∷ (Value.pVal record { ty = Declared.row Places.the-type; one = Path.refl; val = Laws'''''.val
+    Places.the-type Laws'.the-laws; tells = Laws'''''.tells Places.the-type Laws'.the-laws; still = Laws'''''.still Places.the-type Laws'.the-copy
+    Exit.yes; row = Rows.whole (Declared.row Places.the-type); rd = λ x. x; mk = λ x. x; } λ M 𝓤 H A W. record { copies = Laws'''''.copy
+    Places.the-type Laws'.the-copy 𝓤 H A W; lawful = Laws'''''.lawful Places.the-type Laws'.the-laws 𝓤 H A W; makes = Laws'''''.makes Places.the-type
+    Laws'.the-plain 𝓤 H A; in-mem = Local.mem-whole 𝓤 H A W (Declared.row Places.the-type); of-mem = Local.whole-mem 𝓤 H A W (Declared.row
+    Places.the-type); }) ∷ Bool.pBool ∷ (Value.pVal record { ty = Declared.row RelayTicket.the-type; one = Path.refl; val = Laws'''''.val
+    RelayTicket.the-type Laws'''.the-laws; tells = Laws'''''.tells RelayTicket.the-type Laws'''.the-laws; still = Laws'''''.still RelayTicket.the-type
+    Laws'''.the-copy Exit.yes; row = Rows.whole (Declared.row RelayTicket.the-type); rd = λ x. x; mk = λ x. x; } λ M 𝓤 H A W. record { copies =
+    Laws'''''.copy RelayTicket.the-type Laws'''.the-copy 𝓤 H A W; lawful = Laws'''''.lawful RelayTicket.the-type Laws'''.the-laws 𝓤 H A W; makes =
+    Laws'''''.makes RelayTicket.the-type Laws'''.the-plain 𝓤 H A; in-mem = Local.mem-whole 𝓤 H A W (Declared.row RelayTicket.the-type); of-mem =
+    Local.whole-mem 𝓤 H A W (Declared.row RelayTicket.the-type); }) ∷ List.[]
 abbrev pub r : Kinds.RK 1
-r = Unit.rUnit
+r = Num.rNum Syntax.w64
 abbrev pub xs : List.List Syntax.Ty
-xs = Laws.mir ∷ Laws'.mir ∷ Laws'''.mir ∷ Laws'.mir ∷ (Syntax.tyInt Syntax.w64) ∷ ReservationUsage.ty ∷ (Syntax.tyInt Syntax.w64) ∷ ref0 ∷
-    (Syntax.tyStruct (38 ∷ 91 ∷ 93 ∷ List.[]) (Syntax.tcons ref0 (Syntax.tcons (Syntax.tyInt Syntax.w64) Syntax.tnil))) ∷ ref0 ∷ (Syntax.tyStruct (38
-    ∷ 91 ∷ 93 ∷ List.[]) (Syntax.tcons ref0 (Syntax.tcons (Syntax.tyInt Syntax.w64) Syntax.tnil))) ∷ Syntax.tyUnit ∷ ref1 ∷ (Syntax.tyStruct (38 ∷ 91
-    ∷ 93 ∷ List.[]) (Syntax.tcons ref1 (Syntax.tcons (Syntax.tyInt Syntax.w64) Syntax.tnil))) ∷ List.[]
+xs = (Syntax.tyInt Syntax.w64) ∷ Laws.mir ∷ Laws''.mir ∷ Laws''''.mir ∷ Laws''.mir ∷ (Syntax.tyInt Syntax.w64) ∷ ReservationUsage.ty ∷ (Syntax.tyInt
+    Syntax.w64) ∷ ref0 ∷ (Syntax.tyStruct (38 ∷ 91 ∷ 93 ∷ List.[]) (Syntax.tcons ref0 (Syntax.tcons (Syntax.tyInt Syntax.w64) Syntax.tnil))) ∷ ref0 ∷
+    (Syntax.tyStruct (38 ∷ 91 ∷ 93 ∷ List.[]) (Syntax.tcons ref0 (Syntax.tcons (Syntax.tyInt Syntax.w64) Syntax.tnil))) ∷ Syntax.tyUnit ∷ ref1 ∷
+    (Syntax.tyStruct (38 ∷ 91 ∷ 93 ∷ List.[]) (Syntax.tcons ref1 (Syntax.tcons (Syntax.tyInt Syntax.w64) Syntax.tnil))) ∷ List.[]
 abbrev pub m : Nat.ℕ
 m = 3
 abbrev pub ps·0 : List.List (Kinds.PK 0)
-ps·0 = (Value.pVal record { ty = Declared.row ReservationId.the-type; one = Path.refl; val = Laws''''.val ReservationId.the-type Laws.the-laws; tells
-    = Laws''''.tells ReservationId.the-type Laws.the-laws; still = Laws''''.still ReservationId.the-type Laws.the-copy Exit.yes; row = Rows.whole
-    (Declared.row ReservationId.the-type); rd = λ x. x; mk = λ x. x; } λ M 𝓤 H A W. record { copies = Laws''''.copy ReservationId.the-type
-    Laws.the-copy 𝓤 H A W; lawful = Laws''''.lawful ReservationId.the-type Laws.the-laws 𝓤 H A W; makes = Laws''''.makes ReservationId.the-type
+ps·0 = (Value.pVal record { ty = Declared.row ReservationId.the-type; one = Path.refl; val = Laws'''''.val ReservationId.the-type Laws.the-laws; tells
+    = Laws'''''.tells ReservationId.the-type Laws.the-laws; still = Laws'''''.still ReservationId.the-type Laws.the-copy Exit.yes; row = Rows.whole
+    (Declared.row ReservationId.the-type); rd = λ x. x; mk = λ x. x; } λ M 𝓤 H A W. record { copies = Laws'''''.copy ReservationId.the-type
+    Laws.the-copy 𝓤 H A W; lawful = Laws'''''.lawful ReservationId.the-type Laws.the-laws 𝓤 H A W; makes = Laws'''''.makes ReservationId.the-type
     Laws.the-plain 𝓤 H A; in-mem = Local.mem-whole 𝓤 H A W (Declared.row ReservationId.the-type); of-mem = Local.whole-mem 𝓤 H A W (Declared.row
     ReservationId.the-type); }) ∷ List.[]
 abbrev pub r·0 : Kinds.RK 0
-r·0 = Value.rVal record { ty = Declared.row Question.the-type; one = Path.refl; val = Laws''''.val Question.the-type Laws'.the-laws; tells =
-    Laws''''.tells Question.the-type Laws'.the-laws; still = Laws''''.still Question.the-type Laws'.the-copy Exit.yes; row = Rows.whole (Declared.row
-    Question.the-type); rd = λ x. x; mk = λ x. x; } λ M 𝓤 H A W. record { copies = Laws''''.copy Question.the-type Laws'.the-copy 𝓤 H A W; lawful =
-    Laws''''.lawful Question.the-type Laws'.the-laws 𝓤 H A W; makes = Laws''''.makes Question.the-type Laws'.the-plain 𝓤 H A; in-mem = Local.mem-whole
-    𝓤 H A W (Declared.row Question.the-type); of-mem = Local.whole-mem 𝓤 H A W (Declared.row Question.the-type); }
+r·0 = Value.rVal record { ty = Declared.row Question.the-type; one = Path.refl; val = Laws'''''.val Question.the-type Laws''.the-laws; tells =
+    Laws'''''.tells Question.the-type Laws''.the-laws; still = Laws'''''.still Question.the-type Laws''.the-copy Exit.yes; row = Rows.whole
+    (Declared.row Question.the-type); rd = λ x. x; mk = λ x. x; } λ M 𝓤 H A W. record { copies = Laws'''''.copy Question.the-type Laws''.the-copy 𝓤 H
+    A W; lawful = Laws'''''.lawful Question.the-type Laws''.the-laws 𝓤 H A W; makes = Laws'''''.makes Question.the-type Laws''.the-plain 𝓤 H A; in-mem
+    = Local.mem-whole 𝓤 H A W (Declared.row Question.the-type); of-mem = Local.whole-mem 𝓤 H A W (Declared.row Question.the-type); }
 abbrev pub ps·1 : List.List (Kinds.PK 1)
-ps·1 = (ShrSlice.pShrS ReservationUsage.row 0 tt) ∷ (Value.pVal record { ty = Declared.row Question.the-type; one = Path.refl; val = Laws''''.val
-    Question.the-type Laws'.the-laws; tells = Laws''''.tells Question.the-type Laws'.the-laws; still = Laws''''.still Question.the-type Laws'.the-copy
-    Exit.yes; row = Rows.whole (Declared.row Question.the-type); rd = λ x. x; mk = λ x. x; } λ M 𝓤 H A W. record { copies = Laws''''.copy
-    Question.the-type Laws'.the-copy 𝓤 H A W; lawful = Laws''''.lawful Question.the-type Laws'.the-laws 𝓤 H A W; makes = Laws''''.makes
-    Question.the-type Laws'.the-plain 𝓤 H A; in-mem = Local.mem-whole 𝓤 H A W (Declared.row Question.the-type); of-mem = Local.whole-mem 𝓤 H A W
-    (Declared.row Question.the-type); }) ∷ List.[]
+ps·1 = (ShrSlice.pShrS ReservationUsage.row 0 tt) ∷ (Value.pVal record { ty = Declared.row Places.the-type; one = Path.refl; val = Laws'''''.val
+    Places.the-type Laws'.the-laws; tells = Laws'''''.tells Places.the-type Laws'.the-laws; still = Laws'''''.still Places.the-type Laws'.the-copy
+    Exit.yes; row = Rows.whole (Declared.row Places.the-type); rd = λ x. x; mk = λ x. x; } λ M 𝓤 H A W. record { copies = Laws'''''.copy
+    Places.the-type Laws'.the-copy 𝓤 H A W; lawful = Laws'''''.lawful Places.the-type Laws'.the-laws 𝓤 H A W; makes = Laws'''''.makes Places.the-type
+    Laws'.the-plain 𝓤 H A; in-mem = Local.mem-whole 𝓤 H A W (Declared.row Places.the-type); of-mem = Local.whole-mem 𝓤 H A W (Declared.row
+    Places.the-type); }) ∷ (Value.pVal record { ty = Declared.row Question.the-type; one = Path.refl; val = Laws'''''.val Question.the-type
+    Laws''.the-laws; tells = Laws'''''.tells Question.the-type Laws''.the-laws; still = Laws'''''.still Question.the-type Laws''.the-copy Exit.yes;
+    row = Rows.whole (Declared.row Question.the-type); rd = λ x. x; mk = λ x. x; } λ M 𝓤 H A W. record { copies = Laws'''''.copy Question.the-type
+    Laws''.the-copy 𝓤 H A W; lawful = Laws'''''.lawful Question.the-type Laws''.the-laws 𝓤 H A W; makes = Laws'''''.makes Question.the-type
+    Laws''.the-plain 𝓤 H A; in-mem = Local.mem-whole 𝓤 H A W (Declared.row Question.the-type); of-mem = Local.whole-mem 𝓤 H A W (Declared.row
+    Question.the-type); }) ∷ List.[]
 abbrev pub r·1 : Kinds.RK 1
-r·1 = Value.rVal record { ty = Declared.row UsageFound.the-type; one = Path.refl; val = Laws''''.val UsageFound.the-type Laws'''.the-laws; tells =
-    Laws''''.tells UsageFound.the-type Laws'''.the-laws; still = Laws''''.still UsageFound.the-type Laws'''.the-copy Exit.yes; row = Rows.whole
-    (Declared.row UsageFound.the-type); rd = λ x. x; mk = λ x. x; } λ M 𝓤 H A W. record { copies = Laws''''.copy UsageFound.the-type Laws'''.the-copy
-    𝓤 H A W; lawful = Laws''''.lawful UsageFound.the-type Laws'''.the-laws 𝓤 H A W; makes = Laws''''.makes UsageFound.the-type Laws'''.the-plain 𝓤 H
-    A; in-mem = Local.mem-whole 𝓤 H A W (Declared.row UsageFound.the-type); of-mem = Local.whole-mem 𝓤 H A W (Declared.row UsageFound.the-type); }
+r·1 = Value.rVal record { ty = Declared.row UsageFound.the-type; one = Path.refl; val = Laws'''''.val UsageFound.the-type Laws''''.the-laws; tells =
+    Laws'''''.tells UsageFound.the-type Laws''''.the-laws; still = Laws'''''.still UsageFound.the-type Laws''''.the-copy Exit.yes; row = Rows.whole
+    (Declared.row UsageFound.the-type); rd = λ x. x; mk = λ x. x; } λ M 𝓤 H A W. record { copies = Laws'''''.copy UsageFound.the-type
+    Laws''''.the-copy 𝓤 H A W; lawful = Laws'''''.lawful UsageFound.the-type Laws''''.the-laws 𝓤 H A W; makes = Laws'''''.makes UsageFound.the-type
+    Laws''''.the-plain 𝓤 H A; in-mem = Local.mem-whole 𝓤 H A W (Declared.row UsageFound.the-type); of-mem = Local.whole-mem 𝓤 H A W (Declared.row
+    UsageFound.the-type); }
 abbrev pub ps·2 : List.List (Kinds.PK 0)
 ps·2 = List.[]
 abbrev pub r·2 : Kinds.RK 0
-r·2 = Value.rVal record { ty = Declared.row Question.the-type; one = Path.refl; val = Laws''''.val Question.the-type Laws'.the-laws; tells =
-    Laws''''.tells Question.the-type Laws'.the-laws; still = Laws''''.still Question.the-type Laws'.the-copy Exit.yes; row = Rows.whole (Declared.row
-    Question.the-type); rd = λ x. x; mk = λ x. x; } λ M 𝓤 H A W. record { copies = Laws''''.copy Question.the-type Laws'.the-copy 𝓤 H A W; lawful =
-    Laws''''.lawful Question.the-type Laws'.the-laws 𝓤 H A W; makes = Laws''''.makes Question.the-type Laws'.the-plain 𝓤 H A; in-mem = Local.mem-whole
-    𝓤 H A W (Declared.row Question.the-type); of-mem = Local.whole-mem 𝓤 H A W (Declared.row Question.the-type); }
+r·2 = Value.rVal record { ty = Declared.row Question.the-type; one = Path.refl; val = Laws'''''.val Question.the-type Laws''.the-laws; tells =
+    Laws'''''.tells Question.the-type Laws''.the-laws; still = Laws'''''.still Question.the-type Laws''.the-copy Exit.yes; row = Rows.whole
+    (Declared.row Question.the-type); rd = λ x. x; mk = λ x. x; } λ M 𝓤 H A W. record { copies = Laws'''''.copy Question.the-type Laws''.the-copy 𝓤 H
+    A W; lawful = Laws'''''.lawful Question.the-type Laws''.the-laws 𝓤 H A W; makes = Laws'''''.makes Question.the-type Laws''.the-plain 𝓤 H A; in-mem
+    = Local.mem-whole 𝓤 H A W (Declared.row Question.the-type); of-mem = Local.whole-mem 𝓤 H A W (Declared.row Question.the-type); }
 abbrev pub ps·3 : List.List (Kinds.PK 1)
-ps·3 = (ShrSlice.pShrS ReservationUsage.row 0 tt) ∷ (Value.pVal record { ty = Declared.row Question.the-type; one = Path.refl; val = Laws''''.val
-    Question.the-type Laws'.the-laws; tells = Laws''''.tells Question.the-type Laws'.the-laws; still = Laws''''.still Question.the-type Laws'.the-copy
-    Exit.yes; row = Rows.whole (Declared.row Question.the-type); rd = λ x. x; mk = λ x. x; } λ M 𝓤 H A W. record { copies = Laws''''.copy
-    Question.the-type Laws'.the-copy 𝓤 H A W; lawful = Laws''''.lawful Question.the-type Laws'.the-laws 𝓤 H A W; makes = Laws''''.makes
-    Question.the-type Laws'.the-plain 𝓤 H A; in-mem = Local.mem-whole 𝓤 H A W (Declared.row Question.the-type); of-mem = Local.whole-mem 𝓤 H A W
-    (Declared.row Question.the-type); }) ∷ List.[]
+ps·3 = (ShrSlice.pShrS ReservationUsage.row 0 tt) ∷ (Value.pVal record { ty = Declared.row Places.the-type; one = Path.refl; val = Laws'''''.val
+    Places.the-type Laws'.the-laws; tells = Laws'''''.tells Places.the-type Laws'.the-laws; still = Laws'''''.still Places.the-type Laws'.the-copy
+    Exit.yes; row = Rows.whole (Declared.row Places.the-type); rd = λ x. x; mk = λ x. x; } λ M 𝓤 H A W. record { copies = Laws'''''.copy
+    Places.the-type Laws'.the-copy 𝓤 H A W; lawful = Laws'''''.lawful Places.the-type Laws'.the-laws 𝓤 H A W; makes = Laws'''''.makes Places.the-type
+    Laws'.the-plain 𝓤 H A; in-mem = Local.mem-whole 𝓤 H A W (Declared.row Places.the-type); of-mem = Local.whole-mem 𝓤 H A W (Declared.row
+    Places.the-type); }) ∷ (Value.pVal record { ty = Declared.row Question.the-type; one = Path.refl; val = Laws'''''.val Question.the-type
+    Laws''.the-laws; tells = Laws'''''.tells Question.the-type Laws''.the-laws; still = Laws'''''.still Question.the-type Laws''.the-copy Exit.yes;
+    row = Rows.whole (Declared.row Question.the-type); rd = λ x. x; mk = λ x. x; } λ M 𝓤 H A W. record { copies = Laws'''''.copy Question.the-type
+    Laws''.the-copy 𝓤 H A W; lawful = Laws'''''.lawful Question.the-type Laws''.the-laws 𝓤 H A W; makes = Laws'''''.makes Question.the-type
+    Laws''.the-plain 𝓤 H A; in-mem = Local.mem-whole 𝓤 H A W (Declared.row Question.the-type); of-mem = Local.whole-mem 𝓤 H A W (Declared.row
+    Question.the-type); }) ∷ List.[]
 abbrev pub r·3 : Kinds.RK 1
 r·3 = Num.rNum Syntax.w64
 abbrev pub ps·4 : List.List (Kinds.PK 0)
-ps·4 = (Value.pVal record { ty = Declared.row UsageFound.the-type; one = Path.refl; val = Laws''''.val UsageFound.the-type Laws'''.the-laws; tells =
-    Laws''''.tells UsageFound.the-type Laws'''.the-laws; still = Laws''''.still UsageFound.the-type Laws'''.the-copy Exit.yes; row = Rows.whole
-    (Declared.row UsageFound.the-type); rd = λ x. x; mk = λ x. x; } λ M 𝓤 H A W. record { copies = Laws''''.copy UsageFound.the-type Laws'''.the-copy
-    𝓤 H A W; lawful = Laws''''.lawful UsageFound.the-type Laws'''.the-laws 𝓤 H A W; makes = Laws''''.makes UsageFound.the-type Laws'''.the-plain 𝓤 H
-    A; in-mem = Local.mem-whole 𝓤 H A W (Declared.row UsageFound.the-type); of-mem = Local.whole-mem 𝓤 H A W (Declared.row UsageFound.the-type); }) ∷
-    (Value.pVal record { ty = Declared.row RelayTicket.the-type; one = Path.refl; val = Laws''''.val RelayTicket.the-type Laws''.the-laws; tells =
-    Laws''''.tells RelayTicket.the-type Laws''.the-laws; still = Laws''''.still RelayTicket.the-type Laws''.the-copy Exit.yes; row = Rows.whole
-    (Declared.row RelayTicket.the-type); rd = λ x. x; mk = λ x. x; } λ M 𝓤 H A W. record { copies = Laws''''.copy RelayTicket.the-type Laws''.the-copy
-    𝓤 H A W; lawful = Laws''''.lawful RelayTicket.the-type Laws''.the-laws 𝓤 H A W; makes = Laws''''.makes RelayTicket.the-type Laws''.the-plain 𝓤 H
-    A; in-mem = Local.mem-whole 𝓤 H A W (Declared.row RelayTicket.the-type); of-mem = Local.whole-mem 𝓤 H A W (Declared.row RelayTicket.the-type); })
-    ∷ List.[]
+ps·4 = (Value.pVal record { ty = Declared.row UsageFound.the-type; one = Path.refl; val = Laws'''''.val UsageFound.the-type Laws''''.the-laws; tells =
+    Laws'''''.tells UsageFound.the-type Laws''''.the-laws; still = Laws'''''.still UsageFound.the-type Laws''''.the-copy Exit.yes; row = Rows.whole
+    (Declared.row UsageFound.the-type); rd = λ x. x; mk = λ x. x; } λ M 𝓤 H A W. record { copies = Laws'''''.copy UsageFound.the-type
+    Laws''''.the-copy 𝓤 H A W; lawful = Laws'''''.lawful UsageFound.the-type Laws''''.the-laws 𝓤 H A W; makes = Laws'''''.makes UsageFound.the-type
+    Laws''''.the-plain 𝓤 H A; in-mem = Local.mem-whole 𝓤 H A W (Declared.row UsageFound.the-type); of-mem = Local.whole-mem 𝓤 H A W (Declared.row
+    UsageFound.the-type); }) ∷ (Value.pVal record { ty = Declared.row RelayTicket.the-type; one = Path.refl; val = Laws'''''.val RelayTicket.the-type
+    Laws'''.the-laws; tells = Laws'''''.tells RelayTicket.the-type Laws'''.the-laws; still = Laws'''''.still RelayTicket.the-type Laws'''.the-copy
+    Exit.yes; row = Rows.whole (Declared.row RelayTicket.the-type); rd = λ x. x; mk = λ x. x; } λ M 𝓤 H A W. record { copies = Laws'''''.copy
+    RelayTicket.the-type Laws'''.the-copy 𝓤 H A W; lawful = Laws'''''.lawful RelayTicket.the-type Laws'''.the-laws 𝓤 H A W; makes = Laws'''''.makes
+    RelayTicket.the-type Laws'''.the-plain 𝓤 H A; in-mem = Local.mem-whole 𝓤 H A W (Declared.row RelayTicket.the-type); of-mem = Local.whole-mem 𝓤 H A
+    W (Declared.row RelayTicket.the-type); }) ∷ List.[]
 abbrev pub r·4 : Kinds.RK 0
 r·4 = ReservationUsage.result
 abbrev pub ps·5 : List.List (Kinds.PK 0)
-ps·5 = (Value.pVal record { ty = Declared.row UsageFound.the-type; one = Path.refl; val = Laws''''.val UsageFound.the-type Laws'''.the-laws; tells =
-    Laws''''.tells UsageFound.the-type Laws'''.the-laws; still = Laws''''.still UsageFound.the-type Laws'''.the-copy Exit.yes; row = Rows.whole
-    (Declared.row UsageFound.the-type); rd = λ x. x; mk = λ x. x; } λ M 𝓤 H A W. record { copies = Laws''''.copy UsageFound.the-type Laws'''.the-copy
-    𝓤 H A W; lawful = Laws''''.lawful UsageFound.the-type Laws'''.the-laws 𝓤 H A W; makes = Laws''''.makes UsageFound.the-type Laws'''.the-plain 𝓤 H
-    A; in-mem = Local.mem-whole 𝓤 H A W (Declared.row UsageFound.the-type); of-mem = Local.whole-mem 𝓤 H A W (Declared.row UsageFound.the-type); }) ∷
-    (Num.pNum Syntax.w64) ∷ List.[]
+ps·5 = (Value.pVal record { ty = Declared.row UsageFound.the-type; one = Path.refl; val = Laws'''''.val UsageFound.the-type Laws''''.the-laws; tells =
+    Laws'''''.tells UsageFound.the-type Laws''''.the-laws; still = Laws'''''.still UsageFound.the-type Laws''''.the-copy Exit.yes; row = Rows.whole
+    (Declared.row UsageFound.the-type); rd = λ x. x; mk = λ x. x; } λ M 𝓤 H A W. record { copies = Laws'''''.copy UsageFound.the-type
+    Laws''''.the-copy 𝓤 H A W; lawful = Laws'''''.lawful UsageFound.the-type Laws''''.the-laws 𝓤 H A W; makes = Laws'''''.makes UsageFound.the-type
+    Laws''''.the-plain 𝓤 H A; in-mem = Local.mem-whole 𝓤 H A W (Declared.row UsageFound.the-type); of-mem = Local.whole-mem 𝓤 H A W (Declared.row
+    UsageFound.the-type); }) ∷ (Num.pNum Syntax.w64) ∷ List.[]
 abbrev pub r·5 : Kinds.RK 0
 r·5 = Num.rNum Syntax.w64
 abbrev pub ps·6 : List.List (Kinds.PK 1)
 ps·6 = (MutSlice.pMutS ReservationUsage.row 0 tt) ∷ Bool.pBool ∷ (Num.pNum Syntax.w64) ∷ ReservationUsage.param ∷ List.[]
 abbrev pub r·6 : Kinds.RK 1
 r·6 = Unit.rUnit
+abbrev pub ps·7 : List.List (Kinds.PK 0)
+ps·7 = (Num.pNum Syntax.w64) ∷ Bool.pBool ∷ (Num.pNum Syntax.w64) ∷ (Num.pNum Syntax.w64) ∷ List.[]
+abbrev pub r·7 : Kinds.RK 0
+r·7 = Num.rNum Syntax.w64
 abbrev pub hs : List.List Syntax.Home
 hs = Syntax.valueLocal ∷ Syntax.valueLocal ∷ Syntax.valueLocal ∷ Syntax.valueLocal ∷ Syntax.valueLocal ∷ Syntax.valueLocal ∷ Syntax.valueLocal ∷
     Syntax.valueLocal ∷ Syntax.valueLocal ∷ Syntax.valueLocal ∷ Syntax.valueLocal ∷ Syntax.valueLocal ∷ Syntax.valueLocal ∷ Syntax.valueLocal ∷
-    Syntax.valueLocal ∷ Syntax.valueLocal ∷ Syntax.valueLocal ∷ Syntax.valueLocal ∷ List.[]
+    Syntax.valueLocal ∷ Syntax.valueLocal ∷ Syntax.valueLocal ∷ Syntax.valueLocal ∷ Syntax.valueLocal ∷ Syntax.valueLocal ∷ List.[]
 abbrev b0 : Syntax.Body
-b0 = Syntax.assign (Syntax.place 4 List.[]) (Syntax.rvOpd (Syntax.copy (Syntax.place 3 ((Syntax.field 0) ∷ List.[]))))
+b0 = Syntax.assign (Syntax.place 5 List.[]) (Syntax.rvOpd (Syntax.copy (Syntax.place 1 ((Syntax.field 1) ∷ List.[]))))
 abbrev b1 : Syntax.Body
-b1 = Syntax.call "hnsr_circuit::question::at_reservation" ((Syntax.copy (Syntax.place 4 List.[])) ∷ List.[]) (Syntax.place 5 List.[])
+b1 = Syntax.assign (Syntax.place 6 List.[]) (Syntax.rvOpd (Syntax.copy (Syntax.place 4 ((Syntax.field 0) ∷ List.[]))))
 abbrev b2 : Syntax.Body
-b2 = Syntax.assign (Syntax.place 11 List.[]) (Syntax.addrOf (Syntax.place 1 ((Syntax.field 0) ∷ (Syntax.deref ReservationUsage.ty) ∷ List.[])))
+b2 = Syntax.call "hnsr_circuit::question::at_reservation" ((Syntax.copy (Syntax.place 6 List.[])) ∷ List.[]) (Syntax.place 7 List.[])
 abbrev b3 : Syntax.Body
-b3 = Syntax.assign (Syntax.place 12 List.[]) (Syntax.aggregate ((Syntax.copy (Syntax.place 11 List.[])) ∷ (Syntax.copy (Syntax.place 1 ((Syntax.field
-    1) ∷ List.[]))) ∷ List.[]))
+b3 = Syntax.assign (Syntax.place 13 List.[]) (Syntax.addrOf (Syntax.place 1 ((Syntax.field 0) ∷ (Syntax.deref ReservationUsage.ty) ∷ List.[])))
 abbrev b4 : Syntax.Body
-b4 = Syntax.call "hnsr_circuit::lookup::look_up_usage" ((Syntax.copy (Syntax.place 12 List.[])) ∷ (Syntax.copy (Syntax.place 5 List.[])) ∷ List.[])
-    (Syntax.place 6 List.[])
+b4 = Syntax.assign (Syntax.place 14 List.[]) (Syntax.aggregate ((Syntax.copy (Syntax.place 13 List.[])) ∷ (Syntax.copy (Syntax.place 1 ((Syntax.field
+    1) ∷ List.[]))) ∷ List.[]))
 abbrev b5 : Syntax.Body
-b5 = Syntax.call "hnsr_circuit::question::unused" List.[] (Syntax.place 7 List.[])
+b5 = Syntax.call "hnsr_circuit::lookup::look_up_usage" ((Syntax.copy (Syntax.place 14 List.[])) ∷ (Syntax.copy (Syntax.place 2 List.[])) ∷
+    (Syntax.copy (Syntax.place 7 List.[])) ∷ List.[]) (Syntax.place 8 List.[])
 abbrev b6 : Syntax.Body
-b6 = Syntax.assign (Syntax.place 13 List.[]) (Syntax.addrOf (Syntax.place 1 ((Syntax.field 0) ∷ (Syntax.deref ReservationUsage.ty) ∷ List.[])))
+b6 = Syntax.call "hnsr_circuit::question::unused" List.[] (Syntax.place 9 List.[])
 abbrev b7 : Syntax.Body
-b7 = Syntax.assign (Syntax.place 14 List.[]) (Syntax.aggregate ((Syntax.copy (Syntax.place 13 List.[])) ∷ (Syntax.copy (Syntax.place 1 ((Syntax.field
-    1) ∷ List.[]))) ∷ List.[]))
+b7 = Syntax.assign (Syntax.place 15 List.[]) (Syntax.addrOf (Syntax.place 1 ((Syntax.field 0) ∷ (Syntax.deref ReservationUsage.ty) ∷ List.[])))
 abbrev b8 : Syntax.Body
-b8 = Syntax.call "hnsr_circuit::tables::ledger::find_usage" ((Syntax.copy (Syntax.place 14 List.[])) ∷ (Syntax.copy (Syntax.place 7 List.[])) ∷
-    List.[]) (Syntax.place 8 List.[])
-abbrev b9 : Syntax.Body
-b9 = Syntax.call "hnsr_circuit::open::booked_usage" ((Syntax.copy (Syntax.place 6 List.[])) ∷ (Syntax.copy (Syntax.place 3 List.[])) ∷ List.[])
-    (Syntax.place 9 List.[])
-abbrev b10 : Syntax.Body
-b10 = Syntax.call "hnsr_circuit::open::booked_place" ((Syntax.copy (Syntax.place 6 List.[])) ∷ (Syntax.copy (Syntax.place 8 List.[])) ∷ List.[])
-    (Syntax.place 10 List.[])
-abbrev b11 : Syntax.Body
-b11 = Syntax.assign (Syntax.place 16 List.[]) (Syntax.addrOf (Syntax.place 1 ((Syntax.field 0) ∷ (Syntax.deref ReservationUsage.ty) ∷ List.[])))
-abbrev b12 : Syntax.Body
-b12 = Syntax.assign (Syntax.place 17 List.[]) (Syntax.aggregate ((Syntax.copy (Syntax.place 16 List.[])) ∷ (Syntax.copy (Syntax.place 1 ((Syntax.field
+b8 = Syntax.assign (Syntax.place 16 List.[]) (Syntax.aggregate ((Syntax.copy (Syntax.place 15 List.[])) ∷ (Syntax.copy (Syntax.place 1 ((Syntax.field
     1) ∷ List.[]))) ∷ List.[]))
+abbrev b9 : Syntax.Body
+b9 = Syntax.call "hnsr_circuit::tables::ledger::find_usage" ((Syntax.copy (Syntax.place 16 List.[])) ∷ (Syntax.copy (Syntax.place 2 List.[])) ∷
+    (Syntax.copy (Syntax.place 9 List.[])) ∷ List.[]) (Syntax.place 10 List.[])
+abbrev b10 : Syntax.Body
+b10 = Syntax.call "hnsr_circuit::open::booked_usage" ((Syntax.copy (Syntax.place 8 List.[])) ∷ (Syntax.copy (Syntax.place 4 List.[])) ∷ List.[])
+    (Syntax.place 11 List.[])
+abbrev b11 : Syntax.Body
+b11 = Syntax.call "hnsr_circuit::open::booked_place" ((Syntax.copy (Syntax.place 8 List.[])) ∷ (Syntax.copy (Syntax.place 10 List.[])) ∷ List.[])
+    (Syntax.place 12 List.[])
+abbrev b12 : Syntax.Body
+b12 = Syntax.assign (Syntax.place 18 List.[]) (Syntax.addrOf (Syntax.place 1 ((Syntax.field 0) ∷ (Syntax.deref ReservationUsage.ty) ∷ List.[])))
 abbrev b13 : Syntax.Body
-b13 = Syntax.call "hnsr_circuit::tables::ledger::set_usage" ((Syntax.copy (Syntax.place 17 List.[])) ∷ (Syntax.copy (Syntax.place 2 List.[])) ∷
-    (Syntax.copy (Syntax.place 10 List.[])) ∷ (Syntax.copy (Syntax.place 9 List.[])) ∷ List.[]) (Syntax.place 15 List.[])
+b13 = Syntax.assign (Syntax.place 19 List.[]) (Syntax.aggregate ((Syntax.copy (Syntax.place 18 List.[])) ∷ (Syntax.copy (Syntax.place 1 ((Syntax.field
+    1) ∷ List.[]))) ∷ List.[]))
 abbrev b14 : Syntax.Body
-b14 = Syntax.assign (Syntax.place 0 List.[]) (Syntax.rvOpd Syntax.opdUnit)
+b14 = Syntax.call "hnsr_circuit::tables::ledger::set_usage" ((Syntax.copy (Syntax.place 19 List.[])) ∷ (Syntax.copy (Syntax.place 3 List.[])) ∷
+    (Syntax.copy (Syntax.place 12 List.[])) ∷ (Syntax.copy (Syntax.place 11 List.[])) ∷ List.[]) (Syntax.place 17 List.[])
 abbrev b15 : Syntax.Body
-b15 = Syntax.return
+b15 = Syntax.call "hnsr_circuit::places::raised" ((Syntax.copy (Syntax.place 2 ((Syntax.field 2) ∷ List.[]))) ∷ (Syntax.copy (Syntax.place 3 List.[]))
+    ∷ (Syntax.copy (Syntax.place 12 List.[])) ∷ (Syntax.copy (Syntax.place 5 List.[])) ∷ List.[]) (Syntax.place 0 List.[])
 abbrev b16 : Syntax.Body
-b16 = Syntax.seq b14 b15
+b16 = Syntax.return
 abbrev b17 : Syntax.Body
-b17 = Syntax.seq b13 b16
+b17 = Syntax.seq b15 b16
 abbrev b18 : Syntax.Body
-b18 = Syntax.seq b12 b17
+b18 = Syntax.seq b14 b17
 abbrev b19 : Syntax.Body
-b19 = Syntax.seq b11 b18
+b19 = Syntax.seq b13 b18
 abbrev b20 : Syntax.Body
-b20 = Syntax.seq b10 b19
+b20 = Syntax.seq b12 b19
 abbrev b21 : Syntax.Body
-b21 = Syntax.seq b9 b20
+b21 = Syntax.seq b11 b20
 abbrev b22 : Syntax.Body
-b22 = Syntax.seq b8 b21
+b22 = Syntax.seq b10 b21
 abbrev b23 : Syntax.Body
-b23 = Syntax.seq b7 b22
+b23 = Syntax.seq b9 b22
 abbrev b24 : Syntax.Body
-b24 = Syntax.seq b6 b23
+b24 = Syntax.seq b8 b23
 abbrev b25 : Syntax.Body
-b25 = Syntax.seq b5 b24
+b25 = Syntax.seq b7 b24
 abbrev b26 : Syntax.Body
-b26 = Syntax.seq b4 b25
+b26 = Syntax.seq b6 b25
 abbrev b27 : Syntax.Body
-b27 = Syntax.seq b3 b26
+b27 = Syntax.seq b5 b26
 abbrev b28 : Syntax.Body
-b28 = Syntax.seq b2 b27
+b28 = Syntax.seq b4 b27
 abbrev b29 : Syntax.Body
-b29 = Syntax.seq b1 b28
+b29 = Syntax.seq b3 b28
 abbrev b30 : Syntax.Body
-b30 = Syntax.seq b0 b29
+b30 = Syntax.seq b2 b29
+abbrev b31 : Syntax.Body
+b31 = Syntax.seq b1 b30
+abbrev b32 : Syntax.Body
+b32 = Syntax.seq b0 b31
 abbrev pub body : Syntax.Body
-body = b30
+body = b32
 abbrev pub Claims : Type 1
 Claims = Kinds.In 0 ps·0 × Kinds.Out 0 ps·0 r·0 × Kinds.In 1 ps·1 × Kinds.Out 1 ps·1 r·1 × Kinds.In 0 ps·2 × Kinds.Out 0 ps·2 r·2 × Kinds.In 1 ps·3 ×
-    Kinds.Out 1 ps·3 r·3 × Kinds.In 0 ps·4 × Kinds.Out 0 ps·4 r·4 × Kinds.In 0 ps·5 × Kinds.Out 0 ps·5 r·5 × Kinds.In 1 ps·6 × Kinds.Out 1 ps·6 r·6
+    Kinds.Out 1 ps·3 r·3 × Kinds.In 0 ps·4 × Kinds.Out 0 ps·4 r·4 × Kinds.In 0 ps·5 × Kinds.Out 0 ps·5 r·5 × Kinds.In 1 ps·6 × Kinds.Out 1 ps·6 r·6 ×
+    Kinds.In 0 ps·7 × Kinds.Out 0 ps·7 r·7
 abbrev e0 : Row.Entry
-e0 = (0, Rows.any-gone Syntax.tyUnit)
+e0 = (0, Rows.any-gone (Syntax.tyInt Syntax.w64))
 abbrev e1 : Row.Entry
 e1 = (1, Mut.mslice ReservationUsage.row ref2 0)
 abbrev e2 : Row.Entry
-e2 = (2, Rows.sc-here Row.sBool)
+e2 = (2, Rows.whole (Declared.row Places.the-type))
 abbrev e3 : Row.Entry
-e3 = (3, Rows.whole (Declared.row RelayTicket.the-type))
+e3 = (3, Rows.sc-here Row.sBool)
 abbrev e4 : Row.Entry
-e4 = (4, Rows.any-gone Laws.mir)
+e4 = (4, Rows.whole (Declared.row RelayTicket.the-type))
 abbrev e5 : Row.Entry
-e5 = (5, Rows.any-gone Laws'.mir)
+e5 = (5, Rows.any-gone (Syntax.tyInt Syntax.w64))
 abbrev e6 : Row.Entry
-e6 = (6, Rows.any-gone Laws'''.mir)
+e6 = (6, Rows.any-gone Laws.mir)
 abbrev e7 : Row.Entry
-e7 = (7, Rows.any-gone Laws'.mir)
+e7 = (7, Rows.any-gone Laws''.mir)
 abbrev e8 : Row.Entry
-e8 = (8, Rows.any-gone (Syntax.tyInt Syntax.w64))
+e8 = (8, Rows.any-gone Laws''''.mir)
 abbrev e9 : Row.Entry
-e9 = (9, Rows.any-gone ReservationUsage.ty)
+e9 = (9, Rows.any-gone Laws''.mir)
 abbrev e10 : Row.Entry
 e10 = (10, Rows.any-gone (Syntax.tyInt Syntax.w64))
 abbrev e11 : Row.Entry
-e11 = (11, Rows.any-gone ref0)
+e11 = (11, Rows.any-gone ReservationUsage.ty)
 abbrev e12 : Row.Entry
-e12 = (12, Rows.any-gone (Syntax.tyStruct (38 ∷ 91 ∷ 93 ∷ List.[]) (Syntax.tcons ref0 (Syntax.tcons (Syntax.tyInt Syntax.w64) Syntax.tnil))))
+e12 = (12, Rows.any-gone (Syntax.tyInt Syntax.w64))
 abbrev e13 : Row.Entry
 e13 = (13, Rows.any-gone ref0)
 abbrev e14 : Row.Entry
 e14 = (14, Rows.any-gone (Syntax.tyStruct (38 ∷ 91 ∷ 93 ∷ List.[]) (Syntax.tcons ref0 (Syntax.tcons (Syntax.tyInt Syntax.w64) Syntax.tnil))))
 abbrev e15 : Row.Entry
-e15 = (15, Rows.any-gone Syntax.tyUnit)
+e15 = (15, Rows.any-gone ref0)
 abbrev e16 : Row.Entry
-e16 = (16, Rows.any-gone ref1)
+e16 = (16, Rows.any-gone (Syntax.tyStruct (38 ∷ 91 ∷ 93 ∷ List.[]) (Syntax.tcons ref0 (Syntax.tcons (Syntax.tyInt Syntax.w64) Syntax.tnil))))
 abbrev e17 : Row.Entry
-e17 = (17, Rows.any-gone (Syntax.tyStruct (38 ∷ 91 ∷ 93 ∷ List.[]) (Syntax.tcons ref1 (Syntax.tcons (Syntax.tyInt Syntax.w64) Syntax.tnil))))
+e17 = (17, Rows.any-gone Syntax.tyUnit)
+abbrev e18 : Row.Entry
+e18 = (18, Rows.any-gone ref1)
+abbrev e19 : Row.Entry
+e19 = (19, Rows.any-gone (Syntax.tyStruct (38 ∷ 91 ∷ 93 ∷ List.[]) (Syntax.tcons ref1 (Syntax.tcons (Syntax.tyInt Syntax.w64) Syntax.tnil))))
 abbrev e0·1 : Row.Entry
-e0·1 = (0, Rows.sc-here Row.sUnit)
+e0·1 = (0, Rows.sc-here (Row.sInt Syntax.w64))
 abbrev e2·1 : Row.Entry
-e2·1 = (2, Rows.any-gone Syntax.tyBool)
+e2·1 = (2, Rows.any-gone Laws'.mir)
 abbrev e3·1 : Row.Entry
-e3·1 = (3, Rows.any-gone Laws''.mir)
+e3·1 = (3, Rows.any-gone Syntax.tyBool)
 abbrev e4·1 : Row.Entry
-e4·1 = (4, Rows.whole (Declared.row ReservationId.the-type))
+e4·1 = (4, Rows.any-gone Laws'''.mir)
 abbrev e5·1 : Row.Entry
-e5·1 = (5, Rows.whole (Declared.row Question.the-type))
-abbrev e1·1 : Row.Entry
-e1·1 = (1, Reshare.mslice-owedS ReservationUsage.row ref2 0 1 Row.off)
-abbrev e11·1 : Row.Entry
-e11·1 = (11, Relend.ssptr ReservationUsage.row ref0 1)
-abbrev e12·1 : Row.Entry
-e12·1 = (12, Rows.sslice ReservationUsage.row ref0 1)
+e5·1 = (5, Rows.sc-here (Row.sInt Syntax.w64))
 abbrev e6·1 : Row.Entry
-e6·1 = (6, Rows.whole (Declared.row UsageFound.the-type))
+e6·1 = (6, Rows.whole (Declared.row ReservationId.the-type))
 abbrev e7·1 : Row.Entry
 e7·1 = (7, Rows.whole (Declared.row Question.the-type))
+abbrev e1·1 : Row.Entry
+e1·1 = (1, Reshare.mslice-owedS ReservationUsage.row ref2 0 1 Row.off)
+abbrev e13·1 : Row.Entry
+e13·1 = (13, Relend.ssptr ReservationUsage.row ref0 1)
+abbrev e14·1 : Row.Entry
+e14·1 = (14, Rows.sslice ReservationUsage.row ref0 1)
+abbrev e8·1 : Row.Entry
+e8·1 = (8, Rows.whole (Declared.row UsageFound.the-type))
+abbrev e9·1 : Row.Entry
+e9·1 = (9, Rows.whole (Declared.row Question.the-type))
 abbrev e1·2 : Row.Entry
 e1·2 = (1, Reshare.mslice-owedS ReservationUsage.row ref2 0 2 Row.off)
-abbrev e13·1 : Row.Entry
-e13·1 = (13, Relend.ssptr ReservationUsage.row ref0 2)
-abbrev e14·1 : Row.Entry
-e14·1 = (14, Rows.sslice ReservationUsage.row ref0 2)
-abbrev e8·1 : Row.Entry
-e8·1 = (8, Rows.sc-here (Row.sInt Syntax.w64))
-abbrev e9·1 : Row.Entry
-e9·1 = (9, ReservationUsage.held)
+abbrev e15·1 : Row.Entry
+e15·1 = (15, Relend.ssptr ReservationUsage.row ref0 2)
+abbrev e16·1 : Row.Entry
+e16·1 = (16, Rows.sslice ReservationUsage.row ref0 2)
 abbrev e10·1 : Row.Entry
 e10·1 = (10, Rows.sc-here (Row.sInt Syntax.w64))
+abbrev e11·1 : Row.Entry
+e11·1 = (11, ReservationUsage.held)
+abbrev e12·1 : Row.Entry
+e12·1 = (12, Rows.sc-here (Row.sInt Syntax.w64))
 abbrev e1·3 : Row.Entry
 e1·3 = (1, Relend.mslice-owed ReservationUsage.row ref2 0 3 Row.off)
-abbrev e16·1 : Row.Entry
-e16·1 = (16, Relend.msptr ReservationUsage.row ref1 3)
+abbrev e18·1 : Row.Entry
+e18·1 = (18, Relend.msptr ReservationUsage.row ref1 3)
+abbrev e19·1 : Row.Entry
+e19·1 = (19, Mut.mslice ReservationUsage.row ref1 3)
 abbrev e17·1 : Row.Entry
-e17·1 = (17, Mut.mslice ReservationUsage.row ref1 3)
-abbrev e15·1 : Row.Entry
-e15·1 = (15, Rows.sc-here Row.sUnit)
-abbrev e17·2 : Row.Entry
-e17·2 = (17, Mut.msleft ReservationUsage.row ref1)
+e17·1 = (17, Rows.sc-here Row.sUnit)
+abbrev e19·2 : Row.Entry
+e19·2 = (19, Mut.msleft ReservationUsage.row ref1)
 abbrev pub t0 : List.List Row.Entry
 t0 = e0 ∷ e1 ∷ e2 ∷ e3 ∷ e4 ∷ e5 ∷ e6 ∷ e7 ∷ e8 ∷ e9 ∷ e10 ∷ e11 ∷ e12 ∷ e13 ∷ e14 ∷ e15 ∷ List.[]
 abbrev pub t1 : List.List Row.Entry
-t1 = e16 ∷ e17 ∷ List.[]
+t1 = e16 ∷ e17 ∷ e18 ∷ e19 ∷ List.[]
 abbrev pub t2 : List.List Row.Entry
-t2 = e0·1 ∷ e1 ∷ e2·1 ∷ e3·1 ∷ e4 ∷ e5 ∷ e6 ∷ e7 ∷ e8 ∷ e9 ∷ e10 ∷ e11 ∷ e12 ∷ e13 ∷ e14 ∷ e15 ∷ List.[]
+t2 = e0·1 ∷ e1 ∷ e2·1 ∷ e3·1 ∷ e4·1 ∷ e5 ∷ e6 ∷ e7 ∷ e8 ∷ e9 ∷ e10 ∷ e11 ∷ e12 ∷ e13 ∷ e14 ∷ e15 ∷ List.[]
 abbrev pub t3 : List.List Row.Entry
-t3 = e0 ∷ e1 ∷ e2 ∷ e3 ∷ e4·1 ∷ e5 ∷ e6 ∷ e7 ∷ e8 ∷ e9 ∷ e10 ∷ e11 ∷ e12 ∷ e13 ∷ e14 ∷ e15 ∷ List.[]
+t3 = e0 ∷ e1 ∷ e2 ∷ e3 ∷ e4 ∷ e5·1 ∷ e6 ∷ e7 ∷ e8 ∷ e9 ∷ e10 ∷ e11 ∷ e12 ∷ e13 ∷ e14 ∷ e15 ∷ List.[]
 abbrev pub t4 : List.List Row.Entry
-t4 = e0 ∷ e1 ∷ e2 ∷ e3 ∷ e4·1 ∷ e5·1 ∷ e6 ∷ e7 ∷ e8 ∷ e9 ∷ e10 ∷ e11 ∷ e12 ∷ e13 ∷ e14 ∷ e15 ∷ List.[]
+t4 = e0 ∷ e1 ∷ e2 ∷ e3 ∷ e4 ∷ e5·1 ∷ e6·1 ∷ e7 ∷ e8 ∷ e9 ∷ e10 ∷ e11 ∷ e12 ∷ e13 ∷ e14 ∷ e15 ∷ List.[]
 abbrev pub t5 : List.List Row.Entry
-t5 = e0 ∷ e1 ∷ e2 ∷ e3 ∷ e4 ∷ e5·1 ∷ e6 ∷ e7 ∷ e8 ∷ e9 ∷ e10 ∷ e11 ∷ e12 ∷ e13 ∷ e14 ∷ e15 ∷ List.[]
+t5 = e0 ∷ e1 ∷ e2 ∷ e3 ∷ e4 ∷ e5·1 ∷ e6·1 ∷ e7·1 ∷ e8 ∷ e9 ∷ e10 ∷ e11 ∷ e12 ∷ e13 ∷ e14 ∷ e15 ∷ List.[]
 abbrev pub t6 : List.List Row.Entry
-t6 = e0 ∷ e1·1 ∷ e2 ∷ e3 ∷ e4 ∷ e5·1 ∷ e6 ∷ e7 ∷ e8 ∷ e9 ∷ e10 ∷ e11·1 ∷ e12 ∷ e13 ∷ e14 ∷ e15 ∷ List.[]
+t6 = e0 ∷ e1 ∷ e2 ∷ e3 ∷ e4 ∷ e5·1 ∷ e6 ∷ e7·1 ∷ e8 ∷ e9 ∷ e10 ∷ e11 ∷ e12 ∷ e13 ∷ e14 ∷ e15 ∷ List.[]
 abbrev pub t7 : List.List Row.Entry
-t7 = e0 ∷ e1·1 ∷ e2 ∷ e3 ∷ e4 ∷ e5·1 ∷ e6 ∷ e7 ∷ e8 ∷ e9 ∷ e10 ∷ e11 ∷ e12·1 ∷ e13 ∷ e14 ∷ e15 ∷ List.[]
+t7 = e0 ∷ e1·1 ∷ e2 ∷ e3 ∷ e4 ∷ e5·1 ∷ e6 ∷ e7·1 ∷ e8 ∷ e9 ∷ e10 ∷ e11 ∷ e12 ∷ e13·1 ∷ e14 ∷ e15 ∷ List.[]
 abbrev pub t8 : List.List Row.Entry
-t8 = e0 ∷ e1·1 ∷ e2 ∷ e3 ∷ e4 ∷ e5·1 ∷ e6·1 ∷ e7 ∷ e8 ∷ e9 ∷ e10 ∷ e11 ∷ e12·1 ∷ e13 ∷ e14 ∷ e15 ∷ List.[]
+t8 = e0 ∷ e1·1 ∷ e2 ∷ e3 ∷ e4 ∷ e5·1 ∷ e6 ∷ e7·1 ∷ e8 ∷ e9 ∷ e10 ∷ e11 ∷ e12 ∷ e13 ∷ e14·1 ∷ e15 ∷ List.[]
 abbrev pub t9 : List.List Row.Entry
-t9 = e0 ∷ e1·1 ∷ e2 ∷ e3 ∷ e4 ∷ e5·1 ∷ e6·1 ∷ e7 ∷ e8 ∷ e9 ∷ e10 ∷ e11 ∷ e12 ∷ e13 ∷ e14 ∷ e15 ∷ List.[]
+t9 = e0 ∷ e1·1 ∷ e2 ∷ e3 ∷ e4 ∷ e5·1 ∷ e6 ∷ e7·1 ∷ e8·1 ∷ e9 ∷ e10 ∷ e11 ∷ e12 ∷ e13 ∷ e14·1 ∷ e15 ∷ List.[]
 abbrev pub t10 : List.List Row.Entry
-t10 = e0 ∷ e1·1 ∷ e2 ∷ e3 ∷ e4 ∷ e5 ∷ e6·1 ∷ e7 ∷ e8 ∷ e9 ∷ e10 ∷ e11 ∷ e12 ∷ e13 ∷ e14 ∷ e15 ∷ List.[]
+t10 = e0 ∷ e1·1 ∷ e2 ∷ e3 ∷ e4 ∷ e5·1 ∷ e6 ∷ e7·1 ∷ e8·1 ∷ e9 ∷ e10 ∷ e11 ∷ e12 ∷ e13 ∷ e14 ∷ e15 ∷ List.[]
 abbrev pub t11 : List.List Row.Entry
-t11 = e0 ∷ e1 ∷ e2 ∷ e3 ∷ e4 ∷ e5 ∷ e6·1 ∷ e7 ∷ e8 ∷ e9 ∷ e10 ∷ e11 ∷ e12 ∷ e13 ∷ e14 ∷ e15 ∷ List.[]
+t11 = e0 ∷ e1·1 ∷ e2 ∷ e3 ∷ e4 ∷ e5·1 ∷ e6 ∷ e7 ∷ e8·1 ∷ e9 ∷ e10 ∷ e11 ∷ e12 ∷ e13 ∷ e14 ∷ e15 ∷ List.[]
 abbrev pub t12 : List.List Row.Entry
-t12 = e0 ∷ e1 ∷ e2 ∷ e3 ∷ e4 ∷ e5 ∷ e6·1 ∷ e7·1 ∷ e8 ∷ e9 ∷ e10 ∷ e11 ∷ e12 ∷ e13 ∷ e14 ∷ e15 ∷ List.[]
+t12 = e0 ∷ e1 ∷ e2 ∷ e3 ∷ e4 ∷ e5·1 ∷ e6 ∷ e7 ∷ e8·1 ∷ e9 ∷ e10 ∷ e11 ∷ e12 ∷ e13 ∷ e14 ∷ e15 ∷ List.[]
 abbrev pub t13 : List.List Row.Entry
-t13 = e0 ∷ e1·2 ∷ e2 ∷ e3 ∷ e4 ∷ e5 ∷ e6·1 ∷ e7·1 ∷ e8 ∷ e9 ∷ e10 ∷ e11 ∷ e12 ∷ e13·1 ∷ e14 ∷ e15 ∷ List.[]
+t13 = e0 ∷ e1 ∷ e2 ∷ e3 ∷ e4 ∷ e5·1 ∷ e6 ∷ e7 ∷ e8·1 ∷ e9·1 ∷ e10 ∷ e11 ∷ e12 ∷ e13 ∷ e14 ∷ e15 ∷ List.[]
 abbrev pub t14 : List.List Row.Entry
-t14 = e0 ∷ e1·2 ∷ e2 ∷ e3 ∷ e4 ∷ e5 ∷ e6·1 ∷ e7·1 ∷ e8 ∷ e9 ∷ e10 ∷ e11 ∷ e12 ∷ e13 ∷ e14·1 ∷ e15 ∷ List.[]
+t14 = e0 ∷ e1·2 ∷ e2 ∷ e3 ∷ e4 ∷ e5·1 ∷ e6 ∷ e7 ∷ e8·1 ∷ e9·1 ∷ e10 ∷ e11 ∷ e12 ∷ e13 ∷ e14 ∷ e15·1 ∷ List.[]
 abbrev pub t15 : List.List Row.Entry
-t15 = e0 ∷ e1·2 ∷ e2 ∷ e3 ∷ e4 ∷ e5 ∷ e6·1 ∷ e7·1 ∷ e8·1 ∷ e9 ∷ e10 ∷ e11 ∷ e12 ∷ e13 ∷ e14·1 ∷ e15 ∷ List.[]
+t15 = e0 ∷ e1·2 ∷ e2 ∷ e3 ∷ e4 ∷ e5·1 ∷ e6 ∷ e7 ∷ e8·1 ∷ e9·1 ∷ e10 ∷ e11 ∷ e12 ∷ e13 ∷ e14 ∷ e15 ∷ List.[]
 abbrev pub t16 : List.List Row.Entry
-t16 = e0 ∷ e1·2 ∷ e2 ∷ e3 ∷ e4 ∷ e5 ∷ e6·1 ∷ e7·1 ∷ e8·1 ∷ e9 ∷ e10 ∷ e11 ∷ e12 ∷ e13 ∷ e14 ∷ e15 ∷ List.[]
+t16 = e16·1 ∷ e17 ∷ e18 ∷ e19 ∷ List.[]
 abbrev pub t17 : List.List Row.Entry
-t17 = e0 ∷ e1·2 ∷ e2 ∷ e3 ∷ e4 ∷ e5 ∷ e6·1 ∷ e7 ∷ e8·1 ∷ e9 ∷ e10 ∷ e11 ∷ e12 ∷ e13 ∷ e14 ∷ e15 ∷ List.[]
+t17 = e0 ∷ e1·2 ∷ e2 ∷ e3 ∷ e4 ∷ e5·1 ∷ e6 ∷ e7 ∷ e8·1 ∷ e9·1 ∷ e10·1 ∷ e11 ∷ e12 ∷ e13 ∷ e14 ∷ e15 ∷ List.[]
 abbrev pub t18 : List.List Row.Entry
-t18 = e0 ∷ e1 ∷ e2 ∷ e3 ∷ e4 ∷ e5 ∷ e6·1 ∷ e7 ∷ e8·1 ∷ e9 ∷ e10 ∷ e11 ∷ e12 ∷ e13 ∷ e14 ∷ e15 ∷ List.[]
+t18 = e0 ∷ e1·2 ∷ e2 ∷ e3 ∷ e4 ∷ e5·1 ∷ e6 ∷ e7 ∷ e8·1 ∷ e9 ∷ e10·1 ∷ e11 ∷ e12 ∷ e13 ∷ e14 ∷ e15 ∷ List.[]
 abbrev pub t19 : List.List Row.Entry
-t19 = e0 ∷ e1 ∷ e2 ∷ e3 ∷ e4 ∷ e5 ∷ e6·1 ∷ e7 ∷ e8·1 ∷ e9·1 ∷ e10 ∷ e11 ∷ e12 ∷ e13 ∷ e14 ∷ e15 ∷ List.[]
+t19 = e0 ∷ e1 ∷ e2 ∷ e3 ∷ e4 ∷ e5·1 ∷ e6 ∷ e7 ∷ e8·1 ∷ e9 ∷ e10·1 ∷ e11 ∷ e12 ∷ e13 ∷ e14 ∷ e15 ∷ List.[]
 abbrev pub t20 : List.List Row.Entry
-t20 = e0 ∷ e1 ∷ e2 ∷ e3·1 ∷ e4 ∷ e5 ∷ e6·1 ∷ e7 ∷ e8·1 ∷ e9·1 ∷ e10 ∷ e11 ∷ e12 ∷ e13 ∷ e14 ∷ e15 ∷ List.[]
+t20 = e0 ∷ e1 ∷ e2 ∷ e3 ∷ e4 ∷ e5·1 ∷ e6 ∷ e7 ∷ e8·1 ∷ e9 ∷ e10·1 ∷ e11·1 ∷ e12 ∷ e13 ∷ e14 ∷ e15 ∷ List.[]
 abbrev pub t21 : List.List Row.Entry
-t21 = e0 ∷ e1 ∷ e2 ∷ e3·1 ∷ e4 ∷ e5 ∷ e6·1 ∷ e7 ∷ e8·1 ∷ e9·1 ∷ e10·1 ∷ e11 ∷ e12 ∷ e13 ∷ e14 ∷ e15 ∷ List.[]
+t21 = e0 ∷ e1 ∷ e2 ∷ e3 ∷ e4·1 ∷ e5·1 ∷ e6 ∷ e7 ∷ e8·1 ∷ e9 ∷ e10·1 ∷ e11·1 ∷ e12 ∷ e13 ∷ e14 ∷ e15 ∷ List.[]
 abbrev pub t22 : List.List Row.Entry
-t22 = e0 ∷ e1 ∷ e2 ∷ e3·1 ∷ e4 ∷ e5 ∷ e6 ∷ e7 ∷ e8·1 ∷ e9·1 ∷ e10·1 ∷ e11 ∷ e12 ∷ e13 ∷ e14 ∷ e15 ∷ List.[]
+t22 = e0 ∷ e1 ∷ e2 ∷ e3 ∷ e4·1 ∷ e5·1 ∷ e6 ∷ e7 ∷ e8·1 ∷ e9 ∷ e10·1 ∷ e11·1 ∷ e12·1 ∷ e13 ∷ e14 ∷ e15 ∷ List.[]
 abbrev pub t23 : List.List Row.Entry
-t23 = e0 ∷ e1·3 ∷ e2 ∷ e3·1 ∷ e4 ∷ e5 ∷ e6 ∷ e7 ∷ e8·1 ∷ e9·1 ∷ e10·1 ∷ e11 ∷ e12 ∷ e13 ∷ e14 ∷ e15 ∷ List.[]
+t23 = e0 ∷ e1 ∷ e2 ∷ e3 ∷ e4·1 ∷ e5·1 ∷ e6 ∷ e7 ∷ e8 ∷ e9 ∷ e10·1 ∷ e11·1 ∷ e12·1 ∷ e13 ∷ e14 ∷ e15 ∷ List.[]
 abbrev pub t24 : List.List Row.Entry
-t24 = e16·1 ∷ e17 ∷ List.[]
+t24 = e0 ∷ e1·3 ∷ e2 ∷ e3 ∷ e4·1 ∷ e5·1 ∷ e6 ∷ e7 ∷ e8 ∷ e9 ∷ e10·1 ∷ e11·1 ∷ e12·1 ∷ e13 ∷ e14 ∷ e15 ∷ List.[]
 abbrev pub t25 : List.List Row.Entry
-t25 = e16 ∷ e17·1 ∷ List.[]
+t25 = e16 ∷ e17 ∷ e18·1 ∷ e19 ∷ List.[]
 abbrev pub t26 : List.List Row.Entry
-t26 = e0 ∷ e1·3 ∷ e2 ∷ e3·1 ∷ e4 ∷ e5 ∷ e6 ∷ e7 ∷ e8·1 ∷ e9·1 ∷ e10·1 ∷ e11 ∷ e12 ∷ e13 ∷ e14 ∷ e15·1 ∷ List.[]
+t26 = e16 ∷ e17 ∷ e18 ∷ e19·1 ∷ List.[]
 abbrev pub t27 : List.List Row.Entry
-t27 = e16 ∷ e17·2 ∷ List.[]
+t27 = e16 ∷ e17·1 ∷ e18 ∷ e19·2 ∷ List.[]
 abbrev pub t28 : List.List Row.Entry
-t28 = e0 ∷ e1·3 ∷ e2 ∷ e3·1 ∷ e4 ∷ e5 ∷ e6 ∷ e7 ∷ e8·1 ∷ e9 ∷ e10·1 ∷ e11 ∷ e12 ∷ e13 ∷ e14 ∷ e15·1 ∷ List.[]
+t28 = e0 ∷ e1·3 ∷ e2 ∷ e3 ∷ e4·1 ∷ e5·1 ∷ e6 ∷ e7 ∷ e8 ∷ e9 ∷ e10·1 ∷ e11 ∷ e12·1 ∷ e13 ∷ e14 ∷ e15 ∷ List.[]
 abbrev pub t29 : List.List Row.Entry
-t29 = e0 ∷ e1·3 ∷ e2 ∷ e3·1 ∷ e4 ∷ e5 ∷ e6 ∷ e7 ∷ e8·1 ∷ e9 ∷ e10·1 ∷ e11 ∷ e12 ∷ e13 ∷ e14 ∷ e15 ∷ List.[]
+t29 = e16 ∷ e17 ∷ e18 ∷ e19·2 ∷ List.[]
 abbrev pub t30 : List.List Row.Entry
-t30 = e0 ∷ e1 ∷ e2 ∷ e3·1 ∷ e4 ∷ e5 ∷ e6 ∷ e7 ∷ e8·1 ∷ e9 ∷ e10·1 ∷ e11 ∷ e12 ∷ e13 ∷ e14 ∷ e15 ∷ List.[]
+t30 = e0 ∷ e1 ∷ e2 ∷ e3 ∷ e4·1 ∷ e5·1 ∷ e6 ∷ e7 ∷ e8 ∷ e9 ∷ e10·1 ∷ e11 ∷ e12·1 ∷ e13 ∷ e14 ∷ e15 ∷ List.[]
 abbrev pub t31 : List.List Row.Entry
-t31 = e0·1 ∷ e1 ∷ e2 ∷ e3·1 ∷ e4 ∷ e5 ∷ e6 ∷ e7 ∷ e8·1 ∷ e9 ∷ e10·1 ∷ e11 ∷ e12 ∷ e13 ∷ e14 ∷ e15 ∷ List.[]
+t31 = e0·1 ∷ e1 ∷ e2 ∷ e3 ∷ e4·1 ∷ e5·1 ∷ e6 ∷ e7 ∷ e8 ∷ e9 ∷ e10·1 ∷ e11 ∷ e12·1 ∷ e13 ∷ e14 ∷ e15 ∷ List.[]
 abbrev pub t32 : List.List Row.Entry
-t32 = e0·1 ∷ e1 ∷ e2 ∷ e3·1 ∷ e4 ∷ e5 ∷ e6 ∷ e7 ∷ e8 ∷ e9 ∷ e10·1 ∷ e11 ∷ e12 ∷ e13 ∷ e14 ∷ e15 ∷ List.[]
+t32 = e0·1 ∷ e1 ∷ e2·1 ∷ e3 ∷ e4·1 ∷ e5·1 ∷ e6 ∷ e7 ∷ e8 ∷ e9 ∷ e10·1 ∷ e11 ∷ e12·1 ∷ e13 ∷ e14 ∷ e15 ∷ List.[]
 abbrev pub t33 : List.List Row.Entry
-t33 = e0·1 ∷ e1 ∷ e2 ∷ e3·1 ∷ e4 ∷ e5 ∷ e6 ∷ e7 ∷ e8 ∷ e9 ∷ e10 ∷ e11 ∷ e12 ∷ e13 ∷ e14 ∷ e15 ∷ List.[]
+t33 = e0·1 ∷ e1 ∷ e2·1 ∷ e3 ∷ e4·1 ∷ e5 ∷ e6 ∷ e7 ∷ e8 ∷ e9 ∷ e10·1 ∷ e11 ∷ e12·1 ∷ e13 ∷ e14 ∷ e15 ∷ List.[]
+abbrev pub t34 : List.List Row.Entry
+t34 = e0·1 ∷ e1 ∷ e2·1 ∷ e3 ∷ e4·1 ∷ e5 ∷ e6 ∷ e7 ∷ e8 ∷ e9 ∷ e10 ∷ e11 ∷ e12·1 ∷ e13 ∷ e14 ∷ e15 ∷ List.[]
+abbrev pub t35 : List.List Row.Entry
+t35 = e0·1 ∷ e1 ∷ e2·1 ∷ e3 ∷ e4·1 ∷ e5 ∷ e6 ∷ e7 ∷ e8 ∷ e9 ∷ e10 ∷ e11 ∷ e12 ∷ e13 ∷ e14 ∷ e15 ∷ List.[]
 abbrev pub T0 : Row.Cx
 T0 = record { locals = List._++_ t0 t1; slots = List.[] }
 abbrev pub T1 : Row.Cx
@@ -387,8 +428,8 @@ abbrev pub T3 : Row.Cx
 T3 = record { locals = List._++_ t4 t1; slots = List.[] }
 abbrev pub T4 : Row.Cx
 T4 = record { locals = List._++_ t5 t1; slots = List.[] }
-abbrev pub T6 : Row.Cx
-T6 = record { locals = List._++_ t6 t1; slots = List.[] }
+abbrev pub T5 : Row.Cx
+T5 = record { locals = List._++_ t6 t1; slots = List.[] }
 abbrev pub T7 : Row.Cx
 T7 = record { locals = List._++_ t7 t1; slots = List.[] }
 abbrev pub T8 : Row.Cx
@@ -397,125 +438,141 @@ abbrev pub T9 : Row.Cx
 T9 = record { locals = List._++_ t9 t1; slots = List.[] }
 abbrev pub T10 : Row.Cx
 T10 = record { locals = List._++_ t10 t1; slots = List.[] }
-abbrev pub T12 : Row.Cx
-T12 = record { locals = List._++_ t11 t1; slots = List.[] }
-abbrev pub T14 : Row.Cx
-T14 = record { locals = List._++_ t12 t1; slots = List.[] }
-abbrev pub T16 : Row.Cx
-T16 = record { locals = List._++_ t13 t1; slots = List.[] }
+abbrev pub T11 : Row.Cx
+T11 = record { locals = List._++_ t11 t1; slots = List.[] }
+abbrev pub T13 : Row.Cx
+T13 = record { locals = List._++_ t12 t1; slots = List.[] }
+abbrev pub T15 : Row.Cx
+T15 = record { locals = List._++_ t13 t1; slots = List.[] }
 abbrev pub T17 : Row.Cx
 T17 = record { locals = List._++_ t14 t1; slots = List.[] }
 abbrev pub T18 : Row.Cx
-T18 = record { locals = List._++_ t15 t1; slots = List.[] }
+T18 = record { locals = List._++_ t15 t16; slots = List.[] }
 abbrev pub T19 : Row.Cx
-T19 = record { locals = List._++_ t16 t1; slots = List.[] }
+T19 = record { locals = List._++_ t17 t16; slots = List.[] }
 abbrev pub T20 : Row.Cx
 T20 = record { locals = List._++_ t17 t1; slots = List.[] }
-abbrev pub T22 : Row.Cx
-T22 = record { locals = List._++_ t18 t1; slots = List.[] }
-abbrev pub T24 : Row.Cx
-T24 = record { locals = List._++_ t19 t1; slots = List.[] }
+abbrev pub T21 : Row.Cx
+T21 = record { locals = List._++_ t18 t1; slots = List.[] }
+abbrev pub T23 : Row.Cx
+T23 = record { locals = List._++_ t19 t1; slots = List.[] }
 abbrev pub T25 : Row.Cx
 T25 = record { locals = List._++_ t20 t1; slots = List.[] }
 abbrev pub T26 : Row.Cx
 T26 = record { locals = List._++_ t21 t1; slots = List.[] }
 abbrev pub T27 : Row.Cx
 T27 = record { locals = List._++_ t22 t1; slots = List.[] }
-abbrev pub T29 : Row.Cx
-T29 = record { locals = List._++_ t23 t24; slots = List.[] }
+abbrev pub T28 : Row.Cx
+T28 = record { locals = List._++_ t23 t1; slots = List.[] }
 abbrev pub T30 : Row.Cx
-T30 = record { locals = List._++_ t23 t25; slots = List.[] }
+T30 = record { locals = List._++_ t24 t25; slots = List.[] }
 abbrev pub T31 : Row.Cx
-T31 = record { locals = List._++_ t26 t27; slots = List.[] }
+T31 = record { locals = List._++_ t24 t26; slots = List.[] }
 abbrev pub T32 : Row.Cx
-T32 = record { locals = List._++_ t28 t27; slots = List.[] }
+T32 = record { locals = List._++_ t24 t27; slots = List.[] }
 abbrev pub T33 : Row.Cx
-T33 = record { locals = List._++_ t29 t27; slots = List.[] }
-abbrev pub T35 : Row.Cx
-T35 = record { locals = List._++_ t30 t1; slots = List.[] }
-abbrev pub T37 : Row.Cx
-T37 = record { locals = List._++_ t31 t1; slots = List.[] }
+T33 = record { locals = List._++_ t28 t27; slots = List.[] }
+abbrev pub T34 : Row.Cx
+T34 = record { locals = List._++_ t28 t29; slots = List.[] }
+abbrev pub T36 : Row.Cx
+T36 = record { locals = List._++_ t30 t1; slots = List.[] }
 abbrev pub T38 : Row.Cx
-T38 = record { locals = List._++_ t32 t1; slots = List.[] }
+T38 = record { locals = List._++_ t31 t1; slots = List.[] }
 abbrev pub T39 : Row.Cx
-T39 = record { locals = List._++_ t33 t1; slots = List.[] }
+T39 = record { locals = List._++_ t32 t1; slots = List.[] }
 abbrev pub T40 : Row.Cx
-T40 = record { locals = List._++_ t2 t1; slots = List.[] }
+T40 = record { locals = List._++_ t33 t1; slots = List.[] }
+abbrev pub T41 : Row.Cx
+T41 = record { locals = List._++_ t34 t1; slots = List.[] }
+abbrev pub T42 : Row.Cx
+T42 = record { locals = List._++_ t35 t1; slots = List.[] }
+abbrev pub T43 : Row.Cx
+T43 = record { locals = List._++_ t2 t1; slots = List.[] }
 abbrev pub O0 : Typed.Outs
 O0 = record { next = Option.none; exits = List.[]; returns = Option.some T1 }
 module _ (claims· : Claims) where
-  abbrev s0 : (bs : List.List Nat.ℕ) → Typed.Both T0 T2
-  s0 = λ bs. WayStmt.k-way-copy-out T0 (Row.out 3 (T0 .locals)) (λ u. Row.drop 3 (T0 .locals) u) 4 (Rows.whole (Declared.row ReservationId.the-type))
-      (λ u. At.getAt (RelayTicket.the-type .parts) 0 (RelayTicket.struct .as-values (u .1 .1 .1 .0))) (λ T′. record { locals = Row.setRow 3 (3,
-      Rows.whole (Declared.row RelayTicket.the-type)) T′; slots = List.[]; }) (λ u T′ m′. Row.set 3 (3, Rows.whole (Declared.row
-      RelayTicket.the-type)) (u .1 .1 .1 .0) T′ m′) (λ u. Unit) λ u. Unit
+  abbrev s0 : (bs : List.List Nat.ℕ) → Typed.Mo T0 → Typed.Mo T2
+  s0 = λ bs. Scalar.n-use T0 (Scalar.oFld 1 ((Syntax.field 1) ∷ List.[]) (Syntax.tyInt Syntax.w64) 8 Shared.lenV) 5 (Rows.sc-here (Row.sInt
+      Syntax.w64)) (Row.sInt Syntax.w64 .of)
   abbrev s1 : (bs : List.List Nat.ℕ) → Typed.Both T2 T3
-  s1 = λ bs. Call.callB ps·0 r·0 (claims· .0) (claims· .1) T2 (record { pos = 4; st = List.[]; d = 0; at = λ x. x }, tt,) 5 List.[] Laws'.mir
-  abbrev s2 : (bs : List.List Nat.ℕ) → Typed.Mo T3 → Typed.Mo T4
-  s2 = λ bs. Scalar.n-room T3 4 Laws.mir
-  abbrev s4 : (bs : List.List Nat.ℕ) → Typed.Gives T4 T6
-  s4 = λ bs. Reshare.k-sl-reshare ReservationUsage.row T4 1 11 0 1 ref2 ref0 Row.off λ x. x
-  abbrev s5 : (bs : List.List Nat.ℕ) → Typed.Asks T6 T7
-  s5 = λ bs. Relend.k-sl-aggregate ReservationUsage.row (Relend.asShr ReservationUsage.row) T6 11 12 1 ref0 ref0 (λ x. x) (Scalar.oFld 1
+  s1 = λ bs. WayStmt.k-way-copy-out T2 (Row.out 4 (T2 .locals)) (λ u. Row.drop 4 (T2 .locals) u) 6 (Rows.whole (Declared.row ReservationId.the-type))
+      (λ u. At.getAt (RelayTicket.the-type .parts) 0 (RelayTicket.struct .as-values (u .1 .1 .1 .1 .0))) (λ T′. record { locals = Row.setRow 4 (4,
+      Rows.whole (Declared.row RelayTicket.the-type)) T′; slots = List.[]; }) (λ u T′ m′. Row.set 4 (4, Rows.whole (Declared.row
+      RelayTicket.the-type)) (u .1 .1 .1 .1 .0) T′ m′) (λ u. Unit) λ u. Unit
+  abbrev s2 : (bs : List.List Nat.ℕ) → Typed.Both T3 T4
+  s2 = λ bs. Call.callB ps·0 r·0 (claims· .0) (claims· .1) T3 (record { pos = 6; st = List.[]; d = 0; at = λ x. x }, tt,) 7 List.[] Laws''.mir
+  abbrev s3 : (bs : List.List Nat.ℕ) → Typed.Mo T4 → Typed.Mo T5
+  s3 = λ bs. Scalar.n-room T4 6 Laws.mir
+  abbrev s5 : (bs : List.List Nat.ℕ) → Typed.Gives T5 T7
+  s5 = λ bs. Reshare.k-sl-reshare ReservationUsage.row T5 1 13 0 1 ref2 ref0 Row.off λ x. x
+  abbrev s6 : (bs : List.List Nat.ℕ) → Typed.Asks T7 T8
+  s6 = λ bs. Relend.k-sl-aggregate ReservationUsage.row (Relend.asShr ReservationUsage.row) T7 13 14 1 ref0 ref0 (λ x. x) (Scalar.oFld 1
       ((Syntax.field 1) ∷ List.[]) (Syntax.tyInt Syntax.w64) 8 λ v. Shared.lenV (v .0))
-  abbrev s6 : (bs : List.List Nat.ℕ) → Typed.Both T7 T8
-  s6 = λ bs. Call.callB ps·1 r·1 (claims· .2) (claims· .3) T7 (record { pos = 12; ty = Syntax.tyRef Syntax.erased Syntax.imm ReservationUsage.to; ref
-      = λ x. x; }, (record { pos = 5; st = List.[]; d = 0; at = λ x. x }, tt),) 6 (1 ∷ List.[]) Laws'''.mir
-  abbrev s7 : (bs : List.List Nat.ℕ) → Typed.Mo T8 → Typed.Mo T9
-  s7 = λ bs. Scalar.n-room T8 12 (Syntax.tyStruct (38 ∷ 91 ∷ 93 ∷ List.[]) (Syntax.tcons ref0 (Syntax.tcons (Syntax.tyInt Syntax.w64) Syntax.tnil)))
+  abbrev s7 : (bs : List.List Nat.ℕ) → Typed.Both T8 T9
+  s7 = λ bs. Call.callB ps·1 r·1 (claims· .2) (claims· .3) T8 (record { pos = 14; ty = Syntax.tyRef Syntax.erased Syntax.imm ReservationUsage.to; ref
+      = λ x. x; }, (record { pos = 2; st = List.[]; d = 0; at = λ x. x }, (record { pos = 7; st = List.[]; d = 0; at = λ x. x }, tt),),) 8 (1 ∷
+      List.[]) Laws''''.mir
   abbrev s8 : (bs : List.List Nat.ℕ) → Typed.Mo T9 → Typed.Mo T10
-  s8 = λ bs. Scalar.n-room T9 5 Laws'.mir
-  abbrev s10 : (bs : List.List Nat.ℕ) → Typed.Mo T10 → Typed.Mo T12
-  s10 = λ bs. Reshare.n-back-sl-shr ReservationUsage.row T10 1 0 1 ref2 Row.off λ x. x
-  abbrev s12 : (bs : List.List Nat.ℕ) → Typed.Both T12 T14
-  s12 = λ bs. Call.callB ps·2 r·2 (claims· .4) (claims· .5) T12 tt 7 List.[] Laws'.mir
-  abbrev s14 : (bs : List.List Nat.ℕ) → Typed.Gives T14 T16
-  s14 = λ bs. Reshare.k-sl-reshare ReservationUsage.row T14 1 13 0 2 ref2 ref0 Row.off λ x. x
-  abbrev s15 : (bs : List.List Nat.ℕ) → Typed.Asks T16 T17
-  s15 = λ bs. Relend.k-sl-aggregate ReservationUsage.row (Relend.asShr ReservationUsage.row) T16 13 14 2 ref0 ref0 (λ x. x) (Scalar.oFld 1
+  s8 = λ bs. Scalar.n-room T9 14 (Syntax.tyStruct (38 ∷ 91 ∷ 93 ∷ List.[]) (Syntax.tcons ref0 (Syntax.tcons (Syntax.tyInt Syntax.w64) Syntax.tnil)))
+  abbrev s9 : (bs : List.List Nat.ℕ) → Typed.Mo T10 → Typed.Mo T11
+  s9 = λ bs. Scalar.n-room T10 7 Laws''.mir
+  abbrev s11 : (bs : List.List Nat.ℕ) → Typed.Mo T11 → Typed.Mo T13
+  s11 = λ bs. Reshare.n-back-sl-shr ReservationUsage.row T11 1 0 1 ref2 Row.off λ x. x
+  abbrev s13 : (bs : List.List Nat.ℕ) → Typed.Both T13 T15
+  s13 = λ bs. Call.callB ps·2 r·2 (claims· .4) (claims· .5) T13 tt 9 List.[] Laws''.mir
+  abbrev s15 : (bs : List.List Nat.ℕ) → Typed.Gives T15 T17
+  s15 = λ bs. Reshare.k-sl-reshare ReservationUsage.row T15 1 15 0 2 ref2 ref0 Row.off λ x. x
+  abbrev s16 : (bs : List.List Nat.ℕ) → Typed.Asks T17 T18
+  s16 = λ bs. Relend.k-sl-aggregate ReservationUsage.row (Relend.asShr ReservationUsage.row) T17 15 16 2 ref0 ref0 (λ x. x) (Scalar.oFld 1
       ((Syntax.field 1) ∷ List.[]) (Syntax.tyInt Syntax.w64) 8 λ v. Shared.lenV (v .0))
-  abbrev s16 : (bs : List.List Nat.ℕ) → Typed.Both T17 T18
-  s16 = λ bs. Call.callB ps·3 r·3 (claims· .6) (claims· .7) T17 (record { pos = 14; ty = Syntax.tyRef Syntax.erased Syntax.imm ReservationUsage.to;
-      ref = λ x. x; }, (record { pos = 7; st = List.[]; d = 0; at = λ x. x }, tt),) 8 (2 ∷ List.[]) (Syntax.tyInt Syntax.w64)
-  abbrev s17 : (bs : List.List Nat.ℕ) → Typed.Mo T18 → Typed.Mo T19
-  s17 = λ bs. Scalar.n-room T18 14 (Syntax.tyStruct (38 ∷ 91 ∷ 93 ∷ List.[]) (Syntax.tcons ref0 (Syntax.tcons (Syntax.tyInt Syntax.w64) Syntax.tnil)))
+  abbrev s17 : (bs : List.List Nat.ℕ) → Typed.Both T18 T19
+  s17 = λ bs. Call.callB ps·3 r·3 (claims· .6) (claims· .7) T18 (record { pos = 16; ty = Syntax.tyRef Syntax.erased Syntax.imm ReservationUsage.to;
+      ref = λ x. x; }, (record { pos = 2; st = List.[]; d = 0; at = λ x. x }, (record { pos = 9; st = List.[]; d = 0; at = λ x. x }, tt),),) 10 (2 ∷
+      List.[]) (Syntax.tyInt Syntax.w64)
   abbrev s18 : (bs : List.List Nat.ℕ) → Typed.Mo T19 → Typed.Mo T20
-  s18 = λ bs. Scalar.n-room T19 7 Laws'.mir
-  abbrev s20 : (bs : List.List Nat.ℕ) → Typed.Mo T20 → Typed.Mo T22
-  s20 = λ bs. Reshare.n-back-sl-shr ReservationUsage.row T20 1 0 2 ref2 Row.off λ x. x
-  abbrev s22 : (bs : List.List Nat.ℕ) → Typed.Both T22 T24
-  s22 = λ bs. Call.callB ps·4 r·4 (claims· .8) (claims· .9) T22 (record { pos = 6; st = List.[]; d = 0; at = λ x. x }, (record { pos = 3; st =
-      List.[]; d = 0; at = λ x. x }, tt),) 9 List.[] ReservationUsage.ty
-  abbrev s23 : (bs : List.List Nat.ℕ) → Typed.Mo T24 → Typed.Mo T25
-  s23 = λ bs. Scalar.n-room T24 3 Laws''.mir
-  abbrev s24 : (bs : List.List Nat.ℕ) → Typed.Both T25 T26
-  s24 = λ bs. Call.callB ps·5 r·5 (claims· .10) (claims· .11) T25 (record { pos = 6; st = List.[]; d = 0; at = λ x. x }, (Num.vAt 8 λ x. x, tt),) 10
+  s18 = λ bs. Scalar.n-room T19 16 (Syntax.tyStruct (38 ∷ 91 ∷ 93 ∷ List.[]) (Syntax.tcons ref0 (Syntax.tcons (Syntax.tyInt Syntax.w64) Syntax.tnil)))
+  abbrev s19 : (bs : List.List Nat.ℕ) → Typed.Mo T20 → Typed.Mo T21
+  s19 = λ bs. Scalar.n-room T20 9 Laws''.mir
+  abbrev s21 : (bs : List.List Nat.ℕ) → Typed.Mo T21 → Typed.Mo T23
+  s21 = λ bs. Reshare.n-back-sl-shr ReservationUsage.row T21 1 0 2 ref2 Row.off λ x. x
+  abbrev s23 : (bs : List.List Nat.ℕ) → Typed.Both T23 T25
+  s23 = λ bs. Call.callB ps·4 r·4 (claims· .8) (claims· .9) T23 (record { pos = 8; st = List.[]; d = 0; at = λ x. x }, (record { pos = 4; st =
+      List.[]; d = 0; at = λ x. x }, tt),) 11 List.[] ReservationUsage.ty
+  abbrev s24 : (bs : List.List Nat.ℕ) → Typed.Mo T25 → Typed.Mo T26
+  s24 = λ bs. Scalar.n-room T25 4 Laws'''.mir
+  abbrev s25 : (bs : List.List Nat.ℕ) → Typed.Both T26 T27
+  s25 = λ bs. Call.callB ps·5 r·5 (claims· .10) (claims· .11) T26 (record { pos = 8; st = List.[]; d = 0; at = λ x. x }, (Num.vAt 10 λ x. x, tt),) 12
       List.[] (Syntax.tyInt Syntax.w64)
-  abbrev s25 : (bs : List.List Nat.ℕ) → Typed.Mo T26 → Typed.Mo T27
-  s25 = λ bs. Scalar.n-room T26 6 Laws'''.mir
-  abbrev s27 : (bs : List.List Nat.ℕ) → Typed.Gives T27 T29
-  s27 = λ bs. Relend.k-sl-relend ReservationUsage.row T27 1 16 0 3 ref2 ref1 Row.off λ x. x
-  abbrev s28 : (bs : List.List Nat.ℕ) → Typed.Asks T29 T30
-  s28 = λ bs. Relend.k-sl-aggregate ReservationUsage.row (Relend.asMut ReservationUsage.row) T29 16 17 3 ref1 ref1 (λ x. x) (Scalar.oFld 1
+  abbrev s26 : (bs : List.List Nat.ℕ) → Typed.Mo T27 → Typed.Mo T28
+  s26 = λ bs. Scalar.n-room T27 8 Laws''''.mir
+  abbrev s28 : (bs : List.List Nat.ℕ) → Typed.Gives T28 T30
+  s28 = λ bs. Relend.k-sl-relend ReservationUsage.row T28 1 18 0 3 ref2 ref1 Row.off λ x. x
+  abbrev s29 : (bs : List.List Nat.ℕ) → Typed.Asks T30 T31
+  s29 = λ bs. Relend.k-sl-aggregate ReservationUsage.row (Relend.asMut ReservationUsage.row) T30 18 19 3 ref1 ref1 (λ x. x) (Scalar.oFld 1
       ((Syntax.field 1) ∷ List.[]) (Syntax.tyInt Syntax.w64) 8 λ v. Shared.lenV (v .0))
-  abbrev s29 : (bs : List.List Nat.ℕ) → Typed.Both T30 T31
-  s29 = λ bs. Call.callB ps·6 r·6 (claims· .12) (claims· .13) T30 (record { pos = 17; ty = Syntax.tyRef Syntax.erased Syntax.mut ReservationUsage.to;
-      ref = λ x. x; }, (Bool.bAt 2 λ x. x, (Num.vAt 10 λ x. x, (record { pos = 9; st = List.[]; d = 0; at = λ x. x }, tt)),),) 15 (3 ∷ List.[])
+  abbrev s30 : (bs : List.List Nat.ℕ) → Typed.Both T31 T32
+  s30 = λ bs. Call.callB ps·6 r·6 (claims· .12) (claims· .13) T31 (record { pos = 19; ty = Syntax.tyRef Syntax.erased Syntax.mut ReservationUsage.to;
+      ref = λ x. x; }, (Bool.bAt 3 λ x. x, (Num.vAt 12 λ x. x, (record { pos = 11; st = List.[]; d = 0; at = λ x. x }, tt)),),) 17 (3 ∷ List.[])
       Syntax.tyUnit
-  abbrev s30 : (bs : List.List Nat.ℕ) → Typed.Mo T31 → Typed.Mo T32
-  s30 = λ bs. Scalar.n-room T31 9 ReservationUsage.ty
   abbrev s31 : (bs : List.List Nat.ℕ) → Typed.Mo T32 → Typed.Mo T33
-  s31 = λ bs. Scalar.n-room T32 15 Syntax.tyUnit
-  abbrev s33 : (bs : List.List Nat.ℕ) → Typed.Both T33 T35
-  s33 = λ bs. Relend.k-back-sl ReservationUsage.row T33 17 1 0 3 ref2 ref1 Row.off (λ x. x) λ x. x
-  abbrev s35 : (bs : List.List Nat.ℕ) → Typed.Mo T35 → Typed.Mo T37
-  s35 = λ bs. Scalar.n-use T35 Scalar.oUnit 0 (Rows.sc-here Row.sUnit) (Row.sUnit .of)
-  abbrev s36 : (bs : List.List Nat.ℕ) → Typed.Mo T37 → Typed.Mo T38
-  s36 = λ bs. Scalar.n-room T37 8 (Syntax.tyInt Syntax.w64)
+  s31 = λ bs. Scalar.n-room T32 11 ReservationUsage.ty
+  abbrev s32 : (bs : List.List Nat.ℕ) → Typed.Mo T33 → Typed.Mo T34
+  s32 = λ bs. Scalar.n-room T33 17 Syntax.tyUnit
+  abbrev s34 : (bs : List.List Nat.ℕ) → Typed.Both T34 T36
+  s34 = λ bs. Relend.k-back-sl ReservationUsage.row T34 19 1 0 3 ref2 ref1 Row.off (λ x. x) λ x. x
+  abbrev s36 : (bs : List.List Nat.ℕ) → Typed.Both T36 T38
+  s36 = λ bs. Call.callB ps·7 r·7 (claims· .14) (claims· .15) T36 (Num.vFld 2 ((Syntax.field 2) ∷ List.[]) 16 λ x. Places.struct .as-values x .1 .1
+      .0, (Bool.bAt 3 λ x. x, (Num.vAt 12 λ x. x, (Num.vAt 5 λ x. x, tt))),) 0 List.[] (Syntax.tyInt Syntax.w64)
   abbrev s37 : (bs : List.List Nat.ℕ) → Typed.Mo T38 → Typed.Mo T39
-  s37 = λ bs. Scalar.n-room T38 10 (Syntax.tyInt Syntax.w64)
+  s37 = λ bs. Scalar.n-room T38 2 Laws'.mir
   abbrev s38 : (bs : List.List Nat.ℕ) → Typed.Mo T39 → Typed.Mo T40
-  s38 = λ bs. Scalar.n-room T39 2 Syntax.tyBool
+  s38 = λ bs. Scalar.n-room T39 5 (Syntax.tyInt Syntax.w64)
+  abbrev s39 : (bs : List.List Nat.ℕ) → Typed.Mo T40 → Typed.Mo T41
+  s39 = λ bs. Scalar.n-room T40 10 (Syntax.tyInt Syntax.w64)
+  abbrev s40 : (bs : List.List Nat.ℕ) → Typed.Mo T41 → Typed.Mo T42
+  s40 = λ bs. Scalar.n-room T41 12 (Syntax.tyInt Syntax.w64)
+  abbrev s41 : (bs : List.List Nat.ℕ) → Typed.Mo T42 → Typed.Mo T43
+  s41 = λ bs. Scalar.n-room T42 3 Syntax.tyBool
   module _ (Pre· : (κs : Lifetimes.Lfts 1) → Kinds.Dens κs ps → Type 0) (Post· : (κs : Lifetimes.Lfts 1) → (a : Kinds.Dens κs ps) → Kinds.Plain 1 ps r
       κs) where
     module _ (M : Type 1) where
@@ -527,91 +584,98 @@ module _ (claims· : Claims) where
           "hnsr_circuit::tables::ledger::find_usage") (known4 : Plain.Known 𝓤 H A W 𝓣 0 ps·4 r·4 (claims· .8) (claims· .9)
           "hnsr_circuit::open::booked_usage") (known5 : Plain.Known 𝓤 H A W 𝓣 0 ps·5 r·5 (claims· .10) (claims· .11)
           "hnsr_circuit::open::booked_place") (known6 : Plain.Known 𝓤 H A W 𝓣 1 ps·6 r·6 (claims· .12) (claims· .13)
-          "hnsr_circuit::tables::ledger::set_usage") → Statement.Triple 𝓤 (Wp.WpFn 𝓤 H (𝓣 .C) (𝓣 .Λ) (Function.fnOf 1 ps r xs m hs body))
-          (Function.plainOf 𝓤 H A 1 ps r Pre· Post·)
+          "hnsr_circuit::tables::ledger::set_usage") (known7 : Plain.Known 𝓤 H A W 𝓣 0 ps·7 r·7 (claims· .14) (claims· .15)
+          "hnsr_circuit::places::raised") → Statement.Triple 𝓤 (Wp.WpFn 𝓤 H (𝓣 .C) (𝓣 .Λ) (Function.fnOf 1 ps r xs m hs body)) (Function.plainOf 𝓤 H A
+          1 ps r Pre· Post·)
     module _ where
-      abbrev at0 : (bs : List.List Nat.ℕ) → Typed.TF T40 O0
+      abbrev at0 : (bs : List.List Nat.ℕ) → Typed.TF T43 O0
       at0 = λ bs. Typed.atRet O0
-      abbrev at1 : (bs : List.List Nat.ℕ) → Typed.TF T39 O0
-      at1 = λ bs. λ Ψ. Typed.pass T39 T40 (s38 bs) (at0 bs Ψ)
-      abbrev at2 : (bs : List.List Nat.ℕ) → Typed.TF T38 O0
-      at2 = λ bs. λ Ψ. Typed.pass T38 T39 (s37 bs) (at1 bs Ψ)
-      abbrev at3 : (bs : List.List Nat.ℕ) → Typed.TF T37 O0
-      at3 = λ bs. λ Ψ. Typed.pass T37 T38 (s36 bs) (at2 bs Ψ)
-      abbrev at4 : (bs : List.List Nat.ℕ) → Typed.TF T35 O0
-      at4 = λ bs. λ Ψ. Typed.pass T35 T37 (s35 bs) (at3 bs Ψ)
-      abbrev at5 : (bs : List.List Nat.ℕ) → Typed.TF T35 O0
-      at5 = λ bs. λ Ψ. at4 bs Ψ
-      abbrev at6 : (bs : List.List Nat.ℕ) → Typed.TF T33 O0
-      at6 = λ bs. λ Ψ. Typed.both (s33 bs) (at5 bs Ψ)
-      abbrev at7 : (bs : List.List Nat.ℕ) → Typed.TF T33 O0
+      abbrev at1 : (bs : List.List Nat.ℕ) → Typed.TF T42 O0
+      at1 = λ bs. λ Ψ. Typed.pass T42 T43 (s41 bs) (at0 bs Ψ)
+      abbrev at2 : (bs : List.List Nat.ℕ) → Typed.TF T41 O0
+      at2 = λ bs. λ Ψ. Typed.pass T41 T42 (s40 bs) (at1 bs Ψ)
+      abbrev at3 : (bs : List.List Nat.ℕ) → Typed.TF T40 O0
+      at3 = λ bs. λ Ψ. Typed.pass T40 T41 (s39 bs) (at2 bs Ψ)
+      abbrev at4 : (bs : List.List Nat.ℕ) → Typed.TF T39 O0
+      at4 = λ bs. λ Ψ. Typed.pass T39 T40 (s38 bs) (at3 bs Ψ)
+      abbrev at5 : (bs : List.List Nat.ℕ) → Typed.TF T38 O0
+      at5 = λ bs. λ Ψ. Typed.pass T38 T39 (s37 bs) (at4 bs Ψ)
+      abbrev at6 : (bs : List.List Nat.ℕ) → Typed.TF T36 O0
+      at6 = λ bs. λ Ψ. Typed.both (s36 bs) (at5 bs Ψ)
+      abbrev at7 : (bs : List.List Nat.ℕ) → Typed.TF T36 O0
       at7 = λ bs. λ Ψ. at6 bs Ψ
-      abbrev at8 : (bs : List.List Nat.ℕ) → Typed.TF T32 O0
-      at8 = λ bs. λ Ψ. Typed.pass T32 T33 (s31 bs) (at7 bs Ψ)
-      abbrev at9 : (bs : List.List Nat.ℕ) → Typed.TF T31 O0
-      at9 = λ bs. λ Ψ. Typed.pass T31 T32 (s30 bs) (at8 bs Ψ)
-      abbrev at10 : (bs : List.List Nat.ℕ) → Typed.TF T30 O0
-      at10 = λ bs. λ Ψ. Typed.both (s29 bs) (at9 bs Ψ)
-      abbrev at11 : (bs : List.List Nat.ℕ) → Typed.TF T29 O0
-      at11 = λ bs. λ Ψ. Typed.ask (s28 bs) (at10 bs Ψ)
-      abbrev at12 : (bs : List.List Nat.ℕ) → Typed.TF T27 O0
-      at12 = λ bs. λ Ψ. Typed.give (s27 bs) (at11 bs Ψ)
-      abbrev at13 : (bs : List.List Nat.ℕ) → Typed.TF T27 O0
-      at13 = λ bs. λ Ψ. at12 bs Ψ
-      abbrev at14 : (bs : List.List Nat.ℕ) → Typed.TF T26 O0
-      at14 = λ bs. λ Ψ. Typed.pass T26 T27 (s25 bs) (at13 bs Ψ)
-      abbrev at15 : (bs : List.List Nat.ℕ) → Typed.TF T25 O0
-      at15 = λ bs. λ Ψ. Typed.both (s24 bs) (at14 bs Ψ)
-      abbrev at16 : (bs : List.List Nat.ℕ) → Typed.TF T24 O0
-      at16 = λ bs. λ Ψ. Typed.pass T24 T25 (s23 bs) (at15 bs Ψ)
-      abbrev at17 : (bs : List.List Nat.ℕ) → Typed.TF T22 O0
-      at17 = λ bs. λ Ψ. Typed.both (s22 bs) (at16 bs Ψ)
-      abbrev at18 : (bs : List.List Nat.ℕ) → Typed.TF T22 O0
-      at18 = λ bs. λ Ψ. at17 bs Ψ
-      abbrev at19 : (bs : List.List Nat.ℕ) → Typed.TF T20 O0
-      at19 = λ bs. λ Ψ. Typed.pass T20 T22 (s20 bs) (at18 bs Ψ)
-      abbrev at20 : (bs : List.List Nat.ℕ) → Typed.TF T20 O0
+      abbrev at8 : (bs : List.List Nat.ℕ) → Typed.TF T34 O0
+      at8 = λ bs. λ Ψ. Typed.both (s34 bs) (at7 bs Ψ)
+      abbrev at9 : (bs : List.List Nat.ℕ) → Typed.TF T34 O0
+      at9 = λ bs. λ Ψ. at8 bs Ψ
+      abbrev at10 : (bs : List.List Nat.ℕ) → Typed.TF T33 O0
+      at10 = λ bs. λ Ψ. Typed.pass T33 T34 (s32 bs) (at9 bs Ψ)
+      abbrev at11 : (bs : List.List Nat.ℕ) → Typed.TF T32 O0
+      at11 = λ bs. λ Ψ. Typed.pass T32 T33 (s31 bs) (at10 bs Ψ)
+      abbrev at12 : (bs : List.List Nat.ℕ) → Typed.TF T31 O0
+      at12 = λ bs. λ Ψ. Typed.both (s30 bs) (at11 bs Ψ)
+      abbrev at13 : (bs : List.List Nat.ℕ) → Typed.TF T30 O0
+      at13 = λ bs. λ Ψ. Typed.ask (s29 bs) (at12 bs Ψ)
+      abbrev at14 : (bs : List.List Nat.ℕ) → Typed.TF T28 O0
+      at14 = λ bs. λ Ψ. Typed.give (s28 bs) (at13 bs Ψ)
+      abbrev at15 : (bs : List.List Nat.ℕ) → Typed.TF T28 O0
+      at15 = λ bs. λ Ψ. at14 bs Ψ
+      abbrev at16 : (bs : List.List Nat.ℕ) → Typed.TF T27 O0
+      at16 = λ bs. λ Ψ. Typed.pass T27 T28 (s26 bs) (at15 bs Ψ)
+      abbrev at17 : (bs : List.List Nat.ℕ) → Typed.TF T26 O0
+      at17 = λ bs. λ Ψ. Typed.both (s25 bs) (at16 bs Ψ)
+      abbrev at18 : (bs : List.List Nat.ℕ) → Typed.TF T25 O0
+      at18 = λ bs. λ Ψ. Typed.pass T25 T26 (s24 bs) (at17 bs Ψ)
+      abbrev at19 : (bs : List.List Nat.ℕ) → Typed.TF T23 O0
+      at19 = λ bs. λ Ψ. Typed.both (s23 bs) (at18 bs Ψ)
+      abbrev at20 : (bs : List.List Nat.ℕ) → Typed.TF T23 O0
       at20 = λ bs. λ Ψ. at19 bs Ψ
-      abbrev at21 : (bs : List.List Nat.ℕ) → Typed.TF T19 O0
-      at21 = λ bs. λ Ψ. Typed.pass T19 T20 (s18 bs) (at20 bs Ψ)
-      abbrev at22 : (bs : List.List Nat.ℕ) → Typed.TF T18 O0
-      at22 = λ bs. λ Ψ. Typed.pass T18 T19 (s17 bs) (at21 bs Ψ)
-      abbrev at23 : (bs : List.List Nat.ℕ) → Typed.TF T17 O0
-      at23 = λ bs. λ Ψ. Typed.both (s16 bs) (at22 bs Ψ)
-      abbrev at24 : (bs : List.List Nat.ℕ) → Typed.TF T16 O0
-      at24 = λ bs. λ Ψ. Typed.ask (s15 bs) (at23 bs Ψ)
-      abbrev at25 : (bs : List.List Nat.ℕ) → Typed.TF T14 O0
-      at25 = λ bs. λ Ψ. Typed.give (s14 bs) (at24 bs Ψ)
-      abbrev at26 : (bs : List.List Nat.ℕ) → Typed.TF T14 O0
-      at26 = λ bs. λ Ψ. at25 bs Ψ
-      abbrev at27 : (bs : List.List Nat.ℕ) → Typed.TF T12 O0
-      at27 = λ bs. λ Ψ. Typed.both (s12 bs) (at26 bs Ψ)
-      abbrev at28 : (bs : List.List Nat.ℕ) → Typed.TF T12 O0
+      abbrev at21 : (bs : List.List Nat.ℕ) → Typed.TF T21 O0
+      at21 = λ bs. λ Ψ. Typed.pass T21 T23 (s21 bs) (at20 bs Ψ)
+      abbrev at22 : (bs : List.List Nat.ℕ) → Typed.TF T21 O0
+      at22 = λ bs. λ Ψ. at21 bs Ψ
+      abbrev at23 : (bs : List.List Nat.ℕ) → Typed.TF T20 O0
+      at23 = λ bs. λ Ψ. Typed.pass T20 T21 (s19 bs) (at22 bs Ψ)
+      abbrev at24 : (bs : List.List Nat.ℕ) → Typed.TF T19 O0
+      at24 = λ bs. λ Ψ. Typed.pass T19 T20 (s18 bs) (at23 bs Ψ)
+      abbrev at25 : (bs : List.List Nat.ℕ) → Typed.TF T18 O0
+      at25 = λ bs. λ Ψ. Typed.both (s17 bs) (at24 bs Ψ)
+      abbrev at26 : (bs : List.List Nat.ℕ) → Typed.TF T17 O0
+      at26 = λ bs. λ Ψ. Typed.ask (s16 bs) (at25 bs Ψ)
+      abbrev at27 : (bs : List.List Nat.ℕ) → Typed.TF T15 O0
+      at27 = λ bs. λ Ψ. Typed.give (s15 bs) (at26 bs Ψ)
+      abbrev at28 : (bs : List.List Nat.ℕ) → Typed.TF T15 O0
       at28 = λ bs. λ Ψ. at27 bs Ψ
-      abbrev at29 : (bs : List.List Nat.ℕ) → Typed.TF T10 O0
-      at29 = λ bs. λ Ψ. Typed.pass T10 T12 (s10 bs) (at28 bs Ψ)
-      abbrev at30 : (bs : List.List Nat.ℕ) → Typed.TF T10 O0
+      abbrev at29 : (bs : List.List Nat.ℕ) → Typed.TF T13 O0
+      at29 = λ bs. λ Ψ. Typed.both (s13 bs) (at28 bs Ψ)
+      abbrev at30 : (bs : List.List Nat.ℕ) → Typed.TF T13 O0
       at30 = λ bs. λ Ψ. at29 bs Ψ
-      abbrev at31 : (bs : List.List Nat.ℕ) → Typed.TF T9 O0
-      at31 = λ bs. λ Ψ. Typed.pass T9 T10 (s8 bs) (at30 bs Ψ)
-      abbrev at32 : (bs : List.List Nat.ℕ) → Typed.TF T8 O0
-      at32 = λ bs. λ Ψ. Typed.pass T8 T9 (s7 bs) (at31 bs Ψ)
-      abbrev at33 : (bs : List.List Nat.ℕ) → Typed.TF T7 O0
-      at33 = λ bs. λ Ψ. Typed.both (s6 bs) (at32 bs Ψ)
-      abbrev at34 : (bs : List.List Nat.ℕ) → Typed.TF T6 O0
-      at34 = λ bs. λ Ψ. Typed.ask (s5 bs) (at33 bs Ψ)
-      abbrev at35 : (bs : List.List Nat.ℕ) → Typed.TF T4 O0
-      at35 = λ bs. λ Ψ. Typed.give (s4 bs) (at34 bs Ψ)
-      abbrev at36 : (bs : List.List Nat.ℕ) → Typed.TF T4 O0
-      at36 = λ bs. λ Ψ. at35 bs Ψ
-      abbrev at37 : (bs : List.List Nat.ℕ) → Typed.TF T3 O0
-      at37 = λ bs. λ Ψ. Typed.pass T3 T4 (s2 bs) (at36 bs Ψ)
-      abbrev at38 : (bs : List.List Nat.ℕ) → Typed.TF T2 O0
-      at38 = λ bs. λ Ψ. Typed.both (s1 bs) (at37 bs Ψ)
-      abbrev at39 : (bs : List.List Nat.ℕ) → Typed.TF T0 O0
-      at39 = λ bs. λ Ψ. Typed.both (s0 bs) (at38 bs Ψ)
+      abbrev at31 : (bs : List.List Nat.ℕ) → Typed.TF T11 O0
+      at31 = λ bs. λ Ψ. Typed.pass T11 T13 (s11 bs) (at30 bs Ψ)
+      abbrev at32 : (bs : List.List Nat.ℕ) → Typed.TF T11 O0
+      at32 = λ bs. λ Ψ. at31 bs Ψ
+      abbrev at33 : (bs : List.List Nat.ℕ) → Typed.TF T10 O0
+      at33 = λ bs. λ Ψ. Typed.pass T10 T11 (s9 bs) (at32 bs Ψ)
+      abbrev at34 : (bs : List.List Nat.ℕ) → Typed.TF T9 O0
+      at34 = λ bs. λ Ψ. Typed.pass T9 T10 (s8 bs) (at33 bs Ψ)
+      abbrev at35 : (bs : List.List Nat.ℕ) → Typed.TF T8 O0
+      at35 = λ bs. λ Ψ. Typed.both (s7 bs) (at34 bs Ψ)
+      abbrev at36 : (bs : List.List Nat.ℕ) → Typed.TF T7 O0
+      at36 = λ bs. λ Ψ. Typed.ask (s6 bs) (at35 bs Ψ)
+      abbrev at37 : (bs : List.List Nat.ℕ) → Typed.TF T5 O0
+      at37 = λ bs. λ Ψ. Typed.give (s5 bs) (at36 bs Ψ)
+      abbrev at38 : (bs : List.List Nat.ℕ) → Typed.TF T5 O0
+      at38 = λ bs. λ Ψ. at37 bs Ψ
+      abbrev at39 : (bs : List.List Nat.ℕ) → Typed.TF T4 O0
+      at39 = λ bs. λ Ψ. Typed.pass T4 T5 (s3 bs) (at38 bs Ψ)
+      abbrev at40 : (bs : List.List Nat.ℕ) → Typed.TF T3 O0
+      at40 = λ bs. λ Ψ. Typed.both (s2 bs) (at39 bs Ψ)
+      abbrev at41 : (bs : List.List Nat.ℕ) → Typed.TF T2 O0
+      at41 = λ bs. λ Ψ. Typed.both (s1 bs) (at40 bs Ψ)
+      abbrev at42 : (bs : List.List Nat.ℕ) → Typed.TF T0 O0
+      at42 = λ bs. λ Ψ. Typed.pass T0 T2 (s0 bs) (at41 bs Ψ)
       abbrev pub Φ : (bs : List.List Nat.ℕ) → Typed.TF T0 O0
-      Φ = λ bs. at39 bs
+      Φ = λ bs. at42 bs
       module _ { M : Type 1 } (𝓤 : URA.URA M) (H : Wp.Heap 𝓤) (A : Atoms.Atoms 𝓤) (W : Kit.Given 𝓤 H A) (𝓣 : Wp.Tables 𝓤 H) where
         abbrev Knowns : Type 1
         Knowns = Plain.Known 𝓤 H A W 𝓣 0 ps·0 r·0 (claims· .0) (claims· .1) "hnsr_circuit::question::at_reservation" × Plain.Known 𝓤 H A W 𝓣 1 ps·1
@@ -619,114 +683,89 @@ module _ (claims· : Claims) where
             "hnsr_circuit::question::unused" × Plain.Known 𝓤 H A W 𝓣 1 ps·3 r·3 (claims· .6) (claims· .7) "hnsr_circuit::tables::ledger::find_usage" ×
             Plain.Known 𝓤 H A W 𝓣 0 ps·4 r·4 (claims· .8) (claims· .9) "hnsr_circuit::open::booked_usage" × Plain.Known 𝓤 H A W 𝓣 0 ps·5 r·5 (claims·
             .10) (claims· .11) "hnsr_circuit::open::booked_place" × Plain.Known 𝓤 H A W 𝓣 1 ps·6 r·6 (claims· .12) (claims· .13)
-            "hnsr_circuit::tables::ledger::set_usage"
+            "hnsr_circuit::tables::ledger::set_usage" × Plain.Known 𝓤 H A W 𝓣 0 ps·7 r·7 (claims· .14) (claims· .15) "hnsr_circuit::places::raised"
       module _ (κs : Lifetimes.Lfts 1) (qs : Lifetimes.Shares 1) where
         abbrev life0 : Row.Life
         life0 = Row.lease (κs .0) (qs .0)
-        abbrev g6 : List.List Row.Entry
-        g6 = (0, Rows.any-gone Syntax.tyUnit) ∷ (1, Reshare.mslice-owedS ReservationUsage.row ref2 0 1 life0,) ∷ (2, Rows.sc-here Row.sBool) ∷ (3,
-            Rows.whole (Declared.row RelayTicket.the-type),) ∷ (4, Rows.any-gone Laws.mir,) ∷ (5, Rows.whole (Declared.row Question.the-type)) ∷ (6,
-            Rows.any-gone Laws'''.mir,) ∷ (7, Rows.any-gone Laws'.mir,) ∷ (8, Rows.any-gone (Syntax.tyInt Syntax.w64)) ∷ (9, Rows.any-gone
-            ReservationUsage.ty,) ∷ (10, Rows.any-gone (Syntax.tyInt Syntax.w64)) ∷ (11, Relend.ssptr ReservationUsage.row ref0 1,) ∷ (12,
-            Rows.any-gone (Syntax.tyStruct (38 ∷ 91 ∷ 93 ∷ List.[]) (Syntax.tcons ref0 (Syntax.tcons (Syntax.tyInt Syntax.w64) Syntax.tnil))),) ∷ (13,
-            Rows.any-gone ref0,) ∷ (14, Rows.any-gone (Syntax.tyStruct (38 ∷ 91 ∷ 93 ∷ List.[]) (Syntax.tcons ref0 (Syntax.tcons (Syntax.tyInt
-            Syntax.w64) Syntax.tnil))),) ∷ (15, Rows.any-gone Syntax.tyUnit) ∷ List.[]
         abbrev g7 : List.List Row.Entry
-        g7 = (0, Rows.any-gone Syntax.tyUnit) ∷ (1, Reshare.mslice-owedS ReservationUsage.row ref2 0 1 life0,) ∷ (2, Rows.sc-here Row.sBool) ∷ (3,
-            Rows.whole (Declared.row RelayTicket.the-type),) ∷ (4, Rows.any-gone Laws.mir,) ∷ (5, Rows.whole (Declared.row Question.the-type)) ∷ (6,
-            Rows.any-gone Laws'''.mir,) ∷ (7, Rows.any-gone Laws'.mir,) ∷ (8, Rows.any-gone (Syntax.tyInt Syntax.w64)) ∷ (9, Rows.any-gone
-            ReservationUsage.ty,) ∷ (10, Rows.any-gone (Syntax.tyInt Syntax.w64)) ∷ (11, Rows.any-gone ref0,) ∷ (12, Rows.sslice ReservationUsage.row
-            ref0 1,) ∷ (13, Rows.any-gone ref0,) ∷ (14, Rows.any-gone (Syntax.tyStruct (38 ∷ 91 ∷ 93 ∷ List.[]) (Syntax.tcons ref0 (Syntax.tcons
-            (Syntax.tyInt Syntax.w64) Syntax.tnil))),) ∷ (15, Rows.any-gone Syntax.tyUnit) ∷ List.[]
+        g7 = (0, Rows.any-gone (Syntax.tyInt Syntax.w64)) ∷ (1, Reshare.mslice-owedS ReservationUsage.row ref2 0 1 life0,) ∷ (2, Rows.whole
+            (Declared.row Places.the-type)) ∷ (3, Rows.sc-here Row.sBool,) ∷ (4, Rows.whole (Declared.row RelayTicket.the-type)) ∷ (5, Rows.sc-here
+            (Row.sInt Syntax.w64),) ∷ (6, Rows.any-gone Laws.mir,) ∷ (7, Rows.whole (Declared.row Question.the-type)) ∷ (8, Rows.any-gone
+            Laws''''.mir,) ∷ (9, Rows.any-gone Laws''.mir,) ∷ (10, Rows.any-gone (Syntax.tyInt Syntax.w64)) ∷ (11, Rows.any-gone ReservationUsage.ty,)
+            ∷ (12, Rows.any-gone (Syntax.tyInt Syntax.w64)) ∷ (13, Relend.ssptr ReservationUsage.row ref0 1,) ∷ (14, Rows.any-gone (Syntax.tyStruct
+            (38 ∷ 91 ∷ 93 ∷ List.[]) (Syntax.tcons ref0 (Syntax.tcons (Syntax.tyInt Syntax.w64) Syntax.tnil))),) ∷ (15, Rows.any-gone ref0,) ∷ List.[]
         abbrev g8 : List.List Row.Entry
-        g8 = (0, Rows.any-gone Syntax.tyUnit) ∷ (1, Reshare.mslice-owedS ReservationUsage.row ref2 0 1 life0,) ∷ (2, Rows.sc-here Row.sBool) ∷ (3,
-            Rows.whole (Declared.row RelayTicket.the-type),) ∷ (4, Rows.any-gone Laws.mir,) ∷ (5, Rows.whole (Declared.row Question.the-type)) ∷ (6,
-            Rows.whole (Declared.row UsageFound.the-type),) ∷ (7, Rows.any-gone Laws'.mir,) ∷ (8, Rows.any-gone (Syntax.tyInt Syntax.w64)) ∷ (9,
-            Rows.any-gone ReservationUsage.ty,) ∷ (10, Rows.any-gone (Syntax.tyInt Syntax.w64)) ∷ (11, Rows.any-gone ref0,) ∷ (12, Rows.sslice
-            ReservationUsage.row ref0 1,) ∷ (13, Rows.any-gone ref0,) ∷ (14, Rows.any-gone (Syntax.tyStruct (38 ∷ 91 ∷ 93 ∷ List.[]) (Syntax.tcons
-            ref0 (Syntax.tcons (Syntax.tyInt Syntax.w64) Syntax.tnil))),) ∷ (15, Rows.any-gone Syntax.tyUnit) ∷ List.[]
+        g8 = (0, Rows.any-gone (Syntax.tyInt Syntax.w64)) ∷ (1, Reshare.mslice-owedS ReservationUsage.row ref2 0 1 life0,) ∷ (2, Rows.whole
+            (Declared.row Places.the-type)) ∷ (3, Rows.sc-here Row.sBool,) ∷ (4, Rows.whole (Declared.row RelayTicket.the-type)) ∷ (5, Rows.sc-here
+            (Row.sInt Syntax.w64),) ∷ (6, Rows.any-gone Laws.mir,) ∷ (7, Rows.whole (Declared.row Question.the-type)) ∷ (8, Rows.any-gone
+            Laws''''.mir,) ∷ (9, Rows.any-gone Laws''.mir,) ∷ (10, Rows.any-gone (Syntax.tyInt Syntax.w64)) ∷ (11, Rows.any-gone ReservationUsage.ty,)
+            ∷ (12, Rows.any-gone (Syntax.tyInt Syntax.w64)) ∷ (13, Rows.any-gone ref0,) ∷ (14, Rows.sslice ReservationUsage.row ref0 1,) ∷ (15,
+            Rows.any-gone ref0,) ∷ List.[]
         abbrev g9 : List.List Row.Entry
-        g9 = (0, Rows.any-gone Syntax.tyUnit) ∷ (1, Reshare.mslice-owedS ReservationUsage.row ref2 0 1 life0,) ∷ (2, Rows.sc-here Row.sBool) ∷ (3,
-            Rows.whole (Declared.row RelayTicket.the-type),) ∷ (4, Rows.any-gone Laws.mir,) ∷ (5, Rows.whole (Declared.row Question.the-type)) ∷ (6,
-            Rows.whole (Declared.row UsageFound.the-type),) ∷ (7, Rows.any-gone Laws'.mir,) ∷ (8, Rows.any-gone (Syntax.tyInt Syntax.w64)) ∷ (9,
-            Rows.any-gone ReservationUsage.ty,) ∷ (10, Rows.any-gone (Syntax.tyInt Syntax.w64)) ∷ (11, Rows.any-gone ref0,) ∷ (12, Rows.any-gone
-            (Syntax.tyStruct (38 ∷ 91 ∷ 93 ∷ List.[]) (Syntax.tcons ref0 (Syntax.tcons (Syntax.tyInt Syntax.w64) Syntax.tnil))),) ∷ (13, Rows.any-gone
-            ref0,) ∷ (14, Rows.any-gone (Syntax.tyStruct (38 ∷ 91 ∷ 93 ∷ List.[]) (Syntax.tcons ref0 (Syntax.tcons (Syntax.tyInt Syntax.w64)
-            Syntax.tnil))),) ∷ (15, Rows.any-gone Syntax.tyUnit) ∷ List.[]
+        g9 = (0, Rows.any-gone (Syntax.tyInt Syntax.w64)) ∷ (1, Reshare.mslice-owedS ReservationUsage.row ref2 0 1 life0,) ∷ (2, Rows.whole
+            (Declared.row Places.the-type)) ∷ (3, Rows.sc-here Row.sBool,) ∷ (4, Rows.whole (Declared.row RelayTicket.the-type)) ∷ (5, Rows.sc-here
+            (Row.sInt Syntax.w64),) ∷ (6, Rows.any-gone Laws.mir,) ∷ (7, Rows.whole (Declared.row Question.the-type)) ∷ (8, Rows.whole (Declared.row
+            UsageFound.the-type),) ∷ (9, Rows.any-gone Laws''.mir,) ∷ (10, Rows.any-gone (Syntax.tyInt Syntax.w64)) ∷ (11, Rows.any-gone
+            ReservationUsage.ty,) ∷ (12, Rows.any-gone (Syntax.tyInt Syntax.w64)) ∷ (13, Rows.any-gone ref0,) ∷ (14, Rows.sslice ReservationUsage.row
+            ref0 1,) ∷ (15, Rows.any-gone ref0,) ∷ List.[]
         abbrev g10 : List.List Row.Entry
-        g10 = (0, Rows.any-gone Syntax.tyUnit) ∷ (1, Reshare.mslice-owedS ReservationUsage.row ref2 0 1 life0,) ∷ (2, Rows.sc-here Row.sBool) ∷ (3,
-            Rows.whole (Declared.row RelayTicket.the-type),) ∷ (4, Rows.any-gone Laws.mir,) ∷ (5, Rows.any-gone Laws'.mir,) ∷ (6, Rows.whole
-            (Declared.row UsageFound.the-type)) ∷ (7, Rows.any-gone Laws'.mir,) ∷ (8, Rows.any-gone (Syntax.tyInt Syntax.w64)) ∷ (9, Rows.any-gone
-            ReservationUsage.ty,) ∷ (10, Rows.any-gone (Syntax.tyInt Syntax.w64)) ∷ (11, Rows.any-gone ref0,) ∷ (12, Rows.any-gone (Syntax.tyStruct
-            (38 ∷ 91 ∷ 93 ∷ List.[]) (Syntax.tcons ref0 (Syntax.tcons (Syntax.tyInt Syntax.w64) Syntax.tnil))),) ∷ (13, Rows.any-gone ref0,) ∷ (14,
-            Rows.any-gone (Syntax.tyStruct (38 ∷ 91 ∷ 93 ∷ List.[]) (Syntax.tcons ref0 (Syntax.tcons (Syntax.tyInt Syntax.w64) Syntax.tnil))),) ∷ (15,
-            Rows.any-gone Syntax.tyUnit) ∷ List.[]
-        abbrev g13 : List.List Row.Entry
-        g13 = (0, Rows.any-gone Syntax.tyUnit) ∷ (1, Reshare.mslice-owedS ReservationUsage.row ref2 0 2 life0,) ∷ (2, Rows.sc-here Row.sBool) ∷ (3,
-            Rows.whole (Declared.row RelayTicket.the-type),) ∷ (4, Rows.any-gone Laws.mir,) ∷ (5, Rows.any-gone Laws'.mir,) ∷ (6, Rows.whole
-            (Declared.row UsageFound.the-type)) ∷ (7, Rows.whole (Declared.row Question.the-type),) ∷ (8, Rows.any-gone (Syntax.tyInt Syntax.w64)) ∷
-            (9, Rows.any-gone ReservationUsage.ty,) ∷ (10, Rows.any-gone (Syntax.tyInt Syntax.w64)) ∷ (11, Rows.any-gone ref0,) ∷ (12, Rows.any-gone
-            (Syntax.tyStruct (38 ∷ 91 ∷ 93 ∷ List.[]) (Syntax.tcons ref0 (Syntax.tcons (Syntax.tyInt Syntax.w64) Syntax.tnil))),) ∷ (13, Relend.ssptr
-            ReservationUsage.row ref0 2,) ∷ (14, Rows.any-gone (Syntax.tyStruct (38 ∷ 91 ∷ 93 ∷ List.[]) (Syntax.tcons ref0 (Syntax.tcons
-            (Syntax.tyInt Syntax.w64) Syntax.tnil))),) ∷ (15, Rows.any-gone Syntax.tyUnit) ∷ List.[]
+        g10 = (0, Rows.any-gone (Syntax.tyInt Syntax.w64)) ∷ (1, Reshare.mslice-owedS ReservationUsage.row ref2 0 1 life0,) ∷ (2, Rows.whole
+            (Declared.row Places.the-type)) ∷ (3, Rows.sc-here Row.sBool,) ∷ (4, Rows.whole (Declared.row RelayTicket.the-type)) ∷ (5, Rows.sc-here
+            (Row.sInt Syntax.w64),) ∷ (6, Rows.any-gone Laws.mir,) ∷ (7, Rows.whole (Declared.row Question.the-type)) ∷ (8, Rows.whole (Declared.row
+            UsageFound.the-type),) ∷ (9, Rows.any-gone Laws''.mir,) ∷ (10, Rows.any-gone (Syntax.tyInt Syntax.w64)) ∷ (11, Rows.any-gone
+            ReservationUsage.ty,) ∷ (12, Rows.any-gone (Syntax.tyInt Syntax.w64)) ∷ (13, Rows.any-gone ref0,) ∷ (14, Rows.any-gone (Syntax.tyStruct
+            (38 ∷ 91 ∷ 93 ∷ List.[]) (Syntax.tcons ref0 (Syntax.tcons (Syntax.tyInt Syntax.w64) Syntax.tnil))),) ∷ (15, Rows.any-gone ref0,) ∷ List.[]
+        abbrev g11 : List.List Row.Entry
+        g11 = (0, Rows.any-gone (Syntax.tyInt Syntax.w64)) ∷ (1, Reshare.mslice-owedS ReservationUsage.row ref2 0 1 life0,) ∷ (2, Rows.whole
+            (Declared.row Places.the-type)) ∷ (3, Rows.sc-here Row.sBool,) ∷ (4, Rows.whole (Declared.row RelayTicket.the-type)) ∷ (5, Rows.sc-here
+            (Row.sInt Syntax.w64),) ∷ (6, Rows.any-gone Laws.mir,) ∷ (7, Rows.any-gone Laws''.mir,) ∷ (8, Rows.whole (Declared.row
+            UsageFound.the-type)) ∷ (9, Rows.any-gone Laws''.mir,) ∷ (10, Rows.any-gone (Syntax.tyInt Syntax.w64)) ∷ (11, Rows.any-gone
+            ReservationUsage.ty,) ∷ (12, Rows.any-gone (Syntax.tyInt Syntax.w64)) ∷ (13, Rows.any-gone ref0,) ∷ (14, Rows.any-gone (Syntax.tyStruct
+            (38 ∷ 91 ∷ 93 ∷ List.[]) (Syntax.tcons ref0 (Syntax.tcons (Syntax.tyInt Syntax.w64) Syntax.tnil))),) ∷ (15, Rows.any-gone ref0,) ∷ List.[]
         abbrev g14 : List.List Row.Entry
-        g14 = (0, Rows.any-gone Syntax.tyUnit) ∷ (1, Reshare.mslice-owedS ReservationUsage.row ref2 0 2 life0,) ∷ (2, Rows.sc-here Row.sBool) ∷ (3,
-            Rows.whole (Declared.row RelayTicket.the-type),) ∷ (4, Rows.any-gone Laws.mir,) ∷ (5, Rows.any-gone Laws'.mir,) ∷ (6, Rows.whole
-            (Declared.row UsageFound.the-type)) ∷ (7, Rows.whole (Declared.row Question.the-type),) ∷ (8, Rows.any-gone (Syntax.tyInt Syntax.w64)) ∷
-            (9, Rows.any-gone ReservationUsage.ty,) ∷ (10, Rows.any-gone (Syntax.tyInt Syntax.w64)) ∷ (11, Rows.any-gone ref0,) ∷ (12, Rows.any-gone
-            (Syntax.tyStruct (38 ∷ 91 ∷ 93 ∷ List.[]) (Syntax.tcons ref0 (Syntax.tcons (Syntax.tyInt Syntax.w64) Syntax.tnil))),) ∷ (13, Rows.any-gone
-            ref0,) ∷ (14, Rows.sslice ReservationUsage.row ref0 2,) ∷ (15, Rows.any-gone Syntax.tyUnit) ∷ List.[]
+        g14 = (0, Rows.any-gone (Syntax.tyInt Syntax.w64)) ∷ (1, Reshare.mslice-owedS ReservationUsage.row ref2 0 2 life0,) ∷ (2, Rows.whole
+            (Declared.row Places.the-type)) ∷ (3, Rows.sc-here Row.sBool,) ∷ (4, Rows.whole (Declared.row RelayTicket.the-type)) ∷ (5, Rows.sc-here
+            (Row.sInt Syntax.w64),) ∷ (6, Rows.any-gone Laws.mir,) ∷ (7, Rows.any-gone Laws''.mir,) ∷ (8, Rows.whole (Declared.row
+            UsageFound.the-type)) ∷ (9, Rows.whole (Declared.row Question.the-type),) ∷ (10, Rows.any-gone (Syntax.tyInt Syntax.w64)) ∷ (11,
+            Rows.any-gone ReservationUsage.ty,) ∷ (12, Rows.any-gone (Syntax.tyInt Syntax.w64)) ∷ (13, Rows.any-gone ref0,) ∷ (14, Rows.any-gone
+            (Syntax.tyStruct (38 ∷ 91 ∷ 93 ∷ List.[]) (Syntax.tcons ref0 (Syntax.tcons (Syntax.tyInt Syntax.w64) Syntax.tnil))),) ∷ (15, Relend.ssptr
+            ReservationUsage.row ref0 2,) ∷ List.[]
         abbrev g15 : List.List Row.Entry
-        g15 = (0, Rows.any-gone Syntax.tyUnit) ∷ (1, Reshare.mslice-owedS ReservationUsage.row ref2 0 2 life0,) ∷ (2, Rows.sc-here Row.sBool) ∷ (3,
-            Rows.whole (Declared.row RelayTicket.the-type),) ∷ (4, Rows.any-gone Laws.mir,) ∷ (5, Rows.any-gone Laws'.mir,) ∷ (6, Rows.whole
-            (Declared.row UsageFound.the-type)) ∷ (7, Rows.whole (Declared.row Question.the-type),) ∷ (8, Rows.sc-here (Row.sInt Syntax.w64)) ∷ (9,
-            Rows.any-gone ReservationUsage.ty,) ∷ (10, Rows.any-gone (Syntax.tyInt Syntax.w64)) ∷ (11, Rows.any-gone ref0,) ∷ (12, Rows.any-gone
-            (Syntax.tyStruct (38 ∷ 91 ∷ 93 ∷ List.[]) (Syntax.tcons ref0 (Syntax.tcons (Syntax.tyInt Syntax.w64) Syntax.tnil))),) ∷ (13, Rows.any-gone
-            ref0,) ∷ (14, Rows.sslice ReservationUsage.row ref0 2,) ∷ (15, Rows.any-gone Syntax.tyUnit) ∷ List.[]
-        abbrev g16 : List.List Row.Entry
-        g16 = (0, Rows.any-gone Syntax.tyUnit) ∷ (1, Reshare.mslice-owedS ReservationUsage.row ref2 0 2 life0,) ∷ (2, Rows.sc-here Row.sBool) ∷ (3,
-            Rows.whole (Declared.row RelayTicket.the-type),) ∷ (4, Rows.any-gone Laws.mir,) ∷ (5, Rows.any-gone Laws'.mir,) ∷ (6, Rows.whole
-            (Declared.row UsageFound.the-type)) ∷ (7, Rows.whole (Declared.row Question.the-type),) ∷ (8, Rows.sc-here (Row.sInt Syntax.w64)) ∷ (9,
-            Rows.any-gone ReservationUsage.ty,) ∷ (10, Rows.any-gone (Syntax.tyInt Syntax.w64)) ∷ (11, Rows.any-gone ref0,) ∷ (12, Rows.any-gone
-            (Syntax.tyStruct (38 ∷ 91 ∷ 93 ∷ List.[]) (Syntax.tcons ref0 (Syntax.tcons (Syntax.tyInt Syntax.w64) Syntax.tnil))),) ∷ (13, Rows.any-gone
-            ref0,) ∷ (14, Rows.any-gone (Syntax.tyStruct (38 ∷ 91 ∷ 93 ∷ List.[]) (Syntax.tcons ref0 (Syntax.tcons (Syntax.tyInt Syntax.w64)
-            Syntax.tnil))),) ∷ (15, Rows.any-gone Syntax.tyUnit) ∷ List.[]
+        g15 = (0, Rows.any-gone (Syntax.tyInt Syntax.w64)) ∷ (1, Reshare.mslice-owedS ReservationUsage.row ref2 0 2 life0,) ∷ (2, Rows.whole
+            (Declared.row Places.the-type)) ∷ (3, Rows.sc-here Row.sBool,) ∷ (4, Rows.whole (Declared.row RelayTicket.the-type)) ∷ (5, Rows.sc-here
+            (Row.sInt Syntax.w64),) ∷ (6, Rows.any-gone Laws.mir,) ∷ (7, Rows.any-gone Laws''.mir,) ∷ (8, Rows.whole (Declared.row
+            UsageFound.the-type)) ∷ (9, Rows.whole (Declared.row Question.the-type),) ∷ (10, Rows.any-gone (Syntax.tyInt Syntax.w64)) ∷ (11,
+            Rows.any-gone ReservationUsage.ty,) ∷ (12, Rows.any-gone (Syntax.tyInt Syntax.w64)) ∷ (13, Rows.any-gone ref0,) ∷ (14, Rows.any-gone
+            (Syntax.tyStruct (38 ∷ 91 ∷ 93 ∷ List.[]) (Syntax.tcons ref0 (Syntax.tcons (Syntax.tyInt Syntax.w64) Syntax.tnil))),) ∷ (15, Rows.any-gone
+            ref0,) ∷ List.[]
         abbrev g17 : List.List Row.Entry
-        g17 = (0, Rows.any-gone Syntax.tyUnit) ∷ (1, Reshare.mslice-owedS ReservationUsage.row ref2 0 2 life0,) ∷ (2, Rows.sc-here Row.sBool) ∷ (3,
-            Rows.whole (Declared.row RelayTicket.the-type),) ∷ (4, Rows.any-gone Laws.mir,) ∷ (5, Rows.any-gone Laws'.mir,) ∷ (6, Rows.whole
-            (Declared.row UsageFound.the-type)) ∷ (7, Rows.any-gone Laws'.mir,) ∷ (8, Rows.sc-here (Row.sInt Syntax.w64)) ∷ (9, Rows.any-gone
-            ReservationUsage.ty,) ∷ (10, Rows.any-gone (Syntax.tyInt Syntax.w64)) ∷ (11, Rows.any-gone ref0,) ∷ (12, Rows.any-gone (Syntax.tyStruct
-            (38 ∷ 91 ∷ 93 ∷ List.[]) (Syntax.tcons ref0 (Syntax.tcons (Syntax.tyInt Syntax.w64) Syntax.tnil))),) ∷ (13, Rows.any-gone ref0,) ∷ (14,
-            Rows.any-gone (Syntax.tyStruct (38 ∷ 91 ∷ 93 ∷ List.[]) (Syntax.tcons ref0 (Syntax.tcons (Syntax.tyInt Syntax.w64) Syntax.tnil))),) ∷ (15,
-            Rows.any-gone Syntax.tyUnit) ∷ List.[]
-        abbrev g23 : List.List Row.Entry
-        g23 = (0, Rows.any-gone Syntax.tyUnit) ∷ (1, Relend.mslice-owed ReservationUsage.row ref2 0 3 life0,) ∷ (2, Rows.sc-here Row.sBool) ∷ (3,
-            Rows.any-gone Laws''.mir,) ∷ (4, Rows.any-gone Laws.mir,) ∷ (5, Rows.any-gone Laws'.mir,) ∷ (6, Rows.any-gone Laws'''.mir,) ∷ (7,
-            Rows.any-gone Laws'.mir,) ∷ (8, Rows.sc-here (Row.sInt Syntax.w64)) ∷ (9, ReservationUsage.held,) ∷ (10, Rows.sc-here (Row.sInt
-            Syntax.w64)) ∷ (11, Rows.any-gone ref0,) ∷ (12, Rows.any-gone (Syntax.tyStruct (38 ∷ 91 ∷ 93 ∷ List.[]) (Syntax.tcons ref0 (Syntax.tcons
-            (Syntax.tyInt Syntax.w64) Syntax.tnil))),) ∷ (13, Rows.any-gone ref0,) ∷ (14, Rows.any-gone (Syntax.tyStruct (38 ∷ 91 ∷ 93 ∷ List.[])
-            (Syntax.tcons ref0 (Syntax.tcons (Syntax.tyInt Syntax.w64) Syntax.tnil))),) ∷ (15, Rows.any-gone Syntax.tyUnit) ∷ List.[]
-        abbrev g26 : List.List Row.Entry
-        g26 = (0, Rows.any-gone Syntax.tyUnit) ∷ (1, Relend.mslice-owed ReservationUsage.row ref2 0 3 life0,) ∷ (2, Rows.sc-here Row.sBool) ∷ (3,
-            Rows.any-gone Laws''.mir,) ∷ (4, Rows.any-gone Laws.mir,) ∷ (5, Rows.any-gone Laws'.mir,) ∷ (6, Rows.any-gone Laws'''.mir,) ∷ (7,
-            Rows.any-gone Laws'.mir,) ∷ (8, Rows.sc-here (Row.sInt Syntax.w64)) ∷ (9, ReservationUsage.held,) ∷ (10, Rows.sc-here (Row.sInt
-            Syntax.w64)) ∷ (11, Rows.any-gone ref0,) ∷ (12, Rows.any-gone (Syntax.tyStruct (38 ∷ 91 ∷ 93 ∷ List.[]) (Syntax.tcons ref0 (Syntax.tcons
-            (Syntax.tyInt Syntax.w64) Syntax.tnil))),) ∷ (13, Rows.any-gone ref0,) ∷ (14, Rows.any-gone (Syntax.tyStruct (38 ∷ 91 ∷ 93 ∷ List.[])
-            (Syntax.tcons ref0 (Syntax.tcons (Syntax.tyInt Syntax.w64) Syntax.tnil))),) ∷ (15, Rows.sc-here Row.sUnit) ∷ List.[]
+        g17 = (0, Rows.any-gone (Syntax.tyInt Syntax.w64)) ∷ (1, Reshare.mslice-owedS ReservationUsage.row ref2 0 2 life0,) ∷ (2, Rows.whole
+            (Declared.row Places.the-type)) ∷ (3, Rows.sc-here Row.sBool,) ∷ (4, Rows.whole (Declared.row RelayTicket.the-type)) ∷ (5, Rows.sc-here
+            (Row.sInt Syntax.w64),) ∷ (6, Rows.any-gone Laws.mir,) ∷ (7, Rows.any-gone Laws''.mir,) ∷ (8, Rows.whole (Declared.row
+            UsageFound.the-type)) ∷ (9, Rows.whole (Declared.row Question.the-type),) ∷ (10, Rows.sc-here (Row.sInt Syntax.w64)) ∷ (11, Rows.any-gone
+            ReservationUsage.ty,) ∷ (12, Rows.any-gone (Syntax.tyInt Syntax.w64)) ∷ (13, Rows.any-gone ref0,) ∷ (14, Rows.any-gone (Syntax.tyStruct
+            (38 ∷ 91 ∷ 93 ∷ List.[]) (Syntax.tcons ref0 (Syntax.tcons (Syntax.tyInt Syntax.w64) Syntax.tnil))),) ∷ (15, Rows.any-gone ref0,) ∷ List.[]
+        abbrev g18 : List.List Row.Entry
+        g18 = (0, Rows.any-gone (Syntax.tyInt Syntax.w64)) ∷ (1, Reshare.mslice-owedS ReservationUsage.row ref2 0 2 life0,) ∷ (2, Rows.whole
+            (Declared.row Places.the-type)) ∷ (3, Rows.sc-here Row.sBool,) ∷ (4, Rows.whole (Declared.row RelayTicket.the-type)) ∷ (5, Rows.sc-here
+            (Row.sInt Syntax.w64),) ∷ (6, Rows.any-gone Laws.mir,) ∷ (7, Rows.any-gone Laws''.mir,) ∷ (8, Rows.whole (Declared.row
+            UsageFound.the-type)) ∷ (9, Rows.any-gone Laws''.mir,) ∷ (10, Rows.sc-here (Row.sInt Syntax.w64)) ∷ (11, Rows.any-gone
+            ReservationUsage.ty,) ∷ (12, Rows.any-gone (Syntax.tyInt Syntax.w64)) ∷ (13, Rows.any-gone ref0,) ∷ (14, Rows.any-gone (Syntax.tyStruct
+            (38 ∷ 91 ∷ 93 ∷ List.[]) (Syntax.tcons ref0 (Syntax.tcons (Syntax.tyInt Syntax.w64) Syntax.tnil))),) ∷ (15, Rows.any-gone ref0,) ∷ List.[]
+        abbrev g24 : List.List Row.Entry
+        g24 = (0, Rows.any-gone (Syntax.tyInt Syntax.w64)) ∷ (1, Relend.mslice-owed ReservationUsage.row ref2 0 3 life0,) ∷ (2, Rows.whole
+            (Declared.row Places.the-type)) ∷ (3, Rows.sc-here Row.sBool,) ∷ (4, Rows.any-gone Laws'''.mir,) ∷ (5, Rows.sc-here (Row.sInt Syntax.w64))
+            ∷ (6, Rows.any-gone Laws.mir,) ∷ (7, Rows.any-gone Laws''.mir,) ∷ (8, Rows.any-gone Laws''''.mir,) ∷ (9, Rows.any-gone Laws''.mir,) ∷ (10,
+            Rows.sc-here (Row.sInt Syntax.w64)) ∷ (11, ReservationUsage.held,) ∷ (12, Rows.sc-here (Row.sInt Syntax.w64)) ∷ (13, Rows.any-gone ref0,)
+            ∷ (14, Rows.any-gone (Syntax.tyStruct (38 ∷ 91 ∷ 93 ∷ List.[]) (Syntax.tcons ref0 (Syntax.tcons (Syntax.tyInt Syntax.w64) Syntax.tnil))),)
+            ∷ (15, Rows.any-gone ref0,) ∷ List.[]
         abbrev g28 : List.List Row.Entry
-        g28 = (0, Rows.any-gone Syntax.tyUnit) ∷ (1, Relend.mslice-owed ReservationUsage.row ref2 0 3 life0,) ∷ (2, Rows.sc-here Row.sBool) ∷ (3,
-            Rows.any-gone Laws''.mir,) ∷ (4, Rows.any-gone Laws.mir,) ∷ (5, Rows.any-gone Laws'.mir,) ∷ (6, Rows.any-gone Laws'''.mir,) ∷ (7,
-            Rows.any-gone Laws'.mir,) ∷ (8, Rows.sc-here (Row.sInt Syntax.w64)) ∷ (9, Rows.any-gone ReservationUsage.ty,) ∷ (10, Rows.sc-here
-            (Row.sInt Syntax.w64)) ∷ (11, Rows.any-gone ref0,) ∷ (12, Rows.any-gone (Syntax.tyStruct (38 ∷ 91 ∷ 93 ∷ List.[]) (Syntax.tcons ref0
-            (Syntax.tcons (Syntax.tyInt Syntax.w64) Syntax.tnil))),) ∷ (13, Rows.any-gone ref0,) ∷ (14, Rows.any-gone (Syntax.tyStruct (38 ∷ 91 ∷ 93 ∷
-            List.[]) (Syntax.tcons ref0 (Syntax.tcons (Syntax.tyInt Syntax.w64) Syntax.tnil))),) ∷ (15, Rows.sc-here Row.sUnit) ∷ List.[]
-        abbrev g29 : List.List Row.Entry
-        g29 = (0, Rows.any-gone Syntax.tyUnit) ∷ (1, Relend.mslice-owed ReservationUsage.row ref2 0 3 life0,) ∷ (2, Rows.sc-here Row.sBool) ∷ (3,
-            Rows.any-gone Laws''.mir,) ∷ (4, Rows.any-gone Laws.mir,) ∷ (5, Rows.any-gone Laws'.mir,) ∷ (6, Rows.any-gone Laws'''.mir,) ∷ (7,
-            Rows.any-gone Laws'.mir,) ∷ (8, Rows.sc-here (Row.sInt Syntax.w64)) ∷ (9, Rows.any-gone ReservationUsage.ty,) ∷ (10, Rows.sc-here
-            (Row.sInt Syntax.w64)) ∷ (11, Rows.any-gone ref0,) ∷ (12, Rows.any-gone (Syntax.tyStruct (38 ∷ 91 ∷ 93 ∷ List.[]) (Syntax.tcons ref0
-            (Syntax.tcons (Syntax.tyInt Syntax.w64) Syntax.tnil))),) ∷ (13, Rows.any-gone ref0,) ∷ (14, Rows.any-gone (Syntax.tyStruct (38 ∷ 91 ∷ 93 ∷
-            List.[]) (Syntax.tcons ref0 (Syntax.tcons (Syntax.tyInt Syntax.w64) Syntax.tnil))),) ∷ (15, Rows.any-gone Syntax.tyUnit) ∷ List.[]
+        g28 = (0, Rows.any-gone (Syntax.tyInt Syntax.w64)) ∷ (1, Relend.mslice-owed ReservationUsage.row ref2 0 3 life0,) ∷ (2, Rows.whole
+            (Declared.row Places.the-type)) ∷ (3, Rows.sc-here Row.sBool,) ∷ (4, Rows.any-gone Laws'''.mir,) ∷ (5, Rows.sc-here (Row.sInt Syntax.w64))
+            ∷ (6, Rows.any-gone Laws.mir,) ∷ (7, Rows.any-gone Laws''.mir,) ∷ (8, Rows.any-gone Laws''''.mir,) ∷ (9, Rows.any-gone Laws''.mir,) ∷ (10,
+            Rows.sc-here (Row.sInt Syntax.w64)) ∷ (11, Rows.any-gone ReservationUsage.ty,) ∷ (12, Rows.sc-here (Row.sInt Syntax.w64)) ∷ (13,
+            Rows.any-gone ref0,) ∷ (14, Rows.any-gone (Syntax.tyStruct (38 ∷ 91 ∷ 93 ∷ List.[]) (Syntax.tcons ref0 (Syntax.tcons (Syntax.tyInt
+            Syntax.w64) Syntax.tnil))),) ∷ (15, Rows.any-gone ref0,) ∷ List.[]
         abbrev G0 : Row.Cx
         G0 = record { locals = List._++_ t0 t1; slots = life0 ∷ Row.off ∷ Row.off ∷ Row.off ∷ List.[]; }
         abbrev G1 : Row.Cx
@@ -738,9 +777,9 @@ module _ (claims· : Claims) where
         abbrev G4 : Row.Cx
         G4 = record { locals = List._++_ t5 t1; slots = life0 ∷ Row.off ∷ Row.off ∷ Row.off ∷ List.[]; }
         abbrev G5 : Row.Cx
-        G5 = record { locals = List._++_ t5 t1; slots = life0 ∷ Row.alive ∷ Row.off ∷ Row.off ∷ List.[]; }
+        G5 = record { locals = List._++_ t6 t1; slots = life0 ∷ Row.off ∷ Row.off ∷ Row.off ∷ List.[]; }
         abbrev G6 : Row.Cx
-        G6 = record { locals = List._++_ g6 t1; slots = Row.off ∷ Row.alive ∷ Row.off ∷ Row.off ∷ List.[]; }
+        G6 = record { locals = List._++_ t6 t1; slots = life0 ∷ Row.alive ∷ Row.off ∷ Row.off ∷ List.[]; }
         abbrev G7 : Row.Cx
         G7 = record { locals = List._++_ g7 t1; slots = Row.off ∷ Row.alive ∷ Row.off ∷ Row.off ∷ List.[]; }
         abbrev G8 : Row.Cx
@@ -750,31 +789,31 @@ module _ (claims· : Claims) where
         abbrev G10 : Row.Cx
         G10 = record { locals = List._++_ g10 t1; slots = Row.off ∷ Row.alive ∷ Row.off ∷ Row.off ∷ List.[]; }
         abbrev G11 : Row.Cx
-        G11 = record { locals = List._++_ g10 t1; slots = Row.off ∷ Row.dead ∷ Row.off ∷ Row.off ∷ List.[]; }
+        G11 = record { locals = List._++_ g11 t1; slots = Row.off ∷ Row.alive ∷ Row.off ∷ Row.off ∷ List.[]; }
         abbrev G12 : Row.Cx
-        G12 = record { locals = List._++_ t11 t1; slots = life0 ∷ Row.dead ∷ Row.off ∷ Row.off ∷ List.[]; }
+        G12 = record { locals = List._++_ g11 t1; slots = Row.off ∷ Row.dead ∷ Row.off ∷ Row.off ∷ List.[]; }
         abbrev G13 : Row.Cx
-        G13 = record { locals = List._++_ t11 t1; slots = life0 ∷ Row.off ∷ Row.off ∷ Row.off ∷ List.[]; }
+        G13 = record { locals = List._++_ t12 t1; slots = life0 ∷ Row.dead ∷ Row.off ∷ Row.off ∷ List.[]; }
         abbrev G14 : Row.Cx
         G14 = record { locals = List._++_ t12 t1; slots = life0 ∷ Row.off ∷ Row.off ∷ Row.off ∷ List.[]; }
         abbrev G15 : Row.Cx
-        G15 = record { locals = List._++_ t12 t1; slots = life0 ∷ Row.off ∷ Row.alive ∷ Row.off ∷ List.[]; }
+        G15 = record { locals = List._++_ t13 t1; slots = life0 ∷ Row.off ∷ Row.off ∷ Row.off ∷ List.[]; }
         abbrev G16 : Row.Cx
-        G16 = record { locals = List._++_ g13 t1; slots = Row.off ∷ Row.off ∷ Row.alive ∷ Row.off ∷ List.[]; }
+        G16 = record { locals = List._++_ t13 t1; slots = life0 ∷ Row.off ∷ Row.alive ∷ Row.off ∷ List.[]; }
         abbrev G17 : Row.Cx
         G17 = record { locals = List._++_ g14 t1; slots = Row.off ∷ Row.off ∷ Row.alive ∷ Row.off ∷ List.[]; }
         abbrev G18 : Row.Cx
-        G18 = record { locals = List._++_ g15 t1; slots = Row.off ∷ Row.off ∷ Row.alive ∷ Row.off ∷ List.[]; }
+        G18 = record { locals = List._++_ g15 t16; slots = Row.off ∷ Row.off ∷ Row.alive ∷ Row.off ∷ List.[]; }
         abbrev G19 : Row.Cx
-        G19 = record { locals = List._++_ g16 t1; slots = Row.off ∷ Row.off ∷ Row.alive ∷ Row.off ∷ List.[]; }
+        G19 = record { locals = List._++_ g17 t16; slots = Row.off ∷ Row.off ∷ Row.alive ∷ Row.off ∷ List.[]; }
         abbrev G20 : Row.Cx
         G20 = record { locals = List._++_ g17 t1; slots = Row.off ∷ Row.off ∷ Row.alive ∷ Row.off ∷ List.[]; }
         abbrev G21 : Row.Cx
-        G21 = record { locals = List._++_ g17 t1; slots = Row.off ∷ Row.off ∷ Row.dead ∷ Row.off ∷ List.[]; }
+        G21 = record { locals = List._++_ g18 t1; slots = Row.off ∷ Row.off ∷ Row.alive ∷ Row.off ∷ List.[]; }
         abbrev G22 : Row.Cx
-        G22 = record { locals = List._++_ t18 t1; slots = life0 ∷ Row.off ∷ Row.dead ∷ Row.off ∷ List.[]; }
+        G22 = record { locals = List._++_ g18 t1; slots = Row.off ∷ Row.off ∷ Row.dead ∷ Row.off ∷ List.[]; }
         abbrev G23 : Row.Cx
-        G23 = record { locals = List._++_ t18 t1; slots = life0 ∷ Row.off ∷ Row.off ∷ Row.off ∷ List.[]; }
+        G23 = record { locals = List._++_ t19 t1; slots = life0 ∷ Row.off ∷ Row.dead ∷ Row.off ∷ List.[]; }
         abbrev G24 : Row.Cx
         G24 = record { locals = List._++_ t19 t1; slots = life0 ∷ Row.off ∷ Row.off ∷ Row.off ∷ List.[]; }
         abbrev G25 : Row.Cx
@@ -784,235 +823,269 @@ module _ (claims· : Claims) where
         abbrev G27 : Row.Cx
         G27 = record { locals = List._++_ t22 t1; slots = life0 ∷ Row.off ∷ Row.off ∷ Row.off ∷ List.[]; }
         abbrev G28 : Row.Cx
-        G28 = record { locals = List._++_ t22 t1; slots = life0 ∷ Row.off ∷ Row.off ∷ Row.alive ∷ List.[]; }
+        G28 = record { locals = List._++_ t23 t1; slots = life0 ∷ Row.off ∷ Row.off ∷ Row.off ∷ List.[]; }
         abbrev G29 : Row.Cx
-        G29 = record { locals = List._++_ g23 t24; slots = Row.off ∷ Row.off ∷ Row.off ∷ Row.alive ∷ List.[]; }
+        G29 = record { locals = List._++_ t23 t1; slots = life0 ∷ Row.off ∷ Row.off ∷ Row.alive ∷ List.[]; }
         abbrev G30 : Row.Cx
-        G30 = record { locals = List._++_ g23 t25; slots = Row.off ∷ Row.off ∷ Row.off ∷ Row.alive ∷ List.[]; }
+        G30 = record { locals = List._++_ g24 t25; slots = Row.off ∷ Row.off ∷ Row.off ∷ Row.alive ∷ List.[]; }
         abbrev G31 : Row.Cx
-        G31 = record { locals = List._++_ g26 t27; slots = Row.off ∷ Row.off ∷ Row.off ∷ Row.alive ∷ List.[]; }
+        G31 = record { locals = List._++_ g24 t26; slots = Row.off ∷ Row.off ∷ Row.off ∷ Row.alive ∷ List.[]; }
         abbrev G32 : Row.Cx
-        G32 = record { locals = List._++_ g28 t27; slots = Row.off ∷ Row.off ∷ Row.off ∷ Row.alive ∷ List.[]; }
+        G32 = record { locals = List._++_ g24 t27; slots = Row.off ∷ Row.off ∷ Row.off ∷ Row.alive ∷ List.[]; }
         abbrev G33 : Row.Cx
-        G33 = record { locals = List._++_ g29 t27; slots = Row.off ∷ Row.off ∷ Row.off ∷ Row.alive ∷ List.[]; }
+        G33 = record { locals = List._++_ g28 t27; slots = Row.off ∷ Row.off ∷ Row.off ∷ Row.alive ∷ List.[]; }
         abbrev G34 : Row.Cx
-        G34 = record { locals = List._++_ g29 t27; slots = Row.off ∷ Row.off ∷ Row.off ∷ Row.dead ∷ List.[]; }
+        G34 = record { locals = List._++_ g28 t29; slots = Row.off ∷ Row.off ∷ Row.off ∷ Row.alive ∷ List.[]; }
         abbrev G35 : Row.Cx
-        G35 = record { locals = List._++_ t30 t1; slots = life0 ∷ Row.off ∷ Row.off ∷ Row.dead ∷ List.[]; }
+        G35 = record { locals = List._++_ g28 t29; slots = Row.off ∷ Row.off ∷ Row.off ∷ Row.dead ∷ List.[]; }
         abbrev G36 : Row.Cx
-        G36 = record { locals = List._++_ t30 t1; slots = life0 ∷ Row.off ∷ Row.off ∷ Row.off ∷ List.[]; }
+        G36 = record { locals = List._++_ t30 t1; slots = life0 ∷ Row.off ∷ Row.off ∷ Row.dead ∷ List.[]; }
         abbrev G37 : Row.Cx
-        G37 = record { locals = List._++_ t31 t1; slots = life0 ∷ Row.off ∷ Row.off ∷ Row.off ∷ List.[]; }
+        G37 = record { locals = List._++_ t30 t1; slots = life0 ∷ Row.off ∷ Row.off ∷ Row.off ∷ List.[]; }
         abbrev G38 : Row.Cx
-        G38 = record { locals = List._++_ t32 t1; slots = life0 ∷ Row.off ∷ Row.off ∷ Row.off ∷ List.[]; }
+        G38 = record { locals = List._++_ t31 t1; slots = life0 ∷ Row.off ∷ Row.off ∷ Row.off ∷ List.[]; }
         abbrev G39 : Row.Cx
-        G39 = record { locals = List._++_ t33 t1; slots = life0 ∷ Row.off ∷ Row.off ∷ Row.off ∷ List.[]; }
+        G39 = record { locals = List._++_ t32 t1; slots = life0 ∷ Row.off ∷ Row.off ∷ Row.off ∷ List.[]; }
         abbrev G40 : Row.Cx
-        G40 = record { locals = List._++_ t2 t1; slots = life0 ∷ Row.off ∷ Row.off ∷ Row.off ∷ List.[]; }
+        G40 = record { locals = List._++_ t33 t1; slots = life0 ∷ Row.off ∷ Row.off ∷ Row.off ∷ List.[]; }
+        abbrev G41 : Row.Cx
+        G41 = record { locals = List._++_ t34 t1; slots = life0 ∷ Row.off ∷ Row.off ∷ Row.off ∷ List.[]; }
+        abbrev G42 : Row.Cx
+        G42 = record { locals = List._++_ t35 t1; slots = life0 ∷ Row.off ∷ Row.off ∷ Row.off ∷ List.[]; }
+        abbrev G43 : Row.Cx
+        G43 = record { locals = List._++_ t2 t1; slots = life0 ∷ Row.off ∷ Row.off ∷ Row.off ∷ List.[]; }
         abbrev Δ0 : Typed.Outs
         Δ0 = record { next = Option.none; exits = List.[]; returns = Option.some G1 }
         module _ { M : Type 1 } (𝓤 : URA.URA M) (H : Wp.Heap 𝓤) (A : Atoms.Atoms 𝓤) (W : Kit.Given 𝓤 H A) (𝓣 : Wp.Tables 𝓤 H) (known : Knowns 𝓤 H A W
             𝓣) (bs : List.List Nat.ℕ) (bd : Lifetimes.AllOutlive 1 (Kinds.osR r) κs) where
           abbrev E : Wp.Env 𝓤 H
           E = Frame.EnvOf 𝓤 H ((Kinds.tyR r) ∷ (Enter.tysP ps xs)) bs
-          d0 : Typed.Typed 𝓤 H A 𝓣 E G40 b15 Δ0 (at0 bs)
+          d0 : Typed.Typed 𝓤 H A 𝓣 E G43 b16 Δ0 (at0 bs)
           d0 = Typed.t-return 𝓤 H A W 𝓣 E Δ0 tt
-          d1 : Typed.Typed 𝓤 H A 𝓣 E G39 b15 Δ0 (at1 bs)
-          d1 = Typed.g-pre 𝓤 H A W 𝓣 E G39 G40 b15 Δ0 (Typed.pass T39 T40 (s38 bs)) (at0 bs) (Scalar.g-room 𝓤 H A W E G39 2 Syntax.tyBool
+          d1 : Typed.Typed 𝓤 H A 𝓣 E G42 b16 Δ0 (at1 bs)
+          d1 = Typed.g-pre 𝓤 H A W 𝓣 E G42 G43 b16 Δ0 (Typed.pass T42 T43 (s41 bs)) (at0 bs) (Scalar.g-room 𝓤 H A W E G42 3 Syntax.tyBool
               (Scalar.room-sc 𝓤 H A W Row.sBool)) d0
-          d2 : Typed.Typed 𝓤 H A 𝓣 E G38 b15 Δ0 (at2 bs)
-          d2 = Typed.g-pre 𝓤 H A W 𝓣 E G38 G39 b15 Δ0 (Typed.pass T38 T39 (s37 bs)) (at1 bs) (Scalar.g-room 𝓤 H A W E G38 10 (Syntax.tyInt Syntax.w64)
+          d2 : Typed.Typed 𝓤 H A 𝓣 E G41 b16 Δ0 (at2 bs)
+          d2 = Typed.g-pre 𝓤 H A W 𝓣 E G41 G42 b16 Δ0 (Typed.pass T41 T42 (s40 bs)) (at1 bs) (Scalar.g-room 𝓤 H A W E G41 12 (Syntax.tyInt Syntax.w64)
               (Scalar.room-sc 𝓤 H A W (Row.sInt Syntax.w64))) d1
-          d3 : Typed.Typed 𝓤 H A 𝓣 E G37 b15 Δ0 (at3 bs)
-          d3 = Typed.g-pre 𝓤 H A W 𝓣 E G37 G38 b15 Δ0 (Typed.pass T37 T38 (s36 bs)) (at2 bs) (Scalar.g-room 𝓤 H A W E G37 8 (Syntax.tyInt Syntax.w64)
+          d3 : Typed.Typed 𝓤 H A 𝓣 E G40 b16 Δ0 (at3 bs)
+          d3 = Typed.g-pre 𝓤 H A W 𝓣 E G40 G41 b16 Δ0 (Typed.pass T40 T41 (s39 bs)) (at2 bs) (Scalar.g-room 𝓤 H A W E G40 10 (Syntax.tyInt Syntax.w64)
               (Scalar.room-sc 𝓤 H A W (Row.sInt Syntax.w64))) d2
-          d4 : Typed.Typed 𝓤 H A 𝓣 E G36 b16 Δ0 (at4 bs)
-          d4 = Typed.s-seq 𝓤 H A W 𝓣 E G36 G37 b14 b15 Δ0 (Typed.pass T35 T37 (s35 bs)) (at3 bs) (Scalar.t-use 𝓤 H A W E 𝓣 G36 Scalar.oUnit 0
-              (Rows.sc-here Row.sUnit) Syntax.tyUnit (Row.valS Row.sUnit) (Row.sUnit .of) tt (Reads.room-gone 𝓤 H A Syntax.tyUnit) (Scalar.holds-sc 𝓤
-              H A W Row.sUnit) Path.refl (λ u. Path.refl) λ u. tt) d3
-          d5 : Typed.Typed 𝓤 H A 𝓣 E G35 b16 Δ0 (at5 bs)
-          d5 = Typed.g-pre 𝓤 H A W 𝓣 E G35 G36 b16 Δ0 (λ Ψ. Ψ) (at4 bs) (Lifetime.g-forget 𝓤 H A W E G35 3 Row.dead Path.refl) d4
-          d6 : Typed.Typed 𝓤 H A 𝓣 E G34 b16 Δ0 (at6 bs)
-          d6 = Typed.g-pre 𝓤 H A W 𝓣 E G34 G35 b16 Δ0 (Typed.both (s33 bs)) (at5 bs) (Relend.g-back-sl 𝓤 H A W E ReservationUsage.row G34 17 1 0 3
-              ref2 ref1 life0 (λ x. x) (λ x. x) (Reads.as-is 𝓤 H A (Mut.msleft ReservationUsage.row ref1)) (Reads.as-is 𝓤 H A (Relend.mslice-owed
-              ReservationUsage.row ref2 0 3 life0)) Path.refl Path.refl) d5
-          d7 : Typed.Typed 𝓤 H A 𝓣 E G33 b16 Δ0 (at7 bs)
-          d7 = Typed.g-pre 𝓤 H A W 𝓣 E G33 G34 b16 Δ0 (λ Ψ. Ψ) (at6 bs) (Lifetime.g-end 𝓤 H A W E G33 3 Path.refl) d6
-          d8 : Typed.Typed 𝓤 H A 𝓣 E G32 b16 Δ0 (at8 bs)
-          d8 = Typed.g-pre 𝓤 H A W 𝓣 E G32 G33 b16 Δ0 (Typed.pass T32 T33 (s31 bs)) (at7 bs) (Scalar.g-room 𝓤 H A W E G32 15 Syntax.tyUnit
-              (Scalar.room-sc 𝓤 H A W Row.sUnit)) d7
-          d9 : Typed.Typed 𝓤 H A 𝓣 E G31 b16 Δ0 (at9 bs)
-          d9 = Typed.g-pre 𝓤 H A W 𝓣 E G31 G32 b16 Δ0 (Typed.pass T31 T32 (s30 bs)) (at8 bs) (Scalar.g-room 𝓤 H A W E G31 9 ReservationUsage.ty
-              (Local.room-whole 𝓤 H A W ReservationUsage.row ReservationUsage.ty Path.refl)) d8
-          d10 : Typed.Typed 𝓤 H A 𝓣 E G30 b17 Δ0 (at10 bs)
-          d10 = Typed.s-seq 𝓤 H A W 𝓣 E G30 G31 b13 b16 Δ0 (Typed.both (s29 bs)) (at9 bs) (Plain.t-call-plain 𝓤 H A W 𝓣 1 ps·6 r·6 (claims· .12)
-              (claims· .13) "hnsr_circuit::tables::ledger::set_usage" (known .6) E (λ pos β. β) G30 (record { pos = 17; ty = Syntax.tyRef
-              Syntax.erased Syntax.mut ReservationUsage.to; ref = λ x. x; }, (Bool.bAt 2 λ x. x, (Num.vAt 10 λ x. x, (record { pos = 9; st = List.[];
-              d = 0; at = λ x. x }, tt),),),) 15 (3 ∷ List.[]) (Call.sub-id 𝓤 H A W (G30 .slots)) (Reads.as-is 𝓤 H A (Mut.mslice ReservationUsage.row
+          d4 : Typed.Typed 𝓤 H A 𝓣 E G39 b16 Δ0 (at4 bs)
+          d4 = Typed.g-pre 𝓤 H A W 𝓣 E G39 G40 b16 Δ0 (Typed.pass T39 T40 (s38 bs)) (at3 bs) (Scalar.g-room 𝓤 H A W E G39 5 (Syntax.tyInt Syntax.w64)
+              (Scalar.room-sc 𝓤 H A W (Row.sInt Syntax.w64))) d3
+          d5 : Typed.Typed 𝓤 H A 𝓣 E G38 b16 Δ0 (at5 bs)
+          d5 = Typed.g-pre 𝓤 H A W 𝓣 E G38 G39 b16 Δ0 (Typed.pass T38 T39 (s37 bs)) (at4 bs) (Scalar.g-room 𝓤 H A W E G38 2 Laws'.mir
+              (Local.room-whole 𝓤 H A W (Declared.row Places.the-type) Laws'.mir Path.refl)) d4
+          d6 : Typed.Typed 𝓤 H A 𝓣 E G37 b17 Δ0 (at6 bs)
+          d6 = Typed.s-seq 𝓤 H A W 𝓣 E G37 G38 b15 b16 Δ0 (Typed.both (s36 bs)) (at5 bs) (Plain.t-call-plain 𝓤 H A W 𝓣 0 ps·7 r·7 (claims· .14)
+              (claims· .15) "hnsr_circuit::places::raised" (known .7) E (λ pos β. β) G37 (Num.vFld 2 ((Syntax.field 2) ∷ List.[]) 16 λ x.
+              Places.struct .as-values x .1 .1 .0, (Bool.bAt 3 λ x. x, (Num.vAt 12 λ x. x, (Num.vAt 5 λ x. x, tt))),) 0 List.[] (Call.sub-id 𝓤 H A W
+              (G37 .slots)) ((Reads.reads-field 𝓤 H A W Places.the-type Laws'.the-laws 2 (Syntax.tyInt Syntax.w64) 16 Path.refl, Path.refl,),
+              ((Scalar.reads-sc 𝓤 H A W Row.sBool, Path.refl), ((Scalar.reads-sc 𝓤 H A W (Row.sInt Syntax.w64), Path.refl), ((Scalar.reads-sc 𝓤 H A W
+              (Row.sInt Syntax.w64), Path.refl), tt),),),) (Reads'.room-gone 𝓤 H A (Syntax.tyInt Syntax.w64)) tt Path.refl) d5
+          d7 : Typed.Typed 𝓤 H A 𝓣 E G36 b17 Δ0 (at7 bs)
+          d7 = Typed.g-pre 𝓤 H A W 𝓣 E G36 G37 b17 Δ0 (λ Ψ. Ψ) (at6 bs) (Lifetime.g-forget 𝓤 H A W E G36 3 Row.dead Path.refl) d6
+          d8 : Typed.Typed 𝓤 H A 𝓣 E G35 b17 Δ0 (at8 bs)
+          d8 = Typed.g-pre 𝓤 H A W 𝓣 E G35 G36 b17 Δ0 (Typed.both (s34 bs)) (at7 bs) (Relend.g-back-sl 𝓤 H A W E ReservationUsage.row G35 19 1 0 3
+              ref2 ref1 life0 (λ x. x) (λ x. x) (Reads'.as-is 𝓤 H A (Mut.msleft ReservationUsage.row ref1)) (Reads'.as-is 𝓤 H A (Relend.mslice-owed
+              ReservationUsage.row ref2 0 3 life0)) Path.refl Path.refl) d7
+          d9 : Typed.Typed 𝓤 H A 𝓣 E G34 b17 Δ0 (at9 bs)
+          d9 = Typed.g-pre 𝓤 H A W 𝓣 E G34 G35 b17 Δ0 (λ Ψ. Ψ) (at8 bs) (Lifetime.g-end 𝓤 H A W E G34 3 Path.refl) d8
+          d10 : Typed.Typed 𝓤 H A 𝓣 E G33 b17 Δ0 (at10 bs)
+          d10 = Typed.g-pre 𝓤 H A W 𝓣 E G33 G34 b17 Δ0 (Typed.pass T33 T34 (s32 bs)) (at9 bs) (Scalar.g-room 𝓤 H A W E G33 17 Syntax.tyUnit
+              (Scalar.room-sc 𝓤 H A W Row.sUnit)) d9
+          d11 : Typed.Typed 𝓤 H A 𝓣 E G32 b17 Δ0 (at11 bs)
+          d11 = Typed.g-pre 𝓤 H A W 𝓣 E G32 G33 b17 Δ0 (Typed.pass T32 T33 (s31 bs)) (at10 bs) (Scalar.g-room 𝓤 H A W E G32 11 ReservationUsage.ty
+              (Local.room-whole 𝓤 H A W ReservationUsage.row ReservationUsage.ty Path.refl)) d10
+          d12 : Typed.Typed 𝓤 H A 𝓣 E G31 b18 Δ0 (at12 bs)
+          d12 = Typed.s-seq 𝓤 H A W 𝓣 E G31 G32 b14 b17 Δ0 (Typed.both (s30 bs)) (at11 bs) (Plain.t-call-plain 𝓤 H A W 𝓣 1 ps·6 r·6 (claims· .12)
+              (claims· .13) "hnsr_circuit::tables::ledger::set_usage" (known .6) E (λ pos β. β) G31 (record { pos = 19; ty = Syntax.tyRef
+              Syntax.erased Syntax.mut ReservationUsage.to; ref = λ x. x; }, (Bool.bAt 3 λ x. x, (Num.vAt 12 λ x. x, (record { pos = 11; st = List.[];
+              d = 0; at = λ x. x }, tt),),),) 17 (3 ∷ List.[]) (Call.sub-id 𝓤 H A W (G31 .slots)) (Reads'.as-is 𝓤 H A (Mut.mslice ReservationUsage.row
               ref1 3), Mut.reads-mslice 𝓤 H A W ReservationUsage.row ref1 3, Path.refl, ((Scalar.reads-sc 𝓤 H A W Row.sBool, Path.refl),
               ((Scalar.reads-sc 𝓤 H A W (Row.sInt Syntax.w64), Path.refl), ((Yields.yields-copy 𝓤 H A W (λ ρ. Unit) ReservationUsage.row Path.refl
               (ReservationUsage.copies .copy 𝓤 H A W) ReservationUsage.held (λ x. x) (λ x. x) (λ ρ told. Local.mem-whole 𝓤 H A W ReservationUsage.row
-              ρ) λ ρ told. Local.whole-mem 𝓤 H A W ReservationUsage.row ρ, Path.refl,), tt,),),),) (Reads.room-gone 𝓤 H A Syntax.tyUnit) (tt, tt)
-              Path.refl) d9
-          d11 : Typed.Typed 𝓤 H A 𝓣 E G29 b18 Δ0 (at11 bs)
-          d11 = Typed.s-seq 𝓤 H A W 𝓣 E G29 G30 b12 b17 Δ0 (Typed.ask (s28 bs)) (at10 bs) (Relend.t-sl-aggregate 𝓤 H A W E ReservationUsage.row 𝓣
-              (Relend.asMut ReservationUsage.row) G29 16 17 3 ref1 ref1 (λ x. x) (Scalar.oFld 1 ((Syntax.field 1) ∷ List.[]) (Syntax.tyInt Syntax.w64)
-              8 λ v. Shared.lenV (v .0)) (Reads.as-is 𝓤 H A (Relend.msptr ReservationUsage.row ref1 3)) (Reads.room-gone 𝓤 H A (Syntax.tyStruct (38 ∷
-              91 ∷ 93 ∷ List.[]) (Syntax.tcons ref1 (Syntax.tcons (Syntax.tyInt Syntax.w64) Syntax.tnil)))) (Relend.reads-owed-len 𝓤 H A W
-              ReservationUsage.row ref2 0 3 life0 8 Path.refl, Path.refl,) Path.refl Path.refl λ b o k. tt) d10
-          d12 : Typed.Typed 𝓤 H A 𝓣 E G28 b19 Δ0 (at12 bs)
-          d12 = Typed.s-seq 𝓤 H A W 𝓣 E G28 G29 b11 b18 Δ0 (Typed.give (s27 bs)) (at11 bs) (Relend.t-sl-relend 𝓤 H A W E ReservationUsage.row 𝓣 G28 1
-              16 0 3 ref2 ref1 life0 0 (λ x. x) (Reads.as-is 𝓤 H A (Mut.mslice ReservationUsage.row ref2 0)) (Reads.room-gone 𝓤 H A ref1) Path.refl tt
-              Path.refl Path.refl Path.refl λ b o. tt) d11
-          d13 : Typed.Typed 𝓤 H A 𝓣 E G27 b19 Δ0 (at13 bs)
-          d13 = Typed.g-pre 𝓤 H A W 𝓣 E G27 G28 b19 Δ0 (λ Ψ. Ψ) (at12 bs) (Lifetime.g-begin 𝓤 H A W E G27 3 (tt, (tt, (tt, (tt, (tt, (tt, (tt, (tt,
-              (tt, (tt, (tt, (tt, (tt, (tt, (tt, (tt, (tt, (tt, tt))))))))),),),),),),),),),)) d12
-          d14 : Typed.Typed 𝓤 H A 𝓣 E G26 b19 Δ0 (at14 bs)
-          d14 = Typed.g-pre 𝓤 H A W 𝓣 E G26 G27 b19 Δ0 (Typed.pass T26 T27 (s25 bs)) (at13 bs) (Scalar.g-room 𝓤 H A W E G26 6 Laws'''.mir
-              (Local.room-whole 𝓤 H A W (Declared.row UsageFound.the-type) Laws'''.mir Path.refl)) d13
-          d15 : Typed.Typed 𝓤 H A 𝓣 E G25 b20 Δ0 (at15 bs)
-          d15 = Typed.s-seq 𝓤 H A W 𝓣 E G25 G26 b10 b19 Δ0 (Typed.both (s24 bs)) (at14 bs) (Plain.t-call-plain 𝓤 H A W 𝓣 0 ps·5 r·5 (claims· .10)
-              (claims· .11) "hnsr_circuit::open::booked_place" (known .5) E (λ pos β. β) G25 (record { pos = 6; st = List.[]; d = 0; at = λ x. x },
-              (Num.vAt 8 λ x. x, tt)) 10 List.[] (Call.sub-id 𝓤 H A W (G25 .slots)) ((Yields.yields-copy 𝓤 H A W (λ ρ. Unit) (Declared.row
-              UsageFound.the-type) Path.refl (Copies.cStruct UsageFound.the-type Laws'''.the-laws Laws'''.the-copy .copy 𝓤 H A W) (Rows.whole
+              ρ) λ ρ told. Local.whole-mem 𝓤 H A W ReservationUsage.row ρ, Path.refl,), tt,),),),) (Reads'.room-gone 𝓤 H A Syntax.tyUnit) (tt, tt)
+              Path.refl) d11
+          d13 : Typed.Typed 𝓤 H A 𝓣 E G30 b19 Δ0 (at13 bs)
+          d13 = Typed.s-seq 𝓤 H A W 𝓣 E G30 G31 b13 b18 Δ0 (Typed.ask (s29 bs)) (at12 bs) (Relend.t-sl-aggregate 𝓤 H A W E ReservationUsage.row 𝓣
+              (Relend.asMut ReservationUsage.row) G30 18 19 3 ref1 ref1 (λ x. x) (Scalar.oFld 1 ((Syntax.field 1) ∷ List.[]) (Syntax.tyInt Syntax.w64)
+              8 λ v. Shared.lenV (v .0)) (Reads'.as-is 𝓤 H A (Relend.msptr ReservationUsage.row ref1 3)) (Reads'.room-gone 𝓤 H A (Syntax.tyStruct (38
+              ∷ 91 ∷ 93 ∷ List.[]) (Syntax.tcons ref1 (Syntax.tcons (Syntax.tyInt Syntax.w64) Syntax.tnil)))) (Relend.reads-owed-len 𝓤 H A W
+              ReservationUsage.row ref2 0 3 life0 8 Path.refl, Path.refl,) Path.refl Path.refl λ b o k. tt) d12
+          d14 : Typed.Typed 𝓤 H A 𝓣 E G29 b20 Δ0 (at14 bs)
+          d14 = Typed.s-seq 𝓤 H A W 𝓣 E G29 G30 b12 b19 Δ0 (Typed.give (s28 bs)) (at13 bs) (Relend.t-sl-relend 𝓤 H A W E ReservationUsage.row 𝓣 G29 1
+              18 0 3 ref2 ref1 life0 0 (λ x. x) (Reads'.as-is 𝓤 H A (Mut.mslice ReservationUsage.row ref2 0)) (Reads'.room-gone 𝓤 H A ref1) Path.refl
+              tt Path.refl Path.refl Path.refl λ b o. tt) d13
+          d15 : Typed.Typed 𝓤 H A 𝓣 E G28 b20 Δ0 (at15 bs)
+          d15 = Typed.g-pre 𝓤 H A W 𝓣 E G28 G29 b20 Δ0 (λ Ψ. Ψ) (at14 bs) (Lifetime.g-begin 𝓤 H A W E G28 3 (tt, (tt, (tt, (tt, (tt, (tt, (tt, (tt,
+              (tt, (tt, (tt, (tt, (tt, (tt, (tt, (tt, (tt, (tt, (tt, (tt, tt)))))))),),),),),),),),),),),),)) d14
+          d16 : Typed.Typed 𝓤 H A 𝓣 E G27 b20 Δ0 (at16 bs)
+          d16 = Typed.g-pre 𝓤 H A W 𝓣 E G27 G28 b20 Δ0 (Typed.pass T27 T28 (s26 bs)) (at15 bs) (Scalar.g-room 𝓤 H A W E G27 8 Laws''''.mir
+              (Local.room-whole 𝓤 H A W (Declared.row UsageFound.the-type) Laws''''.mir Path.refl)) d15
+          d17 : Typed.Typed 𝓤 H A 𝓣 E G26 b21 Δ0 (at17 bs)
+          d17 = Typed.s-seq 𝓤 H A W 𝓣 E G26 G27 b11 b20 Δ0 (Typed.both (s25 bs)) (at16 bs) (Plain.t-call-plain 𝓤 H A W 𝓣 0 ps·5 r·5 (claims· .10)
+              (claims· .11) "hnsr_circuit::open::booked_place" (known .5) E (λ pos β. β) G26 (record { pos = 8; st = List.[]; d = 0; at = λ x. x },
+              (Num.vAt 10 λ x. x, tt)) 12 List.[] (Call.sub-id 𝓤 H A W (G26 .slots)) ((Yields.yields-copy 𝓤 H A W (λ ρ. Unit) (Declared.row
+              UsageFound.the-type) Path.refl (Copies.cStruct UsageFound.the-type Laws''''.the-laws Laws''''.the-copy .copy 𝓤 H A W) (Rows.whole
               (Declared.row UsageFound.the-type)) (λ x. x) (λ x. x) (λ ρ told. Local.mem-whole 𝓤 H A W (Declared.row UsageFound.the-type) ρ) λ ρ told.
               Local.whole-mem 𝓤 H A W (Declared.row UsageFound.the-type) ρ, Path.refl,), ((Scalar.reads-sc 𝓤 H A W (Row.sInt Syntax.w64), Path.refl),
-              tt),) (Reads.room-gone 𝓤 H A (Syntax.tyInt Syntax.w64)) tt Path.refl) d14
-          d16 : Typed.Typed 𝓤 H A 𝓣 E G24 b20 Δ0 (at16 bs)
-          d16 = Typed.g-pre 𝓤 H A W 𝓣 E G24 G25 b20 Δ0 (Typed.pass T24 T25 (s23 bs)) (at15 bs) (Scalar.g-room 𝓤 H A W E G24 3 Laws''.mir
-              (Local.room-whole 𝓤 H A W (Declared.row RelayTicket.the-type) Laws''.mir Path.refl)) d15
-          d17 : Typed.Typed 𝓤 H A 𝓣 E G23 b21 Δ0 (at17 bs)
-          d17 = Typed.s-seq 𝓤 H A W 𝓣 E G23 G24 b9 b20 Δ0 (Typed.both (s22 bs)) (at16 bs) (Plain.t-call-plain 𝓤 H A W 𝓣 0 ps·4 r·4 (claims· .8)
-              (claims· .9) "hnsr_circuit::open::booked_usage" (known .4) E (λ pos β. β) G23 (record { pos = 6; st = List.[]; d = 0; at = λ x. x },
-              (record { pos = 3; st = List.[]; d = 0; at = λ x. x }, tt),) 9 List.[] (Call.sub-id 𝓤 H A W (G23 .slots)) ((Yields.yields-copy 𝓤 H A W
-              (λ ρ. Unit) (Declared.row UsageFound.the-type) Path.refl (Copies.cStruct UsageFound.the-type Laws'''.the-laws Laws'''.the-copy .copy 𝓤 H
-              A W) (Rows.whole (Declared.row UsageFound.the-type)) (λ x. x) (λ x. x) (λ ρ told. Local.mem-whole 𝓤 H A W (Declared.row
+              tt),) (Reads'.room-gone 𝓤 H A (Syntax.tyInt Syntax.w64)) tt Path.refl) d16
+          d18 : Typed.Typed 𝓤 H A 𝓣 E G25 b21 Δ0 (at18 bs)
+          d18 = Typed.g-pre 𝓤 H A W 𝓣 E G25 G26 b21 Δ0 (Typed.pass T25 T26 (s24 bs)) (at17 bs) (Scalar.g-room 𝓤 H A W E G25 4 Laws'''.mir
+              (Local.room-whole 𝓤 H A W (Declared.row RelayTicket.the-type) Laws'''.mir Path.refl)) d17
+          d19 : Typed.Typed 𝓤 H A 𝓣 E G24 b22 Δ0 (at19 bs)
+          d19 = Typed.s-seq 𝓤 H A W 𝓣 E G24 G25 b10 b21 Δ0 (Typed.both (s23 bs)) (at18 bs) (Plain.t-call-plain 𝓤 H A W 𝓣 0 ps·4 r·4 (claims· .8)
+              (claims· .9) "hnsr_circuit::open::booked_usage" (known .4) E (λ pos β. β) G24 (record { pos = 8; st = List.[]; d = 0; at = λ x. x },
+              (record { pos = 4; st = List.[]; d = 0; at = λ x. x }, tt),) 11 List.[] (Call.sub-id 𝓤 H A W (G24 .slots)) ((Yields.yields-copy 𝓤 H A W
+              (λ ρ. Unit) (Declared.row UsageFound.the-type) Path.refl (Copies.cStruct UsageFound.the-type Laws''''.the-laws Laws''''.the-copy .copy 𝓤
+              H A W) (Rows.whole (Declared.row UsageFound.the-type)) (λ x. x) (λ x. x) (λ ρ told. Local.mem-whole 𝓤 H A W (Declared.row
               UsageFound.the-type) ρ) λ ρ told. Local.whole-mem 𝓤 H A W (Declared.row UsageFound.the-type) ρ, Path.refl,), ((Yields.yields-copy 𝓤 H A
-              W (λ ρ. Unit) (Declared.row RelayTicket.the-type) Path.refl (Copies.cStruct RelayTicket.the-type Laws''.the-laws Laws''.the-copy .copy 𝓤
-              H A W) (Rows.whole (Declared.row RelayTicket.the-type)) (λ x. x) (λ x. x) (λ ρ told. Local.mem-whole 𝓤 H A W (Declared.row
-              RelayTicket.the-type) ρ) λ ρ told. Local.whole-mem 𝓤 H A W (Declared.row RelayTicket.the-type) ρ, Path.refl,), tt,),) (Reads.room-gone 𝓤
-              H A ReservationUsage.ty) tt Path.refl) d16
-          d18 : Typed.Typed 𝓤 H A 𝓣 E G22 b21 Δ0 (at18 bs)
-          d18 = Typed.g-pre 𝓤 H A W 𝓣 E G22 G23 b21 Δ0 (λ Ψ. Ψ) (at17 bs) (Lifetime.g-forget 𝓤 H A W E G22 2 Row.dead Path.refl) d17
-          d19 : Typed.Typed 𝓤 H A 𝓣 E G21 b21 Δ0 (at19 bs)
-          d19 = Typed.g-pre 𝓤 H A W 𝓣 E G21 G22 b21 Δ0 (Typed.pass T20 T22 (s20 bs)) (at18 bs) (Reshare.g-back-sl-shr 𝓤 H A W E ReservationUsage.row
-              G21 1 0 2 ref2 life0 (λ x. x) (Reads.as-is 𝓤 H A (Reshare.mslice-owedS ReservationUsage.row ref2 0 2 life0)) Path.refl Path.refl) d18
-          d20 : Typed.Typed 𝓤 H A 𝓣 E G20 b21 Δ0 (at20 bs)
-          d20 = Typed.g-pre 𝓤 H A W 𝓣 E G20 G21 b21 Δ0 (λ Ψ. Ψ) (at19 bs) (Lifetime.g-end 𝓤 H A W E G20 2 Path.refl) d19
-          d21 : Typed.Typed 𝓤 H A 𝓣 E G19 b21 Δ0 (at21 bs)
-          d21 = Typed.g-pre 𝓤 H A W 𝓣 E G19 G20 b21 Δ0 (Typed.pass T19 T20 (s18 bs)) (at20 bs) (Scalar.g-room 𝓤 H A W E G19 7 Laws'.mir
-              (Local.room-whole 𝓤 H A W (Declared.row Question.the-type) Laws'.mir Path.refl)) d20
-          d22 : Typed.Typed 𝓤 H A 𝓣 E G18 b21 Δ0 (at22 bs)
-          d22 = Typed.g-pre 𝓤 H A W 𝓣 E G18 G19 b21 Δ0 (Typed.pass T18 T19 (s17 bs)) (at21 bs) (Scalar.g-room 𝓤 H A W E G18 14 (Syntax.tyStruct (38 ∷
+              W (λ ρ. Unit) (Declared.row RelayTicket.the-type) Path.refl (Copies.cStruct RelayTicket.the-type Laws'''.the-laws Laws'''.the-copy .copy
+              𝓤 H A W) (Rows.whole (Declared.row RelayTicket.the-type)) (λ x. x) (λ x. x) (λ ρ told. Local.mem-whole 𝓤 H A W (Declared.row
+              RelayTicket.the-type) ρ) λ ρ told. Local.whole-mem 𝓤 H A W (Declared.row RelayTicket.the-type) ρ, Path.refl,), tt,),) (Reads'.room-gone
+              𝓤 H A ReservationUsage.ty) tt Path.refl) d18
+          d20 : Typed.Typed 𝓤 H A 𝓣 E G23 b22 Δ0 (at20 bs)
+          d20 = Typed.g-pre 𝓤 H A W 𝓣 E G23 G24 b22 Δ0 (λ Ψ. Ψ) (at19 bs) (Lifetime.g-forget 𝓤 H A W E G23 2 Row.dead Path.refl) d19
+          d21 : Typed.Typed 𝓤 H A 𝓣 E G22 b22 Δ0 (at21 bs)
+          d21 = Typed.g-pre 𝓤 H A W 𝓣 E G22 G23 b22 Δ0 (Typed.pass T21 T23 (s21 bs)) (at20 bs) (Reshare.g-back-sl-shr 𝓤 H A W E ReservationUsage.row
+              G22 1 0 2 ref2 life0 (λ x. x) (Reads'.as-is 𝓤 H A (Reshare.mslice-owedS ReservationUsage.row ref2 0 2 life0)) Path.refl Path.refl) d20
+          d22 : Typed.Typed 𝓤 H A 𝓣 E G21 b22 Δ0 (at22 bs)
+          d22 = Typed.g-pre 𝓤 H A W 𝓣 E G21 G22 b22 Δ0 (λ Ψ. Ψ) (at21 bs) (Lifetime.g-end 𝓤 H A W E G21 2 Path.refl) d21
+          d23 : Typed.Typed 𝓤 H A 𝓣 E G20 b22 Δ0 (at23 bs)
+          d23 = Typed.g-pre 𝓤 H A W 𝓣 E G20 G21 b22 Δ0 (Typed.pass T20 T21 (s19 bs)) (at22 bs) (Scalar.g-room 𝓤 H A W E G20 9 Laws''.mir
+              (Local.room-whole 𝓤 H A W (Declared.row Question.the-type) Laws''.mir Path.refl)) d22
+          d24 : Typed.Typed 𝓤 H A 𝓣 E G19 b22 Δ0 (at24 bs)
+          d24 = Typed.g-pre 𝓤 H A W 𝓣 E G19 G20 b22 Δ0 (Typed.pass T19 T20 (s18 bs)) (at23 bs) (Scalar.g-room 𝓤 H A W E G19 16 (Syntax.tyStruct (38 ∷
               91 ∷ 93 ∷ List.[]) (Syntax.tcons ref0 (Syntax.tcons (Syntax.tyInt Syntax.w64) Syntax.tnil))) (Shared.room-sslice 𝓤 H A W
-              ReservationUsage.row ref0 2)) d21
-          d23 : Typed.Typed 𝓤 H A 𝓣 E G17 b22 Δ0 (at23 bs)
-          d23 = Typed.s-seq 𝓤 H A W 𝓣 E G17 G18 b8 b21 Δ0 (Typed.both (s16 bs)) (at22 bs) (Plain.t-call-plain 𝓤 H A W 𝓣 1 ps·3 r·3 (claims· .6)
-              (claims· .7) "hnsr_circuit::tables::ledger::find_usage" (known .3) E (λ pos β. β) G17 (record { pos = 14; ty = Syntax.tyRef
-              Syntax.erased Syntax.imm ReservationUsage.to; ref = λ x. x; }, (record { pos = 7; st = List.[]; d = 0; at = λ x. x }, tt),) 8 (2 ∷
-              List.[]) (Call.sub-id 𝓤 H A W (G17 .slots)) (ShrSlice.spares-sslice 𝓤 H A W ReservationUsage.row ref0 2, Shared.reads-sslice 𝓤 H A W
-              ReservationUsage.row ref0 2, Path.refl, ((Yields.yields-copy 𝓤 H A W (λ ρ. Unit) (Declared.row Question.the-type) Path.refl
-              (Copies.cStruct Question.the-type Laws'.the-laws Laws'.the-copy .copy 𝓤 H A W) (Rows.whole (Declared.row Question.the-type)) (λ x. x) (λ
-              x. x) (λ ρ told. Local.mem-whole 𝓤 H A W (Declared.row Question.the-type) ρ) λ ρ told. Local.whole-mem 𝓤 H A W (Declared.row
-              Question.the-type) ρ, Path.refl,), tt,),) (Reads.room-gone 𝓤 H A (Syntax.tyInt Syntax.w64)) (tt, tt) Path.refl) d22
-          d24 : Typed.Typed 𝓤 H A 𝓣 E G16 b23 Δ0 (at24 bs)
-          d24 = Typed.s-seq 𝓤 H A W 𝓣 E G16 G17 b7 b22 Δ0 (Typed.ask (s15 bs)) (at23 bs) (Relend.t-sl-aggregate 𝓤 H A W E ReservationUsage.row 𝓣
-              (Relend.asShr ReservationUsage.row) G16 13 14 2 ref0 ref0 (λ x. x) (Scalar.oFld 1 ((Syntax.field 1) ∷ List.[]) (Syntax.tyInt Syntax.w64)
-              8 λ v. Shared.lenV (v .0)) (Reads.as-is 𝓤 H A (Relend.ssptr ReservationUsage.row ref0 2)) (Reads.room-gone 𝓤 H A (Syntax.tyStruct (38 ∷
-              91 ∷ 93 ∷ List.[]) (Syntax.tcons ref0 (Syntax.tcons (Syntax.tyInt Syntax.w64) Syntax.tnil)))) (Reshare.reads-owedS-len 𝓤 H A W
-              ReservationUsage.row ref2 0 2 life0 8 Path.refl, Path.refl,) Path.refl Path.refl λ b o k. tt) d23
-          d25 : Typed.Typed 𝓤 H A 𝓣 E G15 b24 Δ0 (at25 bs)
-          d25 = Typed.s-seq 𝓤 H A W 𝓣 E G15 G16 b6 b23 Δ0 (Typed.give (s14 bs)) (at24 bs) (Reshare.t-sl-reshare 𝓤 H A W E ReservationUsage.row 𝓣 G15 1
-              13 0 2 ref2 ref0 life0 0 (λ x. x) (Reads.as-is 𝓤 H A (Mut.mslice ReservationUsage.row ref2 0)) (Reads.room-gone 𝓤 H A ref0) Path.refl tt
-              Path.refl Path.refl Path.refl λ b o. tt) d24
-          d26 : Typed.Typed 𝓤 H A 𝓣 E G14 b24 Δ0 (at26 bs)
-          d26 = Typed.g-pre 𝓤 H A W 𝓣 E G14 G15 b24 Δ0 (λ Ψ. Ψ) (at25 bs) (Lifetime.g-begin 𝓤 H A W E G14 2 (tt, (tt, (tt, (tt, (tt, (tt, (tt, (tt,
-              (tt, (tt, (tt, (tt, (tt, (tt, (tt, (tt, (tt, (tt, tt))))))))),),),),),),),),),)) d25
-          d27 : Typed.Typed 𝓤 H A 𝓣 E G13 b25 Δ0 (at27 bs)
-          d27 = Typed.s-seq 𝓤 H A W 𝓣 E G13 G14 b5 b24 Δ0 (Typed.both (s12 bs)) (at26 bs) (Plain.t-call-plain 𝓤 H A W 𝓣 0 ps·2 r·2 (claims· .4)
-              (claims· .5) "hnsr_circuit::question::unused" (known .2) E (λ pos β. β) G13 tt 7 List.[] (Call.sub-id 𝓤 H A W (G13 .slots)) tt
-              (Reads.room-gone 𝓤 H A Laws'.mir) tt Path.refl) d26
-          d28 : Typed.Typed 𝓤 H A 𝓣 E G12 b25 Δ0 (at28 bs)
-          d28 = Typed.g-pre 𝓤 H A W 𝓣 E G12 G13 b25 Δ0 (λ Ψ. Ψ) (at27 bs) (Lifetime.g-forget 𝓤 H A W E G12 1 Row.dead Path.refl) d27
-          d29 : Typed.Typed 𝓤 H A 𝓣 E G11 b25 Δ0 (at29 bs)
-          d29 = Typed.g-pre 𝓤 H A W 𝓣 E G11 G12 b25 Δ0 (Typed.pass T10 T12 (s10 bs)) (at28 bs) (Reshare.g-back-sl-shr 𝓤 H A W E ReservationUsage.row
-              G11 1 0 1 ref2 life0 (λ x. x) (Reads.as-is 𝓤 H A (Reshare.mslice-owedS ReservationUsage.row ref2 0 1 life0)) Path.refl Path.refl) d28
-          d30 : Typed.Typed 𝓤 H A 𝓣 E G10 b25 Δ0 (at30 bs)
-          d30 = Typed.g-pre 𝓤 H A W 𝓣 E G10 G11 b25 Δ0 (λ Ψ. Ψ) (at29 bs) (Lifetime.g-end 𝓤 H A W E G10 1 Path.refl) d29
-          d31 : Typed.Typed 𝓤 H A 𝓣 E G9 b25 Δ0 (at31 bs)
-          d31 = Typed.g-pre 𝓤 H A W 𝓣 E G9 G10 b25 Δ0 (Typed.pass T9 T10 (s8 bs)) (at30 bs) (Scalar.g-room 𝓤 H A W E G9 5 Laws'.mir (Local.room-whole
-              𝓤 H A W (Declared.row Question.the-type) Laws'.mir Path.refl)) d30
-          d32 : Typed.Typed 𝓤 H A 𝓣 E G8 b25 Δ0 (at32 bs)
-          d32 = Typed.g-pre 𝓤 H A W 𝓣 E G8 G9 b25 Δ0 (Typed.pass T8 T9 (s7 bs)) (at31 bs) (Scalar.g-room 𝓤 H A W E G8 12 (Syntax.tyStruct (38 ∷ 91 ∷
+              ReservationUsage.row ref0 2)) d23
+          d25 : Typed.Typed 𝓤 H A 𝓣 E G18 b23 Δ0 (at25 bs)
+          d25 = Typed.s-seq 𝓤 H A W 𝓣 E G18 G19 b9 b22 Δ0 (Typed.both (s17 bs)) (at24 bs) (Plain.t-call-plain 𝓤 H A W 𝓣 1 ps·3 r·3 (claims· .6)
+              (claims· .7) "hnsr_circuit::tables::ledger::find_usage" (known .3) E (λ pos β. β) G18 (record { pos = 16; ty = Syntax.tyRef
+              Syntax.erased Syntax.imm ReservationUsage.to; ref = λ x. x; }, (record { pos = 2; st = List.[]; d = 0; at = λ x. x }, (record { pos = 9;
+              st = List.[]; d = 0; at = λ x. x }, tt),),) 10 (2 ∷ List.[]) (Call.sub-id 𝓤 H A W (G18 .slots)) (ShrSlice.spares-sslice 𝓤 H A W
+              ReservationUsage.row ref0 2, Shared.reads-sslice 𝓤 H A W ReservationUsage.row ref0 2, Path.refl, ((Yields.yields-copy 𝓤 H A W (λ ρ.
+              Unit) (Declared.row Places.the-type) Path.refl (Copies.cStruct Places.the-type Laws'.the-laws Laws'.the-copy .copy 𝓤 H A W) (Rows.whole
+              (Declared.row Places.the-type)) (λ x. x) (λ x. x) (λ ρ told. Local.mem-whole 𝓤 H A W (Declared.row Places.the-type) ρ) λ ρ told.
+              Local.whole-mem 𝓤 H A W (Declared.row Places.the-type) ρ, Path.refl,), ((Yields.yields-copy 𝓤 H A W (λ ρ. Unit) (Declared.row
+              Question.the-type) Path.refl (Copies.cStruct Question.the-type Laws''.the-laws Laws''.the-copy .copy 𝓤 H A W) (Rows.whole (Declared.row
+              Question.the-type)) (λ x. x) (λ x. x) (λ ρ told. Local.mem-whole 𝓤 H A W (Declared.row Question.the-type) ρ) λ ρ told. Local.whole-mem 𝓤
+              H A W (Declared.row Question.the-type) ρ, Path.refl,), tt,),),) (Reads'.room-gone 𝓤 H A (Syntax.tyInt Syntax.w64)) (tt, tt) Path.refl)
+              d24
+          d26 : Typed.Typed 𝓤 H A 𝓣 E G17 b24 Δ0 (at26 bs)
+          d26 = Typed.s-seq 𝓤 H A W 𝓣 E G17 G18 b8 b23 Δ0 (Typed.ask (s16 bs)) (at25 bs) (Relend.t-sl-aggregate 𝓤 H A W E ReservationUsage.row 𝓣
+              (Relend.asShr ReservationUsage.row) G17 15 16 2 ref0 ref0 (λ x. x) (Scalar.oFld 1 ((Syntax.field 1) ∷ List.[]) (Syntax.tyInt Syntax.w64)
+              8 λ v. Shared.lenV (v .0)) (Reads'.as-is 𝓤 H A (Relend.ssptr ReservationUsage.row ref0 2)) (Reads'.room-gone 𝓤 H A (Syntax.tyStruct (38
+              ∷ 91 ∷ 93 ∷ List.[]) (Syntax.tcons ref0 (Syntax.tcons (Syntax.tyInt Syntax.w64) Syntax.tnil)))) (Reshare.reads-owedS-len 𝓤 H A W
+              ReservationUsage.row ref2 0 2 life0 8 Path.refl, Path.refl,) Path.refl Path.refl λ b o k. tt) d25
+          d27 : Typed.Typed 𝓤 H A 𝓣 E G16 b25 Δ0 (at27 bs)
+          d27 = Typed.s-seq 𝓤 H A W 𝓣 E G16 G17 b7 b24 Δ0 (Typed.give (s15 bs)) (at26 bs) (Reshare.t-sl-reshare 𝓤 H A W E ReservationUsage.row 𝓣 G16 1
+              15 0 2 ref2 ref0 life0 0 (λ x. x) (Reads'.as-is 𝓤 H A (Mut.mslice ReservationUsage.row ref2 0)) (Reads'.room-gone 𝓤 H A ref0) Path.refl
+              tt Path.refl Path.refl Path.refl λ b o. tt) d26
+          d28 : Typed.Typed 𝓤 H A 𝓣 E G15 b25 Δ0 (at28 bs)
+          d28 = Typed.g-pre 𝓤 H A W 𝓣 E G15 G16 b25 Δ0 (λ Ψ. Ψ) (at27 bs) (Lifetime.g-begin 𝓤 H A W E G15 2 (tt, (tt, (tt, (tt, (tt, (tt, (tt, (tt,
+              (tt, (tt, (tt, (tt, (tt, (tt, (tt, (tt, (tt, (tt, (tt, (tt, tt)))))))),),),),),),),),),),),),)) d27
+          d29 : Typed.Typed 𝓤 H A 𝓣 E G14 b26 Δ0 (at29 bs)
+          d29 = Typed.s-seq 𝓤 H A W 𝓣 E G14 G15 b6 b25 Δ0 (Typed.both (s13 bs)) (at28 bs) (Plain.t-call-plain 𝓤 H A W 𝓣 0 ps·2 r·2 (claims· .4)
+              (claims· .5) "hnsr_circuit::question::unused" (known .2) E (λ pos β. β) G14 tt 9 List.[] (Call.sub-id 𝓤 H A W (G14 .slots)) tt
+              (Reads'.room-gone 𝓤 H A Laws''.mir) tt Path.refl) d28
+          d30 : Typed.Typed 𝓤 H A 𝓣 E G13 b26 Δ0 (at30 bs)
+          d30 = Typed.g-pre 𝓤 H A W 𝓣 E G13 G14 b26 Δ0 (λ Ψ. Ψ) (at29 bs) (Lifetime.g-forget 𝓤 H A W E G13 1 Row.dead Path.refl) d29
+          d31 : Typed.Typed 𝓤 H A 𝓣 E G12 b26 Δ0 (at31 bs)
+          d31 = Typed.g-pre 𝓤 H A W 𝓣 E G12 G13 b26 Δ0 (Typed.pass T11 T13 (s11 bs)) (at30 bs) (Reshare.g-back-sl-shr 𝓤 H A W E ReservationUsage.row
+              G12 1 0 1 ref2 life0 (λ x. x) (Reads'.as-is 𝓤 H A (Reshare.mslice-owedS ReservationUsage.row ref2 0 1 life0)) Path.refl Path.refl) d30
+          d32 : Typed.Typed 𝓤 H A 𝓣 E G11 b26 Δ0 (at32 bs)
+          d32 = Typed.g-pre 𝓤 H A W 𝓣 E G11 G12 b26 Δ0 (λ Ψ. Ψ) (at31 bs) (Lifetime.g-end 𝓤 H A W E G11 1 Path.refl) d31
+          d33 : Typed.Typed 𝓤 H A 𝓣 E G10 b26 Δ0 (at33 bs)
+          d33 = Typed.g-pre 𝓤 H A W 𝓣 E G10 G11 b26 Δ0 (Typed.pass T10 T11 (s9 bs)) (at32 bs) (Scalar.g-room 𝓤 H A W E G10 7 Laws''.mir
+              (Local.room-whole 𝓤 H A W (Declared.row Question.the-type) Laws''.mir Path.refl)) d32
+          d34 : Typed.Typed 𝓤 H A 𝓣 E G9 b26 Δ0 (at34 bs)
+          d34 = Typed.g-pre 𝓤 H A W 𝓣 E G9 G10 b26 Δ0 (Typed.pass T9 T10 (s8 bs)) (at33 bs) (Scalar.g-room 𝓤 H A W E G9 14 (Syntax.tyStruct (38 ∷ 91 ∷
               93 ∷ List.[]) (Syntax.tcons ref0 (Syntax.tcons (Syntax.tyInt Syntax.w64) Syntax.tnil))) (Shared.room-sslice 𝓤 H A W ReservationUsage.row
-              ref0 1)) d31
-          d33 : Typed.Typed 𝓤 H A 𝓣 E G7 b26 Δ0 (at33 bs)
-          d33 = Typed.s-seq 𝓤 H A W 𝓣 E G7 G8 b4 b25 Δ0 (Typed.both (s6 bs)) (at32 bs) (Plain.t-call-plain 𝓤 H A W 𝓣 1 ps·1 r·1 (claims· .2) (claims·
-              .3) "hnsr_circuit::lookup::look_up_usage" (known .1) E (λ pos β. β) G7 (record { pos = 12; ty = Syntax.tyRef Syntax.erased Syntax.imm
-              ReservationUsage.to; ref = λ x. x; }, (record { pos = 5; st = List.[]; d = 0; at = λ x. x }, tt),) 6 (1 ∷ List.[]) (Call.sub-id 𝓤 H A W
-              (G7 .slots)) (ShrSlice.spares-sslice 𝓤 H A W ReservationUsage.row ref0 1, Shared.reads-sslice 𝓤 H A W ReservationUsage.row ref0 1,
-              Path.refl, ((Yields.yields-copy 𝓤 H A W (λ ρ. Unit) (Declared.row Question.the-type) Path.refl (Copies.cStruct Question.the-type
-              Laws'.the-laws Laws'.the-copy .copy 𝓤 H A W) (Rows.whole (Declared.row Question.the-type)) (λ x. x) (λ x. x) (λ ρ told. Local.mem-whole
-              𝓤 H A W (Declared.row Question.the-type) ρ) λ ρ told. Local.whole-mem 𝓤 H A W (Declared.row Question.the-type) ρ, Path.refl,), tt,),)
-              (Reads.room-gone 𝓤 H A Laws'''.mir) (tt, tt) Path.refl) d32
-          d34 : Typed.Typed 𝓤 H A 𝓣 E G6 b27 Δ0 (at34 bs)
-          d34 = Typed.s-seq 𝓤 H A W 𝓣 E G6 G7 b3 b26 Δ0 (Typed.ask (s5 bs)) (at33 bs) (Relend.t-sl-aggregate 𝓤 H A W E ReservationUsage.row 𝓣
-              (Relend.asShr ReservationUsage.row) G6 11 12 1 ref0 ref0 (λ x. x) (Scalar.oFld 1 ((Syntax.field 1) ∷ List.[]) (Syntax.tyInt Syntax.w64)
-              8 λ v. Shared.lenV (v .0)) (Reads.as-is 𝓤 H A (Relend.ssptr ReservationUsage.row ref0 1)) (Reads.room-gone 𝓤 H A (Syntax.tyStruct (38 ∷
-              91 ∷ 93 ∷ List.[]) (Syntax.tcons ref0 (Syntax.tcons (Syntax.tyInt Syntax.w64) Syntax.tnil)))) (Reshare.reads-owedS-len 𝓤 H A W
-              ReservationUsage.row ref2 0 1 life0 8 Path.refl, Path.refl,) Path.refl Path.refl λ b o k. tt) d33
-          d35 : Typed.Typed 𝓤 H A 𝓣 E G5 b28 Δ0 (at35 bs)
-          d35 = Typed.s-seq 𝓤 H A W 𝓣 E G5 G6 b2 b27 Δ0 (Typed.give (s4 bs)) (at34 bs) (Reshare.t-sl-reshare 𝓤 H A W E ReservationUsage.row 𝓣 G5 1 11
-              0 1 ref2 ref0 life0 0 (λ x. x) (Reads.as-is 𝓤 H A (Mut.mslice ReservationUsage.row ref2 0)) (Reads.room-gone 𝓤 H A ref0) Path.refl tt
-              Path.refl Path.refl Path.refl λ b o. tt) d34
-          d36 : Typed.Typed 𝓤 H A 𝓣 E G4 b28 Δ0 (at36 bs)
-          d36 = Typed.g-pre 𝓤 H A W 𝓣 E G4 G5 b28 Δ0 (λ Ψ. Ψ) (at35 bs) (Lifetime.g-begin 𝓤 H A W E G4 1 (tt, (tt, (tt, (tt, (tt, (tt, (tt, (tt, (tt,
-              (tt, (tt, (tt, (tt, (tt, (tt, (tt, (tt, (tt, tt))))))))),),),),),),),),),)) d35
-          d37 : Typed.Typed 𝓤 H A 𝓣 E G3 b28 Δ0 (at37 bs)
-          d37 = Typed.g-pre 𝓤 H A W 𝓣 E G3 G4 b28 Δ0 (Typed.pass T3 T4 (s2 bs)) (at36 bs) (Scalar.g-room 𝓤 H A W E G3 4 Laws.mir (Local.room-whole 𝓤 H
-              A W (Declared.row ReservationId.the-type) Laws.mir Path.refl)) d36
-          d38 : Typed.Typed 𝓤 H A 𝓣 E G2 b29 Δ0 (at38 bs)
-          d38 = Typed.s-seq 𝓤 H A W 𝓣 E G2 G3 b1 b28 Δ0 (Typed.both (s1 bs)) (at37 bs) (Plain.t-call-plain 𝓤 H A W 𝓣 0 ps·0 r·0 (claims· .0) (claims·
-              .1) "hnsr_circuit::question::at_reservation" (known .0) E (λ pos β. β) G2 (record { pos = 4; st = List.[]; d = 0; at = λ x. x }, tt) 5
-              List.[] (Call.sub-id 𝓤 H A W (G2 .slots)) ((Yields.yields-copy 𝓤 H A W (λ ρ. Unit) (Declared.row ReservationId.the-type) Path.refl
+              ref0 1)) d33
+          d35 : Typed.Typed 𝓤 H A 𝓣 E G8 b27 Δ0 (at35 bs)
+          d35 = Typed.s-seq 𝓤 H A W 𝓣 E G8 G9 b5 b26 Δ0 (Typed.both (s7 bs)) (at34 bs) (Plain.t-call-plain 𝓤 H A W 𝓣 1 ps·1 r·1 (claims· .2) (claims·
+              .3) "hnsr_circuit::lookup::look_up_usage" (known .1) E (λ pos β. β) G8 (record { pos = 14; ty = Syntax.tyRef Syntax.erased Syntax.imm
+              ReservationUsage.to; ref = λ x. x; }, (record { pos = 2; st = List.[]; d = 0; at = λ x. x }, (record { pos = 7; st = List.[]; d = 0; at
+              = λ x. x }, tt),),) 8 (1 ∷ List.[]) (Call.sub-id 𝓤 H A W (G8 .slots)) (ShrSlice.spares-sslice 𝓤 H A W ReservationUsage.row ref0 1,
+              Shared.reads-sslice 𝓤 H A W ReservationUsage.row ref0 1, Path.refl, ((Yields.yields-copy 𝓤 H A W (λ ρ. Unit) (Declared.row
+              Places.the-type) Path.refl (Copies.cStruct Places.the-type Laws'.the-laws Laws'.the-copy .copy 𝓤 H A W) (Rows.whole (Declared.row
+              Places.the-type)) (λ x. x) (λ x. x) (λ ρ told. Local.mem-whole 𝓤 H A W (Declared.row Places.the-type) ρ) λ ρ told. Local.whole-mem 𝓤 H A
+              W (Declared.row Places.the-type) ρ, Path.refl,), ((Yields.yields-copy 𝓤 H A W (λ ρ. Unit) (Declared.row Question.the-type) Path.refl
+              (Copies.cStruct Question.the-type Laws''.the-laws Laws''.the-copy .copy 𝓤 H A W) (Rows.whole (Declared.row Question.the-type)) (λ x. x)
+              (λ x. x) (λ ρ told. Local.mem-whole 𝓤 H A W (Declared.row Question.the-type) ρ) λ ρ told. Local.whole-mem 𝓤 H A W (Declared.row
+              Question.the-type) ρ, Path.refl,), tt,),),) (Reads'.room-gone 𝓤 H A Laws''''.mir) (tt, tt) Path.refl) d34
+          d36 : Typed.Typed 𝓤 H A 𝓣 E G7 b28 Δ0 (at36 bs)
+          d36 = Typed.s-seq 𝓤 H A W 𝓣 E G7 G8 b4 b27 Δ0 (Typed.ask (s6 bs)) (at35 bs) (Relend.t-sl-aggregate 𝓤 H A W E ReservationUsage.row 𝓣
+              (Relend.asShr ReservationUsage.row) G7 13 14 1 ref0 ref0 (λ x. x) (Scalar.oFld 1 ((Syntax.field 1) ∷ List.[]) (Syntax.tyInt Syntax.w64)
+              8 λ v. Shared.lenV (v .0)) (Reads'.as-is 𝓤 H A (Relend.ssptr ReservationUsage.row ref0 1)) (Reads'.room-gone 𝓤 H A (Syntax.tyStruct (38
+              ∷ 91 ∷ 93 ∷ List.[]) (Syntax.tcons ref0 (Syntax.tcons (Syntax.tyInt Syntax.w64) Syntax.tnil)))) (Reshare.reads-owedS-len 𝓤 H A W
+              ReservationUsage.row ref2 0 1 life0 8 Path.refl, Path.refl,) Path.refl Path.refl λ b o k. tt) d35
+          d37 : Typed.Typed 𝓤 H A 𝓣 E G6 b29 Δ0 (at37 bs)
+          d37 = Typed.s-seq 𝓤 H A W 𝓣 E G6 G7 b3 b28 Δ0 (Typed.give (s5 bs)) (at36 bs) (Reshare.t-sl-reshare 𝓤 H A W E ReservationUsage.row 𝓣 G6 1 13
+              0 1 ref2 ref0 life0 0 (λ x. x) (Reads'.as-is 𝓤 H A (Mut.mslice ReservationUsage.row ref2 0)) (Reads'.room-gone 𝓤 H A ref0) Path.refl tt
+              Path.refl Path.refl Path.refl λ b o. tt) d36
+          d38 : Typed.Typed 𝓤 H A 𝓣 E G5 b29 Δ0 (at38 bs)
+          d38 = Typed.g-pre 𝓤 H A W 𝓣 E G5 G6 b29 Δ0 (λ Ψ. Ψ) (at37 bs) (Lifetime.g-begin 𝓤 H A W E G5 1 (tt, (tt, (tt, (tt, (tt, (tt, (tt, (tt, (tt,
+              (tt, (tt, (tt, (tt, (tt, (tt, (tt, (tt, (tt, (tt, (tt, tt)))))))),),),),),),),),),),),),)) d37
+          d39 : Typed.Typed 𝓤 H A 𝓣 E G4 b29 Δ0 (at39 bs)
+          d39 = Typed.g-pre 𝓤 H A W 𝓣 E G4 G5 b29 Δ0 (Typed.pass T4 T5 (s3 bs)) (at38 bs) (Scalar.g-room 𝓤 H A W E G4 6 Laws.mir (Local.room-whole 𝓤 H
+              A W (Declared.row ReservationId.the-type) Laws.mir Path.refl)) d38
+          d40 : Typed.Typed 𝓤 H A 𝓣 E G3 b30 Δ0 (at40 bs)
+          d40 = Typed.s-seq 𝓤 H A W 𝓣 E G3 G4 b2 b29 Δ0 (Typed.both (s2 bs)) (at39 bs) (Plain.t-call-plain 𝓤 H A W 𝓣 0 ps·0 r·0 (claims· .0) (claims·
+              .1) "hnsr_circuit::question::at_reservation" (known .0) E (λ pos β. β) G3 (record { pos = 6; st = List.[]; d = 0; at = λ x. x }, tt) 7
+              List.[] (Call.sub-id 𝓤 H A W (G3 .slots)) ((Yields.yields-copy 𝓤 H A W (λ ρ. Unit) (Declared.row ReservationId.the-type) Path.refl
               (Copies.cStruct ReservationId.the-type Laws.the-laws Laws.the-copy .copy 𝓤 H A W) (Rows.whole (Declared.row ReservationId.the-type)) (λ
               x. x) (λ x. x) (λ ρ told. Local.mem-whole 𝓤 H A W (Declared.row ReservationId.the-type) ρ) λ ρ told. Local.whole-mem 𝓤 H A W
-              (Declared.row ReservationId.the-type) ρ, Path.refl,), tt,) (Reads.room-gone 𝓤 H A Laws'.mir) tt Path.refl) d37
-          d39 : Typed.Typed 𝓤 H A 𝓣 E G0 b30 Δ0 (at39 bs)
-          d39 = Typed.s-seq 𝓤 H A W 𝓣 E G0 G2 b0 b29 Δ0 (Typed.both (s0 bs)) (at38 bs) (WayStmt.t-way-copy-out 𝓤 H A W E 𝓣 (Declared.row
-              ReservationId.the-type) Path.refl (Copies.cStruct ReservationId.the-type Laws.the-laws Laws.the-copy .copy 𝓤 H A W) (λ ρ. Unit) G0
-              (Row.out 3 (G0 .locals)) (λ u. Row.drop 3 (G0 .locals) u) (G0 .slots) 3 (λ t. (Syntax.field 0) ∷ t) Laws.mir Laws.mir 4 (Rows.whole
+              (Declared.row ReservationId.the-type) ρ, Path.refl,), tt,) (Reads'.room-gone 𝓤 H A Laws''.mir) tt Path.refl) d39
+          d41 : Typed.Typed 𝓤 H A 𝓣 E G2 b31 Δ0 (at41 bs)
+          d41 = Typed.s-seq 𝓤 H A W 𝓣 E G2 G3 b1 b30 Δ0 (Typed.both (s1 bs)) (at40 bs) (WayStmt.t-way-copy-out 𝓤 H A W E 𝓣 (Declared.row
+              ReservationId.the-type) Path.refl (Copies.cStruct ReservationId.the-type Laws.the-laws Laws.the-copy .copy 𝓤 H A W) (λ ρ. Unit) G2
+              (Row.out 4 (G2 .locals)) (λ u. Row.drop 4 (G2 .locals) u) (G2 .slots) 4 (λ t. (Syntax.field 0) ∷ t) Laws.mir Laws.mir 6 (Rows.whole
               (Declared.row ReservationId.the-type)) (λ x. x) (λ u. At.getAt (RelayTicket.the-type .parts) 0 (RelayTicket.struct .as-values (u .1 .1
-              .1 .0))) (λ u. (Row.hd 0 (Row.tl (Row.tl (Row.tl bs))), Nat._+_ 0 0)) (λ T′. record { locals = Row.setRow 3 (3, Rows.whole (Declared.row
-              RelayTicket.the-type)) T′; slots = G0 .slots; }) (λ u T′ m′. Row.set 3 (3, Rows.whole (Declared.row RelayTicket.the-type)) (u .1 .1 .1
-              .0) T′ m′) (λ u. Unit) (λ x. Unit) (Own.told-none 𝓤 H A (G0 .slots)) (DerefMove.learns-nothing 𝓤 H A (Declared.row
+              .1 .1 .0))) (λ u. (Row.hd 0 (Row.tl (Row.tl (Row.tl (Row.tl bs)))), Nat._+_ 0 0)) (λ T′. record { locals = Row.setRow 4 (4, Rows.whole
+              (Declared.row RelayTicket.the-type)) T′; slots = G2 .slots; }) (λ u T′ m′. Row.set 4 (4, Rows.whole (Declared.row RelayTicket.the-type))
+              (u .1 .1 .1 .1 .0) T′ m′) (λ u. Unit) (λ x. Unit) (Own.told-none 𝓤 H A (G2 .slots)) (DerefMove.learns-nothing 𝓤 H A (Declared.row
               ReservationId.the-type)) (λ ρ told u asked. Way'.w-partˢ 𝓤 H A W E (Declared.row RelayTicket.the-type) (Declared.row
-              ReservationId.the-type) Laws''.mir Laws.mir 0 0 (u .1 .1 .1 .0) (At.getAt (RelayTicket.the-type .parts) 0 (RelayTicket.struct .as-values
-              (u .1 .1 .1 .0))) (Row.hd 0 (Row.tl (Row.tl (Row.tl bs))), 0) (Way.w-look 𝓤 H A W E (Way.w-local 𝓤 H A W E G0 ρ u (G0 .slots) 3
-              (Declared.row RelayTicket.the-type) (Rows.whole (Declared.row RelayTicket.the-type)) (λ x. x) (λ x. x) (u .1 .1 .1 .0) (Local.mem-whole
-              𝓤 H A W (Declared.row RelayTicket.the-type) ρ (u .1 .1 .1 .0) (Row.hd 0 (Row.tl (Row.tl (Row.tl bs))))) (Local.whole-mem 𝓤 H A W
-              (Declared.row RelayTicket.the-type) ρ (u .1 .1 .1 .0) (Row.hd 0 (Row.tl (Row.tl (Row.tl bs))))))) Path.refl λ q. Inner.cut-record 𝓤 H A
-              q (Declared.row RelayTicket.the-type) ReservationId.the-type 0 (u .1 .1 .1 .0) (u .1 .1 .1 .0) (At.getAt (RelayTicket.the-type .parts) 0
-              (RelayTicket.struct .as-values (u .1 .1 .1 .0))) (At.getAt (RelayTicket.the-type .parts) 0 (RelayTicket.struct .as-values (u .1 .1 .1
-              .0))) (Row.hd 0 (Row.tl (Row.tl (Row.tl bs))), 0) (Behind.look-at 𝓤 H A W q RelayTicket.the-type Laws''.the-laws 0 0 Path.refl Path.refl
-              (Row.hd 0 (Row.tl (Row.tl (Row.tl bs))), 0) (u .1 .1 .1 .0) (RelayTicket.struct .as-values (u .1 .1 .1 .0)) Path.refl)) (Reads.room-gone
-              𝓤 H A Laws.mir) (Yields.makes-mem 𝓤 H A W (λ ρ. Unit) (Declared.row ReservationId.the-type) Path.refl (Rows.whole (Declared.row
-              ReservationId.the-type)) (λ x. x) λ ρ told. Local.whole-mem 𝓤 H A W (Declared.row ReservationId.the-type) ρ) Path.refl Path.refl
-              Path.refl) d38
-          pub typed : Typed.Typed 𝓤 H A 𝓣 E (Function.Γin 1 ps r xs m κs qs) b30 (Function.Δret 1 ps r xs m κs qs) (Φ bs)
-          typed = d39
+              ReservationId.the-type) Laws'''.mir Laws.mir 0 0 (u .1 .1 .1 .1 .0) (At.getAt (RelayTicket.the-type .parts) 0 (RelayTicket.struct
+              .as-values (u .1 .1 .1 .1 .0))) (Row.hd 0 (Row.tl (Row.tl (Row.tl (Row.tl bs)))), 0) (Way.w-look 𝓤 H A W E (Way.w-local 𝓤 H A W E G2 ρ u
+              (G2 .slots) 4 (Declared.row RelayTicket.the-type) (Rows.whole (Declared.row RelayTicket.the-type)) (λ x. x) (λ x. x) (u .1 .1 .1 .1 .0)
+              (Local.mem-whole 𝓤 H A W (Declared.row RelayTicket.the-type) ρ (u .1 .1 .1 .1 .0) (Row.hd 0 (Row.tl (Row.tl (Row.tl (Row.tl bs))))))
+              (Local.whole-mem 𝓤 H A W (Declared.row RelayTicket.the-type) ρ (u .1 .1 .1 .1 .0) (Row.hd 0 (Row.tl (Row.tl (Row.tl (Row.tl bs))))))))
+              Path.refl λ q. Inner.cut-record 𝓤 H A q (Declared.row RelayTicket.the-type) ReservationId.the-type 0 (u .1 .1 .1 .1 .0) (u .1 .1 .1 .1
+              .0) (At.getAt (RelayTicket.the-type .parts) 0 (RelayTicket.struct .as-values (u .1 .1 .1 .1 .0))) (At.getAt (RelayTicket.the-type
+              .parts) 0 (RelayTicket.struct .as-values (u .1 .1 .1 .1 .0))) (Row.hd 0 (Row.tl (Row.tl (Row.tl (Row.tl bs)))), 0) (Behind.look-at 𝓤 H A
+              W q RelayTicket.the-type Laws'''.the-laws 0 0 Path.refl Path.refl (Row.hd 0 (Row.tl (Row.tl (Row.tl (Row.tl bs)))), 0) (u .1 .1 .1 .1
+              .0) (RelayTicket.struct .as-values (u .1 .1 .1 .1 .0)) Path.refl)) (Reads'.room-gone 𝓤 H A Laws.mir) (Yields.makes-mem 𝓤 H A W (λ ρ.
+              Unit) (Declared.row ReservationId.the-type) Path.refl (Rows.whole (Declared.row ReservationId.the-type)) (λ x. x) λ ρ told.
+              Local.whole-mem 𝓤 H A W (Declared.row ReservationId.the-type) ρ) Path.refl Path.refl Path.refl) d40
+          d42 : Typed.Typed 𝓤 H A 𝓣 E G0 b32 Δ0 (at42 bs)
+          d42 = Typed.s-seq 𝓤 H A W 𝓣 E G0 G2 b0 b31 Δ0 (Typed.pass T0 T2 (s0 bs)) (at41 bs) (Scalar.t-use 𝓤 H A W E 𝓣 G0 (Scalar.oFld 1
+              ((Syntax.field 1) ∷ List.[]) (Syntax.tyInt Syntax.w64) 8 Shared.lenV) 5 (Rows.sc-here (Row.sInt Syntax.w64)) (Syntax.tyInt Syntax.w64)
+              (Row.valS (Row.sInt Syntax.w64)) (Row.sInt Syntax.w64 .of) (Mut.reads-mslice-len 𝓤 H A W ReservationUsage.row ref2 0 8 Path.refl,
+              Path.refl,) (Reads'.room-gone 𝓤 H A (Syntax.tyInt Syntax.w64)) (Scalar.holds-sc 𝓤 H A W (Row.sInt Syntax.w64)) Path.refl (λ u.
+              Path.refl) λ u. tt) d41
+          pub typed : Typed.Typed 𝓤 H A 𝓣 E (Function.Γin 1 ps r xs m κs qs) b32 (Function.Δret 1 ps r xs m κs qs) (Φ bs)
+          typed = d42
       module _ (κs : Lifetimes.Lfts 1) where
         pub record Args : Type 0 where
           pub ledger : Kinds.Den { n = 1 } κs (MutSlice.pMutS ReservationUsage.row 0 tt)
+          pub places : Kinds.Den { n = 1 } κs (Value.pVal record { ty = Declared.row Places.the-type; one = Path.refl; val = Laws'''''.val
+              Places.the-type Laws'.the-laws; tells = Laws'''''.tells Places.the-type Laws'.the-laws; still = Laws'''''.still Places.the-type
+              Laws'.the-copy Exit.yes; row = Rows.whole (Declared.row Places.the-type); rd = λ x. x; mk = λ x. x; } λ M 𝓤 H A W. record { copies =
+              Laws'''''.copy Places.the-type Laws'.the-copy 𝓤 H A W; lawful = Laws'''''.lawful Places.the-type Laws'.the-laws 𝓤 H A W; makes =
+              Laws'''''.makes Places.the-type Laws'.the-plain 𝓤 H A; in-mem = Local.mem-whole 𝓤 H A W (Declared.row Places.the-type); of-mem =
+              Local.whole-mem 𝓤 H A W (Declared.row Places.the-type); })
           pub go : Kinds.Den { n = 1 } κs Bool.pBool
-          pub ticket : Kinds.Den { n = 1 } κs (Value.pVal record { ty = Declared.row RelayTicket.the-type; one = Path.refl; val = Laws''''.val
-              RelayTicket.the-type Laws''.the-laws; tells = Laws''''.tells RelayTicket.the-type Laws''.the-laws; still = Laws''''.still
-              RelayTicket.the-type Laws''.the-copy Exit.yes; row = Rows.whole (Declared.row RelayTicket.the-type); rd = λ x. x; mk = λ x. x; } λ M 𝓤 H
-              A W. record { copies = Laws''''.copy RelayTicket.the-type Laws''.the-copy 𝓤 H A W; lawful = Laws''''.lawful RelayTicket.the-type
-              Laws''.the-laws 𝓤 H A W; makes = Laws''''.makes RelayTicket.the-type Laws''.the-plain 𝓤 H A; in-mem = Local.mem-whole 𝓤 H A W
+          pub ticket : Kinds.Den { n = 1 } κs (Value.pVal record { ty = Declared.row RelayTicket.the-type; one = Path.refl; val = Laws'''''.val
+              RelayTicket.the-type Laws'''.the-laws; tells = Laws'''''.tells RelayTicket.the-type Laws'''.the-laws; still = Laws'''''.still
+              RelayTicket.the-type Laws'''.the-copy Exit.yes; row = Rows.whole (Declared.row RelayTicket.the-type); rd = λ x. x; mk = λ x. x; } λ M 𝓤
+              H A W. record { copies = Laws'''''.copy RelayTicket.the-type Laws'''.the-copy 𝓤 H A W; lawful = Laws'''''.lawful RelayTicket.the-type
+              Laws'''.the-laws 𝓤 H A W; makes = Laws'''''.makes RelayTicket.the-type Laws'''.the-plain 𝓤 H A; in-mem = Local.mem-whole 𝓤 H A W
               (Declared.row RelayTicket.the-type); of-mem = Local.whole-mem 𝓤 H A W (Declared.row RelayTicket.the-type); })
         abbrev pub dens : (a : Args) → Kinds.Dens κs ps
-        dens = λ a. (a .ledger, (a .go, (a .ticket, tt)))
+        dens = λ a. (a .ledger, (a .places, (a .go, (a .ticket, tt))))
       abbrev pub m0 : (κs : Lifetimes.Lfts 1) → (args : Args κs) → (blocks : List.List Nat.ℕ) → Typed.Mo T0
       m0 = λ κs args blocks. (tt, Enter.partsP κs 1 ps xs (dens κs args))
       abbrev W0 : (κs : Lifetimes.Lfts 1) → (args : Args κs) → (blocks : List.List Nat.ℕ) → Typed.Want O0
@@ -1024,315 +1097,348 @@ module _ (claims· : Claims) where
         pub blocks : List.List Nat.ℕ
         pub good : Kinds.GoodsP κs ps (dens κs args)
         pub pre : Pre· κs (dens κs args)
-      abbrev pub m1 : (before : Start) → (given : s0 (before .blocks) .gives (m0 (before .κs) (before .args) (before .blocks))) → Typed.Mo T2
-      m1 = λ before given. s0 (before .blocks) .next (m0 (before .κs) (before .args) (before .blocks)) given
+      abbrev pub m1 : (κs : Lifetimes.Lfts 1) → (args : Args κs) → (blocks : List.List Nat.ℕ) → Typed.Mo T2
+      m1 = λ κs args blocks. s0 blocks (m0 κs args blocks)
+      abbrev pub m2 : (before : Start) → (given : s1 (before .blocks) .gives (m1 (before .κs) (before .args) (before .blocks))) → Typed.Mo T3
+      m2 = λ before given. s1 (before .blocks) .next (m1 (before .κs) (before .args) (before .blocks)) given
       module _ (before· : Start) where
         pub record After-id·own : Type 0 where
-          pub given : s0 (before· .blocks) .gives (m0 (before· .κs) (before· .args) (before· .blocks))
+          pub given : s1 (before· .blocks) .gives (m1 (before· .κs) (before· .args) (before· .blocks))
       pub record After-id : Type 0 where
         pub before : Start
         pub id : After-id·own before
       abbrev pub Need-at-reservation-requires : Type 0
-      Need-at-reservation-requires = (c : After-id) → s1 (c .before .blocks) .asks (m1 (c .before) (c .id .given))
-      abbrev pub m2 : (before : After-id) → (given : s1 (before .before .blocks) .gives (m1 (before .before) (before .id .given))) → Typed.Mo T3
-      m2 = λ before given. s1 (before .before .blocks) .next (m1 (before .before) (before .id .given)) given
+      Need-at-reservation-requires = (c : After-id) → s2 (c .before .blocks) .asks (m2 (c .before) (c .id .given))
+      abbrev pub m3 : (before : After-id) → (given : s2 (before .before .blocks) .gives (m2 (before .before) (before .id .given))) → Typed.Mo T4
+      m3 = λ before given. s2 (before .before .blocks) .next (m2 (before .before) (before .id .given)) given
       module _ (before· : After-id) where
         abbrev pub After-at-reservation·own : Type 0
-        After-at-reservation·own = Called.Called ps·0 r·0 (claims· .1) T2 (record { pos = 4; st = List.[]; d = 0; at = λ x. x }, tt,) (m1 (before·
+        After-at-reservation·own = Called.Called ps·0 r·0 (claims· .1) T3 (record { pos = 6; st = List.[]; d = 0; at = λ x. x }, tt,) (m2 (before·
             .before) (before· .id .given))
       pub record After-at-reservation : Type 0 where
         pub before : After-id
         pub at-reservation : After-at-reservation·own before
-      abbrev pub After-at-reservation·gave : (c : After-at-reservation) → s1 (c .before .before .blocks) .gives (m1 (c .before .before) (c .before .id
+      abbrev pub After-at-reservation·gave : (c : After-at-reservation) → s2 (c .before .before .blocks) .gives (m2 (c .before .before) (c .before .id
           .given))
-      After-at-reservation·gave = λ c. Called.given ps·0 r·0 (claims· .1) T2 (record { pos = 4; st = List.[]; d = 0; at = λ x. x }, tt,) (m1 (c
+      After-at-reservation·gave = λ c. Called.given ps·0 r·0 (claims· .1) T3 (record { pos = 6; st = List.[]; d = 0; at = λ x. x }, tt,) (m2 (c
           .before .before) (c .before .id .given)) (c .at-reservation)
-      abbrev pub m3 : (before : After-id) → (given : s1 (before .before .blocks) .gives (m1 (before .before) (before .id .given))) → Typed.Mo T4
-      m3 = λ before given. s2 (before .before .blocks) (m2 before given)
-      abbrev pub m4 : (before : After-at-reservation) → (given : s4 (before .before .before .blocks) .gives (m3 (before .before)
-          (After-at-reservation·gave before))) → Typed.Mo T6
-      m4 = λ before given. s4 (before .before .before .blocks) .next (m3 (before .before) (After-at-reservation·gave before)) given
-      abbrev pub m5 : (before : After-at-reservation) → (given : s4 (before .before .before .blocks) .gives (m3 (before .before)
+      abbrev pub m4 : (before : After-id) → (given : s2 (before .before .blocks) .gives (m2 (before .before) (before .id .given))) → Typed.Mo T5
+      m4 = λ before given. s3 (before .before .blocks) (m3 before given)
+      abbrev pub m5 : (before : After-at-reservation) → (given : s5 (before .before .before .blocks) .gives (m4 (before .before)
           (After-at-reservation·gave before))) → Typed.Mo T7
-      m5 = λ before given. s5 (before .before .before .blocks) .next (m4 before given)
+      m5 = λ before given. s5 (before .before .before .blocks) .next (m4 (before .before) (After-at-reservation·gave before)) given
+      abbrev pub m6 : (before : After-at-reservation) → (given : s5 (before .before .before .blocks) .gives (m4 (before .before)
+          (After-at-reservation·gave before))) → Typed.Mo T8
+      m6 = λ before given. s6 (before .before .before .blocks) .next (m5 before given)
       module _ (before· : After-at-reservation) where
         pub record After-look-up-usage-arg·own : Type 0 where
-          pub given : s4 (before· .before .before .blocks) .gives (m3 (before· .before) (After-at-reservation·gave before·))
+          pub given : s5 (before· .before .before .blocks) .gives (m4 (before· .before) (After-at-reservation·gave before·))
       pub record After-look-up-usage-arg : Type 0 where
         pub before : After-at-reservation
         pub look-up-usage-arg : After-look-up-usage-arg·own before
       abbrev pub Need-look-up-usage-requires : Type 0
-      Need-look-up-usage-requires = (c : After-look-up-usage-arg) → s6 (c .before .before .before .blocks) .asks (m5 (c .before) (c .look-up-usage-arg
+      Need-look-up-usage-requires = (c : After-look-up-usage-arg) → s7 (c .before .before .before .blocks) .asks (m6 (c .before) (c .look-up-usage-arg
           .given))
-      abbrev pub m6 : (before : After-look-up-usage-arg) → (given : s6 (before .before .before .before .blocks) .gives (m5 (before .before) (before
-          .look-up-usage-arg .given))) → Typed.Mo T8
-      m6 = λ before given. s6 (before .before .before .before .blocks) .next (m5 (before .before) (before .look-up-usage-arg .given)) given
+      abbrev pub m7 : (before : After-look-up-usage-arg) → (given : s7 (before .before .before .before .blocks) .gives (m6 (before .before) (before
+          .look-up-usage-arg .given))) → Typed.Mo T9
+      m7 = λ before given. s7 (before .before .before .before .blocks) .next (m6 (before .before) (before .look-up-usage-arg .given)) given
       module _ (before· : After-look-up-usage-arg) where
         abbrev pub After-look-up-usage·own : Type 0
-        After-look-up-usage·own = Called.Called ps·1 r·1 (claims· .3) T7 (record { pos = 12; ty = Syntax.tyRef Syntax.erased Syntax.imm
-            ReservationUsage.to; ref = λ x. x; }, (record { pos = 5; st = List.[]; d = 0; at = λ x. x }, tt),) (m5 (before· .before) (before·
-            .look-up-usage-arg .given))
+        After-look-up-usage·own = Called.Called ps·1 r·1 (claims· .3) T8 (record { pos = 14; ty = Syntax.tyRef Syntax.erased Syntax.imm
+            ReservationUsage.to; ref = λ x. x; }, (record { pos = 2; st = List.[]; d = 0; at = λ x. x }, (record { pos = 7; st = List.[]; d = 0; at =
+            λ x. x }, tt),),) (m6 (before· .before) (before· .look-up-usage-arg .given))
       pub record After-look-up-usage : Type 0 where
         pub before : After-look-up-usage-arg
         pub look-up-usage : After-look-up-usage·own before
-      abbrev pub After-look-up-usage·gave : (c : After-look-up-usage) → s6 (c .before .before .before .before .blocks) .gives (m5 (c .before .before)
+      abbrev pub After-look-up-usage·gave : (c : After-look-up-usage) → s7 (c .before .before .before .before .blocks) .gives (m6 (c .before .before)
           (c .before .look-up-usage-arg .given))
-      After-look-up-usage·gave = λ c. Called.given ps·1 r·1 (claims· .3) T7 (record { pos = 12; ty = Syntax.tyRef Syntax.erased Syntax.imm
-          ReservationUsage.to; ref = λ x. x; }, (record { pos = 5; st = List.[]; d = 0; at = λ x. x }, tt),) (m5 (c .before .before) (c .before
-          .look-up-usage-arg .given)) (c .look-up-usage)
-      abbrev pub m7 : (before : After-look-up-usage-arg) → (given : s6 (before .before .before .before .blocks) .gives (m5 (before .before) (before
-          .look-up-usage-arg .given))) → Typed.Mo T9
-      m7 = λ before given. s7 (before .before .before .before .blocks) (m6 before given)
-      abbrev pub m8 : (before : After-look-up-usage-arg) → (given : s6 (before .before .before .before .blocks) .gives (m5 (before .before) (before
+      After-look-up-usage·gave = λ c. Called.given ps·1 r·1 (claims· .3) T8 (record { pos = 14; ty = Syntax.tyRef Syntax.erased Syntax.imm
+          ReservationUsage.to; ref = λ x. x; }, (record { pos = 2; st = List.[]; d = 0; at = λ x. x }, (record { pos = 7; st = List.[]; d = 0; at = λ
+          x. x }, tt),),) (m6 (c .before .before) (c .before .look-up-usage-arg .given)) (c .look-up-usage)
+      abbrev pub m8 : (before : After-look-up-usage-arg) → (given : s7 (before .before .before .before .blocks) .gives (m6 (before .before) (before
           .look-up-usage-arg .given))) → Typed.Mo T10
       m8 = λ before given. s8 (before .before .before .before .blocks) (m7 before given)
-      abbrev pub m9 : (before : After-look-up-usage-arg) → (given : s6 (before .before .before .before .blocks) .gives (m5 (before .before) (before
-          .look-up-usage-arg .given))) → Typed.Mo T12
-      m9 = λ before given. s10 (before .before .before .before .blocks) (m8 before given)
+      abbrev pub m9 : (before : After-look-up-usage-arg) → (given : s7 (before .before .before .before .blocks) .gives (m6 (before .before) (before
+          .look-up-usage-arg .given))) → Typed.Mo T11
+      m9 = λ before given. s9 (before .before .before .before .blocks) (m8 before given)
+      abbrev pub m10 : (before : After-look-up-usage-arg) → (given : s7 (before .before .before .before .blocks) .gives (m6 (before .before) (before
+          .look-up-usage-arg .given))) → Typed.Mo T13
+      m10 = λ before given. s11 (before .before .before .before .blocks) (m9 before given)
       abbrev pub Need-unused-requires : Type 0
-      Need-unused-requires = (c : After-look-up-usage) → s12 (c .before .before .before .before .blocks) .asks (m9 (c .before)
+      Need-unused-requires = (c : After-look-up-usage) → s13 (c .before .before .before .before .blocks) .asks (m10 (c .before)
           (After-look-up-usage·gave c))
-      abbrev pub m10 : (before : After-look-up-usage) → (given : s12 (before .before .before .before .before .blocks) .gives (m9 (before .before)
-          (After-look-up-usage·gave before))) → Typed.Mo T14
-      m10 = λ before given. s12 (before .before .before .before .before .blocks) .next (m9 (before .before) (After-look-up-usage·gave before)) given
+      abbrev pub m11 : (before : After-look-up-usage) → (given : s13 (before .before .before .before .before .blocks) .gives (m10 (before .before)
+          (After-look-up-usage·gave before))) → Typed.Mo T15
+      m11 = λ before given. s13 (before .before .before .before .before .blocks) .next (m10 (before .before) (After-look-up-usage·gave before)) given
       module _ (before· : After-look-up-usage) where
         abbrev pub After-unused·own : Type 0
-        After-unused·own = Called.Called ps·2 r·2 (claims· .5) T12 tt (m9 (before· .before) (After-look-up-usage·gave before·))
+        After-unused·own = Called.Called ps·2 r·2 (claims· .5) T13 tt (m10 (before· .before) (After-look-up-usage·gave before·))
       pub record After-unused : Type 0 where
         pub before : After-look-up-usage
         pub unused : After-unused·own before
-      abbrev pub After-unused·gave : (c : After-unused) → s12 (c .before .before .before .before .before .blocks) .gives (m9 (c .before .before)
+      abbrev pub After-unused·gave : (c : After-unused) → s13 (c .before .before .before .before .before .blocks) .gives (m10 (c .before .before)
           (After-look-up-usage·gave (c .before)))
-      After-unused·gave = λ c. Called.given ps·2 r·2 (claims· .5) T12 tt (m9 (c .before .before) (After-look-up-usage·gave (c .before))) (c .unused)
-      abbrev pub m11 : (before : After-unused) → (given : s14 (before .before .before .before .before .before .blocks) .gives (m10 (before .before)
-          (After-unused·gave before))) → Typed.Mo T16
-      m11 = λ before given. s14 (before .before .before .before .before .before .blocks) .next (m10 (before .before) (After-unused·gave before)) given
-      abbrev pub m12 : (before : After-unused) → (given : s14 (before .before .before .before .before .before .blocks) .gives (m10 (before .before)
+      After-unused·gave = λ c. Called.given ps·2 r·2 (claims· .5) T13 tt (m10 (c .before .before) (After-look-up-usage·gave (c .before))) (c .unused)
+      abbrev pub m12 : (before : After-unused) → (given : s15 (before .before .before .before .before .before .blocks) .gives (m11 (before .before)
           (After-unused·gave before))) → Typed.Mo T17
-      m12 = λ before given. s15 (before .before .before .before .before .before .blocks) .next (m11 before given)
+      m12 = λ before given. s15 (before .before .before .before .before .before .blocks) .next (m11 (before .before) (After-unused·gave before)) given
+      abbrev pub m13 : (before : After-unused) → (given : s15 (before .before .before .before .before .before .blocks) .gives (m11 (before .before)
+          (After-unused·gave before))) → Typed.Mo T18
+      m13 = λ before given. s16 (before .before .before .before .before .before .blocks) .next (m12 before given)
       module _ (before· : After-unused) where
         pub record After-find-usage-arg·own : Type 0 where
-          pub given : s14 (before· .before .before .before .before .before .blocks) .gives (m10 (before· .before) (After-unused·gave before·))
+          pub given : s15 (before· .before .before .before .before .before .blocks) .gives (m11 (before· .before) (After-unused·gave before·))
       pub record After-find-usage-arg : Type 0 where
         pub before : After-unused
         pub find-usage-arg : After-find-usage-arg·own before
       abbrev pub Need-find-usage-requires : Type 0
-      Need-find-usage-requires = (c : After-find-usage-arg) → s16 (c .before .before .before .before .before .before .blocks) .asks (m12 (c .before)
+      Need-find-usage-requires = (c : After-find-usage-arg) → s17 (c .before .before .before .before .before .before .blocks) .asks (m13 (c .before)
           (c .find-usage-arg .given))
-      abbrev pub m13 : (before : After-find-usage-arg) → (given : s16 (before .before .before .before .before .before .before .blocks) .gives (m12
-          (before .before) (before .find-usage-arg .given))) → Typed.Mo T18
-      m13 = λ before given. s16 (before .before .before .before .before .before .before .blocks) .next (m12 (before .before) (before .find-usage-arg
+      abbrev pub m14 : (before : After-find-usage-arg) → (given : s17 (before .before .before .before .before .before .before .blocks) .gives (m13
+          (before .before) (before .find-usage-arg .given))) → Typed.Mo T19
+      m14 = λ before given. s17 (before .before .before .before .before .before .before .blocks) .next (m13 (before .before) (before .find-usage-arg
           .given)) given
       module _ (before· : After-find-usage-arg) where
         abbrev pub After-find-usage·own : Type 0
-        After-find-usage·own = Called.Called ps·3 r·3 (claims· .7) T17 (record { pos = 14; ty = Syntax.tyRef Syntax.erased Syntax.imm
-            ReservationUsage.to; ref = λ x. x; }, (record { pos = 7; st = List.[]; d = 0; at = λ x. x }, tt),) (m12 (before· .before) (before·
-            .find-usage-arg .given))
+        After-find-usage·own = Called.Called ps·3 r·3 (claims· .7) T18 (record { pos = 16; ty = Syntax.tyRef Syntax.erased Syntax.imm
+            ReservationUsage.to; ref = λ x. x; }, (record { pos = 2; st = List.[]; d = 0; at = λ x. x }, (record { pos = 9; st = List.[]; d = 0; at =
+            λ x. x }, tt),),) (m13 (before· .before) (before· .find-usage-arg .given))
       pub record After-find-usage : Type 0 where
         pub before : After-find-usage-arg
         pub find-usage : After-find-usage·own before
-      abbrev pub After-find-usage·gave : (c : After-find-usage) → s16 (c .before .before .before .before .before .before .before .blocks) .gives (m12
+      abbrev pub After-find-usage·gave : (c : After-find-usage) → s17 (c .before .before .before .before .before .before .before .blocks) .gives (m13
           (c .before .before) (c .before .find-usage-arg .given))
-      After-find-usage·gave = λ c. Called.given ps·3 r·3 (claims· .7) T17 (record { pos = 14; ty = Syntax.tyRef Syntax.erased Syntax.imm
-          ReservationUsage.to; ref = λ x. x; }, (record { pos = 7; st = List.[]; d = 0; at = λ x. x }, tt),) (m12 (c .before .before) (c .before
-          .find-usage-arg .given)) (c .find-usage)
-      abbrev pub m14 : (before : After-find-usage-arg) → (given : s16 (before .before .before .before .before .before .before .blocks) .gives (m12
-          (before .before) (before .find-usage-arg .given))) → Typed.Mo T19
-      m14 = λ before given. s17 (before .before .before .before .before .before .before .blocks) (m13 before given)
-      abbrev pub m15 : (before : After-find-usage-arg) → (given : s16 (before .before .before .before .before .before .before .blocks) .gives (m12
+      After-find-usage·gave = λ c. Called.given ps·3 r·3 (claims· .7) T18 (record { pos = 16; ty = Syntax.tyRef Syntax.erased Syntax.imm
+          ReservationUsage.to; ref = λ x. x; }, (record { pos = 2; st = List.[]; d = 0; at = λ x. x }, (record { pos = 9; st = List.[]; d = 0; at = λ
+          x. x }, tt),),) (m13 (c .before .before) (c .before .find-usage-arg .given)) (c .find-usage)
+      abbrev pub m15 : (before : After-find-usage-arg) → (given : s17 (before .before .before .before .before .before .before .blocks) .gives (m13
           (before .before) (before .find-usage-arg .given))) → Typed.Mo T20
       m15 = λ before given. s18 (before .before .before .before .before .before .before .blocks) (m14 before given)
-      abbrev pub m16 : (before : After-find-usage-arg) → (given : s16 (before .before .before .before .before .before .before .blocks) .gives (m12
-          (before .before) (before .find-usage-arg .given))) → Typed.Mo T22
-      m16 = λ before given. s20 (before .before .before .before .before .before .before .blocks) (m15 before given)
+      abbrev pub m16 : (before : After-find-usage-arg) → (given : s17 (before .before .before .before .before .before .before .blocks) .gives (m13
+          (before .before) (before .find-usage-arg .given))) → Typed.Mo T21
+      m16 = λ before given. s19 (before .before .before .before .before .before .before .blocks) (m15 before given)
+      abbrev pub m17 : (before : After-find-usage-arg) → (given : s17 (before .before .before .before .before .before .before .blocks) .gives (m13
+          (before .before) (before .find-usage-arg .given))) → Typed.Mo T23
+      m17 = λ before given. s21 (before .before .before .before .before .before .before .blocks) (m16 before given)
       abbrev pub Need-booked-usage-requires : Type 0
-      Need-booked-usage-requires = (c : After-find-usage) → s22 (c .before .before .before .before .before .before .before .blocks) .asks (m16 (c
+      Need-booked-usage-requires = (c : After-find-usage) → s23 (c .before .before .before .before .before .before .before .blocks) .asks (m17 (c
           .before) (After-find-usage·gave c))
-      abbrev pub m17 : (before : After-find-usage) → (given : s22 (before .before .before .before .before .before .before .before .blocks) .gives (m16
-          (before .before) (After-find-usage·gave before))) → Typed.Mo T24
-      m17 = λ before given. s22 (before .before .before .before .before .before .before .before .blocks) .next (m16 (before .before)
+      abbrev pub m18 : (before : After-find-usage) → (given : s23 (before .before .before .before .before .before .before .before .blocks) .gives (m17
+          (before .before) (After-find-usage·gave before))) → Typed.Mo T25
+      m18 = λ before given. s23 (before .before .before .before .before .before .before .before .blocks) .next (m17 (before .before)
           (After-find-usage·gave before)) given
       module _ (before· : After-find-usage) where
         abbrev pub After-booked-usage·own : Type 0
-        After-booked-usage·own = Called.Called ps·4 r·4 (claims· .9) T22 (record { pos = 6; st = List.[]; d = 0; at = λ x. x }, (record { pos = 3; st
-            = List.[]; d = 0; at = λ x. x }, tt),) (m16 (before· .before) (After-find-usage·gave before·))
+        After-booked-usage·own = Called.Called ps·4 r·4 (claims· .9) T23 (record { pos = 8; st = List.[]; d = 0; at = λ x. x }, (record { pos = 4; st
+            = List.[]; d = 0; at = λ x. x }, tt),) (m17 (before· .before) (After-find-usage·gave before·))
       pub record After-booked-usage : Type 0 where
         pub before : After-find-usage
         pub booked-usage : After-booked-usage·own before
-      abbrev pub After-booked-usage·gave : (c : After-booked-usage) → s22 (c .before .before .before .before .before .before .before .before .blocks)
-          .gives (m16 (c .before .before) (After-find-usage·gave (c .before)))
-      After-booked-usage·gave = λ c. Called.given ps·4 r·4 (claims· .9) T22 (record { pos = 6; st = List.[]; d = 0; at = λ x. x }, (record { pos = 3;
-          st = List.[]; d = 0; at = λ x. x }, tt),) (m16 (c .before .before) (After-find-usage·gave (c .before))) (c .booked-usage)
-      abbrev pub m18 : (before : After-find-usage) → (given : s22 (before .before .before .before .before .before .before .before .blocks) .gives (m16
-          (before .before) (After-find-usage·gave before))) → Typed.Mo T25
-      m18 = λ before given. s23 (before .before .before .before .before .before .before .before .blocks) (m17 before given)
+      abbrev pub After-booked-usage·gave : (c : After-booked-usage) → s23 (c .before .before .before .before .before .before .before .before .blocks)
+          .gives (m17 (c .before .before) (After-find-usage·gave (c .before)))
+      After-booked-usage·gave = λ c. Called.given ps·4 r·4 (claims· .9) T23 (record { pos = 8; st = List.[]; d = 0; at = λ x. x }, (record { pos = 4;
+          st = List.[]; d = 0; at = λ x. x }, tt),) (m17 (c .before .before) (After-find-usage·gave (c .before))) (c .booked-usage)
+      abbrev pub m19 : (before : After-find-usage) → (given : s23 (before .before .before .before .before .before .before .before .blocks) .gives (m17
+          (before .before) (After-find-usage·gave before))) → Typed.Mo T26
+      m19 = λ before given. s24 (before .before .before .before .before .before .before .before .blocks) (m18 before given)
       abbrev pub Need-booked-place-requires : Type 0
-      Need-booked-place-requires = (c : After-booked-usage) → s24 (c .before .before .before .before .before .before .before .before .blocks) .asks
-          (m18 (c .before) (After-booked-usage·gave c))
-      abbrev pub m19 : (before : After-booked-usage) → (given : s24 (before .before .before .before .before .before .before .before .before .blocks)
-          .gives (m18 (before .before) (After-booked-usage·gave before))) → Typed.Mo T26
-      m19 = λ before given. s24 (before .before .before .before .before .before .before .before .before .blocks) .next (m18 (before .before)
+      Need-booked-place-requires = (c : After-booked-usage) → s25 (c .before .before .before .before .before .before .before .before .blocks) .asks
+          (m19 (c .before) (After-booked-usage·gave c))
+      abbrev pub m20 : (before : After-booked-usage) → (given : s25 (before .before .before .before .before .before .before .before .before .blocks)
+          .gives (m19 (before .before) (After-booked-usage·gave before))) → Typed.Mo T27
+      m20 = λ before given. s25 (before .before .before .before .before .before .before .before .before .blocks) .next (m19 (before .before)
           (After-booked-usage·gave before)) given
       module _ (before· : After-booked-usage) where
         abbrev pub After-booked-place·own : Type 0
-        After-booked-place·own = Called.Called ps·5 r·5 (claims· .11) T25 (record { pos = 6; st = List.[]; d = 0; at = λ x. x }, (Num.vAt 8 λ x. x,
-            tt),) (m18 (before· .before) (After-booked-usage·gave before·))
+        After-booked-place·own = Called.Called ps·5 r·5 (claims· .11) T26 (record { pos = 8; st = List.[]; d = 0; at = λ x. x }, (Num.vAt 10 λ x. x,
+            tt),) (m19 (before· .before) (After-booked-usage·gave before·))
       pub record After-booked-place : Type 0 where
         pub before : After-booked-usage
         pub booked-place : After-booked-place·own before
-      abbrev pub After-booked-place·gave : (c : After-booked-place) → s24 (c .before .before .before .before .before .before .before .before .before
-          .blocks) .gives (m18 (c .before .before) (After-booked-usage·gave (c .before)))
-      After-booked-place·gave = λ c. Called.given ps·5 r·5 (claims· .11) T25 (record { pos = 6; st = List.[]; d = 0; at = λ x. x }, (Num.vAt 8 λ x. x,
-          tt),) (m18 (c .before .before) (After-booked-usage·gave (c .before))) (c .booked-place)
-      abbrev pub m20 : (before : After-booked-usage) → (given : s24 (before .before .before .before .before .before .before .before .before .blocks)
-          .gives (m18 (before .before) (After-booked-usage·gave before))) → Typed.Mo T27
-      m20 = λ before given. s25 (before .before .before .before .before .before .before .before .before .blocks) (m19 before given)
-      abbrev pub m21 : (before : After-booked-place) → (given : s27 (before .before .before .before .before .before .before .before .before .before
-          .blocks) .gives (m20 (before .before) (After-booked-place·gave before))) → Typed.Mo T29
-      m21 = λ before given. s27 (before .before .before .before .before .before .before .before .before .before .blocks) .next (m20 (before .before)
+      abbrev pub After-booked-place·gave : (c : After-booked-place) → s25 (c .before .before .before .before .before .before .before .before .before
+          .blocks) .gives (m19 (c .before .before) (After-booked-usage·gave (c .before)))
+      After-booked-place·gave = λ c. Called.given ps·5 r·5 (claims· .11) T26 (record { pos = 8; st = List.[]; d = 0; at = λ x. x }, (Num.vAt 10 λ x.
+          x, tt),) (m19 (c .before .before) (After-booked-usage·gave (c .before))) (c .booked-place)
+      abbrev pub m21 : (before : After-booked-usage) → (given : s25 (before .before .before .before .before .before .before .before .before .blocks)
+          .gives (m19 (before .before) (After-booked-usage·gave before))) → Typed.Mo T28
+      m21 = λ before given. s26 (before .before .before .before .before .before .before .before .before .blocks) (m20 before given)
+      abbrev pub m22 : (before : After-booked-place) → (given : s28 (before .before .before .before .before .before .before .before .before .before
+          .blocks) .gives (m21 (before .before) (After-booked-place·gave before))) → Typed.Mo T30
+      m22 = λ before given. s28 (before .before .before .before .before .before .before .before .before .before .blocks) .next (m21 (before .before)
           (After-booked-place·gave before)) given
-      abbrev pub m22 : (before : After-booked-place) → (given : s27 (before .before .before .before .before .before .before .before .before .before
-          .blocks) .gives (m20 (before .before) (After-booked-place·gave before))) → Typed.Mo T30
-      m22 = λ before given. s28 (before .before .before .before .before .before .before .before .before .before .blocks) .next (m21 before given)
+      abbrev pub m23 : (before : After-booked-place) → (given : s28 (before .before .before .before .before .before .before .before .before .before
+          .blocks) .gives (m21 (before .before) (After-booked-place·gave before))) → Typed.Mo T31
+      m23 = λ before given. s29 (before .before .before .before .before .before .before .before .before .before .blocks) .next (m22 before given)
       module _ (before· : After-booked-place) where
         pub record After-set-usage-arg·own : Type 0 where
-          pub given : s27 (before· .before .before .before .before .before .before .before .before .before .blocks) .gives (m20 (before· .before)
+          pub given : s28 (before· .before .before .before .before .before .before .before .before .before .blocks) .gives (m21 (before· .before)
               (After-booked-place·gave before·))
       pub record After-set-usage-arg : Type 0 where
         pub before : After-booked-place
         pub set-usage-arg : After-set-usage-arg·own before
       abbrev pub Need-set-usage-requires : Type 0
-      Need-set-usage-requires = (c : After-set-usage-arg) → s29 (c .before .before .before .before .before .before .before .before .before .before
-          .blocks) .asks (m22 (c .before) (c .set-usage-arg .given))
-      abbrev pub m23 : (before : After-set-usage-arg) → (given : s29 (before .before .before .before .before .before .before .before .before .before
-          .before .blocks) .gives (m22 (before .before) (before .set-usage-arg .given))) → Typed.Mo T31
-      m23 = λ before given. s29 (before .before .before .before .before .before .before .before .before .before .before .blocks) .next (m22 (before
+      Need-set-usage-requires = (c : After-set-usage-arg) → s30 (c .before .before .before .before .before .before .before .before .before .before
+          .blocks) .asks (m23 (c .before) (c .set-usage-arg .given))
+      abbrev pub m24 : (before : After-set-usage-arg) → (given : s30 (before .before .before .before .before .before .before .before .before .before
+          .before .blocks) .gives (m23 (before .before) (before .set-usage-arg .given))) → Typed.Mo T32
+      m24 = λ before given. s30 (before .before .before .before .before .before .before .before .before .before .before .blocks) .next (m23 (before
           .before) (before .set-usage-arg .given)) given
       module _ (before· : After-set-usage-arg) where
         abbrev pub After-set-usage·own : Type 0
-        After-set-usage·own = Called.Called ps·6 r·6 (claims· .13) T30 (record { pos = 17; ty = Syntax.tyRef Syntax.erased Syntax.mut
-            ReservationUsage.to; ref = λ x. x; }, (Bool.bAt 2 λ x. x, (Num.vAt 10 λ x. x, (record { pos = 9; st = List.[]; d = 0; at = λ x. x },
-            tt)),),) (m22 (before· .before) (before· .set-usage-arg .given))
+        After-set-usage·own = Called.Called ps·6 r·6 (claims· .13) T31 (record { pos = 19; ty = Syntax.tyRef Syntax.erased Syntax.mut
+            ReservationUsage.to; ref = λ x. x; }, (Bool.bAt 3 λ x. x, (Num.vAt 12 λ x. x, (record { pos = 11; st = List.[]; d = 0; at = λ x. x },
+            tt)),),) (m23 (before· .before) (before· .set-usage-arg .given))
       pub record After-set-usage : Type 0 where
         pub before : After-set-usage-arg
         pub set-usage : After-set-usage·own before
-      abbrev pub After-set-usage·gave : (c : After-set-usage) → s29 (c .before .before .before .before .before .before .before .before .before .before
-          .before .blocks) .gives (m22 (c .before .before) (c .before .set-usage-arg .given))
-      After-set-usage·gave = λ c. Called.given ps·6 r·6 (claims· .13) T30 (record { pos = 17; ty = Syntax.tyRef Syntax.erased Syntax.mut
-          ReservationUsage.to; ref = λ x. x; }, (Bool.bAt 2 λ x. x, (Num.vAt 10 λ x. x, (record { pos = 9; st = List.[]; d = 0; at = λ x. x },
-          tt)),),) (m22 (c .before .before) (c .before .set-usage-arg .given)) (c .set-usage)
-      abbrev pub m24 : (before : After-set-usage-arg) → (given : s29 (before .before .before .before .before .before .before .before .before .before
-          .before .blocks) .gives (m22 (before .before) (before .set-usage-arg .given))) → Typed.Mo T32
-      m24 = λ before given. s30 (before .before .before .before .before .before .before .before .before .before .before .blocks) (m23 before given)
-      abbrev pub m25 : (before : After-set-usage-arg) → (given : s29 (before .before .before .before .before .before .before .before .before .before
-          .before .blocks) .gives (m22 (before .before) (before .set-usage-arg .given))) → Typed.Mo T33
+      abbrev pub After-set-usage·gave : (c : After-set-usage) → s30 (c .before .before .before .before .before .before .before .before .before .before
+          .before .blocks) .gives (m23 (c .before .before) (c .before .set-usage-arg .given))
+      After-set-usage·gave = λ c. Called.given ps·6 r·6 (claims· .13) T31 (record { pos = 19; ty = Syntax.tyRef Syntax.erased Syntax.mut
+          ReservationUsage.to; ref = λ x. x; }, (Bool.bAt 3 λ x. x, (Num.vAt 12 λ x. x, (record { pos = 11; st = List.[]; d = 0; at = λ x. x },
+          tt)),),) (m23 (c .before .before) (c .before .set-usage-arg .given)) (c .set-usage)
+      abbrev pub m25 : (before : After-set-usage-arg) → (given : s30 (before .before .before .before .before .before .before .before .before .before
+          .before .blocks) .gives (m23 (before .before) (before .set-usage-arg .given))) → Typed.Mo T33
       m25 = λ before given. s31 (before .before .before .before .before .before .before .before .before .before .before .blocks) (m24 before given)
-      abbrev pub m26 : (before : After-set-usage) → (given : s33 (before .before .before .before .before .before .before .before .before .before
-          .before .before .blocks) .gives (m25 (before .before) (After-set-usage·gave before))) → Typed.Mo T35
-      m26 = λ before given. s33 (before .before .before .before .before .before .before .before .before .before .before .before .blocks) .next (m25
+      abbrev pub m26 : (before : After-set-usage-arg) → (given : s30 (before .before .before .before .before .before .before .before .before .before
+          .before .blocks) .gives (m23 (before .before) (before .set-usage-arg .given))) → Typed.Mo T34
+      m26 = λ before given. s32 (before .before .before .before .before .before .before .before .before .before .before .blocks) (m25 before given)
+      abbrev pub m27 : (before : After-set-usage) → (given : s34 (before .before .before .before .before .before .before .before .before .before
+          .before .before .blocks) .gives (m26 (before .before) (After-set-usage·gave before))) → Typed.Mo T36
+      m27 = λ before given. s34 (before .before .before .before .before .before .before .before .before .before .before .before .blocks) .next (m26
           (before .before) (After-set-usage·gave before)) given
-      abbrev pub m27 : (before : After-set-usage) → (given : s33 (before .before .before .before .before .before .before .before .before .before
-          .before .before .blocks) .gives (m25 (before .before) (After-set-usage·gave before))) → Typed.Mo T37
-      m27 = λ before given. s35 (before .before .before .before .before .before .before .before .before .before .before .before .blocks) (m26 before
-          given)
-      abbrev pub m28 : (before : After-set-usage) → (given : s33 (before .before .before .before .before .before .before .before .before .before
-          .before .before .blocks) .gives (m25 (before .before) (After-set-usage·gave before))) → Typed.Mo T38
-      m28 = λ before given. s36 (before .before .before .before .before .before .before .before .before .before .before .before .blocks) (m27 before
-          given)
-      abbrev pub m29 : (before : After-set-usage) → (given : s33 (before .before .before .before .before .before .before .before .before .before
-          .before .before .blocks) .gives (m25 (before .before) (After-set-usage·gave before))) → Typed.Mo T39
-      m29 = λ before given. s37 (before .before .before .before .before .before .before .before .before .before .before .before .blocks) (m28 before
-          given)
-      abbrev pub m30 : (before : After-set-usage) → (given : s33 (before .before .before .before .before .before .before .before .before .before
-          .before .before .blocks) .gives (m25 (before .before) (After-set-usage·gave before))) → Typed.Mo T40
-      m30 = λ before given. s38 (before .before .before .before .before .before .before .before .before .before .before .before .blocks) (m29 before
-          given)
       module _ (before· : After-set-usage) where
         pub record After-ledger·own : Type 0 where
-          pub given : s33 (before· .before .before .before .before .before .before .before .before .before .before .before .blocks) .gives (m25
+          pub given : s34 (before· .before .before .before .before .before .before .before .before .before .before .before .blocks) .gives (m26
               (before· .before) (After-set-usage·gave before·))
       pub record After-ledger : Type 0 where
         pub before : After-set-usage
         pub ledger : After-ledger·own before
+      abbrev pub Need-raised-requires : Type 0
+      Need-raised-requires = (c : After-ledger) → s36 (c .before .before .before .before .before .before .before .before .before .before .before
+          .before .blocks) .asks (m27 (c .before) (c .ledger .given))
+      abbrev pub m28 : (before : After-ledger) → (given : s36 (before .before .before .before .before .before .before .before .before .before .before
+          .before .before .blocks) .gives (m27 (before .before) (before .ledger .given))) → Typed.Mo T38
+      m28 = λ before given. s36 (before .before .before .before .before .before .before .before .before .before .before .before .before .blocks) .next
+          (m27 (before .before) (before .ledger .given)) given
+      module _ (before· : After-ledger) where
+        abbrev pub After-raised·own : Type 0
+        After-raised·own = Called.Called ps·7 r·7 (claims· .15) T36 (Num.vFld 2 ((Syntax.field 2) ∷ List.[]) 16 λ x. Places.struct .as-values x .1 .1
+            .0, (Bool.bAt 3 λ x. x, (Num.vAt 12 λ x. x, (Num.vAt 5 λ x. x, tt))),) (m27 (before· .before) (before· .ledger .given))
+      pub record After-raised : Type 0 where
+        pub before : After-ledger
+        pub raised : After-raised·own before
+      abbrev pub After-raised·gave : (c : After-raised) → s36 (c .before .before .before .before .before .before .before .before .before .before
+          .before .before .before .blocks) .gives (m27 (c .before .before) (c .before .ledger .given))
+      After-raised·gave = λ c. Called.given ps·7 r·7 (claims· .15) T36 (Num.vFld 2 ((Syntax.field 2) ∷ List.[]) 16 λ x. Places.struct .as-values x .1
+          .1 .0, (Bool.bAt 3 λ x. x, (Num.vAt 12 λ x. x, (Num.vAt 5 λ x. x, tt))),) (m27 (c .before .before) (c .before .ledger .given)) (c .raised)
+      abbrev pub m29 : (before : After-ledger) → (given : s36 (before .before .before .before .before .before .before .before .before .before .before
+          .before .before .blocks) .gives (m27 (before .before) (before .ledger .given))) → Typed.Mo T39
+      m29 = λ before given. s37 (before .before .before .before .before .before .before .before .before .before .before .before .before .blocks) (m28
+          before given)
+      abbrev pub m30 : (before : After-ledger) → (given : s36 (before .before .before .before .before .before .before .before .before .before .before
+          .before .before .blocks) .gives (m27 (before .before) (before .ledger .given))) → Typed.Mo T40
+      m30 = λ before given. s38 (before .before .before .before .before .before .before .before .before .before .before .before .before .blocks) (m29
+          before given)
+      abbrev pub m31 : (before : After-ledger) → (given : s36 (before .before .before .before .before .before .before .before .before .before .before
+          .before .before .blocks) .gives (m27 (before .before) (before .ledger .given))) → Typed.Mo T41
+      m31 = λ before given. s39 (before .before .before .before .before .before .before .before .before .before .before .before .before .blocks) (m30
+          before given)
+      abbrev pub m32 : (before : After-ledger) → (given : s36 (before .before .before .before .before .before .before .before .before .before .before
+          .before .before .blocks) .gives (m27 (before .before) (before .ledger .given))) → Typed.Mo T42
+      m32 = λ before given. s40 (before .before .before .before .before .before .before .before .before .before .before .before .before .blocks) (m31
+          before given)
+      abbrev pub m33 : (before : After-ledger) → (given : s36 (before .before .before .before .before .before .before .before .before .before .before
+          .before .before .blocks) .gives (m27 (before .before) (before .ledger .given))) → Typed.Mo T43
+      m33 = λ before given. s41 (before .before .before .before .before .before .before .before .before .before .before .before .before .blocks) (m32
+          before given)
       abbrev pub Need-same-length : Type 0
-      Need-same-length = (c : After-ledger) → MutSlice.SameLen (Row.get 1 (T40 .locals) (m30 (c .before) (c .ledger .given))) (dens (c .before .before
-          .before .before .before .before .before .before .before .before .before .before .κs) (c .before .before .before .before .before .before
-          .before .before .before .before .before .before .args) .0)
+      Need-same-length = (c : After-raised) → MutSlice.SameLen (Row.get 1 (T43 .locals) (m33 (c .before) (After-raised·gave c))) (dens (c .before
+          .before .before .before .before .before .before .before .before .before .before .before .before .κs) (c .before .before .before .before
+          .before .before .before .before .before .before .before .before .before .args) .0)
       abbrev pub Need-returns : Type 0
-      Need-returns = (c : After-ledger) → Post· (c .before .before .before .before .before .before .before .before .before .before .before .before
-          .κs) (dens (c .before .before .before .before .before .before .before .before .before .before .before .before .κs) (c .before .before
-          .before .before .before .before .before .before .before .before .before .before .args)) (Function.resV r (c .before .before .before .before
-          .before .before .before .before .before .before .before .before .κs) (m30 (c .before) (c .ledger .given) .0)) (Clauses.atExit (Kinds.endedOf
-          1 ps r) (c .before .before .before .before .before .before .before .before .before .before .before .before .κs) (dens (c .before .before
-          .before .before .before .before .before .before .before .before .before .before .κs) (c .before .before .before .before .before .before
-          .before .before .before .before .before .before .args)) (Enter.lastsP (c .before .before .before .before .before .before .before .before
-          .before .before .before .before .κs) 1 ps xs (dens (c .before .before .before .before .before .before .before .before .before .before
-          .before .before .κs) (c .before .before .before .before .before .before .before .before .before .before .before .before .args)) (m30 (c
-          .before) (c .ledger .given) .1)))
+      Need-returns = (c : After-raised) → Post· (c .before .before .before .before .before .before .before .before .before .before .before .before
+          .before .κs) (dens (c .before .before .before .before .before .before .before .before .before .before .before .before .before .κs) (c
+          .before .before .before .before .before .before .before .before .before .before .before .before .before .args)) (Function.resV r (c .before
+          .before .before .before .before .before .before .before .before .before .before .before .before .κs) (m33 (c .before) (After-raised·gave c)
+          .0)) (Clauses.atExit (Kinds.endedOf 1 ps r) (c .before .before .before .before .before .before .before .before .before .before .before
+          .before .before .κs) (dens (c .before .before .before .before .before .before .before .before .before .before .before .before .before .κs)
+          (c .before .before .before .before .before .before .before .before .before .before .before .before .before .args)) (Enter.lastsP (c .before
+          .before .before .before .before .before .before .before .before .before .before .before .before .κs) 1 ps xs (dens (c .before .before
+          .before .before .before .before .before .before .before .before .before .before .before .κs) (c .before .before .before .before .before
+          .before .before .before .before .before .before .before .before .args)) (m33 (c .before) (After-raised·gave c) .1)))
       module _ (at-reservation-requires : Need-at-reservation-requires) (look-up-usage-requires : Need-look-up-usage-requires) (unused-requires :
           Need-unused-requires) (find-usage-requires : Need-find-usage-requires) (booked-usage-requires : Need-booked-usage-requires)
-          (booked-place-requires : Need-booked-place-requires) (set-usage-requires : Need-set-usage-requires) (same-length : Need-same-length)
-          (returns : Need-returns) where
-        lay7 : (c : After-set-usage) → at9 (c .before .before .before .before .before .before .before .before .before .before .before .blocks) (W0 (c
+          (booked-place-requires : Need-booked-place-requires) (set-usage-requires : Need-set-usage-requires) (raised-requires : Need-raised-requires)
+          (same-length : Need-same-length) (returns : Need-returns) where
+        lay8 : (c : After-raised) → at5 (c .before .before .before .before .before .before .before .before .before .before .before .before .before
+            .blocks) (W0 (c .before .before .before .before .before .before .before .before .before .before .before .before .before .κs) (c .before
+            .before .before .before .before .before .before .before .before .before .before .before .before .args) (c .before .before .before .before
+            .before .before .before .before .before .before .before .before .before .blocks)) (m28 (c .before) (After-raised·gave c))
+        lay8 = λ c. ((MutSlice.fix-len (Row.get 1 (T43 .locals) (m33 (c .before) (After-raised·gave c)) .ptr) (Row.get 1 (T43 .locals) (m33 (c
+            .before) (After-raised·gave c)) .name) (Row.get 1 (T43 .locals) (m33 (c .before) (After-raised·gave c)) .now) (dens (c .before .before
+            .before .before .before .before .before .before .before .before .before .before .before .κs) (c .before .before .before .before .before
+            .before .before .before .before .before .before .before .before .args) .0 .now) (same-length record { before = c .before; raised = c
+            .raised }), (tt, (tt, (tt, tt))),), returns record { before = c .before; raised = c .raised },)
+        lay7 : (c : After-set-usage) → at11 (c .before .before .before .before .before .before .before .before .before .before .before .blocks) (W0 (c
             .before .before .before .before .before .before .before .before .before .before .before .κs) (c .before .before .before .before .before
             .before .before .before .before .before .before .args) (c .before .before .before .before .before .before .before .before .before .before
-            .before .blocks)) (m23 (c .before) (After-set-usage·gave c))
-        lay7 = λ c. (Path.refl, λ g. ((MutSlice.fix-len (Row.get 1 (T40 .locals) (m30 record { before = c .before; set-usage = c .set-usage; } g)
-            .ptr) (Row.get 1 (T40 .locals) (m30 record { before = c .before; set-usage = c .set-usage; } g) .name) (Row.get 1 (T40 .locals) (m30
-            record { before = c .before; set-usage = c .set-usage; } g) .now) (dens (c .before .before .before .before .before .before .before .before
-            .before .before .before .κs) (c .before .before .before .before .before .before .before .before .before .before .before .args) .0 .now)
-            (same-length record { before = record { before = c .before; set-usage = c .set-usage }; ledger = record { given = g }; }), (tt, (tt,
-            tt)),), returns record { before = record { before = c .before; set-usage = c .set-usage }; ledger = record { given = g }; },),)
-        lay6 : (c : After-booked-place) → at14 (c .before .before .before .before .before .before .before .before .before .blocks) (W0 (c .before
+            .before .blocks)) (m24 (c .before) (After-set-usage·gave c))
+        lay7 = λ c. (Path.refl, λ g. (raised-requires record { before = record { before = c .before; set-usage = c .set-usage }; ledger = record {
+            given = g }; }, λ g'. lay8 record { before = record { before = record { before = c .before; set-usage = c .set-usage }; ledger = record {
+            given = g }; }; raised = Called.called ps·7 r·7 (claims· .15) T36 (Num.vFld 2 ((Syntax.field 2) ∷ List.[]) 16 λ x. Places.struct
+            .as-values x .1 .1 .0, (Bool.bAt 3 λ x. x, (Num.vAt 12 λ x. x, (Num.vAt 5 λ x. x, tt))),) (m27 record { before = c .before; set-usage = c
+            .set-usage } g) g'; },),)
+        lay6 : (c : After-booked-place) → at16 (c .before .before .before .before .before .before .before .before .before .blocks) (W0 (c .before
             .before .before .before .before .before .before .before .before .κs) (c .before .before .before .before .before .before .before .before
-            .before .args) (c .before .before .before .before .before .before .before .before .before .blocks)) (m19 (c .before)
+            .before .args) (c .before .before .before .before .before .before .before .before .before .blocks)) (m20 (c .before)
             (After-booked-place·gave c))
         lay6 = λ c. λ g. (Path.refl, (set-usage-requires record { before = record { before = c .before; booked-place = c .booked-place };
             set-usage-arg = record { given = g }; }, λ g'. lay7 record { before = record { before = record { before = c .before; booked-place = c
-            .booked-place }; set-usage-arg = record { given = g }; }; set-usage = Called.called ps·6 r·6 (claims· .13) T30 (record { pos = 17; ty =
-            Syntax.tyRef Syntax.erased Syntax.mut ReservationUsage.to; ref = λ x. x; }, (Bool.bAt 2 λ x. x, (Num.vAt 10 λ x. x, (record { pos = 9; st
-            = List.[]; d = 0; at = λ x. x }, tt),),),) (m22 record { before = c .before; booked-place = c .booked-place } g) g'; },),)
-        lay5 : (c : After-booked-usage) → at16 (c .before .before .before .before .before .before .before .before .blocks) (W0 (c .before .before
+            .booked-place }; set-usage-arg = record { given = g }; }; set-usage = Called.called ps·6 r·6 (claims· .13) T31 (record { pos = 19; ty =
+            Syntax.tyRef Syntax.erased Syntax.mut ReservationUsage.to; ref = λ x. x; }, (Bool.bAt 3 λ x. x, (Num.vAt 12 λ x. x, (record { pos = 11; st
+            = List.[]; d = 0; at = λ x. x }, tt),),),) (m23 record { before = c .before; booked-place = c .booked-place } g) g'; },),)
+        lay5 : (c : After-booked-usage) → at18 (c .before .before .before .before .before .before .before .before .blocks) (W0 (c .before .before
             .before .before .before .before .before .before .κs) (c .before .before .before .before .before .before .before .before .args) (c .before
-            .before .before .before .before .before .before .before .blocks)) (m17 (c .before) (After-booked-usage·gave c))
+            .before .before .before .before .before .before .before .blocks)) (m18 (c .before) (After-booked-usage·gave c))
         lay5 = λ c. (booked-place-requires record { before = c .before; booked-usage = c .booked-usage }, λ g. lay6 record { before = record { before
-            = c .before; booked-usage = c .booked-usage }; booked-place = Called.called ps·5 r·5 (claims· .11) T25 (record { pos = 6; st = List.[]; d
-            = 0; at = λ x. x }, (Num.vAt 8 λ x. x, tt),) (m18 (c .before) (After-booked-usage·gave c)) g; },)
-        lay4 : (c : After-find-usage) → at22 (c .before .before .before .before .before .before .before .blocks) (W0 (c .before .before .before
+            = c .before; booked-usage = c .booked-usage }; booked-place = Called.called ps·5 r·5 (claims· .11) T26 (record { pos = 8; st = List.[]; d
+            = 0; at = λ x. x }, (Num.vAt 10 λ x. x, tt),) (m19 (c .before) (After-booked-usage·gave c)) g; },)
+        lay4 : (c : After-find-usage) → at24 (c .before .before .before .before .before .before .before .blocks) (W0 (c .before .before .before
             .before .before .before .before .κs) (c .before .before .before .before .before .before .before .args) (c .before .before .before .before
-            .before .before .before .blocks)) (m13 (c .before) (After-find-usage·gave c))
+            .before .before .before .blocks)) (m14 (c .before) (After-find-usage·gave c))
         lay4 = λ c. (booked-usage-requires record { before = c .before; find-usage = c .find-usage }, λ g. lay5 record { before = record { before = c
-            .before; find-usage = c .find-usage }; booked-usage = Called.called ps·4 r·4 (claims· .9) T22 (record { pos = 6; st = List.[]; d = 0; at =
-            λ x. x }, (record { pos = 3; st = List.[]; d = 0; at = λ x. x }, tt),) (m16 (c .before) (After-find-usage·gave c)) g; },)
-        lay3 : (c : After-unused) → at26 (c .before .before .before .before .before .blocks) (W0 (c .before .before .before .before .before .κs) (c
-            .before .before .before .before .before .args) (c .before .before .before .before .before .blocks)) (m10 (c .before) (After-unused·gave
+            .before; find-usage = c .find-usage }; booked-usage = Called.called ps·4 r·4 (claims· .9) T23 (record { pos = 8; st = List.[]; d = 0; at =
+            λ x. x }, (record { pos = 4; st = List.[]; d = 0; at = λ x. x }, tt),) (m17 (c .before) (After-find-usage·gave c)) g; },)
+        lay3 : (c : After-unused) → at28 (c .before .before .before .before .before .blocks) (W0 (c .before .before .before .before .before .κs) (c
+            .before .before .before .before .before .args) (c .before .before .before .before .before .blocks)) (m11 (c .before) (After-unused·gave
             c))
         lay3 = λ c. λ g. (Path.refl, (find-usage-requires record { before = record { before = c .before; unused = c .unused }; find-usage-arg = record
             { given = g }; }, λ g'. lay4 record { before = record { before = record { before = c .before; unused = c .unused }; find-usage-arg =
-            record { given = g }; }; find-usage = Called.called ps·3 r·3 (claims· .7) T17 (record { pos = 14; ty = Syntax.tyRef Syntax.erased
-            Syntax.imm ReservationUsage.to; ref = λ x. x; }, (record { pos = 7; st = List.[]; d = 0; at = λ x. x }, tt),) (m12 record { before = c
-            .before; unused = c .unused } g) g'; },),)
-        lay2 : (c : After-look-up-usage) → at32 (c .before .before .before .before .blocks) (W0 (c .before .before .before .before .κs) (c .before
-            .before .before .before .args) (c .before .before .before .before .blocks)) (m6 (c .before) (After-look-up-usage·gave c))
+            record { given = g }; }; find-usage = Called.called ps·3 r·3 (claims· .7) T18 (record { pos = 16; ty = Syntax.tyRef Syntax.erased
+            Syntax.imm ReservationUsage.to; ref = λ x. x; }, (record { pos = 2; st = List.[]; d = 0; at = λ x. x }, (record { pos = 9; st = List.[]; d
+            = 0; at = λ x. x }, tt),),) (m13 record { before = c .before; unused = c .unused } g) g'; },),)
+        lay2 : (c : After-look-up-usage) → at34 (c .before .before .before .before .blocks) (W0 (c .before .before .before .before .κs) (c .before
+            .before .before .before .args) (c .before .before .before .before .blocks)) (m7 (c .before) (After-look-up-usage·gave c))
         lay2 = λ c. (unused-requires record { before = c .before; look-up-usage = c .look-up-usage }, λ g. lay3 record { before = record { before = c
-            .before; look-up-usage = c .look-up-usage }; unused = Called.called ps·2 r·2 (claims· .5) T12 tt (m9 (c .before) (After-look-up-usage·gave
-            c)) g; },)
-        lay1 : (c : After-at-reservation) → at37 (c .before .before .blocks) (W0 (c .before .before .κs) (c .before .before .args) (c .before .before
-            .blocks)) (m2 (c .before) (After-at-reservation·gave c))
+            .before; look-up-usage = c .look-up-usage }; unused = Called.called ps·2 r·2 (claims· .5) T13 tt (m10 (c .before)
+            (After-look-up-usage·gave c)) g; },)
+        lay1 : (c : After-at-reservation) → at39 (c .before .before .blocks) (W0 (c .before .before .κs) (c .before .before .args) (c .before .before
+            .blocks)) (m3 (c .before) (After-at-reservation·gave c))
         lay1 = λ c. λ g. (Path.refl, (look-up-usage-requires record { before = record { before = c .before; at-reservation = c .at-reservation };
             look-up-usage-arg = record { given = g }; }, λ g'. lay2 record { before = record { before = record { before = c .before; at-reservation =
-            c .at-reservation }; look-up-usage-arg = record { given = g }; }; look-up-usage = Called.called ps·1 r·1 (claims· .3) T7 (record { pos =
-            12; ty = Syntax.tyRef Syntax.erased Syntax.imm ReservationUsage.to; ref = λ x. x; }, (record { pos = 5; st = List.[]; d = 0; at = λ x. x
-            }, tt),) (m5 record { before = c .before; at-reservation = c .at-reservation } g) g'; },),)
-        pub laid : (c : Start) → at39 (c .blocks) (W0 (c .κs) (c .args) (c .blocks)) (m0 (c .κs) (c .args) (c .blocks))
+            c .at-reservation }; look-up-usage-arg = record { given = g }; }; look-up-usage = Called.called ps·1 r·1 (claims· .3) T8 (record { pos =
+            14; ty = Syntax.tyRef Syntax.erased Syntax.imm ReservationUsage.to; ref = λ x. x; }, (record { pos = 2; st = List.[]; d = 0; at = λ x. x
+            }, (record { pos = 7; st = List.[]; d = 0; at = λ x. x }, tt),),) (m6 record { before = c .before; at-reservation = c .at-reservation } g)
+            g'; },),)
+        pub laid : (c : Start) → at42 (c .blocks) (W0 (c .κs) (c .args) (c .blocks)) (m0 (c .κs) (c .args) (c .blocks))
         laid = λ c. (tt, λ g. (at-reservation-requires record { before = c; id = record { given = g } }, λ g'. lay1 record { before = record { before
-            = c; id = record { given = g } }; at-reservation = Called.called ps·0 r·0 (claims· .1) T2 (record { pos = 4; st = List.[]; d = 0; at = λ
-            x. x }, tt,) (m1 c g) g'; },),)
+            = c; id = record { given = g } }; at-reservation = Called.called ps·0 r·0 (claims· .1) T3 (record { pos = 6; st = List.[]; d = 0; at = λ
+            x. x }, tt,) (m2 c g) g'; },),)
         module _ (κs : Lifetimes.Lfts 1) (qs : Lifetimes.Shares 1) where
           pub asked : (a : Kinds.Dens κs ps) → (good : Kinds.GoodsP κs ps a) → (pre : Pre· κs a) → (bs : List.List Nat.ℕ) → Φ bs (Any.wantQ 1 ps r xs
               m κs qs a (Post· κs a)) (Function.init 1 ps r xs m κs qs a)
-          asked = λ a good pre bs. laid record { κs = κs; args = record { ledger = a .0; go = a .1 .0; ticket = a .1 .1 .0 }; blocks = bs; good =
-              good; pre = pre; }
+          asked = λ a good pre bs. laid record { κs = κs; args = record { ledger = a .0; places = a .1 .0; go = a .1 .1 .0; ticket = a .1 .1 .1 .0; };
+              blocks = bs; good = good; pre = pre; }
         module _ { M : Type 1 } (𝓤 : URA.URA M) (H : Wp.Heap 𝓤) (A : Atoms.Atoms 𝓤) (W : Kit.Given 𝓤 H A) (𝓣 : Wp.Tables 𝓤 H) (known0 : Plain.Known 𝓤
             H A W 𝓣 0 ps·0 r·0 (claims· .0) (claims· .1) "hnsr_circuit::question::at_reservation") (known1 : Plain.Known 𝓤 H A W 𝓣 1 ps·1 r·1 (claims·
             .2) (claims· .3) "hnsr_circuit::lookup::look_up_usage") (known2 : Plain.Known 𝓤 H A W 𝓣 0 ps·2 r·2 (claims· .4) (claims· .5)
@@ -1340,7 +1446,8 @@ module _ (claims· : Claims) where
             "hnsr_circuit::tables::ledger::find_usage") (known4 : Plain.Known 𝓤 H A W 𝓣 0 ps·4 r·4 (claims· .8) (claims· .9)
             "hnsr_circuit::open::booked_usage") (known5 : Plain.Known 𝓤 H A W 𝓣 0 ps·5 r·5 (claims· .10) (claims· .11)
             "hnsr_circuit::open::booked_place") (known6 : Plain.Known 𝓤 H A W 𝓣 1 ps·6 r·6 (claims· .12) (claims· .13)
-            "hnsr_circuit::tables::ledger::set_usage") where
+            "hnsr_circuit::tables::ledger::set_usage") (known7 : Plain.Known 𝓤 H A W 𝓣 0 ps·7 r·7 (claims· .14) (claims· .15)
+            "hnsr_circuit::places::raised") where
           pub spec : Statement.Triple 𝓤 (Wp.WpFn 𝓤 H (𝓣 .C) (𝓣 .Λ) (Function.fnOf 1 ps r xs m hs body)) (Function.plainOf 𝓤 H A 1 ps r Pre· Post·)
           spec = Plain.t-fn-plain 𝓤 H A W 𝓣 1 ps r xs m hs body (λ κs qs bs. Φ bs) (λ κs qs bs bd. typed κs qs 𝓤 H A W 𝓣 (known0, known1, known2,
-              known3, known4, known5, known6,) bs bd) Pre· Post· asked
+              known3, known4, known5, known6, known7,) bs bd) Pre· Post· asked

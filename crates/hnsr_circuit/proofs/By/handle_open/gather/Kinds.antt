@@ -3,8 +3,10 @@ use Rattle.hnsr_circuit.proofs.By.RelayCircuit
 use Rattle.hnsr_circuit.proofs.By.RelayPending
 use Rattle.hnsr_circuit.proofs.open.OpenGathered
 use Rattle.hnsr_circuit.proofs.open.OpenGathered.Laws
+use Rattle.hnsr_circuit.proofs.places.Places
+use Rattle.hnsr_circuit.proofs.places.Places.Laws as Laws'
 use Rattle.hnsr_circuit.proofs.records.RelayPacket
-use Rattle.hnsr_circuit.proofs.records.RelayPacket.Laws as Laws'
+use Rattle.hnsr_circuit.proofs.records.RelayPacket.Laws as Laws''
 use borrow.Fn.Kinds
 use borrow.Kind.ShrSlice
 use borrow.Kind.Value
@@ -13,23 +15,28 @@ use borrow.Table.Referent
 use borrow.Table.Rows
 use denote.Exit
 use denote.Struct.Declared
-use denote.Struct.Laws as Laws''
+use denote.Struct.Laws as Laws'''
 use mathlib.Core.List
 use mathlib.Core.Path
 use mir.Syntax
 use mathlib.Core.List.{_∷_}
 
 abbrev pub ps : List.List (Kinds.PK 5)
-ps = (ShrSlice.pShrS RelayPending.row 0 tt) ∷ (ShrSlice.pShrS RelayCircuit.row 1 tt) ∷ (Value.pVal record { ty = Declared.row RelayPacket.the-type;
-    one = Path.refl; val = Laws''.val RelayPacket.the-type Laws'.the-laws; tells = Laws''.tells RelayPacket.the-type Laws'.the-laws; still =
-    Laws''.still RelayPacket.the-type Laws'.the-copy Exit.yes; row = Rows.whole (Declared.row RelayPacket.the-type); rd = λ x. x; mk = λ x. x; } λ M 𝓤
-    H A W. record { copies = Laws''.copy RelayPacket.the-type Laws'.the-copy 𝓤 H A W; lawful = Laws''.lawful RelayPacket.the-type Laws'.the-laws 𝓤 H A
-    W; makes = Laws''.makes RelayPacket.the-type Laws'.the-plain 𝓤 H A; in-mem = Local.mem-whole 𝓤 H A W (Declared.row RelayPacket.the-type); of-mem =
+ps = (ShrSlice.pShrS RelayPending.row 0 tt) ∷ (ShrSlice.pShrS RelayCircuit.row 1 tt) ∷ (Value.pVal record { ty = Declared.row Places.the-type; one =
+    Path.refl; val = Laws'''.val Places.the-type Laws'.the-laws; tells = Laws'''.tells Places.the-type Laws'.the-laws; still = Laws'''.still
+    Places.the-type Laws'.the-copy Exit.yes; row = Rows.whole (Declared.row Places.the-type); rd = λ x. x; mk = λ x. x; } λ M 𝓤 H A W. record { copies
+    = Laws'''.copy Places.the-type Laws'.the-copy 𝓤 H A W; lawful = Laws'''.lawful Places.the-type Laws'.the-laws 𝓤 H A W; makes = Laws'''.makes
+    Places.the-type Laws'.the-plain 𝓤 H A; in-mem = Local.mem-whole 𝓤 H A W (Declared.row Places.the-type); of-mem = Local.whole-mem 𝓤 H A W
+    (Declared.row Places.the-type); }) ∷ (Value.pVal record { ty = Declared.row RelayPacket.the-type; one = Path.refl; val = Laws'''.val
+    RelayPacket.the-type Laws''.the-laws; tells = Laws'''.tells RelayPacket.the-type Laws''.the-laws; still = Laws'''.still RelayPacket.the-type
+    Laws''.the-copy Exit.yes; row = Rows.whole (Declared.row RelayPacket.the-type); rd = λ x. x; mk = λ x. x; } λ M 𝓤 H A W. record { copies =
+    Laws'''.copy RelayPacket.the-type Laws''.the-copy 𝓤 H A W; lawful = Laws'''.lawful RelayPacket.the-type Laws''.the-laws 𝓤 H A W; makes =
+    Laws'''.makes RelayPacket.the-type Laws''.the-plain 𝓤 H A; in-mem = Local.mem-whole 𝓤 H A W (Declared.row RelayPacket.the-type); of-mem =
     Local.whole-mem 𝓤 H A W (Declared.row RelayPacket.the-type); }) ∷ (ShrSlice.pShrS (Referent.rtF (Referent.fInt Syntax.w8)) 2 tt) ∷ (ShrSlice.pShrS
     (Referent.rtF (Referent.fInt Syntax.w8)) 3 tt) ∷ (ShrSlice.pShrS (Referent.rtF (Referent.fInt Syntax.w8)) 4 tt) ∷ List.[]
 abbrev pub r : Kinds.RK 5
-r = Value.rVal record { ty = Declared.row OpenGathered.the-type; one = Path.refl; val = Laws''.val OpenGathered.the-type Laws.the-laws; tells =
-    Laws''.tells OpenGathered.the-type Laws.the-laws; still = Laws''.still OpenGathered.the-type Laws.the-copy Exit.yes; row = Rows.whole
-    (Declared.row OpenGathered.the-type); rd = λ x. x; mk = λ x. x; } λ M 𝓤 H A W. record { copies = Laws''.copy OpenGathered.the-type Laws.the-copy 𝓤
-    H A W; lawful = Laws''.lawful OpenGathered.the-type Laws.the-laws 𝓤 H A W; makes = Laws''.makes OpenGathered.the-type Laws.the-plain 𝓤 H A; in-mem
-    = Local.mem-whole 𝓤 H A W (Declared.row OpenGathered.the-type); of-mem = Local.whole-mem 𝓤 H A W (Declared.row OpenGathered.the-type); }
+r = Value.rVal record { ty = Declared.row OpenGathered.the-type; one = Path.refl; val = Laws'''.val OpenGathered.the-type Laws.the-laws; tells =
+    Laws'''.tells OpenGathered.the-type Laws.the-laws; still = Laws'''.still OpenGathered.the-type Laws.the-copy Exit.yes; row = Rows.whole
+    (Declared.row OpenGathered.the-type); rd = λ x. x; mk = λ x. x; } λ M 𝓤 H A W. record { copies = Laws'''.copy OpenGathered.the-type Laws.the-copy
+    𝓤 H A W; lawful = Laws'''.lawful OpenGathered.the-type Laws.the-laws 𝓤 H A W; makes = Laws'''.makes OpenGathered.the-type Laws.the-plain 𝓤 H A;
+    in-mem = Local.mem-whole 𝓤 H A W (Declared.row OpenGathered.the-type); of-mem = Local.whole-mem 𝓤 H A W (Declared.row OpenGathered.the-type); }

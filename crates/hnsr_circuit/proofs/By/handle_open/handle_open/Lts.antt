@@ -10,12 +10,14 @@ use Rattle.hnsr_circuit.proofs.config.OpaqueRelayConfig
 use Rattle.hnsr_circuit.proofs.config.OpaqueRelayConfig.Laws as Laws'
 use Rattle.hnsr_circuit.proofs.open.OpenGathered
 use Rattle.hnsr_circuit.proofs.open.OpenGathered.Laws as Laws''
+use Rattle.hnsr_circuit.proofs.places.Places
+use Rattle.hnsr_circuit.proofs.places.Places.Laws as Laws'''
 use Rattle.hnsr_circuit.proofs.records.RelayPacket
-use Rattle.hnsr_circuit.proofs.records.RelayPacket.Laws as Laws'''
+use Rattle.hnsr_circuit.proofs.records.RelayPacket.Laws as Laws''''
 use Rattle.hnsr_circuit.proofs.runtime.OpaqueRelayRuntime
-use Rattle.hnsr_circuit.proofs.runtime.OpaqueRelayRuntime.Laws as Laws''''
+use Rattle.hnsr_circuit.proofs.runtime.OpaqueRelayRuntime.Laws as Laws'''''
 use Rattle.hnsr_circuit.proofs.runtime.Relayed
-use Rattle.hnsr_circuit.proofs.runtime.Relayed.Laws as Laws'''''
+use Rattle.hnsr_circuit.proofs.runtime.Relayed.Laws as Laws''''''
 use borrow.Author.Called
 use borrow.Fn.Any
 use borrow.Fn.Call
@@ -55,11 +57,11 @@ use borrow.Table.Rows
 use borrow.Table.Typed
 use contract.Lifetimes
 use denote.Enum.Declared
-use denote.Enum.Laws as Laws''''''
+use denote.Enum.Laws as Laws'''''''
 use denote.Exit
 use denote.Struct.At
 use denote.Struct.Declared as Declared'
-use denote.Struct.Laws as Laws'''''''
+use denote.Struct.Laws as Laws''''''''
 use denote.Triple.Clauses
 use denote.Triple.Statement
 use ghost.Atoms
@@ -106,25 +108,32 @@ ref14 = Syntax.tyRef (Syntax.named 8) Syntax.imm (Syntax.tyInt Syntax.w8)
 abbrev pub ps : List.List (Kinds.PK 9)
 ps = (MutSlice.pMutS RelayPending.row 0 tt) ∷ (MutSlice.pMutS RelayCircuit.row 1 tt) ∷ (MutSlice.pMutS ReservationUsage.row 2 tt) ∷ (MutSlice.pMutS
     InflightAction.row 3 tt) ∷ (MutSlice.pMutS (Referent.rtF (Referent.fInt Syntax.w32)) 4 tt) ∷ (Value.pVal record { ty = Declared'.row
-    OpaqueRelayRuntime.the-type; one = Path.refl; val = Laws'''''''.val OpaqueRelayRuntime.the-type Laws''''.the-laws; tells = Laws'''''''.tells
-    OpaqueRelayRuntime.the-type Laws''''.the-laws; still = Laws'''''''.still OpaqueRelayRuntime.the-type Laws''''.the-copy Exit.yes; row = Rows.whole
-    (Declared'.row OpaqueRelayRuntime.the-type); rd = λ x. x; mk = λ x. x; } λ M 𝓤 H A W. record { copies = Laws'''''''.copy
-    OpaqueRelayRuntime.the-type Laws''''.the-copy 𝓤 H A W; lawful = Laws'''''''.lawful OpaqueRelayRuntime.the-type Laws''''.the-laws 𝓤 H A W; makes =
-    Laws'''''''.makes OpaqueRelayRuntime.the-type Laws''''.the-plain 𝓤 H A; in-mem = Local.mem-whole 𝓤 H A W (Declared'.row
+    OpaqueRelayRuntime.the-type; one = Path.refl; val = Laws''''''''.val OpaqueRelayRuntime.the-type Laws'''''.the-laws; tells = Laws''''''''.tells
+    OpaqueRelayRuntime.the-type Laws'''''.the-laws; still = Laws''''''''.still OpaqueRelayRuntime.the-type Laws'''''.the-copy Exit.yes; row =
+    Rows.whole (Declared'.row OpaqueRelayRuntime.the-type); rd = λ x. x; mk = λ x. x; } λ M 𝓤 H A W. record { copies = Laws''''''''.copy
+    OpaqueRelayRuntime.the-type Laws'''''.the-copy 𝓤 H A W; lawful = Laws''''''''.lawful OpaqueRelayRuntime.the-type Laws'''''.the-laws 𝓤 H A W; makes
+    = Laws''''''''.makes OpaqueRelayRuntime.the-type Laws'''''.the-plain 𝓤 H A; in-mem = Local.mem-whole 𝓤 H A W (Declared'.row
     OpaqueRelayRuntime.the-type); of-mem = Local.whole-mem 𝓤 H A W (Declared'.row OpaqueRelayRuntime.the-type); }) ∷ (Value.pVal record { ty =
-    Declared'.row RelayPacket.the-type; one = Path.refl; val = Laws'''''''.val RelayPacket.the-type Laws'''.the-laws; tells = Laws'''''''.tells
-    RelayPacket.the-type Laws'''.the-laws; still = Laws'''''''.still RelayPacket.the-type Laws'''.the-copy Exit.yes; row = Rows.whole (Declared'.row
-    RelayPacket.the-type); rd = λ x. x; mk = λ x. x; } λ M 𝓤 H A W. record { copies = Laws'''''''.copy RelayPacket.the-type Laws'''.the-copy 𝓤 H A W;
-    lawful = Laws'''''''.lawful RelayPacket.the-type Laws'''.the-laws 𝓤 H A W; makes = Laws'''''''.makes RelayPacket.the-type Laws'''.the-plain 𝓤 H A;
-    in-mem = Local.mem-whole 𝓤 H A W (Declared'.row RelayPacket.the-type); of-mem = Local.whole-mem 𝓤 H A W (Declared'.row RelayPacket.the-type); }) ∷
-    (ShrSlice.pShrS (Referent.rtF (Referent.fInt Syntax.w8)) 5 tt) ∷ (ShrSlice.pShrS (Referent.rtF (Referent.fInt Syntax.w8)) 6 tt) ∷ (ShrSlice.pShrS
-    (Referent.rtF (Referent.fInt Syntax.w8)) 7 tt) ∷ (ShrSlice.pShrS (Referent.rtF (Referent.fInt Syntax.w8)) 8 tt) ∷ List.[]
+    Declared'.row Places.the-type; one = Path.refl; val = Laws''''''''.val Places.the-type Laws'''.the-laws; tells = Laws''''''''.tells
+    Places.the-type Laws'''.the-laws; still = Laws''''''''.still Places.the-type Laws'''.the-copy Exit.yes; row = Rows.whole (Declared'.row
+    Places.the-type); rd = λ x. x; mk = λ x. x; } λ M 𝓤 H A W. record { copies = Laws''''''''.copy Places.the-type Laws'''.the-copy 𝓤 H A W; lawful =
+    Laws''''''''.lawful Places.the-type Laws'''.the-laws 𝓤 H A W; makes = Laws''''''''.makes Places.the-type Laws'''.the-plain 𝓤 H A; in-mem =
+    Local.mem-whole 𝓤 H A W (Declared'.row Places.the-type); of-mem = Local.whole-mem 𝓤 H A W (Declared'.row Places.the-type); }) ∷ (Value.pVal record
+    { ty = Declared'.row RelayPacket.the-type; one = Path.refl; val = Laws''''''''.val RelayPacket.the-type Laws''''.the-laws; tells =
+    Laws''''''''.tells RelayPacket.the-type Laws''''.the-laws; still = Laws''''''''.still RelayPacket.the-type Laws''''.the-copy Exit.yes; row =
+    Rows.whole (Declared'.row RelayPacket.the-type); rd = λ x. x; mk = λ x. x; } λ M 𝓤 H A W. record { copies = Laws''''''''.copy RelayPacket.the-type
+    Laws''''.the-copy 𝓤 H A W; lawful = Laws''''''''.lawful RelayPacket.the-type Laws''''.the-laws 𝓤 H A W; makes = Laws''''''''.makes
+    RelayPacket.the-type Laws''''.the-plain 𝓤 H A; in-mem = Local.mem-whole 𝓤 H A W (Declared'.row RelayPacket.the-type); of-mem = Local.whole-mem 𝓤 H
+    A W (Declared'.row RelayPacket.the-type); }) ∷ (ShrSlice.pShrS (Referent.rtF (Referent.fInt Syntax.w8)) 5 tt) ∷ (ShrSlice.pShrS (Referent.rtF
+    (Referent.fInt Syntax.w8)) 6 tt) ∷ (ShrSlice.pShrS (Referent.rtF (Referent.fInt Syntax.w8)) 7 tt) ∷ (ShrSlice.pShrS (Referent.rtF (Referent.fInt
+    Syntax.w8)) 8 tt) ∷ List.[]
 abbrev pub r : Kinds.RK 9
-r = Value.rVal record { ty = Declared'.row Relayed.the-type; one = Path.refl; val = Laws'''''''.val Relayed.the-type Laws'''''.the-laws; tells =
-    Laws'''''''.tells Relayed.the-type Laws'''''.the-laws; still = Laws'''''''.still Relayed.the-type Laws'''''.the-copy Exit.yes; row = Rows.whole
-    (Declared'.row Relayed.the-type); rd = λ x. x; mk = λ x. x; } λ M 𝓤 H A W. record { copies = Laws'''''''.copy Relayed.the-type Laws'''''.the-copy
-    𝓤 H A W; lawful = Laws'''''''.lawful Relayed.the-type Laws'''''.the-laws 𝓤 H A W; makes = Laws'''''''.makes Relayed.the-type Laws'''''.the-plain 𝓤
-    H A; in-mem = Local.mem-whole 𝓤 H A W (Declared'.row Relayed.the-type); of-mem = Local.whole-mem 𝓤 H A W (Declared'.row Relayed.the-type); }
+r = Value.rVal record { ty = Declared'.row Relayed.the-type; one = Path.refl; val = Laws''''''''.val Relayed.the-type Laws''''''.the-laws; tells =
+    Laws''''''''.tells Relayed.the-type Laws''''''.the-laws; still = Laws''''''''.still Relayed.the-type Laws''''''.the-copy Exit.yes; row =
+    Rows.whole (Declared'.row Relayed.the-type); rd = λ x. x; mk = λ x. x; } λ M 𝓤 H A W. record { copies = Laws''''''''.copy Relayed.the-type
+    Laws''''''.the-copy 𝓤 H A W; lawful = Laws''''''''.lawful Relayed.the-type Laws''''''.the-laws 𝓤 H A W; makes = Laws''''''''.makes
+    Relayed.the-type Laws''''''.the-plain 𝓤 H A; in-mem = Local.mem-whole 𝓤 H A W (Declared'.row Relayed.the-type); of-mem = Local.whole-mem 𝓤 H A W
+    (Declared'.row Relayed.the-type); }
 abbrev pub xs : List.List Syntax.Ty
 xs = Laws''.mir ∷ Laws'.mir ∷ Laws.mir ∷ Syntax.tyBool ∷ ref0 ∷ (Syntax.tyStruct (38 ∷ 91 ∷ 93 ∷ List.[]) (Syntax.tcons ref0 (Syntax.tcons
     (Syntax.tyInt Syntax.w64) Syntax.tnil))) ∷ ref1 ∷ (Syntax.tyStruct (38 ∷ 91 ∷ 93 ∷ List.[]) (Syntax.tcons ref1 (Syntax.tcons (Syntax.tyInt
@@ -137,144 +146,160 @@ xs = Laws''.mir ∷ Laws'.mir ∷ Laws.mir ∷ Syntax.tyBool ∷ ref0 ∷ (Synta
 abbrev pub m : Nat.ℕ
 m = 8
 abbrev pub ps·0 : List.List (Kinds.PK 5)
-ps·0 = (ShrSlice.pShrS RelayPending.row 0 tt) ∷ (ShrSlice.pShrS RelayCircuit.row 1 tt) ∷ (Value.pVal record { ty = Declared'.row RelayPacket.the-type;
-    one = Path.refl; val = Laws'''''''.val RelayPacket.the-type Laws'''.the-laws; tells = Laws'''''''.tells RelayPacket.the-type Laws'''.the-laws;
-    still = Laws'''''''.still RelayPacket.the-type Laws'''.the-copy Exit.yes; row = Rows.whole (Declared'.row RelayPacket.the-type); rd = λ x. x; mk =
-    λ x. x; } λ M 𝓤 H A W. record { copies = Laws'''''''.copy RelayPacket.the-type Laws'''.the-copy 𝓤 H A W; lawful = Laws'''''''.lawful
-    RelayPacket.the-type Laws'''.the-laws 𝓤 H A W; makes = Laws'''''''.makes RelayPacket.the-type Laws'''.the-plain 𝓤 H A; in-mem = Local.mem-whole 𝓤
-    H A W (Declared'.row RelayPacket.the-type); of-mem = Local.whole-mem 𝓤 H A W (Declared'.row RelayPacket.the-type); }) ∷ (ShrSlice.pShrS
+ps·0 = (ShrSlice.pShrS RelayPending.row 0 tt) ∷ (ShrSlice.pShrS RelayCircuit.row 1 tt) ∷ (Value.pVal record { ty = Declared'.row Places.the-type; one
+    = Path.refl; val = Laws''''''''.val Places.the-type Laws'''.the-laws; tells = Laws''''''''.tells Places.the-type Laws'''.the-laws; still =
+    Laws''''''''.still Places.the-type Laws'''.the-copy Exit.yes; row = Rows.whole (Declared'.row Places.the-type); rd = λ x. x; mk = λ x. x; } λ M 𝓤
+    H A W. record { copies = Laws''''''''.copy Places.the-type Laws'''.the-copy 𝓤 H A W; lawful = Laws''''''''.lawful Places.the-type Laws'''.the-laws
+    𝓤 H A W; makes = Laws''''''''.makes Places.the-type Laws'''.the-plain 𝓤 H A; in-mem = Local.mem-whole 𝓤 H A W (Declared'.row Places.the-type);
+    of-mem = Local.whole-mem 𝓤 H A W (Declared'.row Places.the-type); }) ∷ (Value.pVal record { ty = Declared'.row RelayPacket.the-type; one =
+    Path.refl; val = Laws''''''''.val RelayPacket.the-type Laws''''.the-laws; tells = Laws''''''''.tells RelayPacket.the-type Laws''''.the-laws; still
+    = Laws''''''''.still RelayPacket.the-type Laws''''.the-copy Exit.yes; row = Rows.whole (Declared'.row RelayPacket.the-type); rd = λ x. x; mk = λ
+    x. x; } λ M 𝓤 H A W. record { copies = Laws''''''''.copy RelayPacket.the-type Laws''''.the-copy 𝓤 H A W; lawful = Laws''''''''.lawful
+    RelayPacket.the-type Laws''''.the-laws 𝓤 H A W; makes = Laws''''''''.makes RelayPacket.the-type Laws''''.the-plain 𝓤 H A; in-mem = Local.mem-whole
+    𝓤 H A W (Declared'.row RelayPacket.the-type); of-mem = Local.whole-mem 𝓤 H A W (Declared'.row RelayPacket.the-type); }) ∷ (ShrSlice.pShrS
     (Referent.rtF (Referent.fInt Syntax.w8)) 2 tt) ∷ (ShrSlice.pShrS (Referent.rtF (Referent.fInt Syntax.w8)) 3 tt) ∷ (ShrSlice.pShrS (Referent.rtF
     (Referent.fInt Syntax.w8)) 4 tt) ∷ List.[]
 abbrev pub r·0 : Kinds.RK 5
-r·0 = Value.rVal record { ty = Declared'.row OpenGathered.the-type; one = Path.refl; val = Laws'''''''.val OpenGathered.the-type Laws''.the-laws;
-    tells = Laws'''''''.tells OpenGathered.the-type Laws''.the-laws; still = Laws'''''''.still OpenGathered.the-type Laws''.the-copy Exit.yes; row =
-    Rows.whole (Declared'.row OpenGathered.the-type); rd = λ x. x; mk = λ x. x; } λ M 𝓤 H A W. record { copies = Laws'''''''.copy
-    OpenGathered.the-type Laws''.the-copy 𝓤 H A W; lawful = Laws'''''''.lawful OpenGathered.the-type Laws''.the-laws 𝓤 H A W; makes =
-    Laws'''''''.makes OpenGathered.the-type Laws''.the-plain 𝓤 H A; in-mem = Local.mem-whole 𝓤 H A W (Declared'.row OpenGathered.the-type); of-mem =
+r·0 = Value.rVal record { ty = Declared'.row OpenGathered.the-type; one = Path.refl; val = Laws''''''''.val OpenGathered.the-type Laws''.the-laws;
+    tells = Laws''''''''.tells OpenGathered.the-type Laws''.the-laws; still = Laws''''''''.still OpenGathered.the-type Laws''.the-copy Exit.yes; row =
+    Rows.whole (Declared'.row OpenGathered.the-type); rd = λ x. x; mk = λ x. x; } λ M 𝓤 H A W. record { copies = Laws''''''''.copy
+    OpenGathered.the-type Laws''.the-copy 𝓤 H A W; lawful = Laws''''''''.lawful OpenGathered.the-type Laws''.the-laws 𝓤 H A W; makes =
+    Laws''''''''.makes OpenGathered.the-type Laws''.the-plain 𝓤 H A; in-mem = Local.mem-whole 𝓤 H A W (Declared'.row OpenGathered.the-type); of-mem =
     Local.whole-mem 𝓤 H A W (Declared'.row OpenGathered.the-type); }
 abbrev pub ps·1 : List.List (Kinds.PK 0)
-ps·1 = (Value.pVal record { ty = Declared'.row OpaqueRelayConfig.the-type; one = Path.refl; val = Laws'''''''.val OpaqueRelayConfig.the-type
-    Laws'.the-laws; tells = Laws'''''''.tells OpaqueRelayConfig.the-type Laws'.the-laws; still = Laws'''''''.still OpaqueRelayConfig.the-type
+ps·1 = (Value.pVal record { ty = Declared'.row OpaqueRelayConfig.the-type; one = Path.refl; val = Laws''''''''.val OpaqueRelayConfig.the-type
+    Laws'.the-laws; tells = Laws''''''''.tells OpaqueRelayConfig.the-type Laws'.the-laws; still = Laws''''''''.still OpaqueRelayConfig.the-type
     Laws'.the-copy Exit.yes; row = Rows.whole (Declared'.row OpaqueRelayConfig.the-type); rd = λ x. x; mk = λ x. x; } λ M 𝓤 H A W. record { copies =
-    Laws'''''''.copy OpaqueRelayConfig.the-type Laws'.the-copy 𝓤 H A W; lawful = Laws'''''''.lawful OpaqueRelayConfig.the-type Laws'.the-laws 𝓤 H A W;
-    makes = Laws'''''''.makes OpaqueRelayConfig.the-type Laws'.the-plain 𝓤 H A; in-mem = Local.mem-whole 𝓤 H A W (Declared'.row
+    Laws''''''''.copy OpaqueRelayConfig.the-type Laws'.the-copy 𝓤 H A W; lawful = Laws''''''''.lawful OpaqueRelayConfig.the-type Laws'.the-laws 𝓤 H A
+    W; makes = Laws''''''''.makes OpaqueRelayConfig.the-type Laws'.the-plain 𝓤 H A; in-mem = Local.mem-whole 𝓤 H A W (Declared'.row
     OpaqueRelayConfig.the-type); of-mem = Local.whole-mem 𝓤 H A W (Declared'.row OpaqueRelayConfig.the-type); }) ∷ (Value.pVal record { ty =
-    Declared'.row OpenGathered.the-type; one = Path.refl; val = Laws'''''''.val OpenGathered.the-type Laws''.the-laws; tells = Laws'''''''.tells
-    OpenGathered.the-type Laws''.the-laws; still = Laws'''''''.still OpenGathered.the-type Laws''.the-copy Exit.yes; row = Rows.whole (Declared'.row
-    OpenGathered.the-type); rd = λ x. x; mk = λ x. x; } λ M 𝓤 H A W. record { copies = Laws'''''''.copy OpenGathered.the-type Laws''.the-copy 𝓤 H A W;
-    lawful = Laws'''''''.lawful OpenGathered.the-type Laws''.the-laws 𝓤 H A W; makes = Laws'''''''.makes OpenGathered.the-type Laws''.the-plain 𝓤 H A;
-    in-mem = Local.mem-whole 𝓤 H A W (Declared'.row OpenGathered.the-type); of-mem = Local.whole-mem 𝓤 H A W (Declared'.row OpenGathered.the-type); })
-    ∷ List.[]
+    Declared'.row OpenGathered.the-type; one = Path.refl; val = Laws''''''''.val OpenGathered.the-type Laws''.the-laws; tells = Laws''''''''.tells
+    OpenGathered.the-type Laws''.the-laws; still = Laws''''''''.still OpenGathered.the-type Laws''.the-copy Exit.yes; row = Rows.whole (Declared'.row
+    OpenGathered.the-type); rd = λ x. x; mk = λ x. x; } λ M 𝓤 H A W. record { copies = Laws''''''''.copy OpenGathered.the-type Laws''.the-copy 𝓤 H A
+    W; lawful = Laws''''''''.lawful OpenGathered.the-type Laws''.the-laws 𝓤 H A W; makes = Laws''''''''.makes OpenGathered.the-type Laws''.the-plain 𝓤
+    H A; in-mem = Local.mem-whole 𝓤 H A W (Declared'.row OpenGathered.the-type); of-mem = Local.whole-mem 𝓤 H A W (Declared'.row
+    OpenGathered.the-type); }) ∷ List.[]
 abbrev pub r·1 : Kinds.RK 0
-r·1 = Value.rVal record { ty = Declared.row HnsrAnswer.the-type; one = Path.refl; val = Laws''''''.val HnsrAnswer.the-type Laws.the-laws; tells =
-    Laws''''''.tells HnsrAnswer.the-type Laws.the-laws; still = Laws''''''.still HnsrAnswer.the-type Laws.the-copy Exit.yes; row = Rows.whole
-    (Declared.row HnsrAnswer.the-type); rd = λ x. x; mk = λ x. x; } λ M 𝓤 H A W. record { copies = Laws''''''.copy HnsrAnswer.the-type Laws.the-copy 𝓤
-    H A W; lawful = Laws''''''.lawful HnsrAnswer.the-type Laws.the-laws 𝓤 H A W tt; makes = Laws''''''.makes HnsrAnswer.the-type Laws.the-plain 𝓤 H A;
-    in-mem = Local.mem-whole 𝓤 H A W (Declared.row HnsrAnswer.the-type); of-mem = Local.whole-mem 𝓤 H A W (Declared.row HnsrAnswer.the-type); }
+r·1 = Value.rVal record { ty = Declared.row HnsrAnswer.the-type; one = Path.refl; val = Laws'''''''.val HnsrAnswer.the-type Laws.the-laws; tells =
+    Laws'''''''.tells HnsrAnswer.the-type Laws.the-laws; still = Laws'''''''.still HnsrAnswer.the-type Laws.the-copy Exit.yes; row = Rows.whole
+    (Declared.row HnsrAnswer.the-type); rd = λ x. x; mk = λ x. x; } λ M 𝓤 H A W. record { copies = Laws'''''''.copy HnsrAnswer.the-type Laws.the-copy
+    𝓤 H A W; lawful = Laws'''''''.lawful HnsrAnswer.the-type Laws.the-laws 𝓤 H A W tt; makes = Laws'''''''.makes HnsrAnswer.the-type Laws.the-plain 𝓤
+    H A; in-mem = Local.mem-whole 𝓤 H A W (Declared.row HnsrAnswer.the-type); of-mem = Local.whole-mem 𝓤 H A W (Declared.row HnsrAnswer.the-type); }
 abbrev pub ps·2 : List.List (Kinds.PK 0)
-ps·2 = (Value.pVal record { ty = Declared.row HnsrAnswer.the-type; one = Path.refl; val = Laws''''''.val HnsrAnswer.the-type Laws.the-laws; tells =
-    Laws''''''.tells HnsrAnswer.the-type Laws.the-laws; still = Laws''''''.still HnsrAnswer.the-type Laws.the-copy Exit.yes; row = Rows.whole
-    (Declared.row HnsrAnswer.the-type); rd = λ x. x; mk = λ x. x; } λ M 𝓤 H A W. record { copies = Laws''''''.copy HnsrAnswer.the-type Laws.the-copy 𝓤
-    H A W; lawful = Laws''''''.lawful HnsrAnswer.the-type Laws.the-laws 𝓤 H A W tt; makes = Laws''''''.makes HnsrAnswer.the-type Laws.the-plain 𝓤 H A;
-    in-mem = Local.mem-whole 𝓤 H A W (Declared.row HnsrAnswer.the-type); of-mem = Local.whole-mem 𝓤 H A W (Declared.row HnsrAnswer.the-type); }) ∷
-    List.[]
+ps·2 = (Value.pVal record { ty = Declared.row HnsrAnswer.the-type; one = Path.refl; val = Laws'''''''.val HnsrAnswer.the-type Laws.the-laws; tells =
+    Laws'''''''.tells HnsrAnswer.the-type Laws.the-laws; still = Laws'''''''.still HnsrAnswer.the-type Laws.the-copy Exit.yes; row = Rows.whole
+    (Declared.row HnsrAnswer.the-type); rd = λ x. x; mk = λ x. x; } λ M 𝓤 H A W. record { copies = Laws'''''''.copy HnsrAnswer.the-type Laws.the-copy
+    𝓤 H A W; lawful = Laws'''''''.lawful HnsrAnswer.the-type Laws.the-laws 𝓤 H A W tt; makes = Laws'''''''.makes HnsrAnswer.the-type Laws.the-plain 𝓤
+    H A; in-mem = Local.mem-whole 𝓤 H A W (Declared.row HnsrAnswer.the-type); of-mem = Local.whole-mem 𝓤 H A W (Declared.row HnsrAnswer.the-type); })
+    ∷ List.[]
 abbrev pub r·2 : Kinds.RK 0
 r·2 = Bool.rBool
 abbrev pub ps·3 : List.List (Kinds.PK 1)
-ps·3 = (MutSlice.pMutS ReservationUsage.row 0 tt) ∷ Bool.pBool ∷ (Num.pNum Syntax.w64) ∷ List.[]
+ps·3 = (MutSlice.pMutS ReservationUsage.row 0 tt) ∷ (Value.pVal record { ty = Declared'.row Places.the-type; one = Path.refl; val = Laws''''''''.val
+    Places.the-type Laws'''.the-laws; tells = Laws''''''''.tells Places.the-type Laws'''.the-laws; still = Laws''''''''.still Places.the-type
+    Laws'''.the-copy Exit.yes; row = Rows.whole (Declared'.row Places.the-type); rd = λ x. x; mk = λ x. x; } λ M 𝓤 H A W. record { copies =
+    Laws''''''''.copy Places.the-type Laws'''.the-copy 𝓤 H A W; lawful = Laws''''''''.lawful Places.the-type Laws'''.the-laws 𝓤 H A W; makes =
+    Laws''''''''.makes Places.the-type Laws'''.the-plain 𝓤 H A; in-mem = Local.mem-whole 𝓤 H A W (Declared'.row Places.the-type); of-mem =
+    Local.whole-mem 𝓤 H A W (Declared'.row Places.the-type); }) ∷ Bool.pBool ∷ (Num.pNum Syntax.w64) ∷ List.[]
 abbrev pub r·3 : Kinds.RK 1
 r·3 = Unit.rUnit
 abbrev pub ps·4 : List.List (Kinds.PK 6)
 ps·4 = (MutSlice.pMutS RelayPending.row 0 tt) ∷ (ShrSlice.pShrS RelayCircuit.row 1 tt) ∷ (MutSlice.pMutS ReservationUsage.row 2 tt) ∷ (MutSlice.pMutS
     InflightAction.row 3 tt) ∷ (MutSlice.pMutS (Referent.rtF (Referent.fInt Syntax.w32)) 4 tt) ∷ (Value.pVal record { ty = Declared.row
-    HnsrAnswer.the-type; one = Path.refl; val = Laws''''''.val HnsrAnswer.the-type Laws.the-laws; tells = Laws''''''.tells HnsrAnswer.the-type
-    Laws.the-laws; still = Laws''''''.still HnsrAnswer.the-type Laws.the-copy Exit.yes; row = Rows.whole (Declared.row HnsrAnswer.the-type); rd = λ x.
-    x; mk = λ x. x; } λ M 𝓤 H A W. record { copies = Laws''''''.copy HnsrAnswer.the-type Laws.the-copy 𝓤 H A W; lawful = Laws''''''.lawful
-    HnsrAnswer.the-type Laws.the-laws 𝓤 H A W tt; makes = Laws''''''.makes HnsrAnswer.the-type Laws.the-plain 𝓤 H A; in-mem = Local.mem-whole 𝓤 H A W
+    HnsrAnswer.the-type; one = Path.refl; val = Laws'''''''.val HnsrAnswer.the-type Laws.the-laws; tells = Laws'''''''.tells HnsrAnswer.the-type
+    Laws.the-laws; still = Laws'''''''.still HnsrAnswer.the-type Laws.the-copy Exit.yes; row = Rows.whole (Declared.row HnsrAnswer.the-type); rd = λ
+    x. x; mk = λ x. x; } λ M 𝓤 H A W. record { copies = Laws'''''''.copy HnsrAnswer.the-type Laws.the-copy 𝓤 H A W; lawful = Laws'''''''.lawful
+    HnsrAnswer.the-type Laws.the-laws 𝓤 H A W tt; makes = Laws'''''''.makes HnsrAnswer.the-type Laws.the-plain 𝓤 H A; in-mem = Local.mem-whole 𝓤 H A W
     (Declared.row HnsrAnswer.the-type); of-mem = Local.whole-mem 𝓤 H A W (Declared.row HnsrAnswer.the-type); }) ∷ (Value.pVal record { ty =
-    Declared'.row OpaqueRelayRuntime.the-type; one = Path.refl; val = Laws'''''''.val OpaqueRelayRuntime.the-type Laws''''.the-laws; tells =
-    Laws'''''''.tells OpaqueRelayRuntime.the-type Laws''''.the-laws; still = Laws'''''''.still OpaqueRelayRuntime.the-type Laws''''.the-copy Exit.yes;
-    row = Rows.whole (Declared'.row OpaqueRelayRuntime.the-type); rd = λ x. x; mk = λ x. x; } λ M 𝓤 H A W. record { copies = Laws'''''''.copy
-    OpaqueRelayRuntime.the-type Laws''''.the-copy 𝓤 H A W; lawful = Laws'''''''.lawful OpaqueRelayRuntime.the-type Laws''''.the-laws 𝓤 H A W; makes =
-    Laws'''''''.makes OpaqueRelayRuntime.the-type Laws''''.the-plain 𝓤 H A; in-mem = Local.mem-whole 𝓤 H A W (Declared'.row
-    OpaqueRelayRuntime.the-type); of-mem = Local.whole-mem 𝓤 H A W (Declared'.row OpaqueRelayRuntime.the-type); }) ∷ (Value.pVal record { ty =
-    Declared'.row OpenGathered.the-type; one = Path.refl; val = Laws'''''''.val OpenGathered.the-type Laws''.the-laws; tells = Laws'''''''.tells
-    OpenGathered.the-type Laws''.the-laws; still = Laws'''''''.still OpenGathered.the-type Laws''.the-copy Exit.yes; row = Rows.whole (Declared'.row
-    OpenGathered.the-type); rd = λ x. x; mk = λ x. x; } λ M 𝓤 H A W. record { copies = Laws'''''''.copy OpenGathered.the-type Laws''.the-copy 𝓤 H A W;
-    lawful = Laws'''''''.lawful OpenGathered.the-type Laws''.the-laws 𝓤 H A W; makes = Laws'''''''.makes OpenGathered.the-type Laws''.the-plain 𝓤 H A;
-    in-mem = Local.mem-whole 𝓤 H A W (Declared'.row OpenGathered.the-type); of-mem = Local.whole-mem 𝓤 H A W (Declared'.row OpenGathered.the-type); })
-    ∷ (ShrSlice.pShrS (Referent.rtF (Referent.fInt Syntax.w8)) 5 tt) ∷ List.[]
+    Declared'.row OpaqueRelayRuntime.the-type; one = Path.refl; val = Laws''''''''.val OpaqueRelayRuntime.the-type Laws'''''.the-laws; tells =
+    Laws''''''''.tells OpaqueRelayRuntime.the-type Laws'''''.the-laws; still = Laws''''''''.still OpaqueRelayRuntime.the-type Laws'''''.the-copy
+    Exit.yes; row = Rows.whole (Declared'.row OpaqueRelayRuntime.the-type); rd = λ x. x; mk = λ x. x; } λ M 𝓤 H A W. record { copies =
+    Laws''''''''.copy OpaqueRelayRuntime.the-type Laws'''''.the-copy 𝓤 H A W; lawful = Laws''''''''.lawful OpaqueRelayRuntime.the-type
+    Laws'''''.the-laws 𝓤 H A W; makes = Laws''''''''.makes OpaqueRelayRuntime.the-type Laws'''''.the-plain 𝓤 H A; in-mem = Local.mem-whole 𝓤 H A W
+    (Declared'.row OpaqueRelayRuntime.the-type); of-mem = Local.whole-mem 𝓤 H A W (Declared'.row OpaqueRelayRuntime.the-type); }) ∷ (Value.pVal record
+    { ty = Declared'.row Places.the-type; one = Path.refl; val = Laws''''''''.val Places.the-type Laws'''.the-laws; tells = Laws''''''''.tells
+    Places.the-type Laws'''.the-laws; still = Laws''''''''.still Places.the-type Laws'''.the-copy Exit.yes; row = Rows.whole (Declared'.row
+    Places.the-type); rd = λ x. x; mk = λ x. x; } λ M 𝓤 H A W. record { copies = Laws''''''''.copy Places.the-type Laws'''.the-copy 𝓤 H A W; lawful =
+    Laws''''''''.lawful Places.the-type Laws'''.the-laws 𝓤 H A W; makes = Laws''''''''.makes Places.the-type Laws'''.the-plain 𝓤 H A; in-mem =
+    Local.mem-whole 𝓤 H A W (Declared'.row Places.the-type); of-mem = Local.whole-mem 𝓤 H A W (Declared'.row Places.the-type); }) ∷ (Value.pVal record
+    { ty = Declared'.row OpenGathered.the-type; one = Path.refl; val = Laws''''''''.val OpenGathered.the-type Laws''.the-laws; tells =
+    Laws''''''''.tells OpenGathered.the-type Laws''.the-laws; still = Laws''''''''.still OpenGathered.the-type Laws''.the-copy Exit.yes; row =
+    Rows.whole (Declared'.row OpenGathered.the-type); rd = λ x. x; mk = λ x. x; } λ M 𝓤 H A W. record { copies = Laws''''''''.copy
+    OpenGathered.the-type Laws''.the-copy 𝓤 H A W; lawful = Laws''''''''.lawful OpenGathered.the-type Laws''.the-laws 𝓤 H A W; makes =
+    Laws''''''''.makes OpenGathered.the-type Laws''.the-plain 𝓤 H A; in-mem = Local.mem-whole 𝓤 H A W (Declared'.row OpenGathered.the-type); of-mem =
+    Local.whole-mem 𝓤 H A W (Declared'.row OpenGathered.the-type); }) ∷ (ShrSlice.pShrS (Referent.rtF (Referent.fInt Syntax.w8)) 5 tt) ∷ List.[]
 abbrev pub r·4 : Kinds.RK 6
-r·4 = Value.rVal record { ty = Declared'.row Relayed.the-type; one = Path.refl; val = Laws'''''''.val Relayed.the-type Laws'''''.the-laws; tells =
-    Laws'''''''.tells Relayed.the-type Laws'''''.the-laws; still = Laws'''''''.still Relayed.the-type Laws'''''.the-copy Exit.yes; row = Rows.whole
-    (Declared'.row Relayed.the-type); rd = λ x. x; mk = λ x. x; } λ M 𝓤 H A W. record { copies = Laws'''''''.copy Relayed.the-type Laws'''''.the-copy
-    𝓤 H A W; lawful = Laws'''''''.lawful Relayed.the-type Laws'''''.the-laws 𝓤 H A W; makes = Laws'''''''.makes Relayed.the-type Laws'''''.the-plain 𝓤
-    H A; in-mem = Local.mem-whole 𝓤 H A W (Declared'.row Relayed.the-type); of-mem = Local.whole-mem 𝓤 H A W (Declared'.row Relayed.the-type); }
+r·4 = Value.rVal record { ty = Declared'.row Relayed.the-type; one = Path.refl; val = Laws''''''''.val Relayed.the-type Laws''''''.the-laws; tells =
+    Laws''''''''.tells Relayed.the-type Laws''''''.the-laws; still = Laws''''''''.still Relayed.the-type Laws''''''.the-copy Exit.yes; row =
+    Rows.whole (Declared'.row Relayed.the-type); rd = λ x. x; mk = λ x. x; } λ M 𝓤 H A W. record { copies = Laws''''''''.copy Relayed.the-type
+    Laws''''''.the-copy 𝓤 H A W; lawful = Laws''''''''.lawful Relayed.the-type Laws''''''.the-laws 𝓤 H A W; makes = Laws''''''''.makes
+    Relayed.the-type Laws''''''.the-plain 𝓤 H A; in-mem = Local.mem-whole 𝓤 H A W (Declared'.row Relayed.the-type); of-mem = Local.whole-mem 𝓤 H A W
+    (Declared'.row Relayed.the-type); }
 abbrev pub hs : List.List Syntax.Home
 hs = Syntax.valueLocal ∷ Syntax.valueLocal ∷ Syntax.valueLocal ∷ Syntax.valueLocal ∷ Syntax.valueLocal ∷ Syntax.valueLocal ∷ Syntax.valueLocal ∷
     Syntax.valueLocal ∷ Syntax.valueLocal ∷ Syntax.valueLocal ∷ Syntax.valueLocal ∷ Syntax.valueLocal ∷ Syntax.valueLocal ∷ Syntax.valueLocal ∷
     Syntax.valueLocal ∷ Syntax.valueLocal ∷ Syntax.valueLocal ∷ Syntax.valueLocal ∷ Syntax.valueLocal ∷ Syntax.valueLocal ∷ Syntax.valueLocal ∷
     Syntax.valueLocal ∷ Syntax.valueLocal ∷ Syntax.valueLocal ∷ Syntax.valueLocal ∷ Syntax.valueLocal ∷ Syntax.valueLocal ∷ Syntax.valueLocal ∷
-    Syntax.valueLocal ∷ Syntax.valueLocal ∷ Syntax.valueLocal ∷ Syntax.valueLocal ∷ Syntax.valueLocal ∷ List.[]
+    Syntax.valueLocal ∷ Syntax.valueLocal ∷ Syntax.valueLocal ∷ Syntax.valueLocal ∷ Syntax.valueLocal ∷ Syntax.valueLocal ∷ List.[]
 abbrev b0 : Syntax.Body
-b0 = Syntax.assign (Syntax.place 16 List.[]) (Syntax.addrOf (Syntax.place 1 ((Syntax.field 0) ∷ (Syntax.deref RelayPending.ty) ∷ List.[])))
+b0 = Syntax.assign (Syntax.place 17 List.[]) (Syntax.addrOf (Syntax.place 1 ((Syntax.field 0) ∷ (Syntax.deref RelayPending.ty) ∷ List.[])))
 abbrev b1 : Syntax.Body
-b1 = Syntax.assign (Syntax.place 17 List.[]) (Syntax.aggregate ((Syntax.copy (Syntax.place 16 List.[])) ∷ (Syntax.copy (Syntax.place 1 ((Syntax.field
+b1 = Syntax.assign (Syntax.place 18 List.[]) (Syntax.aggregate ((Syntax.copy (Syntax.place 17 List.[])) ∷ (Syntax.copy (Syntax.place 1 ((Syntax.field
     1) ∷ List.[]))) ∷ List.[]))
 abbrev b2 : Syntax.Body
-b2 = Syntax.assign (Syntax.place 18 List.[]) (Syntax.addrOf (Syntax.place 2 ((Syntax.field 0) ∷ (Syntax.deref RelayCircuit.ty) ∷ List.[])))
+b2 = Syntax.assign (Syntax.place 19 List.[]) (Syntax.addrOf (Syntax.place 2 ((Syntax.field 0) ∷ (Syntax.deref RelayCircuit.ty) ∷ List.[])))
 abbrev b3 : Syntax.Body
-b3 = Syntax.assign (Syntax.place 19 List.[]) (Syntax.aggregate ((Syntax.copy (Syntax.place 18 List.[])) ∷ (Syntax.copy (Syntax.place 2 ((Syntax.field
+b3 = Syntax.assign (Syntax.place 20 List.[]) (Syntax.aggregate ((Syntax.copy (Syntax.place 19 List.[])) ∷ (Syntax.copy (Syntax.place 2 ((Syntax.field
     1) ∷ List.[]))) ∷ List.[]))
 abbrev b4 : Syntax.Body
-b4 = Syntax.call "hnsr_circuit::handle_open::gather" ((Syntax.copy (Syntax.place 17 List.[])) ∷ (Syntax.copy (Syntax.place 19 List.[])) ∷ (Syntax.copy
+b4 = Syntax.call "hnsr_circuit::handle_open::gather" ((Syntax.copy (Syntax.place 18 List.[])) ∷ (Syntax.copy (Syntax.place 20 List.[])) ∷ (Syntax.copy
     (Syntax.place 7 List.[])) ∷ (Syntax.copy (Syntax.place 8 List.[])) ∷ (Syntax.copy (Syntax.place 9 List.[])) ∷ (Syntax.copy (Syntax.place 10
-    List.[])) ∷ List.[]) (Syntax.place 12 List.[])
+    List.[])) ∷ (Syntax.copy (Syntax.place 11 List.[])) ∷ List.[]) (Syntax.place 13 List.[])
 abbrev b5 : Syntax.Body
-b5 = Syntax.assign (Syntax.place 13 List.[]) (Syntax.rvOpd (Syntax.copy (Syntax.place 6 ((Syntax.field 4) ∷ List.[]))))
+b5 = Syntax.assign (Syntax.place 14 List.[]) (Syntax.rvOpd (Syntax.copy (Syntax.place 6 ((Syntax.field 4) ∷ List.[]))))
 abbrev b6 : Syntax.Body
-b6 = Syntax.call "hnsr_circuit::open::open_rows" ((Syntax.copy (Syntax.place 13 List.[])) ∷ (Syntax.copy (Syntax.place 12 List.[])) ∷ List.[])
-    (Syntax.place 14 List.[])
+b6 = Syntax.call "hnsr_circuit::open::open_rows" ((Syntax.copy (Syntax.place 14 List.[])) ∷ (Syntax.copy (Syntax.place 13 List.[])) ∷ List.[])
+    (Syntax.place 15 List.[])
 abbrev b7 : Syntax.Body
-b7 = Syntax.call "hnsr_circuit::answer::is_taken" ((Syntax.copy (Syntax.place 14 List.[])) ∷ List.[]) (Syntax.place 15 List.[])
+b7 = Syntax.call "hnsr_circuit::answer::is_taken" ((Syntax.copy (Syntax.place 15 List.[])) ∷ List.[]) (Syntax.place 16 List.[])
 abbrev b8 : Syntax.Body
-b8 = Syntax.assign (Syntax.place 21 List.[]) (Syntax.addrOf (Syntax.place 3 ((Syntax.field 0) ∷ (Syntax.deref ReservationUsage.ty) ∷ List.[])))
+b8 = Syntax.assign (Syntax.place 22 List.[]) (Syntax.addrOf (Syntax.place 3 ((Syntax.field 0) ∷ (Syntax.deref ReservationUsage.ty) ∷ List.[])))
 abbrev b9 : Syntax.Body
-b9 = Syntax.assign (Syntax.place 22 List.[]) (Syntax.aggregate ((Syntax.copy (Syntax.place 21 List.[])) ∷ (Syntax.copy (Syntax.place 3 ((Syntax.field
+b9 = Syntax.assign (Syntax.place 23 List.[]) (Syntax.aggregate ((Syntax.copy (Syntax.place 22 List.[])) ∷ (Syntax.copy (Syntax.place 3 ((Syntax.field
     1) ∷ List.[]))) ∷ List.[]))
 abbrev b10 : Syntax.Body
-b10 = Syntax.call "hnsr_circuit::lookup::drop_lapsed" ((Syntax.copy (Syntax.place 22 List.[])) ∷ (Syntax.copy (Syntax.place 15 List.[])) ∷
-    (Syntax.copy (Syntax.place 7 ((Syntax.field 2) ∷ List.[]))) ∷ List.[]) (Syntax.place 20 List.[])
+b10 = Syntax.call "hnsr_circuit::lookup::drop_lapsed" ((Syntax.copy (Syntax.place 23 List.[])) ∷ (Syntax.copy (Syntax.place 7 List.[])) ∷ (Syntax.copy
+    (Syntax.place 16 List.[])) ∷ (Syntax.copy (Syntax.place 8 ((Syntax.field 2) ∷ List.[]))) ∷ List.[]) (Syntax.place 21 List.[])
 abbrev b11 : Syntax.Body
-b11 = Syntax.assign (Syntax.place 23 List.[]) (Syntax.addrOf (Syntax.place 1 ((Syntax.field 0) ∷ (Syntax.deref RelayPending.ty) ∷ List.[])))
+b11 = Syntax.assign (Syntax.place 24 List.[]) (Syntax.addrOf (Syntax.place 1 ((Syntax.field 0) ∷ (Syntax.deref RelayPending.ty) ∷ List.[])))
 abbrev b12 : Syntax.Body
-b12 = Syntax.assign (Syntax.place 24 List.[]) (Syntax.aggregate ((Syntax.copy (Syntax.place 23 List.[])) ∷ (Syntax.copy (Syntax.place 1 ((Syntax.field
+b12 = Syntax.assign (Syntax.place 25 List.[]) (Syntax.aggregate ((Syntax.copy (Syntax.place 24 List.[])) ∷ (Syntax.copy (Syntax.place 1 ((Syntax.field
     1) ∷ List.[]))) ∷ List.[]))
 abbrev b13 : Syntax.Body
-b13 = Syntax.assign (Syntax.place 25 List.[]) (Syntax.addrOf (Syntax.place 2 ((Syntax.field 0) ∷ (Syntax.deref RelayCircuit.ty) ∷ List.[])))
+b13 = Syntax.assign (Syntax.place 26 List.[]) (Syntax.addrOf (Syntax.place 2 ((Syntax.field 0) ∷ (Syntax.deref RelayCircuit.ty) ∷ List.[])))
 abbrev b14 : Syntax.Body
-b14 = Syntax.assign (Syntax.place 26 List.[]) (Syntax.aggregate ((Syntax.copy (Syntax.place 25 List.[])) ∷ (Syntax.copy (Syntax.place 2 ((Syntax.field
+b14 = Syntax.assign (Syntax.place 27 List.[]) (Syntax.aggregate ((Syntax.copy (Syntax.place 26 List.[])) ∷ (Syntax.copy (Syntax.place 2 ((Syntax.field
     1) ∷ List.[]))) ∷ List.[]))
 abbrev b15 : Syntax.Body
-b15 = Syntax.assign (Syntax.place 27 List.[]) (Syntax.addrOf (Syntax.place 3 ((Syntax.field 0) ∷ (Syntax.deref ReservationUsage.ty) ∷ List.[])))
+b15 = Syntax.assign (Syntax.place 28 List.[]) (Syntax.addrOf (Syntax.place 3 ((Syntax.field 0) ∷ (Syntax.deref ReservationUsage.ty) ∷ List.[])))
 abbrev b16 : Syntax.Body
-b16 = Syntax.assign (Syntax.place 28 List.[]) (Syntax.aggregate ((Syntax.copy (Syntax.place 27 List.[])) ∷ (Syntax.copy (Syntax.place 3 ((Syntax.field
+b16 = Syntax.assign (Syntax.place 29 List.[]) (Syntax.aggregate ((Syntax.copy (Syntax.place 28 List.[])) ∷ (Syntax.copy (Syntax.place 3 ((Syntax.field
     1) ∷ List.[]))) ∷ List.[]))
 abbrev b17 : Syntax.Body
-b17 = Syntax.assign (Syntax.place 29 List.[]) (Syntax.addrOf (Syntax.place 4 ((Syntax.field 0) ∷ (Syntax.deref InflightAction.ty) ∷ List.[])))
+b17 = Syntax.assign (Syntax.place 30 List.[]) (Syntax.addrOf (Syntax.place 4 ((Syntax.field 0) ∷ (Syntax.deref InflightAction.ty) ∷ List.[])))
 abbrev b18 : Syntax.Body
-b18 = Syntax.assign (Syntax.place 30 List.[]) (Syntax.aggregate ((Syntax.copy (Syntax.place 29 List.[])) ∷ (Syntax.copy (Syntax.place 4 ((Syntax.field
+b18 = Syntax.assign (Syntax.place 31 List.[]) (Syntax.aggregate ((Syntax.copy (Syntax.place 30 List.[])) ∷ (Syntax.copy (Syntax.place 4 ((Syntax.field
     1) ∷ List.[]))) ∷ List.[]))
 abbrev b19 : Syntax.Body
-b19 = Syntax.assign (Syntax.place 31 List.[]) (Syntax.addrOf (Syntax.place 5 ((Syntax.field 0) ∷ (Syntax.deref (Syntax.tyInt Syntax.w32)) ∷ List.[])))
+b19 = Syntax.assign (Syntax.place 32 List.[]) (Syntax.addrOf (Syntax.place 5 ((Syntax.field 0) ∷ (Syntax.deref (Syntax.tyInt Syntax.w32)) ∷ List.[])))
 abbrev b20 : Syntax.Body
-b20 = Syntax.assign (Syntax.place 32 List.[]) (Syntax.aggregate ((Syntax.copy (Syntax.place 31 List.[])) ∷ (Syntax.copy (Syntax.place 5 ((Syntax.field
+b20 = Syntax.assign (Syntax.place 33 List.[]) (Syntax.aggregate ((Syntax.copy (Syntax.place 32 List.[])) ∷ (Syntax.copy (Syntax.place 5 ((Syntax.field
     1) ∷ List.[]))) ∷ List.[]))
 abbrev b21 : Syntax.Body
-b21 = Syntax.call "hnsr_circuit::handle_open::open_lapsed" ((Syntax.copy (Syntax.place 24 List.[])) ∷ (Syntax.copy (Syntax.place 26 List.[])) ∷
-    (Syntax.copy (Syntax.place 28 List.[])) ∷ (Syntax.copy (Syntax.place 30 List.[])) ∷ (Syntax.copy (Syntax.place 32 List.[])) ∷ (Syntax.copy
-    (Syntax.place 14 List.[])) ∷ (Syntax.copy (Syntax.place 6 List.[])) ∷ (Syntax.copy (Syntax.place 12 List.[])) ∷ (Syntax.copy (Syntax.place 11
-    List.[])) ∷ List.[]) (Syntax.place 0 List.[])
+b21 = Syntax.call "hnsr_circuit::handle_open::open_lapsed" ((Syntax.copy (Syntax.place 25 List.[])) ∷ (Syntax.copy (Syntax.place 27 List.[])) ∷
+    (Syntax.copy (Syntax.place 29 List.[])) ∷ (Syntax.copy (Syntax.place 31 List.[])) ∷ (Syntax.copy (Syntax.place 33 List.[])) ∷ (Syntax.copy
+    (Syntax.place 15 List.[])) ∷ (Syntax.copy (Syntax.place 6 List.[])) ∷ (Syntax.copy (Syntax.place 7 List.[])) ∷ (Syntax.copy (Syntax.place 13
+    List.[])) ∷ (Syntax.copy (Syntax.place 12 List.[])) ∷ List.[]) (Syntax.place 0 List.[])
 abbrev b22 : Syntax.Body
 b22 = Syntax.return
 abbrev b23 : Syntax.Body
@@ -327,7 +352,7 @@ abbrev pub Claims : Type 1
 Claims = Kinds.In 5 ps·0 × Kinds.Out 5 ps·0 r·0 × Kinds.In 0 ps·1 × Kinds.Out 0 ps·1 r·1 × Kinds.In 0 ps·2 × Kinds.Out 0 ps·2 r·2 × Kinds.In 1 ps·3 ×
     Kinds.Out 1 ps·3 r·3 × Kinds.In 6 ps·4 × Kinds.Out 6 ps·4 r·4
 abbrev e0 : Row.Entry
-e0 = (0, Rows.any-gone Laws'''''.mir)
+e0 = (0, Rows.any-gone Laws''''''.mir)
 abbrev e1 : Row.Entry
 e1 = (1, Mut.mslice RelayPending.row ref6 0)
 abbrev e2 : Row.Entry
@@ -341,239 +366,245 @@ e5 = (5, Mut.mslice (Referent.rtF (Referent.fInt Syntax.w32)) ref10 4)
 abbrev e6 : Row.Entry
 e6 = (6, Rows.whole (Declared'.row OpaqueRelayRuntime.the-type))
 abbrev e7 : Row.Entry
-e7 = (7, Rows.whole (Declared'.row RelayPacket.the-type))
+e7 = (7, Rows.whole (Declared'.row Places.the-type))
 abbrev e8 : Row.Entry
-e8 = (8, Rows.sslice (Referent.rtF (Referent.fInt Syntax.w8)) ref11 5)
+e8 = (8, Rows.whole (Declared'.row RelayPacket.the-type))
 abbrev e9 : Row.Entry
-e9 = (9, Rows.sslice (Referent.rtF (Referent.fInt Syntax.w8)) ref12 6)
+e9 = (9, Rows.sslice (Referent.rtF (Referent.fInt Syntax.w8)) ref11 5)
 abbrev e10 : Row.Entry
-e10 = (10, Rows.sslice (Referent.rtF (Referent.fInt Syntax.w8)) ref13 7)
+e10 = (10, Rows.sslice (Referent.rtF (Referent.fInt Syntax.w8)) ref12 6)
 abbrev e11 : Row.Entry
-e11 = (11, Rows.sslice (Referent.rtF (Referent.fInt Syntax.w8)) ref14 8)
+e11 = (11, Rows.sslice (Referent.rtF (Referent.fInt Syntax.w8)) ref13 7)
 abbrev e12 : Row.Entry
-e12 = (12, Rows.any-gone Laws''.mir)
+e12 = (12, Rows.sslice (Referent.rtF (Referent.fInt Syntax.w8)) ref14 8)
 abbrev e13 : Row.Entry
-e13 = (13, Rows.any-gone Laws'.mir)
+e13 = (13, Rows.any-gone Laws''.mir)
 abbrev e14 : Row.Entry
-e14 = (14, Rows.any-gone Laws.mir)
+e14 = (14, Rows.any-gone Laws'.mir)
 abbrev e15 : Row.Entry
-e15 = (15, Rows.any-gone Syntax.tyBool)
+e15 = (15, Rows.any-gone Laws.mir)
 abbrev e16 : Row.Entry
-e16 = (16, Rows.any-gone ref0)
+e16 = (16, Rows.any-gone Syntax.tyBool)
 abbrev e17 : Row.Entry
-e17 = (17, Rows.any-gone (Syntax.tyStruct (38 ∷ 91 ∷ 93 ∷ List.[]) (Syntax.tcons ref0 (Syntax.tcons (Syntax.tyInt Syntax.w64) Syntax.tnil))))
+e17 = (17, Rows.any-gone ref0)
 abbrev e18 : Row.Entry
-e18 = (18, Rows.any-gone ref1)
+e18 = (18, Rows.any-gone (Syntax.tyStruct (38 ∷ 91 ∷ 93 ∷ List.[]) (Syntax.tcons ref0 (Syntax.tcons (Syntax.tyInt Syntax.w64) Syntax.tnil))))
 abbrev e19 : Row.Entry
-e19 = (19, Rows.any-gone (Syntax.tyStruct (38 ∷ 91 ∷ 93 ∷ List.[]) (Syntax.tcons ref1 (Syntax.tcons (Syntax.tyInt Syntax.w64) Syntax.tnil))))
+e19 = (19, Rows.any-gone ref1)
 abbrev e20 : Row.Entry
-e20 = (20, Rows.any-gone Syntax.tyUnit)
+e20 = (20, Rows.any-gone (Syntax.tyStruct (38 ∷ 91 ∷ 93 ∷ List.[]) (Syntax.tcons ref1 (Syntax.tcons (Syntax.tyInt Syntax.w64) Syntax.tnil))))
 abbrev e21 : Row.Entry
-e21 = (21, Rows.any-gone ref2)
+e21 = (21, Rows.any-gone Syntax.tyUnit)
 abbrev e22 : Row.Entry
-e22 = (22, Rows.any-gone (Syntax.tyStruct (38 ∷ 91 ∷ 93 ∷ List.[]) (Syntax.tcons ref2 (Syntax.tcons (Syntax.tyInt Syntax.w64) Syntax.tnil))))
+e22 = (22, Rows.any-gone ref2)
 abbrev e23 : Row.Entry
-e23 = (23, Rows.any-gone ref3)
+e23 = (23, Rows.any-gone (Syntax.tyStruct (38 ∷ 91 ∷ 93 ∷ List.[]) (Syntax.tcons ref2 (Syntax.tcons (Syntax.tyInt Syntax.w64) Syntax.tnil))))
 abbrev e24 : Row.Entry
-e24 = (24, Rows.any-gone (Syntax.tyStruct (38 ∷ 91 ∷ 93 ∷ List.[]) (Syntax.tcons ref3 (Syntax.tcons (Syntax.tyInt Syntax.w64) Syntax.tnil))))
+e24 = (24, Rows.any-gone ref3)
 abbrev e25 : Row.Entry
-e25 = (25, Rows.any-gone ref1)
+e25 = (25, Rows.any-gone (Syntax.tyStruct (38 ∷ 91 ∷ 93 ∷ List.[]) (Syntax.tcons ref3 (Syntax.tcons (Syntax.tyInt Syntax.w64) Syntax.tnil))))
 abbrev e26 : Row.Entry
-e26 = (26, Rows.any-gone (Syntax.tyStruct (38 ∷ 91 ∷ 93 ∷ List.[]) (Syntax.tcons ref1 (Syntax.tcons (Syntax.tyInt Syntax.w64) Syntax.tnil))))
+e26 = (26, Rows.any-gone ref1)
 abbrev e27 : Row.Entry
-e27 = (27, Rows.any-gone ref2)
+e27 = (27, Rows.any-gone (Syntax.tyStruct (38 ∷ 91 ∷ 93 ∷ List.[]) (Syntax.tcons ref1 (Syntax.tcons (Syntax.tyInt Syntax.w64) Syntax.tnil))))
 abbrev e28 : Row.Entry
-e28 = (28, Rows.any-gone (Syntax.tyStruct (38 ∷ 91 ∷ 93 ∷ List.[]) (Syntax.tcons ref2 (Syntax.tcons (Syntax.tyInt Syntax.w64) Syntax.tnil))))
+e28 = (28, Rows.any-gone ref2)
 abbrev e29 : Row.Entry
-e29 = (29, Rows.any-gone ref4)
+e29 = (29, Rows.any-gone (Syntax.tyStruct (38 ∷ 91 ∷ 93 ∷ List.[]) (Syntax.tcons ref2 (Syntax.tcons (Syntax.tyInt Syntax.w64) Syntax.tnil))))
 abbrev e30 : Row.Entry
-e30 = (30, Rows.any-gone (Syntax.tyStruct (38 ∷ 91 ∷ 93 ∷ List.[]) (Syntax.tcons ref4 (Syntax.tcons (Syntax.tyInt Syntax.w64) Syntax.tnil))))
+e30 = (30, Rows.any-gone ref4)
 abbrev e31 : Row.Entry
-e31 = (31, Rows.any-gone ref5)
+e31 = (31, Rows.any-gone (Syntax.tyStruct (38 ∷ 91 ∷ 93 ∷ List.[]) (Syntax.tcons ref4 (Syntax.tcons (Syntax.tyInt Syntax.w64) Syntax.tnil))))
 abbrev e32 : Row.Entry
-e32 = (32, Rows.any-gone (Syntax.tyStruct (38 ∷ 91 ∷ 93 ∷ List.[]) (Syntax.tcons ref5 (Syntax.tcons (Syntax.tyInt Syntax.w64) Syntax.tnil))))
+e32 = (32, Rows.any-gone ref5)
+abbrev e33 : Row.Entry
+e33 = (33, Rows.any-gone (Syntax.tyStruct (38 ∷ 91 ∷ 93 ∷ List.[]) (Syntax.tcons ref5 (Syntax.tcons (Syntax.tyInt Syntax.w64) Syntax.tnil))))
 abbrev e0·1 : Row.Entry
 e0·1 = (0, Rows.whole (Declared'.row Relayed.the-type))
 abbrev e6·1 : Row.Entry
-e6·1 = (6, Rows.any-gone Laws''''.mir)
+e6·1 = (6, Rows.any-gone Laws'''''.mir)
 abbrev e7·1 : Row.Entry
 e7·1 = (7, Rows.any-gone Laws'''.mir)
+abbrev e8·1 : Row.Entry
+e8·1 = (8, Rows.any-gone Laws''''.mir)
 abbrev e1·1 : Row.Entry
 e1·1 = (1, Reshare.mslice-owedS RelayPending.row ref6 0 9 Row.off)
-abbrev e16·1 : Row.Entry
-e16·1 = (16, Relend.ssptr RelayPending.row ref0 9)
 abbrev e17·1 : Row.Entry
-e17·1 = (17, Rows.sslice RelayPending.row ref0 9)
+e17·1 = (17, Relend.ssptr RelayPending.row ref0 9)
+abbrev e18·1 : Row.Entry
+e18·1 = (18, Rows.sslice RelayPending.row ref0 9)
 abbrev e2·1 : Row.Entry
 e2·1 = (2, Reshare.mslice-owedS RelayCircuit.row ref7 1 10 Row.off)
-abbrev e18·1 : Row.Entry
-e18·1 = (18, Relend.ssptr RelayCircuit.row ref1 10)
 abbrev e19·1 : Row.Entry
-e19·1 = (19, Rows.sslice RelayCircuit.row ref1 10)
-abbrev e12·1 : Row.Entry
-e12·1 = (12, Rows.whole (Declared'.row OpenGathered.the-type))
+e19·1 = (19, Relend.ssptr RelayCircuit.row ref1 10)
+abbrev e20·1 : Row.Entry
+e20·1 = (20, Rows.sslice RelayCircuit.row ref1 10)
 abbrev e13·1 : Row.Entry
-e13·1 = (13, Rows.whole (Declared'.row OpaqueRelayConfig.the-type))
+e13·1 = (13, Rows.whole (Declared'.row OpenGathered.the-type))
 abbrev e14·1 : Row.Entry
-e14·1 = (14, Rows.whole (Declared.row HnsrAnswer.the-type))
+e14·1 = (14, Rows.whole (Declared'.row OpaqueRelayConfig.the-type))
 abbrev e15·1 : Row.Entry
-e15·1 = (15, Rows.sc-here Row.sBool)
+e15·1 = (15, Rows.whole (Declared.row HnsrAnswer.the-type))
+abbrev e16·1 : Row.Entry
+e16·1 = (16, Rows.sc-here Row.sBool)
 abbrev e3·1 : Row.Entry
 e3·1 = (3, Relend.mslice-owed ReservationUsage.row ref8 2 11 Row.off)
-abbrev e21·1 : Row.Entry
-e21·1 = (21, Relend.msptr ReservationUsage.row ref2 11)
 abbrev e22·1 : Row.Entry
-e22·1 = (22, Mut.mslice ReservationUsage.row ref2 11)
-abbrev e20·1 : Row.Entry
-e20·1 = (20, Rows.sc-here Row.sUnit)
-abbrev e22·2 : Row.Entry
-e22·2 = (22, Mut.msleft ReservationUsage.row ref2)
+e22·1 = (22, Relend.msptr ReservationUsage.row ref2 11)
+abbrev e23·1 : Row.Entry
+e23·1 = (23, Mut.mslice ReservationUsage.row ref2 11)
+abbrev e21·1 : Row.Entry
+e21·1 = (21, Rows.sc-here Row.sUnit)
+abbrev e23·2 : Row.Entry
+e23·2 = (23, Mut.msleft ReservationUsage.row ref2)
 abbrev e1·2 : Row.Entry
 e1·2 = (1, Relend.mslice-owed RelayPending.row ref6 0 12 Row.off)
-abbrev e23·1 : Row.Entry
-e23·1 = (23, Relend.msptr RelayPending.row ref3 12)
 abbrev e24·1 : Row.Entry
-e24·1 = (24, Mut.mslice RelayPending.row ref3 12)
+e24·1 = (24, Relend.msptr RelayPending.row ref3 12)
+abbrev e25·1 : Row.Entry
+e25·1 = (25, Mut.mslice RelayPending.row ref3 12)
 abbrev e2·2 : Row.Entry
 e2·2 = (2, Reshare.mslice-owedS RelayCircuit.row ref7 1 13 Row.off)
-abbrev e25·1 : Row.Entry
-e25·1 = (25, Relend.ssptr RelayCircuit.row ref1 13)
 abbrev e26·1 : Row.Entry
-e26·1 = (26, Rows.sslice RelayCircuit.row ref1 13)
+e26·1 = (26, Relend.ssptr RelayCircuit.row ref1 13)
+abbrev e27·1 : Row.Entry
+e27·1 = (27, Rows.sslice RelayCircuit.row ref1 13)
 abbrev e3·2 : Row.Entry
 e3·2 = (3, Relend.mslice-owed ReservationUsage.row ref8 2 14 Row.off)
-abbrev e27·1 : Row.Entry
-e27·1 = (27, Relend.msptr ReservationUsage.row ref2 14)
 abbrev e28·1 : Row.Entry
-e28·1 = (28, Mut.mslice ReservationUsage.row ref2 14)
+e28·1 = (28, Relend.msptr ReservationUsage.row ref2 14)
+abbrev e29·1 : Row.Entry
+e29·1 = (29, Mut.mslice ReservationUsage.row ref2 14)
 abbrev e4·1 : Row.Entry
 e4·1 = (4, Relend.mslice-owed InflightAction.row ref9 3 15 Row.off)
-abbrev e29·1 : Row.Entry
-e29·1 = (29, Relend.msptr InflightAction.row ref4 15)
 abbrev e30·1 : Row.Entry
-e30·1 = (30, Mut.mslice InflightAction.row ref4 15)
+e30·1 = (30, Relend.msptr InflightAction.row ref4 15)
+abbrev e31·1 : Row.Entry
+e31·1 = (31, Mut.mslice InflightAction.row ref4 15)
 abbrev e5·1 : Row.Entry
 e5·1 = (5, Relend.mslice-owed (Referent.rtF (Referent.fInt Syntax.w32)) ref10 4 16 Row.off)
-abbrev e31·1 : Row.Entry
-e31·1 = (31, Relend.msptr (Referent.rtF (Referent.fInt Syntax.w32)) ref5 16)
 abbrev e32·1 : Row.Entry
-e32·1 = (32, Mut.mslice (Referent.rtF (Referent.fInt Syntax.w32)) ref5 16)
-abbrev e24·2 : Row.Entry
-e24·2 = (24, Mut.msleft RelayPending.row ref3)
-abbrev e28·2 : Row.Entry
-e28·2 = (28, Mut.msleft ReservationUsage.row ref2)
-abbrev e30·2 : Row.Entry
-e30·2 = (30, Mut.msleft InflightAction.row ref4)
-abbrev e32·2 : Row.Entry
-e32·2 = (32, Mut.msleft (Referent.rtF (Referent.fInt Syntax.w32)) ref5)
+e32·1 = (32, Relend.msptr (Referent.rtF (Referent.fInt Syntax.w32)) ref5 16)
+abbrev e33·1 : Row.Entry
+e33·1 = (33, Mut.mslice (Referent.rtF (Referent.fInt Syntax.w32)) ref5 16)
+abbrev e25·2 : Row.Entry
+e25·2 = (25, Mut.msleft RelayPending.row ref3)
+abbrev e29·2 : Row.Entry
+e29·2 = (29, Mut.msleft ReservationUsage.row ref2)
+abbrev e31·2 : Row.Entry
+e31·2 = (31, Mut.msleft InflightAction.row ref4)
+abbrev e33·2 : Row.Entry
+e33·2 = (33, Mut.msleft (Referent.rtF (Referent.fInt Syntax.w32)) ref5)
 abbrev pub t0 : List.List Row.Entry
 t0 = e0 ∷ e1 ∷ e2 ∷ e3 ∷ e4 ∷ e5 ∷ e6 ∷ e7 ∷ e8 ∷ e9 ∷ e10 ∷ e11 ∷ e12 ∷ e13 ∷ e14 ∷ e15 ∷ List.[]
 abbrev pub t1 : List.List Row.Entry
 t1 = e16 ∷ e17 ∷ e18 ∷ e19 ∷ e20 ∷ e21 ∷ e22 ∷ e23 ∷ e24 ∷ e25 ∷ e26 ∷ e27 ∷ e28 ∷ e29 ∷ e30 ∷ e31 ∷ List.[]
 abbrev pub t2 : List.List Row.Entry
-t2 = e32 ∷ List.[]
+t2 = e32 ∷ e33 ∷ List.[]
 abbrev pub t3 : List.List Row.Entry
-t3 = e0·1 ∷ e1 ∷ e2 ∷ e3 ∷ e4 ∷ e5 ∷ e6·1 ∷ e7·1 ∷ e8 ∷ e9 ∷ e10 ∷ e11 ∷ e12 ∷ e13 ∷ e14 ∷ e15 ∷ List.[]
+t3 = e0·1 ∷ e1 ∷ e2 ∷ e3 ∷ e4 ∷ e5 ∷ e6·1 ∷ e7·1 ∷ e8·1 ∷ e9 ∷ e10 ∷ e11 ∷ e12 ∷ e13 ∷ e14 ∷ e15 ∷ List.[]
 abbrev pub t4 : List.List Row.Entry
 t4 = e0 ∷ e1·1 ∷ e2 ∷ e3 ∷ e4 ∷ e5 ∷ e6 ∷ e7 ∷ e8 ∷ e9 ∷ e10 ∷ e11 ∷ e12 ∷ e13 ∷ e14 ∷ e15 ∷ List.[]
 abbrev pub t5 : List.List Row.Entry
-t5 = e16·1 ∷ e17 ∷ e18 ∷ e19 ∷ e20 ∷ e21 ∷ e22 ∷ e23 ∷ e24 ∷ e25 ∷ e26 ∷ e27 ∷ e28 ∷ e29 ∷ e30 ∷ e31 ∷ List.[]
+t5 = e16 ∷ e17·1 ∷ e18 ∷ e19 ∷ e20 ∷ e21 ∷ e22 ∷ e23 ∷ e24 ∷ e25 ∷ e26 ∷ e27 ∷ e28 ∷ e29 ∷ e30 ∷ e31 ∷ List.[]
 abbrev pub t6 : List.List Row.Entry
-t6 = e16 ∷ e17·1 ∷ e18 ∷ e19 ∷ e20 ∷ e21 ∷ e22 ∷ e23 ∷ e24 ∷ e25 ∷ e26 ∷ e27 ∷ e28 ∷ e29 ∷ e30 ∷ e31 ∷ List.[]
+t6 = e16 ∷ e17 ∷ e18·1 ∷ e19 ∷ e20 ∷ e21 ∷ e22 ∷ e23 ∷ e24 ∷ e25 ∷ e26 ∷ e27 ∷ e28 ∷ e29 ∷ e30 ∷ e31 ∷ List.[]
 abbrev pub t7 : List.List Row.Entry
 t7 = e0 ∷ e1·1 ∷ e2·1 ∷ e3 ∷ e4 ∷ e5 ∷ e6 ∷ e7 ∷ e8 ∷ e9 ∷ e10 ∷ e11 ∷ e12 ∷ e13 ∷ e14 ∷ e15 ∷ List.[]
 abbrev pub t8 : List.List Row.Entry
-t8 = e16 ∷ e17·1 ∷ e18·1 ∷ e19 ∷ e20 ∷ e21 ∷ e22 ∷ e23 ∷ e24 ∷ e25 ∷ e26 ∷ e27 ∷ e28 ∷ e29 ∷ e30 ∷ e31 ∷ List.[]
+t8 = e16 ∷ e17 ∷ e18·1 ∷ e19·1 ∷ e20 ∷ e21 ∷ e22 ∷ e23 ∷ e24 ∷ e25 ∷ e26 ∷ e27 ∷ e28 ∷ e29 ∷ e30 ∷ e31 ∷ List.[]
 abbrev pub t9 : List.List Row.Entry
-t9 = e16 ∷ e17·1 ∷ e18 ∷ e19·1 ∷ e20 ∷ e21 ∷ e22 ∷ e23 ∷ e24 ∷ e25 ∷ e26 ∷ e27 ∷ e28 ∷ e29 ∷ e30 ∷ e31 ∷ List.[]
+t9 = e16 ∷ e17 ∷ e18·1 ∷ e19 ∷ e20·1 ∷ e21 ∷ e22 ∷ e23 ∷ e24 ∷ e25 ∷ e26 ∷ e27 ∷ e28 ∷ e29 ∷ e30 ∷ e31 ∷ List.[]
 abbrev pub t10 : List.List Row.Entry
-t10 = e0 ∷ e1·1 ∷ e2·1 ∷ e3 ∷ e4 ∷ e5 ∷ e6 ∷ e7 ∷ e8 ∷ e9 ∷ e10 ∷ e11 ∷ e12·1 ∷ e13 ∷ e14 ∷ e15 ∷ List.[]
+t10 = e0 ∷ e1·1 ∷ e2·1 ∷ e3 ∷ e4 ∷ e5 ∷ e6 ∷ e7 ∷ e8 ∷ e9 ∷ e10 ∷ e11 ∷ e12 ∷ e13·1 ∷ e14 ∷ e15 ∷ List.[]
 abbrev pub t11 : List.List Row.Entry
-t11 = e16 ∷ e17 ∷ e18 ∷ e19·1 ∷ e20 ∷ e21 ∷ e22 ∷ e23 ∷ e24 ∷ e25 ∷ e26 ∷ e27 ∷ e28 ∷ e29 ∷ e30 ∷ e31 ∷ List.[]
+t11 = e16 ∷ e17 ∷ e18 ∷ e19 ∷ e20·1 ∷ e21 ∷ e22 ∷ e23 ∷ e24 ∷ e25 ∷ e26 ∷ e27 ∷ e28 ∷ e29 ∷ e30 ∷ e31 ∷ List.[]
 abbrev pub t12 : List.List Row.Entry
-t12 = e0 ∷ e1 ∷ e2·1 ∷ e3 ∷ e4 ∷ e5 ∷ e6 ∷ e7 ∷ e8 ∷ e9 ∷ e10 ∷ e11 ∷ e12·1 ∷ e13 ∷ e14 ∷ e15 ∷ List.[]
+t12 = e0 ∷ e1 ∷ e2·1 ∷ e3 ∷ e4 ∷ e5 ∷ e6 ∷ e7 ∷ e8 ∷ e9 ∷ e10 ∷ e11 ∷ e12 ∷ e13·1 ∷ e14 ∷ e15 ∷ List.[]
 abbrev pub t13 : List.List Row.Entry
-t13 = e0 ∷ e1 ∷ e2 ∷ e3 ∷ e4 ∷ e5 ∷ e6 ∷ e7 ∷ e8 ∷ e9 ∷ e10 ∷ e11 ∷ e12·1 ∷ e13 ∷ e14 ∷ e15 ∷ List.[]
+t13 = e0 ∷ e1 ∷ e2 ∷ e3 ∷ e4 ∷ e5 ∷ e6 ∷ e7 ∷ e8 ∷ e9 ∷ e10 ∷ e11 ∷ e12 ∷ e13·1 ∷ e14 ∷ e15 ∷ List.[]
 abbrev pub t14 : List.List Row.Entry
-t14 = e0 ∷ e1 ∷ e2 ∷ e3 ∷ e4 ∷ e5 ∷ e6 ∷ e7 ∷ e8 ∷ e9 ∷ e10 ∷ e11 ∷ e12·1 ∷ e13·1 ∷ e14 ∷ e15 ∷ List.[]
+t14 = e0 ∷ e1 ∷ e2 ∷ e3 ∷ e4 ∷ e5 ∷ e6 ∷ e7 ∷ e8 ∷ e9 ∷ e10 ∷ e11 ∷ e12 ∷ e13·1 ∷ e14·1 ∷ e15 ∷ List.[]
 abbrev pub t15 : List.List Row.Entry
-t15 = e0 ∷ e1 ∷ e2 ∷ e3 ∷ e4 ∷ e5 ∷ e6 ∷ e7 ∷ e8 ∷ e9 ∷ e10 ∷ e11 ∷ e12·1 ∷ e13·1 ∷ e14·1 ∷ e15 ∷ List.[]
+t15 = e0 ∷ e1 ∷ e2 ∷ e3 ∷ e4 ∷ e5 ∷ e6 ∷ e7 ∷ e8 ∷ e9 ∷ e10 ∷ e11 ∷ e12 ∷ e13·1 ∷ e14·1 ∷ e15·1 ∷ List.[]
 abbrev pub t16 : List.List Row.Entry
-t16 = e0 ∷ e1 ∷ e2 ∷ e3 ∷ e4 ∷ e5 ∷ e6 ∷ e7 ∷ e8 ∷ e9 ∷ e10 ∷ e11 ∷ e12·1 ∷ e13 ∷ e14·1 ∷ e15 ∷ List.[]
+t16 = e0 ∷ e1 ∷ e2 ∷ e3 ∷ e4 ∷ e5 ∷ e6 ∷ e7 ∷ e8 ∷ e9 ∷ e10 ∷ e11 ∷ e12 ∷ e13·1 ∷ e14 ∷ e15·1 ∷ List.[]
 abbrev pub t17 : List.List Row.Entry
-t17 = e0 ∷ e1 ∷ e2 ∷ e3 ∷ e4 ∷ e5 ∷ e6 ∷ e7 ∷ e8 ∷ e9 ∷ e10 ∷ e11 ∷ e12·1 ∷ e13 ∷ e14·1 ∷ e15·1 ∷ List.[]
+t17 = e16·1 ∷ e17 ∷ e18 ∷ e19 ∷ e20 ∷ e21 ∷ e22 ∷ e23 ∷ e24 ∷ e25 ∷ e26 ∷ e27 ∷ e28 ∷ e29 ∷ e30 ∷ e31 ∷ List.[]
 abbrev pub t18 : List.List Row.Entry
-t18 = e0 ∷ e1 ∷ e2 ∷ e3·1 ∷ e4 ∷ e5 ∷ e6 ∷ e7 ∷ e8 ∷ e9 ∷ e10 ∷ e11 ∷ e12·1 ∷ e13 ∷ e14·1 ∷ e15·1 ∷ List.[]
+t18 = e0 ∷ e1 ∷ e2 ∷ e3·1 ∷ e4 ∷ e5 ∷ e6 ∷ e7 ∷ e8 ∷ e9 ∷ e10 ∷ e11 ∷ e12 ∷ e13·1 ∷ e14 ∷ e15·1 ∷ List.[]
 abbrev pub t19 : List.List Row.Entry
-t19 = e16 ∷ e17 ∷ e18 ∷ e19 ∷ e20 ∷ e21·1 ∷ e22 ∷ e23 ∷ e24 ∷ e25 ∷ e26 ∷ e27 ∷ e28 ∷ e29 ∷ e30 ∷ e31 ∷ List.[]
+t19 = e16·1 ∷ e17 ∷ e18 ∷ e19 ∷ e20 ∷ e21 ∷ e22·1 ∷ e23 ∷ e24 ∷ e25 ∷ e26 ∷ e27 ∷ e28 ∷ e29 ∷ e30 ∷ e31 ∷ List.[]
 abbrev pub t20 : List.List Row.Entry
-t20 = e16 ∷ e17 ∷ e18 ∷ e19 ∷ e20 ∷ e21 ∷ e22·1 ∷ e23 ∷ e24 ∷ e25 ∷ e26 ∷ e27 ∷ e28 ∷ e29 ∷ e30 ∷ e31 ∷ List.[]
+t20 = e16·1 ∷ e17 ∷ e18 ∷ e19 ∷ e20 ∷ e21 ∷ e22 ∷ e23·1 ∷ e24 ∷ e25 ∷ e26 ∷ e27 ∷ e28 ∷ e29 ∷ e30 ∷ e31 ∷ List.[]
 abbrev pub t21 : List.List Row.Entry
-t21 = e16 ∷ e17 ∷ e18 ∷ e19 ∷ e20·1 ∷ e21 ∷ e22·2 ∷ e23 ∷ e24 ∷ e25 ∷ e26 ∷ e27 ∷ e28 ∷ e29 ∷ e30 ∷ e31 ∷ List.[]
+t21 = e16·1 ∷ e17 ∷ e18 ∷ e19 ∷ e20 ∷ e21·1 ∷ e22 ∷ e23·2 ∷ e24 ∷ e25 ∷ e26 ∷ e27 ∷ e28 ∷ e29 ∷ e30 ∷ e31 ∷ List.[]
 abbrev pub t22 : List.List Row.Entry
-t22 = e0 ∷ e1 ∷ e2 ∷ e3·1 ∷ e4 ∷ e5 ∷ e6 ∷ e7·1 ∷ e8 ∷ e9 ∷ e10 ∷ e11 ∷ e12·1 ∷ e13 ∷ e14·1 ∷ e15·1 ∷ List.[]
+t22 = e0 ∷ e1 ∷ e2 ∷ e3·1 ∷ e4 ∷ e5 ∷ e6 ∷ e7 ∷ e8·1 ∷ e9 ∷ e10 ∷ e11 ∷ e12 ∷ e13·1 ∷ e14 ∷ e15·1 ∷ List.[]
 abbrev pub t23 : List.List Row.Entry
-t23 = e16 ∷ e17 ∷ e18 ∷ e19 ∷ e20 ∷ e21 ∷ e22·2 ∷ e23 ∷ e24 ∷ e25 ∷ e26 ∷ e27 ∷ e28 ∷ e29 ∷ e30 ∷ e31 ∷ List.[]
+t23 = e16·1 ∷ e17 ∷ e18 ∷ e19 ∷ e20 ∷ e21 ∷ e22 ∷ e23·2 ∷ e24 ∷ e25 ∷ e26 ∷ e27 ∷ e28 ∷ e29 ∷ e30 ∷ e31 ∷ List.[]
 abbrev pub t24 : List.List Row.Entry
-t24 = e0 ∷ e1 ∷ e2 ∷ e3 ∷ e4 ∷ e5 ∷ e6 ∷ e7·1 ∷ e8 ∷ e9 ∷ e10 ∷ e11 ∷ e12·1 ∷ e13 ∷ e14·1 ∷ e15·1 ∷ List.[]
+t24 = e0 ∷ e1 ∷ e2 ∷ e3 ∷ e4 ∷ e5 ∷ e6 ∷ e7 ∷ e8·1 ∷ e9 ∷ e10 ∷ e11 ∷ e12 ∷ e13·1 ∷ e14 ∷ e15·1 ∷ List.[]
 abbrev pub t25 : List.List Row.Entry
-t25 = e0 ∷ e1·2 ∷ e2 ∷ e3 ∷ e4 ∷ e5 ∷ e6 ∷ e7·1 ∷ e8 ∷ e9 ∷ e10 ∷ e11 ∷ e12·1 ∷ e13 ∷ e14·1 ∷ e15·1 ∷ List.[]
+t25 = e0 ∷ e1·2 ∷ e2 ∷ e3 ∷ e4 ∷ e5 ∷ e6 ∷ e7 ∷ e8·1 ∷ e9 ∷ e10 ∷ e11 ∷ e12 ∷ e13·1 ∷ e14 ∷ e15·1 ∷ List.[]
 abbrev pub t26 : List.List Row.Entry
-t26 = e16 ∷ e17 ∷ e18 ∷ e19 ∷ e20 ∷ e21 ∷ e22 ∷ e23·1 ∷ e24 ∷ e25 ∷ e26 ∷ e27 ∷ e28 ∷ e29 ∷ e30 ∷ e31 ∷ List.[]
+t26 = e16·1 ∷ e17 ∷ e18 ∷ e19 ∷ e20 ∷ e21 ∷ e22 ∷ e23 ∷ e24·1 ∷ e25 ∷ e26 ∷ e27 ∷ e28 ∷ e29 ∷ e30 ∷ e31 ∷ List.[]
 abbrev pub t27 : List.List Row.Entry
-t27 = e16 ∷ e17 ∷ e18 ∷ e19 ∷ e20 ∷ e21 ∷ e22 ∷ e23 ∷ e24·1 ∷ e25 ∷ e26 ∷ e27 ∷ e28 ∷ e29 ∷ e30 ∷ e31 ∷ List.[]
+t27 = e16·1 ∷ e17 ∷ e18 ∷ e19 ∷ e20 ∷ e21 ∷ e22 ∷ e23 ∷ e24 ∷ e25·1 ∷ e26 ∷ e27 ∷ e28 ∷ e29 ∷ e30 ∷ e31 ∷ List.[]
 abbrev pub t28 : List.List Row.Entry
-t28 = e0 ∷ e1·2 ∷ e2·2 ∷ e3 ∷ e4 ∷ e5 ∷ e6 ∷ e7·1 ∷ e8 ∷ e9 ∷ e10 ∷ e11 ∷ e12·1 ∷ e13 ∷ e14·1 ∷ e15·1 ∷ List.[]
+t28 = e0 ∷ e1·2 ∷ e2·2 ∷ e3 ∷ e4 ∷ e5 ∷ e6 ∷ e7 ∷ e8·1 ∷ e9 ∷ e10 ∷ e11 ∷ e12 ∷ e13·1 ∷ e14 ∷ e15·1 ∷ List.[]
 abbrev pub t29 : List.List Row.Entry
-t29 = e16 ∷ e17 ∷ e18 ∷ e19 ∷ e20 ∷ e21 ∷ e22 ∷ e23 ∷ e24·1 ∷ e25·1 ∷ e26 ∷ e27 ∷ e28 ∷ e29 ∷ e30 ∷ e31 ∷ List.[]
+t29 = e16·1 ∷ e17 ∷ e18 ∷ e19 ∷ e20 ∷ e21 ∷ e22 ∷ e23 ∷ e24 ∷ e25·1 ∷ e26·1 ∷ e27 ∷ e28 ∷ e29 ∷ e30 ∷ e31 ∷ List.[]
 abbrev pub t30 : List.List Row.Entry
-t30 = e16 ∷ e17 ∷ e18 ∷ e19 ∷ e20 ∷ e21 ∷ e22 ∷ e23 ∷ e24·1 ∷ e25 ∷ e26·1 ∷ e27 ∷ e28 ∷ e29 ∷ e30 ∷ e31 ∷ List.[]
+t30 = e16·1 ∷ e17 ∷ e18 ∷ e19 ∷ e20 ∷ e21 ∷ e22 ∷ e23 ∷ e24 ∷ e25·1 ∷ e26 ∷ e27·1 ∷ e28 ∷ e29 ∷ e30 ∷ e31 ∷ List.[]
 abbrev pub t31 : List.List Row.Entry
-t31 = e0 ∷ e1·2 ∷ e2·2 ∷ e3·2 ∷ e4 ∷ e5 ∷ e6 ∷ e7·1 ∷ e8 ∷ e9 ∷ e10 ∷ e11 ∷ e12·1 ∷ e13 ∷ e14·1 ∷ e15·1 ∷ List.[]
+t31 = e0 ∷ e1·2 ∷ e2·2 ∷ e3·2 ∷ e4 ∷ e5 ∷ e6 ∷ e7 ∷ e8·1 ∷ e9 ∷ e10 ∷ e11 ∷ e12 ∷ e13·1 ∷ e14 ∷ e15·1 ∷ List.[]
 abbrev pub t32 : List.List Row.Entry
-t32 = e16 ∷ e17 ∷ e18 ∷ e19 ∷ e20 ∷ e21 ∷ e22 ∷ e23 ∷ e24·1 ∷ e25 ∷ e26·1 ∷ e27·1 ∷ e28 ∷ e29 ∷ e30 ∷ e31 ∷ List.[]
+t32 = e16·1 ∷ e17 ∷ e18 ∷ e19 ∷ e20 ∷ e21 ∷ e22 ∷ e23 ∷ e24 ∷ e25·1 ∷ e26 ∷ e27·1 ∷ e28·1 ∷ e29 ∷ e30 ∷ e31 ∷ List.[]
 abbrev pub t33 : List.List Row.Entry
-t33 = e16 ∷ e17 ∷ e18 ∷ e19 ∷ e20 ∷ e21 ∷ e22 ∷ e23 ∷ e24·1 ∷ e25 ∷ e26·1 ∷ e27 ∷ e28·1 ∷ e29 ∷ e30 ∷ e31 ∷ List.[]
+t33 = e16·1 ∷ e17 ∷ e18 ∷ e19 ∷ e20 ∷ e21 ∷ e22 ∷ e23 ∷ e24 ∷ e25·1 ∷ e26 ∷ e27·1 ∷ e28 ∷ e29·1 ∷ e30 ∷ e31 ∷ List.[]
 abbrev pub t34 : List.List Row.Entry
-t34 = e0 ∷ e1·2 ∷ e2·2 ∷ e3·2 ∷ e4·1 ∷ e5 ∷ e6 ∷ e7·1 ∷ e8 ∷ e9 ∷ e10 ∷ e11 ∷ e12·1 ∷ e13 ∷ e14·1 ∷ e15·1 ∷ List.[]
+t34 = e0 ∷ e1·2 ∷ e2·2 ∷ e3·2 ∷ e4·1 ∷ e5 ∷ e6 ∷ e7 ∷ e8·1 ∷ e9 ∷ e10 ∷ e11 ∷ e12 ∷ e13·1 ∷ e14 ∷ e15·1 ∷ List.[]
 abbrev pub t35 : List.List Row.Entry
-t35 = e16 ∷ e17 ∷ e18 ∷ e19 ∷ e20 ∷ e21 ∷ e22 ∷ e23 ∷ e24·1 ∷ e25 ∷ e26·1 ∷ e27 ∷ e28·1 ∷ e29·1 ∷ e30 ∷ e31 ∷ List.[]
+t35 = e16·1 ∷ e17 ∷ e18 ∷ e19 ∷ e20 ∷ e21 ∷ e22 ∷ e23 ∷ e24 ∷ e25·1 ∷ e26 ∷ e27·1 ∷ e28 ∷ e29·1 ∷ e30·1 ∷ e31 ∷ List.[]
 abbrev pub t36 : List.List Row.Entry
-t36 = e16 ∷ e17 ∷ e18 ∷ e19 ∷ e20 ∷ e21 ∷ e22 ∷ e23 ∷ e24·1 ∷ e25 ∷ e26·1 ∷ e27 ∷ e28·1 ∷ e29 ∷ e30·1 ∷ e31 ∷ List.[]
+t36 = e16·1 ∷ e17 ∷ e18 ∷ e19 ∷ e20 ∷ e21 ∷ e22 ∷ e23 ∷ e24 ∷ e25·1 ∷ e26 ∷ e27·1 ∷ e28 ∷ e29·1 ∷ e30 ∷ e31·1 ∷ List.[]
 abbrev pub t37 : List.List Row.Entry
-t37 = e0 ∷ e1·2 ∷ e2·2 ∷ e3·2 ∷ e4·1 ∷ e5·1 ∷ e6 ∷ e7·1 ∷ e8 ∷ e9 ∷ e10 ∷ e11 ∷ e12·1 ∷ e13 ∷ e14·1 ∷ e15·1 ∷ List.[]
+t37 = e0 ∷ e1·2 ∷ e2·2 ∷ e3·2 ∷ e4·1 ∷ e5·1 ∷ e6 ∷ e7 ∷ e8·1 ∷ e9 ∷ e10 ∷ e11 ∷ e12 ∷ e13·1 ∷ e14 ∷ e15·1 ∷ List.[]
 abbrev pub t38 : List.List Row.Entry
-t38 = e16 ∷ e17 ∷ e18 ∷ e19 ∷ e20 ∷ e21 ∷ e22 ∷ e23 ∷ e24·1 ∷ e25 ∷ e26·1 ∷ e27 ∷ e28·1 ∷ e29 ∷ e30·1 ∷ e31·1 ∷ List.[]
+t38 = e32·1 ∷ e33 ∷ List.[]
 abbrev pub t39 : List.List Row.Entry
-t39 = e32·1 ∷ List.[]
+t39 = e32 ∷ e33·1 ∷ List.[]
 abbrev pub t40 : List.List Row.Entry
-t40 = e0·1 ∷ e1·2 ∷ e2·2 ∷ e3·2 ∷ e4·1 ∷ e5·1 ∷ e6 ∷ e7·1 ∷ e8 ∷ e9 ∷ e10 ∷ e11 ∷ e12·1 ∷ e13 ∷ e14·1 ∷ e15·1 ∷ List.[]
+t40 = e0·1 ∷ e1·2 ∷ e2·2 ∷ e3·2 ∷ e4·1 ∷ e5·1 ∷ e6 ∷ e7 ∷ e8·1 ∷ e9 ∷ e10 ∷ e11 ∷ e12 ∷ e13·1 ∷ e14 ∷ e15·1 ∷ List.[]
 abbrev pub t41 : List.List Row.Entry
-t41 = e16 ∷ e17 ∷ e18 ∷ e19 ∷ e20 ∷ e21 ∷ e22 ∷ e23 ∷ e24·2 ∷ e25 ∷ e26·1 ∷ e27 ∷ e28·2 ∷ e29 ∷ e30·2 ∷ e31 ∷ List.[]
+t41 = e16·1 ∷ e17 ∷ e18 ∷ e19 ∷ e20 ∷ e21 ∷ e22 ∷ e23 ∷ e24 ∷ e25·2 ∷ e26 ∷ e27·1 ∷ e28 ∷ e29·2 ∷ e30 ∷ e31·2 ∷ List.[]
 abbrev pub t42 : List.List Row.Entry
-t42 = e32·2 ∷ List.[]
+t42 = e32 ∷ e33·2 ∷ List.[]
 abbrev pub t43 : List.List Row.Entry
-t43 = e16 ∷ e17 ∷ e18 ∷ e19 ∷ e20 ∷ e21 ∷ e22 ∷ e23 ∷ e24·2 ∷ e25 ∷ e26 ∷ e27 ∷ e28·2 ∷ e29 ∷ e30·2 ∷ e31 ∷ List.[]
+t43 = e16·1 ∷ e17 ∷ e18 ∷ e19 ∷ e20 ∷ e21 ∷ e22 ∷ e23 ∷ e24 ∷ e25·2 ∷ e26 ∷ e27 ∷ e28 ∷ e29·2 ∷ e30 ∷ e31·2 ∷ List.[]
 abbrev pub t44 : List.List Row.Entry
-t44 = e0·1 ∷ e1·2 ∷ e2·2 ∷ e3·2 ∷ e4·1 ∷ e5·1 ∷ e6·1 ∷ e7·1 ∷ e8 ∷ e9 ∷ e10 ∷ e11 ∷ e12·1 ∷ e13 ∷ e14·1 ∷ e15·1 ∷ List.[]
+t44 = e0·1 ∷ e1·2 ∷ e2·2 ∷ e3·2 ∷ e4·1 ∷ e5·1 ∷ e6·1 ∷ e7 ∷ e8·1 ∷ e9 ∷ e10 ∷ e11 ∷ e12 ∷ e13·1 ∷ e14 ∷ e15·1 ∷ List.[]
 abbrev pub t45 : List.List Row.Entry
-t45 = e0·1 ∷ e1·2 ∷ e2·2 ∷ e3·2 ∷ e4·1 ∷ e5·1 ∷ e6·1 ∷ e7·1 ∷ e8 ∷ e9 ∷ e10 ∷ e11 ∷ e12 ∷ e13 ∷ e14·1 ∷ e15·1 ∷ List.[]
+t45 = e0·1 ∷ e1·2 ∷ e2·2 ∷ e3·2 ∷ e4·1 ∷ e5·1 ∷ e6·1 ∷ e7·1 ∷ e8·1 ∷ e9 ∷ e10 ∷ e11 ∷ e12 ∷ e13·1 ∷ e14 ∷ e15·1 ∷ List.[]
 abbrev pub t46 : List.List Row.Entry
-t46 = e0·1 ∷ e1·2 ∷ e2·2 ∷ e3·2 ∷ e4·1 ∷ e5·1 ∷ e6·1 ∷ e7·1 ∷ e8 ∷ e9 ∷ e10 ∷ e11 ∷ e12 ∷ e13 ∷ e14 ∷ e15·1 ∷ List.[]
+t46 = e0·1 ∷ e1·2 ∷ e2·2 ∷ e3·2 ∷ e4·1 ∷ e5·1 ∷ e6·1 ∷ e7·1 ∷ e8·1 ∷ e9 ∷ e10 ∷ e11 ∷ e12 ∷ e13 ∷ e14 ∷ e15·1 ∷ List.[]
 abbrev pub t47 : List.List Row.Entry
-t47 = e0·1 ∷ e1·2 ∷ e2·2 ∷ e3·2 ∷ e4·1 ∷ e5·1 ∷ e6·1 ∷ e7·1 ∷ e8 ∷ e9 ∷ e10 ∷ e11 ∷ e12 ∷ e13 ∷ e14 ∷ e15 ∷ List.[]
+t47 = e0·1 ∷ e1·2 ∷ e2·2 ∷ e3·2 ∷ e4·1 ∷ e5·1 ∷ e6·1 ∷ e7·1 ∷ e8·1 ∷ e9 ∷ e10 ∷ e11 ∷ e12 ∷ e13 ∷ e14 ∷ e15 ∷ List.[]
 abbrev pub t48 : List.List Row.Entry
-t48 = e0·1 ∷ e1 ∷ e2·2 ∷ e3·2 ∷ e4·1 ∷ e5·1 ∷ e6·1 ∷ e7·1 ∷ e8 ∷ e9 ∷ e10 ∷ e11 ∷ e12 ∷ e13 ∷ e14 ∷ e15 ∷ List.[]
+t48 = e16 ∷ e17 ∷ e18 ∷ e19 ∷ e20 ∷ e21 ∷ e22 ∷ e23 ∷ e24 ∷ e25·2 ∷ e26 ∷ e27 ∷ e28 ∷ e29·2 ∷ e30 ∷ e31·2 ∷ List.[]
 abbrev pub t49 : List.List Row.Entry
-t49 = e16 ∷ e17 ∷ e18 ∷ e19 ∷ e20 ∷ e21 ∷ e22 ∷ e23 ∷ e24 ∷ e25 ∷ e26 ∷ e27 ∷ e28·2 ∷ e29 ∷ e30·2 ∷ e31 ∷ List.[]
+t49 = e0·1 ∷ e1 ∷ e2·2 ∷ e3·2 ∷ e4·1 ∷ e5·1 ∷ e6·1 ∷ e7·1 ∷ e8·1 ∷ e9 ∷ e10 ∷ e11 ∷ e12 ∷ e13 ∷ e14 ∷ e15 ∷ List.[]
 abbrev pub t50 : List.List Row.Entry
-t50 = e0·1 ∷ e1 ∷ e2 ∷ e3·2 ∷ e4·1 ∷ e5·1 ∷ e6·1 ∷ e7·1 ∷ e8 ∷ e9 ∷ e10 ∷ e11 ∷ e12 ∷ e13 ∷ e14 ∷ e15 ∷ List.[]
+t50 = e16 ∷ e17 ∷ e18 ∷ e19 ∷ e20 ∷ e21 ∷ e22 ∷ e23 ∷ e24 ∷ e25 ∷ e26 ∷ e27 ∷ e28 ∷ e29·2 ∷ e30 ∷ e31·2 ∷ List.[]
 abbrev pub t51 : List.List Row.Entry
-t51 = e0·1 ∷ e1 ∷ e2 ∷ e3 ∷ e4·1 ∷ e5·1 ∷ e6·1 ∷ e7·1 ∷ e8 ∷ e9 ∷ e10 ∷ e11 ∷ e12 ∷ e13 ∷ e14 ∷ e15 ∷ List.[]
+t51 = e0·1 ∷ e1 ∷ e2 ∷ e3·2 ∷ e4·1 ∷ e5·1 ∷ e6·1 ∷ e7·1 ∷ e8·1 ∷ e9 ∷ e10 ∷ e11 ∷ e12 ∷ e13 ∷ e14 ∷ e15 ∷ List.[]
 abbrev pub t52 : List.List Row.Entry
-t52 = e16 ∷ e17 ∷ e18 ∷ e19 ∷ e20 ∷ e21 ∷ e22 ∷ e23 ∷ e24 ∷ e25 ∷ e26 ∷ e27 ∷ e28 ∷ e29 ∷ e30·2 ∷ e31 ∷ List.[]
+t52 = e0·1 ∷ e1 ∷ e2 ∷ e3 ∷ e4·1 ∷ e5·1 ∷ e6·1 ∷ e7·1 ∷ e8·1 ∷ e9 ∷ e10 ∷ e11 ∷ e12 ∷ e13 ∷ e14 ∷ e15 ∷ List.[]
 abbrev pub t53 : List.List Row.Entry
-t53 = e0·1 ∷ e1 ∷ e2 ∷ e3 ∷ e4 ∷ e5·1 ∷ e6·1 ∷ e7·1 ∷ e8 ∷ e9 ∷ e10 ∷ e11 ∷ e12 ∷ e13 ∷ e14 ∷ e15 ∷ List.[]
+t53 = e16 ∷ e17 ∷ e18 ∷ e19 ∷ e20 ∷ e21 ∷ e22 ∷ e23 ∷ e24 ∷ e25 ∷ e26 ∷ e27 ∷ e28 ∷ e29 ∷ e30 ∷ e31·2 ∷ List.[]
+abbrev pub t54 : List.List Row.Entry
+t54 = e0·1 ∷ e1 ∷ e2 ∷ e3 ∷ e4 ∷ e5·1 ∷ e6·1 ∷ e7·1 ∷ e8·1 ∷ e9 ∷ e10 ∷ e11 ∷ e12 ∷ e13 ∷ e14 ∷ e15 ∷ List.[]
 abbrev pub T0 : Row.Cx
 T0 = record { locals = List._++_ t0 (List._++_ t1 t2); slots = List.[] }
 abbrev pub T1 : Row.Cx
@@ -613,7 +644,7 @@ T23 = record { locals = List._++_ t15 (List._++_ t1 t2); slots = List.[] }
 abbrev pub T24 : Row.Cx
 T24 = record { locals = List._++_ t16 (List._++_ t1 t2); slots = List.[] }
 abbrev pub T25 : Row.Cx
-T25 = record { locals = List._++_ t17 (List._++_ t1 t2); slots = List.[] }
+T25 = record { locals = List._++_ t16 (List._++_ t17 t2); slots = List.[] }
 abbrev pub T27 : Row.Cx
 T27 = record { locals = List._++_ t18 (List._++_ t19 t2); slots = List.[] }
 abbrev pub T28 : Row.Cx
@@ -625,7 +656,7 @@ T30 = record { locals = List._++_ t22 (List._++_ t21 t2); slots = List.[] }
 abbrev pub T31 : Row.Cx
 T31 = record { locals = List._++_ t22 (List._++_ t23 t2); slots = List.[] }
 abbrev pub T33 : Row.Cx
-T33 = record { locals = List._++_ t24 (List._++_ t1 t2); slots = List.[] }
+T33 = record { locals = List._++_ t24 (List._++_ t17 t2); slots = List.[] }
 abbrev pub T36 : Row.Cx
 T36 = record { locals = List._++_ t25 (List._++_ t26 t2); slots = List.[] }
 abbrev pub T37 : Row.Cx
@@ -643,7 +674,7 @@ T45 = record { locals = List._++_ t34 (List._++_ t35 t2); slots = List.[] }
 abbrev pub T46 : Row.Cx
 T46 = record { locals = List._++_ t34 (List._++_ t36 t2); slots = List.[] }
 abbrev pub T48 : Row.Cx
-T48 = record { locals = List._++_ t37 (List._++_ t38 t2); slots = List.[] }
+T48 = record { locals = List._++_ t37 (List._++_ t36 t38); slots = List.[] }
 abbrev pub T49 : Row.Cx
 T49 = record { locals = List._++_ t37 (List._++_ t36 t39); slots = List.[] }
 abbrev pub T50 : Row.Cx
@@ -658,137 +689,142 @@ abbrev pub T54 : Row.Cx
 T54 = record { locals = List._++_ t46 (List._++_ t43 t42); slots = List.[] }
 abbrev pub T55 : Row.Cx
 T55 = record { locals = List._++_ t47 (List._++_ t43 t42); slots = List.[] }
-abbrev pub T57 : Row.Cx
-T57 = record { locals = List._++_ t48 (List._++_ t49 t42); slots = List.[] }
-abbrev pub T60 : Row.Cx
-T60 = record { locals = List._++_ t50 (List._++_ t49 t42); slots = List.[] }
-abbrev pub T63 : Row.Cx
-T63 = record { locals = List._++_ t51 (List._++_ t52 t42); slots = List.[] }
-abbrev pub T66 : Row.Cx
-T66 = record { locals = List._++_ t53 (List._++_ t1 t42); slots = List.[] }
-abbrev pub T69 : Row.Cx
-T69 = record { locals = List._++_ t3 (List._++_ t1 t2); slots = List.[] }
+abbrev pub T56 : Row.Cx
+T56 = record { locals = List._++_ t47 (List._++_ t48 t42); slots = List.[] }
+abbrev pub T58 : Row.Cx
+T58 = record { locals = List._++_ t49 (List._++_ t50 t42); slots = List.[] }
+abbrev pub T61 : Row.Cx
+T61 = record { locals = List._++_ t51 (List._++_ t50 t42); slots = List.[] }
+abbrev pub T64 : Row.Cx
+T64 = record { locals = List._++_ t52 (List._++_ t53 t42); slots = List.[] }
+abbrev pub T67 : Row.Cx
+T67 = record { locals = List._++_ t54 (List._++_ t1 t42); slots = List.[] }
 abbrev pub T70 : Row.Cx
 T70 = record { locals = List._++_ t3 (List._++_ t1 t2); slots = List.[] }
+abbrev pub T71 : Row.Cx
+T71 = record { locals = List._++_ t3 (List._++_ t1 t2); slots = List.[] }
 abbrev pub O0 : Typed.Outs
 O0 = record { next = Option.none; exits = List.[]; returns = Option.some T1 }
 module _ (claims· : Claims) where
   abbrev s0 : (bs : List.List Nat.ℕ) → Typed.Gives T0 T2
   s0 = λ bs. Know.k-sl-known (Referent.fInt Syntax.w32) T0 5 4 ref10 Row.off 0 λ x. x
   abbrev s1 : (bs : List.List Nat.ℕ) → Typed.Gives T2 T3
-  s1 = λ bs. Know.k-shs-known (Referent.fInt Syntax.w8) T2 8 5 ref11 Row.off 0 λ x. x
+  s1 = λ bs. Know.k-shs-known (Referent.fInt Syntax.w8) T2 9 5 ref11 Row.off 0 λ x. x
   abbrev s2 : (bs : List.List Nat.ℕ) → Typed.Gives T3 T4
-  s2 = λ bs. Know.k-shs-known (Referent.fInt Syntax.w8) T3 9 6 ref12 Row.off 0 λ x. x
+  s2 = λ bs. Know.k-shs-known (Referent.fInt Syntax.w8) T3 10 6 ref12 Row.off 0 λ x. x
   abbrev s3 : (bs : List.List Nat.ℕ) → Typed.Gives T4 T5
-  s3 = λ bs. Know.k-shs-known (Referent.fInt Syntax.w8) T4 10 7 ref13 Row.off 0 λ x. x
+  s3 = λ bs. Know.k-shs-known (Referent.fInt Syntax.w8) T4 11 7 ref13 Row.off 0 λ x. x
   abbrev s4 : (bs : List.List Nat.ℕ) → Typed.Gives T5 T6
-  s4 = λ bs. Know.k-shs-known (Referent.fInt Syntax.w8) T5 11 8 ref14 Row.off 0 λ x. x
+  s4 = λ bs. Know.k-shs-known (Referent.fInt Syntax.w8) T5 12 8 ref14 Row.off 0 λ x. x
   abbrev s6 : (bs : List.List Nat.ℕ) → Typed.Gives T6 T8
-  s6 = λ bs. Reshare.k-sl-reshare RelayPending.row T6 1 16 0 9 ref6 ref0 Row.off λ x. x
+  s6 = λ bs. Reshare.k-sl-reshare RelayPending.row T6 1 17 0 9 ref6 ref0 Row.off λ x. x
   abbrev s7 : (bs : List.List Nat.ℕ) → Typed.Asks T8 T9
-  s7 = λ bs. Relend.k-sl-aggregate RelayPending.row (Relend.asShr RelayPending.row) T8 16 17 9 ref0 ref0 (λ x. x) (Scalar.oFld 1 ((Syntax.field 1) ∷
+  s7 = λ bs. Relend.k-sl-aggregate RelayPending.row (Relend.asShr RelayPending.row) T8 17 18 9 ref0 ref0 (λ x. x) (Scalar.oFld 1 ((Syntax.field 1) ∷
       List.[]) (Syntax.tyInt Syntax.w64) 8 λ v. Shared.lenV (v .0))
   abbrev s9 : (bs : List.List Nat.ℕ) → Typed.Gives T9 T11
-  s9 = λ bs. Reshare.k-sl-reshare RelayCircuit.row T9 2 18 1 10 ref7 ref1 Row.off λ x. x
+  s9 = λ bs. Reshare.k-sl-reshare RelayCircuit.row T9 2 19 1 10 ref7 ref1 Row.off λ x. x
   abbrev s10 : (bs : List.List Nat.ℕ) → Typed.Asks T11 T12
-  s10 = λ bs. Relend.k-sl-aggregate RelayCircuit.row (Relend.asShr RelayCircuit.row) T11 18 19 10 ref1 ref1 (λ x. x) (Scalar.oFld 2 ((Syntax.field 1)
+  s10 = λ bs. Relend.k-sl-aggregate RelayCircuit.row (Relend.asShr RelayCircuit.row) T11 19 20 10 ref1 ref1 (λ x. x) (Scalar.oFld 2 ((Syntax.field 1)
       ∷ List.[]) (Syntax.tyInt Syntax.w64) 8 λ v. Shared.lenV (v .0))
   abbrev s11 : (bs : List.List Nat.ℕ) → Typed.Both T12 T13
-  s11 = λ bs. Call.callB ps·0 r·0 (claims· .0) (claims· .1) T12 (record { pos = 17; ty = Syntax.tyRef Syntax.erased Syntax.imm RelayPending.to; ref =
-      λ x. x; }, (record { pos = 19; ty = Syntax.tyRef Syntax.erased Syntax.imm RelayCircuit.to; ref = λ x. x; }, (record { pos = 7; st = List.[]; d =
-      0; at = λ x. x }, (record { pos = 8; ty = Syntax.tyRef (Syntax.named 5) Syntax.imm (Syntax.tyInt Syntax.w8); ref = λ x. x; }, (record { pos = 9;
-      ty = Syntax.tyRef (Syntax.named 6) Syntax.imm (Syntax.tyInt Syntax.w8); ref = λ x. x; }, (record { pos = 10; ty = Syntax.tyRef (Syntax.named 7)
-      Syntax.imm (Syntax.tyInt Syntax.w8); ref = λ x. x; }, tt,),),),),),) 12 (9 ∷ 10 ∷ 5 ∷ 6 ∷ 7 ∷ List.[]) Laws''.mir
+  s11 = λ bs. Call.callB ps·0 r·0 (claims· .0) (claims· .1) T12 (record { pos = 18; ty = Syntax.tyRef Syntax.erased Syntax.imm RelayPending.to; ref =
+      λ x. x; }, (record { pos = 20; ty = Syntax.tyRef Syntax.erased Syntax.imm RelayCircuit.to; ref = λ x. x; }, (record { pos = 7; st = List.[]; d =
+      0; at = λ x. x }, (record { pos = 8; st = List.[]; d = 0; at = λ x. x }, (record { pos = 9; ty = Syntax.tyRef (Syntax.named 5) Syntax.imm
+      (Syntax.tyInt Syntax.w8); ref = λ x. x; }, (record { pos = 10; ty = Syntax.tyRef (Syntax.named 6) Syntax.imm (Syntax.tyInt Syntax.w8); ref = λ
+      x. x; }, (record { pos = 11; ty = Syntax.tyRef (Syntax.named 7) Syntax.imm (Syntax.tyInt Syntax.w8); ref = λ x. x; }, tt,),),),),),),) 13 (9 ∷
+      10 ∷ 5 ∷ 6 ∷ 7 ∷ List.[]) Laws''.mir
   abbrev s12 : (bs : List.List Nat.ℕ) → Typed.Mo T13 → Typed.Mo T14
-  s12 = λ bs. Scalar.n-room T13 17 (Syntax.tyStruct (38 ∷ 91 ∷ 93 ∷ List.[]) (Syntax.tcons ref0 (Syntax.tcons (Syntax.tyInt Syntax.w64) Syntax.tnil)))
+  s12 = λ bs. Scalar.n-room T13 18 (Syntax.tyStruct (38 ∷ 91 ∷ 93 ∷ List.[]) (Syntax.tcons ref0 (Syntax.tcons (Syntax.tyInt Syntax.w64) Syntax.tnil)))
   abbrev s13 : (bs : List.List Nat.ℕ) → Typed.Mo T14 → Typed.Mo T15
-  s13 = λ bs. Scalar.n-room T14 19 (Syntax.tyStruct (38 ∷ 91 ∷ 93 ∷ List.[]) (Syntax.tcons ref1 (Syntax.tcons (Syntax.tyInt Syntax.w64) Syntax.tnil)))
+  s13 = λ bs. Scalar.n-room T14 20 (Syntax.tyStruct (38 ∷ 91 ∷ 93 ∷ List.[]) (Syntax.tcons ref1 (Syntax.tcons (Syntax.tyInt Syntax.w64) Syntax.tnil)))
   abbrev s15 : (bs : List.List Nat.ℕ) → Typed.Mo T15 → Typed.Mo T17
   s15 = λ bs. Reshare.n-back-sl-shr RelayPending.row T15 1 0 9 ref6 Row.off λ x. x
   abbrev s18 : (bs : List.List Nat.ℕ) → Typed.Mo T17 → Typed.Mo T20
   s18 = λ bs. Reshare.n-back-sl-shr RelayCircuit.row T17 2 1 10 ref7 Row.off λ x. x
   abbrev s20 : (bs : List.List Nat.ℕ) → Typed.Both T20 T22
-  s20 = λ bs. WayStmt.k-way-copy-out T20 (Row.out 6 (T20 .locals)) (λ u. Row.drop 6 (T20 .locals) u) 13 (Rows.whole (Declared'.row
+  s20 = λ bs. WayStmt.k-way-copy-out T20 (Row.out 6 (T20 .locals)) (λ u. Row.drop 6 (T20 .locals) u) 14 (Rows.whole (Declared'.row
       OpaqueRelayConfig.the-type)) (λ u. At.getAt (OpaqueRelayRuntime.the-type .parts) 4 (OpaqueRelayRuntime.struct .as-values (u .1 .1 .1 .1 .1 .1
       .0))) (λ T′. record { locals = Row.setRow 6 (6, Rows.whole (Declared'.row OpaqueRelayRuntime.the-type)) T′; slots = List.[]; }) (λ u T′ m′.
       Row.set 6 (6, Rows.whole (Declared'.row OpaqueRelayRuntime.the-type)) (u .1 .1 .1 .1 .1 .1 .0) T′ m′) (λ u. Unit) λ u. Unit
   abbrev s21 : (bs : List.List Nat.ℕ) → Typed.Both T22 T23
-  s21 = λ bs. Call.callB ps·1 r·1 (claims· .2) (claims· .3) T22 (record { pos = 13; st = List.[]; d = 0; at = λ x. x }, (record { pos = 12; st =
-      List.[]; d = 0; at = λ x. x }, tt),) 14 List.[] Laws.mir
+  s21 = λ bs. Call.callB ps·1 r·1 (claims· .2) (claims· .3) T22 (record { pos = 14; st = List.[]; d = 0; at = λ x. x }, (record { pos = 13; st =
+      List.[]; d = 0; at = λ x. x }, tt),) 15 List.[] Laws.mir
   abbrev s22 : (bs : List.List Nat.ℕ) → Typed.Mo T23 → Typed.Mo T24
-  s22 = λ bs. Scalar.n-room T23 13 Laws'.mir
+  s22 = λ bs. Scalar.n-room T23 14 Laws'.mir
   abbrev s23 : (bs : List.List Nat.ℕ) → Typed.Both T24 T25
-  s23 = λ bs. Call.callB ps·2 r·2 (claims· .4) (claims· .5) T24 (record { pos = 14; st = List.[]; d = 0; at = λ x. x }, tt,) 15 List.[] Syntax.tyBool
+  s23 = λ bs. Call.callB ps·2 r·2 (claims· .4) (claims· .5) T24 (record { pos = 15; st = List.[]; d = 0; at = λ x. x }, tt,) 16 List.[] Syntax.tyBool
   abbrev s25 : (bs : List.List Nat.ℕ) → Typed.Gives T25 T27
-  s25 = λ bs. Relend.k-sl-relend ReservationUsage.row T25 3 21 2 11 ref8 ref2 Row.off λ x. x
+  s25 = λ bs. Relend.k-sl-relend ReservationUsage.row T25 3 22 2 11 ref8 ref2 Row.off λ x. x
   abbrev s26 : (bs : List.List Nat.ℕ) → Typed.Asks T27 T28
-  s26 = λ bs. Relend.k-sl-aggregate ReservationUsage.row (Relend.asMut ReservationUsage.row) T27 21 22 11 ref2 ref2 (λ x. x) (Scalar.oFld 3
+  s26 = λ bs. Relend.k-sl-aggregate ReservationUsage.row (Relend.asMut ReservationUsage.row) T27 22 23 11 ref2 ref2 (λ x. x) (Scalar.oFld 3
       ((Syntax.field 1) ∷ List.[]) (Syntax.tyInt Syntax.w64) 8 λ v. Shared.lenV (v .0))
   abbrev s27 : (bs : List.List Nat.ℕ) → Typed.Both T28 T29
-  s27 = λ bs. Call.callB ps·3 r·3 (claims· .6) (claims· .7) T28 (record { pos = 22; ty = Syntax.tyRef Syntax.erased Syntax.mut ReservationUsage.to;
-      ref = λ x. x; }, (Bool.bAt 15 λ x. x, (Num.vFld 7 ((Syntax.field 2) ∷ List.[]) 16 λ x. RelayPacket.struct .as-values x .1 .1 .0, tt,),),) 20 (11
-      ∷ List.[]) Syntax.tyUnit
+  s27 = λ bs. Call.callB ps·3 r·3 (claims· .6) (claims· .7) T28 (record { pos = 23; ty = Syntax.tyRef Syntax.erased Syntax.mut ReservationUsage.to;
+      ref = λ x. x; }, (record { pos = 7; st = List.[]; d = 0; at = λ x. x }, (Bool.bAt 16 λ x. x, (Num.vFld 8 ((Syntax.field 2) ∷ List.[]) 16 λ x.
+      RelayPacket.struct .as-values x .1 .1 .0, tt,),),),) 21 (11 ∷ List.[]) Syntax.tyUnit
   abbrev s28 : (bs : List.List Nat.ℕ) → Typed.Mo T29 → Typed.Mo T30
-  s28 = λ bs. Scalar.n-room T29 7 Laws'''.mir
+  s28 = λ bs. Scalar.n-room T29 8 Laws''''.mir
   abbrev s29 : (bs : List.List Nat.ℕ) → Typed.Mo T30 → Typed.Mo T31
-  s29 = λ bs. Scalar.n-room T30 20 Syntax.tyUnit
+  s29 = λ bs. Scalar.n-room T30 21 Syntax.tyUnit
   abbrev s31 : (bs : List.List Nat.ℕ) → Typed.Both T31 T33
-  s31 = λ bs. Relend.k-back-sl ReservationUsage.row T31 22 3 2 11 ref8 ref2 Row.off (λ x. x) λ x. x
+  s31 = λ bs. Relend.k-back-sl ReservationUsage.row T31 23 3 2 11 ref8 ref2 Row.off (λ x. x) λ x. x
   abbrev s34 : (bs : List.List Nat.ℕ) → Typed.Gives T33 T36
-  s34 = λ bs. Relend.k-sl-relend RelayPending.row T33 1 23 0 12 ref6 ref3 Row.off λ x. x
+  s34 = λ bs. Relend.k-sl-relend RelayPending.row T33 1 24 0 12 ref6 ref3 Row.off λ x. x
   abbrev s35 : (bs : List.List Nat.ℕ) → Typed.Asks T36 T37
-  s35 = λ bs. Relend.k-sl-aggregate RelayPending.row (Relend.asMut RelayPending.row) T36 23 24 12 ref3 ref3 (λ x. x) (Scalar.oFld 1 ((Syntax.field 1)
+  s35 = λ bs. Relend.k-sl-aggregate RelayPending.row (Relend.asMut RelayPending.row) T36 24 25 12 ref3 ref3 (λ x. x) (Scalar.oFld 1 ((Syntax.field 1)
       ∷ List.[]) (Syntax.tyInt Syntax.w64) 8 λ v. Shared.lenV (v .0))
   abbrev s37 : (bs : List.List Nat.ℕ) → Typed.Gives T37 T39
-  s37 = λ bs. Reshare.k-sl-reshare RelayCircuit.row T37 2 25 1 13 ref7 ref1 Row.off λ x. x
+  s37 = λ bs. Reshare.k-sl-reshare RelayCircuit.row T37 2 26 1 13 ref7 ref1 Row.off λ x. x
   abbrev s38 : (bs : List.List Nat.ℕ) → Typed.Asks T39 T40
-  s38 = λ bs. Relend.k-sl-aggregate RelayCircuit.row (Relend.asShr RelayCircuit.row) T39 25 26 13 ref1 ref1 (λ x. x) (Scalar.oFld 2 ((Syntax.field 1)
+  s38 = λ bs. Relend.k-sl-aggregate RelayCircuit.row (Relend.asShr RelayCircuit.row) T39 26 27 13 ref1 ref1 (λ x. x) (Scalar.oFld 2 ((Syntax.field 1)
       ∷ List.[]) (Syntax.tyInt Syntax.w64) 8 λ v. Shared.lenV (v .0))
   abbrev s40 : (bs : List.List Nat.ℕ) → Typed.Gives T40 T42
-  s40 = λ bs. Relend.k-sl-relend ReservationUsage.row T40 3 27 2 14 ref8 ref2 Row.off λ x. x
+  s40 = λ bs. Relend.k-sl-relend ReservationUsage.row T40 3 28 2 14 ref8 ref2 Row.off λ x. x
   abbrev s41 : (bs : List.List Nat.ℕ) → Typed.Asks T42 T43
-  s41 = λ bs. Relend.k-sl-aggregate ReservationUsage.row (Relend.asMut ReservationUsage.row) T42 27 28 14 ref2 ref2 (λ x. x) (Scalar.oFld 3
+  s41 = λ bs. Relend.k-sl-aggregate ReservationUsage.row (Relend.asMut ReservationUsage.row) T42 28 29 14 ref2 ref2 (λ x. x) (Scalar.oFld 3
       ((Syntax.field 1) ∷ List.[]) (Syntax.tyInt Syntax.w64) 8 λ v. Shared.lenV (v .0))
   abbrev s43 : (bs : List.List Nat.ℕ) → Typed.Gives T43 T45
-  s43 = λ bs. Relend.k-sl-relend InflightAction.row T43 4 29 3 15 ref9 ref4 Row.off λ x. x
+  s43 = λ bs. Relend.k-sl-relend InflightAction.row T43 4 30 3 15 ref9 ref4 Row.off λ x. x
   abbrev s44 : (bs : List.List Nat.ℕ) → Typed.Asks T45 T46
-  s44 = λ bs. Relend.k-sl-aggregate InflightAction.row (Relend.asMut InflightAction.row) T45 29 30 15 ref4 ref4 (λ x. x) (Scalar.oFld 4 ((Syntax.field
+  s44 = λ bs. Relend.k-sl-aggregate InflightAction.row (Relend.asMut InflightAction.row) T45 30 31 15 ref4 ref4 (λ x. x) (Scalar.oFld 4 ((Syntax.field
       1) ∷ List.[]) (Syntax.tyInt Syntax.w64) 8 λ v. Shared.lenV (v .0))
   abbrev s46 : (bs : List.List Nat.ℕ) → Typed.Gives T46 T48
-  s46 = λ bs. Relend.k-sl-relend (Referent.rtF (Referent.fInt Syntax.w32)) T46 5 31 4 16 ref10 ref5 Row.off λ x. x
+  s46 = λ bs. Relend.k-sl-relend (Referent.rtF (Referent.fInt Syntax.w32)) T46 5 32 4 16 ref10 ref5 Row.off λ x. x
   abbrev s47 : (bs : List.List Nat.ℕ) → Typed.Asks T48 T49
-  s47 = λ bs. Relend.k-sl-aggregate (Referent.rtF (Referent.fInt Syntax.w32)) (Relend.asMut (Referent.rtF (Referent.fInt Syntax.w32))) T48 31 32 16
+  s47 = λ bs. Relend.k-sl-aggregate (Referent.rtF (Referent.fInt Syntax.w32)) (Relend.asMut (Referent.rtF (Referent.fInt Syntax.w32))) T48 32 33 16
       ref5 ref5 (λ x. x) (Scalar.oFld 5 ((Syntax.field 1) ∷ List.[]) (Syntax.tyInt Syntax.w64) 8 λ v. Shared.lenV (v .0))
   abbrev s48 : (bs : List.List Nat.ℕ) → Typed.Both T49 T50
-  s48 = λ bs. Call.callB ps·4 r·4 (claims· .8) (claims· .9) T49 (record { pos = 24; ty = Syntax.tyRef Syntax.erased Syntax.mut RelayPending.to; ref =
-      λ x. x; }, (record { pos = 26; ty = Syntax.tyRef Syntax.erased Syntax.imm RelayCircuit.to; ref = λ x. x; }, (record { pos = 28; ty =
-      Syntax.tyRef Syntax.erased Syntax.mut ReservationUsage.to; ref = λ x. x; }, (record { pos = 30; ty = Syntax.tyRef Syntax.erased Syntax.mut
-      InflightAction.to; ref = λ x. x; }, (record { pos = 32; ty = Syntax.tyRef Syntax.erased Syntax.mut (Syntax.tyInt Syntax.w32); ref = λ x. x; },
-      (record { pos = 14; st = List.[]; d = 0; at = λ x. x }, (record { pos = 6; st = List.[]; d = 0; at = λ x. x }, (record { pos = 12; st = List.[];
-      d = 0; at = λ x. x }, (record { pos = 11; ty = Syntax.tyRef (Syntax.named 8) Syntax.imm (Syntax.tyInt Syntax.w8); ref = λ x. x; },
-      tt,),),),),),),),),) 0 (12 ∷ 13 ∷ 14 ∷ 15 ∷ 16 ∷ 8 ∷ List.[]) Laws'''''.mir
+  s48 = λ bs. Call.callB ps·4 r·4 (claims· .8) (claims· .9) T49 (record { pos = 25; ty = Syntax.tyRef Syntax.erased Syntax.mut RelayPending.to; ref =
+      λ x. x; }, (record { pos = 27; ty = Syntax.tyRef Syntax.erased Syntax.imm RelayCircuit.to; ref = λ x. x; }, (record { pos = 29; ty =
+      Syntax.tyRef Syntax.erased Syntax.mut ReservationUsage.to; ref = λ x. x; }, (record { pos = 31; ty = Syntax.tyRef Syntax.erased Syntax.mut
+      InflightAction.to; ref = λ x. x; }, (record { pos = 33; ty = Syntax.tyRef Syntax.erased Syntax.mut (Syntax.tyInt Syntax.w32); ref = λ x. x; },
+      (record { pos = 15; st = List.[]; d = 0; at = λ x. x }, (record { pos = 6; st = List.[]; d = 0; at = λ x. x }, (record { pos = 7; st = List.[];
+      d = 0; at = λ x. x }, (record { pos = 13; st = List.[]; d = 0; at = λ x. x }, (record { pos = 12; ty = Syntax.tyRef (Syntax.named 8) Syntax.imm
+      (Syntax.tyInt Syntax.w8); ref = λ x. x; }, tt,),),),),),),),),),) 0 (12 ∷ 13 ∷ 14 ∷ 15 ∷ 16 ∷ 8 ∷ List.[]) Laws''''''.mir
   abbrev s49 : (bs : List.List Nat.ℕ) → Typed.Mo T50 → Typed.Mo T51
-  s49 = λ bs. Scalar.n-room T50 26 (Syntax.tyStruct (38 ∷ 91 ∷ 93 ∷ List.[]) (Syntax.tcons ref1 (Syntax.tcons (Syntax.tyInt Syntax.w64) Syntax.tnil)))
+  s49 = λ bs. Scalar.n-room T50 27 (Syntax.tyStruct (38 ∷ 91 ∷ 93 ∷ List.[]) (Syntax.tcons ref1 (Syntax.tcons (Syntax.tyInt Syntax.w64) Syntax.tnil)))
   abbrev s50 : (bs : List.List Nat.ℕ) → Typed.Mo T51 → Typed.Mo T52
-  s50 = λ bs. Scalar.n-room T51 6 Laws''''.mir
+  s50 = λ bs. Scalar.n-room T51 6 Laws'''''.mir
   abbrev s51 : (bs : List.List Nat.ℕ) → Typed.Mo T52 → Typed.Mo T53
-  s51 = λ bs. Scalar.n-room T52 12 Laws''.mir
+  s51 = λ bs. Scalar.n-room T52 7 Laws'''.mir
   abbrev s52 : (bs : List.List Nat.ℕ) → Typed.Mo T53 → Typed.Mo T54
-  s52 = λ bs. Scalar.n-room T53 14 Laws.mir
+  s52 = λ bs. Scalar.n-room T53 13 Laws''.mir
   abbrev s53 : (bs : List.List Nat.ℕ) → Typed.Mo T54 → Typed.Mo T55
-  s53 = λ bs. Scalar.n-room T54 15 Syntax.tyBool
-  abbrev s55 : (bs : List.List Nat.ℕ) → Typed.Both T55 T57
-  s55 = λ bs. Relend.k-back-sl RelayPending.row T55 24 1 0 12 ref6 ref3 Row.off (λ x. x) λ x. x
-  abbrev s58 : (bs : List.List Nat.ℕ) → Typed.Mo T57 → Typed.Mo T60
-  s58 = λ bs. Reshare.n-back-sl-shr RelayCircuit.row T57 2 1 13 ref7 Row.off λ x. x
-  abbrev s61 : (bs : List.List Nat.ℕ) → Typed.Both T60 T63
-  s61 = λ bs. Relend.k-back-sl ReservationUsage.row T60 28 3 2 14 ref8 ref2 Row.off (λ x. x) λ x. x
-  abbrev s64 : (bs : List.List Nat.ℕ) → Typed.Both T63 T66
-  s64 = λ bs. Relend.k-back-sl InflightAction.row T63 30 4 3 15 ref9 ref4 Row.off (λ x. x) λ x. x
-  abbrev s67 : (bs : List.List Nat.ℕ) → Typed.Both T66 T69
-  s67 = λ bs. Relend.k-back-sl (Referent.rtF (Referent.fInt Syntax.w32)) T66 32 5 4 16 ref10 ref5 Row.off (λ x. x) λ x. x
-  abbrev s68 : (bs : List.List Nat.ℕ) → Typed.Gives T69 T70
-  s68 = λ bs. Know.k-sl-known (Referent.fInt Syntax.w32) T69 5 4 ref10 Row.off 0 λ x. x
+  s53 = λ bs. Scalar.n-room T54 15 Laws.mir
+  abbrev s54 : (bs : List.List Nat.ℕ) → Typed.Mo T55 → Typed.Mo T56
+  s54 = λ bs. Scalar.n-room T55 16 Syntax.tyBool
+  abbrev s56 : (bs : List.List Nat.ℕ) → Typed.Both T56 T58
+  s56 = λ bs. Relend.k-back-sl RelayPending.row T56 25 1 0 12 ref6 ref3 Row.off (λ x. x) λ x. x
+  abbrev s59 : (bs : List.List Nat.ℕ) → Typed.Mo T58 → Typed.Mo T61
+  s59 = λ bs. Reshare.n-back-sl-shr RelayCircuit.row T58 2 1 13 ref7 Row.off λ x. x
+  abbrev s62 : (bs : List.List Nat.ℕ) → Typed.Both T61 T64
+  s62 = λ bs. Relend.k-back-sl ReservationUsage.row T61 29 3 2 14 ref8 ref2 Row.off (λ x. x) λ x. x
+  abbrev s65 : (bs : List.List Nat.ℕ) → Typed.Both T64 T67
+  s65 = λ bs. Relend.k-back-sl InflightAction.row T64 31 4 3 15 ref9 ref4 Row.off (λ x. x) λ x. x
+  abbrev s68 : (bs : List.List Nat.ℕ) → Typed.Both T67 T70
+  s68 = λ bs. Relend.k-back-sl (Referent.rtF (Referent.fInt Syntax.w32)) T67 33 5 4 16 ref10 ref5 Row.off (λ x. x) λ x. x
+  abbrev s69 : (bs : List.List Nat.ℕ) → Typed.Gives T70 T71
+  s69 = λ bs. Know.k-sl-known (Referent.fInt Syntax.w32) T70 5 4 ref10 Row.off 0 λ x. x
   module _ (Pre· : (κs : Lifetimes.Lfts 9) → Kinds.Dens κs ps → Type 0) (Post· : (κs : Lifetimes.Lfts 9) → (a : Kinds.Dens κs ps) → Kinds.Plain 9 ps r
       κs) where
     module _ (M : Type 1) where
@@ -800,150 +836,152 @@ module _ (claims· : Claims) where
           ps·4 r·4 (claims· .8) (claims· .9) "hnsr_circuit::handle_open::open_lapsed") → Statement.Triple 𝓤 (Wp.WpFn 𝓤 H (𝓣 .C) (𝓣 .Λ) (Function.fnOf
           9 ps r xs m hs body)) (Function.plainOf 𝓤 H A 9 ps r Pre· Post·)
     module _ where
-      abbrev at0 : (bs : List.List Nat.ℕ) → Typed.TF T70 O0
+      abbrev at0 : (bs : List.List Nat.ℕ) → Typed.TF T71 O0
       at0 = λ bs. Typed.atRet O0
-      abbrev at1 : (bs : List.List Nat.ℕ) → Typed.TF T70 O0
+      abbrev at1 : (bs : List.List Nat.ℕ) → Typed.TF T71 O0
       at1 = λ bs. λ Ψ. at0 bs Ψ
-      abbrev at2 : (bs : List.List Nat.ℕ) → Typed.TF T69 O0
-      at2 = λ bs. λ Ψ. Typed.give (s68 bs) (at1 bs Ψ)
-      abbrev at3 : (bs : List.List Nat.ℕ) → Typed.TF T66 O0
-      at3 = λ bs. λ Ψ. Typed.both (s67 bs) (at2 bs Ψ)
-      abbrev at4 : (bs : List.List Nat.ℕ) → Typed.TF T66 O0
+      abbrev at2 : (bs : List.List Nat.ℕ) → Typed.TF T70 O0
+      at2 = λ bs. λ Ψ. Typed.give (s69 bs) (at1 bs Ψ)
+      abbrev at3 : (bs : List.List Nat.ℕ) → Typed.TF T67 O0
+      at3 = λ bs. λ Ψ. Typed.both (s68 bs) (at2 bs Ψ)
+      abbrev at4 : (bs : List.List Nat.ℕ) → Typed.TF T67 O0
       at4 = λ bs. λ Ψ. at3 bs Ψ
-      abbrev at5 : (bs : List.List Nat.ℕ) → Typed.TF T66 O0
+      abbrev at5 : (bs : List.List Nat.ℕ) → Typed.TF T67 O0
       at5 = λ bs. λ Ψ. at4 bs Ψ
-      abbrev at6 : (bs : List.List Nat.ℕ) → Typed.TF T63 O0
-      at6 = λ bs. λ Ψ. Typed.both (s64 bs) (at5 bs Ψ)
-      abbrev at7 : (bs : List.List Nat.ℕ) → Typed.TF T63 O0
+      abbrev at6 : (bs : List.List Nat.ℕ) → Typed.TF T64 O0
+      at6 = λ bs. λ Ψ. Typed.both (s65 bs) (at5 bs Ψ)
+      abbrev at7 : (bs : List.List Nat.ℕ) → Typed.TF T64 O0
       at7 = λ bs. λ Ψ. at6 bs Ψ
-      abbrev at8 : (bs : List.List Nat.ℕ) → Typed.TF T63 O0
+      abbrev at8 : (bs : List.List Nat.ℕ) → Typed.TF T64 O0
       at8 = λ bs. λ Ψ. at7 bs Ψ
-      abbrev at9 : (bs : List.List Nat.ℕ) → Typed.TF T60 O0
-      at9 = λ bs. λ Ψ. Typed.both (s61 bs) (at8 bs Ψ)
-      abbrev at10 : (bs : List.List Nat.ℕ) → Typed.TF T60 O0
+      abbrev at9 : (bs : List.List Nat.ℕ) → Typed.TF T61 O0
+      at9 = λ bs. λ Ψ. Typed.both (s62 bs) (at8 bs Ψ)
+      abbrev at10 : (bs : List.List Nat.ℕ) → Typed.TF T61 O0
       at10 = λ bs. λ Ψ. at9 bs Ψ
-      abbrev at11 : (bs : List.List Nat.ℕ) → Typed.TF T60 O0
+      abbrev at11 : (bs : List.List Nat.ℕ) → Typed.TF T61 O0
       at11 = λ bs. λ Ψ. at10 bs Ψ
-      abbrev at12 : (bs : List.List Nat.ℕ) → Typed.TF T57 O0
-      at12 = λ bs. λ Ψ. Typed.pass T57 T60 (s58 bs) (at11 bs Ψ)
-      abbrev at13 : (bs : List.List Nat.ℕ) → Typed.TF T57 O0
+      abbrev at12 : (bs : List.List Nat.ℕ) → Typed.TF T58 O0
+      at12 = λ bs. λ Ψ. Typed.pass T58 T61 (s59 bs) (at11 bs Ψ)
+      abbrev at13 : (bs : List.List Nat.ℕ) → Typed.TF T58 O0
       at13 = λ bs. λ Ψ. at12 bs Ψ
-      abbrev at14 : (bs : List.List Nat.ℕ) → Typed.TF T57 O0
+      abbrev at14 : (bs : List.List Nat.ℕ) → Typed.TF T58 O0
       at14 = λ bs. λ Ψ. at13 bs Ψ
-      abbrev at15 : (bs : List.List Nat.ℕ) → Typed.TF T55 O0
-      at15 = λ bs. λ Ψ. Typed.both (s55 bs) (at14 bs Ψ)
-      abbrev at16 : (bs : List.List Nat.ℕ) → Typed.TF T55 O0
+      abbrev at15 : (bs : List.List Nat.ℕ) → Typed.TF T56 O0
+      at15 = λ bs. λ Ψ. Typed.both (s56 bs) (at14 bs Ψ)
+      abbrev at16 : (bs : List.List Nat.ℕ) → Typed.TF T56 O0
       at16 = λ bs. λ Ψ. at15 bs Ψ
-      abbrev at17 : (bs : List.List Nat.ℕ) → Typed.TF T54 O0
-      at17 = λ bs. λ Ψ. Typed.pass T54 T55 (s53 bs) (at16 bs Ψ)
-      abbrev at18 : (bs : List.List Nat.ℕ) → Typed.TF T53 O0
-      at18 = λ bs. λ Ψ. Typed.pass T53 T54 (s52 bs) (at17 bs Ψ)
-      abbrev at19 : (bs : List.List Nat.ℕ) → Typed.TF T52 O0
-      at19 = λ bs. λ Ψ. Typed.pass T52 T53 (s51 bs) (at18 bs Ψ)
-      abbrev at20 : (bs : List.List Nat.ℕ) → Typed.TF T51 O0
-      at20 = λ bs. λ Ψ. Typed.pass T51 T52 (s50 bs) (at19 bs Ψ)
-      abbrev at21 : (bs : List.List Nat.ℕ) → Typed.TF T50 O0
-      at21 = λ bs. λ Ψ. Typed.pass T50 T51 (s49 bs) (at20 bs Ψ)
-      abbrev at22 : (bs : List.List Nat.ℕ) → Typed.TF T49 O0
-      at22 = λ bs. λ Ψ. Typed.both (s48 bs) (at21 bs Ψ)
-      abbrev at23 : (bs : List.List Nat.ℕ) → Typed.TF T48 O0
-      at23 = λ bs. λ Ψ. Typed.ask (s47 bs) (at22 bs Ψ)
-      abbrev at24 : (bs : List.List Nat.ℕ) → Typed.TF T46 O0
-      at24 = λ bs. λ Ψ. Typed.give (s46 bs) (at23 bs Ψ)
+      abbrev at17 : (bs : List.List Nat.ℕ) → Typed.TF T55 O0
+      at17 = λ bs. λ Ψ. Typed.pass T55 T56 (s54 bs) (at16 bs Ψ)
+      abbrev at18 : (bs : List.List Nat.ℕ) → Typed.TF T54 O0
+      at18 = λ bs. λ Ψ. Typed.pass T54 T55 (s53 bs) (at17 bs Ψ)
+      abbrev at19 : (bs : List.List Nat.ℕ) → Typed.TF T53 O0
+      at19 = λ bs. λ Ψ. Typed.pass T53 T54 (s52 bs) (at18 bs Ψ)
+      abbrev at20 : (bs : List.List Nat.ℕ) → Typed.TF T52 O0
+      at20 = λ bs. λ Ψ. Typed.pass T52 T53 (s51 bs) (at19 bs Ψ)
+      abbrev at21 : (bs : List.List Nat.ℕ) → Typed.TF T51 O0
+      at21 = λ bs. λ Ψ. Typed.pass T51 T52 (s50 bs) (at20 bs Ψ)
+      abbrev at22 : (bs : List.List Nat.ℕ) → Typed.TF T50 O0
+      at22 = λ bs. λ Ψ. Typed.pass T50 T51 (s49 bs) (at21 bs Ψ)
+      abbrev at23 : (bs : List.List Nat.ℕ) → Typed.TF T49 O0
+      at23 = λ bs. λ Ψ. Typed.both (s48 bs) (at22 bs Ψ)
+      abbrev at24 : (bs : List.List Nat.ℕ) → Typed.TF T48 O0
+      at24 = λ bs. λ Ψ. Typed.ask (s47 bs) (at23 bs Ψ)
       abbrev at25 : (bs : List.List Nat.ℕ) → Typed.TF T46 O0
-      at25 = λ bs. λ Ψ. at24 bs Ψ
-      abbrev at26 : (bs : List.List Nat.ℕ) → Typed.TF T45 O0
-      at26 = λ bs. λ Ψ. Typed.ask (s44 bs) (at25 bs Ψ)
-      abbrev at27 : (bs : List.List Nat.ℕ) → Typed.TF T43 O0
-      at27 = λ bs. λ Ψ. Typed.give (s43 bs) (at26 bs Ψ)
+      at25 = λ bs. λ Ψ. Typed.give (s46 bs) (at24 bs Ψ)
+      abbrev at26 : (bs : List.List Nat.ℕ) → Typed.TF T46 O0
+      at26 = λ bs. λ Ψ. at25 bs Ψ
+      abbrev at27 : (bs : List.List Nat.ℕ) → Typed.TF T45 O0
+      at27 = λ bs. λ Ψ. Typed.ask (s44 bs) (at26 bs Ψ)
       abbrev at28 : (bs : List.List Nat.ℕ) → Typed.TF T43 O0
-      at28 = λ bs. λ Ψ. at27 bs Ψ
-      abbrev at29 : (bs : List.List Nat.ℕ) → Typed.TF T42 O0
-      at29 = λ bs. λ Ψ. Typed.ask (s41 bs) (at28 bs Ψ)
-      abbrev at30 : (bs : List.List Nat.ℕ) → Typed.TF T40 O0
-      at30 = λ bs. λ Ψ. Typed.give (s40 bs) (at29 bs Ψ)
+      at28 = λ bs. λ Ψ. Typed.give (s43 bs) (at27 bs Ψ)
+      abbrev at29 : (bs : List.List Nat.ℕ) → Typed.TF T43 O0
+      at29 = λ bs. λ Ψ. at28 bs Ψ
+      abbrev at30 : (bs : List.List Nat.ℕ) → Typed.TF T42 O0
+      at30 = λ bs. λ Ψ. Typed.ask (s41 bs) (at29 bs Ψ)
       abbrev at31 : (bs : List.List Nat.ℕ) → Typed.TF T40 O0
-      at31 = λ bs. λ Ψ. at30 bs Ψ
-      abbrev at32 : (bs : List.List Nat.ℕ) → Typed.TF T39 O0
-      at32 = λ bs. λ Ψ. Typed.ask (s38 bs) (at31 bs Ψ)
-      abbrev at33 : (bs : List.List Nat.ℕ) → Typed.TF T37 O0
-      at33 = λ bs. λ Ψ. Typed.give (s37 bs) (at32 bs Ψ)
+      at31 = λ bs. λ Ψ. Typed.give (s40 bs) (at30 bs Ψ)
+      abbrev at32 : (bs : List.List Nat.ℕ) → Typed.TF T40 O0
+      at32 = λ bs. λ Ψ. at31 bs Ψ
+      abbrev at33 : (bs : List.List Nat.ℕ) → Typed.TF T39 O0
+      at33 = λ bs. λ Ψ. Typed.ask (s38 bs) (at32 bs Ψ)
       abbrev at34 : (bs : List.List Nat.ℕ) → Typed.TF T37 O0
-      at34 = λ bs. λ Ψ. at33 bs Ψ
-      abbrev at35 : (bs : List.List Nat.ℕ) → Typed.TF T36 O0
-      at35 = λ bs. λ Ψ. Typed.ask (s35 bs) (at34 bs Ψ)
-      abbrev at36 : (bs : List.List Nat.ℕ) → Typed.TF T33 O0
-      at36 = λ bs. λ Ψ. Typed.give (s34 bs) (at35 bs Ψ)
+      at34 = λ bs. λ Ψ. Typed.give (s37 bs) (at33 bs Ψ)
+      abbrev at35 : (bs : List.List Nat.ℕ) → Typed.TF T37 O0
+      at35 = λ bs. λ Ψ. at34 bs Ψ
+      abbrev at36 : (bs : List.List Nat.ℕ) → Typed.TF T36 O0
+      at36 = λ bs. λ Ψ. Typed.ask (s35 bs) (at35 bs Ψ)
       abbrev at37 : (bs : List.List Nat.ℕ) → Typed.TF T33 O0
-      at37 = λ bs. λ Ψ. at36 bs Ψ
+      at37 = λ bs. λ Ψ. Typed.give (s34 bs) (at36 bs Ψ)
       abbrev at38 : (bs : List.List Nat.ℕ) → Typed.TF T33 O0
       at38 = λ bs. λ Ψ. at37 bs Ψ
-      abbrev at39 : (bs : List.List Nat.ℕ) → Typed.TF T31 O0
-      at39 = λ bs. λ Ψ. Typed.both (s31 bs) (at38 bs Ψ)
+      abbrev at39 : (bs : List.List Nat.ℕ) → Typed.TF T33 O0
+      at39 = λ bs. λ Ψ. at38 bs Ψ
       abbrev at40 : (bs : List.List Nat.ℕ) → Typed.TF T31 O0
-      at40 = λ bs. λ Ψ. at39 bs Ψ
-      abbrev at41 : (bs : List.List Nat.ℕ) → Typed.TF T30 O0
-      at41 = λ bs. λ Ψ. Typed.pass T30 T31 (s29 bs) (at40 bs Ψ)
-      abbrev at42 : (bs : List.List Nat.ℕ) → Typed.TF T29 O0
-      at42 = λ bs. λ Ψ. Typed.pass T29 T30 (s28 bs) (at41 bs Ψ)
-      abbrev at43 : (bs : List.List Nat.ℕ) → Typed.TF T28 O0
-      at43 = λ bs. λ Ψ. Typed.both (s27 bs) (at42 bs Ψ)
-      abbrev at44 : (bs : List.List Nat.ℕ) → Typed.TF T27 O0
-      at44 = λ bs. λ Ψ. Typed.ask (s26 bs) (at43 bs Ψ)
-      abbrev at45 : (bs : List.List Nat.ℕ) → Typed.TF T25 O0
-      at45 = λ bs. λ Ψ. Typed.give (s25 bs) (at44 bs Ψ)
+      at40 = λ bs. λ Ψ. Typed.both (s31 bs) (at39 bs Ψ)
+      abbrev at41 : (bs : List.List Nat.ℕ) → Typed.TF T31 O0
+      at41 = λ bs. λ Ψ. at40 bs Ψ
+      abbrev at42 : (bs : List.List Nat.ℕ) → Typed.TF T30 O0
+      at42 = λ bs. λ Ψ. Typed.pass T30 T31 (s29 bs) (at41 bs Ψ)
+      abbrev at43 : (bs : List.List Nat.ℕ) → Typed.TF T29 O0
+      at43 = λ bs. λ Ψ. Typed.pass T29 T30 (s28 bs) (at42 bs Ψ)
+      abbrev at44 : (bs : List.List Nat.ℕ) → Typed.TF T28 O0
+      at44 = λ bs. λ Ψ. Typed.both (s27 bs) (at43 bs Ψ)
+      abbrev at45 : (bs : List.List Nat.ℕ) → Typed.TF T27 O0
+      at45 = λ bs. λ Ψ. Typed.ask (s26 bs) (at44 bs Ψ)
       abbrev at46 : (bs : List.List Nat.ℕ) → Typed.TF T25 O0
-      at46 = λ bs. λ Ψ. at45 bs Ψ
-      abbrev at47 : (bs : List.List Nat.ℕ) → Typed.TF T24 O0
-      at47 = λ bs. λ Ψ. Typed.both (s23 bs) (at46 bs Ψ)
-      abbrev at48 : (bs : List.List Nat.ℕ) → Typed.TF T23 O0
-      at48 = λ bs. λ Ψ. Typed.pass T23 T24 (s22 bs) (at47 bs Ψ)
-      abbrev at49 : (bs : List.List Nat.ℕ) → Typed.TF T22 O0
-      at49 = λ bs. λ Ψ. Typed.both (s21 bs) (at48 bs Ψ)
-      abbrev at50 : (bs : List.List Nat.ℕ) → Typed.TF T20 O0
-      at50 = λ bs. λ Ψ. Typed.both (s20 bs) (at49 bs Ψ)
+      at46 = λ bs. λ Ψ. Typed.give (s25 bs) (at45 bs Ψ)
+      abbrev at47 : (bs : List.List Nat.ℕ) → Typed.TF T25 O0
+      at47 = λ bs. λ Ψ. at46 bs Ψ
+      abbrev at48 : (bs : List.List Nat.ℕ) → Typed.TF T24 O0
+      at48 = λ bs. λ Ψ. Typed.both (s23 bs) (at47 bs Ψ)
+      abbrev at49 : (bs : List.List Nat.ℕ) → Typed.TF T23 O0
+      at49 = λ bs. λ Ψ. Typed.pass T23 T24 (s22 bs) (at48 bs Ψ)
+      abbrev at50 : (bs : List.List Nat.ℕ) → Typed.TF T22 O0
+      at50 = λ bs. λ Ψ. Typed.both (s21 bs) (at49 bs Ψ)
       abbrev at51 : (bs : List.List Nat.ℕ) → Typed.TF T20 O0
-      at51 = λ bs. λ Ψ. at50 bs Ψ
-      abbrev at52 : (bs : List.List Nat.ℕ) → Typed.TF T17 O0
-      at52 = λ bs. λ Ψ. Typed.pass T17 T20 (s18 bs) (at51 bs Ψ)
+      at51 = λ bs. λ Ψ. Typed.both (s20 bs) (at50 bs Ψ)
+      abbrev at52 : (bs : List.List Nat.ℕ) → Typed.TF T20 O0
+      at52 = λ bs. λ Ψ. at51 bs Ψ
       abbrev at53 : (bs : List.List Nat.ℕ) → Typed.TF T17 O0
-      at53 = λ bs. λ Ψ. at52 bs Ψ
+      at53 = λ bs. λ Ψ. Typed.pass T17 T20 (s18 bs) (at52 bs Ψ)
       abbrev at54 : (bs : List.List Nat.ℕ) → Typed.TF T17 O0
       at54 = λ bs. λ Ψ. at53 bs Ψ
-      abbrev at55 : (bs : List.List Nat.ℕ) → Typed.TF T15 O0
-      at55 = λ bs. λ Ψ. Typed.pass T15 T17 (s15 bs) (at54 bs Ψ)
+      abbrev at55 : (bs : List.List Nat.ℕ) → Typed.TF T17 O0
+      at55 = λ bs. λ Ψ. at54 bs Ψ
       abbrev at56 : (bs : List.List Nat.ℕ) → Typed.TF T15 O0
-      at56 = λ bs. λ Ψ. at55 bs Ψ
-      abbrev at57 : (bs : List.List Nat.ℕ) → Typed.TF T14 O0
-      at57 = λ bs. λ Ψ. Typed.pass T14 T15 (s13 bs) (at56 bs Ψ)
-      abbrev at58 : (bs : List.List Nat.ℕ) → Typed.TF T13 O0
-      at58 = λ bs. λ Ψ. Typed.pass T13 T14 (s12 bs) (at57 bs Ψ)
-      abbrev at59 : (bs : List.List Nat.ℕ) → Typed.TF T12 O0
-      at59 = λ bs. λ Ψ. Typed.both (s11 bs) (at58 bs Ψ)
-      abbrev at60 : (bs : List.List Nat.ℕ) → Typed.TF T11 O0
-      at60 = λ bs. λ Ψ. Typed.ask (s10 bs) (at59 bs Ψ)
-      abbrev at61 : (bs : List.List Nat.ℕ) → Typed.TF T9 O0
-      at61 = λ bs. λ Ψ. Typed.give (s9 bs) (at60 bs Ψ)
+      at56 = λ bs. λ Ψ. Typed.pass T15 T17 (s15 bs) (at55 bs Ψ)
+      abbrev at57 : (bs : List.List Nat.ℕ) → Typed.TF T15 O0
+      at57 = λ bs. λ Ψ. at56 bs Ψ
+      abbrev at58 : (bs : List.List Nat.ℕ) → Typed.TF T14 O0
+      at58 = λ bs. λ Ψ. Typed.pass T14 T15 (s13 bs) (at57 bs Ψ)
+      abbrev at59 : (bs : List.List Nat.ℕ) → Typed.TF T13 O0
+      at59 = λ bs. λ Ψ. Typed.pass T13 T14 (s12 bs) (at58 bs Ψ)
+      abbrev at60 : (bs : List.List Nat.ℕ) → Typed.TF T12 O0
+      at60 = λ bs. λ Ψ. Typed.both (s11 bs) (at59 bs Ψ)
+      abbrev at61 : (bs : List.List Nat.ℕ) → Typed.TF T11 O0
+      at61 = λ bs. λ Ψ. Typed.ask (s10 bs) (at60 bs Ψ)
       abbrev at62 : (bs : List.List Nat.ℕ) → Typed.TF T9 O0
-      at62 = λ bs. λ Ψ. at61 bs Ψ
-      abbrev at63 : (bs : List.List Nat.ℕ) → Typed.TF T8 O0
-      at63 = λ bs. λ Ψ. Typed.ask (s7 bs) (at62 bs Ψ)
-      abbrev at64 : (bs : List.List Nat.ℕ) → Typed.TF T6 O0
-      at64 = λ bs. λ Ψ. Typed.give (s6 bs) (at63 bs Ψ)
+      at62 = λ bs. λ Ψ. Typed.give (s9 bs) (at61 bs Ψ)
+      abbrev at63 : (bs : List.List Nat.ℕ) → Typed.TF T9 O0
+      at63 = λ bs. λ Ψ. at62 bs Ψ
+      abbrev at64 : (bs : List.List Nat.ℕ) → Typed.TF T8 O0
+      at64 = λ bs. λ Ψ. Typed.ask (s7 bs) (at63 bs Ψ)
       abbrev at65 : (bs : List.List Nat.ℕ) → Typed.TF T6 O0
-      at65 = λ bs. λ Ψ. at64 bs Ψ
-      abbrev at66 : (bs : List.List Nat.ℕ) → Typed.TF T5 O0
-      at66 = λ bs. λ Ψ. Typed.give (s4 bs) (at65 bs Ψ)
-      abbrev at67 : (bs : List.List Nat.ℕ) → Typed.TF T4 O0
-      at67 = λ bs. λ Ψ. Typed.give (s3 bs) (at66 bs Ψ)
-      abbrev at68 : (bs : List.List Nat.ℕ) → Typed.TF T3 O0
-      at68 = λ bs. λ Ψ. Typed.give (s2 bs) (at67 bs Ψ)
-      abbrev at69 : (bs : List.List Nat.ℕ) → Typed.TF T2 O0
-      at69 = λ bs. λ Ψ. Typed.give (s1 bs) (at68 bs Ψ)
-      abbrev at70 : (bs : List.List Nat.ℕ) → Typed.TF T0 O0
-      at70 = λ bs. λ Ψ. Typed.give (s0 bs) (at69 bs Ψ)
+      at65 = λ bs. λ Ψ. Typed.give (s6 bs) (at64 bs Ψ)
+      abbrev at66 : (bs : List.List Nat.ℕ) → Typed.TF T6 O0
+      at66 = λ bs. λ Ψ. at65 bs Ψ
+      abbrev at67 : (bs : List.List Nat.ℕ) → Typed.TF T5 O0
+      at67 = λ bs. λ Ψ. Typed.give (s4 bs) (at66 bs Ψ)
+      abbrev at68 : (bs : List.List Nat.ℕ) → Typed.TF T4 O0
+      at68 = λ bs. λ Ψ. Typed.give (s3 bs) (at67 bs Ψ)
+      abbrev at69 : (bs : List.List Nat.ℕ) → Typed.TF T3 O0
+      at69 = λ bs. λ Ψ. Typed.give (s2 bs) (at68 bs Ψ)
+      abbrev at70 : (bs : List.List Nat.ℕ) → Typed.TF T2 O0
+      at70 = λ bs. λ Ψ. Typed.give (s1 bs) (at69 bs Ψ)
+      abbrev at71 : (bs : List.List Nat.ℕ) → Typed.TF T0 O0
+      at71 = λ bs. λ Ψ. Typed.give (s0 bs) (at70 bs Ψ)
       abbrev pub Φ : (bs : List.List Nat.ℕ) → Typed.TF T0 O0
-      Φ = λ bs. at70 bs
+      Φ = λ bs. at71 bs
       module _ { M : Type 1 } (𝓤 : URA.URA M) (H : Wp.Heap 𝓤) (A : Atoms.Atoms 𝓤) (W : Kit.Given 𝓤 H A) (𝓣 : Wp.Tables 𝓤 H) where
         abbrev Knowns : Type 1
         Knowns = Plain.Known 𝓤 H A W 𝓣 5 ps·0 r·0 (claims· .0) (claims· .1) "hnsr_circuit::handle_open::gather" × Plain.Known 𝓤 H A W 𝓣 0 ps·1 r·1
@@ -970,166 +1008,170 @@ module _ (claims· : Claims) where
         abbrev life8 : Row.Life
         life8 = Row.lease (κs .1 .1 .1 .1 .1 .1 .1 .1 .0) (qs .1 .1 .1 .1 .1 .1 .1 .1 .0)
         abbrev g4 : List.List Row.Entry
-        g4 = (0, Rows.any-gone Laws'''''.mir,) ∷ (1, Reshare.mslice-owedS RelayPending.row ref6 0 9 life0,) ∷ (2, Mut.mslice RelayCircuit.row ref7 1,)
-            ∷ (3, Mut.mslice ReservationUsage.row ref8 2,) ∷ (4, Mut.mslice InflightAction.row ref9 3,) ∷ (5, Mut.mslice (Referent.rtF (Referent.fInt
-            Syntax.w32)) ref10 4,) ∷ (6, Rows.whole (Declared'.row OpaqueRelayRuntime.the-type)) ∷ (7, Rows.whole (Declared'.row
-            RelayPacket.the-type),) ∷ (8, Rows.sslice (Referent.rtF (Referent.fInt Syntax.w8)) ref11 5,) ∷ (9, Rows.sslice (Referent.rtF
-            (Referent.fInt Syntax.w8)) ref12 6,) ∷ (10, Rows.sslice (Referent.rtF (Referent.fInt Syntax.w8)) ref13 7,) ∷ (11, Rows.sslice
-            (Referent.rtF (Referent.fInt Syntax.w8)) ref14 8,) ∷ (12, Rows.any-gone Laws''.mir,) ∷ (13, Rows.any-gone Laws'.mir,) ∷ (14, Rows.any-gone
-            Laws.mir,) ∷ (15, Rows.any-gone Syntax.tyBool) ∷ List.[]
+        g4 = (0, Rows.any-gone Laws''''''.mir,) ∷ (1, Reshare.mslice-owedS RelayPending.row ref6 0 9 life0,) ∷ (2, Mut.mslice RelayCircuit.row ref7
+            1,) ∷ (3, Mut.mslice ReservationUsage.row ref8 2,) ∷ (4, Mut.mslice InflightAction.row ref9 3,) ∷ (5, Mut.mslice (Referent.rtF
+            (Referent.fInt Syntax.w32)) ref10 4,) ∷ (6, Rows.whole (Declared'.row OpaqueRelayRuntime.the-type)) ∷ (7, Rows.whole (Declared'.row
+            Places.the-type),) ∷ (8, Rows.whole (Declared'.row RelayPacket.the-type)) ∷ (9, Rows.sslice (Referent.rtF (Referent.fInt Syntax.w8)) ref11
+            5,) ∷ (10, Rows.sslice (Referent.rtF (Referent.fInt Syntax.w8)) ref12 6,) ∷ (11, Rows.sslice (Referent.rtF (Referent.fInt Syntax.w8))
+            ref13 7,) ∷ (12, Rows.sslice (Referent.rtF (Referent.fInt Syntax.w8)) ref14 8,) ∷ (13, Rows.any-gone Laws''.mir,) ∷ (14, Rows.any-gone
+            Laws'.mir,) ∷ (15, Rows.any-gone Laws.mir,) ∷ List.[]
         abbrev g7 : List.List Row.Entry
-        g7 = (0, Rows.any-gone Laws'''''.mir,) ∷ (1, Reshare.mslice-owedS RelayPending.row ref6 0 9 life0,) ∷ (2, Reshare.mslice-owedS
+        g7 = (0, Rows.any-gone Laws''''''.mir,) ∷ (1, Reshare.mslice-owedS RelayPending.row ref6 0 9 life0,) ∷ (2, Reshare.mslice-owedS
             RelayCircuit.row ref7 1 10 life1,) ∷ (3, Mut.mslice ReservationUsage.row ref8 2,) ∷ (4, Mut.mslice InflightAction.row ref9 3,) ∷ (5,
             Mut.mslice (Referent.rtF (Referent.fInt Syntax.w32)) ref10 4,) ∷ (6, Rows.whole (Declared'.row OpaqueRelayRuntime.the-type)) ∷ (7,
-            Rows.whole (Declared'.row RelayPacket.the-type),) ∷ (8, Rows.sslice (Referent.rtF (Referent.fInt Syntax.w8)) ref11 5,) ∷ (9, Rows.sslice
-            (Referent.rtF (Referent.fInt Syntax.w8)) ref12 6,) ∷ (10, Rows.sslice (Referent.rtF (Referent.fInt Syntax.w8)) ref13 7,) ∷ (11,
-            Rows.sslice (Referent.rtF (Referent.fInt Syntax.w8)) ref14 8,) ∷ (12, Rows.any-gone Laws''.mir,) ∷ (13, Rows.any-gone Laws'.mir,) ∷ (14,
-            Rows.any-gone Laws.mir,) ∷ (15, Rows.any-gone Syntax.tyBool) ∷ List.[]
+            Rows.whole (Declared'.row Places.the-type),) ∷ (8, Rows.whole (Declared'.row RelayPacket.the-type)) ∷ (9, Rows.sslice (Referent.rtF
+            (Referent.fInt Syntax.w8)) ref11 5,) ∷ (10, Rows.sslice (Referent.rtF (Referent.fInt Syntax.w8)) ref12 6,) ∷ (11, Rows.sslice
+            (Referent.rtF (Referent.fInt Syntax.w8)) ref13 7,) ∷ (12, Rows.sslice (Referent.rtF (Referent.fInt Syntax.w8)) ref14 8,) ∷ (13,
+            Rows.any-gone Laws''.mir,) ∷ (14, Rows.any-gone Laws'.mir,) ∷ (15, Rows.any-gone Laws.mir,) ∷ List.[]
         abbrev g10 : List.List Row.Entry
-        g10 = (0, Rows.any-gone Laws'''''.mir,) ∷ (1, Reshare.mslice-owedS RelayPending.row ref6 0 9 life0,) ∷ (2, Reshare.mslice-owedS
+        g10 = (0, Rows.any-gone Laws''''''.mir,) ∷ (1, Reshare.mslice-owedS RelayPending.row ref6 0 9 life0,) ∷ (2, Reshare.mslice-owedS
             RelayCircuit.row ref7 1 10 life1,) ∷ (3, Mut.mslice ReservationUsage.row ref8 2,) ∷ (4, Mut.mslice InflightAction.row ref9 3,) ∷ (5,
             Mut.mslice (Referent.rtF (Referent.fInt Syntax.w32)) ref10 4,) ∷ (6, Rows.whole (Declared'.row OpaqueRelayRuntime.the-type)) ∷ (7,
-            Rows.whole (Declared'.row RelayPacket.the-type),) ∷ (8, Rows.sslice (Referent.rtF (Referent.fInt Syntax.w8)) ref11 5,) ∷ (9, Rows.sslice
-            (Referent.rtF (Referent.fInt Syntax.w8)) ref12 6,) ∷ (10, Rows.sslice (Referent.rtF (Referent.fInt Syntax.w8)) ref13 7,) ∷ (11,
-            Rows.sslice (Referent.rtF (Referent.fInt Syntax.w8)) ref14 8,) ∷ (12, Rows.whole (Declared'.row OpenGathered.the-type)) ∷ (13,
-            Rows.any-gone Laws'.mir,) ∷ (14, Rows.any-gone Laws.mir,) ∷ (15, Rows.any-gone Syntax.tyBool) ∷ List.[]
+            Rows.whole (Declared'.row Places.the-type),) ∷ (8, Rows.whole (Declared'.row RelayPacket.the-type)) ∷ (9, Rows.sslice (Referent.rtF
+            (Referent.fInt Syntax.w8)) ref11 5,) ∷ (10, Rows.sslice (Referent.rtF (Referent.fInt Syntax.w8)) ref12 6,) ∷ (11, Rows.sslice
+            (Referent.rtF (Referent.fInt Syntax.w8)) ref13 7,) ∷ (12, Rows.sslice (Referent.rtF (Referent.fInt Syntax.w8)) ref14 8,) ∷ (13, Rows.whole
+            (Declared'.row OpenGathered.the-type)) ∷ (14, Rows.any-gone Laws'.mir,) ∷ (15, Rows.any-gone Laws.mir,) ∷ List.[]
         abbrev g12 : List.List Row.Entry
-        g12 = (0, Rows.any-gone Laws'''''.mir,) ∷ (1, Mut.mslice RelayPending.row ref6 0,) ∷ (2, Reshare.mslice-owedS RelayCircuit.row ref7 1 10
+        g12 = (0, Rows.any-gone Laws''''''.mir,) ∷ (1, Mut.mslice RelayPending.row ref6 0,) ∷ (2, Reshare.mslice-owedS RelayCircuit.row ref7 1 10
             life1,) ∷ (3, Mut.mslice ReservationUsage.row ref8 2,) ∷ (4, Mut.mslice InflightAction.row ref9 3,) ∷ (5, Mut.mslice (Referent.rtF
             (Referent.fInt Syntax.w32)) ref10 4,) ∷ (6, Rows.whole (Declared'.row OpaqueRelayRuntime.the-type)) ∷ (7, Rows.whole (Declared'.row
-            RelayPacket.the-type),) ∷ (8, Rows.sslice (Referent.rtF (Referent.fInt Syntax.w8)) ref11 5,) ∷ (9, Rows.sslice (Referent.rtF
-            (Referent.fInt Syntax.w8)) ref12 6,) ∷ (10, Rows.sslice (Referent.rtF (Referent.fInt Syntax.w8)) ref13 7,) ∷ (11, Rows.sslice
-            (Referent.rtF (Referent.fInt Syntax.w8)) ref14 8,) ∷ (12, Rows.whole (Declared'.row OpenGathered.the-type)) ∷ (13, Rows.any-gone
-            Laws'.mir,) ∷ (14, Rows.any-gone Laws.mir,) ∷ (15, Rows.any-gone Syntax.tyBool) ∷ List.[]
+            Places.the-type),) ∷ (8, Rows.whole (Declared'.row RelayPacket.the-type)) ∷ (9, Rows.sslice (Referent.rtF (Referent.fInt Syntax.w8)) ref11
+            5,) ∷ (10, Rows.sslice (Referent.rtF (Referent.fInt Syntax.w8)) ref12 6,) ∷ (11, Rows.sslice (Referent.rtF (Referent.fInt Syntax.w8))
+            ref13 7,) ∷ (12, Rows.sslice (Referent.rtF (Referent.fInt Syntax.w8)) ref14 8,) ∷ (13, Rows.whole (Declared'.row OpenGathered.the-type)) ∷
+            (14, Rows.any-gone Laws'.mir,) ∷ (15, Rows.any-gone Laws.mir,) ∷ List.[]
         abbrev g18 : List.List Row.Entry
-        g18 = (0, Rows.any-gone Laws'''''.mir,) ∷ (1, Mut.mslice RelayPending.row ref6 0,) ∷ (2, Mut.mslice RelayCircuit.row ref7 1,) ∷ (3,
+        g18 = (0, Rows.any-gone Laws''''''.mir,) ∷ (1, Mut.mslice RelayPending.row ref6 0,) ∷ (2, Mut.mslice RelayCircuit.row ref7 1,) ∷ (3,
             Relend.mslice-owed ReservationUsage.row ref8 2 11 life2,) ∷ (4, Mut.mslice InflightAction.row ref9 3,) ∷ (5, Mut.mslice (Referent.rtF
             (Referent.fInt Syntax.w32)) ref10 4,) ∷ (6, Rows.whole (Declared'.row OpaqueRelayRuntime.the-type)) ∷ (7, Rows.whole (Declared'.row
-            RelayPacket.the-type),) ∷ (8, Rows.sslice (Referent.rtF (Referent.fInt Syntax.w8)) ref11 5,) ∷ (9, Rows.sslice (Referent.rtF
-            (Referent.fInt Syntax.w8)) ref12 6,) ∷ (10, Rows.sslice (Referent.rtF (Referent.fInt Syntax.w8)) ref13 7,) ∷ (11, Rows.sslice
-            (Referent.rtF (Referent.fInt Syntax.w8)) ref14 8,) ∷ (12, Rows.whole (Declared'.row OpenGathered.the-type)) ∷ (13, Rows.any-gone
-            Laws'.mir,) ∷ (14, Rows.whole (Declared.row HnsrAnswer.the-type)) ∷ (15, Rows.sc-here Row.sBool,) ∷ List.[]
+            Places.the-type),) ∷ (8, Rows.whole (Declared'.row RelayPacket.the-type)) ∷ (9, Rows.sslice (Referent.rtF (Referent.fInt Syntax.w8)) ref11
+            5,) ∷ (10, Rows.sslice (Referent.rtF (Referent.fInt Syntax.w8)) ref12 6,) ∷ (11, Rows.sslice (Referent.rtF (Referent.fInt Syntax.w8))
+            ref13 7,) ∷ (12, Rows.sslice (Referent.rtF (Referent.fInt Syntax.w8)) ref14 8,) ∷ (13, Rows.whole (Declared'.row OpenGathered.the-type)) ∷
+            (14, Rows.any-gone Laws'.mir,) ∷ (15, Rows.whole (Declared.row HnsrAnswer.the-type)) ∷ List.[]
         abbrev g22 : List.List Row.Entry
-        g22 = (0, Rows.any-gone Laws'''''.mir,) ∷ (1, Mut.mslice RelayPending.row ref6 0,) ∷ (2, Mut.mslice RelayCircuit.row ref7 1,) ∷ (3,
+        g22 = (0, Rows.any-gone Laws''''''.mir,) ∷ (1, Mut.mslice RelayPending.row ref6 0,) ∷ (2, Mut.mslice RelayCircuit.row ref7 1,) ∷ (3,
             Relend.mslice-owed ReservationUsage.row ref8 2 11 life2,) ∷ (4, Mut.mslice InflightAction.row ref9 3,) ∷ (5, Mut.mslice (Referent.rtF
-            (Referent.fInt Syntax.w32)) ref10 4,) ∷ (6, Rows.whole (Declared'.row OpaqueRelayRuntime.the-type)) ∷ (7, Rows.any-gone Laws'''.mir,) ∷
-            (8, Rows.sslice (Referent.rtF (Referent.fInt Syntax.w8)) ref11 5,) ∷ (9, Rows.sslice (Referent.rtF (Referent.fInt Syntax.w8)) ref12 6,) ∷
-            (10, Rows.sslice (Referent.rtF (Referent.fInt Syntax.w8)) ref13 7,) ∷ (11, Rows.sslice (Referent.rtF (Referent.fInt Syntax.w8)) ref14 8,)
-            ∷ (12, Rows.whole (Declared'.row OpenGathered.the-type)) ∷ (13, Rows.any-gone Laws'.mir,) ∷ (14, Rows.whole (Declared.row
-            HnsrAnswer.the-type)) ∷ (15, Rows.sc-here Row.sBool,) ∷ List.[]
+            (Referent.fInt Syntax.w32)) ref10 4,) ∷ (6, Rows.whole (Declared'.row OpaqueRelayRuntime.the-type)) ∷ (7, Rows.whole (Declared'.row
+            Places.the-type),) ∷ (8, Rows.any-gone Laws''''.mir,) ∷ (9, Rows.sslice (Referent.rtF (Referent.fInt Syntax.w8)) ref11 5,) ∷ (10,
+            Rows.sslice (Referent.rtF (Referent.fInt Syntax.w8)) ref12 6,) ∷ (11, Rows.sslice (Referent.rtF (Referent.fInt Syntax.w8)) ref13 7,) ∷
+            (12, Rows.sslice (Referent.rtF (Referent.fInt Syntax.w8)) ref14 8,) ∷ (13, Rows.whole (Declared'.row OpenGathered.the-type)) ∷ (14,
+            Rows.any-gone Laws'.mir,) ∷ (15, Rows.whole (Declared.row HnsrAnswer.the-type)) ∷ List.[]
         abbrev g25 : List.List Row.Entry
-        g25 = (0, Rows.any-gone Laws'''''.mir,) ∷ (1, Relend.mslice-owed RelayPending.row ref6 0 12 life0,) ∷ (2, Mut.mslice RelayCircuit.row ref7 1,)
-            ∷ (3, Mut.mslice ReservationUsage.row ref8 2,) ∷ (4, Mut.mslice InflightAction.row ref9 3,) ∷ (5, Mut.mslice (Referent.rtF (Referent.fInt
-            Syntax.w32)) ref10 4,) ∷ (6, Rows.whole (Declared'.row OpaqueRelayRuntime.the-type)) ∷ (7, Rows.any-gone Laws'''.mir,) ∷ (8, Rows.sslice
-            (Referent.rtF (Referent.fInt Syntax.w8)) ref11 5,) ∷ (9, Rows.sslice (Referent.rtF (Referent.fInt Syntax.w8)) ref12 6,) ∷ (10, Rows.sslice
-            (Referent.rtF (Referent.fInt Syntax.w8)) ref13 7,) ∷ (11, Rows.sslice (Referent.rtF (Referent.fInt Syntax.w8)) ref14 8,) ∷ (12, Rows.whole
-            (Declared'.row OpenGathered.the-type)) ∷ (13, Rows.any-gone Laws'.mir,) ∷ (14, Rows.whole (Declared.row HnsrAnswer.the-type)) ∷ (15,
-            Rows.sc-here Row.sBool,) ∷ List.[]
+        g25 = (0, Rows.any-gone Laws''''''.mir,) ∷ (1, Relend.mslice-owed RelayPending.row ref6 0 12 life0,) ∷ (2, Mut.mslice RelayCircuit.row ref7
+            1,) ∷ (3, Mut.mslice ReservationUsage.row ref8 2,) ∷ (4, Mut.mslice InflightAction.row ref9 3,) ∷ (5, Mut.mslice (Referent.rtF
+            (Referent.fInt Syntax.w32)) ref10 4,) ∷ (6, Rows.whole (Declared'.row OpaqueRelayRuntime.the-type)) ∷ (7, Rows.whole (Declared'.row
+            Places.the-type),) ∷ (8, Rows.any-gone Laws''''.mir,) ∷ (9, Rows.sslice (Referent.rtF (Referent.fInt Syntax.w8)) ref11 5,) ∷ (10,
+            Rows.sslice (Referent.rtF (Referent.fInt Syntax.w8)) ref12 6,) ∷ (11, Rows.sslice (Referent.rtF (Referent.fInt Syntax.w8)) ref13 7,) ∷
+            (12, Rows.sslice (Referent.rtF (Referent.fInt Syntax.w8)) ref14 8,) ∷ (13, Rows.whole (Declared'.row OpenGathered.the-type)) ∷ (14,
+            Rows.any-gone Laws'.mir,) ∷ (15, Rows.whole (Declared.row HnsrAnswer.the-type)) ∷ List.[]
         abbrev g28 : List.List Row.Entry
-        g28 = (0, Rows.any-gone Laws'''''.mir,) ∷ (1, Relend.mslice-owed RelayPending.row ref6 0 12 life0,) ∷ (2, Reshare.mslice-owedS
+        g28 = (0, Rows.any-gone Laws''''''.mir,) ∷ (1, Relend.mslice-owed RelayPending.row ref6 0 12 life0,) ∷ (2, Reshare.mslice-owedS
             RelayCircuit.row ref7 1 13 life1,) ∷ (3, Mut.mslice ReservationUsage.row ref8 2,) ∷ (4, Mut.mslice InflightAction.row ref9 3,) ∷ (5,
             Mut.mslice (Referent.rtF (Referent.fInt Syntax.w32)) ref10 4,) ∷ (6, Rows.whole (Declared'.row OpaqueRelayRuntime.the-type)) ∷ (7,
-            Rows.any-gone Laws'''.mir,) ∷ (8, Rows.sslice (Referent.rtF (Referent.fInt Syntax.w8)) ref11 5,) ∷ (9, Rows.sslice (Referent.rtF
-            (Referent.fInt Syntax.w8)) ref12 6,) ∷ (10, Rows.sslice (Referent.rtF (Referent.fInt Syntax.w8)) ref13 7,) ∷ (11, Rows.sslice
-            (Referent.rtF (Referent.fInt Syntax.w8)) ref14 8,) ∷ (12, Rows.whole (Declared'.row OpenGathered.the-type)) ∷ (13, Rows.any-gone
-            Laws'.mir,) ∷ (14, Rows.whole (Declared.row HnsrAnswer.the-type)) ∷ (15, Rows.sc-here Row.sBool,) ∷ List.[]
+            Rows.whole (Declared'.row Places.the-type),) ∷ (8, Rows.any-gone Laws''''.mir,) ∷ (9, Rows.sslice (Referent.rtF (Referent.fInt Syntax.w8))
+            ref11 5,) ∷ (10, Rows.sslice (Referent.rtF (Referent.fInt Syntax.w8)) ref12 6,) ∷ (11, Rows.sslice (Referent.rtF (Referent.fInt
+            Syntax.w8)) ref13 7,) ∷ (12, Rows.sslice (Referent.rtF (Referent.fInt Syntax.w8)) ref14 8,) ∷ (13, Rows.whole (Declared'.row
+            OpenGathered.the-type)) ∷ (14, Rows.any-gone Laws'.mir,) ∷ (15, Rows.whole (Declared.row HnsrAnswer.the-type)) ∷ List.[]
         abbrev g31 : List.List Row.Entry
-        g31 = (0, Rows.any-gone Laws'''''.mir,) ∷ (1, Relend.mslice-owed RelayPending.row ref6 0 12 life0,) ∷ (2, Reshare.mslice-owedS
+        g31 = (0, Rows.any-gone Laws''''''.mir,) ∷ (1, Relend.mslice-owed RelayPending.row ref6 0 12 life0,) ∷ (2, Reshare.mslice-owedS
             RelayCircuit.row ref7 1 13 life1,) ∷ (3, Relend.mslice-owed ReservationUsage.row ref8 2 14 life2,) ∷ (4, Mut.mslice InflightAction.row
             ref9 3,) ∷ (5, Mut.mslice (Referent.rtF (Referent.fInt Syntax.w32)) ref10 4,) ∷ (6, Rows.whole (Declared'.row
-            OpaqueRelayRuntime.the-type)) ∷ (7, Rows.any-gone Laws'''.mir,) ∷ (8, Rows.sslice (Referent.rtF (Referent.fInt Syntax.w8)) ref11 5,) ∷ (9,
-            Rows.sslice (Referent.rtF (Referent.fInt Syntax.w8)) ref12 6,) ∷ (10, Rows.sslice (Referent.rtF (Referent.fInt Syntax.w8)) ref13 7,) ∷
-            (11, Rows.sslice (Referent.rtF (Referent.fInt Syntax.w8)) ref14 8,) ∷ (12, Rows.whole (Declared'.row OpenGathered.the-type)) ∷ (13,
-            Rows.any-gone Laws'.mir,) ∷ (14, Rows.whole (Declared.row HnsrAnswer.the-type)) ∷ (15, Rows.sc-here Row.sBool,) ∷ List.[]
+            OpaqueRelayRuntime.the-type)) ∷ (7, Rows.whole (Declared'.row Places.the-type),) ∷ (8, Rows.any-gone Laws''''.mir,) ∷ (9, Rows.sslice
+            (Referent.rtF (Referent.fInt Syntax.w8)) ref11 5,) ∷ (10, Rows.sslice (Referent.rtF (Referent.fInt Syntax.w8)) ref12 6,) ∷ (11,
+            Rows.sslice (Referent.rtF (Referent.fInt Syntax.w8)) ref13 7,) ∷ (12, Rows.sslice (Referent.rtF (Referent.fInt Syntax.w8)) ref14 8,) ∷
+            (13, Rows.whole (Declared'.row OpenGathered.the-type)) ∷ (14, Rows.any-gone Laws'.mir,) ∷ (15, Rows.whole (Declared.row
+            HnsrAnswer.the-type)) ∷ List.[]
         abbrev g34 : List.List Row.Entry
-        g34 = (0, Rows.any-gone Laws'''''.mir,) ∷ (1, Relend.mslice-owed RelayPending.row ref6 0 12 life0,) ∷ (2, Reshare.mslice-owedS
+        g34 = (0, Rows.any-gone Laws''''''.mir,) ∷ (1, Relend.mslice-owed RelayPending.row ref6 0 12 life0,) ∷ (2, Reshare.mslice-owedS
             RelayCircuit.row ref7 1 13 life1,) ∷ (3, Relend.mslice-owed ReservationUsage.row ref8 2 14 life2,) ∷ (4, Relend.mslice-owed
             InflightAction.row ref9 3 15 life3,) ∷ (5, Mut.mslice (Referent.rtF (Referent.fInt Syntax.w32)) ref10 4,) ∷ (6, Rows.whole (Declared'.row
-            OpaqueRelayRuntime.the-type)) ∷ (7, Rows.any-gone Laws'''.mir,) ∷ (8, Rows.sslice (Referent.rtF (Referent.fInt Syntax.w8)) ref11 5,) ∷ (9,
-            Rows.sslice (Referent.rtF (Referent.fInt Syntax.w8)) ref12 6,) ∷ (10, Rows.sslice (Referent.rtF (Referent.fInt Syntax.w8)) ref13 7,) ∷
-            (11, Rows.sslice (Referent.rtF (Referent.fInt Syntax.w8)) ref14 8,) ∷ (12, Rows.whole (Declared'.row OpenGathered.the-type)) ∷ (13,
-            Rows.any-gone Laws'.mir,) ∷ (14, Rows.whole (Declared.row HnsrAnswer.the-type)) ∷ (15, Rows.sc-here Row.sBool,) ∷ List.[]
+            OpaqueRelayRuntime.the-type)) ∷ (7, Rows.whole (Declared'.row Places.the-type),) ∷ (8, Rows.any-gone Laws''''.mir,) ∷ (9, Rows.sslice
+            (Referent.rtF (Referent.fInt Syntax.w8)) ref11 5,) ∷ (10, Rows.sslice (Referent.rtF (Referent.fInt Syntax.w8)) ref12 6,) ∷ (11,
+            Rows.sslice (Referent.rtF (Referent.fInt Syntax.w8)) ref13 7,) ∷ (12, Rows.sslice (Referent.rtF (Referent.fInt Syntax.w8)) ref14 8,) ∷
+            (13, Rows.whole (Declared'.row OpenGathered.the-type)) ∷ (14, Rows.any-gone Laws'.mir,) ∷ (15, Rows.whole (Declared.row
+            HnsrAnswer.the-type)) ∷ List.[]
         abbrev g37 : List.List Row.Entry
-        g37 = (0, Rows.any-gone Laws'''''.mir,) ∷ (1, Relend.mslice-owed RelayPending.row ref6 0 12 life0,) ∷ (2, Reshare.mslice-owedS
+        g37 = (0, Rows.any-gone Laws''''''.mir,) ∷ (1, Relend.mslice-owed RelayPending.row ref6 0 12 life0,) ∷ (2, Reshare.mslice-owedS
             RelayCircuit.row ref7 1 13 life1,) ∷ (3, Relend.mslice-owed ReservationUsage.row ref8 2 14 life2,) ∷ (4, Relend.mslice-owed
             InflightAction.row ref9 3 15 life3,) ∷ (5, Relend.mslice-owed (Referent.rtF (Referent.fInt Syntax.w32)) ref10 4 16 life4,) ∷ (6,
-            Rows.whole (Declared'.row OpaqueRelayRuntime.the-type)) ∷ (7, Rows.any-gone Laws'''.mir,) ∷ (8, Rows.sslice (Referent.rtF (Referent.fInt
-            Syntax.w8)) ref11 5,) ∷ (9, Rows.sslice (Referent.rtF (Referent.fInt Syntax.w8)) ref12 6,) ∷ (10, Rows.sslice (Referent.rtF (Referent.fInt
-            Syntax.w8)) ref13 7,) ∷ (11, Rows.sslice (Referent.rtF (Referent.fInt Syntax.w8)) ref14 8,) ∷ (12, Rows.whole (Declared'.row
-            OpenGathered.the-type)) ∷ (13, Rows.any-gone Laws'.mir,) ∷ (14, Rows.whole (Declared.row HnsrAnswer.the-type)) ∷ (15, Rows.sc-here
-            Row.sBool,) ∷ List.[]
+            Rows.whole (Declared'.row OpaqueRelayRuntime.the-type)) ∷ (7, Rows.whole (Declared'.row Places.the-type),) ∷ (8, Rows.any-gone
+            Laws''''.mir,) ∷ (9, Rows.sslice (Referent.rtF (Referent.fInt Syntax.w8)) ref11 5,) ∷ (10, Rows.sslice (Referent.rtF (Referent.fInt
+            Syntax.w8)) ref12 6,) ∷ (11, Rows.sslice (Referent.rtF (Referent.fInt Syntax.w8)) ref13 7,) ∷ (12, Rows.sslice (Referent.rtF
+            (Referent.fInt Syntax.w8)) ref14 8,) ∷ (13, Rows.whole (Declared'.row OpenGathered.the-type)) ∷ (14, Rows.any-gone Laws'.mir,) ∷ (15,
+            Rows.whole (Declared.row HnsrAnswer.the-type)) ∷ List.[]
         abbrev g40 : List.List Row.Entry
         g40 = (0, Rows.whole (Declared'.row Relayed.the-type)) ∷ (1, Relend.mslice-owed RelayPending.row ref6 0 12 life0,) ∷ (2, Reshare.mslice-owedS
             RelayCircuit.row ref7 1 13 life1,) ∷ (3, Relend.mslice-owed ReservationUsage.row ref8 2 14 life2,) ∷ (4, Relend.mslice-owed
             InflightAction.row ref9 3 15 life3,) ∷ (5, Relend.mslice-owed (Referent.rtF (Referent.fInt Syntax.w32)) ref10 4 16 life4,) ∷ (6,
-            Rows.whole (Declared'.row OpaqueRelayRuntime.the-type)) ∷ (7, Rows.any-gone Laws'''.mir,) ∷ (8, Rows.sslice (Referent.rtF (Referent.fInt
-            Syntax.w8)) ref11 5,) ∷ (9, Rows.sslice (Referent.rtF (Referent.fInt Syntax.w8)) ref12 6,) ∷ (10, Rows.sslice (Referent.rtF (Referent.fInt
-            Syntax.w8)) ref13 7,) ∷ (11, Rows.sslice (Referent.rtF (Referent.fInt Syntax.w8)) ref14 8,) ∷ (12, Rows.whole (Declared'.row
-            OpenGathered.the-type)) ∷ (13, Rows.any-gone Laws'.mir,) ∷ (14, Rows.whole (Declared.row HnsrAnswer.the-type)) ∷ (15, Rows.sc-here
-            Row.sBool,) ∷ List.[]
+            Rows.whole (Declared'.row OpaqueRelayRuntime.the-type)) ∷ (7, Rows.whole (Declared'.row Places.the-type),) ∷ (8, Rows.any-gone
+            Laws''''.mir,) ∷ (9, Rows.sslice (Referent.rtF (Referent.fInt Syntax.w8)) ref11 5,) ∷ (10, Rows.sslice (Referent.rtF (Referent.fInt
+            Syntax.w8)) ref12 6,) ∷ (11, Rows.sslice (Referent.rtF (Referent.fInt Syntax.w8)) ref13 7,) ∷ (12, Rows.sslice (Referent.rtF
+            (Referent.fInt Syntax.w8)) ref14 8,) ∷ (13, Rows.whole (Declared'.row OpenGathered.the-type)) ∷ (14, Rows.any-gone Laws'.mir,) ∷ (15,
+            Rows.whole (Declared.row HnsrAnswer.the-type)) ∷ List.[]
         abbrev g44 : List.List Row.Entry
         g44 = (0, Rows.whole (Declared'.row Relayed.the-type)) ∷ (1, Relend.mslice-owed RelayPending.row ref6 0 12 life0,) ∷ (2, Reshare.mslice-owedS
             RelayCircuit.row ref7 1 13 life1,) ∷ (3, Relend.mslice-owed ReservationUsage.row ref8 2 14 life2,) ∷ (4, Relend.mslice-owed
             InflightAction.row ref9 3 15 life3,) ∷ (5, Relend.mslice-owed (Referent.rtF (Referent.fInt Syntax.w32)) ref10 4 16 life4,) ∷ (6,
-            Rows.any-gone Laws''''.mir,) ∷ (7, Rows.any-gone Laws'''.mir,) ∷ (8, Rows.sslice (Referent.rtF (Referent.fInt Syntax.w8)) ref11 5,) ∷ (9,
-            Rows.sslice (Referent.rtF (Referent.fInt Syntax.w8)) ref12 6,) ∷ (10, Rows.sslice (Referent.rtF (Referent.fInt Syntax.w8)) ref13 7,) ∷
-            (11, Rows.sslice (Referent.rtF (Referent.fInt Syntax.w8)) ref14 8,) ∷ (12, Rows.whole (Declared'.row OpenGathered.the-type)) ∷ (13,
-            Rows.any-gone Laws'.mir,) ∷ (14, Rows.whole (Declared.row HnsrAnswer.the-type)) ∷ (15, Rows.sc-here Row.sBool,) ∷ List.[]
+            Rows.any-gone Laws'''''.mir,) ∷ (7, Rows.whole (Declared'.row Places.the-type)) ∷ (8, Rows.any-gone Laws''''.mir,) ∷ (9, Rows.sslice
+            (Referent.rtF (Referent.fInt Syntax.w8)) ref11 5,) ∷ (10, Rows.sslice (Referent.rtF (Referent.fInt Syntax.w8)) ref12 6,) ∷ (11,
+            Rows.sslice (Referent.rtF (Referent.fInt Syntax.w8)) ref13 7,) ∷ (12, Rows.sslice (Referent.rtF (Referent.fInt Syntax.w8)) ref14 8,) ∷
+            (13, Rows.whole (Declared'.row OpenGathered.the-type)) ∷ (14, Rows.any-gone Laws'.mir,) ∷ (15, Rows.whole (Declared.row
+            HnsrAnswer.the-type)) ∷ List.[]
         abbrev g45 : List.List Row.Entry
         g45 = (0, Rows.whole (Declared'.row Relayed.the-type)) ∷ (1, Relend.mslice-owed RelayPending.row ref6 0 12 life0,) ∷ (2, Reshare.mslice-owedS
             RelayCircuit.row ref7 1 13 life1,) ∷ (3, Relend.mslice-owed ReservationUsage.row ref8 2 14 life2,) ∷ (4, Relend.mslice-owed
             InflightAction.row ref9 3 15 life3,) ∷ (5, Relend.mslice-owed (Referent.rtF (Referent.fInt Syntax.w32)) ref10 4 16 life4,) ∷ (6,
-            Rows.any-gone Laws''''.mir,) ∷ (7, Rows.any-gone Laws'''.mir,) ∷ (8, Rows.sslice (Referent.rtF (Referent.fInt Syntax.w8)) ref11 5,) ∷ (9,
-            Rows.sslice (Referent.rtF (Referent.fInt Syntax.w8)) ref12 6,) ∷ (10, Rows.sslice (Referent.rtF (Referent.fInt Syntax.w8)) ref13 7,) ∷
-            (11, Rows.sslice (Referent.rtF (Referent.fInt Syntax.w8)) ref14 8,) ∷ (12, Rows.any-gone Laws''.mir,) ∷ (13, Rows.any-gone Laws'.mir,) ∷
-            (14, Rows.whole (Declared.row HnsrAnswer.the-type)) ∷ (15, Rows.sc-here Row.sBool,) ∷ List.[]
+            Rows.any-gone Laws'''''.mir,) ∷ (7, Rows.any-gone Laws'''.mir,) ∷ (8, Rows.any-gone Laws''''.mir,) ∷ (9, Rows.sslice (Referent.rtF
+            (Referent.fInt Syntax.w8)) ref11 5,) ∷ (10, Rows.sslice (Referent.rtF (Referent.fInt Syntax.w8)) ref12 6,) ∷ (11, Rows.sslice
+            (Referent.rtF (Referent.fInt Syntax.w8)) ref13 7,) ∷ (12, Rows.sslice (Referent.rtF (Referent.fInt Syntax.w8)) ref14 8,) ∷ (13, Rows.whole
+            (Declared'.row OpenGathered.the-type)) ∷ (14, Rows.any-gone Laws'.mir,) ∷ (15, Rows.whole (Declared.row HnsrAnswer.the-type)) ∷ List.[]
         abbrev g46 : List.List Row.Entry
         g46 = (0, Rows.whole (Declared'.row Relayed.the-type)) ∷ (1, Relend.mslice-owed RelayPending.row ref6 0 12 life0,) ∷ (2, Reshare.mslice-owedS
             RelayCircuit.row ref7 1 13 life1,) ∷ (3, Relend.mslice-owed ReservationUsage.row ref8 2 14 life2,) ∷ (4, Relend.mslice-owed
             InflightAction.row ref9 3 15 life3,) ∷ (5, Relend.mslice-owed (Referent.rtF (Referent.fInt Syntax.w32)) ref10 4 16 life4,) ∷ (6,
-            Rows.any-gone Laws''''.mir,) ∷ (7, Rows.any-gone Laws'''.mir,) ∷ (8, Rows.sslice (Referent.rtF (Referent.fInt Syntax.w8)) ref11 5,) ∷ (9,
-            Rows.sslice (Referent.rtF (Referent.fInt Syntax.w8)) ref12 6,) ∷ (10, Rows.sslice (Referent.rtF (Referent.fInt Syntax.w8)) ref13 7,) ∷
-            (11, Rows.sslice (Referent.rtF (Referent.fInt Syntax.w8)) ref14 8,) ∷ (12, Rows.any-gone Laws''.mir,) ∷ (13, Rows.any-gone Laws'.mir,) ∷
-            (14, Rows.any-gone Laws.mir,) ∷ (15, Rows.sc-here Row.sBool) ∷ List.[]
+            Rows.any-gone Laws'''''.mir,) ∷ (7, Rows.any-gone Laws'''.mir,) ∷ (8, Rows.any-gone Laws''''.mir,) ∷ (9, Rows.sslice (Referent.rtF
+            (Referent.fInt Syntax.w8)) ref11 5,) ∷ (10, Rows.sslice (Referent.rtF (Referent.fInt Syntax.w8)) ref12 6,) ∷ (11, Rows.sslice
+            (Referent.rtF (Referent.fInt Syntax.w8)) ref13 7,) ∷ (12, Rows.sslice (Referent.rtF (Referent.fInt Syntax.w8)) ref14 8,) ∷ (13,
+            Rows.any-gone Laws''.mir,) ∷ (14, Rows.any-gone Laws'.mir,) ∷ (15, Rows.whole (Declared.row HnsrAnswer.the-type)) ∷ List.[]
         abbrev g47 : List.List Row.Entry
         g47 = (0, Rows.whole (Declared'.row Relayed.the-type)) ∷ (1, Relend.mslice-owed RelayPending.row ref6 0 12 life0,) ∷ (2, Reshare.mslice-owedS
             RelayCircuit.row ref7 1 13 life1,) ∷ (3, Relend.mslice-owed ReservationUsage.row ref8 2 14 life2,) ∷ (4, Relend.mslice-owed
             InflightAction.row ref9 3 15 life3,) ∷ (5, Relend.mslice-owed (Referent.rtF (Referent.fInt Syntax.w32)) ref10 4 16 life4,) ∷ (6,
-            Rows.any-gone Laws''''.mir,) ∷ (7, Rows.any-gone Laws'''.mir,) ∷ (8, Rows.sslice (Referent.rtF (Referent.fInt Syntax.w8)) ref11 5,) ∷ (9,
-            Rows.sslice (Referent.rtF (Referent.fInt Syntax.w8)) ref12 6,) ∷ (10, Rows.sslice (Referent.rtF (Referent.fInt Syntax.w8)) ref13 7,) ∷
-            (11, Rows.sslice (Referent.rtF (Referent.fInt Syntax.w8)) ref14 8,) ∷ (12, Rows.any-gone Laws''.mir,) ∷ (13, Rows.any-gone Laws'.mir,) ∷
-            (14, Rows.any-gone Laws.mir,) ∷ (15, Rows.any-gone Syntax.tyBool) ∷ List.[]
-        abbrev g48 : List.List Row.Entry
-        g48 = (0, Rows.whole (Declared'.row Relayed.the-type)) ∷ (1, Mut.mslice RelayPending.row ref6 0,) ∷ (2, Reshare.mslice-owedS RelayCircuit.row
+            Rows.any-gone Laws'''''.mir,) ∷ (7, Rows.any-gone Laws'''.mir,) ∷ (8, Rows.any-gone Laws''''.mir,) ∷ (9, Rows.sslice (Referent.rtF
+            (Referent.fInt Syntax.w8)) ref11 5,) ∷ (10, Rows.sslice (Referent.rtF (Referent.fInt Syntax.w8)) ref12 6,) ∷ (11, Rows.sslice
+            (Referent.rtF (Referent.fInt Syntax.w8)) ref13 7,) ∷ (12, Rows.sslice (Referent.rtF (Referent.fInt Syntax.w8)) ref14 8,) ∷ (13,
+            Rows.any-gone Laws''.mir,) ∷ (14, Rows.any-gone Laws'.mir,) ∷ (15, Rows.any-gone Laws.mir,) ∷ List.[]
+        abbrev g49 : List.List Row.Entry
+        g49 = (0, Rows.whole (Declared'.row Relayed.the-type)) ∷ (1, Mut.mslice RelayPending.row ref6 0,) ∷ (2, Reshare.mslice-owedS RelayCircuit.row
             ref7 1 13 life1,) ∷ (3, Relend.mslice-owed ReservationUsage.row ref8 2 14 life2,) ∷ (4, Relend.mslice-owed InflightAction.row ref9 3 15
-            life3,) ∷ (5, Relend.mslice-owed (Referent.rtF (Referent.fInt Syntax.w32)) ref10 4 16 life4,) ∷ (6, Rows.any-gone Laws''''.mir,) ∷ (7,
-            Rows.any-gone Laws'''.mir,) ∷ (8, Rows.sslice (Referent.rtF (Referent.fInt Syntax.w8)) ref11 5,) ∷ (9, Rows.sslice (Referent.rtF
-            (Referent.fInt Syntax.w8)) ref12 6,) ∷ (10, Rows.sslice (Referent.rtF (Referent.fInt Syntax.w8)) ref13 7,) ∷ (11, Rows.sslice
-            (Referent.rtF (Referent.fInt Syntax.w8)) ref14 8,) ∷ (12, Rows.any-gone Laws''.mir,) ∷ (13, Rows.any-gone Laws'.mir,) ∷ (14, Rows.any-gone
-            Laws.mir,) ∷ (15, Rows.any-gone Syntax.tyBool) ∷ List.[]
-        abbrev g50 : List.List Row.Entry
-        g50 = (0, Rows.whole (Declared'.row Relayed.the-type)) ∷ (1, Mut.mslice RelayPending.row ref6 0,) ∷ (2, Mut.mslice RelayCircuit.row ref7 1,) ∷
-            (3, Relend.mslice-owed ReservationUsage.row ref8 2 14 life2,) ∷ (4, Relend.mslice-owed InflightAction.row ref9 3 15 life3,) ∷ (5,
-            Relend.mslice-owed (Referent.rtF (Referent.fInt Syntax.w32)) ref10 4 16 life4,) ∷ (6, Rows.any-gone Laws''''.mir,) ∷ (7, Rows.any-gone
-            Laws'''.mir,) ∷ (8, Rows.sslice (Referent.rtF (Referent.fInt Syntax.w8)) ref11 5,) ∷ (9, Rows.sslice (Referent.rtF (Referent.fInt
-            Syntax.w8)) ref12 6,) ∷ (10, Rows.sslice (Referent.rtF (Referent.fInt Syntax.w8)) ref13 7,) ∷ (11, Rows.sslice (Referent.rtF
-            (Referent.fInt Syntax.w8)) ref14 8,) ∷ (12, Rows.any-gone Laws''.mir,) ∷ (13, Rows.any-gone Laws'.mir,) ∷ (14, Rows.any-gone Laws.mir,) ∷
-            (15, Rows.any-gone Syntax.tyBool) ∷ List.[]
+            life3,) ∷ (5, Relend.mslice-owed (Referent.rtF (Referent.fInt Syntax.w32)) ref10 4 16 life4,) ∷ (6, Rows.any-gone Laws'''''.mir,) ∷ (7,
+            Rows.any-gone Laws'''.mir,) ∷ (8, Rows.any-gone Laws''''.mir,) ∷ (9, Rows.sslice (Referent.rtF (Referent.fInt Syntax.w8)) ref11 5,) ∷ (10,
+            Rows.sslice (Referent.rtF (Referent.fInt Syntax.w8)) ref12 6,) ∷ (11, Rows.sslice (Referent.rtF (Referent.fInt Syntax.w8)) ref13 7,) ∷
+            (12, Rows.sslice (Referent.rtF (Referent.fInt Syntax.w8)) ref14 8,) ∷ (13, Rows.any-gone Laws''.mir,) ∷ (14, Rows.any-gone Laws'.mir,) ∷
+            (15, Rows.any-gone Laws.mir,) ∷ List.[]
         abbrev g51 : List.List Row.Entry
         g51 = (0, Rows.whole (Declared'.row Relayed.the-type)) ∷ (1, Mut.mslice RelayPending.row ref6 0,) ∷ (2, Mut.mslice RelayCircuit.row ref7 1,) ∷
+            (3, Relend.mslice-owed ReservationUsage.row ref8 2 14 life2,) ∷ (4, Relend.mslice-owed InflightAction.row ref9 3 15 life3,) ∷ (5,
+            Relend.mslice-owed (Referent.rtF (Referent.fInt Syntax.w32)) ref10 4 16 life4,) ∷ (6, Rows.any-gone Laws'''''.mir,) ∷ (7, Rows.any-gone
+            Laws'''.mir,) ∷ (8, Rows.any-gone Laws''''.mir,) ∷ (9, Rows.sslice (Referent.rtF (Referent.fInt Syntax.w8)) ref11 5,) ∷ (10, Rows.sslice
+            (Referent.rtF (Referent.fInt Syntax.w8)) ref12 6,) ∷ (11, Rows.sslice (Referent.rtF (Referent.fInt Syntax.w8)) ref13 7,) ∷ (12,
+            Rows.sslice (Referent.rtF (Referent.fInt Syntax.w8)) ref14 8,) ∷ (13, Rows.any-gone Laws''.mir,) ∷ (14, Rows.any-gone Laws'.mir,) ∷ (15,
+            Rows.any-gone Laws.mir,) ∷ List.[]
+        abbrev g52 : List.List Row.Entry
+        g52 = (0, Rows.whole (Declared'.row Relayed.the-type)) ∷ (1, Mut.mslice RelayPending.row ref6 0,) ∷ (2, Mut.mslice RelayCircuit.row ref7 1,) ∷
             (3, Mut.mslice ReservationUsage.row ref8 2,) ∷ (4, Relend.mslice-owed InflightAction.row ref9 3 15 life3,) ∷ (5, Relend.mslice-owed
-            (Referent.rtF (Referent.fInt Syntax.w32)) ref10 4 16 life4,) ∷ (6, Rows.any-gone Laws''''.mir,) ∷ (7, Rows.any-gone Laws'''.mir,) ∷ (8,
-            Rows.sslice (Referent.rtF (Referent.fInt Syntax.w8)) ref11 5,) ∷ (9, Rows.sslice (Referent.rtF (Referent.fInt Syntax.w8)) ref12 6,) ∷ (10,
-            Rows.sslice (Referent.rtF (Referent.fInt Syntax.w8)) ref13 7,) ∷ (11, Rows.sslice (Referent.rtF (Referent.fInt Syntax.w8)) ref14 8,) ∷
-            (12, Rows.any-gone Laws''.mir,) ∷ (13, Rows.any-gone Laws'.mir,) ∷ (14, Rows.any-gone Laws.mir,) ∷ (15, Rows.any-gone Syntax.tyBool) ∷
-            List.[]
-        abbrev g53 : List.List Row.Entry
-        g53 = (0, Rows.whole (Declared'.row Relayed.the-type)) ∷ (1, Mut.mslice RelayPending.row ref6 0,) ∷ (2, Mut.mslice RelayCircuit.row ref7 1,) ∷
+            (Referent.rtF (Referent.fInt Syntax.w32)) ref10 4 16 life4,) ∷ (6, Rows.any-gone Laws'''''.mir,) ∷ (7, Rows.any-gone Laws'''.mir,) ∷ (8,
+            Rows.any-gone Laws''''.mir,) ∷ (9, Rows.sslice (Referent.rtF (Referent.fInt Syntax.w8)) ref11 5,) ∷ (10, Rows.sslice (Referent.rtF
+            (Referent.fInt Syntax.w8)) ref12 6,) ∷ (11, Rows.sslice (Referent.rtF (Referent.fInt Syntax.w8)) ref13 7,) ∷ (12, Rows.sslice
+            (Referent.rtF (Referent.fInt Syntax.w8)) ref14 8,) ∷ (13, Rows.any-gone Laws''.mir,) ∷ (14, Rows.any-gone Laws'.mir,) ∷ (15, Rows.any-gone
+            Laws.mir,) ∷ List.[]
+        abbrev g54 : List.List Row.Entry
+        g54 = (0, Rows.whole (Declared'.row Relayed.the-type)) ∷ (1, Mut.mslice RelayPending.row ref6 0,) ∷ (2, Mut.mslice RelayCircuit.row ref7 1,) ∷
             (3, Mut.mslice ReservationUsage.row ref8 2,) ∷ (4, Mut.mslice InflightAction.row ref9 3,) ∷ (5, Relend.mslice-owed (Referent.rtF
-            (Referent.fInt Syntax.w32)) ref10 4 16 life4,) ∷ (6, Rows.any-gone Laws''''.mir,) ∷ (7, Rows.any-gone Laws'''.mir,) ∷ (8, Rows.sslice
-            (Referent.rtF (Referent.fInt Syntax.w8)) ref11 5,) ∷ (9, Rows.sslice (Referent.rtF (Referent.fInt Syntax.w8)) ref12 6,) ∷ (10, Rows.sslice
-            (Referent.rtF (Referent.fInt Syntax.w8)) ref13 7,) ∷ (11, Rows.sslice (Referent.rtF (Referent.fInt Syntax.w8)) ref14 8,) ∷ (12,
-            Rows.any-gone Laws''.mir,) ∷ (13, Rows.any-gone Laws'.mir,) ∷ (14, Rows.any-gone Laws.mir,) ∷ (15, Rows.any-gone Syntax.tyBool) ∷ List.[]
+            (Referent.fInt Syntax.w32)) ref10 4 16 life4,) ∷ (6, Rows.any-gone Laws'''''.mir,) ∷ (7, Rows.any-gone Laws'''.mir,) ∷ (8, Rows.any-gone
+            Laws''''.mir,) ∷ (9, Rows.sslice (Referent.rtF (Referent.fInt Syntax.w8)) ref11 5,) ∷ (10, Rows.sslice (Referent.rtF (Referent.fInt
+            Syntax.w8)) ref12 6,) ∷ (11, Rows.sslice (Referent.rtF (Referent.fInt Syntax.w8)) ref13 7,) ∷ (12, Rows.sslice (Referent.rtF
+            (Referent.fInt Syntax.w8)) ref14 8,) ∷ (13, Rows.any-gone Laws''.mir,) ∷ (14, Rows.any-gone Laws'.mir,) ∷ (15, Rows.any-gone Laws.mir,) ∷
+            List.[]
         abbrev G0 : Row.Cx
         G0 = record { locals = List._++_ t0 (List._++_ t1 t2); slots = life0 ∷ life1 ∷ life2 ∷ life3 ∷ life4 ∷ life5 ∷ life6 ∷ life7 ∷ life8 ∷ Row.off
             ∷ Row.off ∷ Row.off ∷ Row.off ∷ Row.off ∷ Row.off ∷ Row.off ∷ Row.off ∷ List.[]; }
@@ -1206,10 +1248,10 @@ module _ (claims· : Claims) where
         G24 = record { locals = List._++_ t16 (List._++_ t1 t2); slots = life0 ∷ life1 ∷ life2 ∷ life3 ∷ life4 ∷ life5 ∷ life6 ∷ life7 ∷ life8 ∷
             Row.off ∷ Row.off ∷ Row.off ∷ Row.off ∷ Row.off ∷ Row.off ∷ Row.off ∷ Row.off ∷ List.[]; }
         abbrev G25 : Row.Cx
-        G25 = record { locals = List._++_ t17 (List._++_ t1 t2); slots = life0 ∷ life1 ∷ life2 ∷ life3 ∷ life4 ∷ life5 ∷ life6 ∷ life7 ∷ life8 ∷
+        G25 = record { locals = List._++_ t16 (List._++_ t17 t2); slots = life0 ∷ life1 ∷ life2 ∷ life3 ∷ life4 ∷ life5 ∷ life6 ∷ life7 ∷ life8 ∷
             Row.off ∷ Row.off ∷ Row.off ∷ Row.off ∷ Row.off ∷ Row.off ∷ Row.off ∷ Row.off ∷ List.[]; }
         abbrev G26 : Row.Cx
-        G26 = record { locals = List._++_ t17 (List._++_ t1 t2); slots = life0 ∷ life1 ∷ life2 ∷ life3 ∷ life4 ∷ life5 ∷ life6 ∷ life7 ∷ life8 ∷
+        G26 = record { locals = List._++_ t16 (List._++_ t17 t2); slots = life0 ∷ life1 ∷ life2 ∷ life3 ∷ life4 ∷ life5 ∷ life6 ∷ life7 ∷ life8 ∷
             Row.off ∷ Row.off ∷ Row.alive ∷ Row.off ∷ Row.off ∷ Row.off ∷ Row.off ∷ Row.off ∷ List.[]; }
         abbrev G27 : Row.Cx
         G27 = record { locals = List._++_ g18 (List._++_ t19 t2); slots = life0 ∷ life1 ∷ Row.off ∷ life3 ∷ life4 ∷ life5 ∷ life6 ∷ life7 ∷ life8 ∷
@@ -1230,13 +1272,13 @@ module _ (claims· : Claims) where
         G32 = record { locals = List._++_ g22 (List._++_ t23 t2); slots = life0 ∷ life1 ∷ Row.off ∷ life3 ∷ life4 ∷ life5 ∷ life6 ∷ life7 ∷ life8 ∷
             Row.off ∷ Row.off ∷ Row.dead ∷ Row.off ∷ Row.off ∷ Row.off ∷ Row.off ∷ Row.off ∷ List.[]; }
         abbrev G33 : Row.Cx
-        G33 = record { locals = List._++_ t24 (List._++_ t1 t2); slots = life0 ∷ life1 ∷ life2 ∷ life3 ∷ life4 ∷ life5 ∷ life6 ∷ life7 ∷ life8 ∷
+        G33 = record { locals = List._++_ t24 (List._++_ t17 t2); slots = life0 ∷ life1 ∷ life2 ∷ life3 ∷ life4 ∷ life5 ∷ life6 ∷ life7 ∷ life8 ∷
             Row.off ∷ Row.off ∷ Row.dead ∷ Row.off ∷ Row.off ∷ Row.off ∷ Row.off ∷ Row.off ∷ List.[]; }
         abbrev G34 : Row.Cx
-        G34 = record { locals = List._++_ t24 (List._++_ t1 t2); slots = life0 ∷ life1 ∷ life2 ∷ life3 ∷ life4 ∷ life5 ∷ life6 ∷ life7 ∷ life8 ∷
+        G34 = record { locals = List._++_ t24 (List._++_ t17 t2); slots = life0 ∷ life1 ∷ life2 ∷ life3 ∷ life4 ∷ life5 ∷ life6 ∷ life7 ∷ life8 ∷
             Row.off ∷ Row.off ∷ Row.off ∷ Row.off ∷ Row.off ∷ Row.off ∷ Row.off ∷ Row.off ∷ List.[]; }
         abbrev G35 : Row.Cx
-        G35 = record { locals = List._++_ t24 (List._++_ t1 t2); slots = life0 ∷ life1 ∷ life2 ∷ life3 ∷ life4 ∷ life5 ∷ life6 ∷ life7 ∷ life8 ∷
+        G35 = record { locals = List._++_ t24 (List._++_ t17 t2); slots = life0 ∷ life1 ∷ life2 ∷ life3 ∷ life4 ∷ life5 ∷ life6 ∷ life7 ∷ life8 ∷
             Row.off ∷ Row.off ∷ Row.off ∷ Row.alive ∷ Row.off ∷ Row.off ∷ Row.off ∷ Row.off ∷ List.[]; }
         abbrev G36 : Row.Cx
         G36 = record { locals = List._++_ g25 (List._++_ t26 t2); slots = Row.off ∷ life1 ∷ life2 ∷ life3 ∷ life4 ∷ life5 ∷ life6 ∷ life7 ∷ life8 ∷
@@ -1275,7 +1317,7 @@ module _ (claims· : Claims) where
         G47 = record { locals = List._++_ g34 (List._++_ t36 t2); slots = Row.off ∷ Row.off ∷ Row.off ∷ Row.off ∷ life4 ∷ life5 ∷ life6 ∷ life7 ∷
             life8 ∷ Row.off ∷ Row.off ∷ Row.off ∷ Row.alive ∷ Row.alive ∷ Row.alive ∷ Row.alive ∷ Row.alive ∷ List.[]; }
         abbrev G48 : Row.Cx
-        G48 = record { locals = List._++_ g37 (List._++_ t38 t2); slots = Row.off ∷ Row.off ∷ Row.off ∷ Row.off ∷ Row.off ∷ life5 ∷ life6 ∷ life7 ∷
+        G48 = record { locals = List._++_ g37 (List._++_ t36 t38); slots = Row.off ∷ Row.off ∷ Row.off ∷ Row.off ∷ Row.off ∷ life5 ∷ life6 ∷ life7 ∷
             life8 ∷ Row.off ∷ Row.off ∷ Row.off ∷ Row.alive ∷ Row.alive ∷ Row.alive ∷ Row.alive ∷ Row.alive ∷ List.[]; }
         abbrev G49 : Row.Cx
         G49 = record { locals = List._++_ g37 (List._++_ t36 t39); slots = Row.off ∷ Row.off ∷ Row.off ∷ Row.off ∷ Row.off ∷ life5 ∷ life6 ∷ life7 ∷
@@ -1299,52 +1341,55 @@ module _ (claims· : Claims) where
         G55 = record { locals = List._++_ g47 (List._++_ t43 t42); slots = Row.off ∷ Row.off ∷ Row.off ∷ Row.off ∷ Row.off ∷ life5 ∷ life6 ∷ life7 ∷
             life8 ∷ Row.off ∷ Row.off ∷ Row.off ∷ Row.alive ∷ Row.alive ∷ Row.alive ∷ Row.alive ∷ Row.alive ∷ List.[]; }
         abbrev G56 : Row.Cx
-        G56 = record { locals = List._++_ g47 (List._++_ t43 t42); slots = Row.off ∷ Row.off ∷ Row.off ∷ Row.off ∷ Row.off ∷ life5 ∷ life6 ∷ life7 ∷
-            life8 ∷ Row.off ∷ Row.off ∷ Row.off ∷ Row.dead ∷ Row.alive ∷ Row.alive ∷ Row.alive ∷ Row.alive ∷ List.[]; }
+        G56 = record { locals = List._++_ g47 (List._++_ t48 t42); slots = Row.off ∷ Row.off ∷ Row.off ∷ Row.off ∷ Row.off ∷ life5 ∷ life6 ∷ life7 ∷
+            life8 ∷ Row.off ∷ Row.off ∷ Row.off ∷ Row.alive ∷ Row.alive ∷ Row.alive ∷ Row.alive ∷ Row.alive ∷ List.[]; }
         abbrev G57 : Row.Cx
-        G57 = record { locals = List._++_ g48 (List._++_ t49 t42); slots = life0 ∷ Row.off ∷ Row.off ∷ Row.off ∷ Row.off ∷ life5 ∷ life6 ∷ life7 ∷
+        G57 = record { locals = List._++_ g47 (List._++_ t48 t42); slots = Row.off ∷ Row.off ∷ Row.off ∷ Row.off ∷ Row.off ∷ life5 ∷ life6 ∷ life7 ∷
             life8 ∷ Row.off ∷ Row.off ∷ Row.off ∷ Row.dead ∷ Row.alive ∷ Row.alive ∷ Row.alive ∷ Row.alive ∷ List.[]; }
         abbrev G58 : Row.Cx
-        G58 = record { locals = List._++_ g48 (List._++_ t49 t42); slots = life0 ∷ Row.off ∷ Row.off ∷ Row.off ∷ Row.off ∷ life5 ∷ life6 ∷ life7 ∷
-            life8 ∷ Row.off ∷ Row.off ∷ Row.off ∷ Row.off ∷ Row.alive ∷ Row.alive ∷ Row.alive ∷ Row.alive ∷ List.[]; }
+        G58 = record { locals = List._++_ g49 (List._++_ t50 t42); slots = life0 ∷ Row.off ∷ Row.off ∷ Row.off ∷ Row.off ∷ life5 ∷ life6 ∷ life7 ∷
+            life8 ∷ Row.off ∷ Row.off ∷ Row.off ∷ Row.dead ∷ Row.alive ∷ Row.alive ∷ Row.alive ∷ Row.alive ∷ List.[]; }
         abbrev G59 : Row.Cx
-        G59 = record { locals = List._++_ g48 (List._++_ t49 t42); slots = life0 ∷ Row.off ∷ Row.off ∷ Row.off ∷ Row.off ∷ life5 ∷ life6 ∷ life7 ∷
-            life8 ∷ Row.off ∷ Row.off ∷ Row.off ∷ Row.off ∷ Row.dead ∷ Row.alive ∷ Row.alive ∷ Row.alive ∷ List.[]; }
+        G59 = record { locals = List._++_ g49 (List._++_ t50 t42); slots = life0 ∷ Row.off ∷ Row.off ∷ Row.off ∷ Row.off ∷ life5 ∷ life6 ∷ life7 ∷
+            life8 ∷ Row.off ∷ Row.off ∷ Row.off ∷ Row.off ∷ Row.alive ∷ Row.alive ∷ Row.alive ∷ Row.alive ∷ List.[]; }
         abbrev G60 : Row.Cx
-        G60 = record { locals = List._++_ g50 (List._++_ t49 t42); slots = life0 ∷ life1 ∷ Row.off ∷ Row.off ∷ Row.off ∷ life5 ∷ life6 ∷ life7 ∷ life8
-            ∷ Row.off ∷ Row.off ∷ Row.off ∷ Row.off ∷ Row.dead ∷ Row.alive ∷ Row.alive ∷ Row.alive ∷ List.[]; }
+        G60 = record { locals = List._++_ g49 (List._++_ t50 t42); slots = life0 ∷ Row.off ∷ Row.off ∷ Row.off ∷ Row.off ∷ life5 ∷ life6 ∷ life7 ∷
+            life8 ∷ Row.off ∷ Row.off ∷ Row.off ∷ Row.off ∷ Row.dead ∷ Row.alive ∷ Row.alive ∷ Row.alive ∷ List.[]; }
         abbrev G61 : Row.Cx
-        G61 = record { locals = List._++_ g50 (List._++_ t49 t42); slots = life0 ∷ life1 ∷ Row.off ∷ Row.off ∷ Row.off ∷ life5 ∷ life6 ∷ life7 ∷ life8
-            ∷ Row.off ∷ Row.off ∷ Row.off ∷ Row.off ∷ Row.off ∷ Row.alive ∷ Row.alive ∷ Row.alive ∷ List.[]; }
+        G61 = record { locals = List._++_ g51 (List._++_ t50 t42); slots = life0 ∷ life1 ∷ Row.off ∷ Row.off ∷ Row.off ∷ life5 ∷ life6 ∷ life7 ∷ life8
+            ∷ Row.off ∷ Row.off ∷ Row.off ∷ Row.off ∷ Row.dead ∷ Row.alive ∷ Row.alive ∷ Row.alive ∷ List.[]; }
         abbrev G62 : Row.Cx
-        G62 = record { locals = List._++_ g50 (List._++_ t49 t42); slots = life0 ∷ life1 ∷ Row.off ∷ Row.off ∷ Row.off ∷ life5 ∷ life6 ∷ life7 ∷ life8
-            ∷ Row.off ∷ Row.off ∷ Row.off ∷ Row.off ∷ Row.off ∷ Row.dead ∷ Row.alive ∷ Row.alive ∷ List.[]; }
+        G62 = record { locals = List._++_ g51 (List._++_ t50 t42); slots = life0 ∷ life1 ∷ Row.off ∷ Row.off ∷ Row.off ∷ life5 ∷ life6 ∷ life7 ∷ life8
+            ∷ Row.off ∷ Row.off ∷ Row.off ∷ Row.off ∷ Row.off ∷ Row.alive ∷ Row.alive ∷ Row.alive ∷ List.[]; }
         abbrev G63 : Row.Cx
-        G63 = record { locals = List._++_ g51 (List._++_ t52 t42); slots = life0 ∷ life1 ∷ life2 ∷ Row.off ∷ Row.off ∷ life5 ∷ life6 ∷ life7 ∷ life8 ∷
-            Row.off ∷ Row.off ∷ Row.off ∷ Row.off ∷ Row.off ∷ Row.dead ∷ Row.alive ∷ Row.alive ∷ List.[]; }
+        G63 = record { locals = List._++_ g51 (List._++_ t50 t42); slots = life0 ∷ life1 ∷ Row.off ∷ Row.off ∷ Row.off ∷ life5 ∷ life6 ∷ life7 ∷ life8
+            ∷ Row.off ∷ Row.off ∷ Row.off ∷ Row.off ∷ Row.off ∷ Row.dead ∷ Row.alive ∷ Row.alive ∷ List.[]; }
         abbrev G64 : Row.Cx
-        G64 = record { locals = List._++_ g51 (List._++_ t52 t42); slots = life0 ∷ life1 ∷ life2 ∷ Row.off ∷ Row.off ∷ life5 ∷ life6 ∷ life7 ∷ life8 ∷
-            Row.off ∷ Row.off ∷ Row.off ∷ Row.off ∷ Row.off ∷ Row.off ∷ Row.alive ∷ Row.alive ∷ List.[]; }
+        G64 = record { locals = List._++_ g52 (List._++_ t53 t42); slots = life0 ∷ life1 ∷ life2 ∷ Row.off ∷ Row.off ∷ life5 ∷ life6 ∷ life7 ∷ life8 ∷
+            Row.off ∷ Row.off ∷ Row.off ∷ Row.off ∷ Row.off ∷ Row.dead ∷ Row.alive ∷ Row.alive ∷ List.[]; }
         abbrev G65 : Row.Cx
-        G65 = record { locals = List._++_ g51 (List._++_ t52 t42); slots = life0 ∷ life1 ∷ life2 ∷ Row.off ∷ Row.off ∷ life5 ∷ life6 ∷ life7 ∷ life8 ∷
-            Row.off ∷ Row.off ∷ Row.off ∷ Row.off ∷ Row.off ∷ Row.off ∷ Row.dead ∷ Row.alive ∷ List.[]; }
+        G65 = record { locals = List._++_ g52 (List._++_ t53 t42); slots = life0 ∷ life1 ∷ life2 ∷ Row.off ∷ Row.off ∷ life5 ∷ life6 ∷ life7 ∷ life8 ∷
+            Row.off ∷ Row.off ∷ Row.off ∷ Row.off ∷ Row.off ∷ Row.off ∷ Row.alive ∷ Row.alive ∷ List.[]; }
         abbrev G66 : Row.Cx
-        G66 = record { locals = List._++_ g53 (List._++_ t1 t42); slots = life0 ∷ life1 ∷ life2 ∷ life3 ∷ Row.off ∷ life5 ∷ life6 ∷ life7 ∷ life8 ∷
+        G66 = record { locals = List._++_ g52 (List._++_ t53 t42); slots = life0 ∷ life1 ∷ life2 ∷ Row.off ∷ Row.off ∷ life5 ∷ life6 ∷ life7 ∷ life8 ∷
             Row.off ∷ Row.off ∷ Row.off ∷ Row.off ∷ Row.off ∷ Row.off ∷ Row.dead ∷ Row.alive ∷ List.[]; }
         abbrev G67 : Row.Cx
-        G67 = record { locals = List._++_ g53 (List._++_ t1 t42); slots = life0 ∷ life1 ∷ life2 ∷ life3 ∷ Row.off ∷ life5 ∷ life6 ∷ life7 ∷ life8 ∷
-            Row.off ∷ Row.off ∷ Row.off ∷ Row.off ∷ Row.off ∷ Row.off ∷ Row.off ∷ Row.alive ∷ List.[]; }
+        G67 = record { locals = List._++_ g54 (List._++_ t1 t42); slots = life0 ∷ life1 ∷ life2 ∷ life3 ∷ Row.off ∷ life5 ∷ life6 ∷ life7 ∷ life8 ∷
+            Row.off ∷ Row.off ∷ Row.off ∷ Row.off ∷ Row.off ∷ Row.off ∷ Row.dead ∷ Row.alive ∷ List.[]; }
         abbrev G68 : Row.Cx
-        G68 = record { locals = List._++_ g53 (List._++_ t1 t42); slots = life0 ∷ life1 ∷ life2 ∷ life3 ∷ Row.off ∷ life5 ∷ life6 ∷ life7 ∷ life8 ∷
-            Row.off ∷ Row.off ∷ Row.off ∷ Row.off ∷ Row.off ∷ Row.off ∷ Row.off ∷ Row.dead ∷ List.[]; }
+        G68 = record { locals = List._++_ g54 (List._++_ t1 t42); slots = life0 ∷ life1 ∷ life2 ∷ life3 ∷ Row.off ∷ life5 ∷ life6 ∷ life7 ∷ life8 ∷
+            Row.off ∷ Row.off ∷ Row.off ∷ Row.off ∷ Row.off ∷ Row.off ∷ Row.off ∷ Row.alive ∷ List.[]; }
         abbrev G69 : Row.Cx
-        G69 = record { locals = List._++_ t3 (List._++_ t1 t2); slots = life0 ∷ life1 ∷ life2 ∷ life3 ∷ life4 ∷ life5 ∷ life6 ∷ life7 ∷ life8 ∷
+        G69 = record { locals = List._++_ g54 (List._++_ t1 t42); slots = life0 ∷ life1 ∷ life2 ∷ life3 ∷ Row.off ∷ life5 ∷ life6 ∷ life7 ∷ life8 ∷
             Row.off ∷ Row.off ∷ Row.off ∷ Row.off ∷ Row.off ∷ Row.off ∷ Row.off ∷ Row.dead ∷ List.[]; }
         abbrev G70 : Row.Cx
         G70 = record { locals = List._++_ t3 (List._++_ t1 t2); slots = life0 ∷ life1 ∷ life2 ∷ life3 ∷ life4 ∷ life5 ∷ life6 ∷ life7 ∷ life8 ∷
             Row.off ∷ Row.off ∷ Row.off ∷ Row.off ∷ Row.off ∷ Row.off ∷ Row.off ∷ Row.dead ∷ List.[]; }
         abbrev G71 : Row.Cx
         G71 = record { locals = List._++_ t3 (List._++_ t1 t2); slots = life0 ∷ life1 ∷ life2 ∷ life3 ∷ life4 ∷ life5 ∷ life6 ∷ life7 ∷ life8 ∷
+            Row.off ∷ Row.off ∷ Row.off ∷ Row.off ∷ Row.off ∷ Row.off ∷ Row.off ∷ Row.dead ∷ List.[]; }
+        abbrev G72 : Row.Cx
+        G72 = record { locals = List._++_ t3 (List._++_ t1 t2); slots = life0 ∷ life1 ∷ life2 ∷ life3 ∷ life4 ∷ life5 ∷ life6 ∷ life7 ∷ life8 ∷
             Row.off ∷ Row.off ∷ Row.off ∷ Row.off ∷ Row.off ∷ Row.off ∷ Row.off ∷ Row.off ∷ List.[]; }
         abbrev Δ0 : Typed.Outs
         Δ0 = record { next = Option.none; exits = List.[]; returns = Option.some G1 }
@@ -1352,335 +1397,349 @@ module _ (claims· : Claims) where
             𝓣) (bs : List.List Nat.ℕ) (bd : Lifetimes.AllOutlive 9 (Kinds.osR r) κs) where
           abbrev E : Wp.Env 𝓤 H
           E = Frame.EnvOf 𝓤 H ((Kinds.tyR r) ∷ (Enter.tysP ps xs)) bs
-          d0 : Typed.Typed 𝓤 H A 𝓣 E G71 b22 Δ0 (at0 bs)
+          d0 : Typed.Typed 𝓤 H A 𝓣 E G72 b22 Δ0 (at0 bs)
           d0 = Typed.t-return 𝓤 H A W 𝓣 E Δ0 tt
-          d1 : Typed.Typed 𝓤 H A 𝓣 E G70 b22 Δ0 (at1 bs)
-          d1 = Typed.g-pre 𝓤 H A W 𝓣 E G70 G71 b22 Δ0 (λ Ψ. Ψ) (at0 bs) (Lifetime.g-forget 𝓤 H A W E G70 16 Row.dead Path.refl) d0
-          d2 : Typed.Typed 𝓤 H A 𝓣 E G69 b22 Δ0 (at2 bs)
-          d2 = Typed.g-pre 𝓤 H A W 𝓣 E G69 G70 b22 Δ0 (Typed.give (s68 bs)) (at1 bs) (Know.g-sl-known 𝓤 H A W (Referent.fInt Syntax.w32) E G69 5 4
+          d1 : Typed.Typed 𝓤 H A 𝓣 E G71 b22 Δ0 (at1 bs)
+          d1 = Typed.g-pre 𝓤 H A W 𝓣 E G71 G72 b22 Δ0 (λ Ψ. Ψ) (at0 bs) (Lifetime.g-forget 𝓤 H A W E G71 16 Row.dead Path.refl) d0
+          d2 : Typed.Typed 𝓤 H A 𝓣 E G70 b22 Δ0 (at2 bs)
+          d2 = Typed.g-pre 𝓤 H A W 𝓣 E G70 G71 b22 Δ0 (Typed.give (s69 bs)) (at1 bs) (Know.g-sl-known 𝓤 H A W (Referent.fInt Syntax.w32) E G70 5 4
               ref10 life4 0 (λ x. x) record { fits = Dec.lit< tt } (Reads'.as-is 𝓤 H A (Mut.mslice (Referent.rtF (Referent.fInt Syntax.w32)) ref10 4))
               Path.refl tt) d1
-          d3 : Typed.Typed 𝓤 H A 𝓣 E G68 b22 Δ0 (at3 bs)
-          d3 = Typed.g-pre 𝓤 H A W 𝓣 E G68 G69 b22 Δ0 (Typed.both (s67 bs)) (at2 bs) (Relend.g-back-sl 𝓤 H A W E (Referent.rtF (Referent.fInt
-              Syntax.w32)) G68 32 5 4 16 ref10 ref5 life4 (λ x. x) (λ x. x) (Reads'.as-is 𝓤 H A (Mut.msleft (Referent.rtF (Referent.fInt Syntax.w32))
+          d3 : Typed.Typed 𝓤 H A 𝓣 E G69 b22 Δ0 (at3 bs)
+          d3 = Typed.g-pre 𝓤 H A W 𝓣 E G69 G70 b22 Δ0 (Typed.both (s68 bs)) (at2 bs) (Relend.g-back-sl 𝓤 H A W E (Referent.rtF (Referent.fInt
+              Syntax.w32)) G69 33 5 4 16 ref10 ref5 life4 (λ x. x) (λ x. x) (Reads'.as-is 𝓤 H A (Mut.msleft (Referent.rtF (Referent.fInt Syntax.w32))
               ref5)) (Reads'.as-is 𝓤 H A (Relend.mslice-owed (Referent.rtF (Referent.fInt Syntax.w32)) ref10 4 16 life4)) Path.refl Path.refl) d2
-          d4 : Typed.Typed 𝓤 H A 𝓣 E G67 b22 Δ0 (at4 bs)
-          d4 = Typed.g-pre 𝓤 H A W 𝓣 E G67 G68 b22 Δ0 (λ Ψ. Ψ) (at3 bs) (Lifetime.g-end 𝓤 H A W E G67 16 Path.refl) d3
-          d5 : Typed.Typed 𝓤 H A 𝓣 E G66 b22 Δ0 (at5 bs)
-          d5 = Typed.g-pre 𝓤 H A W 𝓣 E G66 G67 b22 Δ0 (λ Ψ. Ψ) (at4 bs) (Lifetime.g-forget 𝓤 H A W E G66 15 Row.dead Path.refl) d4
-          d6 : Typed.Typed 𝓤 H A 𝓣 E G65 b22 Δ0 (at6 bs)
-          d6 = Typed.g-pre 𝓤 H A W 𝓣 E G65 G66 b22 Δ0 (Typed.both (s64 bs)) (at5 bs) (Relend.g-back-sl 𝓤 H A W E InflightAction.row G65 30 4 3 15 ref9
+          d4 : Typed.Typed 𝓤 H A 𝓣 E G68 b22 Δ0 (at4 bs)
+          d4 = Typed.g-pre 𝓤 H A W 𝓣 E G68 G69 b22 Δ0 (λ Ψ. Ψ) (at3 bs) (Lifetime.g-end 𝓤 H A W E G68 16 Path.refl) d3
+          d5 : Typed.Typed 𝓤 H A 𝓣 E G67 b22 Δ0 (at5 bs)
+          d5 = Typed.g-pre 𝓤 H A W 𝓣 E G67 G68 b22 Δ0 (λ Ψ. Ψ) (at4 bs) (Lifetime.g-forget 𝓤 H A W E G67 15 Row.dead Path.refl) d4
+          d6 : Typed.Typed 𝓤 H A 𝓣 E G66 b22 Δ0 (at6 bs)
+          d6 = Typed.g-pre 𝓤 H A W 𝓣 E G66 G67 b22 Δ0 (Typed.both (s65 bs)) (at5 bs) (Relend.g-back-sl 𝓤 H A W E InflightAction.row G66 31 4 3 15 ref9
               ref4 life3 (λ x. x) (λ x. x) (Reads'.as-is 𝓤 H A (Mut.msleft InflightAction.row ref4)) (Reads'.as-is 𝓤 H A (Relend.mslice-owed
               InflightAction.row ref9 3 15 life3)) Path.refl Path.refl) d5
-          d7 : Typed.Typed 𝓤 H A 𝓣 E G64 b22 Δ0 (at7 bs)
-          d7 = Typed.g-pre 𝓤 H A W 𝓣 E G64 G65 b22 Δ0 (λ Ψ. Ψ) (at6 bs) (Lifetime.g-end 𝓤 H A W E G64 15 Path.refl) d6
-          d8 : Typed.Typed 𝓤 H A 𝓣 E G63 b22 Δ0 (at8 bs)
-          d8 = Typed.g-pre 𝓤 H A W 𝓣 E G63 G64 b22 Δ0 (λ Ψ. Ψ) (at7 bs) (Lifetime.g-forget 𝓤 H A W E G63 14 Row.dead Path.refl) d7
-          d9 : Typed.Typed 𝓤 H A 𝓣 E G62 b22 Δ0 (at9 bs)
-          d9 = Typed.g-pre 𝓤 H A W 𝓣 E G62 G63 b22 Δ0 (Typed.both (s61 bs)) (at8 bs) (Relend.g-back-sl 𝓤 H A W E ReservationUsage.row G62 28 3 2 14
+          d7 : Typed.Typed 𝓤 H A 𝓣 E G65 b22 Δ0 (at7 bs)
+          d7 = Typed.g-pre 𝓤 H A W 𝓣 E G65 G66 b22 Δ0 (λ Ψ. Ψ) (at6 bs) (Lifetime.g-end 𝓤 H A W E G65 15 Path.refl) d6
+          d8 : Typed.Typed 𝓤 H A 𝓣 E G64 b22 Δ0 (at8 bs)
+          d8 = Typed.g-pre 𝓤 H A W 𝓣 E G64 G65 b22 Δ0 (λ Ψ. Ψ) (at7 bs) (Lifetime.g-forget 𝓤 H A W E G64 14 Row.dead Path.refl) d7
+          d9 : Typed.Typed 𝓤 H A 𝓣 E G63 b22 Δ0 (at9 bs)
+          d9 = Typed.g-pre 𝓤 H A W 𝓣 E G63 G64 b22 Δ0 (Typed.both (s62 bs)) (at8 bs) (Relend.g-back-sl 𝓤 H A W E ReservationUsage.row G63 29 3 2 14
               ref8 ref2 life2 (λ x. x) (λ x. x) (Reads'.as-is 𝓤 H A (Mut.msleft ReservationUsage.row ref2)) (Reads'.as-is 𝓤 H A (Relend.mslice-owed
               ReservationUsage.row ref8 2 14 life2)) Path.refl Path.refl) d8
-          d10 : Typed.Typed 𝓤 H A 𝓣 E G61 b22 Δ0 (at10 bs)
-          d10 = Typed.g-pre 𝓤 H A W 𝓣 E G61 G62 b22 Δ0 (λ Ψ. Ψ) (at9 bs) (Lifetime.g-end 𝓤 H A W E G61 14 Path.refl) d9
-          d11 : Typed.Typed 𝓤 H A 𝓣 E G60 b22 Δ0 (at11 bs)
-          d11 = Typed.g-pre 𝓤 H A W 𝓣 E G60 G61 b22 Δ0 (λ Ψ. Ψ) (at10 bs) (Lifetime.g-forget 𝓤 H A W E G60 13 Row.dead Path.refl) d10
-          d12 : Typed.Typed 𝓤 H A 𝓣 E G59 b22 Δ0 (at12 bs)
-          d12 = Typed.g-pre 𝓤 H A W 𝓣 E G59 G60 b22 Δ0 (Typed.pass T57 T60 (s58 bs)) (at11 bs) (Reshare.g-back-sl-shr 𝓤 H A W E RelayCircuit.row G59 2
+          d10 : Typed.Typed 𝓤 H A 𝓣 E G62 b22 Δ0 (at10 bs)
+          d10 = Typed.g-pre 𝓤 H A W 𝓣 E G62 G63 b22 Δ0 (λ Ψ. Ψ) (at9 bs) (Lifetime.g-end 𝓤 H A W E G62 14 Path.refl) d9
+          d11 : Typed.Typed 𝓤 H A 𝓣 E G61 b22 Δ0 (at11 bs)
+          d11 = Typed.g-pre 𝓤 H A W 𝓣 E G61 G62 b22 Δ0 (λ Ψ. Ψ) (at10 bs) (Lifetime.g-forget 𝓤 H A W E G61 13 Row.dead Path.refl) d10
+          d12 : Typed.Typed 𝓤 H A 𝓣 E G60 b22 Δ0 (at12 bs)
+          d12 = Typed.g-pre 𝓤 H A W 𝓣 E G60 G61 b22 Δ0 (Typed.pass T58 T61 (s59 bs)) (at11 bs) (Reshare.g-back-sl-shr 𝓤 H A W E RelayCircuit.row G60 2
               1 13 ref7 life1 (λ x. x) (Reads'.as-is 𝓤 H A (Reshare.mslice-owedS RelayCircuit.row ref7 1 13 life1)) Path.refl Path.refl) d11
-          d13 : Typed.Typed 𝓤 H A 𝓣 E G58 b22 Δ0 (at13 bs)
-          d13 = Typed.g-pre 𝓤 H A W 𝓣 E G58 G59 b22 Δ0 (λ Ψ. Ψ) (at12 bs) (Lifetime.g-end 𝓤 H A W E G58 13 Path.refl) d12
-          d14 : Typed.Typed 𝓤 H A 𝓣 E G57 b22 Δ0 (at14 bs)
-          d14 = Typed.g-pre 𝓤 H A W 𝓣 E G57 G58 b22 Δ0 (λ Ψ. Ψ) (at13 bs) (Lifetime.g-forget 𝓤 H A W E G57 12 Row.dead Path.refl) d13
-          d15 : Typed.Typed 𝓤 H A 𝓣 E G56 b22 Δ0 (at15 bs)
-          d15 = Typed.g-pre 𝓤 H A W 𝓣 E G56 G57 b22 Δ0 (Typed.both (s55 bs)) (at14 bs) (Relend.g-back-sl 𝓤 H A W E RelayPending.row G56 24 1 0 12 ref6
+          d13 : Typed.Typed 𝓤 H A 𝓣 E G59 b22 Δ0 (at13 bs)
+          d13 = Typed.g-pre 𝓤 H A W 𝓣 E G59 G60 b22 Δ0 (λ Ψ. Ψ) (at12 bs) (Lifetime.g-end 𝓤 H A W E G59 13 Path.refl) d12
+          d14 : Typed.Typed 𝓤 H A 𝓣 E G58 b22 Δ0 (at14 bs)
+          d14 = Typed.g-pre 𝓤 H A W 𝓣 E G58 G59 b22 Δ0 (λ Ψ. Ψ) (at13 bs) (Lifetime.g-forget 𝓤 H A W E G58 12 Row.dead Path.refl) d13
+          d15 : Typed.Typed 𝓤 H A 𝓣 E G57 b22 Δ0 (at15 bs)
+          d15 = Typed.g-pre 𝓤 H A W 𝓣 E G57 G58 b22 Δ0 (Typed.both (s56 bs)) (at14 bs) (Relend.g-back-sl 𝓤 H A W E RelayPending.row G57 25 1 0 12 ref6
               ref3 life0 (λ x. x) (λ x. x) (Reads'.as-is 𝓤 H A (Mut.msleft RelayPending.row ref3)) (Reads'.as-is 𝓤 H A (Relend.mslice-owed
               RelayPending.row ref6 0 12 life0)) Path.refl Path.refl) d14
-          d16 : Typed.Typed 𝓤 H A 𝓣 E G55 b22 Δ0 (at16 bs)
-          d16 = Typed.g-pre 𝓤 H A W 𝓣 E G55 G56 b22 Δ0 (λ Ψ. Ψ) (at15 bs) (Lifetime.g-end 𝓤 H A W E G55 12 Path.refl) d15
-          d17 : Typed.Typed 𝓤 H A 𝓣 E G54 b22 Δ0 (at17 bs)
-          d17 = Typed.g-pre 𝓤 H A W 𝓣 E G54 G55 b22 Δ0 (Typed.pass T54 T55 (s53 bs)) (at16 bs) (Scalar.g-room 𝓤 H A W E G54 15 Syntax.tyBool
+          d16 : Typed.Typed 𝓤 H A 𝓣 E G56 b22 Δ0 (at16 bs)
+          d16 = Typed.g-pre 𝓤 H A W 𝓣 E G56 G57 b22 Δ0 (λ Ψ. Ψ) (at15 bs) (Lifetime.g-end 𝓤 H A W E G56 12 Path.refl) d15
+          d17 : Typed.Typed 𝓤 H A 𝓣 E G55 b22 Δ0 (at17 bs)
+          d17 = Typed.g-pre 𝓤 H A W 𝓣 E G55 G56 b22 Δ0 (Typed.pass T55 T56 (s54 bs)) (at16 bs) (Scalar.g-room 𝓤 H A W E G55 16 Syntax.tyBool
               (Scalar.room-sc 𝓤 H A W Row.sBool)) d16
-          d18 : Typed.Typed 𝓤 H A 𝓣 E G53 b22 Δ0 (at18 bs)
-          d18 = Typed.g-pre 𝓤 H A W 𝓣 E G53 G54 b22 Δ0 (Typed.pass T53 T54 (s52 bs)) (at17 bs) (Scalar.g-room 𝓤 H A W E G53 14 Laws.mir
+          d18 : Typed.Typed 𝓤 H A 𝓣 E G54 b22 Δ0 (at18 bs)
+          d18 = Typed.g-pre 𝓤 H A W 𝓣 E G54 G55 b22 Δ0 (Typed.pass T54 T55 (s53 bs)) (at17 bs) (Scalar.g-room 𝓤 H A W E G54 15 Laws.mir
               (Local.room-whole 𝓤 H A W (Declared.row HnsrAnswer.the-type) Laws.mir Path.refl)) d17
-          d19 : Typed.Typed 𝓤 H A 𝓣 E G52 b22 Δ0 (at19 bs)
-          d19 = Typed.g-pre 𝓤 H A W 𝓣 E G52 G53 b22 Δ0 (Typed.pass T52 T53 (s51 bs)) (at18 bs) (Scalar.g-room 𝓤 H A W E G52 12 Laws''.mir
+          d19 : Typed.Typed 𝓤 H A 𝓣 E G53 b22 Δ0 (at19 bs)
+          d19 = Typed.g-pre 𝓤 H A W 𝓣 E G53 G54 b22 Δ0 (Typed.pass T53 T54 (s52 bs)) (at18 bs) (Scalar.g-room 𝓤 H A W E G53 13 Laws''.mir
               (Local.room-whole 𝓤 H A W (Declared'.row OpenGathered.the-type) Laws''.mir Path.refl)) d18
-          d20 : Typed.Typed 𝓤 H A 𝓣 E G51 b22 Δ0 (at20 bs)
-          d20 = Typed.g-pre 𝓤 H A W 𝓣 E G51 G52 b22 Δ0 (Typed.pass T51 T52 (s50 bs)) (at19 bs) (Scalar.g-room 𝓤 H A W E G51 6 Laws''''.mir
-              (Local.room-whole 𝓤 H A W (Declared'.row OpaqueRelayRuntime.the-type) Laws''''.mir Path.refl)) d19
-          d21 : Typed.Typed 𝓤 H A 𝓣 E G50 b22 Δ0 (at21 bs)
-          d21 = Typed.g-pre 𝓤 H A W 𝓣 E G50 G51 b22 Δ0 (Typed.pass T50 T51 (s49 bs)) (at20 bs) (Scalar.g-room 𝓤 H A W E G50 26 (Syntax.tyStruct (38 ∷
+          d20 : Typed.Typed 𝓤 H A 𝓣 E G52 b22 Δ0 (at20 bs)
+          d20 = Typed.g-pre 𝓤 H A W 𝓣 E G52 G53 b22 Δ0 (Typed.pass T52 T53 (s51 bs)) (at19 bs) (Scalar.g-room 𝓤 H A W E G52 7 Laws'''.mir
+              (Local.room-whole 𝓤 H A W (Declared'.row Places.the-type) Laws'''.mir Path.refl)) d19
+          d21 : Typed.Typed 𝓤 H A 𝓣 E G51 b22 Δ0 (at21 bs)
+          d21 = Typed.g-pre 𝓤 H A W 𝓣 E G51 G52 b22 Δ0 (Typed.pass T51 T52 (s50 bs)) (at20 bs) (Scalar.g-room 𝓤 H A W E G51 6 Laws'''''.mir
+              (Local.room-whole 𝓤 H A W (Declared'.row OpaqueRelayRuntime.the-type) Laws'''''.mir Path.refl)) d20
+          d22 : Typed.Typed 𝓤 H A 𝓣 E G50 b22 Δ0 (at22 bs)
+          d22 = Typed.g-pre 𝓤 H A W 𝓣 E G50 G51 b22 Δ0 (Typed.pass T50 T51 (s49 bs)) (at21 bs) (Scalar.g-room 𝓤 H A W E G50 27 (Syntax.tyStruct (38 ∷
               91 ∷ 93 ∷ List.[]) (Syntax.tcons ref1 (Syntax.tcons (Syntax.tyInt Syntax.w64) Syntax.tnil))) (Shared.room-sslice 𝓤 H A W
-              RelayCircuit.row ref1 13)) d20
-          d22 : Typed.Typed 𝓤 H A 𝓣 E G49 b23 Δ0 (at22 bs)
-          d22 = Typed.s-seq 𝓤 H A W 𝓣 E G49 G50 b21 b22 Δ0 (Typed.both (s48 bs)) (at21 bs) (Plain.t-call-plain 𝓤 H A W 𝓣 6 ps·4 r·4 (claims· .8)
-              (claims· .9) "hnsr_circuit::handle_open::open_lapsed" (known .4) E (λ pos β. β) G49 (record { pos = 24; ty = Syntax.tyRef Syntax.erased
-              Syntax.mut RelayPending.to; ref = λ x. x; }, (record { pos = 26; ty = Syntax.tyRef Syntax.erased Syntax.imm RelayCircuit.to; ref = λ x.
-              x; }, (record { pos = 28; ty = Syntax.tyRef Syntax.erased Syntax.mut ReservationUsage.to; ref = λ x. x; }, (record { pos = 30; ty =
-              Syntax.tyRef Syntax.erased Syntax.mut InflightAction.to; ref = λ x. x; }, (record { pos = 32; ty = Syntax.tyRef Syntax.erased Syntax.mut
-              (Syntax.tyInt Syntax.w32); ref = λ x. x; }, (record { pos = 14; st = List.[]; d = 0; at = λ x. x }, (record { pos = 6; st = List.[]; d =
-              0; at = λ x. x }, (record { pos = 12; st = List.[]; d = 0; at = λ x. x }, (record { pos = 11; ty = Syntax.tyRef (Syntax.named 8)
-              Syntax.imm (Syntax.tyInt Syntax.w8); ref = λ x. x; }, tt,),),),),),),),),) 0 (12 ∷ 13 ∷ 14 ∷ 15 ∷ 16 ∷ 8 ∷ List.[]) (Call.sub-id 𝓤 H A W
-              (G49 .slots)) (Reads'.as-is 𝓤 H A (Mut.mslice RelayPending.row ref3 12), Mut.reads-mslice 𝓤 H A W RelayPending.row ref3 12, Path.refl,
-              (ShrSlice.spares-sslice 𝓤 H A W RelayCircuit.row ref1 13, Shared.reads-sslice 𝓤 H A W RelayCircuit.row ref1 13, Path.refl, (Reads'.as-is
-              𝓤 H A (Mut.mslice ReservationUsage.row ref2 14), Mut.reads-mslice 𝓤 H A W ReservationUsage.row ref2 14, Path.refl, (Reads'.as-is 𝓤 H A
-              (Mut.mslice InflightAction.row ref4 15), Mut.reads-mslice 𝓤 H A W InflightAction.row ref4 15, Path.refl, (Reads'.as-is 𝓤 H A (Mut.mslice
-              (Referent.rtF (Referent.fInt Syntax.w32)) ref5 16), Mut.reads-mslice 𝓤 H A W (Referent.rtF (Referent.fInt Syntax.w32)) ref5 16,
-              Path.refl, ((Yields.yields-copy 𝓤 H A W (λ ρ. Unit) (Declared.row HnsrAnswer.the-type) Path.refl (Copies.cEnum HnsrAnswer.the-type
-              Laws.the-laws Laws.the-copy .copy 𝓤 H A W) (Rows.whole (Declared.row HnsrAnswer.the-type)) (λ x. x) (λ x. x) (λ ρ told. Local.mem-whole
-              𝓤 H A W (Declared.row HnsrAnswer.the-type) ρ) λ ρ told. Local.whole-mem 𝓤 H A W (Declared.row HnsrAnswer.the-type) ρ, Path.refl,),
-              ((Yields.yields-copy 𝓤 H A W (λ ρ. Unit) (Declared'.row OpaqueRelayRuntime.the-type) Path.refl (Copies.cStruct
-              OpaqueRelayRuntime.the-type Laws''''.the-laws Laws''''.the-copy .copy 𝓤 H A W) (Rows.whole (Declared'.row OpaqueRelayRuntime.the-type))
-              (λ x. x) (λ x. x) (λ ρ told. Local.mem-whole 𝓤 H A W (Declared'.row OpaqueRelayRuntime.the-type) ρ) λ ρ told. Local.whole-mem 𝓤 H A W
-              (Declared'.row OpaqueRelayRuntime.the-type) ρ, Path.refl,), ((Yields.yields-copy 𝓤 H A W (λ ρ. Unit) (Declared'.row
-              OpenGathered.the-type) Path.refl (Copies.cStruct OpenGathered.the-type Laws''.the-laws Laws''.the-copy .copy 𝓤 H A W) (Rows.whole
-              (Declared'.row OpenGathered.the-type)) (λ x. x) (λ x. x) (λ ρ told. Local.mem-whole 𝓤 H A W (Declared'.row OpenGathered.the-type) ρ) λ ρ
-              told. Local.whole-mem 𝓤 H A W (Declared'.row OpenGathered.the-type) ρ, Path.refl,), (ShrSlice.spares-sslice 𝓤 H A W (Referent.rtF
-              (Referent.fInt Syntax.w8)) ref14 8, Shared.reads-sslice 𝓤 H A W (Referent.rtF (Referent.fInt Syntax.w8)) ref14 8, Path.refl,
-              tt,),),),),),),),),) (Reads'.room-gone 𝓤 H A Laws'''''.mir) (tt, (tt, (tt, (tt, (tt, (tt, tt)))))) Path.refl) d21
-          d23 : Typed.Typed 𝓤 H A 𝓣 E G48 b24 Δ0 (at23 bs)
-          d23 = Typed.s-seq 𝓤 H A W 𝓣 E G48 G49 b20 b23 Δ0 (Typed.ask (s47 bs)) (at22 bs) (Relend.t-sl-aggregate 𝓤 H A W E (Referent.rtF
-              (Referent.fInt Syntax.w32)) 𝓣 (Relend.asMut (Referent.rtF (Referent.fInt Syntax.w32))) G48 31 32 16 ref5 ref5 (λ x. x) (Scalar.oFld 5
+              RelayCircuit.row ref1 13)) d21
+          d23 : Typed.Typed 𝓤 H A 𝓣 E G49 b23 Δ0 (at23 bs)
+          d23 = Typed.s-seq 𝓤 H A W 𝓣 E G49 G50 b21 b22 Δ0 (Typed.both (s48 bs)) (at22 bs) (Plain.t-call-plain 𝓤 H A W 𝓣 6 ps·4 r·4 (claims· .8)
+              (claims· .9) "hnsr_circuit::handle_open::open_lapsed" (known .4) E (λ pos β. β) G49 (record { pos = 25; ty = Syntax.tyRef Syntax.erased
+              Syntax.mut RelayPending.to; ref = λ x. x; }, (record { pos = 27; ty = Syntax.tyRef Syntax.erased Syntax.imm RelayCircuit.to; ref = λ x.
+              x; }, (record { pos = 29; ty = Syntax.tyRef Syntax.erased Syntax.mut ReservationUsage.to; ref = λ x. x; }, (record { pos = 31; ty =
+              Syntax.tyRef Syntax.erased Syntax.mut InflightAction.to; ref = λ x. x; }, (record { pos = 33; ty = Syntax.tyRef Syntax.erased Syntax.mut
+              (Syntax.tyInt Syntax.w32); ref = λ x. x; }, (record { pos = 15; st = List.[]; d = 0; at = λ x. x }, (record { pos = 6; st = List.[]; d =
+              0; at = λ x. x }, (record { pos = 7; st = List.[]; d = 0; at = λ x. x }, (record { pos = 13; st = List.[]; d = 0; at = λ x. x }, (record
+              { pos = 12; ty = Syntax.tyRef (Syntax.named 8) Syntax.imm (Syntax.tyInt Syntax.w8); ref = λ x. x; }, tt,),),),),),),),),),) 0 (12 ∷ 13 ∷
+              14 ∷ 15 ∷ 16 ∷ 8 ∷ List.[]) (Call.sub-id 𝓤 H A W (G49 .slots)) (Reads'.as-is 𝓤 H A (Mut.mslice RelayPending.row ref3 12),
+              Mut.reads-mslice 𝓤 H A W RelayPending.row ref3 12, Path.refl, (ShrSlice.spares-sslice 𝓤 H A W RelayCircuit.row ref1 13,
+              Shared.reads-sslice 𝓤 H A W RelayCircuit.row ref1 13, Path.refl, (Reads'.as-is 𝓤 H A (Mut.mslice ReservationUsage.row ref2 14),
+              Mut.reads-mslice 𝓤 H A W ReservationUsage.row ref2 14, Path.refl, (Reads'.as-is 𝓤 H A (Mut.mslice InflightAction.row ref4 15),
+              Mut.reads-mslice 𝓤 H A W InflightAction.row ref4 15, Path.refl, (Reads'.as-is 𝓤 H A (Mut.mslice (Referent.rtF (Referent.fInt
+              Syntax.w32)) ref5 16), Mut.reads-mslice 𝓤 H A W (Referent.rtF (Referent.fInt Syntax.w32)) ref5 16, Path.refl, ((Yields.yields-copy 𝓤 H A
+              W (λ ρ. Unit) (Declared.row HnsrAnswer.the-type) Path.refl (Copies.cEnum HnsrAnswer.the-type Laws.the-laws Laws.the-copy .copy 𝓤 H A W)
+              (Rows.whole (Declared.row HnsrAnswer.the-type)) (λ x. x) (λ x. x) (λ ρ told. Local.mem-whole 𝓤 H A W (Declared.row HnsrAnswer.the-type)
+              ρ) λ ρ told. Local.whole-mem 𝓤 H A W (Declared.row HnsrAnswer.the-type) ρ, Path.refl,), ((Yields.yields-copy 𝓤 H A W (λ ρ. Unit)
+              (Declared'.row OpaqueRelayRuntime.the-type) Path.refl (Copies.cStruct OpaqueRelayRuntime.the-type Laws'''''.the-laws Laws'''''.the-copy
+              .copy 𝓤 H A W) (Rows.whole (Declared'.row OpaqueRelayRuntime.the-type)) (λ x. x) (λ x. x) (λ ρ told. Local.mem-whole 𝓤 H A W
+              (Declared'.row OpaqueRelayRuntime.the-type) ρ) λ ρ told. Local.whole-mem 𝓤 H A W (Declared'.row OpaqueRelayRuntime.the-type) ρ,
+              Path.refl,), ((Yields.yields-copy 𝓤 H A W (λ ρ. Unit) (Declared'.row Places.the-type) Path.refl (Copies.cStruct Places.the-type
+              Laws'''.the-laws Laws'''.the-copy .copy 𝓤 H A W) (Rows.whole (Declared'.row Places.the-type)) (λ x. x) (λ x. x) (λ ρ told.
+              Local.mem-whole 𝓤 H A W (Declared'.row Places.the-type) ρ) λ ρ told. Local.whole-mem 𝓤 H A W (Declared'.row Places.the-type) ρ,
+              Path.refl,), ((Yields.yields-copy 𝓤 H A W (λ ρ. Unit) (Declared'.row OpenGathered.the-type) Path.refl (Copies.cStruct
+              OpenGathered.the-type Laws''.the-laws Laws''.the-copy .copy 𝓤 H A W) (Rows.whole (Declared'.row OpenGathered.the-type)) (λ x. x) (λ x.
+              x) (λ ρ told. Local.mem-whole 𝓤 H A W (Declared'.row OpenGathered.the-type) ρ) λ ρ told. Local.whole-mem 𝓤 H A W (Declared'.row
+              OpenGathered.the-type) ρ, Path.refl,), (ShrSlice.spares-sslice 𝓤 H A W (Referent.rtF (Referent.fInt Syntax.w8)) ref14 8,
+              Shared.reads-sslice 𝓤 H A W (Referent.rtF (Referent.fInt Syntax.w8)) ref14 8, Path.refl, tt,),),),),),),),),),) (Reads'.room-gone 𝓤 H A
+              Laws''''''.mir) (tt, (tt, (tt, (tt, (tt, (tt, tt)))))) Path.refl) d22
+          d24 : Typed.Typed 𝓤 H A 𝓣 E G48 b24 Δ0 (at24 bs)
+          d24 = Typed.s-seq 𝓤 H A W 𝓣 E G48 G49 b20 b23 Δ0 (Typed.ask (s47 bs)) (at23 bs) (Relend.t-sl-aggregate 𝓤 H A W E (Referent.rtF
+              (Referent.fInt Syntax.w32)) 𝓣 (Relend.asMut (Referent.rtF (Referent.fInt Syntax.w32))) G48 32 33 16 ref5 ref5 (λ x. x) (Scalar.oFld 5
               ((Syntax.field 1) ∷ List.[]) (Syntax.tyInt Syntax.w64) 8 λ v. Shared.lenV (v .0)) (Reads'.as-is 𝓤 H A (Relend.msptr (Referent.rtF
               (Referent.fInt Syntax.w32)) ref5 16)) (Reads'.room-gone 𝓤 H A (Syntax.tyStruct (38 ∷ 91 ∷ 93 ∷ List.[]) (Syntax.tcons ref5 (Syntax.tcons
               (Syntax.tyInt Syntax.w64) Syntax.tnil)))) (Relend.reads-owed-len 𝓤 H A W (Referent.rtF (Referent.fInt Syntax.w32)) ref10 4 16 life4 8
-              Path.refl, Path.refl,) Path.refl Path.refl λ b o k. tt) d22
-          d24 : Typed.Typed 𝓤 H A 𝓣 E G47 b25 Δ0 (at24 bs)
-          d24 = Typed.s-seq 𝓤 H A W 𝓣 E G47 G48 b19 b24 Δ0 (Typed.give (s46 bs)) (at23 bs) (Relend.t-sl-relend 𝓤 H A W E (Referent.rtF (Referent.fInt
-              Syntax.w32)) 𝓣 G47 5 31 4 16 ref10 ref5 life4 0 (λ x. x) (Reads'.as-is 𝓤 H A (Mut.mslice (Referent.rtF (Referent.fInt Syntax.w32)) ref10
-              4)) (Reads'.room-gone 𝓤 H A ref5) Path.refl tt Path.refl Path.refl Path.refl λ b o. tt) d23
-          d25 : Typed.Typed 𝓤 H A 𝓣 E G46 b25 Δ0 (at25 bs)
-          d25 = Typed.g-pre 𝓤 H A W 𝓣 E G46 G47 b25 Δ0 (λ Ψ. Ψ) (at24 bs) (Lifetime.g-begin 𝓤 H A W E G46 16 (tt, ((tt, tt), ((tt, tt), ((tt, tt),
+              Path.refl, Path.refl,) Path.refl Path.refl λ b o k. tt) d23
+          d25 : Typed.Typed 𝓤 H A 𝓣 E G47 b25 Δ0 (at25 bs)
+          d25 = Typed.s-seq 𝓤 H A W 𝓣 E G47 G48 b19 b24 Δ0 (Typed.give (s46 bs)) (at24 bs) (Relend.t-sl-relend 𝓤 H A W E (Referent.rtF (Referent.fInt
+              Syntax.w32)) 𝓣 G47 5 32 4 16 ref10 ref5 life4 0 (λ x. x) (Reads'.as-is 𝓤 H A (Mut.mslice (Referent.rtF (Referent.fInt Syntax.w32)) ref10
+              4)) (Reads'.room-gone 𝓤 H A ref5) Path.refl tt Path.refl Path.refl Path.refl λ b o. tt) d24
+          d26 : Typed.Typed 𝓤 H A 𝓣 E G46 b25 Δ0 (at26 bs)
+          d26 = Typed.g-pre 𝓤 H A W 𝓣 E G46 G47 b25 Δ0 (λ Ψ. Ψ) (at25 bs) (Lifetime.g-begin 𝓤 H A W E G46 16 (tt, ((tt, tt), ((tt, tt), ((tt, tt),
               ((tt, tt), (tt, (tt, (tt, (tt, (tt, (tt, (tt, (tt, (tt, (tt, (tt, (tt, (tt, (tt, (tt, (tt, (tt, (tt, (tt, (tt, (tt, (tt, (tt, (tt, (tt,
-              (tt, (tt, (tt, tt))),),),),),),),),),),),),),),),),),),),),),),),),),),),),),),)) d24
-          d26 : Typed.Typed 𝓤 H A 𝓣 E G45 b26 Δ0 (at26 bs)
-          d26 = Typed.s-seq 𝓤 H A W 𝓣 E G45 G46 b18 b25 Δ0 (Typed.ask (s44 bs)) (at25 bs) (Relend.t-sl-aggregate 𝓤 H A W E InflightAction.row 𝓣
-              (Relend.asMut InflightAction.row) G45 29 30 15 ref4 ref4 (λ x. x) (Scalar.oFld 4 ((Syntax.field 1) ∷ List.[]) (Syntax.tyInt Syntax.w64)
+              (tt, (tt, (tt, (tt, tt))),),),),),),),),),),),),),),),),),),),),),),),),),),),),),),),)) d25
+          d27 : Typed.Typed 𝓤 H A 𝓣 E G45 b26 Δ0 (at27 bs)
+          d27 = Typed.s-seq 𝓤 H A W 𝓣 E G45 G46 b18 b25 Δ0 (Typed.ask (s44 bs)) (at26 bs) (Relend.t-sl-aggregate 𝓤 H A W E InflightAction.row 𝓣
+              (Relend.asMut InflightAction.row) G45 30 31 15 ref4 ref4 (λ x. x) (Scalar.oFld 4 ((Syntax.field 1) ∷ List.[]) (Syntax.tyInt Syntax.w64)
               8 λ v. Shared.lenV (v .0)) (Reads'.as-is 𝓤 H A (Relend.msptr InflightAction.row ref4 15)) (Reads'.room-gone 𝓤 H A (Syntax.tyStruct (38 ∷
               91 ∷ 93 ∷ List.[]) (Syntax.tcons ref4 (Syntax.tcons (Syntax.tyInt Syntax.w64) Syntax.tnil)))) (Relend.reads-owed-len 𝓤 H A W
-              InflightAction.row ref9 3 15 life3 8 Path.refl, Path.refl,) Path.refl Path.refl λ b o k. tt) d25
-          d27 : Typed.Typed 𝓤 H A 𝓣 E G44 b27 Δ0 (at27 bs)
-          d27 = Typed.s-seq 𝓤 H A W 𝓣 E G44 G45 b17 b26 Δ0 (Typed.give (s43 bs)) (at26 bs) (Relend.t-sl-relend 𝓤 H A W E InflightAction.row 𝓣 G44 4 29
+              InflightAction.row ref9 3 15 life3 8 Path.refl, Path.refl,) Path.refl Path.refl λ b o k. tt) d26
+          d28 : Typed.Typed 𝓤 H A 𝓣 E G44 b27 Δ0 (at28 bs)
+          d28 = Typed.s-seq 𝓤 H A W 𝓣 E G44 G45 b17 b26 Δ0 (Typed.give (s43 bs)) (at27 bs) (Relend.t-sl-relend 𝓤 H A W E InflightAction.row 𝓣 G44 4 30
               3 15 ref9 ref4 life3 0 (λ x. x) (Reads'.as-is 𝓤 H A (Mut.mslice InflightAction.row ref9 3)) (Reads'.room-gone 𝓤 H A ref4) Path.refl tt
-              Path.refl Path.refl Path.refl λ b o. tt) d26
-          d28 : Typed.Typed 𝓤 H A 𝓣 E G43 b27 Δ0 (at28 bs)
-          d28 = Typed.g-pre 𝓤 H A W 𝓣 E G43 G44 b27 Δ0 (λ Ψ. Ψ) (at27 bs) (Lifetime.g-begin 𝓤 H A W E G43 15 (tt, ((tt, tt), ((tt, tt), ((tt, tt),
+              Path.refl Path.refl Path.refl λ b o. tt) d27
+          d29 : Typed.Typed 𝓤 H A 𝓣 E G43 b27 Δ0 (at29 bs)
+          d29 = Typed.g-pre 𝓤 H A W 𝓣 E G43 G44 b27 Δ0 (λ Ψ. Ψ) (at28 bs) (Lifetime.g-begin 𝓤 H A W E G43 15 (tt, ((tt, tt), ((tt, tt), ((tt, tt),
               (tt, (tt, (tt, (tt, (tt, (tt, (tt, (tt, (tt, (tt, (tt, (tt, (tt, (tt, (tt, (tt, (tt, (tt, (tt, (tt, (tt, (tt, (tt, (tt, (tt, (tt, (tt,
-              (tt, (tt, tt))),),),),),),),),),),),),),),),),),),),),),),),),),),),),),),)) d27
-          d29 : Typed.Typed 𝓤 H A 𝓣 E G42 b28 Δ0 (at29 bs)
-          d29 = Typed.s-seq 𝓤 H A W 𝓣 E G42 G43 b16 b27 Δ0 (Typed.ask (s41 bs)) (at28 bs) (Relend.t-sl-aggregate 𝓤 H A W E ReservationUsage.row 𝓣
-              (Relend.asMut ReservationUsage.row) G42 27 28 14 ref2 ref2 (λ x. x) (Scalar.oFld 3 ((Syntax.field 1) ∷ List.[]) (Syntax.tyInt
+              (tt, (tt, (tt, tt))),),),),),),),),),),),),),),),),),),),),),),),),),),),),),),),)) d28
+          d30 : Typed.Typed 𝓤 H A 𝓣 E G42 b28 Δ0 (at30 bs)
+          d30 = Typed.s-seq 𝓤 H A W 𝓣 E G42 G43 b16 b27 Δ0 (Typed.ask (s41 bs)) (at29 bs) (Relend.t-sl-aggregate 𝓤 H A W E ReservationUsage.row 𝓣
+              (Relend.asMut ReservationUsage.row) G42 28 29 14 ref2 ref2 (λ x. x) (Scalar.oFld 3 ((Syntax.field 1) ∷ List.[]) (Syntax.tyInt
               Syntax.w64) 8 λ v. Shared.lenV (v .0)) (Reads'.as-is 𝓤 H A (Relend.msptr ReservationUsage.row ref2 14)) (Reads'.room-gone 𝓤 H A
               (Syntax.tyStruct (38 ∷ 91 ∷ 93 ∷ List.[]) (Syntax.tcons ref2 (Syntax.tcons (Syntax.tyInt Syntax.w64) Syntax.tnil))))
-              (Relend.reads-owed-len 𝓤 H A W ReservationUsage.row ref8 2 14 life2 8 Path.refl, Path.refl,) Path.refl Path.refl λ b o k. tt) d28
-          d30 : Typed.Typed 𝓤 H A 𝓣 E G41 b29 Δ0 (at30 bs)
-          d30 = Typed.s-seq 𝓤 H A W 𝓣 E G41 G42 b15 b28 Δ0 (Typed.give (s40 bs)) (at29 bs) (Relend.t-sl-relend 𝓤 H A W E ReservationUsage.row 𝓣 G41 3
-              27 2 14 ref8 ref2 life2 0 (λ x. x) (Reads'.as-is 𝓤 H A (Mut.mslice ReservationUsage.row ref8 2)) (Reads'.room-gone 𝓤 H A ref2) Path.refl
-              tt Path.refl Path.refl Path.refl λ b o. tt) d29
-          d31 : Typed.Typed 𝓤 H A 𝓣 E G40 b29 Δ0 (at31 bs)
-          d31 = Typed.g-pre 𝓤 H A W 𝓣 E G40 G41 b29 Δ0 (λ Ψ. Ψ) (at30 bs) (Lifetime.g-begin 𝓤 H A W E G40 14 (tt, ((tt, tt), ((tt, tt), (tt, (tt, (tt,
+              (Relend.reads-owed-len 𝓤 H A W ReservationUsage.row ref8 2 14 life2 8 Path.refl, Path.refl,) Path.refl Path.refl λ b o k. tt) d29
+          d31 : Typed.Typed 𝓤 H A 𝓣 E G41 b29 Δ0 (at31 bs)
+          d31 = Typed.s-seq 𝓤 H A W 𝓣 E G41 G42 b15 b28 Δ0 (Typed.give (s40 bs)) (at30 bs) (Relend.t-sl-relend 𝓤 H A W E ReservationUsage.row 𝓣 G41 3
+              28 2 14 ref8 ref2 life2 0 (λ x. x) (Reads'.as-is 𝓤 H A (Mut.mslice ReservationUsage.row ref8 2)) (Reads'.room-gone 𝓤 H A ref2) Path.refl
+              tt Path.refl Path.refl Path.refl λ b o. tt) d30
+          d32 : Typed.Typed 𝓤 H A 𝓣 E G40 b29 Δ0 (at32 bs)
+          d32 = Typed.g-pre 𝓤 H A W 𝓣 E G40 G41 b29 Δ0 (λ Ψ. Ψ) (at31 bs) (Lifetime.g-begin 𝓤 H A W E G40 14 (tt, ((tt, tt), ((tt, tt), (tt, (tt, (tt,
               (tt, (tt, (tt, (tt, (tt, (tt, (tt, (tt, (tt, (tt, (tt, (tt, (tt, (tt, (tt, (tt, (tt, (tt, (tt, (tt, (tt, (tt, (tt, (tt, (tt, (tt, (tt,
-              tt))),),),),),),),),),),),),),),),),),),),),),),),),),),),),),),)) d30
-          d32 : Typed.Typed 𝓤 H A 𝓣 E G39 b30 Δ0 (at32 bs)
-          d32 = Typed.s-seq 𝓤 H A W 𝓣 E G39 G40 b14 b29 Δ0 (Typed.ask (s38 bs)) (at31 bs) (Relend.t-sl-aggregate 𝓤 H A W E RelayCircuit.row 𝓣
-              (Relend.asShr RelayCircuit.row) G39 25 26 13 ref1 ref1 (λ x. x) (Scalar.oFld 2 ((Syntax.field 1) ∷ List.[]) (Syntax.tyInt Syntax.w64) 8
+              (tt, tt))),),),),),),),),),),),),),),),),),),),),),),),),),),),),),),),)) d31
+          d33 : Typed.Typed 𝓤 H A 𝓣 E G39 b30 Δ0 (at33 bs)
+          d33 = Typed.s-seq 𝓤 H A W 𝓣 E G39 G40 b14 b29 Δ0 (Typed.ask (s38 bs)) (at32 bs) (Relend.t-sl-aggregate 𝓤 H A W E RelayCircuit.row 𝓣
+              (Relend.asShr RelayCircuit.row) G39 26 27 13 ref1 ref1 (λ x. x) (Scalar.oFld 2 ((Syntax.field 1) ∷ List.[]) (Syntax.tyInt Syntax.w64) 8
               λ v. Shared.lenV (v .0)) (Reads'.as-is 𝓤 H A (Relend.ssptr RelayCircuit.row ref1 13)) (Reads'.room-gone 𝓤 H A (Syntax.tyStruct (38 ∷ 91
               ∷ 93 ∷ List.[]) (Syntax.tcons ref1 (Syntax.tcons (Syntax.tyInt Syntax.w64) Syntax.tnil)))) (Reshare.reads-owedS-len 𝓤 H A W
-              RelayCircuit.row ref7 1 13 life1 8 Path.refl, Path.refl,) Path.refl Path.refl λ b o k. tt) d31
-          d33 : Typed.Typed 𝓤 H A 𝓣 E G38 b31 Δ0 (at33 bs)
-          d33 = Typed.s-seq 𝓤 H A W 𝓣 E G38 G39 b13 b30 Δ0 (Typed.give (s37 bs)) (at32 bs) (Reshare.t-sl-reshare 𝓤 H A W E RelayCircuit.row 𝓣 G38 2 25
+              RelayCircuit.row ref7 1 13 life1 8 Path.refl, Path.refl,) Path.refl Path.refl λ b o k. tt) d32
+          d34 : Typed.Typed 𝓤 H A 𝓣 E G38 b31 Δ0 (at34 bs)
+          d34 = Typed.s-seq 𝓤 H A W 𝓣 E G38 G39 b13 b30 Δ0 (Typed.give (s37 bs)) (at33 bs) (Reshare.t-sl-reshare 𝓤 H A W E RelayCircuit.row 𝓣 G38 2 26
               1 13 ref7 ref1 life1 0 (λ x. x) (Reads'.as-is 𝓤 H A (Mut.mslice RelayCircuit.row ref7 1)) (Reads'.room-gone 𝓤 H A ref1) Path.refl tt
-              Path.refl Path.refl Path.refl λ b o. tt) d32
-          d34 : Typed.Typed 𝓤 H A 𝓣 E G37 b31 Δ0 (at34 bs)
-          d34 = Typed.g-pre 𝓤 H A W 𝓣 E G37 G38 b31 Δ0 (λ Ψ. Ψ) (at33 bs) (Lifetime.g-begin 𝓤 H A W E G37 13 (tt, ((tt, tt), (tt, (tt, (tt, (tt, (tt,
-              (tt, (tt, (tt, (tt, (tt, (tt, (tt, (tt, (tt, (tt, (tt, (tt, (tt, (tt, (tt, (tt, (tt, (tt, (tt, (tt, (tt, (tt, (tt, (tt, (tt, (tt,
-              tt))),),),),),),),),),),),),),),),),),),),),),),),),),),),),),),)) d33
-          d35 : Typed.Typed 𝓤 H A 𝓣 E G36 b32 Δ0 (at35 bs)
-          d35 = Typed.s-seq 𝓤 H A W 𝓣 E G36 G37 b12 b31 Δ0 (Typed.ask (s35 bs)) (at34 bs) (Relend.t-sl-aggregate 𝓤 H A W E RelayPending.row 𝓣
-              (Relend.asMut RelayPending.row) G36 23 24 12 ref3 ref3 (λ x. x) (Scalar.oFld 1 ((Syntax.field 1) ∷ List.[]) (Syntax.tyInt Syntax.w64) 8
+              Path.refl Path.refl Path.refl λ b o. tt) d33
+          d35 : Typed.Typed 𝓤 H A 𝓣 E G37 b31 Δ0 (at35 bs)
+          d35 = Typed.g-pre 𝓤 H A W 𝓣 E G37 G38 b31 Δ0 (λ Ψ. Ψ) (at34 bs) (Lifetime.g-begin 𝓤 H A W E G37 13 (tt, ((tt, tt), (tt, (tt, (tt, (tt, (tt,
+              (tt, (tt, (tt, (tt, (tt, (tt, (tt, (tt, (tt, (tt, (tt, (tt, (tt, (tt, (tt, (tt, (tt, (tt, (tt, (tt, (tt, (tt, (tt, (tt, (tt, (tt, (tt,
+              tt))),),),),),),),),),),),),),),),),),),),),),),),),),),),),),),),)) d34
+          d36 : Typed.Typed 𝓤 H A 𝓣 E G36 b32 Δ0 (at36 bs)
+          d36 = Typed.s-seq 𝓤 H A W 𝓣 E G36 G37 b12 b31 Δ0 (Typed.ask (s35 bs)) (at35 bs) (Relend.t-sl-aggregate 𝓤 H A W E RelayPending.row 𝓣
+              (Relend.asMut RelayPending.row) G36 24 25 12 ref3 ref3 (λ x. x) (Scalar.oFld 1 ((Syntax.field 1) ∷ List.[]) (Syntax.tyInt Syntax.w64) 8
               λ v. Shared.lenV (v .0)) (Reads'.as-is 𝓤 H A (Relend.msptr RelayPending.row ref3 12)) (Reads'.room-gone 𝓤 H A (Syntax.tyStruct (38 ∷ 91
               ∷ 93 ∷ List.[]) (Syntax.tcons ref3 (Syntax.tcons (Syntax.tyInt Syntax.w64) Syntax.tnil)))) (Relend.reads-owed-len 𝓤 H A W
-              RelayPending.row ref6 0 12 life0 8 Path.refl, Path.refl,) Path.refl Path.refl λ b o k. tt) d34
-          d36 : Typed.Typed 𝓤 H A 𝓣 E G35 b33 Δ0 (at36 bs)
-          d36 = Typed.s-seq 𝓤 H A W 𝓣 E G35 G36 b11 b32 Δ0 (Typed.give (s34 bs)) (at35 bs) (Relend.t-sl-relend 𝓤 H A W E RelayPending.row 𝓣 G35 1 23 0
+              RelayPending.row ref6 0 12 life0 8 Path.refl, Path.refl,) Path.refl Path.refl λ b o k. tt) d35
+          d37 : Typed.Typed 𝓤 H A 𝓣 E G35 b33 Δ0 (at37 bs)
+          d37 = Typed.s-seq 𝓤 H A W 𝓣 E G35 G36 b11 b32 Δ0 (Typed.give (s34 bs)) (at36 bs) (Relend.t-sl-relend 𝓤 H A W E RelayPending.row 𝓣 G35 1 24 0
               12 ref6 ref3 life0 0 (λ x. x) (Reads'.as-is 𝓤 H A (Mut.mslice RelayPending.row ref6 0)) (Reads'.room-gone 𝓤 H A ref3) Path.refl tt
-              Path.refl Path.refl Path.refl λ b o. tt) d35
-          d37 : Typed.Typed 𝓤 H A 𝓣 E G34 b33 Δ0 (at37 bs)
-          d37 = Typed.g-pre 𝓤 H A W 𝓣 E G34 G35 b33 Δ0 (λ Ψ. Ψ) (at36 bs) (Lifetime.g-begin 𝓤 H A W E G34 12 (tt, (tt, (tt, (tt, (tt, (tt, (tt, (tt,
-              (tt, (tt, (tt, (tt, (tt, (tt, (tt, (tt, (tt, (tt, (tt, (tt, (tt, (tt, (tt, (tt, (tt, (tt, (tt, (tt, (tt, (tt, (tt, (tt, (tt,
-              tt))),),),),),),),),),),),),),),),),),),),),),),),),),),),),),),)) d36
-          d38 : Typed.Typed 𝓤 H A 𝓣 E G33 b33 Δ0 (at38 bs)
-          d38 = Typed.g-pre 𝓤 H A W 𝓣 E G33 G34 b33 Δ0 (λ Ψ. Ψ) (at37 bs) (Lifetime.g-forget 𝓤 H A W E G33 11 Row.dead Path.refl) d37
-          d39 : Typed.Typed 𝓤 H A 𝓣 E G32 b33 Δ0 (at39 bs)
-          d39 = Typed.g-pre 𝓤 H A W 𝓣 E G32 G33 b33 Δ0 (Typed.both (s31 bs)) (at38 bs) (Relend.g-back-sl 𝓤 H A W E ReservationUsage.row G32 22 3 2 11
+              Path.refl Path.refl Path.refl λ b o. tt) d36
+          d38 : Typed.Typed 𝓤 H A 𝓣 E G34 b33 Δ0 (at38 bs)
+          d38 = Typed.g-pre 𝓤 H A W 𝓣 E G34 G35 b33 Δ0 (λ Ψ. Ψ) (at37 bs) (Lifetime.g-begin 𝓤 H A W E G34 12 (tt, (tt, (tt, (tt, (tt, (tt, (tt, (tt,
+              (tt, (tt, (tt, (tt, (tt, (tt, (tt, (tt, (tt, (tt, (tt, (tt, (tt, (tt, (tt, (tt, (tt, (tt, (tt, (tt, (tt, (tt, (tt, (tt, (tt, (tt,
+              tt))),),),),),),),),),),),),),),),),),),),),),),),),),),),),),),),)) d37
+          d39 : Typed.Typed 𝓤 H A 𝓣 E G33 b33 Δ0 (at39 bs)
+          d39 = Typed.g-pre 𝓤 H A W 𝓣 E G33 G34 b33 Δ0 (λ Ψ. Ψ) (at38 bs) (Lifetime.g-forget 𝓤 H A W E G33 11 Row.dead Path.refl) d38
+          d40 : Typed.Typed 𝓤 H A 𝓣 E G32 b33 Δ0 (at40 bs)
+          d40 = Typed.g-pre 𝓤 H A W 𝓣 E G32 G33 b33 Δ0 (Typed.both (s31 bs)) (at39 bs) (Relend.g-back-sl 𝓤 H A W E ReservationUsage.row G32 23 3 2 11
               ref8 ref2 life2 (λ x. x) (λ x. x) (Reads'.as-is 𝓤 H A (Mut.msleft ReservationUsage.row ref2)) (Reads'.as-is 𝓤 H A (Relend.mslice-owed
-              ReservationUsage.row ref8 2 11 life2)) Path.refl Path.refl) d38
-          d40 : Typed.Typed 𝓤 H A 𝓣 E G31 b33 Δ0 (at40 bs)
-          d40 = Typed.g-pre 𝓤 H A W 𝓣 E G31 G32 b33 Δ0 (λ Ψ. Ψ) (at39 bs) (Lifetime.g-end 𝓤 H A W E G31 11 Path.refl) d39
-          d41 : Typed.Typed 𝓤 H A 𝓣 E G30 b33 Δ0 (at41 bs)
-          d41 = Typed.g-pre 𝓤 H A W 𝓣 E G30 G31 b33 Δ0 (Typed.pass T30 T31 (s29 bs)) (at40 bs) (Scalar.g-room 𝓤 H A W E G30 20 Syntax.tyUnit
-              (Scalar.room-sc 𝓤 H A W Row.sUnit)) d40
-          d42 : Typed.Typed 𝓤 H A 𝓣 E G29 b33 Δ0 (at42 bs)
-          d42 = Typed.g-pre 𝓤 H A W 𝓣 E G29 G30 b33 Δ0 (Typed.pass T29 T30 (s28 bs)) (at41 bs) (Scalar.g-room 𝓤 H A W E G29 7 Laws'''.mir
-              (Local.room-whole 𝓤 H A W (Declared'.row RelayPacket.the-type) Laws'''.mir Path.refl)) d41
-          d43 : Typed.Typed 𝓤 H A 𝓣 E G28 b34 Δ0 (at43 bs)
-          d43 = Typed.s-seq 𝓤 H A W 𝓣 E G28 G29 b10 b33 Δ0 (Typed.both (s27 bs)) (at42 bs) (Plain.t-call-plain 𝓤 H A W 𝓣 1 ps·3 r·3 (claims· .6)
-              (claims· .7) "hnsr_circuit::lookup::drop_lapsed" (known .3) E (λ pos β. β) G28 (record { pos = 22; ty = Syntax.tyRef Syntax.erased
-              Syntax.mut ReservationUsage.to; ref = λ x. x; }, (Bool.bAt 15 λ x. x, (Num.vFld 7 ((Syntax.field 2) ∷ List.[]) 16 λ x.
-              RelayPacket.struct .as-values x .1 .1 .0, tt,),),) 20 (11 ∷ List.[]) (Call.sub-id 𝓤 H A W (G28 .slots)) (Reads'.as-is 𝓤 H A (Mut.mslice
-              ReservationUsage.row ref2 11), Mut.reads-mslice 𝓤 H A W ReservationUsage.row ref2 11, Path.refl, ((Scalar.reads-sc 𝓤 H A W Row.sBool,
-              Path.refl), ((Reads.reads-field 𝓤 H A W RelayPacket.the-type Laws'''.the-laws 2 (Syntax.tyInt Syntax.w64) 16 Path.refl, Path.refl,),
-              tt,),),) (Reads'.room-gone 𝓤 H A Syntax.tyUnit) (tt, tt) Path.refl) d42
-          d44 : Typed.Typed 𝓤 H A 𝓣 E G27 b35 Δ0 (at44 bs)
-          d44 = Typed.s-seq 𝓤 H A W 𝓣 E G27 G28 b9 b34 Δ0 (Typed.ask (s26 bs)) (at43 bs) (Relend.t-sl-aggregate 𝓤 H A W E ReservationUsage.row 𝓣
-              (Relend.asMut ReservationUsage.row) G27 21 22 11 ref2 ref2 (λ x. x) (Scalar.oFld 3 ((Syntax.field 1) ∷ List.[]) (Syntax.tyInt
+              ReservationUsage.row ref8 2 11 life2)) Path.refl Path.refl) d39
+          d41 : Typed.Typed 𝓤 H A 𝓣 E G31 b33 Δ0 (at41 bs)
+          d41 = Typed.g-pre 𝓤 H A W 𝓣 E G31 G32 b33 Δ0 (λ Ψ. Ψ) (at40 bs) (Lifetime.g-end 𝓤 H A W E G31 11 Path.refl) d40
+          d42 : Typed.Typed 𝓤 H A 𝓣 E G30 b33 Δ0 (at42 bs)
+          d42 = Typed.g-pre 𝓤 H A W 𝓣 E G30 G31 b33 Δ0 (Typed.pass T30 T31 (s29 bs)) (at41 bs) (Scalar.g-room 𝓤 H A W E G30 21 Syntax.tyUnit
+              (Scalar.room-sc 𝓤 H A W Row.sUnit)) d41
+          d43 : Typed.Typed 𝓤 H A 𝓣 E G29 b33 Δ0 (at43 bs)
+          d43 = Typed.g-pre 𝓤 H A W 𝓣 E G29 G30 b33 Δ0 (Typed.pass T29 T30 (s28 bs)) (at42 bs) (Scalar.g-room 𝓤 H A W E G29 8 Laws''''.mir
+              (Local.room-whole 𝓤 H A W (Declared'.row RelayPacket.the-type) Laws''''.mir Path.refl)) d42
+          d44 : Typed.Typed 𝓤 H A 𝓣 E G28 b34 Δ0 (at44 bs)
+          d44 = Typed.s-seq 𝓤 H A W 𝓣 E G28 G29 b10 b33 Δ0 (Typed.both (s27 bs)) (at43 bs) (Plain.t-call-plain 𝓤 H A W 𝓣 1 ps·3 r·3 (claims· .6)
+              (claims· .7) "hnsr_circuit::lookup::drop_lapsed" (known .3) E (λ pos β. β) G28 (record { pos = 23; ty = Syntax.tyRef Syntax.erased
+              Syntax.mut ReservationUsage.to; ref = λ x. x; }, (record { pos = 7; st = List.[]; d = 0; at = λ x. x }, (Bool.bAt 16 λ x. x, (Num.vFld 8
+              ((Syntax.field 2) ∷ List.[]) 16 λ x. RelayPacket.struct .as-values x .1 .1 .0, tt,),),),) 21 (11 ∷ List.[]) (Call.sub-id 𝓤 H A W (G28
+              .slots)) (Reads'.as-is 𝓤 H A (Mut.mslice ReservationUsage.row ref2 11), Mut.reads-mslice 𝓤 H A W ReservationUsage.row ref2 11,
+              Path.refl, ((Yields.yields-copy 𝓤 H A W (λ ρ. Unit) (Declared'.row Places.the-type) Path.refl (Copies.cStruct Places.the-type
+              Laws'''.the-laws Laws'''.the-copy .copy 𝓤 H A W) (Rows.whole (Declared'.row Places.the-type)) (λ x. x) (λ x. x) (λ ρ told.
+              Local.mem-whole 𝓤 H A W (Declared'.row Places.the-type) ρ) λ ρ told. Local.whole-mem 𝓤 H A W (Declared'.row Places.the-type) ρ,
+              Path.refl,), ((Scalar.reads-sc 𝓤 H A W Row.sBool, Path.refl), ((Reads.reads-field 𝓤 H A W RelayPacket.the-type Laws''''.the-laws 2
+              (Syntax.tyInt Syntax.w64) 16 Path.refl, Path.refl,), tt,),),),) (Reads'.room-gone 𝓤 H A Syntax.tyUnit) (tt, tt) Path.refl) d43
+          d45 : Typed.Typed 𝓤 H A 𝓣 E G27 b35 Δ0 (at45 bs)
+          d45 = Typed.s-seq 𝓤 H A W 𝓣 E G27 G28 b9 b34 Δ0 (Typed.ask (s26 bs)) (at44 bs) (Relend.t-sl-aggregate 𝓤 H A W E ReservationUsage.row 𝓣
+              (Relend.asMut ReservationUsage.row) G27 22 23 11 ref2 ref2 (λ x. x) (Scalar.oFld 3 ((Syntax.field 1) ∷ List.[]) (Syntax.tyInt
               Syntax.w64) 8 λ v. Shared.lenV (v .0)) (Reads'.as-is 𝓤 H A (Relend.msptr ReservationUsage.row ref2 11)) (Reads'.room-gone 𝓤 H A
               (Syntax.tyStruct (38 ∷ 91 ∷ 93 ∷ List.[]) (Syntax.tcons ref2 (Syntax.tcons (Syntax.tyInt Syntax.w64) Syntax.tnil))))
-              (Relend.reads-owed-len 𝓤 H A W ReservationUsage.row ref8 2 11 life2 8 Path.refl, Path.refl,) Path.refl Path.refl λ b o k. tt) d43
-          d45 : Typed.Typed 𝓤 H A 𝓣 E G26 b36 Δ0 (at45 bs)
-          d45 = Typed.s-seq 𝓤 H A W 𝓣 E G26 G27 b8 b35 Δ0 (Typed.give (s25 bs)) (at44 bs) (Relend.t-sl-relend 𝓤 H A W E ReservationUsage.row 𝓣 G26 3
-              21 2 11 ref8 ref2 life2 0 (λ x. x) (Reads'.as-is 𝓤 H A (Mut.mslice ReservationUsage.row ref8 2)) (Reads'.room-gone 𝓤 H A ref2) Path.refl
-              tt Path.refl Path.refl Path.refl λ b o. tt) d44
-          d46 : Typed.Typed 𝓤 H A 𝓣 E G25 b36 Δ0 (at46 bs)
-          d46 = Typed.g-pre 𝓤 H A W 𝓣 E G25 G26 b36 Δ0 (λ Ψ. Ψ) (at45 bs) (Lifetime.g-begin 𝓤 H A W E G25 11 (tt, (tt, (tt, (tt, (tt, (tt, (tt, (tt,
-              (tt, (tt, (tt, (tt, (tt, (tt, (tt, (tt, (tt, (tt, (tt, (tt, (tt, (tt, (tt, (tt, (tt, (tt, (tt, (tt, (tt, (tt, (tt, (tt, (tt,
-              tt))),),),),),),),),),),),),),),),),),),),),),),),),),),),),),),)) d45
-          d47 : Typed.Typed 𝓤 H A 𝓣 E G24 b37 Δ0 (at47 bs)
-          d47 = Typed.s-seq 𝓤 H A W 𝓣 E G24 G25 b7 b36 Δ0 (Typed.both (s23 bs)) (at46 bs) (Plain.t-call-plain 𝓤 H A W 𝓣 0 ps·2 r·2 (claims· .4)
-              (claims· .5) "hnsr_circuit::answer::is_taken" (known .2) E (λ pos β. β) G24 (record { pos = 14; st = List.[]; d = 0; at = λ x. x }, tt)
-              15 List.[] (Call.sub-id 𝓤 H A W (G24 .slots)) ((Yields.yields-copy 𝓤 H A W (λ ρ. Unit) (Declared.row HnsrAnswer.the-type) Path.refl
+              (Relend.reads-owed-len 𝓤 H A W ReservationUsage.row ref8 2 11 life2 8 Path.refl, Path.refl,) Path.refl Path.refl λ b o k. tt) d44
+          d46 : Typed.Typed 𝓤 H A 𝓣 E G26 b36 Δ0 (at46 bs)
+          d46 = Typed.s-seq 𝓤 H A W 𝓣 E G26 G27 b8 b35 Δ0 (Typed.give (s25 bs)) (at45 bs) (Relend.t-sl-relend 𝓤 H A W E ReservationUsage.row 𝓣 G26 3
+              22 2 11 ref8 ref2 life2 0 (λ x. x) (Reads'.as-is 𝓤 H A (Mut.mslice ReservationUsage.row ref8 2)) (Reads'.room-gone 𝓤 H A ref2) Path.refl
+              tt Path.refl Path.refl Path.refl λ b o. tt) d45
+          d47 : Typed.Typed 𝓤 H A 𝓣 E G25 b36 Δ0 (at47 bs)
+          d47 = Typed.g-pre 𝓤 H A W 𝓣 E G25 G26 b36 Δ0 (λ Ψ. Ψ) (at46 bs) (Lifetime.g-begin 𝓤 H A W E G25 11 (tt, (tt, (tt, (tt, (tt, (tt, (tt, (tt,
+              (tt, (tt, (tt, (tt, (tt, (tt, (tt, (tt, (tt, (tt, (tt, (tt, (tt, (tt, (tt, (tt, (tt, (tt, (tt, (tt, (tt, (tt, (tt, (tt, (tt, (tt,
+              tt))),),),),),),),),),),),),),),),),),),),),),),),),),),),),),),),)) d46
+          d48 : Typed.Typed 𝓤 H A 𝓣 E G24 b37 Δ0 (at48 bs)
+          d48 = Typed.s-seq 𝓤 H A W 𝓣 E G24 G25 b7 b36 Δ0 (Typed.both (s23 bs)) (at47 bs) (Plain.t-call-plain 𝓤 H A W 𝓣 0 ps·2 r·2 (claims· .4)
+              (claims· .5) "hnsr_circuit::answer::is_taken" (known .2) E (λ pos β. β) G24 (record { pos = 15; st = List.[]; d = 0; at = λ x. x }, tt)
+              16 List.[] (Call.sub-id 𝓤 H A W (G24 .slots)) ((Yields.yields-copy 𝓤 H A W (λ ρ. Unit) (Declared.row HnsrAnswer.the-type) Path.refl
               (Copies.cEnum HnsrAnswer.the-type Laws.the-laws Laws.the-copy .copy 𝓤 H A W) (Rows.whole (Declared.row HnsrAnswer.the-type)) (λ x. x) (λ
               x. x) (λ ρ told. Local.mem-whole 𝓤 H A W (Declared.row HnsrAnswer.the-type) ρ) λ ρ told. Local.whole-mem 𝓤 H A W (Declared.row
-              HnsrAnswer.the-type) ρ, Path.refl,), tt,) (Reads'.room-gone 𝓤 H A Syntax.tyBool) tt Path.refl) d46
-          d48 : Typed.Typed 𝓤 H A 𝓣 E G23 b37 Δ0 (at48 bs)
-          d48 = Typed.g-pre 𝓤 H A W 𝓣 E G23 G24 b37 Δ0 (Typed.pass T23 T24 (s22 bs)) (at47 bs) (Scalar.g-room 𝓤 H A W E G23 13 Laws'.mir
-              (Local.room-whole 𝓤 H A W (Declared'.row OpaqueRelayConfig.the-type) Laws'.mir Path.refl)) d47
-          d49 : Typed.Typed 𝓤 H A 𝓣 E G22 b38 Δ0 (at49 bs)
-          d49 = Typed.s-seq 𝓤 H A W 𝓣 E G22 G23 b6 b37 Δ0 (Typed.both (s21 bs)) (at48 bs) (Plain.t-call-plain 𝓤 H A W 𝓣 0 ps·1 r·1 (claims· .2)
-              (claims· .3) "hnsr_circuit::open::open_rows" (known .1) E (λ pos β. β) G22 (record { pos = 13; st = List.[]; d = 0; at = λ x. x },
-              (record { pos = 12; st = List.[]; d = 0; at = λ x. x }, tt),) 14 List.[] (Call.sub-id 𝓤 H A W (G22 .slots)) ((Yields.yields-copy 𝓤 H A W
+              HnsrAnswer.the-type) ρ, Path.refl,), tt,) (Reads'.room-gone 𝓤 H A Syntax.tyBool) tt Path.refl) d47
+          d49 : Typed.Typed 𝓤 H A 𝓣 E G23 b37 Δ0 (at49 bs)
+          d49 = Typed.g-pre 𝓤 H A W 𝓣 E G23 G24 b37 Δ0 (Typed.pass T23 T24 (s22 bs)) (at48 bs) (Scalar.g-room 𝓤 H A W E G23 14 Laws'.mir
+              (Local.room-whole 𝓤 H A W (Declared'.row OpaqueRelayConfig.the-type) Laws'.mir Path.refl)) d48
+          d50 : Typed.Typed 𝓤 H A 𝓣 E G22 b38 Δ0 (at50 bs)
+          d50 = Typed.s-seq 𝓤 H A W 𝓣 E G22 G23 b6 b37 Δ0 (Typed.both (s21 bs)) (at49 bs) (Plain.t-call-plain 𝓤 H A W 𝓣 0 ps·1 r·1 (claims· .2)
+              (claims· .3) "hnsr_circuit::open::open_rows" (known .1) E (λ pos β. β) G22 (record { pos = 14; st = List.[]; d = 0; at = λ x. x },
+              (record { pos = 13; st = List.[]; d = 0; at = λ x. x }, tt),) 15 List.[] (Call.sub-id 𝓤 H A W (G22 .slots)) ((Yields.yields-copy 𝓤 H A W
               (λ ρ. Unit) (Declared'.row OpaqueRelayConfig.the-type) Path.refl (Copies.cStruct OpaqueRelayConfig.the-type Laws'.the-laws
               Laws'.the-copy .copy 𝓤 H A W) (Rows.whole (Declared'.row OpaqueRelayConfig.the-type)) (λ x. x) (λ x. x) (λ ρ told. Local.mem-whole 𝓤 H A
               W (Declared'.row OpaqueRelayConfig.the-type) ρ) λ ρ told. Local.whole-mem 𝓤 H A W (Declared'.row OpaqueRelayConfig.the-type) ρ,
               Path.refl,), ((Yields.yields-copy 𝓤 H A W (λ ρ. Unit) (Declared'.row OpenGathered.the-type) Path.refl (Copies.cStruct
               OpenGathered.the-type Laws''.the-laws Laws''.the-copy .copy 𝓤 H A W) (Rows.whole (Declared'.row OpenGathered.the-type)) (λ x. x) (λ x.
               x) (λ ρ told. Local.mem-whole 𝓤 H A W (Declared'.row OpenGathered.the-type) ρ) λ ρ told. Local.whole-mem 𝓤 H A W (Declared'.row
-              OpenGathered.the-type) ρ, Path.refl,), tt,),) (Reads'.room-gone 𝓤 H A Laws.mir) tt Path.refl) d48
-          d50 : Typed.Typed 𝓤 H A 𝓣 E G21 b39 Δ0 (at50 bs)
-          d50 = Typed.s-seq 𝓤 H A W 𝓣 E G21 G22 b5 b38 Δ0 (Typed.both (s20 bs)) (at49 bs) (WayStmt.t-way-copy-out 𝓤 H A W E 𝓣 (Declared'.row
+              OpenGathered.the-type) ρ, Path.refl,), tt,),) (Reads'.room-gone 𝓤 H A Laws.mir) tt Path.refl) d49
+          d51 : Typed.Typed 𝓤 H A 𝓣 E G21 b39 Δ0 (at51 bs)
+          d51 = Typed.s-seq 𝓤 H A W 𝓣 E G21 G22 b5 b38 Δ0 (Typed.both (s20 bs)) (at50 bs) (WayStmt.t-way-copy-out 𝓤 H A W E 𝓣 (Declared'.row
               OpaqueRelayConfig.the-type) Path.refl (Copies.cStruct OpaqueRelayConfig.the-type Laws'.the-laws Laws'.the-copy .copy 𝓤 H A W) (λ ρ.
-              Unit) G21 (Row.out 6 (G21 .locals)) (λ u. Row.drop 6 (G21 .locals) u) (G21 .slots) 6 (λ t. (Syntax.field 4) ∷ t) Laws'.mir Laws'.mir 13
+              Unit) G21 (Row.out 6 (G21 .locals)) (λ u. Row.drop 6 (G21 .locals) u) (G21 .slots) 6 (λ t. (Syntax.field 4) ∷ t) Laws'.mir Laws'.mir 14
               (Rows.whole (Declared'.row OpaqueRelayConfig.the-type)) (λ x. x) (λ u. At.getAt (OpaqueRelayRuntime.the-type .parts) 4
               (OpaqueRelayRuntime.struct .as-values (u .1 .1 .1 .1 .1 .1 .0))) (λ u. (Row.hd 0 (Row.tl (Row.tl (Row.tl (Row.tl (Row.tl (Row.tl
               bs)))))), Nat._+_ 0 40,)) (λ T′. record { locals = Row.setRow 6 (6, Rows.whole (Declared'.row OpaqueRelayRuntime.the-type)) T′; slots =
               G21 .slots; }) (λ u T′ m′. Row.set 6 (6, Rows.whole (Declared'.row OpaqueRelayRuntime.the-type)) (u .1 .1 .1 .1 .1 .1 .0) T′ m′) (λ u.
               Unit) (λ x. Unit) (Own.told-none 𝓤 H A (G21 .slots)) (DerefMove.learns-nothing 𝓤 H A (Declared'.row OpaqueRelayConfig.the-type)) (λ ρ
-              told u asked. Way'.w-partˢ 𝓤 H A W E (Declared'.row OpaqueRelayRuntime.the-type) (Declared'.row OpaqueRelayConfig.the-type) Laws''''.mir
-              Laws'.mir 4 40 (u .1 .1 .1 .1 .1 .1 .0) (At.getAt (OpaqueRelayRuntime.the-type .parts) 4 (OpaqueRelayRuntime.struct .as-values (u .1 .1
-              .1 .1 .1 .1 .0))) (Row.hd 0 (Row.tl (Row.tl (Row.tl (Row.tl (Row.tl (Row.tl bs)))))), 0) (Way.w-look 𝓤 H A W E (Way.w-local 𝓤 H A W E
-              G21 ρ u (G21 .slots) 6 (Declared'.row OpaqueRelayRuntime.the-type) (Rows.whole (Declared'.row OpaqueRelayRuntime.the-type)) (λ x. x) (λ
-              x. x) (u .1 .1 .1 .1 .1 .1 .0) (Local.mem-whole 𝓤 H A W (Declared'.row OpaqueRelayRuntime.the-type) ρ (u .1 .1 .1 .1 .1 .1 .0) (Row.hd 0
-              (Row.tl (Row.tl (Row.tl (Row.tl (Row.tl (Row.tl bs)))))))) (Local.whole-mem 𝓤 H A W (Declared'.row OpaqueRelayRuntime.the-type) ρ (u .1
-              .1 .1 .1 .1 .1 .0) (Row.hd 0 (Row.tl (Row.tl (Row.tl (Row.tl (Row.tl (Row.tl bs)))))))))) Path.refl λ q. Inner.cut-record 𝓤 H A q
-              (Declared'.row OpaqueRelayRuntime.the-type) OpaqueRelayConfig.the-type 40 (u .1 .1 .1 .1 .1 .1 .0) (u .1 .1 .1 .1 .1 .1 .0) (At.getAt
-              (OpaqueRelayRuntime.the-type .parts) 4 (OpaqueRelayRuntime.struct .as-values (u .1 .1 .1 .1 .1 .1 .0))) (At.getAt
-              (OpaqueRelayRuntime.the-type .parts) 4 (OpaqueRelayRuntime.struct .as-values (u .1 .1 .1 .1 .1 .1 .0))) (Row.hd 0 (Row.tl (Row.tl
-              (Row.tl (Row.tl (Row.tl (Row.tl bs)))))), 0) (Behind.look-at 𝓤 H A W q OpaqueRelayRuntime.the-type Laws''''.the-laws 4 40 Path.refl
-              Path.refl (Row.hd 0 (Row.tl (Row.tl (Row.tl (Row.tl (Row.tl (Row.tl bs)))))), 0) (u .1 .1 .1 .1 .1 .1 .0) (OpaqueRelayRuntime.struct
-              .as-values (u .1 .1 .1 .1 .1 .1 .0)) Path.refl)) (Reads'.room-gone 𝓤 H A Laws'.mir) (Yields.makes-mem 𝓤 H A W (λ ρ. Unit) (Declared'.row
-              OpaqueRelayConfig.the-type) Path.refl (Rows.whole (Declared'.row OpaqueRelayConfig.the-type)) (λ x. x) λ ρ told. Local.whole-mem 𝓤 H A W
-              (Declared'.row OpaqueRelayConfig.the-type) ρ) Path.refl Path.refl Path.refl) d49
-          d51 : Typed.Typed 𝓤 H A 𝓣 E G20 b39 Δ0 (at51 bs)
-          d51 = Typed.g-pre 𝓤 H A W 𝓣 E G20 G21 b39 Δ0 (λ Ψ. Ψ) (at50 bs) (Lifetime.g-forget 𝓤 H A W E G20 10 Row.dead Path.refl) d50
-          d52 : Typed.Typed 𝓤 H A 𝓣 E G19 b39 Δ0 (at52 bs)
-          d52 = Typed.g-pre 𝓤 H A W 𝓣 E G19 G20 b39 Δ0 (Typed.pass T17 T20 (s18 bs)) (at51 bs) (Reshare.g-back-sl-shr 𝓤 H A W E RelayCircuit.row G19 2
-              1 10 ref7 life1 (λ x. x) (Reads'.as-is 𝓤 H A (Reshare.mslice-owedS RelayCircuit.row ref7 1 10 life1)) Path.refl Path.refl) d51
-          d53 : Typed.Typed 𝓤 H A 𝓣 E G18 b39 Δ0 (at53 bs)
-          d53 = Typed.g-pre 𝓤 H A W 𝓣 E G18 G19 b39 Δ0 (λ Ψ. Ψ) (at52 bs) (Lifetime.g-end 𝓤 H A W E G18 10 Path.refl) d52
-          d54 : Typed.Typed 𝓤 H A 𝓣 E G17 b39 Δ0 (at54 bs)
-          d54 = Typed.g-pre 𝓤 H A W 𝓣 E G17 G18 b39 Δ0 (λ Ψ. Ψ) (at53 bs) (Lifetime.g-forget 𝓤 H A W E G17 9 Row.dead Path.refl) d53
-          d55 : Typed.Typed 𝓤 H A 𝓣 E G16 b39 Δ0 (at55 bs)
-          d55 = Typed.g-pre 𝓤 H A W 𝓣 E G16 G17 b39 Δ0 (Typed.pass T15 T17 (s15 bs)) (at54 bs) (Reshare.g-back-sl-shr 𝓤 H A W E RelayPending.row G16 1
-              0 9 ref6 life0 (λ x. x) (Reads'.as-is 𝓤 H A (Reshare.mslice-owedS RelayPending.row ref6 0 9 life0)) Path.refl Path.refl) d54
-          d56 : Typed.Typed 𝓤 H A 𝓣 E G15 b39 Δ0 (at56 bs)
-          d56 = Typed.g-pre 𝓤 H A W 𝓣 E G15 G16 b39 Δ0 (λ Ψ. Ψ) (at55 bs) (Lifetime.g-end 𝓤 H A W E G15 9 Path.refl) d55
-          d57 : Typed.Typed 𝓤 H A 𝓣 E G14 b39 Δ0 (at57 bs)
-          d57 = Typed.g-pre 𝓤 H A W 𝓣 E G14 G15 b39 Δ0 (Typed.pass T14 T15 (s13 bs)) (at56 bs) (Scalar.g-room 𝓤 H A W E G14 19 (Syntax.tyStruct (38 ∷
+              told u asked. Way'.w-partˢ 𝓤 H A W E (Declared'.row OpaqueRelayRuntime.the-type) (Declared'.row OpaqueRelayConfig.the-type)
+              Laws'''''.mir Laws'.mir 4 40 (u .1 .1 .1 .1 .1 .1 .0) (At.getAt (OpaqueRelayRuntime.the-type .parts) 4 (OpaqueRelayRuntime.struct
+              .as-values (u .1 .1 .1 .1 .1 .1 .0))) (Row.hd 0 (Row.tl (Row.tl (Row.tl (Row.tl (Row.tl (Row.tl bs)))))), 0) (Way.w-look 𝓤 H A W E
+              (Way.w-local 𝓤 H A W E G21 ρ u (G21 .slots) 6 (Declared'.row OpaqueRelayRuntime.the-type) (Rows.whole (Declared'.row
+              OpaqueRelayRuntime.the-type)) (λ x. x) (λ x. x) (u .1 .1 .1 .1 .1 .1 .0) (Local.mem-whole 𝓤 H A W (Declared'.row
+              OpaqueRelayRuntime.the-type) ρ (u .1 .1 .1 .1 .1 .1 .0) (Row.hd 0 (Row.tl (Row.tl (Row.tl (Row.tl (Row.tl (Row.tl bs))))))))
+              (Local.whole-mem 𝓤 H A W (Declared'.row OpaqueRelayRuntime.the-type) ρ (u .1 .1 .1 .1 .1 .1 .0) (Row.hd 0 (Row.tl (Row.tl (Row.tl
+              (Row.tl (Row.tl (Row.tl bs)))))))))) Path.refl λ q. Inner.cut-record 𝓤 H A q (Declared'.row OpaqueRelayRuntime.the-type)
+              OpaqueRelayConfig.the-type 40 (u .1 .1 .1 .1 .1 .1 .0) (u .1 .1 .1 .1 .1 .1 .0) (At.getAt (OpaqueRelayRuntime.the-type .parts) 4
+              (OpaqueRelayRuntime.struct .as-values (u .1 .1 .1 .1 .1 .1 .0))) (At.getAt (OpaqueRelayRuntime.the-type .parts) 4
+              (OpaqueRelayRuntime.struct .as-values (u .1 .1 .1 .1 .1 .1 .0))) (Row.hd 0 (Row.tl (Row.tl (Row.tl (Row.tl (Row.tl (Row.tl bs)))))), 0)
+              (Behind.look-at 𝓤 H A W q OpaqueRelayRuntime.the-type Laws'''''.the-laws 4 40 Path.refl Path.refl (Row.hd 0 (Row.tl (Row.tl (Row.tl
+              (Row.tl (Row.tl (Row.tl bs)))))), 0) (u .1 .1 .1 .1 .1 .1 .0) (OpaqueRelayRuntime.struct .as-values (u .1 .1 .1 .1 .1 .1 .0))
+              Path.refl)) (Reads'.room-gone 𝓤 H A Laws'.mir) (Yields.makes-mem 𝓤 H A W (λ ρ. Unit) (Declared'.row OpaqueRelayConfig.the-type)
+              Path.refl (Rows.whole (Declared'.row OpaqueRelayConfig.the-type)) (λ x. x) λ ρ told. Local.whole-mem 𝓤 H A W (Declared'.row
+              OpaqueRelayConfig.the-type) ρ) Path.refl Path.refl Path.refl) d50
+          d52 : Typed.Typed 𝓤 H A 𝓣 E G20 b39 Δ0 (at52 bs)
+          d52 = Typed.g-pre 𝓤 H A W 𝓣 E G20 G21 b39 Δ0 (λ Ψ. Ψ) (at51 bs) (Lifetime.g-forget 𝓤 H A W E G20 10 Row.dead Path.refl) d51
+          d53 : Typed.Typed 𝓤 H A 𝓣 E G19 b39 Δ0 (at53 bs)
+          d53 = Typed.g-pre 𝓤 H A W 𝓣 E G19 G20 b39 Δ0 (Typed.pass T17 T20 (s18 bs)) (at52 bs) (Reshare.g-back-sl-shr 𝓤 H A W E RelayCircuit.row G19 2
+              1 10 ref7 life1 (λ x. x) (Reads'.as-is 𝓤 H A (Reshare.mslice-owedS RelayCircuit.row ref7 1 10 life1)) Path.refl Path.refl) d52
+          d54 : Typed.Typed 𝓤 H A 𝓣 E G18 b39 Δ0 (at54 bs)
+          d54 = Typed.g-pre 𝓤 H A W 𝓣 E G18 G19 b39 Δ0 (λ Ψ. Ψ) (at53 bs) (Lifetime.g-end 𝓤 H A W E G18 10 Path.refl) d53
+          d55 : Typed.Typed 𝓤 H A 𝓣 E G17 b39 Δ0 (at55 bs)
+          d55 = Typed.g-pre 𝓤 H A W 𝓣 E G17 G18 b39 Δ0 (λ Ψ. Ψ) (at54 bs) (Lifetime.g-forget 𝓤 H A W E G17 9 Row.dead Path.refl) d54
+          d56 : Typed.Typed 𝓤 H A 𝓣 E G16 b39 Δ0 (at56 bs)
+          d56 = Typed.g-pre 𝓤 H A W 𝓣 E G16 G17 b39 Δ0 (Typed.pass T15 T17 (s15 bs)) (at55 bs) (Reshare.g-back-sl-shr 𝓤 H A W E RelayPending.row G16 1
+              0 9 ref6 life0 (λ x. x) (Reads'.as-is 𝓤 H A (Reshare.mslice-owedS RelayPending.row ref6 0 9 life0)) Path.refl Path.refl) d55
+          d57 : Typed.Typed 𝓤 H A 𝓣 E G15 b39 Δ0 (at57 bs)
+          d57 = Typed.g-pre 𝓤 H A W 𝓣 E G15 G16 b39 Δ0 (λ Ψ. Ψ) (at56 bs) (Lifetime.g-end 𝓤 H A W E G15 9 Path.refl) d56
+          d58 : Typed.Typed 𝓤 H A 𝓣 E G14 b39 Δ0 (at58 bs)
+          d58 = Typed.g-pre 𝓤 H A W 𝓣 E G14 G15 b39 Δ0 (Typed.pass T14 T15 (s13 bs)) (at57 bs) (Scalar.g-room 𝓤 H A W E G14 20 (Syntax.tyStruct (38 ∷
               91 ∷ 93 ∷ List.[]) (Syntax.tcons ref1 (Syntax.tcons (Syntax.tyInt Syntax.w64) Syntax.tnil))) (Shared.room-sslice 𝓤 H A W
-              RelayCircuit.row ref1 10)) d56
-          d58 : Typed.Typed 𝓤 H A 𝓣 E G13 b39 Δ0 (at58 bs)
-          d58 = Typed.g-pre 𝓤 H A W 𝓣 E G13 G14 b39 Δ0 (Typed.pass T13 T14 (s12 bs)) (at57 bs) (Scalar.g-room 𝓤 H A W E G13 17 (Syntax.tyStruct (38 ∷
+              RelayCircuit.row ref1 10)) d57
+          d59 : Typed.Typed 𝓤 H A 𝓣 E G13 b39 Δ0 (at59 bs)
+          d59 = Typed.g-pre 𝓤 H A W 𝓣 E G13 G14 b39 Δ0 (Typed.pass T13 T14 (s12 bs)) (at58 bs) (Scalar.g-room 𝓤 H A W E G13 18 (Syntax.tyStruct (38 ∷
               91 ∷ 93 ∷ List.[]) (Syntax.tcons ref0 (Syntax.tcons (Syntax.tyInt Syntax.w64) Syntax.tnil))) (Shared.room-sslice 𝓤 H A W
-              RelayPending.row ref0 9)) d57
-          d59 : Typed.Typed 𝓤 H A 𝓣 E G12 b40 Δ0 (at59 bs)
-          d59 = Typed.s-seq 𝓤 H A W 𝓣 E G12 G13 b4 b39 Δ0 (Typed.both (s11 bs)) (at58 bs) (Plain.t-call-plain 𝓤 H A W 𝓣 5 ps·0 r·0 (claims· .0)
-              (claims· .1) "hnsr_circuit::handle_open::gather" (known .0) E (λ pos β. β) G12 (record { pos = 17; ty = Syntax.tyRef Syntax.erased
-              Syntax.imm RelayPending.to; ref = λ x. x; }, (record { pos = 19; ty = Syntax.tyRef Syntax.erased Syntax.imm RelayCircuit.to; ref = λ x.
-              x; }, (record { pos = 7; st = List.[]; d = 0; at = λ x. x }, (record { pos = 8; ty = Syntax.tyRef (Syntax.named 5) Syntax.imm
-              (Syntax.tyInt Syntax.w8); ref = λ x. x; }, (record { pos = 9; ty = Syntax.tyRef (Syntax.named 6) Syntax.imm (Syntax.tyInt Syntax.w8);
-              ref = λ x. x; }, (record { pos = 10; ty = Syntax.tyRef (Syntax.named 7) Syntax.imm (Syntax.tyInt Syntax.w8); ref = λ x. x; },
-              tt,),),),),),) 12 (9 ∷ 10 ∷ 5 ∷ 6 ∷ 7 ∷ List.[]) (Call.sub-id 𝓤 H A W (G12 .slots)) (ShrSlice.spares-sslice 𝓤 H A W RelayPending.row
-              ref0 9, Shared.reads-sslice 𝓤 H A W RelayPending.row ref0 9, Path.refl, (ShrSlice.spares-sslice 𝓤 H A W RelayCircuit.row ref1 10,
-              Shared.reads-sslice 𝓤 H A W RelayCircuit.row ref1 10, Path.refl, ((Yields.yields-copy 𝓤 H A W (λ ρ. Unit) (Declared'.row
-              RelayPacket.the-type) Path.refl (Copies.cStruct RelayPacket.the-type Laws'''.the-laws Laws'''.the-copy .copy 𝓤 H A W) (Rows.whole
-              (Declared'.row RelayPacket.the-type)) (λ x. x) (λ x. x) (λ ρ told. Local.mem-whole 𝓤 H A W (Declared'.row RelayPacket.the-type) ρ) λ ρ
-              told. Local.whole-mem 𝓤 H A W (Declared'.row RelayPacket.the-type) ρ, Path.refl,), (ShrSlice.spares-sslice 𝓤 H A W (Referent.rtF
-              (Referent.fInt Syntax.w8)) ref11 5, Shared.reads-sslice 𝓤 H A W (Referent.rtF (Referent.fInt Syntax.w8)) ref11 5, Path.refl,
-              (ShrSlice.spares-sslice 𝓤 H A W (Referent.rtF (Referent.fInt Syntax.w8)) ref12 6, Shared.reads-sslice 𝓤 H A W (Referent.rtF
-              (Referent.fInt Syntax.w8)) ref12 6, Path.refl, (ShrSlice.spares-sslice 𝓤 H A W (Referent.rtF (Referent.fInt Syntax.w8)) ref13 7,
-              Shared.reads-sslice 𝓤 H A W (Referent.rtF (Referent.fInt Syntax.w8)) ref13 7, Path.refl, tt,),),),),),) (Reads'.room-gone 𝓤 H A
-              Laws''.mir) (tt, (tt, (tt, (tt, (tt, tt))))) Path.refl) d58
-          d60 : Typed.Typed 𝓤 H A 𝓣 E G11 b41 Δ0 (at60 bs)
-          d60 = Typed.s-seq 𝓤 H A W 𝓣 E G11 G12 b3 b40 Δ0 (Typed.ask (s10 bs)) (at59 bs) (Relend.t-sl-aggregate 𝓤 H A W E RelayCircuit.row 𝓣
-              (Relend.asShr RelayCircuit.row) G11 18 19 10 ref1 ref1 (λ x. x) (Scalar.oFld 2 ((Syntax.field 1) ∷ List.[]) (Syntax.tyInt Syntax.w64) 8
+              RelayPending.row ref0 9)) d58
+          d60 : Typed.Typed 𝓤 H A 𝓣 E G12 b40 Δ0 (at60 bs)
+          d60 = Typed.s-seq 𝓤 H A W 𝓣 E G12 G13 b4 b39 Δ0 (Typed.both (s11 bs)) (at59 bs) (Plain.t-call-plain 𝓤 H A W 𝓣 5 ps·0 r·0 (claims· .0)
+              (claims· .1) "hnsr_circuit::handle_open::gather" (known .0) E (λ pos β. β) G12 (record { pos = 18; ty = Syntax.tyRef Syntax.erased
+              Syntax.imm RelayPending.to; ref = λ x. x; }, (record { pos = 20; ty = Syntax.tyRef Syntax.erased Syntax.imm RelayCircuit.to; ref = λ x.
+              x; }, (record { pos = 7; st = List.[]; d = 0; at = λ x. x }, (record { pos = 8; st = List.[]; d = 0; at = λ x. x }, (record { pos = 9;
+              ty = Syntax.tyRef (Syntax.named 5) Syntax.imm (Syntax.tyInt Syntax.w8); ref = λ x. x; }, (record { pos = 10; ty = Syntax.tyRef
+              (Syntax.named 6) Syntax.imm (Syntax.tyInt Syntax.w8); ref = λ x. x; }, (record { pos = 11; ty = Syntax.tyRef (Syntax.named 7) Syntax.imm
+              (Syntax.tyInt Syntax.w8); ref = λ x. x; }, tt,),),),),),),) 13 (9 ∷ 10 ∷ 5 ∷ 6 ∷ 7 ∷ List.[]) (Call.sub-id 𝓤 H A W (G12 .slots))
+              (ShrSlice.spares-sslice 𝓤 H A W RelayPending.row ref0 9, Shared.reads-sslice 𝓤 H A W RelayPending.row ref0 9, Path.refl,
+              (ShrSlice.spares-sslice 𝓤 H A W RelayCircuit.row ref1 10, Shared.reads-sslice 𝓤 H A W RelayCircuit.row ref1 10, Path.refl,
+              ((Yields.yields-copy 𝓤 H A W (λ ρ. Unit) (Declared'.row Places.the-type) Path.refl (Copies.cStruct Places.the-type Laws'''.the-laws
+              Laws'''.the-copy .copy 𝓤 H A W) (Rows.whole (Declared'.row Places.the-type)) (λ x. x) (λ x. x) (λ ρ told. Local.mem-whole 𝓤 H A W
+              (Declared'.row Places.the-type) ρ) λ ρ told. Local.whole-mem 𝓤 H A W (Declared'.row Places.the-type) ρ, Path.refl,),
+              ((Yields.yields-copy 𝓤 H A W (λ ρ. Unit) (Declared'.row RelayPacket.the-type) Path.refl (Copies.cStruct RelayPacket.the-type
+              Laws''''.the-laws Laws''''.the-copy .copy 𝓤 H A W) (Rows.whole (Declared'.row RelayPacket.the-type)) (λ x. x) (λ x. x) (λ ρ told.
+              Local.mem-whole 𝓤 H A W (Declared'.row RelayPacket.the-type) ρ) λ ρ told. Local.whole-mem 𝓤 H A W (Declared'.row RelayPacket.the-type)
+              ρ, Path.refl,), (ShrSlice.spares-sslice 𝓤 H A W (Referent.rtF (Referent.fInt Syntax.w8)) ref11 5, Shared.reads-sslice 𝓤 H A W
+              (Referent.rtF (Referent.fInt Syntax.w8)) ref11 5, Path.refl, (ShrSlice.spares-sslice 𝓤 H A W (Referent.rtF (Referent.fInt Syntax.w8))
+              ref12 6, Shared.reads-sslice 𝓤 H A W (Referent.rtF (Referent.fInt Syntax.w8)) ref12 6, Path.refl, (ShrSlice.spares-sslice 𝓤 H A W
+              (Referent.rtF (Referent.fInt Syntax.w8)) ref13 7, Shared.reads-sslice 𝓤 H A W (Referent.rtF (Referent.fInt Syntax.w8)) ref13 7,
+              Path.refl, tt,),),),),),),) (Reads'.room-gone 𝓤 H A Laws''.mir) (tt, (tt, (tt, (tt, (tt, tt))))) Path.refl) d59
+          d61 : Typed.Typed 𝓤 H A 𝓣 E G11 b41 Δ0 (at61 bs)
+          d61 = Typed.s-seq 𝓤 H A W 𝓣 E G11 G12 b3 b40 Δ0 (Typed.ask (s10 bs)) (at60 bs) (Relend.t-sl-aggregate 𝓤 H A W E RelayCircuit.row 𝓣
+              (Relend.asShr RelayCircuit.row) G11 19 20 10 ref1 ref1 (λ x. x) (Scalar.oFld 2 ((Syntax.field 1) ∷ List.[]) (Syntax.tyInt Syntax.w64) 8
               λ v. Shared.lenV (v .0)) (Reads'.as-is 𝓤 H A (Relend.ssptr RelayCircuit.row ref1 10)) (Reads'.room-gone 𝓤 H A (Syntax.tyStruct (38 ∷ 91
               ∷ 93 ∷ List.[]) (Syntax.tcons ref1 (Syntax.tcons (Syntax.tyInt Syntax.w64) Syntax.tnil)))) (Reshare.reads-owedS-len 𝓤 H A W
-              RelayCircuit.row ref7 1 10 life1 8 Path.refl, Path.refl,) Path.refl Path.refl λ b o k. tt) d59
-          d61 : Typed.Typed 𝓤 H A 𝓣 E G10 b42 Δ0 (at61 bs)
-          d61 = Typed.s-seq 𝓤 H A W 𝓣 E G10 G11 b2 b41 Δ0 (Typed.give (s9 bs)) (at60 bs) (Reshare.t-sl-reshare 𝓤 H A W E RelayCircuit.row 𝓣 G10 2 18 1
+              RelayCircuit.row ref7 1 10 life1 8 Path.refl, Path.refl,) Path.refl Path.refl λ b o k. tt) d60
+          d62 : Typed.Typed 𝓤 H A 𝓣 E G10 b42 Δ0 (at62 bs)
+          d62 = Typed.s-seq 𝓤 H A W 𝓣 E G10 G11 b2 b41 Δ0 (Typed.give (s9 bs)) (at61 bs) (Reshare.t-sl-reshare 𝓤 H A W E RelayCircuit.row 𝓣 G10 2 19 1
               10 ref7 ref1 life1 0 (λ x. x) (Reads'.as-is 𝓤 H A (Mut.mslice RelayCircuit.row ref7 1)) (Reads'.room-gone 𝓤 H A ref1) Path.refl tt
-              Path.refl Path.refl Path.refl λ b o. tt) d60
-          d62 : Typed.Typed 𝓤 H A 𝓣 E G9 b42 Δ0 (at62 bs)
-          d62 = Typed.g-pre 𝓤 H A W 𝓣 E G9 G10 b42 Δ0 (λ Ψ. Ψ) (at61 bs) (Lifetime.g-begin 𝓤 H A W E G9 10 (tt, ((tt, tt), (tt, (tt, (tt, (tt, (tt,
-              (tt, (tt, (tt, (tt, (tt, (tt, (tt, (tt, (tt, (tt, (tt, (tt, (tt, (tt, (tt, (tt, (tt, (tt, (tt, (tt, (tt, (tt, (tt, (tt, (tt, (tt,
-              tt))),),),),),),),),),),),),),),),),),),),),),),),),),),),),),),)) d61
-          d63 : Typed.Typed 𝓤 H A 𝓣 E G8 b43 Δ0 (at63 bs)
-          d63 = Typed.s-seq 𝓤 H A W 𝓣 E G8 G9 b1 b42 Δ0 (Typed.ask (s7 bs)) (at62 bs) (Relend.t-sl-aggregate 𝓤 H A W E RelayPending.row 𝓣
-              (Relend.asShr RelayPending.row) G8 16 17 9 ref0 ref0 (λ x. x) (Scalar.oFld 1 ((Syntax.field 1) ∷ List.[]) (Syntax.tyInt Syntax.w64) 8 λ
+              Path.refl Path.refl Path.refl λ b o. tt) d61
+          d63 : Typed.Typed 𝓤 H A 𝓣 E G9 b42 Δ0 (at63 bs)
+          d63 = Typed.g-pre 𝓤 H A W 𝓣 E G9 G10 b42 Δ0 (λ Ψ. Ψ) (at62 bs) (Lifetime.g-begin 𝓤 H A W E G9 10 (tt, ((tt, tt), (tt, (tt, (tt, (tt, (tt,
+              (tt, (tt, (tt, (tt, (tt, (tt, (tt, (tt, (tt, (tt, (tt, (tt, (tt, (tt, (tt, (tt, (tt, (tt, (tt, (tt, (tt, (tt, (tt, (tt, (tt, (tt, (tt,
+              tt))),),),),),),),),),),),),),),),),),),),),),),),),),),),),),),),)) d62
+          d64 : Typed.Typed 𝓤 H A 𝓣 E G8 b43 Δ0 (at64 bs)
+          d64 = Typed.s-seq 𝓤 H A W 𝓣 E G8 G9 b1 b42 Δ0 (Typed.ask (s7 bs)) (at63 bs) (Relend.t-sl-aggregate 𝓤 H A W E RelayPending.row 𝓣
+              (Relend.asShr RelayPending.row) G8 17 18 9 ref0 ref0 (λ x. x) (Scalar.oFld 1 ((Syntax.field 1) ∷ List.[]) (Syntax.tyInt Syntax.w64) 8 λ
               v. Shared.lenV (v .0)) (Reads'.as-is 𝓤 H A (Relend.ssptr RelayPending.row ref0 9)) (Reads'.room-gone 𝓤 H A (Syntax.tyStruct (38 ∷ 91 ∷
               93 ∷ List.[]) (Syntax.tcons ref0 (Syntax.tcons (Syntax.tyInt Syntax.w64) Syntax.tnil)))) (Reshare.reads-owedS-len 𝓤 H A W
-              RelayPending.row ref6 0 9 life0 8 Path.refl, Path.refl,) Path.refl Path.refl λ b o k. tt) d62
-          d64 : Typed.Typed 𝓤 H A 𝓣 E G7 b44 Δ0 (at64 bs)
-          d64 = Typed.s-seq 𝓤 H A W 𝓣 E G7 G8 b0 b43 Δ0 (Typed.give (s6 bs)) (at63 bs) (Reshare.t-sl-reshare 𝓤 H A W E RelayPending.row 𝓣 G7 1 16 0 9
+              RelayPending.row ref6 0 9 life0 8 Path.refl, Path.refl,) Path.refl Path.refl λ b o k. tt) d63
+          d65 : Typed.Typed 𝓤 H A 𝓣 E G7 b44 Δ0 (at65 bs)
+          d65 = Typed.s-seq 𝓤 H A W 𝓣 E G7 G8 b0 b43 Δ0 (Typed.give (s6 bs)) (at64 bs) (Reshare.t-sl-reshare 𝓤 H A W E RelayPending.row 𝓣 G7 1 17 0 9
               ref6 ref0 life0 0 (λ x. x) (Reads'.as-is 𝓤 H A (Mut.mslice RelayPending.row ref6 0)) (Reads'.room-gone 𝓤 H A ref0) Path.refl tt
-              Path.refl Path.refl Path.refl λ b o. tt) d63
-          d65 : Typed.Typed 𝓤 H A 𝓣 E G6 b44 Δ0 (at65 bs)
-          d65 = Typed.g-pre 𝓤 H A W 𝓣 E G6 G7 b44 Δ0 (λ Ψ. Ψ) (at64 bs) (Lifetime.g-begin 𝓤 H A W E G6 9 (tt, (tt, (tt, (tt, (tt, (tt, (tt, (tt, (tt,
-              (tt, (tt, (tt, (tt, (tt, (tt, (tt, (tt, (tt, (tt, (tt, (tt, (tt, (tt, (tt, (tt, (tt, (tt, (tt, (tt, (tt, (tt, (tt, (tt,
-              tt))),),),),),),),),),),),),),),),),),),),),),),),),),),),),),),)) d64
-          d66 : Typed.Typed 𝓤 H A 𝓣 E G5 b44 Δ0 (at66 bs)
-          d66 = Typed.g-pre 𝓤 H A W 𝓣 E G5 G6 b44 Δ0 (Typed.give (s4 bs)) (at65 bs) (Know.g-shs-known 𝓤 H A W (Referent.fInt Syntax.w8) E G5 11 8
+              Path.refl Path.refl Path.refl λ b o. tt) d64
+          d66 : Typed.Typed 𝓤 H A 𝓣 E G6 b44 Δ0 (at66 bs)
+          d66 = Typed.g-pre 𝓤 H A W 𝓣 E G6 G7 b44 Δ0 (λ Ψ. Ψ) (at65 bs) (Lifetime.g-begin 𝓤 H A W E G6 9 (tt, (tt, (tt, (tt, (tt, (tt, (tt, (tt, (tt,
+              (tt, (tt, (tt, (tt, (tt, (tt, (tt, (tt, (tt, (tt, (tt, (tt, (tt, (tt, (tt, (tt, (tt, (tt, (tt, (tt, (tt, (tt, (tt, (tt, (tt,
+              tt))),),),),),),),),),),),),),),),),),),),),),),),),),),),),),),),)) d65
+          d67 : Typed.Typed 𝓤 H A 𝓣 E G5 b44 Δ0 (at67 bs)
+          d67 = Typed.g-pre 𝓤 H A W 𝓣 E G5 G6 b44 Δ0 (Typed.give (s4 bs)) (at66 bs) (Know.g-shs-known 𝓤 H A W (Referent.fInt Syntax.w8) E G5 12 8
               ref14 life8 0 (λ x. x) record { fits = Dec.lit< tt } (Reads'.as-is 𝓤 H A (Rows.sslice (Referent.rtF (Referent.fInt Syntax.w8)) ref14 8))
-              Path.refl tt) d65
-          d67 : Typed.Typed 𝓤 H A 𝓣 E G4 b44 Δ0 (at67 bs)
-          d67 = Typed.g-pre 𝓤 H A W 𝓣 E G4 G5 b44 Δ0 (Typed.give (s3 bs)) (at66 bs) (Know.g-shs-known 𝓤 H A W (Referent.fInt Syntax.w8) E G4 10 7
-              ref13 life7 0 (λ x. x) record { fits = Dec.lit< tt } (Reads'.as-is 𝓤 H A (Rows.sslice (Referent.rtF (Referent.fInt Syntax.w8)) ref13 7))
               Path.refl tt) d66
-          d68 : Typed.Typed 𝓤 H A 𝓣 E G3 b44 Δ0 (at68 bs)
-          d68 = Typed.g-pre 𝓤 H A W 𝓣 E G3 G4 b44 Δ0 (Typed.give (s2 bs)) (at67 bs) (Know.g-shs-known 𝓤 H A W (Referent.fInt Syntax.w8) E G3 9 6 ref12
-              life6 0 (λ x. x) record { fits = Dec.lit< tt } (Reads'.as-is 𝓤 H A (Rows.sslice (Referent.rtF (Referent.fInt Syntax.w8)) ref12 6))
+          d68 : Typed.Typed 𝓤 H A 𝓣 E G4 b44 Δ0 (at68 bs)
+          d68 = Typed.g-pre 𝓤 H A W 𝓣 E G4 G5 b44 Δ0 (Typed.give (s3 bs)) (at67 bs) (Know.g-shs-known 𝓤 H A W (Referent.fInt Syntax.w8) E G4 11 7
+              ref13 life7 0 (λ x. x) record { fits = Dec.lit< tt } (Reads'.as-is 𝓤 H A (Rows.sslice (Referent.rtF (Referent.fInt Syntax.w8)) ref13 7))
               Path.refl tt) d67
-          d69 : Typed.Typed 𝓤 H A 𝓣 E G2 b44 Δ0 (at69 bs)
-          d69 = Typed.g-pre 𝓤 H A W 𝓣 E G2 G3 b44 Δ0 (Typed.give (s1 bs)) (at68 bs) (Know.g-shs-known 𝓤 H A W (Referent.fInt Syntax.w8) E G2 8 5 ref11
-              life5 0 (λ x. x) record { fits = Dec.lit< tt } (Reads'.as-is 𝓤 H A (Rows.sslice (Referent.rtF (Referent.fInt Syntax.w8)) ref11 5))
+          d69 : Typed.Typed 𝓤 H A 𝓣 E G3 b44 Δ0 (at69 bs)
+          d69 = Typed.g-pre 𝓤 H A W 𝓣 E G3 G4 b44 Δ0 (Typed.give (s2 bs)) (at68 bs) (Know.g-shs-known 𝓤 H A W (Referent.fInt Syntax.w8) E G3 10 6
+              ref12 life6 0 (λ x. x) record { fits = Dec.lit< tt } (Reads'.as-is 𝓤 H A (Rows.sslice (Referent.rtF (Referent.fInt Syntax.w8)) ref12 6))
               Path.refl tt) d68
-          d70 : Typed.Typed 𝓤 H A 𝓣 E G0 b44 Δ0 (at70 bs)
-          d70 = Typed.g-pre 𝓤 H A W 𝓣 E G0 G2 b44 Δ0 (Typed.give (s0 bs)) (at69 bs) (Know.g-sl-known 𝓤 H A W (Referent.fInt Syntax.w32) E G0 5 4 ref10
-              life4 0 (λ x. x) record { fits = Dec.lit< tt } (Reads'.as-is 𝓤 H A (Mut.mslice (Referent.rtF (Referent.fInt Syntax.w32)) ref10 4))
+          d70 : Typed.Typed 𝓤 H A 𝓣 E G2 b44 Δ0 (at70 bs)
+          d70 = Typed.g-pre 𝓤 H A W 𝓣 E G2 G3 b44 Δ0 (Typed.give (s1 bs)) (at69 bs) (Know.g-shs-known 𝓤 H A W (Referent.fInt Syntax.w8) E G2 9 5 ref11
+              life5 0 (λ x. x) record { fits = Dec.lit< tt } (Reads'.as-is 𝓤 H A (Rows.sslice (Referent.rtF (Referent.fInt Syntax.w8)) ref11 5))
               Path.refl tt) d69
+          d71 : Typed.Typed 𝓤 H A 𝓣 E G0 b44 Δ0 (at71 bs)
+          d71 = Typed.g-pre 𝓤 H A W 𝓣 E G0 G2 b44 Δ0 (Typed.give (s0 bs)) (at70 bs) (Know.g-sl-known 𝓤 H A W (Referent.fInt Syntax.w32) E G0 5 4 ref10
+              life4 0 (λ x. x) record { fits = Dec.lit< tt } (Reads'.as-is 𝓤 H A (Mut.mslice (Referent.rtF (Referent.fInt Syntax.w32)) ref10 4))
+              Path.refl tt) d70
           pub typed : Typed.Typed 𝓤 H A 𝓣 E (Function.Γin 9 ps r xs m κs qs) b44 (Function.Δret 9 ps r xs m κs qs) (Φ bs)
-          typed = d70
+          typed = d71
       module _ (κs : Lifetimes.Lfts 9) where
         pub record Args : Type 0 where
           pub pending : Kinds.Den { n = 9 } κs (MutSlice.pMutS RelayPending.row 0 tt)
@@ -1689,25 +1748,31 @@ module _ (claims· : Claims) where
           pub inflight : Kinds.Den { n = 9 } κs (MutSlice.pMutS InflightAction.row 3 tt)
           pub out : Kinds.Den { n = 9 } κs (MutSlice.pMutS (Referent.rtF (Referent.fInt Syntax.w32)) 4 tt)
           pub runtime : Kinds.Den { n = 9 } κs (Value.pVal record { ty = Declared'.row OpaqueRelayRuntime.the-type; one = Path.refl; val =
-              Laws'''''''.val OpaqueRelayRuntime.the-type Laws''''.the-laws; tells = Laws'''''''.tells OpaqueRelayRuntime.the-type Laws''''.the-laws;
-              still = Laws'''''''.still OpaqueRelayRuntime.the-type Laws''''.the-copy Exit.yes; row = Rows.whole (Declared'.row
-              OpaqueRelayRuntime.the-type); rd = λ x. x; mk = λ x. x; } λ M 𝓤 H A W. record { copies = Laws'''''''.copy OpaqueRelayRuntime.the-type
-              Laws''''.the-copy 𝓤 H A W; lawful = Laws'''''''.lawful OpaqueRelayRuntime.the-type Laws''''.the-laws 𝓤 H A W; makes = Laws'''''''.makes
-              OpaqueRelayRuntime.the-type Laws''''.the-plain 𝓤 H A; in-mem = Local.mem-whole 𝓤 H A W (Declared'.row OpaqueRelayRuntime.the-type);
-              of-mem = Local.whole-mem 𝓤 H A W (Declared'.row OpaqueRelayRuntime.the-type); })
-          pub packet : Kinds.Den { n = 9 } κs (Value.pVal record { ty = Declared'.row RelayPacket.the-type; one = Path.refl; val = Laws'''''''.val
-              RelayPacket.the-type Laws'''.the-laws; tells = Laws'''''''.tells RelayPacket.the-type Laws'''.the-laws; still = Laws'''''''.still
-              RelayPacket.the-type Laws'''.the-copy Exit.yes; row = Rows.whole (Declared'.row RelayPacket.the-type); rd = λ x. x; mk = λ x. x; } λ M 𝓤
-              H A W. record { copies = Laws'''''''.copy RelayPacket.the-type Laws'''.the-copy 𝓤 H A W; lawful = Laws'''''''.lawful
-              RelayPacket.the-type Laws'''.the-laws 𝓤 H A W; makes = Laws'''''''.makes RelayPacket.the-type Laws'''.the-plain 𝓤 H A; in-mem =
+              Laws''''''''.val OpaqueRelayRuntime.the-type Laws'''''.the-laws; tells = Laws''''''''.tells OpaqueRelayRuntime.the-type
+              Laws'''''.the-laws; still = Laws''''''''.still OpaqueRelayRuntime.the-type Laws'''''.the-copy Exit.yes; row = Rows.whole (Declared'.row
+              OpaqueRelayRuntime.the-type); rd = λ x. x; mk = λ x. x; } λ M 𝓤 H A W. record { copies = Laws''''''''.copy OpaqueRelayRuntime.the-type
+              Laws'''''.the-copy 𝓤 H A W; lawful = Laws''''''''.lawful OpaqueRelayRuntime.the-type Laws'''''.the-laws 𝓤 H A W; makes =
+              Laws''''''''.makes OpaqueRelayRuntime.the-type Laws'''''.the-plain 𝓤 H A; in-mem = Local.mem-whole 𝓤 H A W (Declared'.row
+              OpaqueRelayRuntime.the-type); of-mem = Local.whole-mem 𝓤 H A W (Declared'.row OpaqueRelayRuntime.the-type); })
+          pub places : Kinds.Den { n = 9 } κs (Value.pVal record { ty = Declared'.row Places.the-type; one = Path.refl; val = Laws''''''''.val
+              Places.the-type Laws'''.the-laws; tells = Laws''''''''.tells Places.the-type Laws'''.the-laws; still = Laws''''''''.still
+              Places.the-type Laws'''.the-copy Exit.yes; row = Rows.whole (Declared'.row Places.the-type); rd = λ x. x; mk = λ x. x; } λ M 𝓤 H A W.
+              record { copies = Laws''''''''.copy Places.the-type Laws'''.the-copy 𝓤 H A W; lawful = Laws''''''''.lawful Places.the-type
+              Laws'''.the-laws 𝓤 H A W; makes = Laws''''''''.makes Places.the-type Laws'''.the-plain 𝓤 H A; in-mem = Local.mem-whole 𝓤 H A W
+              (Declared'.row Places.the-type); of-mem = Local.whole-mem 𝓤 H A W (Declared'.row Places.the-type); })
+          pub packet : Kinds.Den { n = 9 } κs (Value.pVal record { ty = Declared'.row RelayPacket.the-type; one = Path.refl; val = Laws''''''''.val
+              RelayPacket.the-type Laws''''.the-laws; tells = Laws''''''''.tells RelayPacket.the-type Laws''''.the-laws; still = Laws''''''''.still
+              RelayPacket.the-type Laws''''.the-copy Exit.yes; row = Rows.whole (Declared'.row RelayPacket.the-type); rd = λ x. x; mk = λ x. x; } λ M
+              𝓤 H A W. record { copies = Laws''''''''.copy RelayPacket.the-type Laws''''.the-copy 𝓤 H A W; lawful = Laws''''''''.lawful
+              RelayPacket.the-type Laws''''.the-laws 𝓤 H A W; makes = Laws''''''''.makes RelayPacket.the-type Laws''''.the-plain 𝓤 H A; in-mem =
               Local.mem-whole 𝓤 H A W (Declared'.row RelayPacket.the-type); of-mem = Local.whole-mem 𝓤 H A W (Declared'.row RelayPacket.the-type); })
           pub source : Kinds.Den { n = 9 } κs (ShrSlice.pShrS (Referent.rtF (Referent.fInt Syntax.w8)) 5 tt)
           pub body : Kinds.Den { n = 9 } κs (ShrSlice.pShrS (Referent.rtF (Referent.fInt Syntax.w8)) 6 tt)
           pub endpoint : Kinds.Den { n = 9 } κs (ShrSlice.pShrS (Referent.rtF (Referent.fInt Syntax.w8)) 7 tt)
           pub random : Kinds.Den { n = 9 } κs (ShrSlice.pShrS (Referent.rtF (Referent.fInt Syntax.w8)) 8 tt)
         abbrev pub dens : (a : Args) → Kinds.Dens κs ps
-        dens = λ a. (a .pending, (a .circuits, (a .ledger, (a .inflight, (a .out, (a .runtime, (a .packet, (a .source, (a .body, (a .endpoint, (a
-            .random, tt))))),),),),),),)
+        dens = λ a. (a .pending, (a .circuits, (a .ledger, (a .inflight, (a .out, (a .runtime, (a .places, (a .packet, (a .source, (a .body, (a
+            .endpoint, (a .random, tt))))),),),),),),),)
       abbrev pub m0 : (κs : Lifetimes.Lfts 9) → (args : Args κs) → (blocks : List.List Nat.ℕ) → Typed.Mo T0
       m0 = λ κs args blocks. (tt, Enter.partsP κs 1 ps xs (dens κs args))
       abbrev W0 : (κs : Lifetimes.Lfts 9) → (args : Args κs) → (blocks : List.List Nat.ℕ) → Typed.Want O0
@@ -1798,23 +1863,23 @@ module _ (claims· : Claims) where
           .gather-arg2 .given)) given
       module _ (before· : After-gather-arg2) where
         abbrev pub After-gather·own : Type 0
-        After-gather·own = Called.Called ps·0 r·0 (claims· .1) T12 (record { pos = 17; ty = Syntax.tyRef Syntax.erased Syntax.imm RelayPending.to; ref
-            = λ x. x; }, (record { pos = 19; ty = Syntax.tyRef Syntax.erased Syntax.imm RelayCircuit.to; ref = λ x. x; }, (record { pos = 7; st =
-            List.[]; d = 0; at = λ x. x }, (record { pos = 8; ty = Syntax.tyRef (Syntax.named 5) Syntax.imm (Syntax.tyInt Syntax.w8); ref = λ x. x; },
-            (record { pos = 9; ty = Syntax.tyRef (Syntax.named 6) Syntax.imm (Syntax.tyInt Syntax.w8); ref = λ x. x; }, (record { pos = 10; ty =
-            Syntax.tyRef (Syntax.named 7) Syntax.imm (Syntax.tyInt Syntax.w8); ref = λ x. x; }, tt,),),),),),) (m9 (before· .before) (before·
-            .gather-arg2 .given))
+        After-gather·own = Called.Called ps·0 r·0 (claims· .1) T12 (record { pos = 18; ty = Syntax.tyRef Syntax.erased Syntax.imm RelayPending.to; ref
+            = λ x. x; }, (record { pos = 20; ty = Syntax.tyRef Syntax.erased Syntax.imm RelayCircuit.to; ref = λ x. x; }, (record { pos = 7; st =
+            List.[]; d = 0; at = λ x. x }, (record { pos = 8; st = List.[]; d = 0; at = λ x. x }, (record { pos = 9; ty = Syntax.tyRef (Syntax.named
+            5) Syntax.imm (Syntax.tyInt Syntax.w8); ref = λ x. x; }, (record { pos = 10; ty = Syntax.tyRef (Syntax.named 6) Syntax.imm (Syntax.tyInt
+            Syntax.w8); ref = λ x. x; }, (record { pos = 11; ty = Syntax.tyRef (Syntax.named 7) Syntax.imm (Syntax.tyInt Syntax.w8); ref = λ x. x; },
+            tt,),),),),),),) (m9 (before· .before) (before· .gather-arg2 .given))
       pub record After-gather : Type 0 where
         pub before : After-gather-arg2
         pub gather : After-gather·own before
       abbrev pub After-gather·gave : (c : After-gather) → s11 (c .before .before .before .before .before .before .before .before .blocks) .gives (m9
           (c .before .before) (c .before .gather-arg2 .given))
-      After-gather·gave = λ c. Called.given ps·0 r·0 (claims· .1) T12 (record { pos = 17; ty = Syntax.tyRef Syntax.erased Syntax.imm RelayPending.to;
-          ref = λ x. x; }, (record { pos = 19; ty = Syntax.tyRef Syntax.erased Syntax.imm RelayCircuit.to; ref = λ x. x; }, (record { pos = 7; st =
-          List.[]; d = 0; at = λ x. x }, (record { pos = 8; ty = Syntax.tyRef (Syntax.named 5) Syntax.imm (Syntax.tyInt Syntax.w8); ref = λ x. x; },
-          (record { pos = 9; ty = Syntax.tyRef (Syntax.named 6) Syntax.imm (Syntax.tyInt Syntax.w8); ref = λ x. x; }, (record { pos = 10; ty =
-          Syntax.tyRef (Syntax.named 7) Syntax.imm (Syntax.tyInt Syntax.w8); ref = λ x. x; }, tt,),),),),),) (m9 (c .before .before) (c .before
-          .gather-arg2 .given)) (c .gather)
+      After-gather·gave = λ c. Called.given ps·0 r·0 (claims· .1) T12 (record { pos = 18; ty = Syntax.tyRef Syntax.erased Syntax.imm RelayPending.to;
+          ref = λ x. x; }, (record { pos = 20; ty = Syntax.tyRef Syntax.erased Syntax.imm RelayCircuit.to; ref = λ x. x; }, (record { pos = 7; st =
+          List.[]; d = 0; at = λ x. x }, (record { pos = 8; st = List.[]; d = 0; at = λ x. x }, (record { pos = 9; ty = Syntax.tyRef (Syntax.named 5)
+          Syntax.imm (Syntax.tyInt Syntax.w8); ref = λ x. x; }, (record { pos = 10; ty = Syntax.tyRef (Syntax.named 6) Syntax.imm (Syntax.tyInt
+          Syntax.w8); ref = λ x. x; }, (record { pos = 11; ty = Syntax.tyRef (Syntax.named 7) Syntax.imm (Syntax.tyInt Syntax.w8); ref = λ x. x; },
+          tt,),),),),),),) (m9 (c .before .before) (c .before .gather-arg2 .given)) (c .gather)
       abbrev pub m11 : (before : After-gather-arg2) → (given : s11 (before .before .before .before .before .before .before .before .blocks) .gives (m9
           (before .before) (before .gather-arg2 .given))) → Typed.Mo T14
       m11 = λ before given. s12 (before .before .before .before .before .before .before .before .blocks) (m10 before given)
@@ -1847,14 +1912,14 @@ module _ (claims· : Claims) where
           (before .config .given)) given
       module _ (before· : After-config) where
         abbrev pub After-open-rows·own : Type 0
-        After-open-rows·own = Called.Called ps·1 r·1 (claims· .3) T22 (record { pos = 13; st = List.[]; d = 0; at = λ x. x }, (record { pos = 12; st =
+        After-open-rows·own = Called.Called ps·1 r·1 (claims· .3) T22 (record { pos = 14; st = List.[]; d = 0; at = λ x. x }, (record { pos = 13; st =
             List.[]; d = 0; at = λ x. x }, tt),) (m15 (before· .before) (before· .config .given))
       pub record After-open-rows : Type 0 where
         pub before : After-config
         pub open-rows : After-open-rows·own before
       abbrev pub After-open-rows·gave : (c : After-open-rows) → s21 (c .before .before .before .before .before .before .before .before .before .before
           .blocks) .gives (m15 (c .before .before) (c .before .config .given))
-      After-open-rows·gave = λ c. Called.given ps·1 r·1 (claims· .3) T22 (record { pos = 13; st = List.[]; d = 0; at = λ x. x }, (record { pos = 12;
+      After-open-rows·gave = λ c. Called.given ps·1 r·1 (claims· .3) T22 (record { pos = 14; st = List.[]; d = 0; at = λ x. x }, (record { pos = 13;
           st = List.[]; d = 0; at = λ x. x }, tt),) (m15 (c .before .before) (c .before .config .given)) (c .open-rows)
       abbrev pub m17 : (before : After-config) → (given : s21 (before .before .before .before .before .before .before .before .before .before .blocks)
           .gives (m15 (before .before) (before .config .given))) → Typed.Mo T24
@@ -1868,14 +1933,14 @@ module _ (claims· : Claims) where
           .before) (After-open-rows·gave before)) given
       module _ (before· : After-open-rows) where
         abbrev pub After-is-taken·own : Type 0
-        After-is-taken·own = Called.Called ps·2 r·2 (claims· .5) T24 (record { pos = 14; st = List.[]; d = 0; at = λ x. x }, tt,) (m17 (before·
+        After-is-taken·own = Called.Called ps·2 r·2 (claims· .5) T24 (record { pos = 15; st = List.[]; d = 0; at = λ x. x }, tt,) (m17 (before·
             .before) (After-open-rows·gave before·))
       pub record After-is-taken : Type 0 where
         pub before : After-open-rows
         pub is-taken : After-is-taken·own before
       abbrev pub After-is-taken·gave : (c : After-is-taken) → s23 (c .before .before .before .before .before .before .before .before .before .before
           .before .blocks) .gives (m17 (c .before .before) (After-open-rows·gave (c .before)))
-      After-is-taken·gave = λ c. Called.given ps·2 r·2 (claims· .5) T24 (record { pos = 14; st = List.[]; d = 0; at = λ x. x }, tt,) (m17 (c .before
+      After-is-taken·gave = λ c. Called.given ps·2 r·2 (claims· .5) T24 (record { pos = 15; st = List.[]; d = 0; at = λ x. x }, tt,) (m17 (c .before
           .before) (After-open-rows·gave (c .before))) (c .is-taken)
       abbrev pub m19 : (before : After-is-taken) → (given : s25 (before .before .before .before .before .before .before .before .before .before
           .before .before .blocks) .gives (m18 (before .before) (After-is-taken·gave before))) → Typed.Mo T27
@@ -1901,17 +1966,19 @@ module _ (claims· : Claims) where
           (m20 (before .before) (before .drop-lapsed-arg .given)) given
       module _ (before· : After-drop-lapsed-arg) where
         abbrev pub After-drop-lapsed·own : Type 0
-        After-drop-lapsed·own = Called.Called ps·3 r·3 (claims· .7) T28 (record { pos = 22; ty = Syntax.tyRef Syntax.erased Syntax.mut
-            ReservationUsage.to; ref = λ x. x; }, (Bool.bAt 15 λ x. x, (Num.vFld 7 ((Syntax.field 2) ∷ List.[]) 16 λ x. RelayPacket.struct .as-values
-            x .1 .1 .0, tt,),),) (m20 (before· .before) (before· .drop-lapsed-arg .given))
+        After-drop-lapsed·own = Called.Called ps·3 r·3 (claims· .7) T28 (record { pos = 23; ty = Syntax.tyRef Syntax.erased Syntax.mut
+            ReservationUsage.to; ref = λ x. x; }, (record { pos = 7; st = List.[]; d = 0; at = λ x. x }, (Bool.bAt 16 λ x. x, (Num.vFld 8
+            ((Syntax.field 2) ∷ List.[]) 16 λ x. RelayPacket.struct .as-values x .1 .1 .0, tt,),),),) (m20 (before· .before) (before· .drop-lapsed-arg
+            .given))
       pub record After-drop-lapsed : Type 0 where
         pub before : After-drop-lapsed-arg
         pub drop-lapsed : After-drop-lapsed·own before
       abbrev pub After-drop-lapsed·gave : (c : After-drop-lapsed) → s27 (c .before .before .before .before .before .before .before .before .before
           .before .before .before .before .blocks) .gives (m20 (c .before .before) (c .before .drop-lapsed-arg .given))
-      After-drop-lapsed·gave = λ c. Called.given ps·3 r·3 (claims· .7) T28 (record { pos = 22; ty = Syntax.tyRef Syntax.erased Syntax.mut
-          ReservationUsage.to; ref = λ x. x; }, (Bool.bAt 15 λ x. x, (Num.vFld 7 ((Syntax.field 2) ∷ List.[]) 16 λ x. RelayPacket.struct .as-values x
-          .1 .1 .0, tt,),),) (m20 (c .before .before) (c .before .drop-lapsed-arg .given)) (c .drop-lapsed)
+      After-drop-lapsed·gave = λ c. Called.given ps·3 r·3 (claims· .7) T28 (record { pos = 23; ty = Syntax.tyRef Syntax.erased Syntax.mut
+          ReservationUsage.to; ref = λ x. x; }, (record { pos = 7; st = List.[]; d = 0; at = λ x. x }, (Bool.bAt 16 λ x. x, (Num.vFld 8 ((Syntax.field
+          2) ∷ List.[]) 16 λ x. RelayPacket.struct .as-values x .1 .1 .0, tt,),),),) (m20 (c .before .before) (c .before .drop-lapsed-arg .given)) (c
+          .drop-lapsed)
       abbrev pub m22 : (before : After-drop-lapsed-arg) → (given : s27 (before .before .before .before .before .before .before .before .before .before
           .before .before .before .blocks) .gives (m20 (before .before) (before .drop-lapsed-arg .given))) → Typed.Mo T30
       m22 = λ before given. s28 (before .before .before .before .before .before .before .before .before .before .before .before .before .blocks) (m21
@@ -2023,26 +2090,28 @@ module _ (claims· : Claims) where
           .before .before .before .before .before .before .blocks) .next (m34 (before .before) (before .open-lapsed-arg5 .given)) given
       module _ (before· : After-open-lapsed-arg5) where
         abbrev pub After-open-lapsed·own : Type 0
-        After-open-lapsed·own = Called.Called ps·4 r·4 (claims· .9) T49 (record { pos = 24; ty = Syntax.tyRef Syntax.erased Syntax.mut
-            RelayPending.to; ref = λ x. x; }, (record { pos = 26; ty = Syntax.tyRef Syntax.erased Syntax.imm RelayCircuit.to; ref = λ x. x; }, (record
-            { pos = 28; ty = Syntax.tyRef Syntax.erased Syntax.mut ReservationUsage.to; ref = λ x. x; }, (record { pos = 30; ty = Syntax.tyRef
-            Syntax.erased Syntax.mut InflightAction.to; ref = λ x. x; }, (record { pos = 32; ty = Syntax.tyRef Syntax.erased Syntax.mut (Syntax.tyInt
-            Syntax.w32); ref = λ x. x; }, (record { pos = 14; st = List.[]; d = 0; at = λ x. x }, (record { pos = 6; st = List.[]; d = 0; at = λ x. x
-            }, (record { pos = 12; st = List.[]; d = 0; at = λ x. x }, (record { pos = 11; ty = Syntax.tyRef (Syntax.named 8) Syntax.imm (Syntax.tyInt
-            Syntax.w8); ref = λ x. x; }, tt,),),),),),),),),) (m34 (before· .before) (before· .open-lapsed-arg5 .given))
+        After-open-lapsed·own = Called.Called ps·4 r·4 (claims· .9) T49 (record { pos = 25; ty = Syntax.tyRef Syntax.erased Syntax.mut
+            RelayPending.to; ref = λ x. x; }, (record { pos = 27; ty = Syntax.tyRef Syntax.erased Syntax.imm RelayCircuit.to; ref = λ x. x; }, (record
+            { pos = 29; ty = Syntax.tyRef Syntax.erased Syntax.mut ReservationUsage.to; ref = λ x. x; }, (record { pos = 31; ty = Syntax.tyRef
+            Syntax.erased Syntax.mut InflightAction.to; ref = λ x. x; }, (record { pos = 33; ty = Syntax.tyRef Syntax.erased Syntax.mut (Syntax.tyInt
+            Syntax.w32); ref = λ x. x; }, (record { pos = 15; st = List.[]; d = 0; at = λ x. x }, (record { pos = 6; st = List.[]; d = 0; at = λ x. x
+            }, (record { pos = 7; st = List.[]; d = 0; at = λ x. x }, (record { pos = 13; st = List.[]; d = 0; at = λ x. x }, (record { pos = 12; ty =
+            Syntax.tyRef (Syntax.named 8) Syntax.imm (Syntax.tyInt Syntax.w8); ref = λ x. x; }, tt,),),),),),),),),),) (m34 (before· .before) (before·
+            .open-lapsed-arg5 .given))
       pub record After-open-lapsed : Type 0 where
         pub before : After-open-lapsed-arg5
         pub open-lapsed : After-open-lapsed·own before
       abbrev pub After-open-lapsed·gave : (c : After-open-lapsed) → s48 (c .before .before .before .before .before .before .before .before .before
           .before .before .before .before .before .before .before .before .before .before .before .blocks) .gives (m34 (c .before .before) (c .before
           .open-lapsed-arg5 .given))
-      After-open-lapsed·gave = λ c. Called.given ps·4 r·4 (claims· .9) T49 (record { pos = 24; ty = Syntax.tyRef Syntax.erased Syntax.mut
-          RelayPending.to; ref = λ x. x; }, (record { pos = 26; ty = Syntax.tyRef Syntax.erased Syntax.imm RelayCircuit.to; ref = λ x. x; }, (record {
-          pos = 28; ty = Syntax.tyRef Syntax.erased Syntax.mut ReservationUsage.to; ref = λ x. x; }, (record { pos = 30; ty = Syntax.tyRef
-          Syntax.erased Syntax.mut InflightAction.to; ref = λ x. x; }, (record { pos = 32; ty = Syntax.tyRef Syntax.erased Syntax.mut (Syntax.tyInt
-          Syntax.w32); ref = λ x. x; }, (record { pos = 14; st = List.[]; d = 0; at = λ x. x }, (record { pos = 6; st = List.[]; d = 0; at = λ x. x },
-          (record { pos = 12; st = List.[]; d = 0; at = λ x. x }, (record { pos = 11; ty = Syntax.tyRef (Syntax.named 8) Syntax.imm (Syntax.tyInt
-          Syntax.w8); ref = λ x. x; }, tt,),),),),),),),),) (m34 (c .before .before) (c .before .open-lapsed-arg5 .given)) (c .open-lapsed)
+      After-open-lapsed·gave = λ c. Called.given ps·4 r·4 (claims· .9) T49 (record { pos = 25; ty = Syntax.tyRef Syntax.erased Syntax.mut
+          RelayPending.to; ref = λ x. x; }, (record { pos = 27; ty = Syntax.tyRef Syntax.erased Syntax.imm RelayCircuit.to; ref = λ x. x; }, (record {
+          pos = 29; ty = Syntax.tyRef Syntax.erased Syntax.mut ReservationUsage.to; ref = λ x. x; }, (record { pos = 31; ty = Syntax.tyRef
+          Syntax.erased Syntax.mut InflightAction.to; ref = λ x. x; }, (record { pos = 33; ty = Syntax.tyRef Syntax.erased Syntax.mut (Syntax.tyInt
+          Syntax.w32); ref = λ x. x; }, (record { pos = 15; st = List.[]; d = 0; at = λ x. x }, (record { pos = 6; st = List.[]; d = 0; at = λ x. x },
+          (record { pos = 7; st = List.[]; d = 0; at = λ x. x }, (record { pos = 13; st = List.[]; d = 0; at = λ x. x }, (record { pos = 12; ty =
+          Syntax.tyRef (Syntax.named 8) Syntax.imm (Syntax.tyInt Syntax.w8); ref = λ x. x; }, tt,),),),),),),),),),) (m34 (c .before .before) (c
+          .before .open-lapsed-arg5 .given)) (c .open-lapsed)
       abbrev pub m36 : (before : After-open-lapsed-arg5) → (given : s48 (before .before .before .before .before .before .before .before .before
           .before .before .before .before .before .before .before .before .before .before .before .blocks) .gives (m34 (before .before) (before
           .open-lapsed-arg5 .given))) → Typed.Mo T51
@@ -2068,101 +2137,106 @@ module _ (claims· : Claims) where
           .open-lapsed-arg5 .given))) → Typed.Mo T55
       m40 = λ before given. s53 (before .before .before .before .before .before .before .before .before .before .before .before .before .before
           .before .before .before .before .before .before .blocks) (m39 before given)
-      abbrev pub m41 : (before : After-open-lapsed) → (given : s55 (before .before .before .before .before .before .before .before .before .before
-          .before .before .before .before .before .before .before .before .before .before .before .blocks) .gives (m40 (before .before)
-          (After-open-lapsed·gave before))) → Typed.Mo T57
-      m41 = λ before given. s55 (before .before .before .before .before .before .before .before .before .before .before .before .before .before
-          .before .before .before .before .before .before .before .blocks) .next (m40 (before .before) (After-open-lapsed·gave before)) given
-      abbrev pub m42 : (before : After-open-lapsed) → (given : s55 (before .before .before .before .before .before .before .before .before .before
-          .before .before .before .before .before .before .before .before .before .before .before .blocks) .gives (m40 (before .before)
-          (After-open-lapsed·gave before))) → Typed.Mo T60
-      m42 = λ before given. s58 (before .before .before .before .before .before .before .before .before .before .before .before .before .before
-          .before .before .before .before .before .before .before .blocks) (m41 before given)
+      abbrev pub m41 : (before : After-open-lapsed-arg5) → (given : s48 (before .before .before .before .before .before .before .before .before
+          .before .before .before .before .before .before .before .before .before .before .before .blocks) .gives (m34 (before .before) (before
+          .open-lapsed-arg5 .given))) → Typed.Mo T56
+      m41 = λ before given. s54 (before .before .before .before .before .before .before .before .before .before .before .before .before .before
+          .before .before .before .before .before .before .blocks) (m40 before given)
+      abbrev pub m42 : (before : After-open-lapsed) → (given : s56 (before .before .before .before .before .before .before .before .before .before
+          .before .before .before .before .before .before .before .before .before .before .before .blocks) .gives (m41 (before .before)
+          (After-open-lapsed·gave before))) → Typed.Mo T58
+      m42 = λ before given. s56 (before .before .before .before .before .before .before .before .before .before .before .before .before .before
+          .before .before .before .before .before .before .before .blocks) .next (m41 (before .before) (After-open-lapsed·gave before)) given
+      abbrev pub m43 : (before : After-open-lapsed) → (given : s56 (before .before .before .before .before .before .before .before .before .before
+          .before .before .before .before .before .before .before .before .before .before .before .blocks) .gives (m41 (before .before)
+          (After-open-lapsed·gave before))) → Typed.Mo T61
+      m43 = λ before given. s59 (before .before .before .before .before .before .before .before .before .before .before .before .before .before
+          .before .before .before .before .before .before .before .blocks) (m42 before given)
       module _ (before· : After-open-lapsed) where
         pub record After-pending·own : Type 0 where
-          pub given : s55 (before· .before .before .before .before .before .before .before .before .before .before .before .before .before .before
-              .before .before .before .before .before .before .blocks) .gives (m40 (before· .before) (After-open-lapsed·gave before·))
+          pub given : s56 (before· .before .before .before .before .before .before .before .before .before .before .before .before .before .before
+              .before .before .before .before .before .before .blocks) .gives (m41 (before· .before) (After-open-lapsed·gave before·))
       pub record After-pending : Type 0 where
         pub before : After-open-lapsed
         pub pending : After-pending·own before
-      abbrev pub m43 : (before : After-pending) → (given : s61 (before .before .before .before .before .before .before .before .before .before .before
-          .before .before .before .before .before .before .before .before .before .before .before .blocks) .gives (m42 (before .before) (before
-          .pending .given))) → Typed.Mo T63
-      m43 = λ before given. s61 (before .before .before .before .before .before .before .before .before .before .before .before .before .before
-          .before .before .before .before .before .before .before .before .blocks) .next (m42 (before .before) (before .pending .given)) given
+      abbrev pub m44 : (before : After-pending) → (given : s62 (before .before .before .before .before .before .before .before .before .before .before
+          .before .before .before .before .before .before .before .before .before .before .before .blocks) .gives (m43 (before .before) (before
+          .pending .given))) → Typed.Mo T64
+      m44 = λ before given. s62 (before .before .before .before .before .before .before .before .before .before .before .before .before .before
+          .before .before .before .before .before .before .before .before .blocks) .next (m43 (before .before) (before .pending .given)) given
       module _ (before· : After-pending) where
         pub record After-ledger2·own : Type 0 where
-          pub given : s61 (before· .before .before .before .before .before .before .before .before .before .before .before .before .before .before
-              .before .before .before .before .before .before .before .blocks) .gives (m42 (before· .before) (before· .pending .given))
+          pub given : s62 (before· .before .before .before .before .before .before .before .before .before .before .before .before .before .before
+              .before .before .before .before .before .before .before .blocks) .gives (m43 (before· .before) (before· .pending .given))
       pub record After-ledger2 : Type 0 where
         pub before : After-pending
         pub ledger2 : After-ledger2·own before
-      abbrev pub m44 : (before : After-ledger2) → (given : s64 (before .before .before .before .before .before .before .before .before .before .before
-          .before .before .before .before .before .before .before .before .before .before .before .before .blocks) .gives (m43 (before .before)
-          (before .ledger2 .given))) → Typed.Mo T66
-      m44 = λ before given. s64 (before .before .before .before .before .before .before .before .before .before .before .before .before .before
-          .before .before .before .before .before .before .before .before .before .blocks) .next (m43 (before .before) (before .ledger2 .given)) given
+      abbrev pub m45 : (before : After-ledger2) → (given : s65 (before .before .before .before .before .before .before .before .before .before .before
+          .before .before .before .before .before .before .before .before .before .before .before .before .blocks) .gives (m44 (before .before)
+          (before .ledger2 .given))) → Typed.Mo T67
+      m45 = λ before given. s65 (before .before .before .before .before .before .before .before .before .before .before .before .before .before
+          .before .before .before .before .before .before .before .before .before .blocks) .next (m44 (before .before) (before .ledger2 .given)) given
       module _ (before· : After-ledger2) where
         pub record After-inflight·own : Type 0 where
-          pub given : s64 (before· .before .before .before .before .before .before .before .before .before .before .before .before .before .before
-              .before .before .before .before .before .before .before .before .blocks) .gives (m43 (before· .before) (before· .ledger2 .given))
+          pub given : s65 (before· .before .before .before .before .before .before .before .before .before .before .before .before .before .before
+              .before .before .before .before .before .before .before .before .blocks) .gives (m44 (before· .before) (before· .ledger2 .given))
       pub record After-inflight : Type 0 where
         pub before : After-ledger2
         pub inflight : After-inflight·own before
-      abbrev pub m45 : (before : After-inflight) → (given : s67 (before .before .before .before .before .before .before .before .before .before
-          .before .before .before .before .before .before .before .before .before .before .before .before .before .before .blocks) .gives (m44 (before
-          .before) (before .inflight .given))) → Typed.Mo T69
-      m45 = λ before given. s67 (before .before .before .before .before .before .before .before .before .before .before .before .before .before
-          .before .before .before .before .before .before .before .before .before .before .blocks) .next (m44 (before .before) (before .inflight
+      abbrev pub m46 : (before : After-inflight) → (given : s68 (before .before .before .before .before .before .before .before .before .before
+          .before .before .before .before .before .before .before .before .before .before .before .before .before .before .blocks) .gives (m45 (before
+          .before) (before .inflight .given))) → Typed.Mo T70
+      m46 = λ before given. s68 (before .before .before .before .before .before .before .before .before .before .before .before .before .before
+          .before .before .before .before .before .before .before .before .before .before .blocks) .next (m45 (before .before) (before .inflight
           .given)) given
       module _ (before· : After-inflight) where
         pub record After-out·own : Type 0 where
-          pub given : s67 (before· .before .before .before .before .before .before .before .before .before .before .before .before .before .before
-              .before .before .before .before .before .before .before .before .before .blocks) .gives (m44 (before· .before) (before· .inflight
+          pub given : s68 (before· .before .before .before .before .before .before .before .before .before .before .before .before .before .before
+              .before .before .before .before .before .before .before .before .before .blocks) .gives (m45 (before· .before) (before· .inflight
               .given))
       pub record After-out : Type 0 where
         pub before : After-inflight
         pub out : After-out·own before
-      abbrev pub m46 : (before : After-out) → (given : s68 (before .before .before .before .before .before .before .before .before .before .before
-          .before .before .before .before .before .before .before .before .before .before .before .before .before .before .blocks) .gives (m45 (before
-          .before) (before .out .given))) → Typed.Mo T70
-      m46 = λ before given. s68 (before .before .before .before .before .before .before .before .before .before .before .before .before .before
-          .before .before .before .before .before .before .before .before .before .before .before .blocks) .next (m45 (before .before) (before .out
+      abbrev pub m47 : (before : After-out) → (given : s69 (before .before .before .before .before .before .before .before .before .before .before
+          .before .before .before .before .before .before .before .before .before .before .before .before .before .before .blocks) .gives (m46 (before
+          .before) (before .out .given))) → Typed.Mo T71
+      m47 = λ before given. s69 (before .before .before .before .before .before .before .before .before .before .before .before .before .before
+          .before .before .before .before .before .before .before .before .before .before .before .blocks) .next (m46 (before .before) (before .out
           .given)) given
       module _ (before· : After-out) where
         pub record After-slice-known2·own : Type 0 where
-          pub given : s68 (before· .before .before .before .before .before .before .before .before .before .before .before .before .before .before
-              .before .before .before .before .before .before .before .before .before .before .blocks) .gives (m45 (before· .before) (before· .out
+          pub given : s69 (before· .before .before .before .before .before .before .before .before .before .before .before .before .before .before
+              .before .before .before .before .before .before .before .before .before .before .blocks) .gives (m46 (before· .before) (before· .out
               .given))
       pub record After-slice-known2 : Type 0 where
         pub before : After-out
         pub slice-known2 : After-slice-known2·own before
       abbrev pub Need-same-length : Type 0
-      Need-same-length = (c : After-slice-known2) → MutSlice.SameLen (Row.get 1 (T70 .locals) (m46 (c .before) (c .slice-known2 .given))) (dens (c
+      Need-same-length = (c : After-slice-known2) → MutSlice.SameLen (Row.get 1 (T71 .locals) (m47 (c .before) (c .slice-known2 .given))) (dens (c
           .before .before .before .before .before .before .before .before .before .before .before .before .before .before .before .before .before
           .before .before .before .before .before .before .before .before .κs) (c .before .before .before .before .before .before .before .before
           .before .before .before .before .before .before .before .before .before .before .before .before .before .before .before .before .before
           .args) .0)
       abbrev pub Need-same-length-2 : Type 0
-      Need-same-length-2 = (c : After-slice-known2) → MutSlice.SameLen (Row.get 2 (T70 .locals) (m46 (c .before) (c .slice-known2 .given))) (dens (c
+      Need-same-length-2 = (c : After-slice-known2) → MutSlice.SameLen (Row.get 2 (T71 .locals) (m47 (c .before) (c .slice-known2 .given))) (dens (c
           .before .before .before .before .before .before .before .before .before .before .before .before .before .before .before .before .before
           .before .before .before .before .before .before .before .before .κs) (c .before .before .before .before .before .before .before .before
           .before .before .before .before .before .before .before .before .before .before .before .before .before .before .before .before .before
           .args) .1 .0)
       abbrev pub Need-same-length-3 : Type 0
-      Need-same-length-3 = (c : After-slice-known2) → MutSlice.SameLen (Row.get 3 (T70 .locals) (m46 (c .before) (c .slice-known2 .given))) (dens (c
+      Need-same-length-3 = (c : After-slice-known2) → MutSlice.SameLen (Row.get 3 (T71 .locals) (m47 (c .before) (c .slice-known2 .given))) (dens (c
           .before .before .before .before .before .before .before .before .before .before .before .before .before .before .before .before .before
           .before .before .before .before .before .before .before .before .κs) (c .before .before .before .before .before .before .before .before
           .before .before .before .before .before .before .before .before .before .before .before .before .before .before .before .before .before
           .args) .1 .1 .0)
       abbrev pub Need-same-length-4 : Type 0
-      Need-same-length-4 = (c : After-slice-known2) → MutSlice.SameLen (Row.get 4 (T70 .locals) (m46 (c .before) (c .slice-known2 .given))) (dens (c
+      Need-same-length-4 = (c : After-slice-known2) → MutSlice.SameLen (Row.get 4 (T71 .locals) (m47 (c .before) (c .slice-known2 .given))) (dens (c
           .before .before .before .before .before .before .before .before .before .before .before .before .before .before .before .before .before
           .before .before .before .before .before .before .before .before .κs) (c .before .before .before .before .before .before .before .before
           .before .before .before .before .before .before .before .before .before .before .before .before .before .before .before .before .before
           .args) .1 .1 .1 .0)
       abbrev pub Need-same-length-5 : Type 0
-      Need-same-length-5 = (c : After-slice-known2) → MutSlice.SameLen (Row.get 5 (T70 .locals) (m46 (c .before) (c .slice-known2 .given))) (dens (c
+      Need-same-length-5 = (c : After-slice-known2) → MutSlice.SameLen (Row.get 5 (T71 .locals) (m47 (c .before) (c .slice-known2 .given))) (dens (c
           .before .before .before .before .before .before .before .before .before .before .before .before .before .before .before .before .before
           .before .before .before .before .before .before .before .before .κs) (c .before .before .before .before .before .before .before .before
           .before .before .before .before .before .before .before .before .before .before .before .before .before .before .before .before .before
@@ -2174,7 +2248,7 @@ module _ (claims· : Claims) where
           .before .before .before .before .before .before .before .κs) (c .before .before .before .before .before .before .before .before .before
           .before .before .before .before .before .before .before .before .before .before .before .before .before .before .before .before .args))
           (Function.resV r (c .before .before .before .before .before .before .before .before .before .before .before .before .before .before .before
-          .before .before .before .before .before .before .before .before .before .before .κs) (m46 (c .before) (c .slice-known2 .given) .0))
+          .before .before .before .before .before .before .before .before .before .before .κs) (m47 (c .before) (c .slice-known2 .given) .0))
           (Clauses.atExit (Kinds.endedOf 9 ps r) (c .before .before .before .before .before .before .before .before .before .before .before .before
           .before .before .before .before .before .before .before .before .before .before .before .before .before .κs) (dens (c .before .before
           .before .before .before .before .before .before .before .before .before .before .before .before .before .before .before .before .before
@@ -2184,24 +2258,24 @@ module _ (claims· : Claims) where
           .before .before .before .before .before .before .before .before .before .before .κs) 1 ps xs (dens (c .before .before .before .before
           .before .before .before .before .before .before .before .before .before .before .before .before .before .before .before .before .before
           .before .before .before .before .κs) (c .before .before .before .before .before .before .before .before .before .before .before .before
-          .before .before .before .before .before .before .before .before .before .before .before .before .before .args)) (m46 (c .before) (c
+          .before .before .before .before .before .before .before .before .before .before .before .before .before .args)) (m47 (c .before) (c
           .slice-known2 .given) .1)))
       module _ (gather-requires : Need-gather-requires) (open-rows-requires : Need-open-rows-requires) (is-taken-requires : Need-is-taken-requires)
           (drop-lapsed-requires : Need-drop-lapsed-requires) (open-lapsed-requires : Need-open-lapsed-requires) (same-length : Need-same-length)
           (same-length-2 : Need-same-length-2) (same-length-3 : Need-same-length-3) (same-length-4 : Need-same-length-4) (same-length-5 :
           Need-same-length-5) (returns : Need-returns) where
-        lay5 : (c : After-open-lapsed) → at21 (c .before .before .before .before .before .before .before .before .before .before .before .before
+        lay5 : (c : After-open-lapsed) → at22 (c .before .before .before .before .before .before .before .before .before .before .before .before
             .before .before .before .before .before .before .before .before .blocks) (W0 (c .before .before .before .before .before .before .before
             .before .before .before .before .before .before .before .before .before .before .before .before .before .κs) (c .before .before .before
             .before .before .before .before .before .before .before .before .before .before .before .before .before .before .before .before .before
             .args) (c .before .before .before .before .before .before .before .before .before .before .before .before .before .before .before .before
             .before .before .before .before .blocks)) (m35 (c .before) (After-open-lapsed·gave c))
-        lay5 = λ c. (Path.refl, λ g. (Path.refl, λ g'. (Path.refl, λ g''. (Path.refl, λ g'3. λ g'4. ((MutSlice.fix-len (Row.get 1 (T70 .locals) (m46
+        lay5 = λ c. (Path.refl, λ g. (Path.refl, λ g'. (Path.refl, λ g''. (Path.refl, λ g'3. λ g'4. ((MutSlice.fix-len (Row.get 1 (T71 .locals) (m47
             record { before = record { before = record { before = record { before = record { before = c .before; open-lapsed = c .open-lapsed };
             pending = record { given = g }; }; ledger2 = record { given = g' }; }; inflight = record { given = g'' }; }; out = record { given = g'3 };
-            } g'4) .ptr) (Row.get 1 (T70 .locals) (m46 record { before = record { before = record { before = record { before = record { before = c
+            } g'4) .ptr) (Row.get 1 (T71 .locals) (m47 record { before = record { before = record { before = record { before = record { before = c
             .before; open-lapsed = c .open-lapsed }; pending = record { given = g }; }; ledger2 = record { given = g' }; }; inflight = record { given
-            = g'' }; }; out = record { given = g'3 }; } g'4) .name) (Row.get 1 (T70 .locals) (m46 record { before = record { before = record { before
+            = g'' }; }; out = record { given = g'3 }; } g'4) .name) (Row.get 1 (T71 .locals) (m47 record { before = record { before = record { before
             = record { before = record { before = c .before; open-lapsed = c .open-lapsed }; pending = record { given = g }; }; ledger2 = record {
             given = g' }; }; inflight = record { given = g'' }; }; out = record { given = g'3 }; } g'4) .now) (dens (c .before .before .before .before
             .before .before .before .before .before .before .before .before .before .before .before .before .before .before .before .before .κs) (c
@@ -2209,11 +2283,11 @@ module _ (claims· : Claims) where
             .before .before .before .args) .0 .now) (same-length record { before = record { before = record { before = record { before = record {
             before = record { before = c .before; open-lapsed = c .open-lapsed; }; pending = record { given = g }; }; ledger2 = record { given = g' };
             }; inflight = record { given = g'' }; }; out = record { given = g'3 }; }; slice-known2 = record { given = g'4 }; }), (MutSlice.fix-len
-            (Row.get 2 (T70 .locals) (m46 record { before = record { before = record { before = record { before = record { before = c .before;
+            (Row.get 2 (T71 .locals) (m47 record { before = record { before = record { before = record { before = record { before = c .before;
             open-lapsed = c .open-lapsed; }; pending = record { given = g }; }; ledger2 = record { given = g' }; }; inflight = record { given = g'' };
-            }; out = record { given = g'3 }; } g'4) .ptr) (Row.get 2 (T70 .locals) (m46 record { before = record { before = record { before = record {
+            }; out = record { given = g'3 }; } g'4) .ptr) (Row.get 2 (T71 .locals) (m47 record { before = record { before = record { before = record {
             before = record { before = c .before; open-lapsed = c .open-lapsed; }; pending = record { given = g }; }; ledger2 = record { given = g' };
-            }; inflight = record { given = g'' }; }; out = record { given = g'3 }; } g'4) .name) (Row.get 2 (T70 .locals) (m46 record { before =
+            }; inflight = record { given = g'' }; }; out = record { given = g'3 }; } g'4) .name) (Row.get 2 (T71 .locals) (m47 record { before =
             record { before = record { before = record { before = record { before = c .before; open-lapsed = c .open-lapsed; }; pending = record {
             given = g }; }; ledger2 = record { given = g' }; }; inflight = record { given = g'' }; }; out = record { given = g'3 }; } g'4) .now) (dens
             (c .before .before .before .before .before .before .before .before .before .before .before .before .before .before .before .before .before
@@ -2221,24 +2295,24 @@ module _ (claims· : Claims) where
             .before .before .before .before .before .before .before .args) .1 .0 .now) (same-length-2 record { before = record { before = record {
             before = record { before = record { before = record { before = c .before; open-lapsed = c .open-lapsed; }; pending = record { given = g };
             }; ledger2 = record { given = g' }; }; inflight = record { given = g'' }; }; out = record { given = g'3 }; }; slice-known2 = record {
-            given = g'4 }; }), (MutSlice.fix-len (Row.get 3 (T70 .locals) (m46 record { before = record { before = record { before = record { before =
+            given = g'4 }; }), (MutSlice.fix-len (Row.get 3 (T71 .locals) (m47 record { before = record { before = record { before = record { before =
             record { before = c .before; open-lapsed = c .open-lapsed; }; pending = record { given = g }; }; ledger2 = record { given = g' }; };
-            inflight = record { given = g'' }; }; out = record { given = g'3 }; } g'4) .ptr) (Row.get 3 (T70 .locals) (m46 record { before = record {
+            inflight = record { given = g'' }; }; out = record { given = g'3 }; } g'4) .ptr) (Row.get 3 (T71 .locals) (m47 record { before = record {
             before = record { before = record { before = record { before = c .before; open-lapsed = c .open-lapsed; }; pending = record { given = g };
-            }; ledger2 = record { given = g' }; }; inflight = record { given = g'' }; }; out = record { given = g'3 }; } g'4) .name) (Row.get 3 (T70
-            .locals) (m46 record { before = record { before = record { before = record { before = record { before = c .before; open-lapsed = c
+            }; ledger2 = record { given = g' }; }; inflight = record { given = g'' }; }; out = record { given = g'3 }; } g'4) .name) (Row.get 3 (T71
+            .locals) (m47 record { before = record { before = record { before = record { before = record { before = c .before; open-lapsed = c
             .open-lapsed; }; pending = record { given = g }; }; ledger2 = record { given = g' }; }; inflight = record { given = g'' }; }; out = record
             { given = g'3 }; } g'4) .now) (dens (c .before .before .before .before .before .before .before .before .before .before .before .before
             .before .before .before .before .before .before .before .before .κs) (c .before .before .before .before .before .before .before .before
             .before .before .before .before .before .before .before .before .before .before .before .before .args) .1 .1 .0 .now) (same-length-3
             record { before = record { before = record { before = record { before = record { before = record { before = c .before; open-lapsed = c
             .open-lapsed; }; pending = record { given = g }; }; ledger2 = record { given = g' }; }; inflight = record { given = g'' }; }; out = record
-            { given = g'3 }; }; slice-known2 = record { given = g'4 }; }), (MutSlice.fix-len (Row.get 4 (T70 .locals) (m46 record { before = record {
+            { given = g'3 }; }; slice-known2 = record { given = g'4 }; }), (MutSlice.fix-len (Row.get 4 (T71 .locals) (m47 record { before = record {
             before = record { before = record { before = record { before = c .before; open-lapsed = c .open-lapsed; }; pending = record { given = g };
-            }; ledger2 = record { given = g' }; }; inflight = record { given = g'' }; }; out = record { given = g'3 }; } g'4) .ptr) (Row.get 4 (T70
-            .locals) (m46 record { before = record { before = record { before = record { before = record { before = c .before; open-lapsed = c
+            }; ledger2 = record { given = g' }; }; inflight = record { given = g'' }; }; out = record { given = g'3 }; } g'4) .ptr) (Row.get 4 (T71
+            .locals) (m47 record { before = record { before = record { before = record { before = record { before = c .before; open-lapsed = c
             .open-lapsed; }; pending = record { given = g }; }; ledger2 = record { given = g' }; }; inflight = record { given = g'' }; }; out = record
-            { given = g'3 }; } g'4) .name) (Row.get 4 (T70 .locals) (m46 record { before = record { before = record { before = record { before =
+            { given = g'3 }; } g'4) .name) (Row.get 4 (T71 .locals) (m47 record { before = record { before = record { before = record { before =
             record { before = c .before; open-lapsed = c .open-lapsed; }; pending = record { given = g }; }; ledger2 = record { given = g' }; };
             inflight = record { given = g'' }; }; out = record { given = g'3 }; } g'4) .now) (dens (c .before .before .before .before .before .before
             .before .before .before .before .before .before .before .before .before .before .before .before .before .before .κs) (c .before .before
@@ -2246,11 +2320,11 @@ module _ (claims· : Claims) where
             .before .args) .1 .1 .1 .0 .now) (same-length-4 record { before = record { before = record { before = record { before = record { before =
             record { before = c .before; open-lapsed = c .open-lapsed; }; pending = record { given = g }; }; ledger2 = record { given = g' }; };
             inflight = record { given = g'' }; }; out = record { given = g'3 }; }; slice-known2 = record { given = g'4 }; }), (MutSlice.fix-len
-            (Row.get 5 (T70 .locals) (m46 record { before = record { before = record { before = record { before = record { before = c .before;
+            (Row.get 5 (T71 .locals) (m47 record { before = record { before = record { before = record { before = record { before = c .before;
             open-lapsed = c .open-lapsed; }; pending = record { given = g }; }; ledger2 = record { given = g' }; }; inflight = record { given = g'' };
-            }; out = record { given = g'3 }; } g'4) .ptr) (Row.get 5 (T70 .locals) (m46 record { before = record { before = record { before = record {
+            }; out = record { given = g'3 }; } g'4) .ptr) (Row.get 5 (T71 .locals) (m47 record { before = record { before = record { before = record {
             before = record { before = c .before; open-lapsed = c .open-lapsed; }; pending = record { given = g }; }; ledger2 = record { given = g' };
-            }; inflight = record { given = g'' }; }; out = record { given = g'3 }; } g'4) .name) (Row.get 5 (T70 .locals) (m46 record { before =
+            }; inflight = record { given = g'' }; }; out = record { given = g'3 }; } g'4) .name) (Row.get 5 (T71 .locals) (m47 record { before =
             record { before = record { before = record { before = record { before = c .before; open-lapsed = c .open-lapsed; }; pending = record {
             given = g }; }; ledger2 = record { given = g' }; }; inflight = record { given = g'' }; }; out = record { given = g'3 }; } g'4) .now) (dens
             (c .before .before .before .before .before .before .before .before .before .before .before .before .before .before .before .before .before
@@ -2258,11 +2332,11 @@ module _ (claims· : Claims) where
             .before .before .before .before .before .before .before .args) .1 .1 .1 .1 .0 .now) (same-length-5 record { before = record { before =
             record { before = record { before = record { before = record { before = c .before; open-lapsed = c .open-lapsed; }; pending = record {
             given = g }; }; ledger2 = record { given = g' }; }; inflight = record { given = g'' }; }; out = record { given = g'3 }; }; slice-known2 =
-            record { given = g'4 }; }), (tt, (tt, (Path.refl, (Path.refl, (Path.refl, (Path.refl, tt))))),),),),),),), returns record { before =
-            record { before = record { before = record { before = record { before = record { before = c .before; open-lapsed = c .open-lapsed };
+            record { given = g'4 }; }), (tt, (tt, (tt, (Path.refl, (Path.refl, (Path.refl, (Path.refl, tt)))),),),),),),),),), returns record { before
+            = record { before = record { before = record { before = record { before = record { before = c .before; open-lapsed = c .open-lapsed };
             pending = record { given = g }; }; ledger2 = record { given = g' }; }; inflight = record { given = g'' }; }; out = record { given = g'3 };
             }; slice-known2 = record { given = g'4 }; },),),),),)
-        lay4 : (c : After-drop-lapsed) → at42 (c .before .before .before .before .before .before .before .before .before .before .before .before
+        lay4 : (c : After-drop-lapsed) → at43 (c .before .before .before .before .before .before .before .before .before .before .before .before
             .before .blocks) (W0 (c .before .before .before .before .before .before .before .before .before .before .before .before .before .κs) (c
             .before .before .before .before .before .before .before .before .before .before .before .before .before .args) (c .before .before .before
             .before .before .before .before .before .before .before .before .before .before .blocks)) (m21 (c .before) (After-drop-lapsed·gave c))
@@ -2274,39 +2348,41 @@ module _ (claims· : Claims) where
             before = record { before = record { before = record { before = c .before; drop-lapsed = c .drop-lapsed; }; ledger = record { given = g };
             }; open-lapsed-arg = record { given = g' }; }; open-lapsed-arg2 = record { given = g'' }; }; open-lapsed-arg3 = record { given = g'3 }; };
             open-lapsed-arg4 = record { given = g'4 }; }; open-lapsed-arg5 = record { given = g'5 }; }; open-lapsed = Called.called ps·4 r·4 (claims·
-            .9) T49 (record { pos = 24; ty = Syntax.tyRef Syntax.erased Syntax.mut RelayPending.to; ref = λ x. x; }, (record { pos = 26; ty =
-            Syntax.tyRef Syntax.erased Syntax.imm RelayCircuit.to; ref = λ x. x; }, (record { pos = 28; ty = Syntax.tyRef Syntax.erased Syntax.mut
-            ReservationUsage.to; ref = λ x. x; }, (record { pos = 30; ty = Syntax.tyRef Syntax.erased Syntax.mut InflightAction.to; ref = λ x. x; },
-            (record { pos = 32; ty = Syntax.tyRef Syntax.erased Syntax.mut (Syntax.tyInt Syntax.w32); ref = λ x. x; }, (record { pos = 14; st =
-            List.[]; d = 0; at = λ x. x }, (record { pos = 6; st = List.[]; d = 0; at = λ x. x }, (record { pos = 12; st = List.[]; d = 0; at = λ x. x
-            }, (record { pos = 11; ty = Syntax.tyRef (Syntax.named 8) Syntax.imm (Syntax.tyInt Syntax.w8); ref = λ x. x; }, tt,),),),),),),),),) (m34
-            record { before = record { before = record { before = record { before = record { before = record { before = c .before; drop-lapsed = c
-            .drop-lapsed; }; ledger = record { given = g }; }; open-lapsed-arg = record { given = g' }; }; open-lapsed-arg2 = record { given = g'' };
-            }; open-lapsed-arg3 = record { given = g'3 }; }; open-lapsed-arg4 = record { given = g'4 }; } g'5) g'6; },),),),),),),)
-        lay3 : (c : After-is-taken) → at46 (c .before .before .before .before .before .before .before .before .before .before .before .blocks) (W0 (c
+            .9) T49 (record { pos = 25; ty = Syntax.tyRef Syntax.erased Syntax.mut RelayPending.to; ref = λ x. x; }, (record { pos = 27; ty =
+            Syntax.tyRef Syntax.erased Syntax.imm RelayCircuit.to; ref = λ x. x; }, (record { pos = 29; ty = Syntax.tyRef Syntax.erased Syntax.mut
+            ReservationUsage.to; ref = λ x. x; }, (record { pos = 31; ty = Syntax.tyRef Syntax.erased Syntax.mut InflightAction.to; ref = λ x. x; },
+            (record { pos = 33; ty = Syntax.tyRef Syntax.erased Syntax.mut (Syntax.tyInt Syntax.w32); ref = λ x. x; }, (record { pos = 15; st =
+            List.[]; d = 0; at = λ x. x }, (record { pos = 6; st = List.[]; d = 0; at = λ x. x }, (record { pos = 7; st = List.[]; d = 0; at = λ x. x
+            }, (record { pos = 13; st = List.[]; d = 0; at = λ x. x }, (record { pos = 12; ty = Syntax.tyRef (Syntax.named 8) Syntax.imm (Syntax.tyInt
+            Syntax.w8); ref = λ x. x; }, tt,),),),),),),),),),) (m34 record { before = record { before = record { before = record { before = record {
+            before = record { before = c .before; drop-lapsed = c .drop-lapsed; }; ledger = record { given = g }; }; open-lapsed-arg = record { given
+            = g' }; }; open-lapsed-arg2 = record { given = g'' }; }; open-lapsed-arg3 = record { given = g'3 }; }; open-lapsed-arg4 = record { given =
+            g'4 }; } g'5) g'6; },),),),),),),)
+        lay3 : (c : After-is-taken) → at47 (c .before .before .before .before .before .before .before .before .before .before .before .blocks) (W0 (c
             .before .before .before .before .before .before .before .before .before .before .before .κs) (c .before .before .before .before .before
             .before .before .before .before .before .before .args) (c .before .before .before .before .before .before .before .before .before .before
             .before .blocks)) (m18 (c .before) (After-is-taken·gave c))
         lay3 = λ c. λ g. (Path.refl, (drop-lapsed-requires record { before = record { before = c .before; is-taken = c .is-taken }; drop-lapsed-arg =
             record { given = g }; }, λ g'. lay4 record { before = record { before = record { before = c .before; is-taken = c .is-taken };
-            drop-lapsed-arg = record { given = g }; }; drop-lapsed = Called.called ps·3 r·3 (claims· .7) T28 (record { pos = 22; ty = Syntax.tyRef
-            Syntax.erased Syntax.mut ReservationUsage.to; ref = λ x. x; }, (Bool.bAt 15 λ x. x, (Num.vFld 7 ((Syntax.field 2) ∷ List.[]) 16 λ x.
-            RelayPacket.struct .as-values x .1 .1 .0, tt,),),) (m20 record { before = c .before; is-taken = c .is-taken } g) g'; },),)
-        lay2 : (c : After-open-rows) → at48 (c .before .before .before .before .before .before .before .before .before .before .blocks) (W0 (c .before
+            drop-lapsed-arg = record { given = g }; }; drop-lapsed = Called.called ps·3 r·3 (claims· .7) T28 (record { pos = 23; ty = Syntax.tyRef
+            Syntax.erased Syntax.mut ReservationUsage.to; ref = λ x. x; }, (record { pos = 7; st = List.[]; d = 0; at = λ x. x }, (Bool.bAt 16 λ x. x,
+            (Num.vFld 8 ((Syntax.field 2) ∷ List.[]) 16 λ x. RelayPacket.struct .as-values x .1 .1 .0, tt,),),),) (m20 record { before = c .before;
+            is-taken = c .is-taken } g) g'; },),)
+        lay2 : (c : After-open-rows) → at49 (c .before .before .before .before .before .before .before .before .before .before .blocks) (W0 (c .before
             .before .before .before .before .before .before .before .before .before .κs) (c .before .before .before .before .before .before .before
             .before .before .before .args) (c .before .before .before .before .before .before .before .before .before .before .blocks)) (m16 (c
             .before) (After-open-rows·gave c))
         lay2 = λ c. (is-taken-requires record { before = c .before; open-rows = c .open-rows }, λ g. lay3 record { before = record { before = c
-            .before; open-rows = c .open-rows }; is-taken = Called.called ps·2 r·2 (claims· .5) T24 (record { pos = 14; st = List.[]; d = 0; at = λ x.
+            .before; open-rows = c .open-rows }; is-taken = Called.called ps·2 r·2 (claims· .5) T24 (record { pos = 15; st = List.[]; d = 0; at = λ x.
             x }, tt,) (m17 (c .before) (After-open-rows·gave c)) g; },)
-        lay1 : (c : After-gather) → at58 (c .before .before .before .before .before .before .before .before .blocks) (W0 (c .before .before .before
+        lay1 : (c : After-gather) → at59 (c .before .before .before .before .before .before .before .before .blocks) (W0 (c .before .before .before
             .before .before .before .before .before .κs) (c .before .before .before .before .before .before .before .before .args) (c .before .before
             .before .before .before .before .before .before .blocks)) (m10 (c .before) (After-gather·gave c))
         lay1 = λ c. (tt, λ g. (open-rows-requires record { before = record { before = c .before; gather = c .gather }; config = record { given = g };
             }, λ g'. lay2 record { before = record { before = record { before = c .before; gather = c .gather }; config = record { given = g }; };
-            open-rows = Called.called ps·1 r·1 (claims· .3) T22 (record { pos = 13; st = List.[]; d = 0; at = λ x. x }, (record { pos = 12; st =
+            open-rows = Called.called ps·1 r·1 (claims· .3) T22 (record { pos = 14; st = List.[]; d = 0; at = λ x. x }, (record { pos = 13; st =
             List.[]; d = 0; at = λ x. x }, tt),) (m15 record { before = c .before; gather = c .gather } g) g'; },),)
-        pub laid : (c : Start) → at70 (c .blocks) (W0 (c .κs) (c .args) (c .blocks)) (m0 (c .κs) (c .args) (c .blocks))
+        pub laid : (c : Start) → at71 (c .blocks) (W0 (c .κs) (c .args) (c .blocks)) (m0 (c .κs) (c .args) (c .blocks))
         laid = λ c. λ g. λ g'. λ g''. λ g'3. λ g'4. λ g'5. (Path.refl, λ g'6. (Path.refl, (gather-requires record { before = record { before = record
             { before = record { before = record { before = record { before = record { before = c; slice-known = record { given = g } };
             shared-slice-known = record { given = g' }; }; shared-slice-known2 = record { given = g'' }; }; shared-slice-known3 = record { given = g'3
@@ -2314,22 +2390,22 @@ module _ (claims· : Claims) where
             g'7. lay1 record { before = record { before = record { before = record { before = record { before = record { before = record { before =
             record { before = c; slice-known = record { given = g } }; shared-slice-known = record { given = g' }; }; shared-slice-known2 = record {
             given = g'' }; }; shared-slice-known3 = record { given = g'3 }; }; shared-slice-known4 = record { given = g'4 }; }; gather-arg = record {
-            given = g'5 }; }; gather-arg2 = record { given = g'6 }; }; gather = Called.called ps·0 r·0 (claims· .1) T12 (record { pos = 17; ty =
-            Syntax.tyRef Syntax.erased Syntax.imm RelayPending.to; ref = λ x. x; }, (record { pos = 19; ty = Syntax.tyRef Syntax.erased Syntax.imm
-            RelayCircuit.to; ref = λ x. x; }, (record { pos = 7; st = List.[]; d = 0; at = λ x. x }, (record { pos = 8; ty = Syntax.tyRef
-            (Syntax.named 5) Syntax.imm (Syntax.tyInt Syntax.w8); ref = λ x. x; }, (record { pos = 9; ty = Syntax.tyRef (Syntax.named 6) Syntax.imm
-            (Syntax.tyInt Syntax.w8); ref = λ x. x; }, (record { pos = 10; ty = Syntax.tyRef (Syntax.named 7) Syntax.imm (Syntax.tyInt Syntax.w8); ref
-            = λ x. x; }, tt,),),),),),) (m9 record { before = record { before = record { before = record { before = record { before = record { before
-            = c; slice-known = record { given = g } }; shared-slice-known = record { given = g' }; }; shared-slice-known2 = record { given = g'' }; };
-            shared-slice-known3 = record { given = g'3 }; }; shared-slice-known4 = record { given = g'4 }; }; gather-arg = record { given = g'5 }; }
-            g'6) g'7; },),),)
+            given = g'5 }; }; gather-arg2 = record { given = g'6 }; }; gather = Called.called ps·0 r·0 (claims· .1) T12 (record { pos = 18; ty =
+            Syntax.tyRef Syntax.erased Syntax.imm RelayPending.to; ref = λ x. x; }, (record { pos = 20; ty = Syntax.tyRef Syntax.erased Syntax.imm
+            RelayCircuit.to; ref = λ x. x; }, (record { pos = 7; st = List.[]; d = 0; at = λ x. x }, (record { pos = 8; st = List.[]; d = 0; at = λ x.
+            x }, (record { pos = 9; ty = Syntax.tyRef (Syntax.named 5) Syntax.imm (Syntax.tyInt Syntax.w8); ref = λ x. x; }, (record { pos = 10; ty =
+            Syntax.tyRef (Syntax.named 6) Syntax.imm (Syntax.tyInt Syntax.w8); ref = λ x. x; }, (record { pos = 11; ty = Syntax.tyRef (Syntax.named 7)
+            Syntax.imm (Syntax.tyInt Syntax.w8); ref = λ x. x; }, tt,),),),),),),) (m9 record { before = record { before = record { before = record {
+            before = record { before = record { before = c; slice-known = record { given = g } }; shared-slice-known = record { given = g' }; };
+            shared-slice-known2 = record { given = g'' }; }; shared-slice-known3 = record { given = g'3 }; }; shared-slice-known4 = record { given =
+            g'4 }; }; gather-arg = record { given = g'5 }; } g'6) g'7; },),),)
         module _ (κs : Lifetimes.Lfts 9) (qs : Lifetimes.Shares 9) where
           pub asked : (a : Kinds.Dens κs ps) → (good : Kinds.GoodsP κs ps a) → (pre : Pre· κs a) → (bs : List.List Nat.ℕ) → Φ bs (Any.wantQ 9 ps r xs
               m κs qs a (Post· κs a)) (Function.init 9 ps r xs m κs qs a)
           asked = λ a good pre bs. laid record { κs = κs; args = record { pending = a .0; circuits = a .1 .0; ledger = a .1 .1 .0; inflight = a .1 .1
-              .1 .0; out = a .1 .1 .1 .1 .0; runtime = a .1 .1 .1 .1 .1 .0; packet = a .1 .1 .1 .1 .1 .1 .0; source = a .1 .1 .1 .1 .1 .1 .1 .0; body
-              = a .1 .1 .1 .1 .1 .1 .1 .1 .0; endpoint = a .1 .1 .1 .1 .1 .1 .1 .1 .1 .0; random = a .1 .1 .1 .1 .1 .1 .1 .1 .1 .1 .0; }; blocks = bs;
-              good = good; pre = pre; }
+              .1 .0; out = a .1 .1 .1 .1 .0; runtime = a .1 .1 .1 .1 .1 .0; places = a .1 .1 .1 .1 .1 .1 .0; packet = a .1 .1 .1 .1 .1 .1 .1 .0;
+              source = a .1 .1 .1 .1 .1 .1 .1 .1 .0; body = a .1 .1 .1 .1 .1 .1 .1 .1 .1 .0; endpoint = a .1 .1 .1 .1 .1 .1 .1 .1 .1 .1 .0; random = a
+              .1 .1 .1 .1 .1 .1 .1 .1 .1 .1 .1 .0; }; blocks = bs; good = good; pre = pre; }
         module _ { M : Type 1 } (𝓤 : URA.URA M) (H : Wp.Heap 𝓤) (A : Atoms.Atoms 𝓤) (W : Kit.Given 𝓤 H A) (𝓣 : Wp.Tables 𝓤 H) (known0 : Plain.Known 𝓤
             H A W 𝓣 5 ps·0 r·0 (claims· .0) (claims· .1) "hnsr_circuit::handle_open::gather") (known1 : Plain.Known 𝓤 H A W 𝓣 0 ps·1 r·1 (claims· .2)
             (claims· .3) "hnsr_circuit::open::open_rows") (known2 : Plain.Known 𝓤 H A W 𝓣 0 ps·2 r·2 (claims· .4) (claims· .5)

@@ -4,20 +4,22 @@ use Rattle.hnsr_circuit.proofs.By.InflightAction
 use Rattle.hnsr_circuit.proofs.By.RelayCircuit
 use Rattle.hnsr_circuit.proofs.answer.HnsrAnswer
 use Rattle.hnsr_circuit.proofs.answer.HnsrAnswer.Laws
+use Rattle.hnsr_circuit.proofs.places.Places
+use Rattle.hnsr_circuit.proofs.places.Places.Laws as Laws'
 use Rattle.hnsr_circuit.proofs.records.ActionScan
-use Rattle.hnsr_circuit.proofs.records.ActionScan.Laws as Laws'
+use Rattle.hnsr_circuit.proofs.records.ActionScan.Laws as Laws''
 use Rattle.hnsr_circuit.proofs.records.Outgoing
-use Rattle.hnsr_circuit.proofs.records.Outgoing.Laws as Laws''
+use Rattle.hnsr_circuit.proofs.records.Outgoing.Laws as Laws'''
 use Rattle.hnsr_circuit.proofs.records.RelayPacket
-use Rattle.hnsr_circuit.proofs.records.RelayPacket.Laws as Laws'''
+use Rattle.hnsr_circuit.proofs.records.RelayPacket.Laws as Laws''''
 use Rattle.hnsr_circuit.proofs.records.RelaySide
-use Rattle.hnsr_circuit.proofs.records.RelaySide.Laws as Laws''''
+use Rattle.hnsr_circuit.proofs.records.RelaySide.Laws as Laws'''''
 use Rattle.hnsr_circuit.proofs.runtime.OpaqueRelayRuntime
-use Rattle.hnsr_circuit.proofs.runtime.OpaqueRelayRuntime.Laws as Laws'''''
+use Rattle.hnsr_circuit.proofs.runtime.OpaqueRelayRuntime.Laws as Laws''''''
 use Rattle.hnsr_circuit.proofs.runtime.Relayed
-use Rattle.hnsr_circuit.proofs.runtime.Relayed.Laws as Laws''''''
+use Rattle.hnsr_circuit.proofs.runtime.Relayed.Laws as Laws'''''''
 use Rattle.hnsr_circuit.proofs.window.WindowPlan
-use Rattle.hnsr_circuit.proofs.window.WindowPlan.Laws as Laws'''''''
+use Rattle.hnsr_circuit.proofs.window.WindowPlan.Laws as Laws''''''''
 use borrow.Author.Called
 use borrow.Fn.Any
 use borrow.Fn.Call
@@ -59,12 +61,12 @@ use borrow.Table.Rows
 use borrow.Table.Typed
 use contract.Lifetimes
 use denote.Enum.Declared
-use denote.Enum.Laws as Laws''''''''
+use denote.Enum.Laws as Laws'''''''''
 use denote.Exit
-use denote.Laws as Laws'''''''''
+use denote.Laws as Laws''''''''''
 use denote.Struct.At
 use denote.Struct.Declared as Declared'
-use denote.Struct.Laws as Laws''''''''''
+use denote.Struct.Laws as Laws'''''''''''
 use denote.Triple.Clauses
 use denote.Triple.Statement
 use ghost.Atoms
@@ -100,28 +102,33 @@ abbrev ref9 : Syntax.Ty
 ref9 = Syntax.tyRef (Syntax.named 4) Syntax.imm (Syntax.tyInt Syntax.w8)
 abbrev pub ps : List.List (Kinds.PK 5)
 ps = (MutSlice.pMutS RelayCircuit.row 0 tt) ∷ (MutSlice.pMutS InflightAction.row 1 tt) ∷ (MutSlice.pMutS (Referent.rtF (Referent.fInt Syntax.w32)) 2
-    tt) ∷ (Value.pVal record { ty = Declared'.row OpaqueRelayRuntime.the-type; one = Path.refl; val = Laws''''''''''.val OpaqueRelayRuntime.the-type
-    Laws'''''.the-laws; tells = Laws''''''''''.tells OpaqueRelayRuntime.the-type Laws'''''.the-laws; still = Laws''''''''''.still
-    OpaqueRelayRuntime.the-type Laws'''''.the-copy Exit.yes; row = Rows.whole (Declared'.row OpaqueRelayRuntime.the-type); rd = λ x. x; mk = λ x. x; }
-    λ M 𝓤 H A W. record { copies = Laws''''''''''.copy OpaqueRelayRuntime.the-type Laws'''''.the-copy 𝓤 H A W; lawful = Laws''''''''''.lawful
-    OpaqueRelayRuntime.the-type Laws'''''.the-laws 𝓤 H A W; makes = Laws''''''''''.makes OpaqueRelayRuntime.the-type Laws'''''.the-plain 𝓤 H A; in-mem
-    = Local.mem-whole 𝓤 H A W (Declared'.row OpaqueRelayRuntime.the-type); of-mem = Local.whole-mem 𝓤 H A W (Declared'.row
-    OpaqueRelayRuntime.the-type); }) ∷ (Value.pVal record { ty = Declared'.row RelayPacket.the-type; one = Path.refl; val = Laws''''''''''.val
-    RelayPacket.the-type Laws'''.the-laws; tells = Laws''''''''''.tells RelayPacket.the-type Laws'''.the-laws; still = Laws''''''''''.still
-    RelayPacket.the-type Laws'''.the-copy Exit.yes; row = Rows.whole (Declared'.row RelayPacket.the-type); rd = λ x. x; mk = λ x. x; } λ M 𝓤 H A W.
-    record { copies = Laws''''''''''.copy RelayPacket.the-type Laws'''.the-copy 𝓤 H A W; lawful = Laws''''''''''.lawful RelayPacket.the-type
-    Laws'''.the-laws 𝓤 H A W; makes = Laws''''''''''.makes RelayPacket.the-type Laws'''.the-plain 𝓤 H A; in-mem = Local.mem-whole 𝓤 H A W
-    (Declared'.row RelayPacket.the-type); of-mem = Local.whole-mem 𝓤 H A W (Declared'.row RelayPacket.the-type); }) ∷ (ShrSlice.pShrS (Referent.rtF
-    (Referent.fInt Syntax.w8)) 3 tt) ∷ (ShrSlice.pShrS (Referent.rtF (Referent.fInt Syntax.w8)) 4 tt) ∷ List.[]
+    tt) ∷ (Value.pVal record { ty = Declared'.row OpaqueRelayRuntime.the-type; one = Path.refl; val = Laws'''''''''''.val OpaqueRelayRuntime.the-type
+    Laws''''''.the-laws; tells = Laws'''''''''''.tells OpaqueRelayRuntime.the-type Laws''''''.the-laws; still = Laws'''''''''''.still
+    OpaqueRelayRuntime.the-type Laws''''''.the-copy Exit.yes; row = Rows.whole (Declared'.row OpaqueRelayRuntime.the-type); rd = λ x. x; mk = λ x. x;
+    } λ M 𝓤 H A W. record { copies = Laws'''''''''''.copy OpaqueRelayRuntime.the-type Laws''''''.the-copy 𝓤 H A W; lawful = Laws'''''''''''.lawful
+    OpaqueRelayRuntime.the-type Laws''''''.the-laws 𝓤 H A W; makes = Laws'''''''''''.makes OpaqueRelayRuntime.the-type Laws''''''.the-plain 𝓤 H A;
+    in-mem = Local.mem-whole 𝓤 H A W (Declared'.row OpaqueRelayRuntime.the-type); of-mem = Local.whole-mem 𝓤 H A W (Declared'.row
+    OpaqueRelayRuntime.the-type); }) ∷ (Value.pVal record { ty = Declared'.row Places.the-type; one = Path.refl; val = Laws'''''''''''.val
+    Places.the-type Laws'.the-laws; tells = Laws'''''''''''.tells Places.the-type Laws'.the-laws; still = Laws'''''''''''.still Places.the-type
+    Laws'.the-copy Exit.yes; row = Rows.whole (Declared'.row Places.the-type); rd = λ x. x; mk = λ x. x; } λ M 𝓤 H A W. record { copies =
+    Laws'''''''''''.copy Places.the-type Laws'.the-copy 𝓤 H A W; lawful = Laws'''''''''''.lawful Places.the-type Laws'.the-laws 𝓤 H A W; makes =
+    Laws'''''''''''.makes Places.the-type Laws'.the-plain 𝓤 H A; in-mem = Local.mem-whole 𝓤 H A W (Declared'.row Places.the-type); of-mem =
+    Local.whole-mem 𝓤 H A W (Declared'.row Places.the-type); }) ∷ (Value.pVal record { ty = Declared'.row RelayPacket.the-type; one = Path.refl; val =
+    Laws'''''''''''.val RelayPacket.the-type Laws''''.the-laws; tells = Laws'''''''''''.tells RelayPacket.the-type Laws''''.the-laws; still =
+    Laws'''''''''''.still RelayPacket.the-type Laws''''.the-copy Exit.yes; row = Rows.whole (Declared'.row RelayPacket.the-type); rd = λ x. x; mk = λ
+    x. x; } λ M 𝓤 H A W. record { copies = Laws'''''''''''.copy RelayPacket.the-type Laws''''.the-copy 𝓤 H A W; lawful = Laws'''''''''''.lawful
+    RelayPacket.the-type Laws''''.the-laws 𝓤 H A W; makes = Laws'''''''''''.makes RelayPacket.the-type Laws''''.the-plain 𝓤 H A; in-mem =
+    Local.mem-whole 𝓤 H A W (Declared'.row RelayPacket.the-type); of-mem = Local.whole-mem 𝓤 H A W (Declared'.row RelayPacket.the-type); }) ∷
+    (ShrSlice.pShrS (Referent.rtF (Referent.fInt Syntax.w8)) 3 tt) ∷ (ShrSlice.pShrS (Referent.rtF (Referent.fInt Syntax.w8)) 4 tt) ∷ List.[]
 abbrev pub r : Kinds.RK 5
-r = Value.rVal record { ty = Declared'.row Relayed.the-type; one = Path.refl; val = Laws''''''''''.val Relayed.the-type Laws''''''.the-laws; tells =
-    Laws''''''''''.tells Relayed.the-type Laws''''''.the-laws; still = Laws''''''''''.still Relayed.the-type Laws''''''.the-copy Exit.yes; row =
-    Rows.whole (Declared'.row Relayed.the-type); rd = λ x. x; mk = λ x. x; } λ M 𝓤 H A W. record { copies = Laws''''''''''.copy Relayed.the-type
-    Laws''''''.the-copy 𝓤 H A W; lawful = Laws''''''''''.lawful Relayed.the-type Laws''''''.the-laws 𝓤 H A W; makes = Laws''''''''''.makes
-    Relayed.the-type Laws''''''.the-plain 𝓤 H A; in-mem = Local.mem-whole 𝓤 H A W (Declared'.row Relayed.the-type); of-mem = Local.whole-mem 𝓤 H A W
+r = Value.rVal record { ty = Declared'.row Relayed.the-type; one = Path.refl; val = Laws'''''''''''.val Relayed.the-type Laws'''''''.the-laws; tells =
+    Laws'''''''''''.tells Relayed.the-type Laws'''''''.the-laws; still = Laws'''''''''''.still Relayed.the-type Laws'''''''.the-copy Exit.yes; row =
+    Rows.whole (Declared'.row Relayed.the-type); rd = λ x. x; mk = λ x. x; } λ M 𝓤 H A W. record { copies = Laws'''''''''''.copy Relayed.the-type
+    Laws'''''''.the-copy 𝓤 H A W; lawful = Laws'''''''''''.lawful Relayed.the-type Laws'''''''.the-laws 𝓤 H A W; makes = Laws'''''''''''.makes
+    Relayed.the-type Laws'''''''.the-plain 𝓤 H A; in-mem = Local.mem-whole 𝓤 H A W (Declared'.row Relayed.the-type); of-mem = Local.whole-mem 𝓤 H A W
     (Declared'.row Relayed.the-type); }
 abbrev pub xs : List.List Syntax.Ty
-xs = Laws'''''''.mir ∷ Laws.mir ∷ Laws''''.mir ∷ Laws''.mir ∷ Laws'.mir ∷ ref0 ∷ (Syntax.tyStruct (38 ∷ 91 ∷ 93 ∷ List.[]) (Syntax.tcons ref0
+xs = Laws''''''''.mir ∷ Laws.mir ∷ Laws'''''.mir ∷ Laws'''.mir ∷ Laws''.mir ∷ ref0 ∷ (Syntax.tyStruct (38 ∷ 91 ∷ 93 ∷ List.[]) (Syntax.tcons ref0
     (Syntax.tcons (Syntax.tyInt Syntax.w64) Syntax.tnil))) ∷ ref1 ∷ (Syntax.tyStruct (38 ∷ 91 ∷ 93 ∷ List.[]) (Syntax.tcons ref1 (Syntax.tcons
     (Syntax.tyInt Syntax.w64) Syntax.tnil))) ∷ Syntax.tyUnit ∷ ref2 ∷ (Syntax.tyStruct (38 ∷ 91 ∷ 93 ∷ List.[]) (Syntax.tcons ref2 (Syntax.tcons
     (Syntax.tyInt Syntax.w64) Syntax.tnil))) ∷ ref3 ∷ (Syntax.tyStruct (38 ∷ 91 ∷ 93 ∷ List.[]) (Syntax.tcons ref3 (Syntax.tcons (Syntax.tyInt
@@ -131,117 +138,133 @@ abbrev pub m : Nat.ℕ
 m = 5
 abbrev pub ps·0 : List.List (Kinds.PK 4)
 ps·0 = (ShrSlice.pShrS RelayCircuit.row 0 tt) ∷ (ShrSlice.pShrS InflightAction.row 1 tt) ∷ (Value.pVal record { ty = Declared'.row
-    OpaqueRelayRuntime.the-type; one = Path.refl; val = Laws''''''''''.val OpaqueRelayRuntime.the-type Laws'''''.the-laws; tells =
-    Laws''''''''''.tells OpaqueRelayRuntime.the-type Laws'''''.the-laws; still = Laws''''''''''.still OpaqueRelayRuntime.the-type Laws'''''.the-copy
-    Exit.yes; row = Rows.whole (Declared'.row OpaqueRelayRuntime.the-type); rd = λ x. x; mk = λ x. x; } λ M 𝓤 H A W. record { copies =
-    Laws''''''''''.copy OpaqueRelayRuntime.the-type Laws'''''.the-copy 𝓤 H A W; lawful = Laws''''''''''.lawful OpaqueRelayRuntime.the-type
-    Laws'''''.the-laws 𝓤 H A W; makes = Laws''''''''''.makes OpaqueRelayRuntime.the-type Laws'''''.the-plain 𝓤 H A; in-mem = Local.mem-whole 𝓤 H A W
-    (Declared'.row OpaqueRelayRuntime.the-type); of-mem = Local.whole-mem 𝓤 H A W (Declared'.row OpaqueRelayRuntime.the-type); }) ∷ (Value.pVal record
-    { ty = Declared'.row RelayPacket.the-type; one = Path.refl; val = Laws''''''''''.val RelayPacket.the-type Laws'''.the-laws; tells =
-    Laws''''''''''.tells RelayPacket.the-type Laws'''.the-laws; still = Laws''''''''''.still RelayPacket.the-type Laws'''.the-copy Exit.yes; row =
-    Rows.whole (Declared'.row RelayPacket.the-type); rd = λ x. x; mk = λ x. x; } λ M 𝓤 H A W. record { copies = Laws''''''''''.copy
-    RelayPacket.the-type Laws'''.the-copy 𝓤 H A W; lawful = Laws''''''''''.lawful RelayPacket.the-type Laws'''.the-laws 𝓤 H A W; makes =
-    Laws''''''''''.makes RelayPacket.the-type Laws'''.the-plain 𝓤 H A; in-mem = Local.mem-whole 𝓤 H A W (Declared'.row RelayPacket.the-type); of-mem =
-    Local.whole-mem 𝓤 H A W (Declared'.row RelayPacket.the-type); }) ∷ (ShrSlice.pShrS (Referent.rtF (Referent.fInt Syntax.w8)) 2 tt) ∷
+    OpaqueRelayRuntime.the-type; one = Path.refl; val = Laws'''''''''''.val OpaqueRelayRuntime.the-type Laws''''''.the-laws; tells =
+    Laws'''''''''''.tells OpaqueRelayRuntime.the-type Laws''''''.the-laws; still = Laws'''''''''''.still OpaqueRelayRuntime.the-type
+    Laws''''''.the-copy Exit.yes; row = Rows.whole (Declared'.row OpaqueRelayRuntime.the-type); rd = λ x. x; mk = λ x. x; } λ M 𝓤 H A W. record {
+    copies = Laws'''''''''''.copy OpaqueRelayRuntime.the-type Laws''''''.the-copy 𝓤 H A W; lawful = Laws'''''''''''.lawful OpaqueRelayRuntime.the-type
+    Laws''''''.the-laws 𝓤 H A W; makes = Laws'''''''''''.makes OpaqueRelayRuntime.the-type Laws''''''.the-plain 𝓤 H A; in-mem = Local.mem-whole 𝓤 H A
+    W (Declared'.row OpaqueRelayRuntime.the-type); of-mem = Local.whole-mem 𝓤 H A W (Declared'.row OpaqueRelayRuntime.the-type); }) ∷ (Value.pVal
+    record { ty = Declared'.row Places.the-type; one = Path.refl; val = Laws'''''''''''.val Places.the-type Laws'.the-laws; tells =
+    Laws'''''''''''.tells Places.the-type Laws'.the-laws; still = Laws'''''''''''.still Places.the-type Laws'.the-copy Exit.yes; row = Rows.whole
+    (Declared'.row Places.the-type); rd = λ x. x; mk = λ x. x; } λ M 𝓤 H A W. record { copies = Laws'''''''''''.copy Places.the-type Laws'.the-copy 𝓤
+    H A W; lawful = Laws'''''''''''.lawful Places.the-type Laws'.the-laws 𝓤 H A W; makes = Laws'''''''''''.makes Places.the-type Laws'.the-plain 𝓤 H
+    A; in-mem = Local.mem-whole 𝓤 H A W (Declared'.row Places.the-type); of-mem = Local.whole-mem 𝓤 H A W (Declared'.row Places.the-type); }) ∷
+    (Value.pVal record { ty = Declared'.row RelayPacket.the-type; one = Path.refl; val = Laws'''''''''''.val RelayPacket.the-type Laws''''.the-laws;
+    tells = Laws'''''''''''.tells RelayPacket.the-type Laws''''.the-laws; still = Laws'''''''''''.still RelayPacket.the-type Laws''''.the-copy
+    Exit.yes; row = Rows.whole (Declared'.row RelayPacket.the-type); rd = λ x. x; mk = λ x. x; } λ M 𝓤 H A W. record { copies = Laws'''''''''''.copy
+    RelayPacket.the-type Laws''''.the-copy 𝓤 H A W; lawful = Laws'''''''''''.lawful RelayPacket.the-type Laws''''.the-laws 𝓤 H A W; makes =
+    Laws'''''''''''.makes RelayPacket.the-type Laws''''.the-plain 𝓤 H A; in-mem = Local.mem-whole 𝓤 H A W (Declared'.row RelayPacket.the-type); of-mem
+    = Local.whole-mem 𝓤 H A W (Declared'.row RelayPacket.the-type); }) ∷ (ShrSlice.pShrS (Referent.rtF (Referent.fInt Syntax.w8)) 2 tt) ∷
     (ShrSlice.pShrS (Referent.rtF (Referent.fInt Syntax.w8)) 3 tt) ∷ List.[]
 abbrev pub r·0 : Kinds.RK 4
-r·0 = Value.rVal record { ty = Declared'.row WindowPlan.the-type; one = Path.refl; val = Laws''''''''''.val WindowPlan.the-type Laws'''''''.the-laws;
-    tells = Laws''''''''''.tells WindowPlan.the-type Laws'''''''.the-laws; still = Laws''''''''''.still WindowPlan.the-type Laws'''''''.the-copy
-    Exit.yes; row = Rows.whole (Declared'.row WindowPlan.the-type); rd = λ x. x; mk = λ x. x; } λ M 𝓤 H A W. record { copies = Laws''''''''''.copy
-    WindowPlan.the-type Laws'''''''.the-copy 𝓤 H A W; lawful = Laws''''''''''.lawful WindowPlan.the-type Laws'''''''.the-laws 𝓤 H A W; makes =
-    Laws''''''''''.makes WindowPlan.the-type Laws'''''''.the-plain 𝓤 H A; in-mem = Local.mem-whole 𝓤 H A W (Declared'.row WindowPlan.the-type); of-mem
-    = Local.whole-mem 𝓤 H A W (Declared'.row WindowPlan.the-type); }
+r·0 = Value.rVal record { ty = Declared'.row WindowPlan.the-type; one = Path.refl; val = Laws'''''''''''.val WindowPlan.the-type
+    Laws''''''''.the-laws; tells = Laws'''''''''''.tells WindowPlan.the-type Laws''''''''.the-laws; still = Laws'''''''''''.still WindowPlan.the-type
+    Laws''''''''.the-copy Exit.yes; row = Rows.whole (Declared'.row WindowPlan.the-type); rd = λ x. x; mk = λ x. x; } λ M 𝓤 H A W. record { copies =
+    Laws'''''''''''.copy WindowPlan.the-type Laws''''''''.the-copy 𝓤 H A W; lawful = Laws'''''''''''.lawful WindowPlan.the-type Laws''''''''.the-laws
+    𝓤 H A W; makes = Laws'''''''''''.makes WindowPlan.the-type Laws''''''''.the-plain 𝓤 H A; in-mem = Local.mem-whole 𝓤 H A W (Declared'.row
+    WindowPlan.the-type); of-mem = Local.whole-mem 𝓤 H A W (Declared'.row WindowPlan.the-type); }
 abbrev pub ps·1 : List.List (Kinds.PK 1)
-ps·1 = (MutSlice.pMutS RelayCircuit.row 0 tt) ∷ Bool.pBool ∷ (Num.pNum Syntax.w64) ∷ (Value.pVal record { ty = Declared.row RelaySide.the-type; one =
-    Path.refl; val = Laws''''''''.val RelaySide.the-type Laws''''.the-laws; tells = Laws''''''''.tells RelaySide.the-type Laws''''.the-laws; still =
-    Laws''''''''.still RelaySide.the-type Laws''''.the-copy Exit.yes; row = Rows.whole (Declared.row RelaySide.the-type); rd = λ x. x; mk = λ x. x; }
-    λ M 𝓤 H A W. record { copies = Laws''''''''.copy RelaySide.the-type Laws''''.the-copy 𝓤 H A W; lawful = Laws''''''''.lawful RelaySide.the-type
-    Laws''''.the-laws 𝓤 H A W tt; makes = Laws''''''''.makes RelaySide.the-type Laws''''.the-plain 𝓤 H A; in-mem = Local.mem-whole 𝓤 H A W
-    (Declared.row RelaySide.the-type); of-mem = Local.whole-mem 𝓤 H A W (Declared.row RelaySide.the-type); }) ∷ (Num.pNum Syntax.w32) ∷ List.[]
+ps·1 = (MutSlice.pMutS RelayCircuit.row 0 tt) ∷ (Value.pVal record { ty = Declared'.row Places.the-type; one = Path.refl; val = Laws'''''''''''.val
+    Places.the-type Laws'.the-laws; tells = Laws'''''''''''.tells Places.the-type Laws'.the-laws; still = Laws'''''''''''.still Places.the-type
+    Laws'.the-copy Exit.yes; row = Rows.whole (Declared'.row Places.the-type); rd = λ x. x; mk = λ x. x; } λ M 𝓤 H A W. record { copies =
+    Laws'''''''''''.copy Places.the-type Laws'.the-copy 𝓤 H A W; lawful = Laws'''''''''''.lawful Places.the-type Laws'.the-laws 𝓤 H A W; makes =
+    Laws'''''''''''.makes Places.the-type Laws'.the-plain 𝓤 H A; in-mem = Local.mem-whole 𝓤 H A W (Declared'.row Places.the-type); of-mem =
+    Local.whole-mem 𝓤 H A W (Declared'.row Places.the-type); }) ∷ Bool.pBool ∷ (Num.pNum Syntax.w64) ∷ (Value.pVal record { ty = Declared.row
+    RelaySide.the-type; one = Path.refl; val = Laws'''''''''.val RelaySide.the-type Laws'''''.the-laws; tells = Laws'''''''''.tells RelaySide.the-type
+    Laws'''''.the-laws; still = Laws'''''''''.still RelaySide.the-type Laws'''''.the-copy Exit.yes; row = Rows.whole (Declared.row
+    RelaySide.the-type); rd = λ x. x; mk = λ x. x; } λ M 𝓤 H A W. record { copies = Laws'''''''''.copy RelaySide.the-type Laws'''''.the-copy 𝓤 H A W;
+    lawful = Laws'''''''''.lawful RelaySide.the-type Laws'''''.the-laws 𝓤 H A W tt; makes = Laws'''''''''.makes RelaySide.the-type Laws'''''.the-plain
+    𝓤 H A; in-mem = Local.mem-whole 𝓤 H A W (Declared.row RelaySide.the-type); of-mem = Local.whole-mem 𝓤 H A W (Declared.row RelaySide.the-type); })
+    ∷ (Num.pNum Syntax.w32) ∷ List.[]
 abbrev pub r·1 : Kinds.RK 1
 r·1 = Unit.rUnit
 abbrev pub ps·2 : List.List (Kinds.PK 3)
 ps·2 = (MutSlice.pMutS InflightAction.row 0 tt) ∷ (MutSlice.pMutS (Referent.rtF (Referent.fInt Syntax.w32)) 1 tt) ∷ (Value.pVal record { ty =
-    Declared.row HnsrAnswer.the-type; one = Path.refl; val = Laws''''''''.val HnsrAnswer.the-type Laws.the-laws; tells = Laws''''''''.tells
-    HnsrAnswer.the-type Laws.the-laws; still = Laws''''''''.still HnsrAnswer.the-type Laws.the-copy Exit.yes; row = Rows.whole (Declared.row
-    HnsrAnswer.the-type); rd = λ x. x; mk = λ x. x; } λ M 𝓤 H A W. record { copies = Laws''''''''.copy HnsrAnswer.the-type Laws.the-copy 𝓤 H A W;
-    lawful = Laws''''''''.lawful HnsrAnswer.the-type Laws.the-laws 𝓤 H A W tt; makes = Laws''''''''.makes HnsrAnswer.the-type Laws.the-plain 𝓤 H A;
+    Declared.row HnsrAnswer.the-type; one = Path.refl; val = Laws'''''''''.val HnsrAnswer.the-type Laws.the-laws; tells = Laws'''''''''.tells
+    HnsrAnswer.the-type Laws.the-laws; still = Laws'''''''''.still HnsrAnswer.the-type Laws.the-copy Exit.yes; row = Rows.whole (Declared.row
+    HnsrAnswer.the-type); rd = λ x. x; mk = λ x. x; } λ M 𝓤 H A W. record { copies = Laws'''''''''.copy HnsrAnswer.the-type Laws.the-copy 𝓤 H A W;
+    lawful = Laws'''''''''.lawful HnsrAnswer.the-type Laws.the-laws 𝓤 H A W tt; makes = Laws'''''''''.makes HnsrAnswer.the-type Laws.the-plain 𝓤 H A;
     in-mem = Local.mem-whole 𝓤 H A W (Declared.row HnsrAnswer.the-type); of-mem = Local.whole-mem 𝓤 H A W (Declared.row HnsrAnswer.the-type); }) ∷
-    (Value.pVal record { ty = Declared'.row OpaqueRelayRuntime.the-type; one = Path.refl; val = Laws''''''''''.val OpaqueRelayRuntime.the-type
-    Laws'''''.the-laws; tells = Laws''''''''''.tells OpaqueRelayRuntime.the-type Laws'''''.the-laws; still = Laws''''''''''.still
-    OpaqueRelayRuntime.the-type Laws'''''.the-copy Exit.yes; row = Rows.whole (Declared'.row OpaqueRelayRuntime.the-type); rd = λ x. x; mk = λ x. x; }
-    λ M 𝓤 H A W. record { copies = Laws''''''''''.copy OpaqueRelayRuntime.the-type Laws'''''.the-copy 𝓤 H A W; lawful = Laws''''''''''.lawful
-    OpaqueRelayRuntime.the-type Laws'''''.the-laws 𝓤 H A W; makes = Laws''''''''''.makes OpaqueRelayRuntime.the-type Laws'''''.the-plain 𝓤 H A; in-mem
-    = Local.mem-whole 𝓤 H A W (Declared'.row OpaqueRelayRuntime.the-type); of-mem = Local.whole-mem 𝓤 H A W (Declared'.row
-    OpaqueRelayRuntime.the-type); }) ∷ (Value.pVal record { ty = Declared'.row Outgoing.the-type; one = Path.refl; val = Laws''''''''''.val
-    Outgoing.the-type Laws''.the-laws; tells = Laws''''''''''.tells Outgoing.the-type Laws''.the-laws; still = Laws''''''''''.still Outgoing.the-type
-    Laws''.the-copy Exit.yes; row = Rows.whole (Declared'.row Outgoing.the-type); rd = λ x. x; mk = λ x. x; } λ M 𝓤 H A W. record { copies =
-    Laws''''''''''.copy Outgoing.the-type Laws''.the-copy 𝓤 H A W; lawful = Laws''''''''''.lawful Outgoing.the-type Laws''.the-laws 𝓤 H A W; makes =
-    Laws''''''''''.makes Outgoing.the-type Laws''.the-plain 𝓤 H A; in-mem = Local.mem-whole 𝓤 H A W (Declared'.row Outgoing.the-type); of-mem =
-    Local.whole-mem 𝓤 H A W (Declared'.row Outgoing.the-type); }) ∷ (Value.pVal record { ty = Declared'.row ActionScan.the-type; one = Path.refl; val
-    = Laws''''''''''.val ActionScan.the-type Laws'.the-laws; tells = Laws''''''''''.tells ActionScan.the-type Laws'.the-laws; still =
-    Laws''''''''''.still ActionScan.the-type Laws'.the-copy Exit.yes; row = Rows.whole (Declared'.row ActionScan.the-type); rd = λ x. x; mk = λ x. x;
-    } λ M 𝓤 H A W. record { copies = Laws''''''''''.copy ActionScan.the-type Laws'.the-copy 𝓤 H A W; lawful = Laws''''''''''.lawful
-    ActionScan.the-type Laws'.the-laws 𝓤 H A W; makes = Laws''''''''''.makes ActionScan.the-type Laws'.the-plain 𝓤 H A; in-mem = Local.mem-whole 𝓤 H A
-    W (Declared'.row ActionScan.the-type); of-mem = Local.whole-mem 𝓤 H A W (Declared'.row ActionScan.the-type); }) ∷ (ShrSlice.pShrS (Referent.rtF
-    (Referent.fInt Syntax.w8)) 2 tt) ∷ List.[]
+    (Value.pVal record { ty = Declared'.row OpaqueRelayRuntime.the-type; one = Path.refl; val = Laws'''''''''''.val OpaqueRelayRuntime.the-type
+    Laws''''''.the-laws; tells = Laws'''''''''''.tells OpaqueRelayRuntime.the-type Laws''''''.the-laws; still = Laws'''''''''''.still
+    OpaqueRelayRuntime.the-type Laws''''''.the-copy Exit.yes; row = Rows.whole (Declared'.row OpaqueRelayRuntime.the-type); rd = λ x. x; mk = λ x. x;
+    } λ M 𝓤 H A W. record { copies = Laws'''''''''''.copy OpaqueRelayRuntime.the-type Laws''''''.the-copy 𝓤 H A W; lawful = Laws'''''''''''.lawful
+    OpaqueRelayRuntime.the-type Laws''''''.the-laws 𝓤 H A W; makes = Laws'''''''''''.makes OpaqueRelayRuntime.the-type Laws''''''.the-plain 𝓤 H A;
+    in-mem = Local.mem-whole 𝓤 H A W (Declared'.row OpaqueRelayRuntime.the-type); of-mem = Local.whole-mem 𝓤 H A W (Declared'.row
+    OpaqueRelayRuntime.the-type); }) ∷ (Value.pVal record { ty = Declared'.row Places.the-type; one = Path.refl; val = Laws'''''''''''.val
+    Places.the-type Laws'.the-laws; tells = Laws'''''''''''.tells Places.the-type Laws'.the-laws; still = Laws'''''''''''.still Places.the-type
+    Laws'.the-copy Exit.yes; row = Rows.whole (Declared'.row Places.the-type); rd = λ x. x; mk = λ x. x; } λ M 𝓤 H A W. record { copies =
+    Laws'''''''''''.copy Places.the-type Laws'.the-copy 𝓤 H A W; lawful = Laws'''''''''''.lawful Places.the-type Laws'.the-laws 𝓤 H A W; makes =
+    Laws'''''''''''.makes Places.the-type Laws'.the-plain 𝓤 H A; in-mem = Local.mem-whole 𝓤 H A W (Declared'.row Places.the-type); of-mem =
+    Local.whole-mem 𝓤 H A W (Declared'.row Places.the-type); }) ∷ (Value.pVal record { ty = Declared'.row Outgoing.the-type; one = Path.refl; val =
+    Laws'''''''''''.val Outgoing.the-type Laws'''.the-laws; tells = Laws'''''''''''.tells Outgoing.the-type Laws'''.the-laws; still =
+    Laws'''''''''''.still Outgoing.the-type Laws'''.the-copy Exit.yes; row = Rows.whole (Declared'.row Outgoing.the-type); rd = λ x. x; mk = λ x. x; }
+    λ M 𝓤 H A W. record { copies = Laws'''''''''''.copy Outgoing.the-type Laws'''.the-copy 𝓤 H A W; lawful = Laws'''''''''''.lawful Outgoing.the-type
+    Laws'''.the-laws 𝓤 H A W; makes = Laws'''''''''''.makes Outgoing.the-type Laws'''.the-plain 𝓤 H A; in-mem = Local.mem-whole 𝓤 H A W (Declared'.row
+    Outgoing.the-type); of-mem = Local.whole-mem 𝓤 H A W (Declared'.row Outgoing.the-type); }) ∷ (Value.pVal record { ty = Declared'.row
+    ActionScan.the-type; one = Path.refl; val = Laws'''''''''''.val ActionScan.the-type Laws''.the-laws; tells = Laws'''''''''''.tells
+    ActionScan.the-type Laws''.the-laws; still = Laws'''''''''''.still ActionScan.the-type Laws''.the-copy Exit.yes; row = Rows.whole (Declared'.row
+    ActionScan.the-type); rd = λ x. x; mk = λ x. x; } λ M 𝓤 H A W. record { copies = Laws'''''''''''.copy ActionScan.the-type Laws''.the-copy 𝓤 H A W;
+    lawful = Laws'''''''''''.lawful ActionScan.the-type Laws''.the-laws 𝓤 H A W; makes = Laws'''''''''''.makes ActionScan.the-type Laws''.the-plain 𝓤
+    H A; in-mem = Local.mem-whole 𝓤 H A W (Declared'.row ActionScan.the-type); of-mem = Local.whole-mem 𝓤 H A W (Declared'.row ActionScan.the-type);
+    }) ∷ (ShrSlice.pShrS (Referent.rtF (Referent.fInt Syntax.w8)) 2 tt) ∷ List.[]
 abbrev pub r·2 : Kinds.RK 3
-r·2 = Value.rVal record { ty = Declared'.row Relayed.the-type; one = Path.refl; val = Laws''''''''''.val Relayed.the-type Laws''''''.the-laws; tells =
-    Laws''''''''''.tells Relayed.the-type Laws''''''.the-laws; still = Laws''''''''''.still Relayed.the-type Laws''''''.the-copy Exit.yes; row =
-    Rows.whole (Declared'.row Relayed.the-type); rd = λ x. x; mk = λ x. x; } λ M 𝓤 H A W. record { copies = Laws''''''''''.copy Relayed.the-type
-    Laws''''''.the-copy 𝓤 H A W; lawful = Laws''''''''''.lawful Relayed.the-type Laws''''''.the-laws 𝓤 H A W; makes = Laws''''''''''.makes
-    Relayed.the-type Laws''''''.the-plain 𝓤 H A; in-mem = Local.mem-whole 𝓤 H A W (Declared'.row Relayed.the-type); of-mem = Local.whole-mem 𝓤 H A W
+r·2 = Value.rVal record { ty = Declared'.row Relayed.the-type; one = Path.refl; val = Laws'''''''''''.val Relayed.the-type Laws'''''''.the-laws; tells
+    = Laws'''''''''''.tells Relayed.the-type Laws'''''''.the-laws; still = Laws'''''''''''.still Relayed.the-type Laws'''''''.the-copy Exit.yes; row =
+    Rows.whole (Declared'.row Relayed.the-type); rd = λ x. x; mk = λ x. x; } λ M 𝓤 H A W. record { copies = Laws'''''''''''.copy Relayed.the-type
+    Laws'''''''.the-copy 𝓤 H A W; lawful = Laws'''''''''''.lawful Relayed.the-type Laws'''''''.the-laws 𝓤 H A W; makes = Laws'''''''''''.makes
+    Relayed.the-type Laws'''''''.the-plain 𝓤 H A; in-mem = Local.mem-whole 𝓤 H A W (Declared'.row Relayed.the-type); of-mem = Local.whole-mem 𝓤 H A W
     (Declared'.row Relayed.the-type); }
 abbrev pub hs : List.List Syntax.Home
 hs = Syntax.valueLocal ∷ Syntax.valueLocal ∷ Syntax.valueLocal ∷ Syntax.valueLocal ∷ Syntax.valueLocal ∷ Syntax.valueLocal ∷ Syntax.valueLocal ∷
     Syntax.valueLocal ∷ Syntax.valueLocal ∷ Syntax.valueLocal ∷ Syntax.valueLocal ∷ Syntax.valueLocal ∷ Syntax.valueLocal ∷ Syntax.valueLocal ∷
     Syntax.valueLocal ∷ Syntax.valueLocal ∷ Syntax.valueLocal ∷ Syntax.valueLocal ∷ Syntax.valueLocal ∷ Syntax.valueLocal ∷ Syntax.valueLocal ∷
-    Syntax.valueLocal ∷ Syntax.valueLocal ∷ Syntax.valueLocal ∷ List.[]
+    Syntax.valueLocal ∷ Syntax.valueLocal ∷ Syntax.valueLocal ∷ Syntax.valueLocal ∷ List.[]
 abbrev b0 : Syntax.Body
-b0 = Syntax.assign (Syntax.place 13 List.[]) (Syntax.addrOf (Syntax.place 1 ((Syntax.field 0) ∷ (Syntax.deref RelayCircuit.ty) ∷ List.[])))
+b0 = Syntax.assign (Syntax.place 14 List.[]) (Syntax.addrOf (Syntax.place 1 ((Syntax.field 0) ∷ (Syntax.deref RelayCircuit.ty) ∷ List.[])))
 abbrev b1 : Syntax.Body
-b1 = Syntax.assign (Syntax.place 14 List.[]) (Syntax.aggregate ((Syntax.copy (Syntax.place 13 List.[])) ∷ (Syntax.copy (Syntax.place 1 ((Syntax.field
+b1 = Syntax.assign (Syntax.place 15 List.[]) (Syntax.aggregate ((Syntax.copy (Syntax.place 14 List.[])) ∷ (Syntax.copy (Syntax.place 1 ((Syntax.field
     1) ∷ List.[]))) ∷ List.[]))
 abbrev b2 : Syntax.Body
-b2 = Syntax.assign (Syntax.place 15 List.[]) (Syntax.addrOf (Syntax.place 2 ((Syntax.field 0) ∷ (Syntax.deref InflightAction.ty) ∷ List.[])))
+b2 = Syntax.assign (Syntax.place 16 List.[]) (Syntax.addrOf (Syntax.place 2 ((Syntax.field 0) ∷ (Syntax.deref InflightAction.ty) ∷ List.[])))
 abbrev b3 : Syntax.Body
-b3 = Syntax.assign (Syntax.place 16 List.[]) (Syntax.aggregate ((Syntax.copy (Syntax.place 15 List.[])) ∷ (Syntax.copy (Syntax.place 2 ((Syntax.field
+b3 = Syntax.assign (Syntax.place 17 List.[]) (Syntax.aggregate ((Syntax.copy (Syntax.place 16 List.[])) ∷ (Syntax.copy (Syntax.place 2 ((Syntax.field
     1) ∷ List.[]))) ∷ List.[]))
 abbrev b4 : Syntax.Body
-b4 = Syntax.call "hnsr_circuit::handle_window::plan_window" ((Syntax.copy (Syntax.place 14 List.[])) ∷ (Syntax.copy (Syntax.place 16 List.[])) ∷
+b4 = Syntax.call "hnsr_circuit::handle_window::plan_window" ((Syntax.copy (Syntax.place 15 List.[])) ∷ (Syntax.copy (Syntax.place 17 List.[])) ∷
     (Syntax.copy (Syntax.place 4 List.[])) ∷ (Syntax.copy (Syntax.place 5 List.[])) ∷ (Syntax.copy (Syntax.place 6 List.[])) ∷ (Syntax.copy
-    (Syntax.place 7 List.[])) ∷ List.[]) (Syntax.place 8 List.[])
+    (Syntax.place 7 List.[])) ∷ (Syntax.copy (Syntax.place 8 List.[])) ∷ List.[]) (Syntax.place 9 List.[])
 abbrev b5 : Syntax.Body
-b5 = Syntax.assign (Syntax.place 9 List.[]) (Syntax.rvOpd (Syntax.copy (Syntax.place 8 ((Syntax.field 0) ∷ List.[]))))
+b5 = Syntax.assign (Syntax.place 10 List.[]) (Syntax.rvOpd (Syntax.copy (Syntax.place 9 ((Syntax.field 0) ∷ List.[]))))
 abbrev b6 : Syntax.Body
-b6 = Syntax.assign (Syntax.place 10 List.[]) (Syntax.rvOpd (Syntax.copy (Syntax.place 8 ((Syntax.field 3) ∷ List.[]))))
+b6 = Syntax.assign (Syntax.place 11 List.[]) (Syntax.rvOpd (Syntax.copy (Syntax.place 9 ((Syntax.field 3) ∷ List.[]))))
 abbrev b7 : Syntax.Body
-b7 = Syntax.assign (Syntax.place 11 List.[]) (Syntax.rvOpd (Syntax.copy (Syntax.place 8 ((Syntax.field 5) ∷ List.[]))))
+b7 = Syntax.assign (Syntax.place 12 List.[]) (Syntax.rvOpd (Syntax.copy (Syntax.place 9 ((Syntax.field 5) ∷ List.[]))))
 abbrev b8 : Syntax.Body
-b8 = Syntax.assign (Syntax.place 12 List.[]) (Syntax.rvOpd (Syntax.copy (Syntax.place 8 ((Syntax.field 6) ∷ List.[]))))
+b8 = Syntax.assign (Syntax.place 13 List.[]) (Syntax.rvOpd (Syntax.copy (Syntax.place 9 ((Syntax.field 6) ∷ List.[]))))
 abbrev b9 : Syntax.Body
-b9 = Syntax.assign (Syntax.place 18 List.[]) (Syntax.addrOf (Syntax.place 1 ((Syntax.field 0) ∷ (Syntax.deref RelayCircuit.ty) ∷ List.[])))
+b9 = Syntax.assign (Syntax.place 19 List.[]) (Syntax.addrOf (Syntax.place 1 ((Syntax.field 0) ∷ (Syntax.deref RelayCircuit.ty) ∷ List.[])))
 abbrev b10 : Syntax.Body
-b10 = Syntax.assign (Syntax.place 19 List.[]) (Syntax.aggregate ((Syntax.copy (Syntax.place 18 List.[])) ∷ (Syntax.copy (Syntax.place 1 ((Syntax.field
+b10 = Syntax.assign (Syntax.place 20 List.[]) (Syntax.aggregate ((Syntax.copy (Syntax.place 19 List.[])) ∷ (Syntax.copy (Syntax.place 1 ((Syntax.field
     1) ∷ List.[]))) ∷ List.[]))
 abbrev b11 : Syntax.Body
-b11 = Syntax.call "hnsr_circuit::handle_window::raise_circuit" ((Syntax.copy (Syntax.place 19 List.[])) ∷ (Syntax.copy (Syntax.place 8 ((Syntax.field
-    1) ∷ List.[]))) ∷ (Syntax.copy (Syntax.place 8 ((Syntax.field 2) ∷ List.[]))) ∷ (Syntax.copy (Syntax.place 10 List.[])) ∷ (Syntax.copy
-    (Syntax.place 8 ((Syntax.field 4) ∷ List.[]))) ∷ List.[]) (Syntax.place 17 List.[])
+b11 = Syntax.call "hnsr_circuit::handle_window::raise_circuit" ((Syntax.copy (Syntax.place 20 List.[])) ∷ (Syntax.copy (Syntax.place 5 List.[])) ∷
+    (Syntax.copy (Syntax.place 9 ((Syntax.field 1) ∷ List.[]))) ∷ (Syntax.copy (Syntax.place 9 ((Syntax.field 2) ∷ List.[]))) ∷ (Syntax.copy
+    (Syntax.place 11 List.[])) ∷ (Syntax.copy (Syntax.place 9 ((Syntax.field 4) ∷ List.[]))) ∷ List.[]) (Syntax.place 18 List.[])
 abbrev b12 : Syntax.Body
-b12 = Syntax.assign (Syntax.place 20 List.[]) (Syntax.addrOf (Syntax.place 2 ((Syntax.field 0) ∷ (Syntax.deref InflightAction.ty) ∷ List.[])))
+b12 = Syntax.assign (Syntax.place 21 List.[]) (Syntax.addrOf (Syntax.place 2 ((Syntax.field 0) ∷ (Syntax.deref InflightAction.ty) ∷ List.[])))
 abbrev b13 : Syntax.Body
-b13 = Syntax.assign (Syntax.place 21 List.[]) (Syntax.aggregate ((Syntax.copy (Syntax.place 20 List.[])) ∷ (Syntax.copy (Syntax.place 2 ((Syntax.field
+b13 = Syntax.assign (Syntax.place 22 List.[]) (Syntax.aggregate ((Syntax.copy (Syntax.place 21 List.[])) ∷ (Syntax.copy (Syntax.place 2 ((Syntax.field
     1) ∷ List.[]))) ∷ List.[]))
 abbrev b14 : Syntax.Body
-b14 = Syntax.assign (Syntax.place 22 List.[]) (Syntax.addrOf (Syntax.place 3 ((Syntax.field 0) ∷ (Syntax.deref (Syntax.tyInt Syntax.w32)) ∷ List.[])))
+b14 = Syntax.assign (Syntax.place 23 List.[]) (Syntax.addrOf (Syntax.place 3 ((Syntax.field 0) ∷ (Syntax.deref (Syntax.tyInt Syntax.w32)) ∷ List.[])))
 abbrev b15 : Syntax.Body
-b15 = Syntax.assign (Syntax.place 23 List.[]) (Syntax.aggregate ((Syntax.copy (Syntax.place 22 List.[])) ∷ (Syntax.copy (Syntax.place 3 ((Syntax.field
+b15 = Syntax.assign (Syntax.place 24 List.[]) (Syntax.aggregate ((Syntax.copy (Syntax.place 23 List.[])) ∷ (Syntax.copy (Syntax.place 3 ((Syntax.field
     1) ∷ List.[]))) ∷ List.[]))
 abbrev b16 : Syntax.Body
-b16 = Syntax.call "hnsr_circuit::queue::send" ((Syntax.copy (Syntax.place 21 List.[])) ∷ (Syntax.copy (Syntax.place 23 List.[])) ∷ (Syntax.copy
-    (Syntax.place 9 List.[])) ∷ (Syntax.copy (Syntax.place 4 List.[])) ∷ (Syntax.copy (Syntax.place 11 List.[])) ∷ (Syntax.copy (Syntax.place 12
-    List.[])) ∷ (Syntax.copy (Syntax.place 7 List.[])) ∷ List.[]) (Syntax.place 0 List.[])
+b16 = Syntax.call "hnsr_circuit::queue::send" ((Syntax.copy (Syntax.place 22 List.[])) ∷ (Syntax.copy (Syntax.place 24 List.[])) ∷ (Syntax.copy
+    (Syntax.place 10 List.[])) ∷ (Syntax.copy (Syntax.place 4 List.[])) ∷ (Syntax.copy (Syntax.place 5 List.[])) ∷ (Syntax.copy (Syntax.place 12
+    List.[])) ∷ (Syntax.copy (Syntax.place 13 List.[])) ∷ (Syntax.copy (Syntax.place 8 List.[])) ∷ List.[]) (Syntax.place 0 List.[])
 abbrev b17 : Syntax.Body
 b17 = Syntax.return
 abbrev b18 : Syntax.Body
@@ -283,7 +306,7 @@ body = b34
 abbrev pub Claims : Type 1
 Claims = Kinds.In 4 ps·0 × Kinds.Out 4 ps·0 r·0 × Kinds.In 1 ps·1 × Kinds.Out 1 ps·1 r·1 × Kinds.In 3 ps·2 × Kinds.Out 3 ps·2 r·2
 abbrev e0 : Row.Entry
-e0 = (0, Rows.any-gone Laws''''''.mir)
+e0 = (0, Rows.any-gone Laws'''''''.mir)
 abbrev e1 : Row.Entry
 e1 = (1, Mut.mslice RelayCircuit.row ref5 0)
 abbrev e2 : Row.Entry
@@ -293,175 +316,181 @@ e3 = (3, Mut.mslice (Referent.rtF (Referent.fInt Syntax.w32)) ref7 2)
 abbrev e4 : Row.Entry
 e4 = (4, Rows.whole (Declared'.row OpaqueRelayRuntime.the-type))
 abbrev e5 : Row.Entry
-e5 = (5, Rows.whole (Declared'.row RelayPacket.the-type))
+e5 = (5, Rows.whole (Declared'.row Places.the-type))
 abbrev e6 : Row.Entry
-e6 = (6, Rows.sslice (Referent.rtF (Referent.fInt Syntax.w8)) ref8 3)
+e6 = (6, Rows.whole (Declared'.row RelayPacket.the-type))
 abbrev e7 : Row.Entry
-e7 = (7, Rows.sslice (Referent.rtF (Referent.fInt Syntax.w8)) ref9 4)
+e7 = (7, Rows.sslice (Referent.rtF (Referent.fInt Syntax.w8)) ref8 3)
 abbrev e8 : Row.Entry
-e8 = (8, Rows.any-gone Laws'''''''.mir)
+e8 = (8, Rows.sslice (Referent.rtF (Referent.fInt Syntax.w8)) ref9 4)
 abbrev e9 : Row.Entry
-e9 = (9, Rows.any-gone Laws.mir)
+e9 = (9, Rows.any-gone Laws''''''''.mir)
 abbrev e10 : Row.Entry
-e10 = (10, Rows.any-gone Laws''''.mir)
+e10 = (10, Rows.any-gone Laws.mir)
 abbrev e11 : Row.Entry
-e11 = (11, Rows.any-gone Laws''.mir)
+e11 = (11, Rows.any-gone Laws'''''.mir)
 abbrev e12 : Row.Entry
-e12 = (12, Rows.any-gone Laws'.mir)
+e12 = (12, Rows.any-gone Laws'''.mir)
 abbrev e13 : Row.Entry
-e13 = (13, Rows.any-gone ref0)
+e13 = (13, Rows.any-gone Laws''.mir)
 abbrev e14 : Row.Entry
-e14 = (14, Rows.any-gone (Syntax.tyStruct (38 ∷ 91 ∷ 93 ∷ List.[]) (Syntax.tcons ref0 (Syntax.tcons (Syntax.tyInt Syntax.w64) Syntax.tnil))))
+e14 = (14, Rows.any-gone ref0)
 abbrev e15 : Row.Entry
-e15 = (15, Rows.any-gone ref1)
+e15 = (15, Rows.any-gone (Syntax.tyStruct (38 ∷ 91 ∷ 93 ∷ List.[]) (Syntax.tcons ref0 (Syntax.tcons (Syntax.tyInt Syntax.w64) Syntax.tnil))))
 abbrev e16 : Row.Entry
-e16 = (16, Rows.any-gone (Syntax.tyStruct (38 ∷ 91 ∷ 93 ∷ List.[]) (Syntax.tcons ref1 (Syntax.tcons (Syntax.tyInt Syntax.w64) Syntax.tnil))))
+e16 = (16, Rows.any-gone ref1)
 abbrev e17 : Row.Entry
-e17 = (17, Rows.any-gone Syntax.tyUnit)
+e17 = (17, Rows.any-gone (Syntax.tyStruct (38 ∷ 91 ∷ 93 ∷ List.[]) (Syntax.tcons ref1 (Syntax.tcons (Syntax.tyInt Syntax.w64) Syntax.tnil))))
 abbrev e18 : Row.Entry
-e18 = (18, Rows.any-gone ref2)
+e18 = (18, Rows.any-gone Syntax.tyUnit)
 abbrev e19 : Row.Entry
-e19 = (19, Rows.any-gone (Syntax.tyStruct (38 ∷ 91 ∷ 93 ∷ List.[]) (Syntax.tcons ref2 (Syntax.tcons (Syntax.tyInt Syntax.w64) Syntax.tnil))))
+e19 = (19, Rows.any-gone ref2)
 abbrev e20 : Row.Entry
-e20 = (20, Rows.any-gone ref3)
+e20 = (20, Rows.any-gone (Syntax.tyStruct (38 ∷ 91 ∷ 93 ∷ List.[]) (Syntax.tcons ref2 (Syntax.tcons (Syntax.tyInt Syntax.w64) Syntax.tnil))))
 abbrev e21 : Row.Entry
-e21 = (21, Rows.any-gone (Syntax.tyStruct (38 ∷ 91 ∷ 93 ∷ List.[]) (Syntax.tcons ref3 (Syntax.tcons (Syntax.tyInt Syntax.w64) Syntax.tnil))))
+e21 = (21, Rows.any-gone ref3)
 abbrev e22 : Row.Entry
-e22 = (22, Rows.any-gone ref4)
+e22 = (22, Rows.any-gone (Syntax.tyStruct (38 ∷ 91 ∷ 93 ∷ List.[]) (Syntax.tcons ref3 (Syntax.tcons (Syntax.tyInt Syntax.w64) Syntax.tnil))))
 abbrev e23 : Row.Entry
-e23 = (23, Rows.any-gone (Syntax.tyStruct (38 ∷ 91 ∷ 93 ∷ List.[]) (Syntax.tcons ref4 (Syntax.tcons (Syntax.tyInt Syntax.w64) Syntax.tnil))))
+e23 = (23, Rows.any-gone ref4)
+abbrev e24 : Row.Entry
+e24 = (24, Rows.any-gone (Syntax.tyStruct (38 ∷ 91 ∷ 93 ∷ List.[]) (Syntax.tcons ref4 (Syntax.tcons (Syntax.tyInt Syntax.w64) Syntax.tnil))))
 abbrev e0·1 : Row.Entry
 e0·1 = (0, Rows.whole (Declared'.row Relayed.the-type))
 abbrev e4·1 : Row.Entry
-e4·1 = (4, Rows.any-gone Laws'''''.mir)
+e4·1 = (4, Rows.any-gone Laws''''''.mir)
 abbrev e5·1 : Row.Entry
-e5·1 = (5, Rows.any-gone Laws'''.mir)
+e5·1 = (5, Rows.any-gone Laws'.mir)
+abbrev e6·1 : Row.Entry
+e6·1 = (6, Rows.any-gone Laws''''.mir)
 abbrev e1·1 : Row.Entry
 e1·1 = (1, Reshare.mslice-owedS RelayCircuit.row ref5 0 5 Row.off)
-abbrev e13·1 : Row.Entry
-e13·1 = (13, Relend.ssptr RelayCircuit.row ref0 5)
 abbrev e14·1 : Row.Entry
-e14·1 = (14, Rows.sslice RelayCircuit.row ref0 5)
+e14·1 = (14, Relend.ssptr RelayCircuit.row ref0 5)
+abbrev e15·1 : Row.Entry
+e15·1 = (15, Rows.sslice RelayCircuit.row ref0 5)
 abbrev e2·1 : Row.Entry
 e2·1 = (2, Reshare.mslice-owedS InflightAction.row ref6 1 6 Row.off)
-abbrev e15·1 : Row.Entry
-e15·1 = (15, Relend.ssptr InflightAction.row ref1 6)
 abbrev e16·1 : Row.Entry
-e16·1 = (16, Rows.sslice InflightAction.row ref1 6)
-abbrev e8·1 : Row.Entry
-e8·1 = (8, Rows.whole (Declared'.row WindowPlan.the-type))
+e16·1 = (16, Relend.ssptr InflightAction.row ref1 6)
+abbrev e17·1 : Row.Entry
+e17·1 = (17, Rows.sslice InflightAction.row ref1 6)
 abbrev e9·1 : Row.Entry
-e9·1 = (9, Rows.whole (Declared.row HnsrAnswer.the-type))
+e9·1 = (9, Rows.whole (Declared'.row WindowPlan.the-type))
 abbrev e10·1 : Row.Entry
-e10·1 = (10, Rows.whole (Declared.row RelaySide.the-type))
+e10·1 = (10, Rows.whole (Declared.row HnsrAnswer.the-type))
 abbrev e11·1 : Row.Entry
-e11·1 = (11, Rows.whole (Declared'.row Outgoing.the-type))
+e11·1 = (11, Rows.whole (Declared.row RelaySide.the-type))
 abbrev e12·1 : Row.Entry
-e12·1 = (12, Rows.whole (Declared'.row ActionScan.the-type))
+e12·1 = (12, Rows.whole (Declared'.row Outgoing.the-type))
+abbrev e13·1 : Row.Entry
+e13·1 = (13, Rows.whole (Declared'.row ActionScan.the-type))
 abbrev e1·2 : Row.Entry
 e1·2 = (1, Relend.mslice-owed RelayCircuit.row ref5 0 7 Row.off)
-abbrev e18·1 : Row.Entry
-e18·1 = (18, Relend.msptr RelayCircuit.row ref2 7)
 abbrev e19·1 : Row.Entry
-e19·1 = (19, Mut.mslice RelayCircuit.row ref2 7)
-abbrev e17·1 : Row.Entry
-e17·1 = (17, Rows.sc-here Row.sUnit)
-abbrev e19·2 : Row.Entry
-e19·2 = (19, Mut.msleft RelayCircuit.row ref2)
+e19·1 = (19, Relend.msptr RelayCircuit.row ref2 7)
+abbrev e20·1 : Row.Entry
+e20·1 = (20, Mut.mslice RelayCircuit.row ref2 7)
+abbrev e18·1 : Row.Entry
+e18·1 = (18, Rows.sc-here Row.sUnit)
+abbrev e20·2 : Row.Entry
+e20·2 = (20, Mut.msleft RelayCircuit.row ref2)
 abbrev e2·2 : Row.Entry
 e2·2 = (2, Relend.mslice-owed InflightAction.row ref6 1 8 Row.off)
-abbrev e20·1 : Row.Entry
-e20·1 = (20, Relend.msptr InflightAction.row ref3 8)
 abbrev e21·1 : Row.Entry
-e21·1 = (21, Mut.mslice InflightAction.row ref3 8)
+e21·1 = (21, Relend.msptr InflightAction.row ref3 8)
+abbrev e22·1 : Row.Entry
+e22·1 = (22, Mut.mslice InflightAction.row ref3 8)
 abbrev e3·1 : Row.Entry
 e3·1 = (3, Relend.mslice-owed (Referent.rtF (Referent.fInt Syntax.w32)) ref7 2 9 Row.off)
-abbrev e22·1 : Row.Entry
-e22·1 = (22, Relend.msptr (Referent.rtF (Referent.fInt Syntax.w32)) ref4 9)
 abbrev e23·1 : Row.Entry
-e23·1 = (23, Mut.mslice (Referent.rtF (Referent.fInt Syntax.w32)) ref4 9)
-abbrev e21·2 : Row.Entry
-e21·2 = (21, Mut.msleft InflightAction.row ref3)
-abbrev e23·2 : Row.Entry
-e23·2 = (23, Mut.msleft (Referent.rtF (Referent.fInt Syntax.w32)) ref4)
+e23·1 = (23, Relend.msptr (Referent.rtF (Referent.fInt Syntax.w32)) ref4 9)
+abbrev e24·1 : Row.Entry
+e24·1 = (24, Mut.mslice (Referent.rtF (Referent.fInt Syntax.w32)) ref4 9)
+abbrev e22·2 : Row.Entry
+e22·2 = (22, Mut.msleft InflightAction.row ref3)
+abbrev e24·2 : Row.Entry
+e24·2 = (24, Mut.msleft (Referent.rtF (Referent.fInt Syntax.w32)) ref4)
 abbrev pub t0 : List.List Row.Entry
 t0 = e0 ∷ e1 ∷ e2 ∷ e3 ∷ e4 ∷ e5 ∷ e6 ∷ e7 ∷ e8 ∷ e9 ∷ e10 ∷ e11 ∷ e12 ∷ e13 ∷ e14 ∷ e15 ∷ List.[]
 abbrev pub t1 : List.List Row.Entry
-t1 = e16 ∷ e17 ∷ e18 ∷ e19 ∷ e20 ∷ e21 ∷ e22 ∷ e23 ∷ List.[]
+t1 = e16 ∷ e17 ∷ e18 ∷ e19 ∷ e20 ∷ e21 ∷ e22 ∷ e23 ∷ e24 ∷ List.[]
 abbrev pub t2 : List.List Row.Entry
-t2 = e0·1 ∷ e1 ∷ e2 ∷ e3 ∷ e4·1 ∷ e5·1 ∷ e6 ∷ e7 ∷ e8 ∷ e9 ∷ e10 ∷ e11 ∷ e12 ∷ e13 ∷ e14 ∷ e15 ∷ List.[]
+t2 = e0·1 ∷ e1 ∷ e2 ∷ e3 ∷ e4·1 ∷ e5·1 ∷ e6·1 ∷ e7 ∷ e8 ∷ e9 ∷ e10 ∷ e11 ∷ e12 ∷ e13 ∷ e14 ∷ e15 ∷ List.[]
 abbrev pub t3 : List.List Row.Entry
-t3 = e0 ∷ e1·1 ∷ e2 ∷ e3 ∷ e4 ∷ e5 ∷ e6 ∷ e7 ∷ e8 ∷ e9 ∷ e10 ∷ e11 ∷ e12 ∷ e13·1 ∷ e14 ∷ e15 ∷ List.[]
+t3 = e0 ∷ e1·1 ∷ e2 ∷ e3 ∷ e4 ∷ e5 ∷ e6 ∷ e7 ∷ e8 ∷ e9 ∷ e10 ∷ e11 ∷ e12 ∷ e13 ∷ e14·1 ∷ e15 ∷ List.[]
 abbrev pub t4 : List.List Row.Entry
-t4 = e0 ∷ e1·1 ∷ e2 ∷ e3 ∷ e4 ∷ e5 ∷ e6 ∷ e7 ∷ e8 ∷ e9 ∷ e10 ∷ e11 ∷ e12 ∷ e13 ∷ e14·1 ∷ e15 ∷ List.[]
+t4 = e0 ∷ e1·1 ∷ e2 ∷ e3 ∷ e4 ∷ e5 ∷ e6 ∷ e7 ∷ e8 ∷ e9 ∷ e10 ∷ e11 ∷ e12 ∷ e13 ∷ e14 ∷ e15·1 ∷ List.[]
 abbrev pub t5 : List.List Row.Entry
-t5 = e0 ∷ e1·1 ∷ e2·1 ∷ e3 ∷ e4 ∷ e5 ∷ e6 ∷ e7 ∷ e8 ∷ e9 ∷ e10 ∷ e11 ∷ e12 ∷ e13 ∷ e14·1 ∷ e15·1 ∷ List.[]
+t5 = e0 ∷ e1·1 ∷ e2·1 ∷ e3 ∷ e4 ∷ e5 ∷ e6 ∷ e7 ∷ e8 ∷ e9 ∷ e10 ∷ e11 ∷ e12 ∷ e13 ∷ e14 ∷ e15·1 ∷ List.[]
 abbrev pub t6 : List.List Row.Entry
-t6 = e0 ∷ e1·1 ∷ e2·1 ∷ e3 ∷ e4 ∷ e5 ∷ e6 ∷ e7 ∷ e8 ∷ e9 ∷ e10 ∷ e11 ∷ e12 ∷ e13 ∷ e14·1 ∷ e15 ∷ List.[]
+t6 = e16·1 ∷ e17 ∷ e18 ∷ e19 ∷ e20 ∷ e21 ∷ e22 ∷ e23 ∷ e24 ∷ List.[]
 abbrev pub t7 : List.List Row.Entry
-t7 = e16·1 ∷ e17 ∷ e18 ∷ e19 ∷ e20 ∷ e21 ∷ e22 ∷ e23 ∷ List.[]
+t7 = e16 ∷ e17·1 ∷ e18 ∷ e19 ∷ e20 ∷ e21 ∷ e22 ∷ e23 ∷ e24 ∷ List.[]
 abbrev pub t8 : List.List Row.Entry
-t8 = e0 ∷ e1·1 ∷ e2·1 ∷ e3 ∷ e4 ∷ e5 ∷ e6 ∷ e7 ∷ e8·1 ∷ e9 ∷ e10 ∷ e11 ∷ e12 ∷ e13 ∷ e14·1 ∷ e15 ∷ List.[]
+t8 = e0 ∷ e1·1 ∷ e2·1 ∷ e3 ∷ e4 ∷ e5 ∷ e6 ∷ e7 ∷ e8 ∷ e9·1 ∷ e10 ∷ e11 ∷ e12 ∷ e13 ∷ e14 ∷ e15·1 ∷ List.[]
 abbrev pub t9 : List.List Row.Entry
-t9 = e0 ∷ e1·1 ∷ e2·1 ∷ e3 ∷ e4 ∷ e5 ∷ e6 ∷ e7 ∷ e8·1 ∷ e9 ∷ e10 ∷ e11 ∷ e12 ∷ e13 ∷ e14 ∷ e15 ∷ List.[]
+t9 = e0 ∷ e1·1 ∷ e2·1 ∷ e3 ∷ e4 ∷ e5 ∷ e6 ∷ e7 ∷ e8 ∷ e9·1 ∷ e10 ∷ e11 ∷ e12 ∷ e13 ∷ e14 ∷ e15 ∷ List.[]
 abbrev pub t10 : List.List Row.Entry
-t10 = e0 ∷ e1·1 ∷ e2·1 ∷ e3 ∷ e4 ∷ e5·1 ∷ e6 ∷ e7 ∷ e8·1 ∷ e9 ∷ e10 ∷ e11 ∷ e12 ∷ e13 ∷ e14 ∷ e15 ∷ List.[]
+t10 = e0 ∷ e1·1 ∷ e2·1 ∷ e3 ∷ e4 ∷ e5 ∷ e6·1 ∷ e7 ∷ e8 ∷ e9·1 ∷ e10 ∷ e11 ∷ e12 ∷ e13 ∷ e14 ∷ e15 ∷ List.[]
 abbrev pub t11 : List.List Row.Entry
-t11 = e0 ∷ e1 ∷ e2·1 ∷ e3 ∷ e4 ∷ e5·1 ∷ e6 ∷ e7 ∷ e8·1 ∷ e9 ∷ e10 ∷ e11 ∷ e12 ∷ e13 ∷ e14 ∷ e15 ∷ List.[]
+t11 = e0 ∷ e1 ∷ e2·1 ∷ e3 ∷ e4 ∷ e5 ∷ e6·1 ∷ e7 ∷ e8 ∷ e9·1 ∷ e10 ∷ e11 ∷ e12 ∷ e13 ∷ e14 ∷ e15 ∷ List.[]
 abbrev pub t12 : List.List Row.Entry
-t12 = e0 ∷ e1 ∷ e2 ∷ e3 ∷ e4 ∷ e5·1 ∷ e6 ∷ e7 ∷ e8·1 ∷ e9 ∷ e10 ∷ e11 ∷ e12 ∷ e13 ∷ e14 ∷ e15 ∷ List.[]
+t12 = e0 ∷ e1 ∷ e2 ∷ e3 ∷ e4 ∷ e5 ∷ e6·1 ∷ e7 ∷ e8 ∷ e9·1 ∷ e10 ∷ e11 ∷ e12 ∷ e13 ∷ e14 ∷ e15 ∷ List.[]
 abbrev pub t13 : List.List Row.Entry
-t13 = e0 ∷ e1 ∷ e2 ∷ e3 ∷ e4 ∷ e5·1 ∷ e6 ∷ e7 ∷ e8·1 ∷ e9·1 ∷ e10 ∷ e11 ∷ e12 ∷ e13 ∷ e14 ∷ e15 ∷ List.[]
+t13 = e0 ∷ e1 ∷ e2 ∷ e3 ∷ e4 ∷ e5 ∷ e6·1 ∷ e7 ∷ e8 ∷ e9·1 ∷ e10·1 ∷ e11 ∷ e12 ∷ e13 ∷ e14 ∷ e15 ∷ List.[]
 abbrev pub t14 : List.List Row.Entry
-t14 = e0 ∷ e1 ∷ e2 ∷ e3 ∷ e4 ∷ e5·1 ∷ e6 ∷ e7 ∷ e8·1 ∷ e9·1 ∷ e10·1 ∷ e11 ∷ e12 ∷ e13 ∷ e14 ∷ e15 ∷ List.[]
+t14 = e0 ∷ e1 ∷ e2 ∷ e3 ∷ e4 ∷ e5 ∷ e6·1 ∷ e7 ∷ e8 ∷ e9·1 ∷ e10·1 ∷ e11·1 ∷ e12 ∷ e13 ∷ e14 ∷ e15 ∷ List.[]
 abbrev pub t15 : List.List Row.Entry
-t15 = e0 ∷ e1 ∷ e2 ∷ e3 ∷ e4 ∷ e5·1 ∷ e6 ∷ e7 ∷ e8·1 ∷ e9·1 ∷ e10·1 ∷ e11·1 ∷ e12 ∷ e13 ∷ e14 ∷ e15 ∷ List.[]
+t15 = e0 ∷ e1 ∷ e2 ∷ e3 ∷ e4 ∷ e5 ∷ e6·1 ∷ e7 ∷ e8 ∷ e9·1 ∷ e10·1 ∷ e11·1 ∷ e12·1 ∷ e13 ∷ e14 ∷ e15 ∷ List.[]
 abbrev pub t16 : List.List Row.Entry
-t16 = e0 ∷ e1 ∷ e2 ∷ e3 ∷ e4 ∷ e5·1 ∷ e6 ∷ e7 ∷ e8·1 ∷ e9·1 ∷ e10·1 ∷ e11·1 ∷ e12·1 ∷ e13 ∷ e14 ∷ e15 ∷ List.[]
+t16 = e0 ∷ e1 ∷ e2 ∷ e3 ∷ e4 ∷ e5 ∷ e6·1 ∷ e7 ∷ e8 ∷ e9·1 ∷ e10·1 ∷ e11·1 ∷ e12·1 ∷ e13·1 ∷ e14 ∷ e15 ∷ List.[]
 abbrev pub t17 : List.List Row.Entry
-t17 = e0 ∷ e1·2 ∷ e2 ∷ e3 ∷ e4 ∷ e5·1 ∷ e6 ∷ e7 ∷ e8·1 ∷ e9·1 ∷ e10·1 ∷ e11·1 ∷ e12·1 ∷ e13 ∷ e14 ∷ e15 ∷ List.[]
+t17 = e0 ∷ e1·2 ∷ e2 ∷ e3 ∷ e4 ∷ e5 ∷ e6·1 ∷ e7 ∷ e8 ∷ e9·1 ∷ e10·1 ∷ e11·1 ∷ e12·1 ∷ e13·1 ∷ e14 ∷ e15 ∷ List.[]
 abbrev pub t18 : List.List Row.Entry
-t18 = e16 ∷ e17 ∷ e18·1 ∷ e19 ∷ e20 ∷ e21 ∷ e22 ∷ e23 ∷ List.[]
+t18 = e16 ∷ e17 ∷ e18 ∷ e19·1 ∷ e20 ∷ e21 ∷ e22 ∷ e23 ∷ e24 ∷ List.[]
 abbrev pub t19 : List.List Row.Entry
-t19 = e16 ∷ e17 ∷ e18 ∷ e19·1 ∷ e20 ∷ e21 ∷ e22 ∷ e23 ∷ List.[]
+t19 = e16 ∷ e17 ∷ e18 ∷ e19 ∷ e20·1 ∷ e21 ∷ e22 ∷ e23 ∷ e24 ∷ List.[]
 abbrev pub t20 : List.List Row.Entry
-t20 = e16 ∷ e17·1 ∷ e18 ∷ e19·2 ∷ e20 ∷ e21 ∷ e22 ∷ e23 ∷ List.[]
+t20 = e16 ∷ e17 ∷ e18·1 ∷ e19 ∷ e20·2 ∷ e21 ∷ e22 ∷ e23 ∷ e24 ∷ List.[]
 abbrev pub t21 : List.List Row.Entry
-t21 = e0 ∷ e1·2 ∷ e2 ∷ e3 ∷ e4 ∷ e5·1 ∷ e6 ∷ e7 ∷ e8 ∷ e9·1 ∷ e10·1 ∷ e11·1 ∷ e12·1 ∷ e13 ∷ e14 ∷ e15 ∷ List.[]
+t21 = e0 ∷ e1·2 ∷ e2 ∷ e3 ∷ e4 ∷ e5 ∷ e6·1 ∷ e7 ∷ e8 ∷ e9 ∷ e10·1 ∷ e11·1 ∷ e12·1 ∷ e13·1 ∷ e14 ∷ e15 ∷ List.[]
 abbrev pub t22 : List.List Row.Entry
-t22 = e0 ∷ e1·2 ∷ e2 ∷ e3 ∷ e4 ∷ e5·1 ∷ e6 ∷ e7 ∷ e8 ∷ e9·1 ∷ e10 ∷ e11·1 ∷ e12·1 ∷ e13 ∷ e14 ∷ e15 ∷ List.[]
+t22 = e0 ∷ e1·2 ∷ e2 ∷ e3 ∷ e4 ∷ e5 ∷ e6·1 ∷ e7 ∷ e8 ∷ e9 ∷ e10·1 ∷ e11 ∷ e12·1 ∷ e13·1 ∷ e14 ∷ e15 ∷ List.[]
 abbrev pub t23 : List.List Row.Entry
-t23 = e16 ∷ e17 ∷ e18 ∷ e19·2 ∷ e20 ∷ e21 ∷ e22 ∷ e23 ∷ List.[]
+t23 = e16 ∷ e17 ∷ e18 ∷ e19 ∷ e20·2 ∷ e21 ∷ e22 ∷ e23 ∷ e24 ∷ List.[]
 abbrev pub t24 : List.List Row.Entry
-t24 = e0 ∷ e1 ∷ e2 ∷ e3 ∷ e4 ∷ e5·1 ∷ e6 ∷ e7 ∷ e8 ∷ e9·1 ∷ e10 ∷ e11·1 ∷ e12·1 ∷ e13 ∷ e14 ∷ e15 ∷ List.[]
+t24 = e0 ∷ e1 ∷ e2 ∷ e3 ∷ e4 ∷ e5 ∷ e6·1 ∷ e7 ∷ e8 ∷ e9 ∷ e10·1 ∷ e11 ∷ e12·1 ∷ e13·1 ∷ e14 ∷ e15 ∷ List.[]
 abbrev pub t25 : List.List Row.Entry
-t25 = e0 ∷ e1 ∷ e2·2 ∷ e3 ∷ e4 ∷ e5·1 ∷ e6 ∷ e7 ∷ e8 ∷ e9·1 ∷ e10 ∷ e11·1 ∷ e12·1 ∷ e13 ∷ e14 ∷ e15 ∷ List.[]
+t25 = e0 ∷ e1 ∷ e2·2 ∷ e3 ∷ e4 ∷ e5 ∷ e6·1 ∷ e7 ∷ e8 ∷ e9 ∷ e10·1 ∷ e11 ∷ e12·1 ∷ e13·1 ∷ e14 ∷ e15 ∷ List.[]
 abbrev pub t26 : List.List Row.Entry
-t26 = e16 ∷ e17 ∷ e18 ∷ e19 ∷ e20·1 ∷ e21 ∷ e22 ∷ e23 ∷ List.[]
+t26 = e16 ∷ e17 ∷ e18 ∷ e19 ∷ e20 ∷ e21·1 ∷ e22 ∷ e23 ∷ e24 ∷ List.[]
 abbrev pub t27 : List.List Row.Entry
-t27 = e16 ∷ e17 ∷ e18 ∷ e19 ∷ e20 ∷ e21·1 ∷ e22 ∷ e23 ∷ List.[]
+t27 = e16 ∷ e17 ∷ e18 ∷ e19 ∷ e20 ∷ e21 ∷ e22·1 ∷ e23 ∷ e24 ∷ List.[]
 abbrev pub t28 : List.List Row.Entry
-t28 = e0 ∷ e1 ∷ e2·2 ∷ e3·1 ∷ e4 ∷ e5·1 ∷ e6 ∷ e7 ∷ e8 ∷ e9·1 ∷ e10 ∷ e11·1 ∷ e12·1 ∷ e13 ∷ e14 ∷ e15 ∷ List.[]
+t28 = e0 ∷ e1 ∷ e2·2 ∷ e3·1 ∷ e4 ∷ e5 ∷ e6·1 ∷ e7 ∷ e8 ∷ e9 ∷ e10·1 ∷ e11 ∷ e12·1 ∷ e13·1 ∷ e14 ∷ e15 ∷ List.[]
 abbrev pub t29 : List.List Row.Entry
-t29 = e16 ∷ e17 ∷ e18 ∷ e19 ∷ e20 ∷ e21·1 ∷ e22·1 ∷ e23 ∷ List.[]
+t29 = e16 ∷ e17 ∷ e18 ∷ e19 ∷ e20 ∷ e21 ∷ e22·1 ∷ e23·1 ∷ e24 ∷ List.[]
 abbrev pub t30 : List.List Row.Entry
-t30 = e16 ∷ e17 ∷ e18 ∷ e19 ∷ e20 ∷ e21·1 ∷ e22 ∷ e23·1 ∷ List.[]
+t30 = e16 ∷ e17 ∷ e18 ∷ e19 ∷ e20 ∷ e21 ∷ e22·1 ∷ e23 ∷ e24·1 ∷ List.[]
 abbrev pub t31 : List.List Row.Entry
-t31 = e0·1 ∷ e1 ∷ e2·2 ∷ e3·1 ∷ e4 ∷ e5·1 ∷ e6 ∷ e7 ∷ e8 ∷ e9·1 ∷ e10 ∷ e11·1 ∷ e12·1 ∷ e13 ∷ e14 ∷ e15 ∷ List.[]
+t31 = e0·1 ∷ e1 ∷ e2·2 ∷ e3·1 ∷ e4 ∷ e5 ∷ e6·1 ∷ e7 ∷ e8 ∷ e9 ∷ e10·1 ∷ e11 ∷ e12·1 ∷ e13·1 ∷ e14 ∷ e15 ∷ List.[]
 abbrev pub t32 : List.List Row.Entry
-t32 = e16 ∷ e17 ∷ e18 ∷ e19 ∷ e20 ∷ e21·2 ∷ e22 ∷ e23·2 ∷ List.[]
+t32 = e16 ∷ e17 ∷ e18 ∷ e19 ∷ e20 ∷ e21 ∷ e22·2 ∷ e23 ∷ e24·2 ∷ List.[]
 abbrev pub t33 : List.List Row.Entry
-t33 = e0·1 ∷ e1 ∷ e2·2 ∷ e3·1 ∷ e4·1 ∷ e5·1 ∷ e6 ∷ e7 ∷ e8 ∷ e9·1 ∷ e10 ∷ e11·1 ∷ e12·1 ∷ e13 ∷ e14 ∷ e15 ∷ List.[]
+t33 = e0·1 ∷ e1 ∷ e2·2 ∷ e3·1 ∷ e4·1 ∷ e5 ∷ e6·1 ∷ e7 ∷ e8 ∷ e9 ∷ e10·1 ∷ e11 ∷ e12·1 ∷ e13·1 ∷ e14 ∷ e15 ∷ List.[]
 abbrev pub t34 : List.List Row.Entry
-t34 = e0·1 ∷ e1 ∷ e2·2 ∷ e3·1 ∷ e4·1 ∷ e5·1 ∷ e6 ∷ e7 ∷ e8 ∷ e9 ∷ e10 ∷ e11·1 ∷ e12·1 ∷ e13 ∷ e14 ∷ e15 ∷ List.[]
+t34 = e0·1 ∷ e1 ∷ e2·2 ∷ e3·1 ∷ e4·1 ∷ e5·1 ∷ e6·1 ∷ e7 ∷ e8 ∷ e9 ∷ e10·1 ∷ e11 ∷ e12·1 ∷ e13·1 ∷ e14 ∷ e15 ∷ List.[]
 abbrev pub t35 : List.List Row.Entry
-t35 = e0·1 ∷ e1 ∷ e2·2 ∷ e3·1 ∷ e4·1 ∷ e5·1 ∷ e6 ∷ e7 ∷ e8 ∷ e9 ∷ e10 ∷ e11 ∷ e12·1 ∷ e13 ∷ e14 ∷ e15 ∷ List.[]
+t35 = e0·1 ∷ e1 ∷ e2·2 ∷ e3·1 ∷ e4·1 ∷ e5·1 ∷ e6·1 ∷ e7 ∷ e8 ∷ e9 ∷ e10 ∷ e11 ∷ e12·1 ∷ e13·1 ∷ e14 ∷ e15 ∷ List.[]
 abbrev pub t36 : List.List Row.Entry
-t36 = e0·1 ∷ e1 ∷ e2·2 ∷ e3·1 ∷ e4·1 ∷ e5·1 ∷ e6 ∷ e7 ∷ e8 ∷ e9 ∷ e10 ∷ e11 ∷ e12 ∷ e13 ∷ e14 ∷ e15 ∷ List.[]
+t36 = e0·1 ∷ e1 ∷ e2·2 ∷ e3·1 ∷ e4·1 ∷ e5·1 ∷ e6·1 ∷ e7 ∷ e8 ∷ e9 ∷ e10 ∷ e11 ∷ e12 ∷ e13·1 ∷ e14 ∷ e15 ∷ List.[]
 abbrev pub t37 : List.List Row.Entry
-t37 = e0·1 ∷ e1 ∷ e2 ∷ e3·1 ∷ e4·1 ∷ e5·1 ∷ e6 ∷ e7 ∷ e8 ∷ e9 ∷ e10 ∷ e11 ∷ e12 ∷ e13 ∷ e14 ∷ e15 ∷ List.[]
+t37 = e0·1 ∷ e1 ∷ e2·2 ∷ e3·1 ∷ e4·1 ∷ e5·1 ∷ e6·1 ∷ e7 ∷ e8 ∷ e9 ∷ e10 ∷ e11 ∷ e12 ∷ e13 ∷ e14 ∷ e15 ∷ List.[]
 abbrev pub t38 : List.List Row.Entry
-t38 = e16 ∷ e17 ∷ e18 ∷ e19 ∷ e20 ∷ e21 ∷ e22 ∷ e23·2 ∷ List.[]
+t38 = e0·1 ∷ e1 ∷ e2 ∷ e3·1 ∷ e4·1 ∷ e5·1 ∷ e6·1 ∷ e7 ∷ e8 ∷ e9 ∷ e10 ∷ e11 ∷ e12 ∷ e13 ∷ e14 ∷ e15 ∷ List.[]
+abbrev pub t39 : List.List Row.Entry
+t39 = e16 ∷ e17 ∷ e18 ∷ e19 ∷ e20 ∷ e21 ∷ e22 ∷ e23 ∷ e24·2 ∷ List.[]
 abbrev pub T0 : Row.Cx
 T0 = record { locals = List._++_ t0 t1; slots = List.[] }
 abbrev pub T1 : Row.Cx
@@ -477,9 +506,9 @@ T6 = record { locals = List._++_ t3 t1; slots = List.[] }
 abbrev pub T7 : Row.Cx
 T7 = record { locals = List._++_ t4 t1; slots = List.[] }
 abbrev pub T9 : Row.Cx
-T9 = record { locals = List._++_ t5 t1; slots = List.[] }
+T9 = record { locals = List._++_ t5 t6; slots = List.[] }
 abbrev pub T10 : Row.Cx
-T10 = record { locals = List._++_ t6 t7; slots = List.[] }
+T10 = record { locals = List._++_ t5 t7; slots = List.[] }
 abbrev pub T11 : Row.Cx
 T11 = record { locals = List._++_ t8 t7; slots = List.[] }
 abbrev pub T12 : Row.Cx
@@ -532,109 +561,114 @@ abbrev pub T44 : Row.Cx
 T44 = record { locals = List._++_ t35 t32; slots = List.[] }
 abbrev pub T45 : Row.Cx
 T45 = record { locals = List._++_ t36 t32; slots = List.[] }
-abbrev pub T47 : Row.Cx
-T47 = record { locals = List._++_ t37 t38; slots = List.[] }
-abbrev pub T50 : Row.Cx
-T50 = record { locals = List._++_ t2 t1; slots = List.[] }
+abbrev pub T46 : Row.Cx
+T46 = record { locals = List._++_ t37 t32; slots = List.[] }
+abbrev pub T48 : Row.Cx
+T48 = record { locals = List._++_ t38 t39; slots = List.[] }
 abbrev pub T51 : Row.Cx
 T51 = record { locals = List._++_ t2 t1; slots = List.[] }
+abbrev pub T52 : Row.Cx
+T52 = record { locals = List._++_ t2 t1; slots = List.[] }
 abbrev pub O0 : Typed.Outs
 O0 = record { next = Option.none; exits = List.[]; returns = Option.some T1 }
 module _ (claims· : Claims) where
   abbrev s0 : (bs : List.List Nat.ℕ) → Typed.Gives T0 T2
   s0 = λ bs. Know.k-sl-known (Referent.fInt Syntax.w32) T0 3 2 ref7 Row.off 0 λ x. x
   abbrev s1 : (bs : List.List Nat.ℕ) → Typed.Gives T2 T3
-  s1 = λ bs. Know.k-shs-known (Referent.fInt Syntax.w8) T2 6 3 ref8 Row.off 0 λ x. x
+  s1 = λ bs. Know.k-shs-known (Referent.fInt Syntax.w8) T2 7 3 ref8 Row.off 0 λ x. x
   abbrev s2 : (bs : List.List Nat.ℕ) → Typed.Gives T3 T4
-  s2 = λ bs. Know.k-shs-known (Referent.fInt Syntax.w8) T3 7 4 ref9 Row.off 0 λ x. x
+  s2 = λ bs. Know.k-shs-known (Referent.fInt Syntax.w8) T3 8 4 ref9 Row.off 0 λ x. x
   abbrev s4 : (bs : List.List Nat.ℕ) → Typed.Gives T4 T6
-  s4 = λ bs. Reshare.k-sl-reshare RelayCircuit.row T4 1 13 0 5 ref5 ref0 Row.off λ x. x
+  s4 = λ bs. Reshare.k-sl-reshare RelayCircuit.row T4 1 14 0 5 ref5 ref0 Row.off λ x. x
   abbrev s5 : (bs : List.List Nat.ℕ) → Typed.Asks T6 T7
-  s5 = λ bs. Relend.k-sl-aggregate RelayCircuit.row (Relend.asShr RelayCircuit.row) T6 13 14 5 ref0 ref0 (λ x. x) (Scalar.oFld 1 ((Syntax.field 1) ∷
+  s5 = λ bs. Relend.k-sl-aggregate RelayCircuit.row (Relend.asShr RelayCircuit.row) T6 14 15 5 ref0 ref0 (λ x. x) (Scalar.oFld 1 ((Syntax.field 1) ∷
       List.[]) (Syntax.tyInt Syntax.w64) 8 λ v. Shared.lenV (v .0))
   abbrev s7 : (bs : List.List Nat.ℕ) → Typed.Gives T7 T9
-  s7 = λ bs. Reshare.k-sl-reshare InflightAction.row T7 2 15 1 6 ref6 ref1 Row.off λ x. x
+  s7 = λ bs. Reshare.k-sl-reshare InflightAction.row T7 2 16 1 6 ref6 ref1 Row.off λ x. x
   abbrev s8 : (bs : List.List Nat.ℕ) → Typed.Asks T9 T10
-  s8 = λ bs. Relend.k-sl-aggregate InflightAction.row (Relend.asShr InflightAction.row) T9 15 16 6 ref1 ref1 (λ x. x) (Scalar.oFld 2 ((Syntax.field 1)
+  s8 = λ bs. Relend.k-sl-aggregate InflightAction.row (Relend.asShr InflightAction.row) T9 16 17 6 ref1 ref1 (λ x. x) (Scalar.oFld 2 ((Syntax.field 1)
       ∷ List.[]) (Syntax.tyInt Syntax.w64) 8 λ v. Shared.lenV (v .0))
   abbrev s9 : (bs : List.List Nat.ℕ) → Typed.Both T10 T11
-  s9 = λ bs. Call.callB ps·0 r·0 (claims· .0) (claims· .1) T10 (record { pos = 14; ty = Syntax.tyRef Syntax.erased Syntax.imm RelayCircuit.to; ref = λ
-      x. x; }, (record { pos = 16; ty = Syntax.tyRef Syntax.erased Syntax.imm InflightAction.to; ref = λ x. x; }, (record { pos = 4; st = List.[]; d =
-      0; at = λ x. x }, (record { pos = 5; st = List.[]; d = 0; at = λ x. x }, (record { pos = 6; ty = Syntax.tyRef (Syntax.named 3) Syntax.imm
-      (Syntax.tyInt Syntax.w8); ref = λ x. x; }, (record { pos = 7; ty = Syntax.tyRef (Syntax.named 4) Syntax.imm (Syntax.tyInt Syntax.w8); ref = λ x.
-      x; }, tt,),),),),),) 8 (5 ∷ 6 ∷ 3 ∷ 4 ∷ List.[]) Laws'''''''.mir
+  s9 = λ bs. Call.callB ps·0 r·0 (claims· .0) (claims· .1) T10 (record { pos = 15; ty = Syntax.tyRef Syntax.erased Syntax.imm RelayCircuit.to; ref = λ
+      x. x; }, (record { pos = 17; ty = Syntax.tyRef Syntax.erased Syntax.imm InflightAction.to; ref = λ x. x; }, (record { pos = 4; st = List.[]; d =
+      0; at = λ x. x }, (record { pos = 5; st = List.[]; d = 0; at = λ x. x }, (record { pos = 6; st = List.[]; d = 0; at = λ x. x }, (record { pos =
+      7; ty = Syntax.tyRef (Syntax.named 3) Syntax.imm (Syntax.tyInt Syntax.w8); ref = λ x. x; }, (record { pos = 8; ty = Syntax.tyRef (Syntax.named
+      4) Syntax.imm (Syntax.tyInt Syntax.w8); ref = λ x. x; }, tt,),),),),),),) 9 (5 ∷ 6 ∷ 3 ∷ 4 ∷ List.[]) Laws''''''''.mir
   abbrev s10 : (bs : List.List Nat.ℕ) → Typed.Mo T11 → Typed.Mo T12
-  s10 = λ bs. Scalar.n-room T11 14 (Syntax.tyStruct (38 ∷ 91 ∷ 93 ∷ List.[]) (Syntax.tcons ref0 (Syntax.tcons (Syntax.tyInt Syntax.w64) Syntax.tnil)))
+  s10 = λ bs. Scalar.n-room T11 15 (Syntax.tyStruct (38 ∷ 91 ∷ 93 ∷ List.[]) (Syntax.tcons ref0 (Syntax.tcons (Syntax.tyInt Syntax.w64) Syntax.tnil)))
   abbrev s11 : (bs : List.List Nat.ℕ) → Typed.Mo T12 → Typed.Mo T13
-  s11 = λ bs. Scalar.n-room T12 16 (Syntax.tyStruct (38 ∷ 91 ∷ 93 ∷ List.[]) (Syntax.tcons ref1 (Syntax.tcons (Syntax.tyInt Syntax.w64) Syntax.tnil)))
+  s11 = λ bs. Scalar.n-room T12 17 (Syntax.tyStruct (38 ∷ 91 ∷ 93 ∷ List.[]) (Syntax.tcons ref1 (Syntax.tcons (Syntax.tyInt Syntax.w64) Syntax.tnil)))
   abbrev s12 : (bs : List.List Nat.ℕ) → Typed.Mo T13 → Typed.Mo T14
-  s12 = λ bs. Scalar.n-room T13 5 Laws'''.mir
+  s12 = λ bs. Scalar.n-room T13 6 Laws''''.mir
   abbrev s14 : (bs : List.List Nat.ℕ) → Typed.Mo T14 → Typed.Mo T16
   s14 = λ bs. Reshare.n-back-sl-shr RelayCircuit.row T14 1 0 5 ref5 Row.off λ x. x
   abbrev s17 : (bs : List.List Nat.ℕ) → Typed.Mo T16 → Typed.Mo T19
   s17 = λ bs. Reshare.n-back-sl-shr InflightAction.row T16 2 1 6 ref6 Row.off λ x. x
   abbrev s19 : (bs : List.List Nat.ℕ) → Typed.Mo T19 → Typed.Mo T21
-  s19 = λ bs. Make.n-make (Declared.row HnsrAnswer.the-type) T19 9 λ m. WindowPlan.struct .as-values (m .1 .1 .1 .1 .1 .1 .1 .1 .0) .0
+  s19 = λ bs. Make.n-make (Declared.row HnsrAnswer.the-type) T19 10 λ m. WindowPlan.struct .as-values (m .1 .1 .1 .1 .1 .1 .1 .1 .1 .0) .0
   abbrev s20 : (bs : List.List Nat.ℕ) → Typed.Mo T21 → Typed.Mo T22
-  s20 = λ bs. Make.n-make (Declared.row RelaySide.the-type) T21 10 λ m. WindowPlan.struct .as-values (m .1 .1 .1 .1 .1 .1 .1 .1 .0) .1 .1 .1 .0
+  s20 = λ bs. Make.n-make (Declared.row RelaySide.the-type) T21 11 λ m. WindowPlan.struct .as-values (m .1 .1 .1 .1 .1 .1 .1 .1 .1 .0) .1 .1 .1 .0
   abbrev s21 : (bs : List.List Nat.ℕ) → Typed.Both T22 T23
-  s21 = λ bs. WayStmt.k-way-copy-out T22 (Row.out 8 (T22 .locals)) (λ u. Row.drop 8 (T22 .locals) u) 11 (Rows.whole (Declared'.row Outgoing.the-type))
-      (λ u. At.getAt (WindowPlan.the-type .parts) 5 (WindowPlan.struct .as-values (u .1 .1 .1 .1 .1 .1 .1 .1 .0))) (λ T′. record { locals = Row.setRow
-      8 (8, Rows.whole (Declared'.row WindowPlan.the-type)) T′; slots = List.[]; }) (λ u T′ m′. Row.set 8 (8, Rows.whole (Declared'.row
-      WindowPlan.the-type)) (u .1 .1 .1 .1 .1 .1 .1 .1 .0) T′ m′) (λ u. Unit) λ u. Unit
+  s21 = λ bs. WayStmt.k-way-copy-out T22 (Row.out 9 (T22 .locals)) (λ u. Row.drop 9 (T22 .locals) u) 12 (Rows.whole (Declared'.row Outgoing.the-type))
+      (λ u. At.getAt (WindowPlan.the-type .parts) 5 (WindowPlan.struct .as-values (u .1 .1 .1 .1 .1 .1 .1 .1 .1 .0))) (λ T′. record { locals =
+      Row.setRow 9 (9, Rows.whole (Declared'.row WindowPlan.the-type)) T′; slots = List.[]; }) (λ u T′ m′. Row.set 9 (9, Rows.whole (Declared'.row
+      WindowPlan.the-type)) (u .1 .1 .1 .1 .1 .1 .1 .1 .1 .0) T′ m′) (λ u. Unit) λ u. Unit
   abbrev s22 : (bs : List.List Nat.ℕ) → Typed.Both T23 T24
-  s22 = λ bs. WayStmt.k-way-copy-out T23 (Row.out 8 (T23 .locals)) (λ u. Row.drop 8 (T23 .locals) u) 12 (Rows.whole (Declared'.row
-      ActionScan.the-type)) (λ u. At.getAt (WindowPlan.the-type .parts) 6 (WindowPlan.struct .as-values (u .1 .1 .1 .1 .1 .1 .1 .1 .0))) (λ T′. record
-      { locals = Row.setRow 8 (8, Rows.whole (Declared'.row WindowPlan.the-type)) T′; slots = List.[]; }) (λ u T′ m′. Row.set 8 (8, Rows.whole
-      (Declared'.row WindowPlan.the-type)) (u .1 .1 .1 .1 .1 .1 .1 .1 .0) T′ m′) (λ u. Unit) λ u. Unit
+  s22 = λ bs. WayStmt.k-way-copy-out T23 (Row.out 9 (T23 .locals)) (λ u. Row.drop 9 (T23 .locals) u) 13 (Rows.whole (Declared'.row
+      ActionScan.the-type)) (λ u. At.getAt (WindowPlan.the-type .parts) 6 (WindowPlan.struct .as-values (u .1 .1 .1 .1 .1 .1 .1 .1 .1 .0))) (λ T′.
+      record { locals = Row.setRow 9 (9, Rows.whole (Declared'.row WindowPlan.the-type)) T′; slots = List.[]; }) (λ u T′ m′. Row.set 9 (9, Rows.whole
+      (Declared'.row WindowPlan.the-type)) (u .1 .1 .1 .1 .1 .1 .1 .1 .1 .0) T′ m′) (λ u. Unit) λ u. Unit
   abbrev s24 : (bs : List.List Nat.ℕ) → Typed.Gives T24 T26
-  s24 = λ bs. Relend.k-sl-relend RelayCircuit.row T24 1 18 0 7 ref5 ref2 Row.off λ x. x
+  s24 = λ bs. Relend.k-sl-relend RelayCircuit.row T24 1 19 0 7 ref5 ref2 Row.off λ x. x
   abbrev s25 : (bs : List.List Nat.ℕ) → Typed.Asks T26 T27
-  s25 = λ bs. Relend.k-sl-aggregate RelayCircuit.row (Relend.asMut RelayCircuit.row) T26 18 19 7 ref2 ref2 (λ x. x) (Scalar.oFld 1 ((Syntax.field 1) ∷
+  s25 = λ bs. Relend.k-sl-aggregate RelayCircuit.row (Relend.asMut RelayCircuit.row) T26 19 20 7 ref2 ref2 (λ x. x) (Scalar.oFld 1 ((Syntax.field 1) ∷
       List.[]) (Syntax.tyInt Syntax.w64) 8 λ v. Shared.lenV (v .0))
   abbrev s26 : (bs : List.List Nat.ℕ) → Typed.Both T27 T28
-  s26 = λ bs. Call.callB ps·1 r·1 (claims· .2) (claims· .3) T27 (record { pos = 19; ty = Syntax.tyRef Syntax.erased Syntax.mut RelayCircuit.to; ref =
-      λ x. x; }, (Bool.bFld 8 ((Syntax.field 1) ∷ List.[]) 48 λ x. WindowPlan.struct .as-values x .1 .0, (Num.vFld 8 ((Syntax.field 2) ∷ List.[]) 56 λ
-      x. WindowPlan.struct .as-values x .1 .1 .0, (record { pos = 10; st = List.[]; d = 0; at = λ x. x }, (Num.vFld 8 ((Syntax.field 4) ∷ List.[]) 68
-      λ x. WindowPlan.struct .as-values x .1 .1 .1 .1 .0, tt,),),),),) 17 (7 ∷ List.[]) Syntax.tyUnit
+  s26 = λ bs. Call.callB ps·1 r·1 (claims· .2) (claims· .3) T27 (record { pos = 20; ty = Syntax.tyRef Syntax.erased Syntax.mut RelayCircuit.to; ref =
+      λ x. x; }, (record { pos = 5; st = List.[]; d = 0; at = λ x. x }, (Bool.bFld 9 ((Syntax.field 1) ∷ List.[]) 48 λ x. WindowPlan.struct .as-values
+      x .1 .0, (Num.vFld 9 ((Syntax.field 2) ∷ List.[]) 56 λ x. WindowPlan.struct .as-values x .1 .1 .0, (record { pos = 11; st = List.[]; d = 0; at =
+      λ x. x }, (Num.vFld 9 ((Syntax.field 4) ∷ List.[]) 68 λ x. WindowPlan.struct .as-values x .1 .1 .1 .1 .0, tt,),),),),),) 18 (7 ∷ List.[])
+      Syntax.tyUnit
   abbrev s27 : (bs : List.List Nat.ℕ) → Typed.Mo T28 → Typed.Mo T29
-  s27 = λ bs. Scalar.n-room T28 8 Laws'''''''.mir
+  s27 = λ bs. Scalar.n-room T28 9 Laws''''''''.mir
   abbrev s28 : (bs : List.List Nat.ℕ) → Typed.Mo T29 → Typed.Mo T30
-  s28 = λ bs. Scalar.n-room T29 10 Laws''''.mir
+  s28 = λ bs. Scalar.n-room T29 11 Laws'''''.mir
   abbrev s29 : (bs : List.List Nat.ℕ) → Typed.Mo T30 → Typed.Mo T31
-  s29 = λ bs. Scalar.n-room T30 17 Syntax.tyUnit
+  s29 = λ bs. Scalar.n-room T30 18 Syntax.tyUnit
   abbrev s31 : (bs : List.List Nat.ℕ) → Typed.Both T31 T33
-  s31 = λ bs. Relend.k-back-sl RelayCircuit.row T31 19 1 0 7 ref5 ref2 Row.off (λ x. x) λ x. x
+  s31 = λ bs. Relend.k-back-sl RelayCircuit.row T31 20 1 0 7 ref5 ref2 Row.off (λ x. x) λ x. x
   abbrev s34 : (bs : List.List Nat.ℕ) → Typed.Gives T33 T36
-  s34 = λ bs. Relend.k-sl-relend InflightAction.row T33 2 20 1 8 ref6 ref3 Row.off λ x. x
+  s34 = λ bs. Relend.k-sl-relend InflightAction.row T33 2 21 1 8 ref6 ref3 Row.off λ x. x
   abbrev s35 : (bs : List.List Nat.ℕ) → Typed.Asks T36 T37
-  s35 = λ bs. Relend.k-sl-aggregate InflightAction.row (Relend.asMut InflightAction.row) T36 20 21 8 ref3 ref3 (λ x. x) (Scalar.oFld 2 ((Syntax.field
+  s35 = λ bs. Relend.k-sl-aggregate InflightAction.row (Relend.asMut InflightAction.row) T36 21 22 8 ref3 ref3 (λ x. x) (Scalar.oFld 2 ((Syntax.field
       1) ∷ List.[]) (Syntax.tyInt Syntax.w64) 8 λ v. Shared.lenV (v .0))
   abbrev s37 : (bs : List.List Nat.ℕ) → Typed.Gives T37 T39
-  s37 = λ bs. Relend.k-sl-relend (Referent.rtF (Referent.fInt Syntax.w32)) T37 3 22 2 9 ref7 ref4 Row.off λ x. x
+  s37 = λ bs. Relend.k-sl-relend (Referent.rtF (Referent.fInt Syntax.w32)) T37 3 23 2 9 ref7 ref4 Row.off λ x. x
   abbrev s38 : (bs : List.List Nat.ℕ) → Typed.Asks T39 T40
-  s38 = λ bs. Relend.k-sl-aggregate (Referent.rtF (Referent.fInt Syntax.w32)) (Relend.asMut (Referent.rtF (Referent.fInt Syntax.w32))) T39 22 23 9
+  s38 = λ bs. Relend.k-sl-aggregate (Referent.rtF (Referent.fInt Syntax.w32)) (Relend.asMut (Referent.rtF (Referent.fInt Syntax.w32))) T39 23 24 9
       ref4 ref4 (λ x. x) (Scalar.oFld 3 ((Syntax.field 1) ∷ List.[]) (Syntax.tyInt Syntax.w64) 8 λ v. Shared.lenV (v .0))
   abbrev s39 : (bs : List.List Nat.ℕ) → Typed.Both T40 T41
-  s39 = λ bs. Call.callB ps·2 r·2 (claims· .4) (claims· .5) T40 (record { pos = 21; ty = Syntax.tyRef Syntax.erased Syntax.mut InflightAction.to; ref
-      = λ x. x; }, (record { pos = 23; ty = Syntax.tyRef Syntax.erased Syntax.mut (Syntax.tyInt Syntax.w32); ref = λ x. x; }, (record { pos = 9; st =
-      List.[]; d = 0; at = λ x. x }, (record { pos = 4; st = List.[]; d = 0; at = λ x. x }, (record { pos = 11; st = List.[]; d = 0; at = λ x. x },
-      (record { pos = 12; st = List.[]; d = 0; at = λ x. x }, (record { pos = 7; ty = Syntax.tyRef (Syntax.named 4) Syntax.imm (Syntax.tyInt
-      Syntax.w8); ref = λ x. x; }, tt,),),),),),),) 0 (8 ∷ 9 ∷ 4 ∷ List.[]) Laws''''''.mir
+  s39 = λ bs. Call.callB ps·2 r·2 (claims· .4) (claims· .5) T40 (record { pos = 22; ty = Syntax.tyRef Syntax.erased Syntax.mut InflightAction.to; ref
+      = λ x. x; }, (record { pos = 24; ty = Syntax.tyRef Syntax.erased Syntax.mut (Syntax.tyInt Syntax.w32); ref = λ x. x; }, (record { pos = 10; st =
+      List.[]; d = 0; at = λ x. x }, (record { pos = 4; st = List.[]; d = 0; at = λ x. x }, (record { pos = 5; st = List.[]; d = 0; at = λ x. x },
+      (record { pos = 12; st = List.[]; d = 0; at = λ x. x }, (record { pos = 13; st = List.[]; d = 0; at = λ x. x }, (record { pos = 8; ty =
+      Syntax.tyRef (Syntax.named 4) Syntax.imm (Syntax.tyInt Syntax.w8); ref = λ x. x; }, tt,),),),),),),),) 0 (8 ∷ 9 ∷ 4 ∷ List.[]) Laws'''''''.mir
   abbrev s40 : (bs : List.List Nat.ℕ) → Typed.Mo T41 → Typed.Mo T42
-  s40 = λ bs. Scalar.n-room T41 4 Laws'''''.mir
+  s40 = λ bs. Scalar.n-room T41 4 Laws''''''.mir
   abbrev s41 : (bs : List.List Nat.ℕ) → Typed.Mo T42 → Typed.Mo T43
-  s41 = λ bs. Scalar.n-room T42 9 Laws.mir
+  s41 = λ bs. Scalar.n-room T42 5 Laws'.mir
   abbrev s42 : (bs : List.List Nat.ℕ) → Typed.Mo T43 → Typed.Mo T44
-  s42 = λ bs. Scalar.n-room T43 11 Laws''.mir
+  s42 = λ bs. Scalar.n-room T43 10 Laws.mir
   abbrev s43 : (bs : List.List Nat.ℕ) → Typed.Mo T44 → Typed.Mo T45
-  s43 = λ bs. Scalar.n-room T44 12 Laws'.mir
-  abbrev s45 : (bs : List.List Nat.ℕ) → Typed.Both T45 T47
-  s45 = λ bs. Relend.k-back-sl InflightAction.row T45 21 2 1 8 ref6 ref3 Row.off (λ x. x) λ x. x
-  abbrev s48 : (bs : List.List Nat.ℕ) → Typed.Both T47 T50
-  s48 = λ bs. Relend.k-back-sl (Referent.rtF (Referent.fInt Syntax.w32)) T47 23 3 2 9 ref7 ref4 Row.off (λ x. x) λ x. x
-  abbrev s49 : (bs : List.List Nat.ℕ) → Typed.Gives T50 T51
-  s49 = λ bs. Know.k-sl-known (Referent.fInt Syntax.w32) T50 3 2 ref7 Row.off 0 λ x. x
+  s43 = λ bs. Scalar.n-room T44 12 Laws'''.mir
+  abbrev s44 : (bs : List.List Nat.ℕ) → Typed.Mo T45 → Typed.Mo T46
+  s44 = λ bs. Scalar.n-room T45 13 Laws''.mir
+  abbrev s46 : (bs : List.List Nat.ℕ) → Typed.Both T46 T48
+  s46 = λ bs. Relend.k-back-sl InflightAction.row T46 22 2 1 8 ref6 ref3 Row.off (λ x. x) λ x. x
+  abbrev s49 : (bs : List.List Nat.ℕ) → Typed.Both T48 T51
+  s49 = λ bs. Relend.k-back-sl (Referent.rtF (Referent.fInt Syntax.w32)) T48 24 3 2 9 ref7 ref4 Row.off (λ x. x) λ x. x
+  abbrev s50 : (bs : List.List Nat.ℕ) → Typed.Gives T51 T52
+  s50 = λ bs. Know.k-sl-known (Referent.fInt Syntax.w32) T51 3 2 ref7 Row.off 0 λ x. x
   module _ (Pre· : (κs : Lifetimes.Lfts 5) → Kinds.Dens κs ps → Type 0) (Post· : (κs : Lifetimes.Lfts 5) → (a : Kinds.Dens κs ps) → Kinds.Plain 5 ps r
       κs) where
     module _ (M : Type 1) where
@@ -645,112 +679,114 @@ module _ (claims· : Claims) where
           "hnsr_circuit::queue::send") → Statement.Triple 𝓤 (Wp.WpFn 𝓤 H (𝓣 .C) (𝓣 .Λ) (Function.fnOf 5 ps r xs m hs body)) (Function.plainOf 𝓤 H A 5
           ps r Pre· Post·)
     module _ where
-      abbrev at0 : (bs : List.List Nat.ℕ) → Typed.TF T51 O0
+      abbrev at0 : (bs : List.List Nat.ℕ) → Typed.TF T52 O0
       at0 = λ bs. Typed.atRet O0
-      abbrev at1 : (bs : List.List Nat.ℕ) → Typed.TF T51 O0
+      abbrev at1 : (bs : List.List Nat.ℕ) → Typed.TF T52 O0
       at1 = λ bs. λ Ψ. at0 bs Ψ
-      abbrev at2 : (bs : List.List Nat.ℕ) → Typed.TF T50 O0
-      at2 = λ bs. λ Ψ. Typed.give (s49 bs) (at1 bs Ψ)
-      abbrev at3 : (bs : List.List Nat.ℕ) → Typed.TF T47 O0
-      at3 = λ bs. λ Ψ. Typed.both (s48 bs) (at2 bs Ψ)
-      abbrev at4 : (bs : List.List Nat.ℕ) → Typed.TF T47 O0
+      abbrev at2 : (bs : List.List Nat.ℕ) → Typed.TF T51 O0
+      at2 = λ bs. λ Ψ. Typed.give (s50 bs) (at1 bs Ψ)
+      abbrev at3 : (bs : List.List Nat.ℕ) → Typed.TF T48 O0
+      at3 = λ bs. λ Ψ. Typed.both (s49 bs) (at2 bs Ψ)
+      abbrev at4 : (bs : List.List Nat.ℕ) → Typed.TF T48 O0
       at4 = λ bs. λ Ψ. at3 bs Ψ
-      abbrev at5 : (bs : List.List Nat.ℕ) → Typed.TF T47 O0
+      abbrev at5 : (bs : List.List Nat.ℕ) → Typed.TF T48 O0
       at5 = λ bs. λ Ψ. at4 bs Ψ
-      abbrev at6 : (bs : List.List Nat.ℕ) → Typed.TF T45 O0
-      at6 = λ bs. λ Ψ. Typed.both (s45 bs) (at5 bs Ψ)
-      abbrev at7 : (bs : List.List Nat.ℕ) → Typed.TF T45 O0
+      abbrev at6 : (bs : List.List Nat.ℕ) → Typed.TF T46 O0
+      at6 = λ bs. λ Ψ. Typed.both (s46 bs) (at5 bs Ψ)
+      abbrev at7 : (bs : List.List Nat.ℕ) → Typed.TF T46 O0
       at7 = λ bs. λ Ψ. at6 bs Ψ
-      abbrev at8 : (bs : List.List Nat.ℕ) → Typed.TF T44 O0
-      at8 = λ bs. λ Ψ. Typed.pass T44 T45 (s43 bs) (at7 bs Ψ)
-      abbrev at9 : (bs : List.List Nat.ℕ) → Typed.TF T43 O0
-      at9 = λ bs. λ Ψ. Typed.pass T43 T44 (s42 bs) (at8 bs Ψ)
-      abbrev at10 : (bs : List.List Nat.ℕ) → Typed.TF T42 O0
-      at10 = λ bs. λ Ψ. Typed.pass T42 T43 (s41 bs) (at9 bs Ψ)
-      abbrev at11 : (bs : List.List Nat.ℕ) → Typed.TF T41 O0
-      at11 = λ bs. λ Ψ. Typed.pass T41 T42 (s40 bs) (at10 bs Ψ)
-      abbrev at12 : (bs : List.List Nat.ℕ) → Typed.TF T40 O0
-      at12 = λ bs. λ Ψ. Typed.both (s39 bs) (at11 bs Ψ)
-      abbrev at13 : (bs : List.List Nat.ℕ) → Typed.TF T39 O0
-      at13 = λ bs. λ Ψ. Typed.ask (s38 bs) (at12 bs Ψ)
-      abbrev at14 : (bs : List.List Nat.ℕ) → Typed.TF T37 O0
-      at14 = λ bs. λ Ψ. Typed.give (s37 bs) (at13 bs Ψ)
+      abbrev at8 : (bs : List.List Nat.ℕ) → Typed.TF T45 O0
+      at8 = λ bs. λ Ψ. Typed.pass T45 T46 (s44 bs) (at7 bs Ψ)
+      abbrev at9 : (bs : List.List Nat.ℕ) → Typed.TF T44 O0
+      at9 = λ bs. λ Ψ. Typed.pass T44 T45 (s43 bs) (at8 bs Ψ)
+      abbrev at10 : (bs : List.List Nat.ℕ) → Typed.TF T43 O0
+      at10 = λ bs. λ Ψ. Typed.pass T43 T44 (s42 bs) (at9 bs Ψ)
+      abbrev at11 : (bs : List.List Nat.ℕ) → Typed.TF T42 O0
+      at11 = λ bs. λ Ψ. Typed.pass T42 T43 (s41 bs) (at10 bs Ψ)
+      abbrev at12 : (bs : List.List Nat.ℕ) → Typed.TF T41 O0
+      at12 = λ bs. λ Ψ. Typed.pass T41 T42 (s40 bs) (at11 bs Ψ)
+      abbrev at13 : (bs : List.List Nat.ℕ) → Typed.TF T40 O0
+      at13 = λ bs. λ Ψ. Typed.both (s39 bs) (at12 bs Ψ)
+      abbrev at14 : (bs : List.List Nat.ℕ) → Typed.TF T39 O0
+      at14 = λ bs. λ Ψ. Typed.ask (s38 bs) (at13 bs Ψ)
       abbrev at15 : (bs : List.List Nat.ℕ) → Typed.TF T37 O0
-      at15 = λ bs. λ Ψ. at14 bs Ψ
-      abbrev at16 : (bs : List.List Nat.ℕ) → Typed.TF T36 O0
-      at16 = λ bs. λ Ψ. Typed.ask (s35 bs) (at15 bs Ψ)
-      abbrev at17 : (bs : List.List Nat.ℕ) → Typed.TF T33 O0
-      at17 = λ bs. λ Ψ. Typed.give (s34 bs) (at16 bs Ψ)
+      at15 = λ bs. λ Ψ. Typed.give (s37 bs) (at14 bs Ψ)
+      abbrev at16 : (bs : List.List Nat.ℕ) → Typed.TF T37 O0
+      at16 = λ bs. λ Ψ. at15 bs Ψ
+      abbrev at17 : (bs : List.List Nat.ℕ) → Typed.TF T36 O0
+      at17 = λ bs. λ Ψ. Typed.ask (s35 bs) (at16 bs Ψ)
       abbrev at18 : (bs : List.List Nat.ℕ) → Typed.TF T33 O0
-      at18 = λ bs. λ Ψ. at17 bs Ψ
+      at18 = λ bs. λ Ψ. Typed.give (s34 bs) (at17 bs Ψ)
       abbrev at19 : (bs : List.List Nat.ℕ) → Typed.TF T33 O0
       at19 = λ bs. λ Ψ. at18 bs Ψ
-      abbrev at20 : (bs : List.List Nat.ℕ) → Typed.TF T31 O0
-      at20 = λ bs. λ Ψ. Typed.both (s31 bs) (at19 bs Ψ)
+      abbrev at20 : (bs : List.List Nat.ℕ) → Typed.TF T33 O0
+      at20 = λ bs. λ Ψ. at19 bs Ψ
       abbrev at21 : (bs : List.List Nat.ℕ) → Typed.TF T31 O0
-      at21 = λ bs. λ Ψ. at20 bs Ψ
-      abbrev at22 : (bs : List.List Nat.ℕ) → Typed.TF T30 O0
-      at22 = λ bs. λ Ψ. Typed.pass T30 T31 (s29 bs) (at21 bs Ψ)
-      abbrev at23 : (bs : List.List Nat.ℕ) → Typed.TF T29 O0
-      at23 = λ bs. λ Ψ. Typed.pass T29 T30 (s28 bs) (at22 bs Ψ)
-      abbrev at24 : (bs : List.List Nat.ℕ) → Typed.TF T28 O0
-      at24 = λ bs. λ Ψ. Typed.pass T28 T29 (s27 bs) (at23 bs Ψ)
-      abbrev at25 : (bs : List.List Nat.ℕ) → Typed.TF T27 O0
-      at25 = λ bs. λ Ψ. Typed.both (s26 bs) (at24 bs Ψ)
-      abbrev at26 : (bs : List.List Nat.ℕ) → Typed.TF T26 O0
-      at26 = λ bs. λ Ψ. Typed.ask (s25 bs) (at25 bs Ψ)
-      abbrev at27 : (bs : List.List Nat.ℕ) → Typed.TF T24 O0
-      at27 = λ bs. λ Ψ. Typed.give (s24 bs) (at26 bs Ψ)
+      at21 = λ bs. λ Ψ. Typed.both (s31 bs) (at20 bs Ψ)
+      abbrev at22 : (bs : List.List Nat.ℕ) → Typed.TF T31 O0
+      at22 = λ bs. λ Ψ. at21 bs Ψ
+      abbrev at23 : (bs : List.List Nat.ℕ) → Typed.TF T30 O0
+      at23 = λ bs. λ Ψ. Typed.pass T30 T31 (s29 bs) (at22 bs Ψ)
+      abbrev at24 : (bs : List.List Nat.ℕ) → Typed.TF T29 O0
+      at24 = λ bs. λ Ψ. Typed.pass T29 T30 (s28 bs) (at23 bs Ψ)
+      abbrev at25 : (bs : List.List Nat.ℕ) → Typed.TF T28 O0
+      at25 = λ bs. λ Ψ. Typed.pass T28 T29 (s27 bs) (at24 bs Ψ)
+      abbrev at26 : (bs : List.List Nat.ℕ) → Typed.TF T27 O0
+      at26 = λ bs. λ Ψ. Typed.both (s26 bs) (at25 bs Ψ)
+      abbrev at27 : (bs : List.List Nat.ℕ) → Typed.TF T26 O0
+      at27 = λ bs. λ Ψ. Typed.ask (s25 bs) (at26 bs Ψ)
       abbrev at28 : (bs : List.List Nat.ℕ) → Typed.TF T24 O0
-      at28 = λ bs. λ Ψ. at27 bs Ψ
-      abbrev at29 : (bs : List.List Nat.ℕ) → Typed.TF T23 O0
-      at29 = λ bs. λ Ψ. Typed.both (s22 bs) (at28 bs Ψ)
-      abbrev at30 : (bs : List.List Nat.ℕ) → Typed.TF T22 O0
-      at30 = λ bs. λ Ψ. Typed.both (s21 bs) (at29 bs Ψ)
-      abbrev at31 : (bs : List.List Nat.ℕ) → Typed.TF T21 O0
-      at31 = λ bs. λ Ψ. Typed.pass T21 T22 (s20 bs) (at30 bs Ψ)
-      abbrev at32 : (bs : List.List Nat.ℕ) → Typed.TF T19 O0
-      at32 = λ bs. λ Ψ. Typed.pass T19 T21 (s19 bs) (at31 bs Ψ)
+      at28 = λ bs. λ Ψ. Typed.give (s24 bs) (at27 bs Ψ)
+      abbrev at29 : (bs : List.List Nat.ℕ) → Typed.TF T24 O0
+      at29 = λ bs. λ Ψ. at28 bs Ψ
+      abbrev at30 : (bs : List.List Nat.ℕ) → Typed.TF T23 O0
+      at30 = λ bs. λ Ψ. Typed.both (s22 bs) (at29 bs Ψ)
+      abbrev at31 : (bs : List.List Nat.ℕ) → Typed.TF T22 O0
+      at31 = λ bs. λ Ψ. Typed.both (s21 bs) (at30 bs Ψ)
+      abbrev at32 : (bs : List.List Nat.ℕ) → Typed.TF T21 O0
+      at32 = λ bs. λ Ψ. Typed.pass T21 T22 (s20 bs) (at31 bs Ψ)
       abbrev at33 : (bs : List.List Nat.ℕ) → Typed.TF T19 O0
-      at33 = λ bs. λ Ψ. at32 bs Ψ
-      abbrev at34 : (bs : List.List Nat.ℕ) → Typed.TF T16 O0
-      at34 = λ bs. λ Ψ. Typed.pass T16 T19 (s17 bs) (at33 bs Ψ)
+      at33 = λ bs. λ Ψ. Typed.pass T19 T21 (s19 bs) (at32 bs Ψ)
+      abbrev at34 : (bs : List.List Nat.ℕ) → Typed.TF T19 O0
+      at34 = λ bs. λ Ψ. at33 bs Ψ
       abbrev at35 : (bs : List.List Nat.ℕ) → Typed.TF T16 O0
-      at35 = λ bs. λ Ψ. at34 bs Ψ
+      at35 = λ bs. λ Ψ. Typed.pass T16 T19 (s17 bs) (at34 bs Ψ)
       abbrev at36 : (bs : List.List Nat.ℕ) → Typed.TF T16 O0
       at36 = λ bs. λ Ψ. at35 bs Ψ
-      abbrev at37 : (bs : List.List Nat.ℕ) → Typed.TF T14 O0
-      at37 = λ bs. λ Ψ. Typed.pass T14 T16 (s14 bs) (at36 bs Ψ)
+      abbrev at37 : (bs : List.List Nat.ℕ) → Typed.TF T16 O0
+      at37 = λ bs. λ Ψ. at36 bs Ψ
       abbrev at38 : (bs : List.List Nat.ℕ) → Typed.TF T14 O0
-      at38 = λ bs. λ Ψ. at37 bs Ψ
-      abbrev at39 : (bs : List.List Nat.ℕ) → Typed.TF T13 O0
-      at39 = λ bs. λ Ψ. Typed.pass T13 T14 (s12 bs) (at38 bs Ψ)
-      abbrev at40 : (bs : List.List Nat.ℕ) → Typed.TF T12 O0
-      at40 = λ bs. λ Ψ. Typed.pass T12 T13 (s11 bs) (at39 bs Ψ)
-      abbrev at41 : (bs : List.List Nat.ℕ) → Typed.TF T11 O0
-      at41 = λ bs. λ Ψ. Typed.pass T11 T12 (s10 bs) (at40 bs Ψ)
-      abbrev at42 : (bs : List.List Nat.ℕ) → Typed.TF T10 O0
-      at42 = λ bs. λ Ψ. Typed.both (s9 bs) (at41 bs Ψ)
-      abbrev at43 : (bs : List.List Nat.ℕ) → Typed.TF T9 O0
-      at43 = λ bs. λ Ψ. Typed.ask (s8 bs) (at42 bs Ψ)
-      abbrev at44 : (bs : List.List Nat.ℕ) → Typed.TF T7 O0
-      at44 = λ bs. λ Ψ. Typed.give (s7 bs) (at43 bs Ψ)
+      at38 = λ bs. λ Ψ. Typed.pass T14 T16 (s14 bs) (at37 bs Ψ)
+      abbrev at39 : (bs : List.List Nat.ℕ) → Typed.TF T14 O0
+      at39 = λ bs. λ Ψ. at38 bs Ψ
+      abbrev at40 : (bs : List.List Nat.ℕ) → Typed.TF T13 O0
+      at40 = λ bs. λ Ψ. Typed.pass T13 T14 (s12 bs) (at39 bs Ψ)
+      abbrev at41 : (bs : List.List Nat.ℕ) → Typed.TF T12 O0
+      at41 = λ bs. λ Ψ. Typed.pass T12 T13 (s11 bs) (at40 bs Ψ)
+      abbrev at42 : (bs : List.List Nat.ℕ) → Typed.TF T11 O0
+      at42 = λ bs. λ Ψ. Typed.pass T11 T12 (s10 bs) (at41 bs Ψ)
+      abbrev at43 : (bs : List.List Nat.ℕ) → Typed.TF T10 O0
+      at43 = λ bs. λ Ψ. Typed.both (s9 bs) (at42 bs Ψ)
+      abbrev at44 : (bs : List.List Nat.ℕ) → Typed.TF T9 O0
+      at44 = λ bs. λ Ψ. Typed.ask (s8 bs) (at43 bs Ψ)
       abbrev at45 : (bs : List.List Nat.ℕ) → Typed.TF T7 O0
-      at45 = λ bs. λ Ψ. at44 bs Ψ
-      abbrev at46 : (bs : List.List Nat.ℕ) → Typed.TF T6 O0
-      at46 = λ bs. λ Ψ. Typed.ask (s5 bs) (at45 bs Ψ)
-      abbrev at47 : (bs : List.List Nat.ℕ) → Typed.TF T4 O0
-      at47 = λ bs. λ Ψ. Typed.give (s4 bs) (at46 bs Ψ)
+      at45 = λ bs. λ Ψ. Typed.give (s7 bs) (at44 bs Ψ)
+      abbrev at46 : (bs : List.List Nat.ℕ) → Typed.TF T7 O0
+      at46 = λ bs. λ Ψ. at45 bs Ψ
+      abbrev at47 : (bs : List.List Nat.ℕ) → Typed.TF T6 O0
+      at47 = λ bs. λ Ψ. Typed.ask (s5 bs) (at46 bs Ψ)
       abbrev at48 : (bs : List.List Nat.ℕ) → Typed.TF T4 O0
-      at48 = λ bs. λ Ψ. at47 bs Ψ
-      abbrev at49 : (bs : List.List Nat.ℕ) → Typed.TF T3 O0
-      at49 = λ bs. λ Ψ. Typed.give (s2 bs) (at48 bs Ψ)
-      abbrev at50 : (bs : List.List Nat.ℕ) → Typed.TF T2 O0
-      at50 = λ bs. λ Ψ. Typed.give (s1 bs) (at49 bs Ψ)
-      abbrev at51 : (bs : List.List Nat.ℕ) → Typed.TF T0 O0
-      at51 = λ bs. λ Ψ. Typed.give (s0 bs) (at50 bs Ψ)
+      at48 = λ bs. λ Ψ. Typed.give (s4 bs) (at47 bs Ψ)
+      abbrev at49 : (bs : List.List Nat.ℕ) → Typed.TF T4 O0
+      at49 = λ bs. λ Ψ. at48 bs Ψ
+      abbrev at50 : (bs : List.List Nat.ℕ) → Typed.TF T3 O0
+      at50 = λ bs. λ Ψ. Typed.give (s2 bs) (at49 bs Ψ)
+      abbrev at51 : (bs : List.List Nat.ℕ) → Typed.TF T2 O0
+      at51 = λ bs. λ Ψ. Typed.give (s1 bs) (at50 bs Ψ)
+      abbrev at52 : (bs : List.List Nat.ℕ) → Typed.TF T0 O0
+      at52 = λ bs. λ Ψ. Typed.give (s0 bs) (at51 bs Ψ)
       abbrev pub Φ : (bs : List.List Nat.ℕ) → Typed.TF T0 O0
-      Φ = λ bs. at51 bs
+      Φ = λ bs. at52 bs
       module _ { M : Type 1 } (𝓤 : URA.URA M) (H : Wp.Heap 𝓤) (A : Atoms.Atoms 𝓤) (W : Kit.Given 𝓤 H A) (𝓣 : Wp.Tables 𝓤 H) where
         abbrev Knowns : Type 1
         Knowns = Plain.Known 𝓤 H A W 𝓣 4 ps·0 r·0 (claims· .0) (claims· .1) "hnsr_circuit::handle_window::plan_window" × Plain.Known 𝓤 H A W 𝓣 1 ps·1
@@ -768,153 +804,158 @@ module _ (claims· : Claims) where
         abbrev life4 : Row.Life
         life4 = Row.lease (κs .1 .1 .1 .1 .0) (qs .1 .1 .1 .1 .0)
         abbrev g3 : List.List Row.Entry
-        g3 = (0, Rows.any-gone Laws''''''.mir,) ∷ (1, Reshare.mslice-owedS RelayCircuit.row ref5 0 5 life0,) ∷ (2, Mut.mslice InflightAction.row ref6
+        g3 = (0, Rows.any-gone Laws'''''''.mir,) ∷ (1, Reshare.mslice-owedS RelayCircuit.row ref5 0 5 life0,) ∷ (2, Mut.mslice InflightAction.row ref6
             1,) ∷ (3, Mut.mslice (Referent.rtF (Referent.fInt Syntax.w32)) ref7 2,) ∷ (4, Rows.whole (Declared'.row OpaqueRelayRuntime.the-type)) ∷
-            (5, Rows.whole (Declared'.row RelayPacket.the-type),) ∷ (6, Rows.sslice (Referent.rtF (Referent.fInt Syntax.w8)) ref8 3,) ∷ (7,
-            Rows.sslice (Referent.rtF (Referent.fInt Syntax.w8)) ref9 4,) ∷ (8, Rows.any-gone Laws'''''''.mir,) ∷ (9, Rows.any-gone Laws.mir,) ∷ (10,
-            Rows.any-gone Laws''''.mir,) ∷ (11, Rows.any-gone Laws''.mir,) ∷ (12, Rows.any-gone Laws'.mir,) ∷ (13, Relend.ssptr RelayCircuit.row ref0
-            5,) ∷ (14, Rows.any-gone (Syntax.tyStruct (38 ∷ 91 ∷ 93 ∷ List.[]) (Syntax.tcons ref0 (Syntax.tcons (Syntax.tyInt Syntax.w64)
-            Syntax.tnil))),) ∷ (15, Rows.any-gone ref1,) ∷ List.[]
+            (5, Rows.whole (Declared'.row Places.the-type),) ∷ (6, Rows.whole (Declared'.row RelayPacket.the-type)) ∷ (7, Rows.sslice (Referent.rtF
+            (Referent.fInt Syntax.w8)) ref8 3,) ∷ (8, Rows.sslice (Referent.rtF (Referent.fInt Syntax.w8)) ref9 4,) ∷ (9, Rows.any-gone
+            Laws''''''''.mir,) ∷ (10, Rows.any-gone Laws.mir,) ∷ (11, Rows.any-gone Laws'''''.mir,) ∷ (12, Rows.any-gone Laws'''.mir,) ∷ (13,
+            Rows.any-gone Laws''.mir,) ∷ (14, Relend.ssptr RelayCircuit.row ref0 5,) ∷ (15, Rows.any-gone (Syntax.tyStruct (38 ∷ 91 ∷ 93 ∷ List.[])
+            (Syntax.tcons ref0 (Syntax.tcons (Syntax.tyInt Syntax.w64) Syntax.tnil))),) ∷ List.[]
         abbrev g4 : List.List Row.Entry
-        g4 = (0, Rows.any-gone Laws''''''.mir,) ∷ (1, Reshare.mslice-owedS RelayCircuit.row ref5 0 5 life0,) ∷ (2, Mut.mslice InflightAction.row ref6
+        g4 = (0, Rows.any-gone Laws'''''''.mir,) ∷ (1, Reshare.mslice-owedS RelayCircuit.row ref5 0 5 life0,) ∷ (2, Mut.mslice InflightAction.row ref6
             1,) ∷ (3, Mut.mslice (Referent.rtF (Referent.fInt Syntax.w32)) ref7 2,) ∷ (4, Rows.whole (Declared'.row OpaqueRelayRuntime.the-type)) ∷
-            (5, Rows.whole (Declared'.row RelayPacket.the-type),) ∷ (6, Rows.sslice (Referent.rtF (Referent.fInt Syntax.w8)) ref8 3,) ∷ (7,
-            Rows.sslice (Referent.rtF (Referent.fInt Syntax.w8)) ref9 4,) ∷ (8, Rows.any-gone Laws'''''''.mir,) ∷ (9, Rows.any-gone Laws.mir,) ∷ (10,
-            Rows.any-gone Laws''''.mir,) ∷ (11, Rows.any-gone Laws''.mir,) ∷ (12, Rows.any-gone Laws'.mir,) ∷ (13, Rows.any-gone ref0,) ∷ (14,
-            Rows.sslice RelayCircuit.row ref0 5,) ∷ (15, Rows.any-gone ref1,) ∷ List.[]
+            (5, Rows.whole (Declared'.row Places.the-type),) ∷ (6, Rows.whole (Declared'.row RelayPacket.the-type)) ∷ (7, Rows.sslice (Referent.rtF
+            (Referent.fInt Syntax.w8)) ref8 3,) ∷ (8, Rows.sslice (Referent.rtF (Referent.fInt Syntax.w8)) ref9 4,) ∷ (9, Rows.any-gone
+            Laws''''''''.mir,) ∷ (10, Rows.any-gone Laws.mir,) ∷ (11, Rows.any-gone Laws'''''.mir,) ∷ (12, Rows.any-gone Laws'''.mir,) ∷ (13,
+            Rows.any-gone Laws''.mir,) ∷ (14, Rows.any-gone ref0,) ∷ (15, Rows.sslice RelayCircuit.row ref0 5,) ∷ List.[]
         abbrev g5 : List.List Row.Entry
-        g5 = (0, Rows.any-gone Laws''''''.mir,) ∷ (1, Reshare.mslice-owedS RelayCircuit.row ref5 0 5 life0,) ∷ (2, Reshare.mslice-owedS
+        g5 = (0, Rows.any-gone Laws'''''''.mir,) ∷ (1, Reshare.mslice-owedS RelayCircuit.row ref5 0 5 life0,) ∷ (2, Reshare.mslice-owedS
             InflightAction.row ref6 1 6 life1,) ∷ (3, Mut.mslice (Referent.rtF (Referent.fInt Syntax.w32)) ref7 2,) ∷ (4, Rows.whole (Declared'.row
-            OpaqueRelayRuntime.the-type)) ∷ (5, Rows.whole (Declared'.row RelayPacket.the-type),) ∷ (6, Rows.sslice (Referent.rtF (Referent.fInt
-            Syntax.w8)) ref8 3,) ∷ (7, Rows.sslice (Referent.rtF (Referent.fInt Syntax.w8)) ref9 4,) ∷ (8, Rows.any-gone Laws'''''''.mir,) ∷ (9,
-            Rows.any-gone Laws.mir,) ∷ (10, Rows.any-gone Laws''''.mir,) ∷ (11, Rows.any-gone Laws''.mir,) ∷ (12, Rows.any-gone Laws'.mir,) ∷ (13,
-            Rows.any-gone ref0,) ∷ (14, Rows.sslice RelayCircuit.row ref0 5,) ∷ (15, Relend.ssptr InflightAction.row ref1 6,) ∷ List.[]
-        abbrev g6 : List.List Row.Entry
-        g6 = (0, Rows.any-gone Laws''''''.mir,) ∷ (1, Reshare.mslice-owedS RelayCircuit.row ref5 0 5 life0,) ∷ (2, Reshare.mslice-owedS
-            InflightAction.row ref6 1 6 life1,) ∷ (3, Mut.mslice (Referent.rtF (Referent.fInt Syntax.w32)) ref7 2,) ∷ (4, Rows.whole (Declared'.row
-            OpaqueRelayRuntime.the-type)) ∷ (5, Rows.whole (Declared'.row RelayPacket.the-type),) ∷ (6, Rows.sslice (Referent.rtF (Referent.fInt
-            Syntax.w8)) ref8 3,) ∷ (7, Rows.sslice (Referent.rtF (Referent.fInt Syntax.w8)) ref9 4,) ∷ (8, Rows.any-gone Laws'''''''.mir,) ∷ (9,
-            Rows.any-gone Laws.mir,) ∷ (10, Rows.any-gone Laws''''.mir,) ∷ (11, Rows.any-gone Laws''.mir,) ∷ (12, Rows.any-gone Laws'.mir,) ∷ (13,
-            Rows.any-gone ref0,) ∷ (14, Rows.sslice RelayCircuit.row ref0 5,) ∷ (15, Rows.any-gone ref1,) ∷ List.[]
+            OpaqueRelayRuntime.the-type)) ∷ (5, Rows.whole (Declared'.row Places.the-type),) ∷ (6, Rows.whole (Declared'.row RelayPacket.the-type)) ∷
+            (7, Rows.sslice (Referent.rtF (Referent.fInt Syntax.w8)) ref8 3,) ∷ (8, Rows.sslice (Referent.rtF (Referent.fInt Syntax.w8)) ref9 4,) ∷
+            (9, Rows.any-gone Laws''''''''.mir,) ∷ (10, Rows.any-gone Laws.mir,) ∷ (11, Rows.any-gone Laws'''''.mir,) ∷ (12, Rows.any-gone
+            Laws'''.mir,) ∷ (13, Rows.any-gone Laws''.mir,) ∷ (14, Rows.any-gone ref0,) ∷ (15, Rows.sslice RelayCircuit.row ref0 5,) ∷ List.[]
         abbrev g8 : List.List Row.Entry
-        g8 = (0, Rows.any-gone Laws''''''.mir,) ∷ (1, Reshare.mslice-owedS RelayCircuit.row ref5 0 5 life0,) ∷ (2, Reshare.mslice-owedS
+        g8 = (0, Rows.any-gone Laws'''''''.mir,) ∷ (1, Reshare.mslice-owedS RelayCircuit.row ref5 0 5 life0,) ∷ (2, Reshare.mslice-owedS
             InflightAction.row ref6 1 6 life1,) ∷ (3, Mut.mslice (Referent.rtF (Referent.fInt Syntax.w32)) ref7 2,) ∷ (4, Rows.whole (Declared'.row
-            OpaqueRelayRuntime.the-type)) ∷ (5, Rows.whole (Declared'.row RelayPacket.the-type),) ∷ (6, Rows.sslice (Referent.rtF (Referent.fInt
-            Syntax.w8)) ref8 3,) ∷ (7, Rows.sslice (Referent.rtF (Referent.fInt Syntax.w8)) ref9 4,) ∷ (8, Rows.whole (Declared'.row
-            WindowPlan.the-type)) ∷ (9, Rows.any-gone Laws.mir,) ∷ (10, Rows.any-gone Laws''''.mir,) ∷ (11, Rows.any-gone Laws''.mir,) ∷ (12,
-            Rows.any-gone Laws'.mir,) ∷ (13, Rows.any-gone ref0,) ∷ (14, Rows.sslice RelayCircuit.row ref0 5,) ∷ (15, Rows.any-gone ref1,) ∷ List.[]
+            OpaqueRelayRuntime.the-type)) ∷ (5, Rows.whole (Declared'.row Places.the-type),) ∷ (6, Rows.whole (Declared'.row RelayPacket.the-type)) ∷
+            (7, Rows.sslice (Referent.rtF (Referent.fInt Syntax.w8)) ref8 3,) ∷ (8, Rows.sslice (Referent.rtF (Referent.fInt Syntax.w8)) ref9 4,) ∷
+            (9, Rows.whole (Declared'.row WindowPlan.the-type)) ∷ (10, Rows.any-gone Laws.mir,) ∷ (11, Rows.any-gone Laws'''''.mir,) ∷ (12,
+            Rows.any-gone Laws'''.mir,) ∷ (13, Rows.any-gone Laws''.mir,) ∷ (14, Rows.any-gone ref0,) ∷ (15, Rows.sslice RelayCircuit.row ref0 5,) ∷
+            List.[]
         abbrev g9 : List.List Row.Entry
-        g9 = (0, Rows.any-gone Laws''''''.mir,) ∷ (1, Reshare.mslice-owedS RelayCircuit.row ref5 0 5 life0,) ∷ (2, Reshare.mslice-owedS
+        g9 = (0, Rows.any-gone Laws'''''''.mir,) ∷ (1, Reshare.mslice-owedS RelayCircuit.row ref5 0 5 life0,) ∷ (2, Reshare.mslice-owedS
             InflightAction.row ref6 1 6 life1,) ∷ (3, Mut.mslice (Referent.rtF (Referent.fInt Syntax.w32)) ref7 2,) ∷ (4, Rows.whole (Declared'.row
-            OpaqueRelayRuntime.the-type)) ∷ (5, Rows.whole (Declared'.row RelayPacket.the-type),) ∷ (6, Rows.sslice (Referent.rtF (Referent.fInt
-            Syntax.w8)) ref8 3,) ∷ (7, Rows.sslice (Referent.rtF (Referent.fInt Syntax.w8)) ref9 4,) ∷ (8, Rows.whole (Declared'.row
-            WindowPlan.the-type)) ∷ (9, Rows.any-gone Laws.mir,) ∷ (10, Rows.any-gone Laws''''.mir,) ∷ (11, Rows.any-gone Laws''.mir,) ∷ (12,
-            Rows.any-gone Laws'.mir,) ∷ (13, Rows.any-gone ref0,) ∷ (14, Rows.any-gone (Syntax.tyStruct (38 ∷ 91 ∷ 93 ∷ List.[]) (Syntax.tcons ref0
-            (Syntax.tcons (Syntax.tyInt Syntax.w64) Syntax.tnil))),) ∷ (15, Rows.any-gone ref1,) ∷ List.[]
+            OpaqueRelayRuntime.the-type)) ∷ (5, Rows.whole (Declared'.row Places.the-type),) ∷ (6, Rows.whole (Declared'.row RelayPacket.the-type)) ∷
+            (7, Rows.sslice (Referent.rtF (Referent.fInt Syntax.w8)) ref8 3,) ∷ (8, Rows.sslice (Referent.rtF (Referent.fInt Syntax.w8)) ref9 4,) ∷
+            (9, Rows.whole (Declared'.row WindowPlan.the-type)) ∷ (10, Rows.any-gone Laws.mir,) ∷ (11, Rows.any-gone Laws'''''.mir,) ∷ (12,
+            Rows.any-gone Laws'''.mir,) ∷ (13, Rows.any-gone Laws''.mir,) ∷ (14, Rows.any-gone ref0,) ∷ (15, Rows.any-gone (Syntax.tyStruct (38 ∷ 91 ∷
+            93 ∷ List.[]) (Syntax.tcons ref0 (Syntax.tcons (Syntax.tyInt Syntax.w64) Syntax.tnil))),) ∷ List.[]
         abbrev g10 : List.List Row.Entry
-        g10 = (0, Rows.any-gone Laws''''''.mir,) ∷ (1, Reshare.mslice-owedS RelayCircuit.row ref5 0 5 life0,) ∷ (2, Reshare.mslice-owedS
+        g10 = (0, Rows.any-gone Laws'''''''.mir,) ∷ (1, Reshare.mslice-owedS RelayCircuit.row ref5 0 5 life0,) ∷ (2, Reshare.mslice-owedS
             InflightAction.row ref6 1 6 life1,) ∷ (3, Mut.mslice (Referent.rtF (Referent.fInt Syntax.w32)) ref7 2,) ∷ (4, Rows.whole (Declared'.row
-            OpaqueRelayRuntime.the-type)) ∷ (5, Rows.any-gone Laws'''.mir,) ∷ (6, Rows.sslice (Referent.rtF (Referent.fInt Syntax.w8)) ref8 3,) ∷ (7,
-            Rows.sslice (Referent.rtF (Referent.fInt Syntax.w8)) ref9 4,) ∷ (8, Rows.whole (Declared'.row WindowPlan.the-type)) ∷ (9, Rows.any-gone
-            Laws.mir,) ∷ (10, Rows.any-gone Laws''''.mir,) ∷ (11, Rows.any-gone Laws''.mir,) ∷ (12, Rows.any-gone Laws'.mir,) ∷ (13, Rows.any-gone
-            ref0,) ∷ (14, Rows.any-gone (Syntax.tyStruct (38 ∷ 91 ∷ 93 ∷ List.[]) (Syntax.tcons ref0 (Syntax.tcons (Syntax.tyInt Syntax.w64)
-            Syntax.tnil))),) ∷ (15, Rows.any-gone ref1,) ∷ List.[]
+            OpaqueRelayRuntime.the-type)) ∷ (5, Rows.whole (Declared'.row Places.the-type),) ∷ (6, Rows.any-gone Laws''''.mir,) ∷ (7, Rows.sslice
+            (Referent.rtF (Referent.fInt Syntax.w8)) ref8 3,) ∷ (8, Rows.sslice (Referent.rtF (Referent.fInt Syntax.w8)) ref9 4,) ∷ (9, Rows.whole
+            (Declared'.row WindowPlan.the-type)) ∷ (10, Rows.any-gone Laws.mir,) ∷ (11, Rows.any-gone Laws'''''.mir,) ∷ (12, Rows.any-gone
+            Laws'''.mir,) ∷ (13, Rows.any-gone Laws''.mir,) ∷ (14, Rows.any-gone ref0,) ∷ (15, Rows.any-gone (Syntax.tyStruct (38 ∷ 91 ∷ 93 ∷ List.[])
+            (Syntax.tcons ref0 (Syntax.tcons (Syntax.tyInt Syntax.w64) Syntax.tnil))),) ∷ List.[]
         abbrev g11 : List.List Row.Entry
-        g11 = (0, Rows.any-gone Laws''''''.mir,) ∷ (1, Mut.mslice RelayCircuit.row ref5 0,) ∷ (2, Reshare.mslice-owedS InflightAction.row ref6 1 6
+        g11 = (0, Rows.any-gone Laws'''''''.mir,) ∷ (1, Mut.mslice RelayCircuit.row ref5 0,) ∷ (2, Reshare.mslice-owedS InflightAction.row ref6 1 6
             life1,) ∷ (3, Mut.mslice (Referent.rtF (Referent.fInt Syntax.w32)) ref7 2,) ∷ (4, Rows.whole (Declared'.row OpaqueRelayRuntime.the-type))
-            ∷ (5, Rows.any-gone Laws'''.mir,) ∷ (6, Rows.sslice (Referent.rtF (Referent.fInt Syntax.w8)) ref8 3,) ∷ (7, Rows.sslice (Referent.rtF
-            (Referent.fInt Syntax.w8)) ref9 4,) ∷ (8, Rows.whole (Declared'.row WindowPlan.the-type)) ∷ (9, Rows.any-gone Laws.mir,) ∷ (10,
-            Rows.any-gone Laws''''.mir,) ∷ (11, Rows.any-gone Laws''.mir,) ∷ (12, Rows.any-gone Laws'.mir,) ∷ (13, Rows.any-gone ref0,) ∷ (14,
-            Rows.any-gone (Syntax.tyStruct (38 ∷ 91 ∷ 93 ∷ List.[]) (Syntax.tcons ref0 (Syntax.tcons (Syntax.tyInt Syntax.w64) Syntax.tnil))),) ∷ (15,
-            Rows.any-gone ref1,) ∷ List.[]
+            ∷ (5, Rows.whole (Declared'.row Places.the-type),) ∷ (6, Rows.any-gone Laws''''.mir,) ∷ (7, Rows.sslice (Referent.rtF (Referent.fInt
+            Syntax.w8)) ref8 3,) ∷ (8, Rows.sslice (Referent.rtF (Referent.fInt Syntax.w8)) ref9 4,) ∷ (9, Rows.whole (Declared'.row
+            WindowPlan.the-type)) ∷ (10, Rows.any-gone Laws.mir,) ∷ (11, Rows.any-gone Laws'''''.mir,) ∷ (12, Rows.any-gone Laws'''.mir,) ∷ (13,
+            Rows.any-gone Laws''.mir,) ∷ (14, Rows.any-gone ref0,) ∷ (15, Rows.any-gone (Syntax.tyStruct (38 ∷ 91 ∷ 93 ∷ List.[]) (Syntax.tcons ref0
+            (Syntax.tcons (Syntax.tyInt Syntax.w64) Syntax.tnil))),) ∷ List.[]
         abbrev g17 : List.List Row.Entry
-        g17 = (0, Rows.any-gone Laws''''''.mir,) ∷ (1, Relend.mslice-owed RelayCircuit.row ref5 0 7 life0,) ∷ (2, Mut.mslice InflightAction.row ref6
+        g17 = (0, Rows.any-gone Laws'''''''.mir,) ∷ (1, Relend.mslice-owed RelayCircuit.row ref5 0 7 life0,) ∷ (2, Mut.mslice InflightAction.row ref6
             1,) ∷ (3, Mut.mslice (Referent.rtF (Referent.fInt Syntax.w32)) ref7 2,) ∷ (4, Rows.whole (Declared'.row OpaqueRelayRuntime.the-type)) ∷
-            (5, Rows.any-gone Laws'''.mir,) ∷ (6, Rows.sslice (Referent.rtF (Referent.fInt Syntax.w8)) ref8 3,) ∷ (7, Rows.sslice (Referent.rtF
-            (Referent.fInt Syntax.w8)) ref9 4,) ∷ (8, Rows.whole (Declared'.row WindowPlan.the-type)) ∷ (9, Rows.whole (Declared.row
-            HnsrAnswer.the-type),) ∷ (10, Rows.whole (Declared.row RelaySide.the-type)) ∷ (11, Rows.whole (Declared'.row Outgoing.the-type),) ∷ (12,
-            Rows.whole (Declared'.row ActionScan.the-type)) ∷ (13, Rows.any-gone ref0,) ∷ (14, Rows.any-gone (Syntax.tyStruct (38 ∷ 91 ∷ 93 ∷ List.[])
-            (Syntax.tcons ref0 (Syntax.tcons (Syntax.tyInt Syntax.w64) Syntax.tnil))),) ∷ (15, Rows.any-gone ref1,) ∷ List.[]
+            (5, Rows.whole (Declared'.row Places.the-type),) ∷ (6, Rows.any-gone Laws''''.mir,) ∷ (7, Rows.sslice (Referent.rtF (Referent.fInt
+            Syntax.w8)) ref8 3,) ∷ (8, Rows.sslice (Referent.rtF (Referent.fInt Syntax.w8)) ref9 4,) ∷ (9, Rows.whole (Declared'.row
+            WindowPlan.the-type)) ∷ (10, Rows.whole (Declared.row HnsrAnswer.the-type),) ∷ (11, Rows.whole (Declared.row RelaySide.the-type)) ∷ (12,
+            Rows.whole (Declared'.row Outgoing.the-type),) ∷ (13, Rows.whole (Declared'.row ActionScan.the-type)) ∷ (14, Rows.any-gone ref0,) ∷ (15,
+            Rows.any-gone (Syntax.tyStruct (38 ∷ 91 ∷ 93 ∷ List.[]) (Syntax.tcons ref0 (Syntax.tcons (Syntax.tyInt Syntax.w64) Syntax.tnil))),) ∷
+            List.[]
         abbrev g21 : List.List Row.Entry
-        g21 = (0, Rows.any-gone Laws''''''.mir,) ∷ (1, Relend.mslice-owed RelayCircuit.row ref5 0 7 life0,) ∷ (2, Mut.mslice InflightAction.row ref6
+        g21 = (0, Rows.any-gone Laws'''''''.mir,) ∷ (1, Relend.mslice-owed RelayCircuit.row ref5 0 7 life0,) ∷ (2, Mut.mslice InflightAction.row ref6
             1,) ∷ (3, Mut.mslice (Referent.rtF (Referent.fInt Syntax.w32)) ref7 2,) ∷ (4, Rows.whole (Declared'.row OpaqueRelayRuntime.the-type)) ∷
-            (5, Rows.any-gone Laws'''.mir,) ∷ (6, Rows.sslice (Referent.rtF (Referent.fInt Syntax.w8)) ref8 3,) ∷ (7, Rows.sslice (Referent.rtF
-            (Referent.fInt Syntax.w8)) ref9 4,) ∷ (8, Rows.any-gone Laws'''''''.mir,) ∷ (9, Rows.whole (Declared.row HnsrAnswer.the-type)) ∷ (10,
-            Rows.whole (Declared.row RelaySide.the-type),) ∷ (11, Rows.whole (Declared'.row Outgoing.the-type)) ∷ (12, Rows.whole (Declared'.row
-            ActionScan.the-type),) ∷ (13, Rows.any-gone ref0,) ∷ (14, Rows.any-gone (Syntax.tyStruct (38 ∷ 91 ∷ 93 ∷ List.[]) (Syntax.tcons ref0
-            (Syntax.tcons (Syntax.tyInt Syntax.w64) Syntax.tnil))),) ∷ (15, Rows.any-gone ref1,) ∷ List.[]
+            (5, Rows.whole (Declared'.row Places.the-type),) ∷ (6, Rows.any-gone Laws''''.mir,) ∷ (7, Rows.sslice (Referent.rtF (Referent.fInt
+            Syntax.w8)) ref8 3,) ∷ (8, Rows.sslice (Referent.rtF (Referent.fInt Syntax.w8)) ref9 4,) ∷ (9, Rows.any-gone Laws''''''''.mir,) ∷ (10,
+            Rows.whole (Declared.row HnsrAnswer.the-type)) ∷ (11, Rows.whole (Declared.row RelaySide.the-type),) ∷ (12, Rows.whole (Declared'.row
+            Outgoing.the-type)) ∷ (13, Rows.whole (Declared'.row ActionScan.the-type),) ∷ (14, Rows.any-gone ref0,) ∷ (15, Rows.any-gone
+            (Syntax.tyStruct (38 ∷ 91 ∷ 93 ∷ List.[]) (Syntax.tcons ref0 (Syntax.tcons (Syntax.tyInt Syntax.w64) Syntax.tnil))),) ∷ List.[]
         abbrev g22 : List.List Row.Entry
-        g22 = (0, Rows.any-gone Laws''''''.mir,) ∷ (1, Relend.mslice-owed RelayCircuit.row ref5 0 7 life0,) ∷ (2, Mut.mslice InflightAction.row ref6
+        g22 = (0, Rows.any-gone Laws'''''''.mir,) ∷ (1, Relend.mslice-owed RelayCircuit.row ref5 0 7 life0,) ∷ (2, Mut.mslice InflightAction.row ref6
             1,) ∷ (3, Mut.mslice (Referent.rtF (Referent.fInt Syntax.w32)) ref7 2,) ∷ (4, Rows.whole (Declared'.row OpaqueRelayRuntime.the-type)) ∷
-            (5, Rows.any-gone Laws'''.mir,) ∷ (6, Rows.sslice (Referent.rtF (Referent.fInt Syntax.w8)) ref8 3,) ∷ (7, Rows.sslice (Referent.rtF
-            (Referent.fInt Syntax.w8)) ref9 4,) ∷ (8, Rows.any-gone Laws'''''''.mir,) ∷ (9, Rows.whole (Declared.row HnsrAnswer.the-type)) ∷ (10,
-            Rows.any-gone Laws''''.mir,) ∷ (11, Rows.whole (Declared'.row Outgoing.the-type)) ∷ (12, Rows.whole (Declared'.row ActionScan.the-type),)
-            ∷ (13, Rows.any-gone ref0,) ∷ (14, Rows.any-gone (Syntax.tyStruct (38 ∷ 91 ∷ 93 ∷ List.[]) (Syntax.tcons ref0 (Syntax.tcons (Syntax.tyInt
-            Syntax.w64) Syntax.tnil))),) ∷ (15, Rows.any-gone ref1,) ∷ List.[]
+            (5, Rows.whole (Declared'.row Places.the-type),) ∷ (6, Rows.any-gone Laws''''.mir,) ∷ (7, Rows.sslice (Referent.rtF (Referent.fInt
+            Syntax.w8)) ref8 3,) ∷ (8, Rows.sslice (Referent.rtF (Referent.fInt Syntax.w8)) ref9 4,) ∷ (9, Rows.any-gone Laws''''''''.mir,) ∷ (10,
+            Rows.whole (Declared.row HnsrAnswer.the-type)) ∷ (11, Rows.any-gone Laws'''''.mir,) ∷ (12, Rows.whole (Declared'.row Outgoing.the-type)) ∷
+            (13, Rows.whole (Declared'.row ActionScan.the-type),) ∷ (14, Rows.any-gone ref0,) ∷ (15, Rows.any-gone (Syntax.tyStruct (38 ∷ 91 ∷ 93 ∷
+            List.[]) (Syntax.tcons ref0 (Syntax.tcons (Syntax.tyInt Syntax.w64) Syntax.tnil))),) ∷ List.[]
         abbrev g25 : List.List Row.Entry
-        g25 = (0, Rows.any-gone Laws''''''.mir,) ∷ (1, Mut.mslice RelayCircuit.row ref5 0,) ∷ (2, Relend.mslice-owed InflightAction.row ref6 1 8
+        g25 = (0, Rows.any-gone Laws'''''''.mir,) ∷ (1, Mut.mslice RelayCircuit.row ref5 0,) ∷ (2, Relend.mslice-owed InflightAction.row ref6 1 8
             life1,) ∷ (3, Mut.mslice (Referent.rtF (Referent.fInt Syntax.w32)) ref7 2,) ∷ (4, Rows.whole (Declared'.row OpaqueRelayRuntime.the-type))
-            ∷ (5, Rows.any-gone Laws'''.mir,) ∷ (6, Rows.sslice (Referent.rtF (Referent.fInt Syntax.w8)) ref8 3,) ∷ (7, Rows.sslice (Referent.rtF
-            (Referent.fInt Syntax.w8)) ref9 4,) ∷ (8, Rows.any-gone Laws'''''''.mir,) ∷ (9, Rows.whole (Declared.row HnsrAnswer.the-type)) ∷ (10,
-            Rows.any-gone Laws''''.mir,) ∷ (11, Rows.whole (Declared'.row Outgoing.the-type)) ∷ (12, Rows.whole (Declared'.row ActionScan.the-type),)
-            ∷ (13, Rows.any-gone ref0,) ∷ (14, Rows.any-gone (Syntax.tyStruct (38 ∷ 91 ∷ 93 ∷ List.[]) (Syntax.tcons ref0 (Syntax.tcons (Syntax.tyInt
-            Syntax.w64) Syntax.tnil))),) ∷ (15, Rows.any-gone ref1,) ∷ List.[]
+            ∷ (5, Rows.whole (Declared'.row Places.the-type),) ∷ (6, Rows.any-gone Laws''''.mir,) ∷ (7, Rows.sslice (Referent.rtF (Referent.fInt
+            Syntax.w8)) ref8 3,) ∷ (8, Rows.sslice (Referent.rtF (Referent.fInt Syntax.w8)) ref9 4,) ∷ (9, Rows.any-gone Laws''''''''.mir,) ∷ (10,
+            Rows.whole (Declared.row HnsrAnswer.the-type)) ∷ (11, Rows.any-gone Laws'''''.mir,) ∷ (12, Rows.whole (Declared'.row Outgoing.the-type)) ∷
+            (13, Rows.whole (Declared'.row ActionScan.the-type),) ∷ (14, Rows.any-gone ref0,) ∷ (15, Rows.any-gone (Syntax.tyStruct (38 ∷ 91 ∷ 93 ∷
+            List.[]) (Syntax.tcons ref0 (Syntax.tcons (Syntax.tyInt Syntax.w64) Syntax.tnil))),) ∷ List.[]
         abbrev g28 : List.List Row.Entry
-        g28 = (0, Rows.any-gone Laws''''''.mir,) ∷ (1, Mut.mslice RelayCircuit.row ref5 0,) ∷ (2, Relend.mslice-owed InflightAction.row ref6 1 8
+        g28 = (0, Rows.any-gone Laws'''''''.mir,) ∷ (1, Mut.mslice RelayCircuit.row ref5 0,) ∷ (2, Relend.mslice-owed InflightAction.row ref6 1 8
             life1,) ∷ (3, Relend.mslice-owed (Referent.rtF (Referent.fInt Syntax.w32)) ref7 2 9 life2,) ∷ (4, Rows.whole (Declared'.row
-            OpaqueRelayRuntime.the-type)) ∷ (5, Rows.any-gone Laws'''.mir,) ∷ (6, Rows.sslice (Referent.rtF (Referent.fInt Syntax.w8)) ref8 3,) ∷ (7,
-            Rows.sslice (Referent.rtF (Referent.fInt Syntax.w8)) ref9 4,) ∷ (8, Rows.any-gone Laws'''''''.mir,) ∷ (9, Rows.whole (Declared.row
-            HnsrAnswer.the-type)) ∷ (10, Rows.any-gone Laws''''.mir,) ∷ (11, Rows.whole (Declared'.row Outgoing.the-type)) ∷ (12, Rows.whole
-            (Declared'.row ActionScan.the-type),) ∷ (13, Rows.any-gone ref0,) ∷ (14, Rows.any-gone (Syntax.tyStruct (38 ∷ 91 ∷ 93 ∷ List.[])
-            (Syntax.tcons ref0 (Syntax.tcons (Syntax.tyInt Syntax.w64) Syntax.tnil))),) ∷ (15, Rows.any-gone ref1,) ∷ List.[]
+            OpaqueRelayRuntime.the-type)) ∷ (5, Rows.whole (Declared'.row Places.the-type),) ∷ (6, Rows.any-gone Laws''''.mir,) ∷ (7, Rows.sslice
+            (Referent.rtF (Referent.fInt Syntax.w8)) ref8 3,) ∷ (8, Rows.sslice (Referent.rtF (Referent.fInt Syntax.w8)) ref9 4,) ∷ (9, Rows.any-gone
+            Laws''''''''.mir,) ∷ (10, Rows.whole (Declared.row HnsrAnswer.the-type)) ∷ (11, Rows.any-gone Laws'''''.mir,) ∷ (12, Rows.whole
+            (Declared'.row Outgoing.the-type)) ∷ (13, Rows.whole (Declared'.row ActionScan.the-type),) ∷ (14, Rows.any-gone ref0,) ∷ (15,
+            Rows.any-gone (Syntax.tyStruct (38 ∷ 91 ∷ 93 ∷ List.[]) (Syntax.tcons ref0 (Syntax.tcons (Syntax.tyInt Syntax.w64) Syntax.tnil))),) ∷
+            List.[]
         abbrev g31 : List.List Row.Entry
         g31 = (0, Rows.whole (Declared'.row Relayed.the-type)) ∷ (1, Mut.mslice RelayCircuit.row ref5 0,) ∷ (2, Relend.mslice-owed InflightAction.row
             ref6 1 8 life1,) ∷ (3, Relend.mslice-owed (Referent.rtF (Referent.fInt Syntax.w32)) ref7 2 9 life2,) ∷ (4, Rows.whole (Declared'.row
-            OpaqueRelayRuntime.the-type)) ∷ (5, Rows.any-gone Laws'''.mir,) ∷ (6, Rows.sslice (Referent.rtF (Referent.fInt Syntax.w8)) ref8 3,) ∷ (7,
-            Rows.sslice (Referent.rtF (Referent.fInt Syntax.w8)) ref9 4,) ∷ (8, Rows.any-gone Laws'''''''.mir,) ∷ (9, Rows.whole (Declared.row
-            HnsrAnswer.the-type)) ∷ (10, Rows.any-gone Laws''''.mir,) ∷ (11, Rows.whole (Declared'.row Outgoing.the-type)) ∷ (12, Rows.whole
-            (Declared'.row ActionScan.the-type),) ∷ (13, Rows.any-gone ref0,) ∷ (14, Rows.any-gone (Syntax.tyStruct (38 ∷ 91 ∷ 93 ∷ List.[])
-            (Syntax.tcons ref0 (Syntax.tcons (Syntax.tyInt Syntax.w64) Syntax.tnil))),) ∷ (15, Rows.any-gone ref1,) ∷ List.[]
+            OpaqueRelayRuntime.the-type)) ∷ (5, Rows.whole (Declared'.row Places.the-type),) ∷ (6, Rows.any-gone Laws''''.mir,) ∷ (7, Rows.sslice
+            (Referent.rtF (Referent.fInt Syntax.w8)) ref8 3,) ∷ (8, Rows.sslice (Referent.rtF (Referent.fInt Syntax.w8)) ref9 4,) ∷ (9, Rows.any-gone
+            Laws''''''''.mir,) ∷ (10, Rows.whole (Declared.row HnsrAnswer.the-type)) ∷ (11, Rows.any-gone Laws'''''.mir,) ∷ (12, Rows.whole
+            (Declared'.row Outgoing.the-type)) ∷ (13, Rows.whole (Declared'.row ActionScan.the-type),) ∷ (14, Rows.any-gone ref0,) ∷ (15,
+            Rows.any-gone (Syntax.tyStruct (38 ∷ 91 ∷ 93 ∷ List.[]) (Syntax.tcons ref0 (Syntax.tcons (Syntax.tyInt Syntax.w64) Syntax.tnil))),) ∷
+            List.[]
         abbrev g33 : List.List Row.Entry
         g33 = (0, Rows.whole (Declared'.row Relayed.the-type)) ∷ (1, Mut.mslice RelayCircuit.row ref5 0,) ∷ (2, Relend.mslice-owed InflightAction.row
-            ref6 1 8 life1,) ∷ (3, Relend.mslice-owed (Referent.rtF (Referent.fInt Syntax.w32)) ref7 2 9 life2,) ∷ (4, Rows.any-gone Laws'''''.mir,) ∷
-            (5, Rows.any-gone Laws'''.mir,) ∷ (6, Rows.sslice (Referent.rtF (Referent.fInt Syntax.w8)) ref8 3,) ∷ (7, Rows.sslice (Referent.rtF
-            (Referent.fInt Syntax.w8)) ref9 4,) ∷ (8, Rows.any-gone Laws'''''''.mir,) ∷ (9, Rows.whole (Declared.row HnsrAnswer.the-type)) ∷ (10,
-            Rows.any-gone Laws''''.mir,) ∷ (11, Rows.whole (Declared'.row Outgoing.the-type)) ∷ (12, Rows.whole (Declared'.row ActionScan.the-type),)
-            ∷ (13, Rows.any-gone ref0,) ∷ (14, Rows.any-gone (Syntax.tyStruct (38 ∷ 91 ∷ 93 ∷ List.[]) (Syntax.tcons ref0 (Syntax.tcons (Syntax.tyInt
-            Syntax.w64) Syntax.tnil))),) ∷ (15, Rows.any-gone ref1,) ∷ List.[]
+            ref6 1 8 life1,) ∷ (3, Relend.mslice-owed (Referent.rtF (Referent.fInt Syntax.w32)) ref7 2 9 life2,) ∷ (4, Rows.any-gone Laws''''''.mir,)
+            ∷ (5, Rows.whole (Declared'.row Places.the-type)) ∷ (6, Rows.any-gone Laws''''.mir,) ∷ (7, Rows.sslice (Referent.rtF (Referent.fInt
+            Syntax.w8)) ref8 3,) ∷ (8, Rows.sslice (Referent.rtF (Referent.fInt Syntax.w8)) ref9 4,) ∷ (9, Rows.any-gone Laws''''''''.mir,) ∷ (10,
+            Rows.whole (Declared.row HnsrAnswer.the-type)) ∷ (11, Rows.any-gone Laws'''''.mir,) ∷ (12, Rows.whole (Declared'.row Outgoing.the-type)) ∷
+            (13, Rows.whole (Declared'.row ActionScan.the-type),) ∷ (14, Rows.any-gone ref0,) ∷ (15, Rows.any-gone (Syntax.tyStruct (38 ∷ 91 ∷ 93 ∷
+            List.[]) (Syntax.tcons ref0 (Syntax.tcons (Syntax.tyInt Syntax.w64) Syntax.tnil))),) ∷ List.[]
         abbrev g34 : List.List Row.Entry
         g34 = (0, Rows.whole (Declared'.row Relayed.the-type)) ∷ (1, Mut.mslice RelayCircuit.row ref5 0,) ∷ (2, Relend.mslice-owed InflightAction.row
-            ref6 1 8 life1,) ∷ (3, Relend.mslice-owed (Referent.rtF (Referent.fInt Syntax.w32)) ref7 2 9 life2,) ∷ (4, Rows.any-gone Laws'''''.mir,) ∷
-            (5, Rows.any-gone Laws'''.mir,) ∷ (6, Rows.sslice (Referent.rtF (Referent.fInt Syntax.w8)) ref8 3,) ∷ (7, Rows.sslice (Referent.rtF
-            (Referent.fInt Syntax.w8)) ref9 4,) ∷ (8, Rows.any-gone Laws'''''''.mir,) ∷ (9, Rows.any-gone Laws.mir,) ∷ (10, Rows.any-gone
-            Laws''''.mir,) ∷ (11, Rows.whole (Declared'.row Outgoing.the-type)) ∷ (12, Rows.whole (Declared'.row ActionScan.the-type),) ∷ (13,
-            Rows.any-gone ref0,) ∷ (14, Rows.any-gone (Syntax.tyStruct (38 ∷ 91 ∷ 93 ∷ List.[]) (Syntax.tcons ref0 (Syntax.tcons (Syntax.tyInt
-            Syntax.w64) Syntax.tnil))),) ∷ (15, Rows.any-gone ref1,) ∷ List.[]
+            ref6 1 8 life1,) ∷ (3, Relend.mslice-owed (Referent.rtF (Referent.fInt Syntax.w32)) ref7 2 9 life2,) ∷ (4, Rows.any-gone Laws''''''.mir,)
+            ∷ (5, Rows.any-gone Laws'.mir,) ∷ (6, Rows.any-gone Laws''''.mir,) ∷ (7, Rows.sslice (Referent.rtF (Referent.fInt Syntax.w8)) ref8 3,) ∷
+            (8, Rows.sslice (Referent.rtF (Referent.fInt Syntax.w8)) ref9 4,) ∷ (9, Rows.any-gone Laws''''''''.mir,) ∷ (10, Rows.whole (Declared.row
+            HnsrAnswer.the-type)) ∷ (11, Rows.any-gone Laws'''''.mir,) ∷ (12, Rows.whole (Declared'.row Outgoing.the-type)) ∷ (13, Rows.whole
+            (Declared'.row ActionScan.the-type),) ∷ (14, Rows.any-gone ref0,) ∷ (15, Rows.any-gone (Syntax.tyStruct (38 ∷ 91 ∷ 93 ∷ List.[])
+            (Syntax.tcons ref0 (Syntax.tcons (Syntax.tyInt Syntax.w64) Syntax.tnil))),) ∷ List.[]
         abbrev g35 : List.List Row.Entry
         g35 = (0, Rows.whole (Declared'.row Relayed.the-type)) ∷ (1, Mut.mslice RelayCircuit.row ref5 0,) ∷ (2, Relend.mslice-owed InflightAction.row
-            ref6 1 8 life1,) ∷ (3, Relend.mslice-owed (Referent.rtF (Referent.fInt Syntax.w32)) ref7 2 9 life2,) ∷ (4, Rows.any-gone Laws'''''.mir,) ∷
-            (5, Rows.any-gone Laws'''.mir,) ∷ (6, Rows.sslice (Referent.rtF (Referent.fInt Syntax.w8)) ref8 3,) ∷ (7, Rows.sslice (Referent.rtF
-            (Referent.fInt Syntax.w8)) ref9 4,) ∷ (8, Rows.any-gone Laws'''''''.mir,) ∷ (9, Rows.any-gone Laws.mir,) ∷ (10, Rows.any-gone
-            Laws''''.mir,) ∷ (11, Rows.any-gone Laws''.mir,) ∷ (12, Rows.whole (Declared'.row ActionScan.the-type)) ∷ (13, Rows.any-gone ref0,) ∷ (14,
-            Rows.any-gone (Syntax.tyStruct (38 ∷ 91 ∷ 93 ∷ List.[]) (Syntax.tcons ref0 (Syntax.tcons (Syntax.tyInt Syntax.w64) Syntax.tnil))),) ∷ (15,
-            Rows.any-gone ref1,) ∷ List.[]
+            ref6 1 8 life1,) ∷ (3, Relend.mslice-owed (Referent.rtF (Referent.fInt Syntax.w32)) ref7 2 9 life2,) ∷ (4, Rows.any-gone Laws''''''.mir,)
+            ∷ (5, Rows.any-gone Laws'.mir,) ∷ (6, Rows.any-gone Laws''''.mir,) ∷ (7, Rows.sslice (Referent.rtF (Referent.fInt Syntax.w8)) ref8 3,) ∷
+            (8, Rows.sslice (Referent.rtF (Referent.fInt Syntax.w8)) ref9 4,) ∷ (9, Rows.any-gone Laws''''''''.mir,) ∷ (10, Rows.any-gone Laws.mir,) ∷
+            (11, Rows.any-gone Laws'''''.mir,) ∷ (12, Rows.whole (Declared'.row Outgoing.the-type)) ∷ (13, Rows.whole (Declared'.row
+            ActionScan.the-type),) ∷ (14, Rows.any-gone ref0,) ∷ (15, Rows.any-gone (Syntax.tyStruct (38 ∷ 91 ∷ 93 ∷ List.[]) (Syntax.tcons ref0
+            (Syntax.tcons (Syntax.tyInt Syntax.w64) Syntax.tnil))),) ∷ List.[]
         abbrev g36 : List.List Row.Entry
         g36 = (0, Rows.whole (Declared'.row Relayed.the-type)) ∷ (1, Mut.mslice RelayCircuit.row ref5 0,) ∷ (2, Relend.mslice-owed InflightAction.row
-            ref6 1 8 life1,) ∷ (3, Relend.mslice-owed (Referent.rtF (Referent.fInt Syntax.w32)) ref7 2 9 life2,) ∷ (4, Rows.any-gone Laws'''''.mir,) ∷
-            (5, Rows.any-gone Laws'''.mir,) ∷ (6, Rows.sslice (Referent.rtF (Referent.fInt Syntax.w8)) ref8 3,) ∷ (7, Rows.sslice (Referent.rtF
-            (Referent.fInt Syntax.w8)) ref9 4,) ∷ (8, Rows.any-gone Laws'''''''.mir,) ∷ (9, Rows.any-gone Laws.mir,) ∷ (10, Rows.any-gone
-            Laws''''.mir,) ∷ (11, Rows.any-gone Laws''.mir,) ∷ (12, Rows.any-gone Laws'.mir,) ∷ (13, Rows.any-gone ref0,) ∷ (14, Rows.any-gone
-            (Syntax.tyStruct (38 ∷ 91 ∷ 93 ∷ List.[]) (Syntax.tcons ref0 (Syntax.tcons (Syntax.tyInt Syntax.w64) Syntax.tnil))),) ∷ (15, Rows.any-gone
-            ref1,) ∷ List.[]
+            ref6 1 8 life1,) ∷ (3, Relend.mslice-owed (Referent.rtF (Referent.fInt Syntax.w32)) ref7 2 9 life2,) ∷ (4, Rows.any-gone Laws''''''.mir,)
+            ∷ (5, Rows.any-gone Laws'.mir,) ∷ (6, Rows.any-gone Laws''''.mir,) ∷ (7, Rows.sslice (Referent.rtF (Referent.fInt Syntax.w8)) ref8 3,) ∷
+            (8, Rows.sslice (Referent.rtF (Referent.fInt Syntax.w8)) ref9 4,) ∷ (9, Rows.any-gone Laws''''''''.mir,) ∷ (10, Rows.any-gone Laws.mir,) ∷
+            (11, Rows.any-gone Laws'''''.mir,) ∷ (12, Rows.any-gone Laws'''.mir,) ∷ (13, Rows.whole (Declared'.row ActionScan.the-type)) ∷ (14,
+            Rows.any-gone ref0,) ∷ (15, Rows.any-gone (Syntax.tyStruct (38 ∷ 91 ∷ 93 ∷ List.[]) (Syntax.tcons ref0 (Syntax.tcons (Syntax.tyInt
+            Syntax.w64) Syntax.tnil))),) ∷ List.[]
         abbrev g37 : List.List Row.Entry
-        g37 = (0, Rows.whole (Declared'.row Relayed.the-type)) ∷ (1, Mut.mslice RelayCircuit.row ref5 0,) ∷ (2, Mut.mslice InflightAction.row ref6 1,)
-            ∷ (3, Relend.mslice-owed (Referent.rtF (Referent.fInt Syntax.w32)) ref7 2 9 life2,) ∷ (4, Rows.any-gone Laws'''''.mir,) ∷ (5,
-            Rows.any-gone Laws'''.mir,) ∷ (6, Rows.sslice (Referent.rtF (Referent.fInt Syntax.w8)) ref8 3,) ∷ (7, Rows.sslice (Referent.rtF
-            (Referent.fInt Syntax.w8)) ref9 4,) ∷ (8, Rows.any-gone Laws'''''''.mir,) ∷ (9, Rows.any-gone Laws.mir,) ∷ (10, Rows.any-gone
-            Laws''''.mir,) ∷ (11, Rows.any-gone Laws''.mir,) ∷ (12, Rows.any-gone Laws'.mir,) ∷ (13, Rows.any-gone ref0,) ∷ (14, Rows.any-gone
-            (Syntax.tyStruct (38 ∷ 91 ∷ 93 ∷ List.[]) (Syntax.tcons ref0 (Syntax.tcons (Syntax.tyInt Syntax.w64) Syntax.tnil))),) ∷ (15, Rows.any-gone
-            ref1,) ∷ List.[]
+        g37 = (0, Rows.whole (Declared'.row Relayed.the-type)) ∷ (1, Mut.mslice RelayCircuit.row ref5 0,) ∷ (2, Relend.mslice-owed InflightAction.row
+            ref6 1 8 life1,) ∷ (3, Relend.mslice-owed (Referent.rtF (Referent.fInt Syntax.w32)) ref7 2 9 life2,) ∷ (4, Rows.any-gone Laws''''''.mir,)
+            ∷ (5, Rows.any-gone Laws'.mir,) ∷ (6, Rows.any-gone Laws''''.mir,) ∷ (7, Rows.sslice (Referent.rtF (Referent.fInt Syntax.w8)) ref8 3,) ∷
+            (8, Rows.sslice (Referent.rtF (Referent.fInt Syntax.w8)) ref9 4,) ∷ (9, Rows.any-gone Laws''''''''.mir,) ∷ (10, Rows.any-gone Laws.mir,) ∷
+            (11, Rows.any-gone Laws'''''.mir,) ∷ (12, Rows.any-gone Laws'''.mir,) ∷ (13, Rows.any-gone Laws''.mir,) ∷ (14, Rows.any-gone ref0,) ∷ (15,
+            Rows.any-gone (Syntax.tyStruct (38 ∷ 91 ∷ 93 ∷ List.[]) (Syntax.tcons ref0 (Syntax.tcons (Syntax.tyInt Syntax.w64) Syntax.tnil))),) ∷
+            List.[]
+        abbrev g38 : List.List Row.Entry
+        g38 = (0, Rows.whole (Declared'.row Relayed.the-type)) ∷ (1, Mut.mslice RelayCircuit.row ref5 0,) ∷ (2, Mut.mslice InflightAction.row ref6 1,)
+            ∷ (3, Relend.mslice-owed (Referent.rtF (Referent.fInt Syntax.w32)) ref7 2 9 life2,) ∷ (4, Rows.any-gone Laws''''''.mir,) ∷ (5,
+            Rows.any-gone Laws'.mir,) ∷ (6, Rows.any-gone Laws''''.mir,) ∷ (7, Rows.sslice (Referent.rtF (Referent.fInt Syntax.w8)) ref8 3,) ∷ (8,
+            Rows.sslice (Referent.rtF (Referent.fInt Syntax.w8)) ref9 4,) ∷ (9, Rows.any-gone Laws''''''''.mir,) ∷ (10, Rows.any-gone Laws.mir,) ∷
+            (11, Rows.any-gone Laws'''''.mir,) ∷ (12, Rows.any-gone Laws'''.mir,) ∷ (13, Rows.any-gone Laws''.mir,) ∷ (14, Rows.any-gone ref0,) ∷ (15,
+            Rows.any-gone (Syntax.tyStruct (38 ∷ 91 ∷ 93 ∷ List.[]) (Syntax.tcons ref0 (Syntax.tcons (Syntax.tyInt Syntax.w64) Syntax.tnil))),) ∷
+            List.[]
         abbrev G0 : Row.Cx
         G0 = record { locals = List._++_ t0 t1; slots = life0 ∷ life1 ∷ life2 ∷ life3 ∷ life4 ∷ Row.off ∷ Row.off ∷ Row.off ∷ Row.off ∷ Row.off ∷
             List.[]; }
@@ -943,10 +984,10 @@ module _ (claims· : Claims) where
         G8 = record { locals = List._++_ g4 t1; slots = Row.off ∷ life1 ∷ life2 ∷ life3 ∷ life4 ∷ Row.alive ∷ Row.alive ∷ Row.off ∷ Row.off ∷ Row.off
             ∷ List.[]; }
         abbrev G9 : Row.Cx
-        G9 = record { locals = List._++_ g5 t1; slots = Row.off ∷ Row.off ∷ life2 ∷ life3 ∷ life4 ∷ Row.alive ∷ Row.alive ∷ Row.off ∷ Row.off ∷
+        G9 = record { locals = List._++_ g5 t6; slots = Row.off ∷ Row.off ∷ life2 ∷ life3 ∷ life4 ∷ Row.alive ∷ Row.alive ∷ Row.off ∷ Row.off ∷
             Row.off ∷ List.[]; }
         abbrev G10 : Row.Cx
-        G10 = record { locals = List._++_ g6 t7; slots = Row.off ∷ Row.off ∷ life2 ∷ life3 ∷ life4 ∷ Row.alive ∷ Row.alive ∷ Row.off ∷ Row.off ∷
+        G10 = record { locals = List._++_ g5 t7; slots = Row.off ∷ Row.off ∷ life2 ∷ life3 ∷ life4 ∷ Row.alive ∷ Row.alive ∷ Row.off ∷ Row.off ∷
             Row.off ∷ List.[]; }
         abbrev G11 : Row.Cx
         G11 = record { locals = List._++_ g8 t7; slots = Row.off ∷ Row.off ∷ life2 ∷ life3 ∷ life4 ∷ Row.alive ∷ Row.alive ∷ Row.off ∷ Row.off ∷
@@ -1054,25 +1095,28 @@ module _ (claims· : Claims) where
         G45 = record { locals = List._++_ g36 t32; slots = life0 ∷ Row.off ∷ Row.off ∷ life3 ∷ life4 ∷ Row.off ∷ Row.off ∷ Row.off ∷ Row.alive ∷
             Row.alive ∷ List.[]; }
         abbrev G46 : Row.Cx
-        G46 = record { locals = List._++_ g36 t32; slots = life0 ∷ Row.off ∷ Row.off ∷ life3 ∷ life4 ∷ Row.off ∷ Row.off ∷ Row.off ∷ Row.dead ∷
+        G46 = record { locals = List._++_ g37 t32; slots = life0 ∷ Row.off ∷ Row.off ∷ life3 ∷ life4 ∷ Row.off ∷ Row.off ∷ Row.off ∷ Row.alive ∷
             Row.alive ∷ List.[]; }
         abbrev G47 : Row.Cx
-        G47 = record { locals = List._++_ g37 t38; slots = life0 ∷ life1 ∷ Row.off ∷ life3 ∷ life4 ∷ Row.off ∷ Row.off ∷ Row.off ∷ Row.dead ∷
+        G47 = record { locals = List._++_ g37 t32; slots = life0 ∷ Row.off ∷ Row.off ∷ life3 ∷ life4 ∷ Row.off ∷ Row.off ∷ Row.off ∷ Row.dead ∷
             Row.alive ∷ List.[]; }
         abbrev G48 : Row.Cx
-        G48 = record { locals = List._++_ g37 t38; slots = life0 ∷ life1 ∷ Row.off ∷ life3 ∷ life4 ∷ Row.off ∷ Row.off ∷ Row.off ∷ Row.off ∷ Row.alive
-            ∷ List.[]; }
+        G48 = record { locals = List._++_ g38 t39; slots = life0 ∷ life1 ∷ Row.off ∷ life3 ∷ life4 ∷ Row.off ∷ Row.off ∷ Row.off ∷ Row.dead ∷
+            Row.alive ∷ List.[]; }
         abbrev G49 : Row.Cx
-        G49 = record { locals = List._++_ g37 t38; slots = life0 ∷ life1 ∷ Row.off ∷ life3 ∷ life4 ∷ Row.off ∷ Row.off ∷ Row.off ∷ Row.off ∷ Row.dead
+        G49 = record { locals = List._++_ g38 t39; slots = life0 ∷ life1 ∷ Row.off ∷ life3 ∷ life4 ∷ Row.off ∷ Row.off ∷ Row.off ∷ Row.off ∷ Row.alive
             ∷ List.[]; }
         abbrev G50 : Row.Cx
-        G50 = record { locals = List._++_ t2 t1; slots = life0 ∷ life1 ∷ life2 ∷ life3 ∷ life4 ∷ Row.off ∷ Row.off ∷ Row.off ∷ Row.off ∷ Row.dead ∷
-            List.[]; }
+        G50 = record { locals = List._++_ g38 t39; slots = life0 ∷ life1 ∷ Row.off ∷ life3 ∷ life4 ∷ Row.off ∷ Row.off ∷ Row.off ∷ Row.off ∷ Row.dead
+            ∷ List.[]; }
         abbrev G51 : Row.Cx
         G51 = record { locals = List._++_ t2 t1; slots = life0 ∷ life1 ∷ life2 ∷ life3 ∷ life4 ∷ Row.off ∷ Row.off ∷ Row.off ∷ Row.off ∷ Row.dead ∷
             List.[]; }
         abbrev G52 : Row.Cx
-        G52 = record { locals = List._++_ t2 t1; slots = life0 ∷ life1 ∷ life2 ∷ life3 ∷ life4 ∷ Row.off ∷ Row.off ∷ Row.off ∷ Row.off ∷ Row.off ∷
+        G52 = record { locals = List._++_ t2 t1; slots = life0 ∷ life1 ∷ life2 ∷ life3 ∷ life4 ∷ Row.off ∷ Row.off ∷ Row.off ∷ Row.off ∷ Row.dead ∷
+            List.[]; }
+        abbrev G53 : Row.Cx
+        G53 = record { locals = List._++_ t2 t1; slots = life0 ∷ life1 ∷ life2 ∷ life3 ∷ life4 ∷ Row.off ∷ Row.off ∷ Row.off ∷ Row.off ∷ Row.off ∷
             List.[]; }
         abbrev Δ0 : Typed.Outs
         Δ0 = record { next = Option.none; exits = List.[]; returns = Option.some G1 }
@@ -1080,318 +1124,342 @@ module _ (claims· : Claims) where
             𝓣) (bs : List.List Nat.ℕ) (bd : Lifetimes.AllOutlive 5 (Kinds.osR r) κs) where
           abbrev E : Wp.Env 𝓤 H
           E = Frame.EnvOf 𝓤 H ((Kinds.tyR r) ∷ (Enter.tysP ps xs)) bs
-          d0 : Typed.Typed 𝓤 H A 𝓣 E G52 b17 Δ0 (at0 bs)
+          d0 : Typed.Typed 𝓤 H A 𝓣 E G53 b17 Δ0 (at0 bs)
           d0 = Typed.t-return 𝓤 H A W 𝓣 E Δ0 tt
-          d1 : Typed.Typed 𝓤 H A 𝓣 E G51 b17 Δ0 (at1 bs)
-          d1 = Typed.g-pre 𝓤 H A W 𝓣 E G51 G52 b17 Δ0 (λ Ψ. Ψ) (at0 bs) (Lifetime.g-forget 𝓤 H A W E G51 9 Row.dead Path.refl) d0
-          d2 : Typed.Typed 𝓤 H A 𝓣 E G50 b17 Δ0 (at2 bs)
-          d2 = Typed.g-pre 𝓤 H A W 𝓣 E G50 G51 b17 Δ0 (Typed.give (s49 bs)) (at1 bs) (Know.g-sl-known 𝓤 H A W (Referent.fInt Syntax.w32) E G50 3 2
+          d1 : Typed.Typed 𝓤 H A 𝓣 E G52 b17 Δ0 (at1 bs)
+          d1 = Typed.g-pre 𝓤 H A W 𝓣 E G52 G53 b17 Δ0 (λ Ψ. Ψ) (at0 bs) (Lifetime.g-forget 𝓤 H A W E G52 9 Row.dead Path.refl) d0
+          d2 : Typed.Typed 𝓤 H A 𝓣 E G51 b17 Δ0 (at2 bs)
+          d2 = Typed.g-pre 𝓤 H A W 𝓣 E G51 G52 b17 Δ0 (Typed.give (s50 bs)) (at1 bs) (Know.g-sl-known 𝓤 H A W (Referent.fInt Syntax.w32) E G51 3 2
               ref7 life2 0 (λ x. x) record { fits = Dec.lit< tt } (Reads'.as-is 𝓤 H A (Mut.mslice (Referent.rtF (Referent.fInt Syntax.w32)) ref7 2))
               Path.refl tt) d1
-          d3 : Typed.Typed 𝓤 H A 𝓣 E G49 b17 Δ0 (at3 bs)
-          d3 = Typed.g-pre 𝓤 H A W 𝓣 E G49 G50 b17 Δ0 (Typed.both (s48 bs)) (at2 bs) (Relend.g-back-sl 𝓤 H A W E (Referent.rtF (Referent.fInt
-              Syntax.w32)) G49 23 3 2 9 ref7 ref4 life2 (λ x. x) (λ x. x) (Reads'.as-is 𝓤 H A (Mut.msleft (Referent.rtF (Referent.fInt Syntax.w32))
+          d3 : Typed.Typed 𝓤 H A 𝓣 E G50 b17 Δ0 (at3 bs)
+          d3 = Typed.g-pre 𝓤 H A W 𝓣 E G50 G51 b17 Δ0 (Typed.both (s49 bs)) (at2 bs) (Relend.g-back-sl 𝓤 H A W E (Referent.rtF (Referent.fInt
+              Syntax.w32)) G50 24 3 2 9 ref7 ref4 life2 (λ x. x) (λ x. x) (Reads'.as-is 𝓤 H A (Mut.msleft (Referent.rtF (Referent.fInt Syntax.w32))
               ref4)) (Reads'.as-is 𝓤 H A (Relend.mslice-owed (Referent.rtF (Referent.fInt Syntax.w32)) ref7 2 9 life2)) Path.refl Path.refl) d2
-          d4 : Typed.Typed 𝓤 H A 𝓣 E G48 b17 Δ0 (at4 bs)
-          d4 = Typed.g-pre 𝓤 H A W 𝓣 E G48 G49 b17 Δ0 (λ Ψ. Ψ) (at3 bs) (Lifetime.g-end 𝓤 H A W E G48 9 Path.refl) d3
-          d5 : Typed.Typed 𝓤 H A 𝓣 E G47 b17 Δ0 (at5 bs)
-          d5 = Typed.g-pre 𝓤 H A W 𝓣 E G47 G48 b17 Δ0 (λ Ψ. Ψ) (at4 bs) (Lifetime.g-forget 𝓤 H A W E G47 8 Row.dead Path.refl) d4
-          d6 : Typed.Typed 𝓤 H A 𝓣 E G46 b17 Δ0 (at6 bs)
-          d6 = Typed.g-pre 𝓤 H A W 𝓣 E G46 G47 b17 Δ0 (Typed.both (s45 bs)) (at5 bs) (Relend.g-back-sl 𝓤 H A W E InflightAction.row G46 21 2 1 8 ref6
+          d4 : Typed.Typed 𝓤 H A 𝓣 E G49 b17 Δ0 (at4 bs)
+          d4 = Typed.g-pre 𝓤 H A W 𝓣 E G49 G50 b17 Δ0 (λ Ψ. Ψ) (at3 bs) (Lifetime.g-end 𝓤 H A W E G49 9 Path.refl) d3
+          d5 : Typed.Typed 𝓤 H A 𝓣 E G48 b17 Δ0 (at5 bs)
+          d5 = Typed.g-pre 𝓤 H A W 𝓣 E G48 G49 b17 Δ0 (λ Ψ. Ψ) (at4 bs) (Lifetime.g-forget 𝓤 H A W E G48 8 Row.dead Path.refl) d4
+          d6 : Typed.Typed 𝓤 H A 𝓣 E G47 b17 Δ0 (at6 bs)
+          d6 = Typed.g-pre 𝓤 H A W 𝓣 E G47 G48 b17 Δ0 (Typed.both (s46 bs)) (at5 bs) (Relend.g-back-sl 𝓤 H A W E InflightAction.row G47 22 2 1 8 ref6
               ref3 life1 (λ x. x) (λ x. x) (Reads'.as-is 𝓤 H A (Mut.msleft InflightAction.row ref3)) (Reads'.as-is 𝓤 H A (Relend.mslice-owed
               InflightAction.row ref6 1 8 life1)) Path.refl Path.refl) d5
-          d7 : Typed.Typed 𝓤 H A 𝓣 E G45 b17 Δ0 (at7 bs)
-          d7 = Typed.g-pre 𝓤 H A W 𝓣 E G45 G46 b17 Δ0 (λ Ψ. Ψ) (at6 bs) (Lifetime.g-end 𝓤 H A W E G45 8 Path.refl) d6
-          d8 : Typed.Typed 𝓤 H A 𝓣 E G44 b17 Δ0 (at8 bs)
-          d8 = Typed.g-pre 𝓤 H A W 𝓣 E G44 G45 b17 Δ0 (Typed.pass T44 T45 (s43 bs)) (at7 bs) (Scalar.g-room 𝓤 H A W E G44 12 Laws'.mir
-              (Local.room-whole 𝓤 H A W (Declared'.row ActionScan.the-type) Laws'.mir Path.refl)) d7
-          d9 : Typed.Typed 𝓤 H A 𝓣 E G43 b17 Δ0 (at9 bs)
-          d9 = Typed.g-pre 𝓤 H A W 𝓣 E G43 G44 b17 Δ0 (Typed.pass T43 T44 (s42 bs)) (at8 bs) (Scalar.g-room 𝓤 H A W E G43 11 Laws''.mir
-              (Local.room-whole 𝓤 H A W (Declared'.row Outgoing.the-type) Laws''.mir Path.refl)) d8
-          d10 : Typed.Typed 𝓤 H A 𝓣 E G42 b17 Δ0 (at10 bs)
-          d10 = Typed.g-pre 𝓤 H A W 𝓣 E G42 G43 b17 Δ0 (Typed.pass T42 T43 (s41 bs)) (at9 bs) (Scalar.g-room 𝓤 H A W E G42 9 Laws.mir
+          d7 : Typed.Typed 𝓤 H A 𝓣 E G46 b17 Δ0 (at7 bs)
+          d7 = Typed.g-pre 𝓤 H A W 𝓣 E G46 G47 b17 Δ0 (λ Ψ. Ψ) (at6 bs) (Lifetime.g-end 𝓤 H A W E G46 8 Path.refl) d6
+          d8 : Typed.Typed 𝓤 H A 𝓣 E G45 b17 Δ0 (at8 bs)
+          d8 = Typed.g-pre 𝓤 H A W 𝓣 E G45 G46 b17 Δ0 (Typed.pass T45 T46 (s44 bs)) (at7 bs) (Scalar.g-room 𝓤 H A W E G45 13 Laws''.mir
+              (Local.room-whole 𝓤 H A W (Declared'.row ActionScan.the-type) Laws''.mir Path.refl)) d7
+          d9 : Typed.Typed 𝓤 H A 𝓣 E G44 b17 Δ0 (at9 bs)
+          d9 = Typed.g-pre 𝓤 H A W 𝓣 E G44 G45 b17 Δ0 (Typed.pass T44 T45 (s43 bs)) (at8 bs) (Scalar.g-room 𝓤 H A W E G44 12 Laws'''.mir
+              (Local.room-whole 𝓤 H A W (Declared'.row Outgoing.the-type) Laws'''.mir Path.refl)) d8
+          d10 : Typed.Typed 𝓤 H A 𝓣 E G43 b17 Δ0 (at10 bs)
+          d10 = Typed.g-pre 𝓤 H A W 𝓣 E G43 G44 b17 Δ0 (Typed.pass T43 T44 (s42 bs)) (at9 bs) (Scalar.g-room 𝓤 H A W E G43 10 Laws.mir
               (Local.room-whole 𝓤 H A W (Declared.row HnsrAnswer.the-type) Laws.mir Path.refl)) d9
-          d11 : Typed.Typed 𝓤 H A 𝓣 E G41 b17 Δ0 (at11 bs)
-          d11 = Typed.g-pre 𝓤 H A W 𝓣 E G41 G42 b17 Δ0 (Typed.pass T41 T42 (s40 bs)) (at10 bs) (Scalar.g-room 𝓤 H A W E G41 4 Laws'''''.mir
-              (Local.room-whole 𝓤 H A W (Declared'.row OpaqueRelayRuntime.the-type) Laws'''''.mir Path.refl)) d10
-          d12 : Typed.Typed 𝓤 H A 𝓣 E G40 b18 Δ0 (at12 bs)
-          d12 = Typed.s-seq 𝓤 H A W 𝓣 E G40 G41 b16 b17 Δ0 (Typed.both (s39 bs)) (at11 bs) (Plain.t-call-plain 𝓤 H A W 𝓣 3 ps·2 r·2 (claims· .4)
-              (claims· .5) "hnsr_circuit::queue::send" (known .2) E (λ pos β. β) G40 (record { pos = 21; ty = Syntax.tyRef Syntax.erased Syntax.mut
-              InflightAction.to; ref = λ x. x; }, (record { pos = 23; ty = Syntax.tyRef Syntax.erased Syntax.mut (Syntax.tyInt Syntax.w32); ref = λ x.
-              x; }, (record { pos = 9; st = List.[]; d = 0; at = λ x. x }, (record { pos = 4; st = List.[]; d = 0; at = λ x. x }, (record { pos = 11;
-              st = List.[]; d = 0; at = λ x. x }, (record { pos = 12; st = List.[]; d = 0; at = λ x. x }, (record { pos = 7; ty = Syntax.tyRef
-              (Syntax.named 4) Syntax.imm (Syntax.tyInt Syntax.w8); ref = λ x. x; }, tt,),),),),),),) 0 (8 ∷ 9 ∷ 4 ∷ List.[]) (Call.sub-id 𝓤 H A W
-              (G40 .slots)) (Reads'.as-is 𝓤 H A (Mut.mslice InflightAction.row ref3 8), Mut.reads-mslice 𝓤 H A W InflightAction.row ref3 8, Path.refl,
-              (Reads'.as-is 𝓤 H A (Mut.mslice (Referent.rtF (Referent.fInt Syntax.w32)) ref4 9), Mut.reads-mslice 𝓤 H A W (Referent.rtF (Referent.fInt
-              Syntax.w32)) ref4 9, Path.refl, ((Yields.yields-copy 𝓤 H A W (λ ρ. Unit) (Declared.row HnsrAnswer.the-type) Path.refl (Copies.cEnum
-              HnsrAnswer.the-type Laws.the-laws Laws.the-copy .copy 𝓤 H A W) (Rows.whole (Declared.row HnsrAnswer.the-type)) (λ x. x) (λ x. x) (λ ρ
-              told. Local.mem-whole 𝓤 H A W (Declared.row HnsrAnswer.the-type) ρ) λ ρ told. Local.whole-mem 𝓤 H A W (Declared.row HnsrAnswer.the-type)
-              ρ, Path.refl,), ((Yields.yields-copy 𝓤 H A W (λ ρ. Unit) (Declared'.row OpaqueRelayRuntime.the-type) Path.refl (Copies.cStruct
-              OpaqueRelayRuntime.the-type Laws'''''.the-laws Laws'''''.the-copy .copy 𝓤 H A W) (Rows.whole (Declared'.row
-              OpaqueRelayRuntime.the-type)) (λ x. x) (λ x. x) (λ ρ told. Local.mem-whole 𝓤 H A W (Declared'.row OpaqueRelayRuntime.the-type) ρ) λ ρ
-              told. Local.whole-mem 𝓤 H A W (Declared'.row OpaqueRelayRuntime.the-type) ρ, Path.refl,), ((Yields.yields-copy 𝓤 H A W (λ ρ. Unit)
-              (Declared'.row Outgoing.the-type) Path.refl (Copies.cStruct Outgoing.the-type Laws''.the-laws Laws''.the-copy .copy 𝓤 H A W) (Rows.whole
-              (Declared'.row Outgoing.the-type)) (λ x. x) (λ x. x) (λ ρ told. Local.mem-whole 𝓤 H A W (Declared'.row Outgoing.the-type) ρ) λ ρ told.
-              Local.whole-mem 𝓤 H A W (Declared'.row Outgoing.the-type) ρ, Path.refl,), ((Yields.yields-copy 𝓤 H A W (λ ρ. Unit) (Declared'.row
-              ActionScan.the-type) Path.refl (Copies.cStruct ActionScan.the-type Laws'.the-laws Laws'.the-copy .copy 𝓤 H A W) (Rows.whole
-              (Declared'.row ActionScan.the-type)) (λ x. x) (λ x. x) (λ ρ told. Local.mem-whole 𝓤 H A W (Declared'.row ActionScan.the-type) ρ) λ ρ
-              told. Local.whole-mem 𝓤 H A W (Declared'.row ActionScan.the-type) ρ, Path.refl,), (ShrSlice.spares-sslice 𝓤 H A W (Referent.rtF
-              (Referent.fInt Syntax.w8)) ref9 4, Shared.reads-sslice 𝓤 H A W (Referent.rtF (Referent.fInt Syntax.w8)) ref9 4, Path.refl,
-              tt,),),),),),),) (Reads'.room-gone 𝓤 H A Laws''''''.mir) (tt, (tt, (tt, tt))) Path.refl) d11
-          d13 : Typed.Typed 𝓤 H A 𝓣 E G39 b19 Δ0 (at13 bs)
-          d13 = Typed.s-seq 𝓤 H A W 𝓣 E G39 G40 b15 b18 Δ0 (Typed.ask (s38 bs)) (at12 bs) (Relend.t-sl-aggregate 𝓤 H A W E (Referent.rtF
-              (Referent.fInt Syntax.w32)) 𝓣 (Relend.asMut (Referent.rtF (Referent.fInt Syntax.w32))) G39 22 23 9 ref4 ref4 (λ x. x) (Scalar.oFld 3
+          d11 : Typed.Typed 𝓤 H A 𝓣 E G42 b17 Δ0 (at11 bs)
+          d11 = Typed.g-pre 𝓤 H A W 𝓣 E G42 G43 b17 Δ0 (Typed.pass T42 T43 (s41 bs)) (at10 bs) (Scalar.g-room 𝓤 H A W E G42 5 Laws'.mir
+              (Local.room-whole 𝓤 H A W (Declared'.row Places.the-type) Laws'.mir Path.refl)) d10
+          d12 : Typed.Typed 𝓤 H A 𝓣 E G41 b17 Δ0 (at12 bs)
+          d12 = Typed.g-pre 𝓤 H A W 𝓣 E G41 G42 b17 Δ0 (Typed.pass T41 T42 (s40 bs)) (at11 bs) (Scalar.g-room 𝓤 H A W E G41 4 Laws''''''.mir
+              (Local.room-whole 𝓤 H A W (Declared'.row OpaqueRelayRuntime.the-type) Laws''''''.mir Path.refl)) d11
+          d13 : Typed.Typed 𝓤 H A 𝓣 E G40 b18 Δ0 (at13 bs)
+          d13 = Typed.s-seq 𝓤 H A W 𝓣 E G40 G41 b16 b17 Δ0 (Typed.both (s39 bs)) (at12 bs) (Plain.t-call-plain 𝓤 H A W 𝓣 3 ps·2 r·2 (claims· .4)
+              (claims· .5) "hnsr_circuit::queue::send" (known .2) E (λ pos β. β) G40 (record { pos = 22; ty = Syntax.tyRef Syntax.erased Syntax.mut
+              InflightAction.to; ref = λ x. x; }, (record { pos = 24; ty = Syntax.tyRef Syntax.erased Syntax.mut (Syntax.tyInt Syntax.w32); ref = λ x.
+              x; }, (record { pos = 10; st = List.[]; d = 0; at = λ x. x }, (record { pos = 4; st = List.[]; d = 0; at = λ x. x }, (record { pos = 5;
+              st = List.[]; d = 0; at = λ x. x }, (record { pos = 12; st = List.[]; d = 0; at = λ x. x }, (record { pos = 13; st = List.[]; d = 0; at
+              = λ x. x }, (record { pos = 8; ty = Syntax.tyRef (Syntax.named 4) Syntax.imm (Syntax.tyInt Syntax.w8); ref = λ x. x; },
+              tt,),),),),),),),) 0 (8 ∷ 9 ∷ 4 ∷ List.[]) (Call.sub-id 𝓤 H A W (G40 .slots)) (Reads'.as-is 𝓤 H A (Mut.mslice InflightAction.row ref3
+              8), Mut.reads-mslice 𝓤 H A W InflightAction.row ref3 8, Path.refl, (Reads'.as-is 𝓤 H A (Mut.mslice (Referent.rtF (Referent.fInt
+              Syntax.w32)) ref4 9), Mut.reads-mslice 𝓤 H A W (Referent.rtF (Referent.fInt Syntax.w32)) ref4 9, Path.refl, ((Yields.yields-copy 𝓤 H A W
+              (λ ρ. Unit) (Declared.row HnsrAnswer.the-type) Path.refl (Copies.cEnum HnsrAnswer.the-type Laws.the-laws Laws.the-copy .copy 𝓤 H A W)
+              (Rows.whole (Declared.row HnsrAnswer.the-type)) (λ x. x) (λ x. x) (λ ρ told. Local.mem-whole 𝓤 H A W (Declared.row HnsrAnswer.the-type)
+              ρ) λ ρ told. Local.whole-mem 𝓤 H A W (Declared.row HnsrAnswer.the-type) ρ, Path.refl,), ((Yields.yields-copy 𝓤 H A W (λ ρ. Unit)
+              (Declared'.row OpaqueRelayRuntime.the-type) Path.refl (Copies.cStruct OpaqueRelayRuntime.the-type Laws''''''.the-laws
+              Laws''''''.the-copy .copy 𝓤 H A W) (Rows.whole (Declared'.row OpaqueRelayRuntime.the-type)) (λ x. x) (λ x. x) (λ ρ told. Local.mem-whole
+              𝓤 H A W (Declared'.row OpaqueRelayRuntime.the-type) ρ) λ ρ told. Local.whole-mem 𝓤 H A W (Declared'.row OpaqueRelayRuntime.the-type) ρ,
+              Path.refl,), ((Yields.yields-copy 𝓤 H A W (λ ρ. Unit) (Declared'.row Places.the-type) Path.refl (Copies.cStruct Places.the-type
+              Laws'.the-laws Laws'.the-copy .copy 𝓤 H A W) (Rows.whole (Declared'.row Places.the-type)) (λ x. x) (λ x. x) (λ ρ told. Local.mem-whole 𝓤
+              H A W (Declared'.row Places.the-type) ρ) λ ρ told. Local.whole-mem 𝓤 H A W (Declared'.row Places.the-type) ρ, Path.refl,),
+              ((Yields.yields-copy 𝓤 H A W (λ ρ. Unit) (Declared'.row Outgoing.the-type) Path.refl (Copies.cStruct Outgoing.the-type Laws'''.the-laws
+              Laws'''.the-copy .copy 𝓤 H A W) (Rows.whole (Declared'.row Outgoing.the-type)) (λ x. x) (λ x. x) (λ ρ told. Local.mem-whole 𝓤 H A W
+              (Declared'.row Outgoing.the-type) ρ) λ ρ told. Local.whole-mem 𝓤 H A W (Declared'.row Outgoing.the-type) ρ, Path.refl,),
+              ((Yields.yields-copy 𝓤 H A W (λ ρ. Unit) (Declared'.row ActionScan.the-type) Path.refl (Copies.cStruct ActionScan.the-type
+              Laws''.the-laws Laws''.the-copy .copy 𝓤 H A W) (Rows.whole (Declared'.row ActionScan.the-type)) (λ x. x) (λ x. x) (λ ρ told.
+              Local.mem-whole 𝓤 H A W (Declared'.row ActionScan.the-type) ρ) λ ρ told. Local.whole-mem 𝓤 H A W (Declared'.row ActionScan.the-type) ρ,
+              Path.refl,), (ShrSlice.spares-sslice 𝓤 H A W (Referent.rtF (Referent.fInt Syntax.w8)) ref9 4, Shared.reads-sslice 𝓤 H A W (Referent.rtF
+              (Referent.fInt Syntax.w8)) ref9 4, Path.refl, tt,),),),),),),),) (Reads'.room-gone 𝓤 H A Laws'''''''.mir) (tt, (tt, (tt, tt)))
+              Path.refl) d12
+          d14 : Typed.Typed 𝓤 H A 𝓣 E G39 b19 Δ0 (at14 bs)
+          d14 = Typed.s-seq 𝓤 H A W 𝓣 E G39 G40 b15 b18 Δ0 (Typed.ask (s38 bs)) (at13 bs) (Relend.t-sl-aggregate 𝓤 H A W E (Referent.rtF
+              (Referent.fInt Syntax.w32)) 𝓣 (Relend.asMut (Referent.rtF (Referent.fInt Syntax.w32))) G39 23 24 9 ref4 ref4 (λ x. x) (Scalar.oFld 3
               ((Syntax.field 1) ∷ List.[]) (Syntax.tyInt Syntax.w64) 8 λ v. Shared.lenV (v .0)) (Reads'.as-is 𝓤 H A (Relend.msptr (Referent.rtF
               (Referent.fInt Syntax.w32)) ref4 9)) (Reads'.room-gone 𝓤 H A (Syntax.tyStruct (38 ∷ 91 ∷ 93 ∷ List.[]) (Syntax.tcons ref4 (Syntax.tcons
               (Syntax.tyInt Syntax.w64) Syntax.tnil)))) (Relend.reads-owed-len 𝓤 H A W (Referent.rtF (Referent.fInt Syntax.w32)) ref7 2 9 life2 8
-              Path.refl, Path.refl,) Path.refl Path.refl λ b o k. tt) d12
-          d14 : Typed.Typed 𝓤 H A 𝓣 E G38 b20 Δ0 (at14 bs)
-          d14 = Typed.s-seq 𝓤 H A W 𝓣 E G38 G39 b14 b19 Δ0 (Typed.give (s37 bs)) (at13 bs) (Relend.t-sl-relend 𝓤 H A W E (Referent.rtF (Referent.fInt
-              Syntax.w32)) 𝓣 G38 3 22 2 9 ref7 ref4 life2 0 (λ x. x) (Reads'.as-is 𝓤 H A (Mut.mslice (Referent.rtF (Referent.fInt Syntax.w32)) ref7
-              2)) (Reads'.room-gone 𝓤 H A ref4) Path.refl tt Path.refl Path.refl Path.refl λ b o. tt) d13
-          d15 : Typed.Typed 𝓤 H A 𝓣 E G37 b20 Δ0 (at15 bs)
-          d15 = Typed.g-pre 𝓤 H A W 𝓣 E G37 G38 b20 Δ0 (λ Ψ. Ψ) (at14 bs) (Lifetime.g-begin 𝓤 H A W E G37 9 (tt, (tt, ((tt, tt), (tt, (tt, (tt, (tt,
-              (tt, (tt, (tt, (tt, (tt, (tt, (tt, (tt, (tt, (tt, (tt, (tt, (tt, (tt, (tt, (tt, (tt, tt))))))),),),),),),),),),),),),),),),),),)) d14
-          d16 : Typed.Typed 𝓤 H A 𝓣 E G36 b21 Δ0 (at16 bs)
-          d16 = Typed.s-seq 𝓤 H A W 𝓣 E G36 G37 b13 b20 Δ0 (Typed.ask (s35 bs)) (at15 bs) (Relend.t-sl-aggregate 𝓤 H A W E InflightAction.row 𝓣
-              (Relend.asMut InflightAction.row) G36 20 21 8 ref3 ref3 (λ x. x) (Scalar.oFld 2 ((Syntax.field 1) ∷ List.[]) (Syntax.tyInt Syntax.w64) 8
+              Path.refl, Path.refl,) Path.refl Path.refl λ b o k. tt) d13
+          d15 : Typed.Typed 𝓤 H A 𝓣 E G38 b20 Δ0 (at15 bs)
+          d15 = Typed.s-seq 𝓤 H A W 𝓣 E G38 G39 b14 b19 Δ0 (Typed.give (s37 bs)) (at14 bs) (Relend.t-sl-relend 𝓤 H A W E (Referent.rtF (Referent.fInt
+              Syntax.w32)) 𝓣 G38 3 23 2 9 ref7 ref4 life2 0 (λ x. x) (Reads'.as-is 𝓤 H A (Mut.mslice (Referent.rtF (Referent.fInt Syntax.w32)) ref7
+              2)) (Reads'.room-gone 𝓤 H A ref4) Path.refl tt Path.refl Path.refl Path.refl λ b o. tt) d14
+          d16 : Typed.Typed 𝓤 H A 𝓣 E G37 b20 Δ0 (at16 bs)
+          d16 = Typed.g-pre 𝓤 H A W 𝓣 E G37 G38 b20 Δ0 (λ Ψ. Ψ) (at15 bs) (Lifetime.g-begin 𝓤 H A W E G37 9 (tt, (tt, ((tt, tt), (tt, (tt, (tt, (tt,
+              (tt, (tt, (tt, (tt, (tt, (tt, (tt, (tt, (tt, (tt, (tt, (tt, (tt, (tt, (tt, (tt, (tt, (tt,
+              tt)))))),),),),),),),),),),),),),),),),),),),)) d15
+          d17 : Typed.Typed 𝓤 H A 𝓣 E G36 b21 Δ0 (at17 bs)
+          d17 = Typed.s-seq 𝓤 H A W 𝓣 E G36 G37 b13 b20 Δ0 (Typed.ask (s35 bs)) (at16 bs) (Relend.t-sl-aggregate 𝓤 H A W E InflightAction.row 𝓣
+              (Relend.asMut InflightAction.row) G36 21 22 8 ref3 ref3 (λ x. x) (Scalar.oFld 2 ((Syntax.field 1) ∷ List.[]) (Syntax.tyInt Syntax.w64) 8
               λ v. Shared.lenV (v .0)) (Reads'.as-is 𝓤 H A (Relend.msptr InflightAction.row ref3 8)) (Reads'.room-gone 𝓤 H A (Syntax.tyStruct (38 ∷ 91
               ∷ 93 ∷ List.[]) (Syntax.tcons ref3 (Syntax.tcons (Syntax.tyInt Syntax.w64) Syntax.tnil)))) (Relend.reads-owed-len 𝓤 H A W
-              InflightAction.row ref6 1 8 life1 8 Path.refl, Path.refl,) Path.refl Path.refl λ b o k. tt) d15
-          d17 : Typed.Typed 𝓤 H A 𝓣 E G35 b22 Δ0 (at17 bs)
-          d17 = Typed.s-seq 𝓤 H A W 𝓣 E G35 G36 b12 b21 Δ0 (Typed.give (s34 bs)) (at16 bs) (Relend.t-sl-relend 𝓤 H A W E InflightAction.row 𝓣 G35 2 20
+              InflightAction.row ref6 1 8 life1 8 Path.refl, Path.refl,) Path.refl Path.refl λ b o k. tt) d16
+          d18 : Typed.Typed 𝓤 H A 𝓣 E G35 b22 Δ0 (at18 bs)
+          d18 = Typed.s-seq 𝓤 H A W 𝓣 E G35 G36 b12 b21 Δ0 (Typed.give (s34 bs)) (at17 bs) (Relend.t-sl-relend 𝓤 H A W E InflightAction.row 𝓣 G35 2 21
               1 8 ref6 ref3 life1 0 (λ x. x) (Reads'.as-is 𝓤 H A (Mut.mslice InflightAction.row ref6 1)) (Reads'.room-gone 𝓤 H A ref3) Path.refl tt
-              Path.refl Path.refl Path.refl λ b o. tt) d16
-          d18 : Typed.Typed 𝓤 H A 𝓣 E G34 b22 Δ0 (at18 bs)
-          d18 = Typed.g-pre 𝓤 H A W 𝓣 E G34 G35 b22 Δ0 (λ Ψ. Ψ) (at17 bs) (Lifetime.g-begin 𝓤 H A W E G34 8 (tt, (tt, (tt, (tt, (tt, (tt, (tt, (tt,
-              (tt, (tt, (tt, (tt, (tt, (tt, (tt, (tt, (tt, (tt, (tt, (tt, (tt, (tt, (tt, (tt, tt))))))),),),),),),),),),),),),),),),),),)) d17
-          d19 : Typed.Typed 𝓤 H A 𝓣 E G33 b22 Δ0 (at19 bs)
-          d19 = Typed.g-pre 𝓤 H A W 𝓣 E G33 G34 b22 Δ0 (λ Ψ. Ψ) (at18 bs) (Lifetime.g-forget 𝓤 H A W E G33 7 Row.dead Path.refl) d18
-          d20 : Typed.Typed 𝓤 H A 𝓣 E G32 b22 Δ0 (at20 bs)
-          d20 = Typed.g-pre 𝓤 H A W 𝓣 E G32 G33 b22 Δ0 (Typed.both (s31 bs)) (at19 bs) (Relend.g-back-sl 𝓤 H A W E RelayCircuit.row G32 19 1 0 7 ref5
+              Path.refl Path.refl Path.refl λ b o. tt) d17
+          d19 : Typed.Typed 𝓤 H A 𝓣 E G34 b22 Δ0 (at19 bs)
+          d19 = Typed.g-pre 𝓤 H A W 𝓣 E G34 G35 b22 Δ0 (λ Ψ. Ψ) (at18 bs) (Lifetime.g-begin 𝓤 H A W E G34 8 (tt, (tt, (tt, (tt, (tt, (tt, (tt, (tt,
+              (tt, (tt, (tt, (tt, (tt, (tt, (tt, (tt, (tt, (tt, (tt, (tt, (tt, (tt, (tt, (tt, (tt, tt)))))),),),),),),),),),),),),),),),),),),),)) d18
+          d20 : Typed.Typed 𝓤 H A 𝓣 E G33 b22 Δ0 (at20 bs)
+          d20 = Typed.g-pre 𝓤 H A W 𝓣 E G33 G34 b22 Δ0 (λ Ψ. Ψ) (at19 bs) (Lifetime.g-forget 𝓤 H A W E G33 7 Row.dead Path.refl) d19
+          d21 : Typed.Typed 𝓤 H A 𝓣 E G32 b22 Δ0 (at21 bs)
+          d21 = Typed.g-pre 𝓤 H A W 𝓣 E G32 G33 b22 Δ0 (Typed.both (s31 bs)) (at20 bs) (Relend.g-back-sl 𝓤 H A W E RelayCircuit.row G32 20 1 0 7 ref5
               ref2 life0 (λ x. x) (λ x. x) (Reads'.as-is 𝓤 H A (Mut.msleft RelayCircuit.row ref2)) (Reads'.as-is 𝓤 H A (Relend.mslice-owed
-              RelayCircuit.row ref5 0 7 life0)) Path.refl Path.refl) d19
-          d21 : Typed.Typed 𝓤 H A 𝓣 E G31 b22 Δ0 (at21 bs)
-          d21 = Typed.g-pre 𝓤 H A W 𝓣 E G31 G32 b22 Δ0 (λ Ψ. Ψ) (at20 bs) (Lifetime.g-end 𝓤 H A W E G31 7 Path.refl) d20
-          d22 : Typed.Typed 𝓤 H A 𝓣 E G30 b22 Δ0 (at22 bs)
-          d22 = Typed.g-pre 𝓤 H A W 𝓣 E G30 G31 b22 Δ0 (Typed.pass T30 T31 (s29 bs)) (at21 bs) (Scalar.g-room 𝓤 H A W E G30 17 Syntax.tyUnit
-              (Scalar.room-sc 𝓤 H A W Row.sUnit)) d21
-          d23 : Typed.Typed 𝓤 H A 𝓣 E G29 b22 Δ0 (at23 bs)
-          d23 = Typed.g-pre 𝓤 H A W 𝓣 E G29 G30 b22 Δ0 (Typed.pass T29 T30 (s28 bs)) (at22 bs) (Scalar.g-room 𝓤 H A W E G29 10 Laws''''.mir
-              (Local.room-whole 𝓤 H A W (Declared.row RelaySide.the-type) Laws''''.mir Path.refl)) d22
-          d24 : Typed.Typed 𝓤 H A 𝓣 E G28 b22 Δ0 (at24 bs)
-          d24 = Typed.g-pre 𝓤 H A W 𝓣 E G28 G29 b22 Δ0 (Typed.pass T28 T29 (s27 bs)) (at23 bs) (Scalar.g-room 𝓤 H A W E G28 8 Laws'''''''.mir
-              (Local.room-whole 𝓤 H A W (Declared'.row WindowPlan.the-type) Laws'''''''.mir Path.refl)) d23
-          d25 : Typed.Typed 𝓤 H A 𝓣 E G27 b23 Δ0 (at25 bs)
-          d25 = Typed.s-seq 𝓤 H A W 𝓣 E G27 G28 b11 b22 Δ0 (Typed.both (s26 bs)) (at24 bs) (Plain.t-call-plain 𝓤 H A W 𝓣 1 ps·1 r·1 (claims· .2)
-              (claims· .3) "hnsr_circuit::handle_window::raise_circuit" (known .1) E (λ pos β. β) G27 (record { pos = 19; ty = Syntax.tyRef
-              Syntax.erased Syntax.mut RelayCircuit.to; ref = λ x. x; }, (Bool.bFld 8 ((Syntax.field 1) ∷ List.[]) 48 λ x. WindowPlan.struct
-              .as-values x .1 .0, (Num.vFld 8 ((Syntax.field 2) ∷ List.[]) 56 λ x. WindowPlan.struct .as-values x .1 .1 .0, (record { pos = 10; st =
-              List.[]; d = 0; at = λ x. x }, (Num.vFld 8 ((Syntax.field 4) ∷ List.[]) 68 λ x. WindowPlan.struct .as-values x .1 .1 .1 .1 .0,
-              tt,),),),),) 17 (7 ∷ List.[]) (Call.sub-id 𝓤 H A W (G27 .slots)) (Reads'.as-is 𝓤 H A (Mut.mslice RelayCircuit.row ref2 7),
-              Mut.reads-mslice 𝓤 H A W RelayCircuit.row ref2 7, Path.refl, ((Reads.reads-field 𝓤 H A W WindowPlan.the-type Laws'''''''.the-laws 1
-              Syntax.tyBool 48 Path.refl, Path.refl,), ((Reads.reads-field 𝓤 H A W WindowPlan.the-type Laws'''''''.the-laws 2 (Syntax.tyInt
-              Syntax.w64) 56 Path.refl, Path.refl,), ((Yields.yields-copy 𝓤 H A W (λ ρ. Unit) (Declared.row RelaySide.the-type) Path.refl
-              (Copies.cEnum RelaySide.the-type Laws''''.the-laws Laws''''.the-copy .copy 𝓤 H A W) (Rows.whole (Declared.row RelaySide.the-type)) (λ x.
-              x) (λ x. x) (λ ρ told. Local.mem-whole 𝓤 H A W (Declared.row RelaySide.the-type) ρ) λ ρ told. Local.whole-mem 𝓤 H A W (Declared.row
-              RelaySide.the-type) ρ, Path.refl,), ((Reads.reads-field 𝓤 H A W WindowPlan.the-type Laws'''''''.the-laws 4 (Syntax.tyInt Syntax.w32) 68
-              Path.refl, Path.refl,), tt,),),),),) (Reads'.room-gone 𝓤 H A Syntax.tyUnit) (tt, tt) Path.refl) d24
-          d26 : Typed.Typed 𝓤 H A 𝓣 E G26 b24 Δ0 (at26 bs)
-          d26 = Typed.s-seq 𝓤 H A W 𝓣 E G26 G27 b10 b23 Δ0 (Typed.ask (s25 bs)) (at25 bs) (Relend.t-sl-aggregate 𝓤 H A W E RelayCircuit.row 𝓣
-              (Relend.asMut RelayCircuit.row) G26 18 19 7 ref2 ref2 (λ x. x) (Scalar.oFld 1 ((Syntax.field 1) ∷ List.[]) (Syntax.tyInt Syntax.w64) 8 λ
+              RelayCircuit.row ref5 0 7 life0)) Path.refl Path.refl) d20
+          d22 : Typed.Typed 𝓤 H A 𝓣 E G31 b22 Δ0 (at22 bs)
+          d22 = Typed.g-pre 𝓤 H A W 𝓣 E G31 G32 b22 Δ0 (λ Ψ. Ψ) (at21 bs) (Lifetime.g-end 𝓤 H A W E G31 7 Path.refl) d21
+          d23 : Typed.Typed 𝓤 H A 𝓣 E G30 b22 Δ0 (at23 bs)
+          d23 = Typed.g-pre 𝓤 H A W 𝓣 E G30 G31 b22 Δ0 (Typed.pass T30 T31 (s29 bs)) (at22 bs) (Scalar.g-room 𝓤 H A W E G30 18 Syntax.tyUnit
+              (Scalar.room-sc 𝓤 H A W Row.sUnit)) d22
+          d24 : Typed.Typed 𝓤 H A 𝓣 E G29 b22 Δ0 (at24 bs)
+          d24 = Typed.g-pre 𝓤 H A W 𝓣 E G29 G30 b22 Δ0 (Typed.pass T29 T30 (s28 bs)) (at23 bs) (Scalar.g-room 𝓤 H A W E G29 11 Laws'''''.mir
+              (Local.room-whole 𝓤 H A W (Declared.row RelaySide.the-type) Laws'''''.mir Path.refl)) d23
+          d25 : Typed.Typed 𝓤 H A 𝓣 E G28 b22 Δ0 (at25 bs)
+          d25 = Typed.g-pre 𝓤 H A W 𝓣 E G28 G29 b22 Δ0 (Typed.pass T28 T29 (s27 bs)) (at24 bs) (Scalar.g-room 𝓤 H A W E G28 9 Laws''''''''.mir
+              (Local.room-whole 𝓤 H A W (Declared'.row WindowPlan.the-type) Laws''''''''.mir Path.refl)) d24
+          d26 : Typed.Typed 𝓤 H A 𝓣 E G27 b23 Δ0 (at26 bs)
+          d26 = Typed.s-seq 𝓤 H A W 𝓣 E G27 G28 b11 b22 Δ0 (Typed.both (s26 bs)) (at25 bs) (Plain.t-call-plain 𝓤 H A W 𝓣 1 ps·1 r·1 (claims· .2)
+              (claims· .3) "hnsr_circuit::handle_window::raise_circuit" (known .1) E (λ pos β. β) G27 (record { pos = 20; ty = Syntax.tyRef
+              Syntax.erased Syntax.mut RelayCircuit.to; ref = λ x. x; }, (record { pos = 5; st = List.[]; d = 0; at = λ x. x }, (Bool.bFld 9
+              ((Syntax.field 1) ∷ List.[]) 48 λ x. WindowPlan.struct .as-values x .1 .0, (Num.vFld 9 ((Syntax.field 2) ∷ List.[]) 56 λ x.
+              WindowPlan.struct .as-values x .1 .1 .0, (record { pos = 11; st = List.[]; d = 0; at = λ x. x }, (Num.vFld 9 ((Syntax.field 4) ∷
+              List.[]) 68 λ x. WindowPlan.struct .as-values x .1 .1 .1 .1 .0, tt,),),),),),) 18 (7 ∷ List.[]) (Call.sub-id 𝓤 H A W (G27 .slots))
+              (Reads'.as-is 𝓤 H A (Mut.mslice RelayCircuit.row ref2 7), Mut.reads-mslice 𝓤 H A W RelayCircuit.row ref2 7, Path.refl,
+              ((Yields.yields-copy 𝓤 H A W (λ ρ. Unit) (Declared'.row Places.the-type) Path.refl (Copies.cStruct Places.the-type Laws'.the-laws
+              Laws'.the-copy .copy 𝓤 H A W) (Rows.whole (Declared'.row Places.the-type)) (λ x. x) (λ x. x) (λ ρ told. Local.mem-whole 𝓤 H A W
+              (Declared'.row Places.the-type) ρ) λ ρ told. Local.whole-mem 𝓤 H A W (Declared'.row Places.the-type) ρ, Path.refl,), ((Reads.reads-field
+              𝓤 H A W WindowPlan.the-type Laws''''''''.the-laws 1 Syntax.tyBool 48 Path.refl, Path.refl,), ((Reads.reads-field 𝓤 H A W
+              WindowPlan.the-type Laws''''''''.the-laws 2 (Syntax.tyInt Syntax.w64) 56 Path.refl, Path.refl,), ((Yields.yields-copy 𝓤 H A W (λ ρ.
+              Unit) (Declared.row RelaySide.the-type) Path.refl (Copies.cEnum RelaySide.the-type Laws'''''.the-laws Laws'''''.the-copy .copy 𝓤 H A W)
+              (Rows.whole (Declared.row RelaySide.the-type)) (λ x. x) (λ x. x) (λ ρ told. Local.mem-whole 𝓤 H A W (Declared.row RelaySide.the-type) ρ)
+              λ ρ told. Local.whole-mem 𝓤 H A W (Declared.row RelaySide.the-type) ρ, Path.refl,), ((Reads.reads-field 𝓤 H A W WindowPlan.the-type
+              Laws''''''''.the-laws 4 (Syntax.tyInt Syntax.w32) 68 Path.refl, Path.refl,), tt,),),),),),) (Reads'.room-gone 𝓤 H A Syntax.tyUnit) (tt,
+              tt) Path.refl) d25
+          d27 : Typed.Typed 𝓤 H A 𝓣 E G26 b24 Δ0 (at27 bs)
+          d27 = Typed.s-seq 𝓤 H A W 𝓣 E G26 G27 b10 b23 Δ0 (Typed.ask (s25 bs)) (at26 bs) (Relend.t-sl-aggregate 𝓤 H A W E RelayCircuit.row 𝓣
+              (Relend.asMut RelayCircuit.row) G26 19 20 7 ref2 ref2 (λ x. x) (Scalar.oFld 1 ((Syntax.field 1) ∷ List.[]) (Syntax.tyInt Syntax.w64) 8 λ
               v. Shared.lenV (v .0)) (Reads'.as-is 𝓤 H A (Relend.msptr RelayCircuit.row ref2 7)) (Reads'.room-gone 𝓤 H A (Syntax.tyStruct (38 ∷ 91 ∷
               93 ∷ List.[]) (Syntax.tcons ref2 (Syntax.tcons (Syntax.tyInt Syntax.w64) Syntax.tnil)))) (Relend.reads-owed-len 𝓤 H A W RelayCircuit.row
-              ref5 0 7 life0 8 Path.refl, Path.refl,) Path.refl Path.refl λ b o k. tt) d25
-          d27 : Typed.Typed 𝓤 H A 𝓣 E G25 b25 Δ0 (at27 bs)
-          d27 = Typed.s-seq 𝓤 H A W 𝓣 E G25 G26 b9 b24 Δ0 (Typed.give (s24 bs)) (at26 bs) (Relend.t-sl-relend 𝓤 H A W E RelayCircuit.row 𝓣 G25 1 18 0
+              ref5 0 7 life0 8 Path.refl, Path.refl,) Path.refl Path.refl λ b o k. tt) d26
+          d28 : Typed.Typed 𝓤 H A 𝓣 E G25 b25 Δ0 (at28 bs)
+          d28 = Typed.s-seq 𝓤 H A W 𝓣 E G25 G26 b9 b24 Δ0 (Typed.give (s24 bs)) (at27 bs) (Relend.t-sl-relend 𝓤 H A W E RelayCircuit.row 𝓣 G25 1 19 0
               7 ref5 ref2 life0 0 (λ x. x) (Reads'.as-is 𝓤 H A (Mut.mslice RelayCircuit.row ref5 0)) (Reads'.room-gone 𝓤 H A ref2) Path.refl tt
-              Path.refl Path.refl Path.refl λ b o. tt) d26
-          d28 : Typed.Typed 𝓤 H A 𝓣 E G24 b25 Δ0 (at28 bs)
-          d28 = Typed.g-pre 𝓤 H A W 𝓣 E G24 G25 b25 Δ0 (λ Ψ. Ψ) (at27 bs) (Lifetime.g-begin 𝓤 H A W E G24 7 (tt, (tt, (tt, (tt, (tt, (tt, (tt, (tt,
-              (tt, (tt, (tt, (tt, (tt, (tt, (tt, (tt, (tt, (tt, (tt, (tt, (tt, (tt, (tt, (tt, tt))))))),),),),),),),),),),),),),),),),),)) d27
-          d29 : Typed.Typed 𝓤 H A 𝓣 E G23 b26 Δ0 (at29 bs)
-          d29 = Typed.s-seq 𝓤 H A W 𝓣 E G23 G24 b8 b25 Δ0 (Typed.both (s22 bs)) (at28 bs) (WayStmt.t-way-copy-out 𝓤 H A W E 𝓣 (Declared'.row
-              ActionScan.the-type) Path.refl (Copies.cStruct ActionScan.the-type Laws'.the-laws Laws'.the-copy .copy 𝓤 H A W) (λ ρ. Unit) G23 (Row.out
-              8 (G23 .locals)) (λ u. Row.drop 8 (G23 .locals) u) (G23 .slots) 8 (λ t. (Syntax.field 6) ∷ t) Laws'.mir Laws'.mir 12 (Rows.whole
-              (Declared'.row ActionScan.the-type)) (λ x. x) (λ u. At.getAt (WindowPlan.the-type .parts) 6 (WindowPlan.struct .as-values (u .1 .1 .1 .1
-              .1 .1 .1 .1 .0))) (λ u. (Row.hd 0 (Row.tl (Row.tl (Row.tl (Row.tl (Row.tl (Row.tl (Row.tl (Row.tl bs)))))))), Nat._+_ 0 248,)) (λ T′.
-              record { locals = Row.setRow 8 (8, Rows.whole (Declared'.row WindowPlan.the-type)) T′; slots = G23 .slots; }) (λ u T′ m′. Row.set 8 (8,
-              Rows.whole (Declared'.row WindowPlan.the-type)) (u .1 .1 .1 .1 .1 .1 .1 .1 .0) T′ m′) (λ u. Unit) (λ x. Unit) (Own.told-none 𝓤 H A (G23
-              .slots)) (DerefMove.learns-nothing 𝓤 H A (Declared'.row ActionScan.the-type)) (λ ρ told u asked. Way'.w-partˢ 𝓤 H A W E (Declared'.row
-              WindowPlan.the-type) (Declared'.row ActionScan.the-type) Laws'''''''.mir Laws'.mir 6 248 (u .1 .1 .1 .1 .1 .1 .1 .1 .0) (At.getAt
-              (WindowPlan.the-type .parts) 6 (WindowPlan.struct .as-values (u .1 .1 .1 .1 .1 .1 .1 .1 .0))) (Row.hd 0 (Row.tl (Row.tl (Row.tl (Row.tl
-              (Row.tl (Row.tl (Row.tl (Row.tl bs)))))))), 0,) (Way.w-look 𝓤 H A W E (Way.w-local 𝓤 H A W E G23 ρ u (G23 .slots) 8 (Declared'.row
-              WindowPlan.the-type) (Rows.whole (Declared'.row WindowPlan.the-type)) (λ x. x) (λ x. x) (u .1 .1 .1 .1 .1 .1 .1 .1 .0) (Local.mem-whole
-              𝓤 H A W (Declared'.row WindowPlan.the-type) ρ (u .1 .1 .1 .1 .1 .1 .1 .1 .0) (Row.hd 0 (Row.tl (Row.tl (Row.tl (Row.tl (Row.tl (Row.tl
-              (Row.tl (Row.tl bs)))))))))) (Local.whole-mem 𝓤 H A W (Declared'.row WindowPlan.the-type) ρ (u .1 .1 .1 .1 .1 .1 .1 .1 .0) (Row.hd 0
-              (Row.tl (Row.tl (Row.tl (Row.tl (Row.tl (Row.tl (Row.tl (Row.tl bs)))))))))))) Path.refl λ q. Inner.cut-record 𝓤 H A q (Declared'.row
-              WindowPlan.the-type) ActionScan.the-type 248 (u .1 .1 .1 .1 .1 .1 .1 .1 .0) (u .1 .1 .1 .1 .1 .1 .1 .1 .0) (At.getAt
-              (WindowPlan.the-type .parts) 6 (WindowPlan.struct .as-values (u .1 .1 .1 .1 .1 .1 .1 .1 .0))) (At.getAt (WindowPlan.the-type .parts) 6
-              (WindowPlan.struct .as-values (u .1 .1 .1 .1 .1 .1 .1 .1 .0))) (Row.hd 0 (Row.tl (Row.tl (Row.tl (Row.tl (Row.tl (Row.tl (Row.tl (Row.tl
-              bs)))))))), 0,) (Behind.look-at 𝓤 H A W q WindowPlan.the-type Laws'''''''.the-laws 6 248 Path.refl Path.refl (Row.hd 0 (Row.tl (Row.tl
-              (Row.tl (Row.tl (Row.tl (Row.tl (Row.tl (Row.tl bs)))))))), 0,) (u .1 .1 .1 .1 .1 .1 .1 .1 .0) (WindowPlan.struct .as-values (u .1 .1 .1
-              .1 .1 .1 .1 .1 .0)) Path.refl)) (Reads'.room-gone 𝓤 H A Laws'.mir) (Yields.makes-mem 𝓤 H A W (λ ρ. Unit) (Declared'.row
-              ActionScan.the-type) Path.refl (Rows.whole (Declared'.row ActionScan.the-type)) (λ x. x) λ ρ told. Local.whole-mem 𝓤 H A W
-              (Declared'.row ActionScan.the-type) ρ) Path.refl Path.refl Path.refl) d28
-          d30 : Typed.Typed 𝓤 H A 𝓣 E G22 b27 Δ0 (at30 bs)
-          d30 = Typed.s-seq 𝓤 H A W 𝓣 E G22 G23 b7 b26 Δ0 (Typed.both (s21 bs)) (at29 bs) (WayStmt.t-way-copy-out 𝓤 H A W E 𝓣 (Declared'.row
-              Outgoing.the-type) Path.refl (Copies.cStruct Outgoing.the-type Laws''.the-laws Laws''.the-copy .copy 𝓤 H A W) (λ ρ. Unit) G22 (Row.out 8
-              (G22 .locals)) (λ u. Row.drop 8 (G22 .locals) u) (G22 .slots) 8 (λ t. (Syntax.field 5) ∷ t) Laws''.mir Laws''.mir 11 (Rows.whole
+              Path.refl Path.refl Path.refl λ b o. tt) d27
+          d29 : Typed.Typed 𝓤 H A 𝓣 E G24 b25 Δ0 (at29 bs)
+          d29 = Typed.g-pre 𝓤 H A W 𝓣 E G24 G25 b25 Δ0 (λ Ψ. Ψ) (at28 bs) (Lifetime.g-begin 𝓤 H A W E G24 7 (tt, (tt, (tt, (tt, (tt, (tt, (tt, (tt,
+              (tt, (tt, (tt, (tt, (tt, (tt, (tt, (tt, (tt, (tt, (tt, (tt, (tt, (tt, (tt, (tt, (tt, tt)))))),),),),),),),),),),),),),),),),),),),)) d28
+          d30 : Typed.Typed 𝓤 H A 𝓣 E G23 b26 Δ0 (at30 bs)
+          d30 = Typed.s-seq 𝓤 H A W 𝓣 E G23 G24 b8 b25 Δ0 (Typed.both (s22 bs)) (at29 bs) (WayStmt.t-way-copy-out 𝓤 H A W E 𝓣 (Declared'.row
+              ActionScan.the-type) Path.refl (Copies.cStruct ActionScan.the-type Laws''.the-laws Laws''.the-copy .copy 𝓤 H A W) (λ ρ. Unit) G23
+              (Row.out 9 (G23 .locals)) (λ u. Row.drop 9 (G23 .locals) u) (G23 .slots) 9 (λ t. (Syntax.field 6) ∷ t) Laws''.mir Laws''.mir 13
+              (Rows.whole (Declared'.row ActionScan.the-type)) (λ x. x) (λ u. At.getAt (WindowPlan.the-type .parts) 6 (WindowPlan.struct .as-values (u
+              .1 .1 .1 .1 .1 .1 .1 .1 .1 .0))) (λ u. (Row.hd 0 (Row.tl (Row.tl (Row.tl (Row.tl (Row.tl (Row.tl (Row.tl (Row.tl (Row.tl bs))))))))),
+              Nat._+_ 0 248,)) (λ T′. record { locals = Row.setRow 9 (9, Rows.whole (Declared'.row WindowPlan.the-type)) T′; slots = G23 .slots; }) (λ
+              u T′ m′. Row.set 9 (9, Rows.whole (Declared'.row WindowPlan.the-type)) (u .1 .1 .1 .1 .1 .1 .1 .1 .1 .0) T′ m′) (λ u. Unit) (λ x. Unit)
+              (Own.told-none 𝓤 H A (G23 .slots)) (DerefMove.learns-nothing 𝓤 H A (Declared'.row ActionScan.the-type)) (λ ρ told u asked. Way'.w-partˢ
+              𝓤 H A W E (Declared'.row WindowPlan.the-type) (Declared'.row ActionScan.the-type) Laws''''''''.mir Laws''.mir 6 248 (u .1 .1 .1 .1 .1 .1
+              .1 .1 .1 .0) (At.getAt (WindowPlan.the-type .parts) 6 (WindowPlan.struct .as-values (u .1 .1 .1 .1 .1 .1 .1 .1 .1 .0))) (Row.hd 0
+              (Row.tl (Row.tl (Row.tl (Row.tl (Row.tl (Row.tl (Row.tl (Row.tl (Row.tl bs))))))))), 0,) (Way.w-look 𝓤 H A W E (Way.w-local 𝓤 H A W E
+              G23 ρ u (G23 .slots) 9 (Declared'.row WindowPlan.the-type) (Rows.whole (Declared'.row WindowPlan.the-type)) (λ x. x) (λ x. x) (u .1 .1
+              .1 .1 .1 .1 .1 .1 .1 .0) (Local.mem-whole 𝓤 H A W (Declared'.row WindowPlan.the-type) ρ (u .1 .1 .1 .1 .1 .1 .1 .1 .1 .0) (Row.hd 0
+              (Row.tl (Row.tl (Row.tl (Row.tl (Row.tl (Row.tl (Row.tl (Row.tl (Row.tl bs))))))))))) (Local.whole-mem 𝓤 H A W (Declared'.row
+              WindowPlan.the-type) ρ (u .1 .1 .1 .1 .1 .1 .1 .1 .1 .0) (Row.hd 0 (Row.tl (Row.tl (Row.tl (Row.tl (Row.tl (Row.tl (Row.tl (Row.tl
+              (Row.tl bs))))))))))))) Path.refl λ q. Inner.cut-record 𝓤 H A q (Declared'.row WindowPlan.the-type) ActionScan.the-type 248 (u .1 .1 .1
+              .1 .1 .1 .1 .1 .1 .0) (u .1 .1 .1 .1 .1 .1 .1 .1 .1 .0) (At.getAt (WindowPlan.the-type .parts) 6 (WindowPlan.struct .as-values (u .1 .1
+              .1 .1 .1 .1 .1 .1 .1 .0))) (At.getAt (WindowPlan.the-type .parts) 6 (WindowPlan.struct .as-values (u .1 .1 .1 .1 .1 .1 .1 .1 .1 .0)))
+              (Row.hd 0 (Row.tl (Row.tl (Row.tl (Row.tl (Row.tl (Row.tl (Row.tl (Row.tl (Row.tl bs))))))))), 0,) (Behind.look-at 𝓤 H A W q
+              WindowPlan.the-type Laws''''''''.the-laws 6 248 Path.refl Path.refl (Row.hd 0 (Row.tl (Row.tl (Row.tl (Row.tl (Row.tl (Row.tl (Row.tl
+              (Row.tl (Row.tl bs))))))))), 0,) (u .1 .1 .1 .1 .1 .1 .1 .1 .1 .0) (WindowPlan.struct .as-values (u .1 .1 .1 .1 .1 .1 .1 .1 .1 .0))
+              Path.refl)) (Reads'.room-gone 𝓤 H A Laws''.mir) (Yields.makes-mem 𝓤 H A W (λ ρ. Unit) (Declared'.row ActionScan.the-type) Path.refl
+              (Rows.whole (Declared'.row ActionScan.the-type)) (λ x. x) λ ρ told. Local.whole-mem 𝓤 H A W (Declared'.row ActionScan.the-type) ρ)
+              Path.refl Path.refl Path.refl) d29
+          d31 : Typed.Typed 𝓤 H A 𝓣 E G22 b27 Δ0 (at31 bs)
+          d31 = Typed.s-seq 𝓤 H A W 𝓣 E G22 G23 b7 b26 Δ0 (Typed.both (s21 bs)) (at30 bs) (WayStmt.t-way-copy-out 𝓤 H A W E 𝓣 (Declared'.row
+              Outgoing.the-type) Path.refl (Copies.cStruct Outgoing.the-type Laws'''.the-laws Laws'''.the-copy .copy 𝓤 H A W) (λ ρ. Unit) G22 (Row.out
+              9 (G22 .locals)) (λ u. Row.drop 9 (G22 .locals) u) (G22 .slots) 9 (λ t. (Syntax.field 5) ∷ t) Laws'''.mir Laws'''.mir 12 (Rows.whole
               (Declared'.row Outgoing.the-type)) (λ x. x) (λ u. At.getAt (WindowPlan.the-type .parts) 5 (WindowPlan.struct .as-values (u .1 .1 .1 .1
-              .1 .1 .1 .1 .0))) (λ u. (Row.hd 0 (Row.tl (Row.tl (Row.tl (Row.tl (Row.tl (Row.tl (Row.tl (Row.tl bs)))))))), Nat._+_ 0 72,)) (λ T′.
-              record { locals = Row.setRow 8 (8, Rows.whole (Declared'.row WindowPlan.the-type)) T′; slots = G22 .slots; }) (λ u T′ m′. Row.set 8 (8,
-              Rows.whole (Declared'.row WindowPlan.the-type)) (u .1 .1 .1 .1 .1 .1 .1 .1 .0) T′ m′) (λ u. Unit) (λ x. Unit) (Own.told-none 𝓤 H A (G22
-              .slots)) (DerefMove.learns-nothing 𝓤 H A (Declared'.row Outgoing.the-type)) (λ ρ told u asked. Way'.w-partˢ 𝓤 H A W E (Declared'.row
-              WindowPlan.the-type) (Declared'.row Outgoing.the-type) Laws'''''''.mir Laws''.mir 5 72 (u .1 .1 .1 .1 .1 .1 .1 .1 .0) (At.getAt
-              (WindowPlan.the-type .parts) 5 (WindowPlan.struct .as-values (u .1 .1 .1 .1 .1 .1 .1 .1 .0))) (Row.hd 0 (Row.tl (Row.tl (Row.tl (Row.tl
-              (Row.tl (Row.tl (Row.tl (Row.tl bs)))))))), 0,) (Way.w-look 𝓤 H A W E (Way.w-local 𝓤 H A W E G22 ρ u (G22 .slots) 8 (Declared'.row
-              WindowPlan.the-type) (Rows.whole (Declared'.row WindowPlan.the-type)) (λ x. x) (λ x. x) (u .1 .1 .1 .1 .1 .1 .1 .1 .0) (Local.mem-whole
-              𝓤 H A W (Declared'.row WindowPlan.the-type) ρ (u .1 .1 .1 .1 .1 .1 .1 .1 .0) (Row.hd 0 (Row.tl (Row.tl (Row.tl (Row.tl (Row.tl (Row.tl
-              (Row.tl (Row.tl bs)))))))))) (Local.whole-mem 𝓤 H A W (Declared'.row WindowPlan.the-type) ρ (u .1 .1 .1 .1 .1 .1 .1 .1 .0) (Row.hd 0
-              (Row.tl (Row.tl (Row.tl (Row.tl (Row.tl (Row.tl (Row.tl (Row.tl bs)))))))))))) Path.refl λ q. Inner.cut-record 𝓤 H A q (Declared'.row
-              WindowPlan.the-type) Outgoing.the-type 72 (u .1 .1 .1 .1 .1 .1 .1 .1 .0) (u .1 .1 .1 .1 .1 .1 .1 .1 .0) (At.getAt (WindowPlan.the-type
-              .parts) 5 (WindowPlan.struct .as-values (u .1 .1 .1 .1 .1 .1 .1 .1 .0))) (At.getAt (WindowPlan.the-type .parts) 5 (WindowPlan.struct
-              .as-values (u .1 .1 .1 .1 .1 .1 .1 .1 .0))) (Row.hd 0 (Row.tl (Row.tl (Row.tl (Row.tl (Row.tl (Row.tl (Row.tl (Row.tl bs)))))))), 0,)
-              (Behind.look-at 𝓤 H A W q WindowPlan.the-type Laws'''''''.the-laws 5 72 Path.refl Path.refl (Row.hd 0 (Row.tl (Row.tl (Row.tl (Row.tl
-              (Row.tl (Row.tl (Row.tl (Row.tl bs)))))))), 0,) (u .1 .1 .1 .1 .1 .1 .1 .1 .0) (WindowPlan.struct .as-values (u .1 .1 .1 .1 .1 .1 .1 .1
-              .0)) Path.refl)) (Reads'.room-gone 𝓤 H A Laws''.mir) (Yields.makes-mem 𝓤 H A W (λ ρ. Unit) (Declared'.row Outgoing.the-type) Path.refl
+              .1 .1 .1 .1 .1 .0))) (λ u. (Row.hd 0 (Row.tl (Row.tl (Row.tl (Row.tl (Row.tl (Row.tl (Row.tl (Row.tl (Row.tl bs))))))))), Nat._+_ 0
+              72,)) (λ T′. record { locals = Row.setRow 9 (9, Rows.whole (Declared'.row WindowPlan.the-type)) T′; slots = G22 .slots; }) (λ u T′ m′.
+              Row.set 9 (9, Rows.whole (Declared'.row WindowPlan.the-type)) (u .1 .1 .1 .1 .1 .1 .1 .1 .1 .0) T′ m′) (λ u. Unit) (λ x. Unit)
+              (Own.told-none 𝓤 H A (G22 .slots)) (DerefMove.learns-nothing 𝓤 H A (Declared'.row Outgoing.the-type)) (λ ρ told u asked. Way'.w-partˢ 𝓤
+              H A W E (Declared'.row WindowPlan.the-type) (Declared'.row Outgoing.the-type) Laws''''''''.mir Laws'''.mir 5 72 (u .1 .1 .1 .1 .1 .1 .1
+              .1 .1 .0) (At.getAt (WindowPlan.the-type .parts) 5 (WindowPlan.struct .as-values (u .1 .1 .1 .1 .1 .1 .1 .1 .1 .0))) (Row.hd 0 (Row.tl
+              (Row.tl (Row.tl (Row.tl (Row.tl (Row.tl (Row.tl (Row.tl (Row.tl bs))))))))), 0,) (Way.w-look 𝓤 H A W E (Way.w-local 𝓤 H A W E G22 ρ u
+              (G22 .slots) 9 (Declared'.row WindowPlan.the-type) (Rows.whole (Declared'.row WindowPlan.the-type)) (λ x. x) (λ x. x) (u .1 .1 .1 .1 .1
+              .1 .1 .1 .1 .0) (Local.mem-whole 𝓤 H A W (Declared'.row WindowPlan.the-type) ρ (u .1 .1 .1 .1 .1 .1 .1 .1 .1 .0) (Row.hd 0 (Row.tl
+              (Row.tl (Row.tl (Row.tl (Row.tl (Row.tl (Row.tl (Row.tl (Row.tl bs))))))))))) (Local.whole-mem 𝓤 H A W (Declared'.row
+              WindowPlan.the-type) ρ (u .1 .1 .1 .1 .1 .1 .1 .1 .1 .0) (Row.hd 0 (Row.tl (Row.tl (Row.tl (Row.tl (Row.tl (Row.tl (Row.tl (Row.tl
+              (Row.tl bs))))))))))))) Path.refl λ q. Inner.cut-record 𝓤 H A q (Declared'.row WindowPlan.the-type) Outgoing.the-type 72 (u .1 .1 .1 .1
+              .1 .1 .1 .1 .1 .0) (u .1 .1 .1 .1 .1 .1 .1 .1 .1 .0) (At.getAt (WindowPlan.the-type .parts) 5 (WindowPlan.struct .as-values (u .1 .1 .1
+              .1 .1 .1 .1 .1 .1 .0))) (At.getAt (WindowPlan.the-type .parts) 5 (WindowPlan.struct .as-values (u .1 .1 .1 .1 .1 .1 .1 .1 .1 .0)))
+              (Row.hd 0 (Row.tl (Row.tl (Row.tl (Row.tl (Row.tl (Row.tl (Row.tl (Row.tl (Row.tl bs))))))))), 0,) (Behind.look-at 𝓤 H A W q
+              WindowPlan.the-type Laws''''''''.the-laws 5 72 Path.refl Path.refl (Row.hd 0 (Row.tl (Row.tl (Row.tl (Row.tl (Row.tl (Row.tl (Row.tl
+              (Row.tl (Row.tl bs))))))))), 0,) (u .1 .1 .1 .1 .1 .1 .1 .1 .1 .0) (WindowPlan.struct .as-values (u .1 .1 .1 .1 .1 .1 .1 .1 .1 .0))
+              Path.refl)) (Reads'.room-gone 𝓤 H A Laws'''.mir) (Yields.makes-mem 𝓤 H A W (λ ρ. Unit) (Declared'.row Outgoing.the-type) Path.refl
               (Rows.whole (Declared'.row Outgoing.the-type)) (λ x. x) λ ρ told. Local.whole-mem 𝓤 H A W (Declared'.row Outgoing.the-type) ρ) Path.refl
-              Path.refl Path.refl) d29
-          d31 : Typed.Typed 𝓤 H A 𝓣 E G21 b28 Δ0 (at31 bs)
-          d31 = Typed.s-seq 𝓤 H A W 𝓣 E G21 G22 b6 b27 Δ0 (Typed.pass T21 T22 (s20 bs)) (at30 bs) (CopyOut.t-copy-told 𝓤 H A W E 𝓣 (Declared.row
-              RelaySide.the-type) Path.refl (Laws''''''''.val RelaySide.the-type Laws''''.the-laws) (Laws''''''''.lawful RelaySide.the-type
-              Laws''''.the-laws 𝓤 H A W tt) (Laws''''''''.makes RelaySide.the-type Laws''''.the-plain 𝓤 H A) G21 10 (Scalar.oFld 8 ((Syntax.field 3) ∷
-              List.[]) Laws''''.mir 64 λ x. Laws''''''''.val RelaySide.the-type Laws''''.the-laws (WindowPlan.struct .as-values x .1 .1 .1 .0)) (λ m.
-              WindowPlan.struct .as-values (m .1 .1 .1 .1 .1 .1 .1 .1 .0) .1 .1 .1 .0) (λ m. Laws'''''''''.Is (Declared'.row WindowPlan.the-type) (m
-              .1 .1 .1 .1 .1 .1 .1 .1 .0) (Laws''''''''''.vals WindowPlan.the-type Laws'''''''.the-laws (m .1 .1 .1 .1 .1 .1 .1 .1 .0)))
-              (Reads'.room-gone 𝓤 H A Laws''''.mir) (Reads.reads-field 𝓤 H A W WindowPlan.the-type Laws'''''''.the-laws 3 Laws''''.mir 64 Path.refl,
-              Path.refl,) Path.refl (λ ρ m. Make.tells-row 𝓤 H A W E ρ (Row.out 10 (G21 .locals)) m 8 (Laws'''''''''.Is (Declared'.row
-              WindowPlan.the-type) (m .1 .1 .1 .1 .1 .1 .1 .1 .0) (Laws''''''''''.vals WindowPlan.the-type Laws'''''''.the-laws (m .1 .1 .1 .1 .1 .1
-              .1 .1 .0))) (Make.whole-is 𝓤 H A W E (Declared'.row WindowPlan.the-type) Path.refl (Laws''''''''''.val WindowPlan.the-type
-              Laws'''''''.the-laws) (Laws''''''''''.tells WindowPlan.the-type Laws'''''''.the-laws) ρ 8 (m .1 .1 .1 .1 .1 .1 .1 .1 .0))) (λ m k wa.
-              Path.refl) λ m k wa. Laws''''''''''.owed WindowPlan.the-type Laws'''''''.the-laws (m .1 .1 .1 .1 .1 .1 .1 .1 .0) (Laws''''''''''.vals
-              WindowPlan.the-type Laws'''''''.the-laws (m .1 .1 .1 .1 .1 .1 .1 .1 .0)) k .1 .1 .1 .0) d30
-          d32 : Typed.Typed 𝓤 H A 𝓣 E G20 b29 Δ0 (at32 bs)
-          d32 = Typed.s-seq 𝓤 H A W 𝓣 E G20 G21 b5 b28 Δ0 (Typed.pass T19 T21 (s19 bs)) (at31 bs) (CopyOut.t-copy-told 𝓤 H A W E 𝓣 (Declared.row
-              HnsrAnswer.the-type) Path.refl (Laws''''''''.val HnsrAnswer.the-type Laws.the-laws) (Laws''''''''.lawful HnsrAnswer.the-type
-              Laws.the-laws 𝓤 H A W tt) (Laws''''''''.makes HnsrAnswer.the-type Laws.the-plain 𝓤 H A) G20 9 (Scalar.oFld 8 ((Syntax.field 0) ∷
-              List.[]) Laws.mir 0 λ x. Laws''''''''.val HnsrAnswer.the-type Laws.the-laws (WindowPlan.struct .as-values x .0)) (λ m. WindowPlan.struct
-              .as-values (m .1 .1 .1 .1 .1 .1 .1 .1 .0) .0) (λ m. Laws'''''''''.Is (Declared'.row WindowPlan.the-type) (m .1 .1 .1 .1 .1 .1 .1 .1 .0)
-              (Laws''''''''''.vals WindowPlan.the-type Laws'''''''.the-laws (m .1 .1 .1 .1 .1 .1 .1 .1 .0))) (Reads'.room-gone 𝓤 H A Laws.mir)
-              (Reads.reads-field 𝓤 H A W WindowPlan.the-type Laws'''''''.the-laws 0 Laws.mir 0 Path.refl, Path.refl,) Path.refl (λ ρ m. Make.tells-row
-              𝓤 H A W E ρ (Row.out 9 (G20 .locals)) m 8 (Laws'''''''''.Is (Declared'.row WindowPlan.the-type) (m .1 .1 .1 .1 .1 .1 .1 .1 .0)
-              (Laws''''''''''.vals WindowPlan.the-type Laws'''''''.the-laws (m .1 .1 .1 .1 .1 .1 .1 .1 .0))) (Make.whole-is 𝓤 H A W E (Declared'.row
-              WindowPlan.the-type) Path.refl (Laws''''''''''.val WindowPlan.the-type Laws'''''''.the-laws) (Laws''''''''''.tells WindowPlan.the-type
-              Laws'''''''.the-laws) ρ 8 (m .1 .1 .1 .1 .1 .1 .1 .1 .0))) (λ m k wa. Path.refl) λ m k wa. Laws''''''''''.owed WindowPlan.the-type
-              Laws'''''''.the-laws (m .1 .1 .1 .1 .1 .1 .1 .1 .0) (Laws''''''''''.vals WindowPlan.the-type Laws'''''''.the-laws (m .1 .1 .1 .1 .1 .1
-              .1 .1 .0)) k .0) d31
-          d33 : Typed.Typed 𝓤 H A 𝓣 E G19 b29 Δ0 (at33 bs)
-          d33 = Typed.g-pre 𝓤 H A W 𝓣 E G19 G20 b29 Δ0 (λ Ψ. Ψ) (at32 bs) (Lifetime.g-forget 𝓤 H A W E G19 6 Row.dead Path.refl) d32
-          d34 : Typed.Typed 𝓤 H A 𝓣 E G18 b29 Δ0 (at34 bs)
-          d34 = Typed.g-pre 𝓤 H A W 𝓣 E G18 G19 b29 Δ0 (Typed.pass T16 T19 (s17 bs)) (at33 bs) (Reshare.g-back-sl-shr 𝓤 H A W E InflightAction.row G18
-              2 1 6 ref6 life1 (λ x. x) (Reads'.as-is 𝓤 H A (Reshare.mslice-owedS InflightAction.row ref6 1 6 life1)) Path.refl Path.refl) d33
-          d35 : Typed.Typed 𝓤 H A 𝓣 E G17 b29 Δ0 (at35 bs)
-          d35 = Typed.g-pre 𝓤 H A W 𝓣 E G17 G18 b29 Δ0 (λ Ψ. Ψ) (at34 bs) (Lifetime.g-end 𝓤 H A W E G17 6 Path.refl) d34
-          d36 : Typed.Typed 𝓤 H A 𝓣 E G16 b29 Δ0 (at36 bs)
-          d36 = Typed.g-pre 𝓤 H A W 𝓣 E G16 G17 b29 Δ0 (λ Ψ. Ψ) (at35 bs) (Lifetime.g-forget 𝓤 H A W E G16 5 Row.dead Path.refl) d35
-          d37 : Typed.Typed 𝓤 H A 𝓣 E G15 b29 Δ0 (at37 bs)
-          d37 = Typed.g-pre 𝓤 H A W 𝓣 E G15 G16 b29 Δ0 (Typed.pass T14 T16 (s14 bs)) (at36 bs) (Reshare.g-back-sl-shr 𝓤 H A W E RelayCircuit.row G15 1
-              0 5 ref5 life0 (λ x. x) (Reads'.as-is 𝓤 H A (Reshare.mslice-owedS RelayCircuit.row ref5 0 5 life0)) Path.refl Path.refl) d36
-          d38 : Typed.Typed 𝓤 H A 𝓣 E G14 b29 Δ0 (at38 bs)
-          d38 = Typed.g-pre 𝓤 H A W 𝓣 E G14 G15 b29 Δ0 (λ Ψ. Ψ) (at37 bs) (Lifetime.g-end 𝓤 H A W E G14 5 Path.refl) d37
-          d39 : Typed.Typed 𝓤 H A 𝓣 E G13 b29 Δ0 (at39 bs)
-          d39 = Typed.g-pre 𝓤 H A W 𝓣 E G13 G14 b29 Δ0 (Typed.pass T13 T14 (s12 bs)) (at38 bs) (Scalar.g-room 𝓤 H A W E G13 5 Laws'''.mir
-              (Local.room-whole 𝓤 H A W (Declared'.row RelayPacket.the-type) Laws'''.mir Path.refl)) d38
-          d40 : Typed.Typed 𝓤 H A 𝓣 E G12 b29 Δ0 (at40 bs)
-          d40 = Typed.g-pre 𝓤 H A W 𝓣 E G12 G13 b29 Δ0 (Typed.pass T12 T13 (s11 bs)) (at39 bs) (Scalar.g-room 𝓤 H A W E G12 16 (Syntax.tyStruct (38 ∷
+              Path.refl Path.refl) d30
+          d32 : Typed.Typed 𝓤 H A 𝓣 E G21 b28 Δ0 (at32 bs)
+          d32 = Typed.s-seq 𝓤 H A W 𝓣 E G21 G22 b6 b27 Δ0 (Typed.pass T21 T22 (s20 bs)) (at31 bs) (CopyOut.t-copy-told 𝓤 H A W E 𝓣 (Declared.row
+              RelaySide.the-type) Path.refl (Laws'''''''''.val RelaySide.the-type Laws'''''.the-laws) (Laws'''''''''.lawful RelaySide.the-type
+              Laws'''''.the-laws 𝓤 H A W tt) (Laws'''''''''.makes RelaySide.the-type Laws'''''.the-plain 𝓤 H A) G21 11 (Scalar.oFld 9 ((Syntax.field
+              3) ∷ List.[]) Laws'''''.mir 64 λ x. Laws'''''''''.val RelaySide.the-type Laws'''''.the-laws (WindowPlan.struct .as-values x .1 .1 .1
+              .0)) (λ m. WindowPlan.struct .as-values (m .1 .1 .1 .1 .1 .1 .1 .1 .1 .0) .1 .1 .1 .0) (λ m. Laws''''''''''.Is (Declared'.row
+              WindowPlan.the-type) (m .1 .1 .1 .1 .1 .1 .1 .1 .1 .0) (Laws'''''''''''.vals WindowPlan.the-type Laws''''''''.the-laws (m .1 .1 .1 .1 .1
+              .1 .1 .1 .1 .0))) (Reads'.room-gone 𝓤 H A Laws'''''.mir) (Reads.reads-field 𝓤 H A W WindowPlan.the-type Laws''''''''.the-laws 3
+              Laws'''''.mir 64 Path.refl, Path.refl,) Path.refl (λ ρ m. Make.tells-row 𝓤 H A W E ρ (Row.out 11 (G21 .locals)) m 9 (Laws''''''''''.Is
+              (Declared'.row WindowPlan.the-type) (m .1 .1 .1 .1 .1 .1 .1 .1 .1 .0) (Laws'''''''''''.vals WindowPlan.the-type Laws''''''''.the-laws (m
+              .1 .1 .1 .1 .1 .1 .1 .1 .1 .0))) (Make.whole-is 𝓤 H A W E (Declared'.row WindowPlan.the-type) Path.refl (Laws'''''''''''.val
+              WindowPlan.the-type Laws''''''''.the-laws) (Laws'''''''''''.tells WindowPlan.the-type Laws''''''''.the-laws) ρ 9 (m .1 .1 .1 .1 .1 .1 .1
+              .1 .1 .0))) (λ m k wa. Path.refl) λ m k wa. Laws'''''''''''.owed WindowPlan.the-type Laws''''''''.the-laws (m .1 .1 .1 .1 .1 .1 .1 .1 .1
+              .0) (Laws'''''''''''.vals WindowPlan.the-type Laws''''''''.the-laws (m .1 .1 .1 .1 .1 .1 .1 .1 .1 .0)) k .1 .1 .1 .0) d31
+          d33 : Typed.Typed 𝓤 H A 𝓣 E G20 b29 Δ0 (at33 bs)
+          d33 = Typed.s-seq 𝓤 H A W 𝓣 E G20 G21 b5 b28 Δ0 (Typed.pass T19 T21 (s19 bs)) (at32 bs) (CopyOut.t-copy-told 𝓤 H A W E 𝓣 (Declared.row
+              HnsrAnswer.the-type) Path.refl (Laws'''''''''.val HnsrAnswer.the-type Laws.the-laws) (Laws'''''''''.lawful HnsrAnswer.the-type
+              Laws.the-laws 𝓤 H A W tt) (Laws'''''''''.makes HnsrAnswer.the-type Laws.the-plain 𝓤 H A) G20 10 (Scalar.oFld 9 ((Syntax.field 0) ∷
+              List.[]) Laws.mir 0 λ x. Laws'''''''''.val HnsrAnswer.the-type Laws.the-laws (WindowPlan.struct .as-values x .0)) (λ m.
+              WindowPlan.struct .as-values (m .1 .1 .1 .1 .1 .1 .1 .1 .1 .0) .0) (λ m. Laws''''''''''.Is (Declared'.row WindowPlan.the-type) (m .1 .1
+              .1 .1 .1 .1 .1 .1 .1 .0) (Laws'''''''''''.vals WindowPlan.the-type Laws''''''''.the-laws (m .1 .1 .1 .1 .1 .1 .1 .1 .1 .0)))
+              (Reads'.room-gone 𝓤 H A Laws.mir) (Reads.reads-field 𝓤 H A W WindowPlan.the-type Laws''''''''.the-laws 0 Laws.mir 0 Path.refl,
+              Path.refl,) Path.refl (λ ρ m. Make.tells-row 𝓤 H A W E ρ (Row.out 10 (G20 .locals)) m 9 (Laws''''''''''.Is (Declared'.row
+              WindowPlan.the-type) (m .1 .1 .1 .1 .1 .1 .1 .1 .1 .0) (Laws'''''''''''.vals WindowPlan.the-type Laws''''''''.the-laws (m .1 .1 .1 .1 .1
+              .1 .1 .1 .1 .0))) (Make.whole-is 𝓤 H A W E (Declared'.row WindowPlan.the-type) Path.refl (Laws'''''''''''.val WindowPlan.the-type
+              Laws''''''''.the-laws) (Laws'''''''''''.tells WindowPlan.the-type Laws''''''''.the-laws) ρ 9 (m .1 .1 .1 .1 .1 .1 .1 .1 .1 .0))) (λ m k
+              wa. Path.refl) λ m k wa. Laws'''''''''''.owed WindowPlan.the-type Laws''''''''.the-laws (m .1 .1 .1 .1 .1 .1 .1 .1 .1 .0)
+              (Laws'''''''''''.vals WindowPlan.the-type Laws''''''''.the-laws (m .1 .1 .1 .1 .1 .1 .1 .1 .1 .0)) k .0) d32
+          d34 : Typed.Typed 𝓤 H A 𝓣 E G19 b29 Δ0 (at34 bs)
+          d34 = Typed.g-pre 𝓤 H A W 𝓣 E G19 G20 b29 Δ0 (λ Ψ. Ψ) (at33 bs) (Lifetime.g-forget 𝓤 H A W E G19 6 Row.dead Path.refl) d33
+          d35 : Typed.Typed 𝓤 H A 𝓣 E G18 b29 Δ0 (at35 bs)
+          d35 = Typed.g-pre 𝓤 H A W 𝓣 E G18 G19 b29 Δ0 (Typed.pass T16 T19 (s17 bs)) (at34 bs) (Reshare.g-back-sl-shr 𝓤 H A W E InflightAction.row G18
+              2 1 6 ref6 life1 (λ x. x) (Reads'.as-is 𝓤 H A (Reshare.mslice-owedS InflightAction.row ref6 1 6 life1)) Path.refl Path.refl) d34
+          d36 : Typed.Typed 𝓤 H A 𝓣 E G17 b29 Δ0 (at36 bs)
+          d36 = Typed.g-pre 𝓤 H A W 𝓣 E G17 G18 b29 Δ0 (λ Ψ. Ψ) (at35 bs) (Lifetime.g-end 𝓤 H A W E G17 6 Path.refl) d35
+          d37 : Typed.Typed 𝓤 H A 𝓣 E G16 b29 Δ0 (at37 bs)
+          d37 = Typed.g-pre 𝓤 H A W 𝓣 E G16 G17 b29 Δ0 (λ Ψ. Ψ) (at36 bs) (Lifetime.g-forget 𝓤 H A W E G16 5 Row.dead Path.refl) d36
+          d38 : Typed.Typed 𝓤 H A 𝓣 E G15 b29 Δ0 (at38 bs)
+          d38 = Typed.g-pre 𝓤 H A W 𝓣 E G15 G16 b29 Δ0 (Typed.pass T14 T16 (s14 bs)) (at37 bs) (Reshare.g-back-sl-shr 𝓤 H A W E RelayCircuit.row G15 1
+              0 5 ref5 life0 (λ x. x) (Reads'.as-is 𝓤 H A (Reshare.mslice-owedS RelayCircuit.row ref5 0 5 life0)) Path.refl Path.refl) d37
+          d39 : Typed.Typed 𝓤 H A 𝓣 E G14 b29 Δ0 (at39 bs)
+          d39 = Typed.g-pre 𝓤 H A W 𝓣 E G14 G15 b29 Δ0 (λ Ψ. Ψ) (at38 bs) (Lifetime.g-end 𝓤 H A W E G14 5 Path.refl) d38
+          d40 : Typed.Typed 𝓤 H A 𝓣 E G13 b29 Δ0 (at40 bs)
+          d40 = Typed.g-pre 𝓤 H A W 𝓣 E G13 G14 b29 Δ0 (Typed.pass T13 T14 (s12 bs)) (at39 bs) (Scalar.g-room 𝓤 H A W E G13 6 Laws''''.mir
+              (Local.room-whole 𝓤 H A W (Declared'.row RelayPacket.the-type) Laws''''.mir Path.refl)) d39
+          d41 : Typed.Typed 𝓤 H A 𝓣 E G12 b29 Δ0 (at41 bs)
+          d41 = Typed.g-pre 𝓤 H A W 𝓣 E G12 G13 b29 Δ0 (Typed.pass T12 T13 (s11 bs)) (at40 bs) (Scalar.g-room 𝓤 H A W E G12 17 (Syntax.tyStruct (38 ∷
               91 ∷ 93 ∷ List.[]) (Syntax.tcons ref1 (Syntax.tcons (Syntax.tyInt Syntax.w64) Syntax.tnil))) (Shared.room-sslice 𝓤 H A W
-              InflightAction.row ref1 6)) d39
-          d41 : Typed.Typed 𝓤 H A 𝓣 E G11 b29 Δ0 (at41 bs)
-          d41 = Typed.g-pre 𝓤 H A W 𝓣 E G11 G12 b29 Δ0 (Typed.pass T11 T12 (s10 bs)) (at40 bs) (Scalar.g-room 𝓤 H A W E G11 14 (Syntax.tyStruct (38 ∷
+              InflightAction.row ref1 6)) d40
+          d42 : Typed.Typed 𝓤 H A 𝓣 E G11 b29 Δ0 (at42 bs)
+          d42 = Typed.g-pre 𝓤 H A W 𝓣 E G11 G12 b29 Δ0 (Typed.pass T11 T12 (s10 bs)) (at41 bs) (Scalar.g-room 𝓤 H A W E G11 15 (Syntax.tyStruct (38 ∷
               91 ∷ 93 ∷ List.[]) (Syntax.tcons ref0 (Syntax.tcons (Syntax.tyInt Syntax.w64) Syntax.tnil))) (Shared.room-sslice 𝓤 H A W
-              RelayCircuit.row ref0 5)) d40
-          d42 : Typed.Typed 𝓤 H A 𝓣 E G10 b30 Δ0 (at42 bs)
-          d42 = Typed.s-seq 𝓤 H A W 𝓣 E G10 G11 b4 b29 Δ0 (Typed.both (s9 bs)) (at41 bs) (Plain.t-call-plain 𝓤 H A W 𝓣 4 ps·0 r·0 (claims· .0)
-              (claims· .1) "hnsr_circuit::handle_window::plan_window" (known .0) E (λ pos β. β) G10 (record { pos = 14; ty = Syntax.tyRef
-              Syntax.erased Syntax.imm RelayCircuit.to; ref = λ x. x; }, (record { pos = 16; ty = Syntax.tyRef Syntax.erased Syntax.imm
+              RelayCircuit.row ref0 5)) d41
+          d43 : Typed.Typed 𝓤 H A 𝓣 E G10 b30 Δ0 (at43 bs)
+          d43 = Typed.s-seq 𝓤 H A W 𝓣 E G10 G11 b4 b29 Δ0 (Typed.both (s9 bs)) (at42 bs) (Plain.t-call-plain 𝓤 H A W 𝓣 4 ps·0 r·0 (claims· .0)
+              (claims· .1) "hnsr_circuit::handle_window::plan_window" (known .0) E (λ pos β. β) G10 (record { pos = 15; ty = Syntax.tyRef
+              Syntax.erased Syntax.imm RelayCircuit.to; ref = λ x. x; }, (record { pos = 17; ty = Syntax.tyRef Syntax.erased Syntax.imm
               InflightAction.to; ref = λ x. x; }, (record { pos = 4; st = List.[]; d = 0; at = λ x. x }, (record { pos = 5; st = List.[]; d = 0; at =
-              λ x. x }, (record { pos = 6; ty = Syntax.tyRef (Syntax.named 3) Syntax.imm (Syntax.tyInt Syntax.w8); ref = λ x. x; }, (record { pos = 7;
-              ty = Syntax.tyRef (Syntax.named 4) Syntax.imm (Syntax.tyInt Syntax.w8); ref = λ x. x; }, tt,),),),),),) 8 (5 ∷ 6 ∷ 3 ∷ 4 ∷ List.[])
-              (Call.sub-id 𝓤 H A W (G10 .slots)) (ShrSlice.spares-sslice 𝓤 H A W RelayCircuit.row ref0 5, Shared.reads-sslice 𝓤 H A W RelayCircuit.row
-              ref0 5, Path.refl, (ShrSlice.spares-sslice 𝓤 H A W InflightAction.row ref1 6, Shared.reads-sslice 𝓤 H A W InflightAction.row ref1 6,
-              Path.refl, ((Yields.yields-copy 𝓤 H A W (λ ρ. Unit) (Declared'.row OpaqueRelayRuntime.the-type) Path.refl (Copies.cStruct
-              OpaqueRelayRuntime.the-type Laws'''''.the-laws Laws'''''.the-copy .copy 𝓤 H A W) (Rows.whole (Declared'.row
-              OpaqueRelayRuntime.the-type)) (λ x. x) (λ x. x) (λ ρ told. Local.mem-whole 𝓤 H A W (Declared'.row OpaqueRelayRuntime.the-type) ρ) λ ρ
-              told. Local.whole-mem 𝓤 H A W (Declared'.row OpaqueRelayRuntime.the-type) ρ, Path.refl,), ((Yields.yields-copy 𝓤 H A W (λ ρ. Unit)
-              (Declared'.row RelayPacket.the-type) Path.refl (Copies.cStruct RelayPacket.the-type Laws'''.the-laws Laws'''.the-copy .copy 𝓤 H A W)
-              (Rows.whole (Declared'.row RelayPacket.the-type)) (λ x. x) (λ x. x) (λ ρ told. Local.mem-whole 𝓤 H A W (Declared'.row
-              RelayPacket.the-type) ρ) λ ρ told. Local.whole-mem 𝓤 H A W (Declared'.row RelayPacket.the-type) ρ, Path.refl,), (ShrSlice.spares-sslice
-              𝓤 H A W (Referent.rtF (Referent.fInt Syntax.w8)) ref8 3, Shared.reads-sslice 𝓤 H A W (Referent.rtF (Referent.fInt Syntax.w8)) ref8 3,
-              Path.refl, (ShrSlice.spares-sslice 𝓤 H A W (Referent.rtF (Referent.fInt Syntax.w8)) ref9 4, Shared.reads-sslice 𝓤 H A W (Referent.rtF
-              (Referent.fInt Syntax.w8)) ref9 4, Path.refl, tt,),),),),),) (Reads'.room-gone 𝓤 H A Laws'''''''.mir) (tt, (tt, (tt, (tt, tt))))
-              Path.refl) d41
-          d43 : Typed.Typed 𝓤 H A 𝓣 E G9 b31 Δ0 (at43 bs)
-          d43 = Typed.s-seq 𝓤 H A W 𝓣 E G9 G10 b3 b30 Δ0 (Typed.ask (s8 bs)) (at42 bs) (Relend.t-sl-aggregate 𝓤 H A W E InflightAction.row 𝓣
-              (Relend.asShr InflightAction.row) G9 15 16 6 ref1 ref1 (λ x. x) (Scalar.oFld 2 ((Syntax.field 1) ∷ List.[]) (Syntax.tyInt Syntax.w64) 8
+              λ x. x }, (record { pos = 6; st = List.[]; d = 0; at = λ x. x }, (record { pos = 7; ty = Syntax.tyRef (Syntax.named 3) Syntax.imm
+              (Syntax.tyInt Syntax.w8); ref = λ x. x; }, (record { pos = 8; ty = Syntax.tyRef (Syntax.named 4) Syntax.imm (Syntax.tyInt Syntax.w8);
+              ref = λ x. x; }, tt,),),),),),),) 9 (5 ∷ 6 ∷ 3 ∷ 4 ∷ List.[]) (Call.sub-id 𝓤 H A W (G10 .slots)) (ShrSlice.spares-sslice 𝓤 H A W
+              RelayCircuit.row ref0 5, Shared.reads-sslice 𝓤 H A W RelayCircuit.row ref0 5, Path.refl, (ShrSlice.spares-sslice 𝓤 H A W
+              InflightAction.row ref1 6, Shared.reads-sslice 𝓤 H A W InflightAction.row ref1 6, Path.refl, ((Yields.yields-copy 𝓤 H A W (λ ρ. Unit)
+              (Declared'.row OpaqueRelayRuntime.the-type) Path.refl (Copies.cStruct OpaqueRelayRuntime.the-type Laws''''''.the-laws
+              Laws''''''.the-copy .copy 𝓤 H A W) (Rows.whole (Declared'.row OpaqueRelayRuntime.the-type)) (λ x. x) (λ x. x) (λ ρ told. Local.mem-whole
+              𝓤 H A W (Declared'.row OpaqueRelayRuntime.the-type) ρ) λ ρ told. Local.whole-mem 𝓤 H A W (Declared'.row OpaqueRelayRuntime.the-type) ρ,
+              Path.refl,), ((Yields.yields-copy 𝓤 H A W (λ ρ. Unit) (Declared'.row Places.the-type) Path.refl (Copies.cStruct Places.the-type
+              Laws'.the-laws Laws'.the-copy .copy 𝓤 H A W) (Rows.whole (Declared'.row Places.the-type)) (λ x. x) (λ x. x) (λ ρ told. Local.mem-whole 𝓤
+              H A W (Declared'.row Places.the-type) ρ) λ ρ told. Local.whole-mem 𝓤 H A W (Declared'.row Places.the-type) ρ, Path.refl,),
+              ((Yields.yields-copy 𝓤 H A W (λ ρ. Unit) (Declared'.row RelayPacket.the-type) Path.refl (Copies.cStruct RelayPacket.the-type
+              Laws''''.the-laws Laws''''.the-copy .copy 𝓤 H A W) (Rows.whole (Declared'.row RelayPacket.the-type)) (λ x. x) (λ x. x) (λ ρ told.
+              Local.mem-whole 𝓤 H A W (Declared'.row RelayPacket.the-type) ρ) λ ρ told. Local.whole-mem 𝓤 H A W (Declared'.row RelayPacket.the-type)
+              ρ, Path.refl,), (ShrSlice.spares-sslice 𝓤 H A W (Referent.rtF (Referent.fInt Syntax.w8)) ref8 3, Shared.reads-sslice 𝓤 H A W
+              (Referent.rtF (Referent.fInt Syntax.w8)) ref8 3, Path.refl, (ShrSlice.spares-sslice 𝓤 H A W (Referent.rtF (Referent.fInt Syntax.w8))
+              ref9 4, Shared.reads-sslice 𝓤 H A W (Referent.rtF (Referent.fInt Syntax.w8)) ref9 4, Path.refl, tt,),),),),),),) (Reads'.room-gone 𝓤 H A
+              Laws''''''''.mir) (tt, (tt, (tt, (tt, tt)))) Path.refl) d42
+          d44 : Typed.Typed 𝓤 H A 𝓣 E G9 b31 Δ0 (at44 bs)
+          d44 = Typed.s-seq 𝓤 H A W 𝓣 E G9 G10 b3 b30 Δ0 (Typed.ask (s8 bs)) (at43 bs) (Relend.t-sl-aggregate 𝓤 H A W E InflightAction.row 𝓣
+              (Relend.asShr InflightAction.row) G9 16 17 6 ref1 ref1 (λ x. x) (Scalar.oFld 2 ((Syntax.field 1) ∷ List.[]) (Syntax.tyInt Syntax.w64) 8
               λ v. Shared.lenV (v .0)) (Reads'.as-is 𝓤 H A (Relend.ssptr InflightAction.row ref1 6)) (Reads'.room-gone 𝓤 H A (Syntax.tyStruct (38 ∷ 91
               ∷ 93 ∷ List.[]) (Syntax.tcons ref1 (Syntax.tcons (Syntax.tyInt Syntax.w64) Syntax.tnil)))) (Reshare.reads-owedS-len 𝓤 H A W
-              InflightAction.row ref6 1 6 life1 8 Path.refl, Path.refl,) Path.refl Path.refl λ b o k. tt) d42
-          d44 : Typed.Typed 𝓤 H A 𝓣 E G8 b32 Δ0 (at44 bs)
-          d44 = Typed.s-seq 𝓤 H A W 𝓣 E G8 G9 b2 b31 Δ0 (Typed.give (s7 bs)) (at43 bs) (Reshare.t-sl-reshare 𝓤 H A W E InflightAction.row 𝓣 G8 2 15 1
+              InflightAction.row ref6 1 6 life1 8 Path.refl, Path.refl,) Path.refl Path.refl λ b o k. tt) d43
+          d45 : Typed.Typed 𝓤 H A 𝓣 E G8 b32 Δ0 (at45 bs)
+          d45 = Typed.s-seq 𝓤 H A W 𝓣 E G8 G9 b2 b31 Δ0 (Typed.give (s7 bs)) (at44 bs) (Reshare.t-sl-reshare 𝓤 H A W E InflightAction.row 𝓣 G8 2 16 1
               6 ref6 ref1 life1 0 (λ x. x) (Reads'.as-is 𝓤 H A (Mut.mslice InflightAction.row ref6 1)) (Reads'.room-gone 𝓤 H A ref1) Path.refl tt
-              Path.refl Path.refl Path.refl λ b o. tt) d43
-          d45 : Typed.Typed 𝓤 H A 𝓣 E G7 b32 Δ0 (at45 bs)
-          d45 = Typed.g-pre 𝓤 H A W 𝓣 E G7 G8 b32 Δ0 (λ Ψ. Ψ) (at44 bs) (Lifetime.g-begin 𝓤 H A W E G7 6 (tt, ((tt, tt), (tt, (tt, (tt, (tt, (tt, (tt,
-              (tt, (tt, (tt, (tt, (tt, (tt, (tt, (tt, (tt, (tt, (tt, (tt, (tt, (tt, (tt, (tt, tt))))))),),),),),),),),),),),),),),),),),)) d44
-          d46 : Typed.Typed 𝓤 H A 𝓣 E G6 b33 Δ0 (at46 bs)
-          d46 = Typed.s-seq 𝓤 H A W 𝓣 E G6 G7 b1 b32 Δ0 (Typed.ask (s5 bs)) (at45 bs) (Relend.t-sl-aggregate 𝓤 H A W E RelayCircuit.row 𝓣
-              (Relend.asShr RelayCircuit.row) G6 13 14 5 ref0 ref0 (λ x. x) (Scalar.oFld 1 ((Syntax.field 1) ∷ List.[]) (Syntax.tyInt Syntax.w64) 8 λ
+              Path.refl Path.refl Path.refl λ b o. tt) d44
+          d46 : Typed.Typed 𝓤 H A 𝓣 E G7 b32 Δ0 (at46 bs)
+          d46 = Typed.g-pre 𝓤 H A W 𝓣 E G7 G8 b32 Δ0 (λ Ψ. Ψ) (at45 bs) (Lifetime.g-begin 𝓤 H A W E G7 6 (tt, ((tt, tt), (tt, (tt, (tt, (tt, (tt, (tt,
+              (tt, (tt, (tt, (tt, (tt, (tt, (tt, (tt, (tt, (tt, (tt, (tt, (tt, (tt, (tt, (tt, (tt, tt)))))),),),),),),),),),),),),),),),),),),),)) d45
+          d47 : Typed.Typed 𝓤 H A 𝓣 E G6 b33 Δ0 (at47 bs)
+          d47 = Typed.s-seq 𝓤 H A W 𝓣 E G6 G7 b1 b32 Δ0 (Typed.ask (s5 bs)) (at46 bs) (Relend.t-sl-aggregate 𝓤 H A W E RelayCircuit.row 𝓣
+              (Relend.asShr RelayCircuit.row) G6 14 15 5 ref0 ref0 (λ x. x) (Scalar.oFld 1 ((Syntax.field 1) ∷ List.[]) (Syntax.tyInt Syntax.w64) 8 λ
               v. Shared.lenV (v .0)) (Reads'.as-is 𝓤 H A (Relend.ssptr RelayCircuit.row ref0 5)) (Reads'.room-gone 𝓤 H A (Syntax.tyStruct (38 ∷ 91 ∷
               93 ∷ List.[]) (Syntax.tcons ref0 (Syntax.tcons (Syntax.tyInt Syntax.w64) Syntax.tnil)))) (Reshare.reads-owedS-len 𝓤 H A W
-              RelayCircuit.row ref5 0 5 life0 8 Path.refl, Path.refl,) Path.refl Path.refl λ b o k. tt) d45
-          d47 : Typed.Typed 𝓤 H A 𝓣 E G5 b34 Δ0 (at47 bs)
-          d47 = Typed.s-seq 𝓤 H A W 𝓣 E G5 G6 b0 b33 Δ0 (Typed.give (s4 bs)) (at46 bs) (Reshare.t-sl-reshare 𝓤 H A W E RelayCircuit.row 𝓣 G5 1 13 0 5
+              RelayCircuit.row ref5 0 5 life0 8 Path.refl, Path.refl,) Path.refl Path.refl λ b o k. tt) d46
+          d48 : Typed.Typed 𝓤 H A 𝓣 E G5 b34 Δ0 (at48 bs)
+          d48 = Typed.s-seq 𝓤 H A W 𝓣 E G5 G6 b0 b33 Δ0 (Typed.give (s4 bs)) (at47 bs) (Reshare.t-sl-reshare 𝓤 H A W E RelayCircuit.row 𝓣 G5 1 14 0 5
               ref5 ref0 life0 0 (λ x. x) (Reads'.as-is 𝓤 H A (Mut.mslice RelayCircuit.row ref5 0)) (Reads'.room-gone 𝓤 H A ref0) Path.refl tt
-              Path.refl Path.refl Path.refl λ b o. tt) d46
-          d48 : Typed.Typed 𝓤 H A 𝓣 E G4 b34 Δ0 (at48 bs)
-          d48 = Typed.g-pre 𝓤 H A W 𝓣 E G4 G5 b34 Δ0 (λ Ψ. Ψ) (at47 bs) (Lifetime.g-begin 𝓤 H A W E G4 5 (tt, (tt, (tt, (tt, (tt, (tt, (tt, (tt, (tt,
-              (tt, (tt, (tt, (tt, (tt, (tt, (tt, (tt, (tt, (tt, (tt, (tt, (tt, (tt, (tt, tt))))))),),),),),),),),),),),),),),),),),)) d47
-          d49 : Typed.Typed 𝓤 H A 𝓣 E G3 b34 Δ0 (at49 bs)
-          d49 = Typed.g-pre 𝓤 H A W 𝓣 E G3 G4 b34 Δ0 (Typed.give (s2 bs)) (at48 bs) (Know.g-shs-known 𝓤 H A W (Referent.fInt Syntax.w8) E G3 7 4 ref9
+              Path.refl Path.refl Path.refl λ b o. tt) d47
+          d49 : Typed.Typed 𝓤 H A 𝓣 E G4 b34 Δ0 (at49 bs)
+          d49 = Typed.g-pre 𝓤 H A W 𝓣 E G4 G5 b34 Δ0 (λ Ψ. Ψ) (at48 bs) (Lifetime.g-begin 𝓤 H A W E G4 5 (tt, (tt, (tt, (tt, (tt, (tt, (tt, (tt, (tt,
+              (tt, (tt, (tt, (tt, (tt, (tt, (tt, (tt, (tt, (tt, (tt, (tt, (tt, (tt, (tt, (tt, tt)))))),),),),),),),),),),),),),),),),),),),)) d48
+          d50 : Typed.Typed 𝓤 H A 𝓣 E G3 b34 Δ0 (at50 bs)
+          d50 = Typed.g-pre 𝓤 H A W 𝓣 E G3 G4 b34 Δ0 (Typed.give (s2 bs)) (at49 bs) (Know.g-shs-known 𝓤 H A W (Referent.fInt Syntax.w8) E G3 8 4 ref9
               life4 0 (λ x. x) record { fits = Dec.lit< tt } (Reads'.as-is 𝓤 H A (Rows.sslice (Referent.rtF (Referent.fInt Syntax.w8)) ref9 4))
-              Path.refl tt) d48
-          d50 : Typed.Typed 𝓤 H A 𝓣 E G2 b34 Δ0 (at50 bs)
-          d50 = Typed.g-pre 𝓤 H A W 𝓣 E G2 G3 b34 Δ0 (Typed.give (s1 bs)) (at49 bs) (Know.g-shs-known 𝓤 H A W (Referent.fInt Syntax.w8) E G2 6 3 ref8
-              life3 0 (λ x. x) record { fits = Dec.lit< tt } (Reads'.as-is 𝓤 H A (Rows.sslice (Referent.rtF (Referent.fInt Syntax.w8)) ref8 3))
               Path.refl tt) d49
-          d51 : Typed.Typed 𝓤 H A 𝓣 E G0 b34 Δ0 (at51 bs)
-          d51 = Typed.g-pre 𝓤 H A W 𝓣 E G0 G2 b34 Δ0 (Typed.give (s0 bs)) (at50 bs) (Know.g-sl-known 𝓤 H A W (Referent.fInt Syntax.w32) E G0 3 2 ref7
-              life2 0 (λ x. x) record { fits = Dec.lit< tt } (Reads'.as-is 𝓤 H A (Mut.mslice (Referent.rtF (Referent.fInt Syntax.w32)) ref7 2))
+          d51 : Typed.Typed 𝓤 H A 𝓣 E G2 b34 Δ0 (at51 bs)
+          d51 = Typed.g-pre 𝓤 H A W 𝓣 E G2 G3 b34 Δ0 (Typed.give (s1 bs)) (at50 bs) (Know.g-shs-known 𝓤 H A W (Referent.fInt Syntax.w8) E G2 7 3 ref8
+              life3 0 (λ x. x) record { fits = Dec.lit< tt } (Reads'.as-is 𝓤 H A (Rows.sslice (Referent.rtF (Referent.fInt Syntax.w8)) ref8 3))
               Path.refl tt) d50
+          d52 : Typed.Typed 𝓤 H A 𝓣 E G0 b34 Δ0 (at52 bs)
+          d52 = Typed.g-pre 𝓤 H A W 𝓣 E G0 G2 b34 Δ0 (Typed.give (s0 bs)) (at51 bs) (Know.g-sl-known 𝓤 H A W (Referent.fInt Syntax.w32) E G0 3 2 ref7
+              life2 0 (λ x. x) record { fits = Dec.lit< tt } (Reads'.as-is 𝓤 H A (Mut.mslice (Referent.rtF (Referent.fInt Syntax.w32)) ref7 2))
+              Path.refl tt) d51
           pub typed : Typed.Typed 𝓤 H A 𝓣 E (Function.Γin 5 ps r xs m κs qs) b34 (Function.Δret 5 ps r xs m κs qs) (Φ bs)
-          typed = d51
+          typed = d52
       module _ (κs : Lifetimes.Lfts 5) where
         pub record Args : Type 0 where
           pub circuits : Kinds.Den { n = 5 } κs (MutSlice.pMutS RelayCircuit.row 0 tt)
           pub inflight : Kinds.Den { n = 5 } κs (MutSlice.pMutS InflightAction.row 1 tt)
           pub out : Kinds.Den { n = 5 } κs (MutSlice.pMutS (Referent.rtF (Referent.fInt Syntax.w32)) 2 tt)
           pub runtime : Kinds.Den { n = 5 } κs (Value.pVal record { ty = Declared'.row OpaqueRelayRuntime.the-type; one = Path.refl; val =
-              Laws''''''''''.val OpaqueRelayRuntime.the-type Laws'''''.the-laws; tells = Laws''''''''''.tells OpaqueRelayRuntime.the-type
-              Laws'''''.the-laws; still = Laws''''''''''.still OpaqueRelayRuntime.the-type Laws'''''.the-copy Exit.yes; row = Rows.whole
-              (Declared'.row OpaqueRelayRuntime.the-type); rd = λ x. x; mk = λ x. x; } λ M 𝓤 H A W. record { copies = Laws''''''''''.copy
-              OpaqueRelayRuntime.the-type Laws'''''.the-copy 𝓤 H A W; lawful = Laws''''''''''.lawful OpaqueRelayRuntime.the-type Laws'''''.the-laws 𝓤
-              H A W; makes = Laws''''''''''.makes OpaqueRelayRuntime.the-type Laws'''''.the-plain 𝓤 H A; in-mem = Local.mem-whole 𝓤 H A W
+              Laws'''''''''''.val OpaqueRelayRuntime.the-type Laws''''''.the-laws; tells = Laws'''''''''''.tells OpaqueRelayRuntime.the-type
+              Laws''''''.the-laws; still = Laws'''''''''''.still OpaqueRelayRuntime.the-type Laws''''''.the-copy Exit.yes; row = Rows.whole
+              (Declared'.row OpaqueRelayRuntime.the-type); rd = λ x. x; mk = λ x. x; } λ M 𝓤 H A W. record { copies = Laws'''''''''''.copy
+              OpaqueRelayRuntime.the-type Laws''''''.the-copy 𝓤 H A W; lawful = Laws'''''''''''.lawful OpaqueRelayRuntime.the-type Laws''''''.the-laws
+              𝓤 H A W; makes = Laws'''''''''''.makes OpaqueRelayRuntime.the-type Laws''''''.the-plain 𝓤 H A; in-mem = Local.mem-whole 𝓤 H A W
               (Declared'.row OpaqueRelayRuntime.the-type); of-mem = Local.whole-mem 𝓤 H A W (Declared'.row OpaqueRelayRuntime.the-type); })
-          pub packet : Kinds.Den { n = 5 } κs (Value.pVal record { ty = Declared'.row RelayPacket.the-type; one = Path.refl; val = Laws''''''''''.val
-              RelayPacket.the-type Laws'''.the-laws; tells = Laws''''''''''.tells RelayPacket.the-type Laws'''.the-laws; still = Laws''''''''''.still
-              RelayPacket.the-type Laws'''.the-copy Exit.yes; row = Rows.whole (Declared'.row RelayPacket.the-type); rd = λ x. x; mk = λ x. x; } λ M 𝓤
-              H A W. record { copies = Laws''''''''''.copy RelayPacket.the-type Laws'''.the-copy 𝓤 H A W; lawful = Laws''''''''''.lawful
-              RelayPacket.the-type Laws'''.the-laws 𝓤 H A W; makes = Laws''''''''''.makes RelayPacket.the-type Laws'''.the-plain 𝓤 H A; in-mem =
-              Local.mem-whole 𝓤 H A W (Declared'.row RelayPacket.the-type); of-mem = Local.whole-mem 𝓤 H A W (Declared'.row RelayPacket.the-type); })
+          pub places : Kinds.Den { n = 5 } κs (Value.pVal record { ty = Declared'.row Places.the-type; one = Path.refl; val = Laws'''''''''''.val
+              Places.the-type Laws'.the-laws; tells = Laws'''''''''''.tells Places.the-type Laws'.the-laws; still = Laws'''''''''''.still
+              Places.the-type Laws'.the-copy Exit.yes; row = Rows.whole (Declared'.row Places.the-type); rd = λ x. x; mk = λ x. x; } λ M 𝓤 H A W.
+              record { copies = Laws'''''''''''.copy Places.the-type Laws'.the-copy 𝓤 H A W; lawful = Laws'''''''''''.lawful Places.the-type
+              Laws'.the-laws 𝓤 H A W; makes = Laws'''''''''''.makes Places.the-type Laws'.the-plain 𝓤 H A; in-mem = Local.mem-whole 𝓤 H A W
+              (Declared'.row Places.the-type); of-mem = Local.whole-mem 𝓤 H A W (Declared'.row Places.the-type); })
+          pub packet : Kinds.Den { n = 5 } κs (Value.pVal record { ty = Declared'.row RelayPacket.the-type; one = Path.refl; val = Laws'''''''''''.val
+              RelayPacket.the-type Laws''''.the-laws; tells = Laws'''''''''''.tells RelayPacket.the-type Laws''''.the-laws; still =
+              Laws'''''''''''.still RelayPacket.the-type Laws''''.the-copy Exit.yes; row = Rows.whole (Declared'.row RelayPacket.the-type); rd = λ x.
+              x; mk = λ x. x; } λ M 𝓤 H A W. record { copies = Laws'''''''''''.copy RelayPacket.the-type Laws''''.the-copy 𝓤 H A W; lawful =
+              Laws'''''''''''.lawful RelayPacket.the-type Laws''''.the-laws 𝓤 H A W; makes = Laws'''''''''''.makes RelayPacket.the-type
+              Laws''''.the-plain 𝓤 H A; in-mem = Local.mem-whole 𝓤 H A W (Declared'.row RelayPacket.the-type); of-mem = Local.whole-mem 𝓤 H A W
+              (Declared'.row RelayPacket.the-type); })
           pub source : Kinds.Den { n = 5 } κs (ShrSlice.pShrS (Referent.rtF (Referent.fInt Syntax.w8)) 3 tt)
           pub body : Kinds.Den { n = 5 } κs (ShrSlice.pShrS (Referent.rtF (Referent.fInt Syntax.w8)) 4 tt)
         abbrev pub dens : (a : Args) → Kinds.Dens κs ps
-        dens = λ a. (a .circuits, (a .inflight, (a .out, (a .runtime, (a .packet, (a .source, (a .body, tt)))))),)
+        dens = λ a. (a .circuits, (a .inflight, (a .out, (a .runtime, (a .places, (a .packet, (a .source, (a .body, tt)))))),),)
       abbrev pub m0 : (κs : Lifetimes.Lfts 5) → (args : Args κs) → (blocks : List.List Nat.ℕ) → Typed.Mo T0
       m0 = λ κs args blocks. (tt, Enter.partsP κs 1 ps xs (dens κs args))
       abbrev W0 : (κs : Lifetimes.Lfts 5) → (args : Args κs) → (blocks : List.List Nat.ℕ) → Typed.Want O0
@@ -1462,21 +1530,23 @@ module _ (claims· : Claims) where
           given
       module _ (before· : After-plan-window-arg2) where
         abbrev pub After-plan-window·own : Type 0
-        After-plan-window·own = Called.Called ps·0 r·0 (claims· .1) T10 (record { pos = 14; ty = Syntax.tyRef Syntax.erased Syntax.imm
-            RelayCircuit.to; ref = λ x. x; }, (record { pos = 16; ty = Syntax.tyRef Syntax.erased Syntax.imm InflightAction.to; ref = λ x. x; },
-            (record { pos = 4; st = List.[]; d = 0; at = λ x. x }, (record { pos = 5; st = List.[]; d = 0; at = λ x. x }, (record { pos = 6; ty =
-            Syntax.tyRef (Syntax.named 3) Syntax.imm (Syntax.tyInt Syntax.w8); ref = λ x. x; }, (record { pos = 7; ty = Syntax.tyRef (Syntax.named 4)
-            Syntax.imm (Syntax.tyInt Syntax.w8); ref = λ x. x; }, tt,),),),),),) (m7 (before· .before) (before· .plan-window-arg2 .given))
+        After-plan-window·own = Called.Called ps·0 r·0 (claims· .1) T10 (record { pos = 15; ty = Syntax.tyRef Syntax.erased Syntax.imm
+            RelayCircuit.to; ref = λ x. x; }, (record { pos = 17; ty = Syntax.tyRef Syntax.erased Syntax.imm InflightAction.to; ref = λ x. x; },
+            (record { pos = 4; st = List.[]; d = 0; at = λ x. x }, (record { pos = 5; st = List.[]; d = 0; at = λ x. x }, (record { pos = 6; st =
+            List.[]; d = 0; at = λ x. x }, (record { pos = 7; ty = Syntax.tyRef (Syntax.named 3) Syntax.imm (Syntax.tyInt Syntax.w8); ref = λ x. x; },
+            (record { pos = 8; ty = Syntax.tyRef (Syntax.named 4) Syntax.imm (Syntax.tyInt Syntax.w8); ref = λ x. x; }, tt,),),),),),),) (m7 (before·
+            .before) (before· .plan-window-arg2 .given))
       pub record After-plan-window : Type 0 where
         pub before : After-plan-window-arg2
         pub plan-window : After-plan-window·own before
       abbrev pub After-plan-window·gave : (c : After-plan-window) → s9 (c .before .before .before .before .before .before .blocks) .gives (m7 (c
           .before .before) (c .before .plan-window-arg2 .given))
-      After-plan-window·gave = λ c. Called.given ps·0 r·0 (claims· .1) T10 (record { pos = 14; ty = Syntax.tyRef Syntax.erased Syntax.imm
-          RelayCircuit.to; ref = λ x. x; }, (record { pos = 16; ty = Syntax.tyRef Syntax.erased Syntax.imm InflightAction.to; ref = λ x. x; }, (record
-          { pos = 4; st = List.[]; d = 0; at = λ x. x }, (record { pos = 5; st = List.[]; d = 0; at = λ x. x }, (record { pos = 6; ty = Syntax.tyRef
-          (Syntax.named 3) Syntax.imm (Syntax.tyInt Syntax.w8); ref = λ x. x; }, (record { pos = 7; ty = Syntax.tyRef (Syntax.named 4) Syntax.imm
-          (Syntax.tyInt Syntax.w8); ref = λ x. x; }, tt,),),),),),) (m7 (c .before .before) (c .before .plan-window-arg2 .given)) (c .plan-window)
+      After-plan-window·gave = λ c. Called.given ps·0 r·0 (claims· .1) T10 (record { pos = 15; ty = Syntax.tyRef Syntax.erased Syntax.imm
+          RelayCircuit.to; ref = λ x. x; }, (record { pos = 17; ty = Syntax.tyRef Syntax.erased Syntax.imm InflightAction.to; ref = λ x. x; }, (record
+          { pos = 4; st = List.[]; d = 0; at = λ x. x }, (record { pos = 5; st = List.[]; d = 0; at = λ x. x }, (record { pos = 6; st = List.[]; d =
+          0; at = λ x. x }, (record { pos = 7; ty = Syntax.tyRef (Syntax.named 3) Syntax.imm (Syntax.tyInt Syntax.w8); ref = λ x. x; }, (record { pos
+          = 8; ty = Syntax.tyRef (Syntax.named 4) Syntax.imm (Syntax.tyInt Syntax.w8); ref = λ x. x; }, tt,),),),),),),) (m7 (c .before .before) (c
+          .before .plan-window-arg2 .given)) (c .plan-window)
       abbrev pub m9 : (before : After-plan-window-arg2) → (given : s9 (before .before .before .before .before .before .blocks) .gives (m7 (before
           .before) (before .plan-window-arg2 .given))) → Typed.Mo T12
       m9 = λ before given. s10 (before .before .before .before .before .before .blocks) (m8 before given)
@@ -1543,21 +1613,21 @@ module _ (claims· : Claims) where
           (before .raise-circuit-arg .given)) given
       module _ (before· : After-raise-circuit-arg) where
         abbrev pub After-raise-circuit·own : Type 0
-        After-raise-circuit·own = Called.Called ps·1 r·1 (claims· .3) T27 (record { pos = 19; ty = Syntax.tyRef Syntax.erased Syntax.mut
-            RelayCircuit.to; ref = λ x. x; }, (Bool.bFld 8 ((Syntax.field 1) ∷ List.[]) 48 λ x. WindowPlan.struct .as-values x .1 .0, (Num.vFld 8
-            ((Syntax.field 2) ∷ List.[]) 56 λ x. WindowPlan.struct .as-values x .1 .1 .0, (record { pos = 10; st = List.[]; d = 0; at = λ x. x },
-            (Num.vFld 8 ((Syntax.field 4) ∷ List.[]) 68 λ x. WindowPlan.struct .as-values x .1 .1 .1 .1 .0, tt,),),),),) (m19 (before· .before)
-            (before· .raise-circuit-arg .given))
+        After-raise-circuit·own = Called.Called ps·1 r·1 (claims· .3) T27 (record { pos = 20; ty = Syntax.tyRef Syntax.erased Syntax.mut
+            RelayCircuit.to; ref = λ x. x; }, (record { pos = 5; st = List.[]; d = 0; at = λ x. x }, (Bool.bFld 9 ((Syntax.field 1) ∷ List.[]) 48 λ x.
+            WindowPlan.struct .as-values x .1 .0, (Num.vFld 9 ((Syntax.field 2) ∷ List.[]) 56 λ x. WindowPlan.struct .as-values x .1 .1 .0, (record {
+            pos = 11; st = List.[]; d = 0; at = λ x. x }, (Num.vFld 9 ((Syntax.field 4) ∷ List.[]) 68 λ x. WindowPlan.struct .as-values x .1 .1 .1 .1
+            .0, tt,),),),),),) (m19 (before· .before) (before· .raise-circuit-arg .given))
       pub record After-raise-circuit : Type 0 where
         pub before : After-raise-circuit-arg
         pub raise-circuit : After-raise-circuit·own before
       abbrev pub After-raise-circuit·gave : (c : After-raise-circuit) → s26 (c .before .before .before .before .before .before .before .before .before
           .before .blocks) .gives (m19 (c .before .before) (c .before .raise-circuit-arg .given))
-      After-raise-circuit·gave = λ c. Called.given ps·1 r·1 (claims· .3) T27 (record { pos = 19; ty = Syntax.tyRef Syntax.erased Syntax.mut
-          RelayCircuit.to; ref = λ x. x; }, (Bool.bFld 8 ((Syntax.field 1) ∷ List.[]) 48 λ x. WindowPlan.struct .as-values x .1 .0, (Num.vFld 8
-          ((Syntax.field 2) ∷ List.[]) 56 λ x. WindowPlan.struct .as-values x .1 .1 .0, (record { pos = 10; st = List.[]; d = 0; at = λ x. x },
-          (Num.vFld 8 ((Syntax.field 4) ∷ List.[]) 68 λ x. WindowPlan.struct .as-values x .1 .1 .1 .1 .0, tt,),),),),) (m19 (c .before .before) (c
-          .before .raise-circuit-arg .given)) (c .raise-circuit)
+      After-raise-circuit·gave = λ c. Called.given ps·1 r·1 (claims· .3) T27 (record { pos = 20; ty = Syntax.tyRef Syntax.erased Syntax.mut
+          RelayCircuit.to; ref = λ x. x; }, (record { pos = 5; st = List.[]; d = 0; at = λ x. x }, (Bool.bFld 9 ((Syntax.field 1) ∷ List.[]) 48 λ x.
+          WindowPlan.struct .as-values x .1 .0, (Num.vFld 9 ((Syntax.field 2) ∷ List.[]) 56 λ x. WindowPlan.struct .as-values x .1 .1 .0, (record {
+          pos = 11; st = List.[]; d = 0; at = λ x. x }, (Num.vFld 9 ((Syntax.field 4) ∷ List.[]) 68 λ x. WindowPlan.struct .as-values x .1 .1 .1 .1
+          .0, tt,),),),),),) (m19 (c .before .before) (c .before .raise-circuit-arg .given)) (c .raise-circuit)
       abbrev pub m21 : (before : After-raise-circuit-arg) → (given : s26 (before .before .before .before .before .before .before .before .before
           .before .blocks) .gives (m19 (before .before) (before .raise-circuit-arg .given))) → Typed.Mo T29
       m21 = λ before given. s27 (before .before .before .before .before .before .before .before .before .before .blocks) (m20 before given)
@@ -1617,21 +1687,23 @@ module _ (claims· : Claims) where
           .blocks) .next (m28 (before .before) (before .send-arg2 .given)) given
       module _ (before· : After-send-arg2) where
         abbrev pub After-send·own : Type 0
-        After-send·own = Called.Called ps·2 r·2 (claims· .5) T40 (record { pos = 21; ty = Syntax.tyRef Syntax.erased Syntax.mut InflightAction.to; ref
-            = λ x. x; }, (record { pos = 23; ty = Syntax.tyRef Syntax.erased Syntax.mut (Syntax.tyInt Syntax.w32); ref = λ x. x; }, (record { pos = 9;
-            st = List.[]; d = 0; at = λ x. x }, (record { pos = 4; st = List.[]; d = 0; at = λ x. x }, (record { pos = 11; st = List.[]; d = 0; at = λ
-            x. x }, (record { pos = 12; st = List.[]; d = 0; at = λ x. x }, (record { pos = 7; ty = Syntax.tyRef (Syntax.named 4) Syntax.imm
-            (Syntax.tyInt Syntax.w8); ref = λ x. x; }, tt,),),),),),),) (m28 (before· .before) (before· .send-arg2 .given))
+        After-send·own = Called.Called ps·2 r·2 (claims· .5) T40 (record { pos = 22; ty = Syntax.tyRef Syntax.erased Syntax.mut InflightAction.to; ref
+            = λ x. x; }, (record { pos = 24; ty = Syntax.tyRef Syntax.erased Syntax.mut (Syntax.tyInt Syntax.w32); ref = λ x. x; }, (record { pos =
+            10; st = List.[]; d = 0; at = λ x. x }, (record { pos = 4; st = List.[]; d = 0; at = λ x. x }, (record { pos = 5; st = List.[]; d = 0; at
+            = λ x. x }, (record { pos = 12; st = List.[]; d = 0; at = λ x. x }, (record { pos = 13; st = List.[]; d = 0; at = λ x. x }, (record { pos
+            = 8; ty = Syntax.tyRef (Syntax.named 4) Syntax.imm (Syntax.tyInt Syntax.w8); ref = λ x. x; }, tt,),),),),),),),) (m28 (before· .before)
+            (before· .send-arg2 .given))
       pub record After-send : Type 0 where
         pub before : After-send-arg2
         pub send : After-send·own before
       abbrev pub After-send·gave : (c : After-send) → s39 (c .before .before .before .before .before .before .before .before .before .before .before
           .before .before .before .blocks) .gives (m28 (c .before .before) (c .before .send-arg2 .given))
-      After-send·gave = λ c. Called.given ps·2 r·2 (claims· .5) T40 (record { pos = 21; ty = Syntax.tyRef Syntax.erased Syntax.mut InflightAction.to;
-          ref = λ x. x; }, (record { pos = 23; ty = Syntax.tyRef Syntax.erased Syntax.mut (Syntax.tyInt Syntax.w32); ref = λ x. x; }, (record { pos =
-          9; st = List.[]; d = 0; at = λ x. x }, (record { pos = 4; st = List.[]; d = 0; at = λ x. x }, (record { pos = 11; st = List.[]; d = 0; at =
-          λ x. x }, (record { pos = 12; st = List.[]; d = 0; at = λ x. x }, (record { pos = 7; ty = Syntax.tyRef (Syntax.named 4) Syntax.imm
-          (Syntax.tyInt Syntax.w8); ref = λ x. x; }, tt,),),),),),),) (m28 (c .before .before) (c .before .send-arg2 .given)) (c .send)
+      After-send·gave = λ c. Called.given ps·2 r·2 (claims· .5) T40 (record { pos = 22; ty = Syntax.tyRef Syntax.erased Syntax.mut InflightAction.to;
+          ref = λ x. x; }, (record { pos = 24; ty = Syntax.tyRef Syntax.erased Syntax.mut (Syntax.tyInt Syntax.w32); ref = λ x. x; }, (record { pos =
+          10; st = List.[]; d = 0; at = λ x. x }, (record { pos = 4; st = List.[]; d = 0; at = λ x. x }, (record { pos = 5; st = List.[]; d = 0; at =
+          λ x. x }, (record { pos = 12; st = List.[]; d = 0; at = λ x. x }, (record { pos = 13; st = List.[]; d = 0; at = λ x. x }, (record { pos = 8;
+          ty = Syntax.tyRef (Syntax.named 4) Syntax.imm (Syntax.tyInt Syntax.w8); ref = λ x. x; }, tt,),),),),),),),) (m28 (c .before .before) (c
+          .before .send-arg2 .given)) (c .send)
       abbrev pub m30 : (before : After-send-arg2) → (given : s39 (before .before .before .before .before .before .before .before .before .before
           .before .before .before .before .blocks) .gives (m28 (before .before) (before .send-arg2 .given))) → Typed.Mo T42
       m30 = λ before given. s40 (before .before .before .before .before .before .before .before .before .before .before .before .before .before
@@ -1648,51 +1720,55 @@ module _ (claims· : Claims) where
           .before .before .before .before .blocks) .gives (m28 (before .before) (before .send-arg2 .given))) → Typed.Mo T45
       m33 = λ before given. s43 (before .before .before .before .before .before .before .before .before .before .before .before .before .before
           .blocks) (m32 before given)
-      abbrev pub m34 : (before : After-send) → (given : s45 (before .before .before .before .before .before .before .before .before .before .before
-          .before .before .before .before .blocks) .gives (m33 (before .before) (After-send·gave before))) → Typed.Mo T47
-      m34 = λ before given. s45 (before .before .before .before .before .before .before .before .before .before .before .before .before .before
-          .before .blocks) .next (m33 (before .before) (After-send·gave before)) given
+      abbrev pub m34 : (before : After-send-arg2) → (given : s39 (before .before .before .before .before .before .before .before .before .before
+          .before .before .before .before .blocks) .gives (m28 (before .before) (before .send-arg2 .given))) → Typed.Mo T46
+      m34 = λ before given. s44 (before .before .before .before .before .before .before .before .before .before .before .before .before .before
+          .blocks) (m33 before given)
+      abbrev pub m35 : (before : After-send) → (given : s46 (before .before .before .before .before .before .before .before .before .before .before
+          .before .before .before .before .blocks) .gives (m34 (before .before) (After-send·gave before))) → Typed.Mo T48
+      m35 = λ before given. s46 (before .before .before .before .before .before .before .before .before .before .before .before .before .before
+          .before .blocks) .next (m34 (before .before) (After-send·gave before)) given
       module _ (before· : After-send) where
         pub record After-inflight·own : Type 0 where
-          pub given : s45 (before· .before .before .before .before .before .before .before .before .before .before .before .before .before .before
-              .blocks) .gives (m33 (before· .before) (After-send·gave before·))
+          pub given : s46 (before· .before .before .before .before .before .before .before .before .before .before .before .before .before .before
+              .blocks) .gives (m34 (before· .before) (After-send·gave before·))
       pub record After-inflight : Type 0 where
         pub before : After-send
         pub inflight : After-inflight·own before
-      abbrev pub m35 : (before : After-inflight) → (given : s48 (before .before .before .before .before .before .before .before .before .before
-          .before .before .before .before .before .before .blocks) .gives (m34 (before .before) (before .inflight .given))) → Typed.Mo T50
-      m35 = λ before given. s48 (before .before .before .before .before .before .before .before .before .before .before .before .before .before
-          .before .before .blocks) .next (m34 (before .before) (before .inflight .given)) given
+      abbrev pub m36 : (before : After-inflight) → (given : s49 (before .before .before .before .before .before .before .before .before .before
+          .before .before .before .before .before .before .blocks) .gives (m35 (before .before) (before .inflight .given))) → Typed.Mo T51
+      m36 = λ before given. s49 (before .before .before .before .before .before .before .before .before .before .before .before .before .before
+          .before .before .blocks) .next (m35 (before .before) (before .inflight .given)) given
       module _ (before· : After-inflight) where
         pub record After-out·own : Type 0 where
-          pub given : s48 (before· .before .before .before .before .before .before .before .before .before .before .before .before .before .before
-              .before .blocks) .gives (m34 (before· .before) (before· .inflight .given))
+          pub given : s49 (before· .before .before .before .before .before .before .before .before .before .before .before .before .before .before
+              .before .blocks) .gives (m35 (before· .before) (before· .inflight .given))
       pub record After-out : Type 0 where
         pub before : After-inflight
         pub out : After-out·own before
-      abbrev pub m36 : (before : After-out) → (given : s49 (before .before .before .before .before .before .before .before .before .before .before
-          .before .before .before .before .before .before .blocks) .gives (m35 (before .before) (before .out .given))) → Typed.Mo T51
-      m36 = λ before given. s49 (before .before .before .before .before .before .before .before .before .before .before .before .before .before
-          .before .before .before .blocks) .next (m35 (before .before) (before .out .given)) given
+      abbrev pub m37 : (before : After-out) → (given : s50 (before .before .before .before .before .before .before .before .before .before .before
+          .before .before .before .before .before .before .blocks) .gives (m36 (before .before) (before .out .given))) → Typed.Mo T52
+      m37 = λ before given. s50 (before .before .before .before .before .before .before .before .before .before .before .before .before .before
+          .before .before .before .blocks) .next (m36 (before .before) (before .out .given)) given
       module _ (before· : After-out) where
         pub record After-slice-known2·own : Type 0 where
-          pub given : s49 (before· .before .before .before .before .before .before .before .before .before .before .before .before .before .before
-              .before .before .blocks) .gives (m35 (before· .before) (before· .out .given))
+          pub given : s50 (before· .before .before .before .before .before .before .before .before .before .before .before .before .before .before
+              .before .before .blocks) .gives (m36 (before· .before) (before· .out .given))
       pub record After-slice-known2 : Type 0 where
         pub before : After-out
         pub slice-known2 : After-slice-known2·own before
       abbrev pub Need-same-length : Type 0
-      Need-same-length = (c : After-slice-known2) → MutSlice.SameLen (Row.get 1 (T51 .locals) (m36 (c .before) (c .slice-known2 .given))) (dens (c
+      Need-same-length = (c : After-slice-known2) → MutSlice.SameLen (Row.get 1 (T52 .locals) (m37 (c .before) (c .slice-known2 .given))) (dens (c
           .before .before .before .before .before .before .before .before .before .before .before .before .before .before .before .before .before .κs)
           (c .before .before .before .before .before .before .before .before .before .before .before .before .before .before .before .before .before
           .args) .0)
       abbrev pub Need-same-length-2 : Type 0
-      Need-same-length-2 = (c : After-slice-known2) → MutSlice.SameLen (Row.get 2 (T51 .locals) (m36 (c .before) (c .slice-known2 .given))) (dens (c
+      Need-same-length-2 = (c : After-slice-known2) → MutSlice.SameLen (Row.get 2 (T52 .locals) (m37 (c .before) (c .slice-known2 .given))) (dens (c
           .before .before .before .before .before .before .before .before .before .before .before .before .before .before .before .before .before .κs)
           (c .before .before .before .before .before .before .before .before .before .before .before .before .before .before .before .before .before
           .args) .1 .0)
       abbrev pub Need-same-length-3 : Type 0
-      Need-same-length-3 = (c : After-slice-known2) → MutSlice.SameLen (Row.get 3 (T51 .locals) (m36 (c .before) (c .slice-known2 .given))) (dens (c
+      Need-same-length-3 = (c : After-slice-known2) → MutSlice.SameLen (Row.get 3 (T52 .locals) (m37 (c .before) (c .slice-known2 .given))) (dens (c
           .before .before .before .before .before .before .before .before .before .before .before .before .before .before .before .before .before .κs)
           (c .before .before .before .before .before .before .before .before .before .before .before .before .before .before .before .before .before
           .args) .1 .1 .0)
@@ -1701,7 +1777,7 @@ module _ (claims· : Claims) where
           .before .before .before .before .before .before .κs) (dens (c .before .before .before .before .before .before .before .before .before
           .before .before .before .before .before .before .before .before .κs) (c .before .before .before .before .before .before .before .before
           .before .before .before .before .before .before .before .before .before .args)) (Function.resV r (c .before .before .before .before .before
-          .before .before .before .before .before .before .before .before .before .before .before .before .κs) (m36 (c .before) (c .slice-known2
+          .before .before .before .before .before .before .before .before .before .before .before .before .κs) (m37 (c .before) (c .slice-known2
           .given) .0)) (Clauses.atExit (Kinds.endedOf 5 ps r) (c .before .before .before .before .before .before .before .before .before .before
           .before .before .before .before .before .before .before .κs) (dens (c .before .before .before .before .before .before .before .before
           .before .before .before .before .before .before .before .before .before .κs) (c .before .before .before .before .before .before .before
@@ -1709,43 +1785,43 @@ module _ (claims· : Claims) where
           .before .before .before .before .before .before .before .before .before .before .before .before .before .κs) 1 ps xs (dens (c .before
           .before .before .before .before .before .before .before .before .before .before .before .before .before .before .before .before .κs) (c
           .before .before .before .before .before .before .before .before .before .before .before .before .before .before .before .before .before
-          .args)) (m36 (c .before) (c .slice-known2 .given) .1)))
+          .args)) (m37 (c .before) (c .slice-known2 .given) .1)))
       module _ (plan-window-requires : Need-plan-window-requires) (raise-circuit-requires : Need-raise-circuit-requires) (send-requires :
           Need-send-requires) (same-length : Need-same-length) (same-length-2 : Need-same-length-2) (same-length-3 : Need-same-length-3) (returns :
           Need-returns) where
-        lay3 : (c : After-send) → at11 (c .before .before .before .before .before .before .before .before .before .before .before .before .before
+        lay3 : (c : After-send) → at12 (c .before .before .before .before .before .before .before .before .before .before .before .before .before
             .before .blocks) (W0 (c .before .before .before .before .before .before .before .before .before .before .before .before .before .before
             .κs) (c .before .before .before .before .before .before .before .before .before .before .before .before .before .before .args) (c .before
             .before .before .before .before .before .before .before .before .before .before .before .before .before .blocks)) (m29 (c .before)
             (After-send·gave c))
-        lay3 = λ c. (Path.refl, λ g. (Path.refl, λ g'. λ g''. ((MutSlice.fix-len (Row.get 1 (T51 .locals) (m36 record { before = record { before =
+        lay3 = λ c. (Path.refl, λ g. (Path.refl, λ g'. λ g''. ((MutSlice.fix-len (Row.get 1 (T52 .locals) (m37 record { before = record { before =
             record { before = c .before; send = c .send }; inflight = record { given = g }; }; out = record { given = g' }; } g'') .ptr) (Row.get 1
-            (T51 .locals) (m36 record { before = record { before = record { before = c .before; send = c .send }; inflight = record { given = g }; };
-            out = record { given = g' }; } g'') .name) (Row.get 1 (T51 .locals) (m36 record { before = record { before = record { before = c .before;
+            (T52 .locals) (m37 record { before = record { before = record { before = c .before; send = c .send }; inflight = record { given = g }; };
+            out = record { given = g' }; } g'') .name) (Row.get 1 (T52 .locals) (m37 record { before = record { before = record { before = c .before;
             send = c .send }; inflight = record { given = g }; }; out = record { given = g' }; } g'') .now) (dens (c .before .before .before .before
             .before .before .before .before .before .before .before .before .before .before .κs) (c .before .before .before .before .before .before
             .before .before .before .before .before .before .before .before .args) .0 .now) (same-length record { before = record { before = record {
             before = record { before = c .before; send = c .send }; inflight = record { given = g }; }; out = record { given = g' }; }; slice-known2 =
-            record { given = g'' }; }), (MutSlice.fix-len (Row.get 2 (T51 .locals) (m36 record { before = record { before = record { before = c
-            .before; send = c .send }; inflight = record { given = g }; }; out = record { given = g' }; } g'') .ptr) (Row.get 2 (T51 .locals) (m36
+            record { given = g'' }; }), (MutSlice.fix-len (Row.get 2 (T52 .locals) (m37 record { before = record { before = record { before = c
+            .before; send = c .send }; inflight = record { given = g }; }; out = record { given = g' }; } g'') .ptr) (Row.get 2 (T52 .locals) (m37
             record { before = record { before = record { before = c .before; send = c .send }; inflight = record { given = g }; }; out = record {
-            given = g' }; } g'') .name) (Row.get 2 (T51 .locals) (m36 record { before = record { before = record { before = c .before; send = c .send
+            given = g' }; } g'') .name) (Row.get 2 (T52 .locals) (m37 record { before = record { before = record { before = c .before; send = c .send
             }; inflight = record { given = g }; }; out = record { given = g' }; } g'') .now) (dens (c .before .before .before .before .before .before
             .before .before .before .before .before .before .before .before .κs) (c .before .before .before .before .before .before .before .before
             .before .before .before .before .before .before .args) .1 .0 .now) (same-length-2 record { before = record { before = record { before =
             record { before = c .before; send = c .send }; inflight = record { given = g }; }; out = record { given = g' }; }; slice-known2 = record {
-            given = g'' }; }), (MutSlice.fix-len (Row.get 3 (T51 .locals) (m36 record { before = record { before = record { before = c .before; send =
-            c .send }; inflight = record { given = g }; }; out = record { given = g' }; } g'') .ptr) (Row.get 3 (T51 .locals) (m36 record { before =
+            given = g'' }; }), (MutSlice.fix-len (Row.get 3 (T52 .locals) (m37 record { before = record { before = record { before = c .before; send =
+            c .send }; inflight = record { given = g }; }; out = record { given = g' }; } g'') .ptr) (Row.get 3 (T52 .locals) (m37 record { before =
             record { before = record { before = c .before; send = c .send }; inflight = record { given = g }; }; out = record { given = g' }; } g'')
-            .name) (Row.get 3 (T51 .locals) (m36 record { before = record { before = record { before = c .before; send = c .send }; inflight = record
+            .name) (Row.get 3 (T52 .locals) (m37 record { before = record { before = record { before = c .before; send = c .send }; inflight = record
             { given = g }; }; out = record { given = g' }; } g'') .now) (dens (c .before .before .before .before .before .before .before .before
             .before .before .before .before .before .before .κs) (c .before .before .before .before .before .before .before .before .before .before
             .before .before .before .before .args) .1 .1 .0 .now) (same-length-3 record { before = record { before = record { before = record { before
             = c .before; send = c .send }; inflight = record { given = g }; }; out = record { given = g' }; }; slice-known2 = record { given = g'' };
-            }), (tt, (tt, (Path.refl, (Path.refl, tt)))),),),), returns record { before = record { before = record { before = record { before = c
-            .before; send = c .send }; inflight = record { given = g }; }; out = record { given = g' }; }; slice-known2 = record { given = g'' };
+            }), (tt, (tt, (tt, (Path.refl, (Path.refl, tt))))),),),), returns record { before = record { before = record { before = record { before =
+            c .before; send = c .send }; inflight = record { given = g }; }; out = record { given = g' }; }; slice-known2 = record { given = g'' };
             },),),)
-        lay2 : (c : After-raise-circuit) → at24 (c .before .before .before .before .before .before .before .before .before .before .blocks) (W0 (c
+        lay2 : (c : After-raise-circuit) → at25 (c .before .before .before .before .before .before .before .before .before .before .blocks) (W0 (c
             .before .before .before .before .before .before .before .before .before .before .κs) (c .before .before .before .before .before .before
             .before .before .before .before .args) (c .before .before .before .before .before .before .before .before .before .before .blocks)) (m20
             (c .before) (After-raise-circuit·gave c))
@@ -1753,44 +1829,46 @@ module _ (claims· : Claims) where
             { before = c .before; raise-circuit = c .raise-circuit }; circuits = record { given = g }; }; send-arg = record { given = g' }; };
             send-arg2 = record { given = g'' }; }, λ g'3. lay3 record { before = record { before = record { before = record { before = record { before
             = c .before; raise-circuit = c .raise-circuit }; circuits = record { given = g }; }; send-arg = record { given = g' }; }; send-arg2 =
-            record { given = g'' }; }; send = Called.called ps·2 r·2 (claims· .5) T40 (record { pos = 21; ty = Syntax.tyRef Syntax.erased Syntax.mut
-            InflightAction.to; ref = λ x. x; }, (record { pos = 23; ty = Syntax.tyRef Syntax.erased Syntax.mut (Syntax.tyInt Syntax.w32); ref = λ x.
-            x; }, (record { pos = 9; st = List.[]; d = 0; at = λ x. x }, (record { pos = 4; st = List.[]; d = 0; at = λ x. x }, (record { pos = 11; st
-            = List.[]; d = 0; at = λ x. x }, (record { pos = 12; st = List.[]; d = 0; at = λ x. x }, (record { pos = 7; ty = Syntax.tyRef
-            (Syntax.named 4) Syntax.imm (Syntax.tyInt Syntax.w8); ref = λ x. x; }, tt,),),),),),),) (m28 record { before = record { before = record {
-            before = c .before; raise-circuit = c .raise-circuit }; circuits = record { given = g }; }; send-arg = record { given = g' }; } g'') g'3;
-            },),),),)
-        lay1 : (c : After-plan-window) → at41 (c .before .before .before .before .before .before .blocks) (W0 (c .before .before .before .before
+            record { given = g'' }; }; send = Called.called ps·2 r·2 (claims· .5) T40 (record { pos = 22; ty = Syntax.tyRef Syntax.erased Syntax.mut
+            InflightAction.to; ref = λ x. x; }, (record { pos = 24; ty = Syntax.tyRef Syntax.erased Syntax.mut (Syntax.tyInt Syntax.w32); ref = λ x.
+            x; }, (record { pos = 10; st = List.[]; d = 0; at = λ x. x }, (record { pos = 4; st = List.[]; d = 0; at = λ x. x }, (record { pos = 5; st
+            = List.[]; d = 0; at = λ x. x }, (record { pos = 12; st = List.[]; d = 0; at = λ x. x }, (record { pos = 13; st = List.[]; d = 0; at = λ
+            x. x }, (record { pos = 8; ty = Syntax.tyRef (Syntax.named 4) Syntax.imm (Syntax.tyInt Syntax.w8); ref = λ x. x; }, tt,),),),),),),),)
+            (m28 record { before = record { before = record { before = c .before; raise-circuit = c .raise-circuit }; circuits = record { given = g };
+            }; send-arg = record { given = g' }; } g'') g'3; },),),),)
+        lay1 : (c : After-plan-window) → at42 (c .before .before .before .before .before .before .blocks) (W0 (c .before .before .before .before
             .before .before .κs) (c .before .before .before .before .before .before .args) (c .before .before .before .before .before .before
             .blocks)) (m8 (c .before) (After-plan-window·gave c))
         lay1 = λ c. (tt, λ g. (tt, λ g'. λ g''. (Path.refl, (raise-circuit-requires record { before = record { before = record { before = record {
             before = c .before; plan-window = c .plan-window }; message = record { given = g }; }; scan = record { given = g' }; }; raise-circuit-arg
             = record { given = g'' }; }, λ g'3. lay2 record { before = record { before = record { before = record { before = record { before = c
             .before; plan-window = c .plan-window }; message = record { given = g }; }; scan = record { given = g' }; }; raise-circuit-arg = record {
-            given = g'' }; }; raise-circuit = Called.called ps·1 r·1 (claims· .3) T27 (record { pos = 19; ty = Syntax.tyRef Syntax.erased Syntax.mut
-            RelayCircuit.to; ref = λ x. x; }, (Bool.bFld 8 ((Syntax.field 1) ∷ List.[]) 48 λ x. WindowPlan.struct .as-values x .1 .0, (Num.vFld 8
-            ((Syntax.field 2) ∷ List.[]) 56 λ x. WindowPlan.struct .as-values x .1 .1 .0, (record { pos = 10; st = List.[]; d = 0; at = λ x. x },
-            (Num.vFld 8 ((Syntax.field 4) ∷ List.[]) 68 λ x. WindowPlan.struct .as-values x .1 .1 .1 .1 .0, tt,),),),),) (m19 record { before = record
-            { before = record { before = c .before; plan-window = c .plan-window }; message = record { given = g }; }; scan = record { given = g' }; }
-            g'') g'3; },),),),)
-        pub laid : (c : Start) → at51 (c .blocks) (W0 (c .κs) (c .args) (c .blocks)) (m0 (c .κs) (c .args) (c .blocks))
+            given = g'' }; }; raise-circuit = Called.called ps·1 r·1 (claims· .3) T27 (record { pos = 20; ty = Syntax.tyRef Syntax.erased Syntax.mut
+            RelayCircuit.to; ref = λ x. x; }, (record { pos = 5; st = List.[]; d = 0; at = λ x. x }, (Bool.bFld 9 ((Syntax.field 1) ∷ List.[]) 48 λ x.
+            WindowPlan.struct .as-values x .1 .0, (Num.vFld 9 ((Syntax.field 2) ∷ List.[]) 56 λ x. WindowPlan.struct .as-values x .1 .1 .0, (record {
+            pos = 11; st = List.[]; d = 0; at = λ x. x }, (Num.vFld 9 ((Syntax.field 4) ∷ List.[]) 68 λ x. WindowPlan.struct .as-values x .1 .1 .1 .1
+            .0, tt,),),),),),) (m19 record { before = record { before = record { before = c .before; plan-window = c .plan-window }; message = record
+            { given = g }; }; scan = record { given = g' }; } g'') g'3; },),),),)
+        pub laid : (c : Start) → at52 (c .blocks) (W0 (c .κs) (c .args) (c .blocks)) (m0 (c .κs) (c .args) (c .blocks))
         laid = λ c. λ g. λ g'. λ g''. λ g'3. (Path.refl, λ g'4. (Path.refl, (plan-window-requires record { before = record { before = record { before
             = record { before = record { before = c; slice-known = record { given = g } }; shared-slice-known = record { given = g' }; };
             shared-slice-known2 = record { given = g'' }; }; plan-window-arg = record { given = g'3 }; }; plan-window-arg2 = record { given = g'4 };
             }, λ g'5. lay1 record { before = record { before = record { before = record { before = record { before = record { before = c; slice-known
             = record { given = g } }; shared-slice-known = record { given = g' }; }; shared-slice-known2 = record { given = g'' }; }; plan-window-arg
             = record { given = g'3 }; }; plan-window-arg2 = record { given = g'4 }; }; plan-window = Called.called ps·0 r·0 (claims· .1) T10 (record {
-            pos = 14; ty = Syntax.tyRef Syntax.erased Syntax.imm RelayCircuit.to; ref = λ x. x; }, (record { pos = 16; ty = Syntax.tyRef Syntax.erased
+            pos = 15; ty = Syntax.tyRef Syntax.erased Syntax.imm RelayCircuit.to; ref = λ x. x; }, (record { pos = 17; ty = Syntax.tyRef Syntax.erased
             Syntax.imm InflightAction.to; ref = λ x. x; }, (record { pos = 4; st = List.[]; d = 0; at = λ x. x }, (record { pos = 5; st = List.[]; d =
-            0; at = λ x. x }, (record { pos = 6; ty = Syntax.tyRef (Syntax.named 3) Syntax.imm (Syntax.tyInt Syntax.w8); ref = λ x. x; }, (record {
-            pos = 7; ty = Syntax.tyRef (Syntax.named 4) Syntax.imm (Syntax.tyInt Syntax.w8); ref = λ x. x; }, tt,),),),),),) (m7 record { before =
-            record { before = record { before = record { before = c; slice-known = record { given = g } }; shared-slice-known = record { given = g' };
-            }; shared-slice-known2 = record { given = g'' }; }; plan-window-arg = record { given = g'3 }; } g'4) g'5; },),),)
+            0; at = λ x. x }, (record { pos = 6; st = List.[]; d = 0; at = λ x. x }, (record { pos = 7; ty = Syntax.tyRef (Syntax.named 3) Syntax.imm
+            (Syntax.tyInt Syntax.w8); ref = λ x. x; }, (record { pos = 8; ty = Syntax.tyRef (Syntax.named 4) Syntax.imm (Syntax.tyInt Syntax.w8); ref
+            = λ x. x; }, tt,),),),),),),) (m7 record { before = record { before = record { before = record { before = c; slice-known = record { given
+            = g } }; shared-slice-known = record { given = g' }; }; shared-slice-known2 = record { given = g'' }; }; plan-window-arg = record { given
+            = g'3 }; } g'4) g'5; },),),)
         module _ (κs : Lifetimes.Lfts 5) (qs : Lifetimes.Shares 5) where
           pub asked : (a : Kinds.Dens κs ps) → (good : Kinds.GoodsP κs ps a) → (pre : Pre· κs a) → (bs : List.List Nat.ℕ) → Φ bs (Any.wantQ 5 ps r xs
               m κs qs a (Post· κs a)) (Function.init 5 ps r xs m κs qs a)
           asked = λ a good pre bs. laid record { κs = κs; args = record { circuits = a .0; inflight = a .1 .0; out = a .1 .1 .0; runtime = a .1 .1 .1
-              .0; packet = a .1 .1 .1 .1 .0; source = a .1 .1 .1 .1 .1 .0; body = a .1 .1 .1 .1 .1 .1 .0; }; blocks = bs; good = good; pre = pre; }
+              .0; places = a .1 .1 .1 .1 .0; packet = a .1 .1 .1 .1 .1 .0; source = a .1 .1 .1 .1 .1 .1 .0; body = a .1 .1 .1 .1 .1 .1 .1 .0; };
+              blocks = bs; good = good; pre = pre; }
         module _ { M : Type 1 } (𝓤 : URA.URA M) (H : Wp.Heap 𝓤) (A : Atoms.Atoms 𝓤) (W : Kit.Given 𝓤 H A) (𝓣 : Wp.Tables 𝓤 H) (known0 : Plain.Known 𝓤
             H A W 𝓣 4 ps·0 r·0 (claims· .0) (claims· .1) "hnsr_circuit::handle_window::plan_window") (known1 : Plain.Known 𝓤 H A W 𝓣 1 ps·1 r·1
             (claims· .2) (claims· .3) "hnsr_circuit::handle_window::raise_circuit") (known2 : Plain.Known 𝓤 H A W 𝓣 3 ps·2 r·2 (claims· .4) (claims·

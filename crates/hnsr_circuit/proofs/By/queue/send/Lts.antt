@@ -3,16 +3,18 @@ use Prim.Native.Nat
 use Rattle.hnsr_circuit.proofs.By.InflightAction
 use Rattle.hnsr_circuit.proofs.answer.HnsrAnswer
 use Rattle.hnsr_circuit.proofs.answer.HnsrAnswer.Laws
+use Rattle.hnsr_circuit.proofs.places.Places
+use Rattle.hnsr_circuit.proofs.places.Places.Laws as Laws'
 use Rattle.hnsr_circuit.proofs.queue.Queued
-use Rattle.hnsr_circuit.proofs.queue.Queued.Laws as Laws'
+use Rattle.hnsr_circuit.proofs.queue.Queued.Laws as Laws''
 use Rattle.hnsr_circuit.proofs.records.ActionScan
-use Rattle.hnsr_circuit.proofs.records.ActionScan.Laws as Laws''
+use Rattle.hnsr_circuit.proofs.records.ActionScan.Laws as Laws'''
 use Rattle.hnsr_circuit.proofs.records.Outgoing
-use Rattle.hnsr_circuit.proofs.records.Outgoing.Laws as Laws'''
+use Rattle.hnsr_circuit.proofs.records.Outgoing.Laws as Laws''''
 use Rattle.hnsr_circuit.proofs.runtime.OpaqueRelayRuntime
-use Rattle.hnsr_circuit.proofs.runtime.OpaqueRelayRuntime.Laws as Laws''''
+use Rattle.hnsr_circuit.proofs.runtime.OpaqueRelayRuntime.Laws as Laws'''''
 use Rattle.hnsr_circuit.proofs.runtime.Relayed
-use Rattle.hnsr_circuit.proofs.runtime.Relayed.Laws as Laws'''''
+use Rattle.hnsr_circuit.proofs.runtime.Relayed.Laws as Laws''''''
 use borrow.Author.Called
 use borrow.Fn.Any
 use borrow.Fn.Call
@@ -35,18 +37,19 @@ use borrow.Rule.Slice.Mut
 use borrow.Rule.Slice.Relend
 use borrow.Rule.Slice.Shared
 use borrow.Rule.Yields
+use borrow.Struct.Reads
 use borrow.Table.Copies
-use borrow.Table.Reads
+use borrow.Table.Reads as Reads'
 use borrow.Table.Referent
 use borrow.Table.Row
 use borrow.Table.Rows
 use borrow.Table.Typed
 use contract.Lifetimes
 use denote.Enum.Declared
-use denote.Enum.Laws as Laws''''''
+use denote.Enum.Laws as Laws'''''''
 use denote.Exit
 use denote.Struct.Declared as Declared'
-use denote.Struct.Laws as Laws'''''''
+use denote.Struct.Laws as Laws''''''''
 use denote.Triple.Clauses
 use denote.Triple.Statement
 use ghost.Atoms
@@ -72,204 +75,248 @@ abbrev ref4 : Syntax.Ty
 ref4 = Syntax.tyRef (Syntax.named 2) Syntax.imm (Syntax.tyInt Syntax.w8)
 abbrev pub ps : List.List (Kinds.PK 3)
 ps = (MutSlice.pMutS InflightAction.row 0 tt) ∷ (MutSlice.pMutS (Referent.rtF (Referent.fInt Syntax.w32)) 1 tt) ∷ (Value.pVal record { ty =
-    Declared.row HnsrAnswer.the-type; one = Path.refl; val = Laws''''''.val HnsrAnswer.the-type Laws.the-laws; tells = Laws''''''.tells
-    HnsrAnswer.the-type Laws.the-laws; still = Laws''''''.still HnsrAnswer.the-type Laws.the-copy Exit.yes; row = Rows.whole (Declared.row
-    HnsrAnswer.the-type); rd = λ x. x; mk = λ x. x; } λ M 𝓤 H A W. record { copies = Laws''''''.copy HnsrAnswer.the-type Laws.the-copy 𝓤 H A W; lawful
-    = Laws''''''.lawful HnsrAnswer.the-type Laws.the-laws 𝓤 H A W tt; makes = Laws''''''.makes HnsrAnswer.the-type Laws.the-plain 𝓤 H A; in-mem =
-    Local.mem-whole 𝓤 H A W (Declared.row HnsrAnswer.the-type); of-mem = Local.whole-mem 𝓤 H A W (Declared.row HnsrAnswer.the-type); }) ∷ (Value.pVal
-    record { ty = Declared'.row OpaqueRelayRuntime.the-type; one = Path.refl; val = Laws'''''''.val OpaqueRelayRuntime.the-type Laws''''.the-laws;
-    tells = Laws'''''''.tells OpaqueRelayRuntime.the-type Laws''''.the-laws; still = Laws'''''''.still OpaqueRelayRuntime.the-type Laws''''.the-copy
-    Exit.yes; row = Rows.whole (Declared'.row OpaqueRelayRuntime.the-type); rd = λ x. x; mk = λ x. x; } λ M 𝓤 H A W. record { copies =
-    Laws'''''''.copy OpaqueRelayRuntime.the-type Laws''''.the-copy 𝓤 H A W; lawful = Laws'''''''.lawful OpaqueRelayRuntime.the-type Laws''''.the-laws
-    𝓤 H A W; makes = Laws'''''''.makes OpaqueRelayRuntime.the-type Laws''''.the-plain 𝓤 H A; in-mem = Local.mem-whole 𝓤 H A W (Declared'.row
-    OpaqueRelayRuntime.the-type); of-mem = Local.whole-mem 𝓤 H A W (Declared'.row OpaqueRelayRuntime.the-type); }) ∷ (Value.pVal record { ty =
-    Declared'.row Outgoing.the-type; one = Path.refl; val = Laws'''''''.val Outgoing.the-type Laws'''.the-laws; tells = Laws'''''''.tells
-    Outgoing.the-type Laws'''.the-laws; still = Laws'''''''.still Outgoing.the-type Laws'''.the-copy Exit.yes; row = Rows.whole (Declared'.row
-    Outgoing.the-type); rd = λ x. x; mk = λ x. x; } λ M 𝓤 H A W. record { copies = Laws'''''''.copy Outgoing.the-type Laws'''.the-copy 𝓤 H A W; lawful
-    = Laws'''''''.lawful Outgoing.the-type Laws'''.the-laws 𝓤 H A W; makes = Laws'''''''.makes Outgoing.the-type Laws'''.the-plain 𝓤 H A; in-mem =
-    Local.mem-whole 𝓤 H A W (Declared'.row Outgoing.the-type); of-mem = Local.whole-mem 𝓤 H A W (Declared'.row Outgoing.the-type); }) ∷ (Value.pVal
-    record { ty = Declared'.row ActionScan.the-type; one = Path.refl; val = Laws'''''''.val ActionScan.the-type Laws''.the-laws; tells =
-    Laws'''''''.tells ActionScan.the-type Laws''.the-laws; still = Laws'''''''.still ActionScan.the-type Laws''.the-copy Exit.yes; row = Rows.whole
-    (Declared'.row ActionScan.the-type); rd = λ x. x; mk = λ x. x; } λ M 𝓤 H A W. record { copies = Laws'''''''.copy ActionScan.the-type
-    Laws''.the-copy 𝓤 H A W; lawful = Laws'''''''.lawful ActionScan.the-type Laws''.the-laws 𝓤 H A W; makes = Laws'''''''.makes ActionScan.the-type
-    Laws''.the-plain 𝓤 H A; in-mem = Local.mem-whole 𝓤 H A W (Declared'.row ActionScan.the-type); of-mem = Local.whole-mem 𝓤 H A W (Declared'.row
-    ActionScan.the-type); }) ∷ (ShrSlice.pShrS (Referent.rtF (Referent.fInt Syntax.w8)) 2 tt) ∷ List.[]
+    Declared.row HnsrAnswer.the-type; one = Path.refl; val = Laws'''''''.val HnsrAnswer.the-type Laws.the-laws; tells = Laws'''''''.tells
+    HnsrAnswer.the-type Laws.the-laws; still = Laws'''''''.still HnsrAnswer.the-type Laws.the-copy Exit.yes; row = Rows.whole (Declared.row
+    HnsrAnswer.the-type); rd = λ x. x; mk = λ x. x; } λ M 𝓤 H A W. record { copies = Laws'''''''.copy HnsrAnswer.the-type Laws.the-copy 𝓤 H A W;
+    lawful = Laws'''''''.lawful HnsrAnswer.the-type Laws.the-laws 𝓤 H A W tt; makes = Laws'''''''.makes HnsrAnswer.the-type Laws.the-plain 𝓤 H A;
+    in-mem = Local.mem-whole 𝓤 H A W (Declared.row HnsrAnswer.the-type); of-mem = Local.whole-mem 𝓤 H A W (Declared.row HnsrAnswer.the-type); }) ∷
+    (Value.pVal record { ty = Declared'.row OpaqueRelayRuntime.the-type; one = Path.refl; val = Laws''''''''.val OpaqueRelayRuntime.the-type
+    Laws'''''.the-laws; tells = Laws''''''''.tells OpaqueRelayRuntime.the-type Laws'''''.the-laws; still = Laws''''''''.still
+    OpaqueRelayRuntime.the-type Laws'''''.the-copy Exit.yes; row = Rows.whole (Declared'.row OpaqueRelayRuntime.the-type); rd = λ x. x; mk = λ x. x; }
+    λ M 𝓤 H A W. record { copies = Laws''''''''.copy OpaqueRelayRuntime.the-type Laws'''''.the-copy 𝓤 H A W; lawful = Laws''''''''.lawful
+    OpaqueRelayRuntime.the-type Laws'''''.the-laws 𝓤 H A W; makes = Laws''''''''.makes OpaqueRelayRuntime.the-type Laws'''''.the-plain 𝓤 H A; in-mem =
+    Local.mem-whole 𝓤 H A W (Declared'.row OpaqueRelayRuntime.the-type); of-mem = Local.whole-mem 𝓤 H A W (Declared'.row OpaqueRelayRuntime.the-type);
+    }) ∷ (Value.pVal record { ty = Declared'.row Places.the-type; one = Path.refl; val = Laws''''''''.val Places.the-type Laws'.the-laws; tells =
+    Laws''''''''.tells Places.the-type Laws'.the-laws; still = Laws''''''''.still Places.the-type Laws'.the-copy Exit.yes; row = Rows.whole
+    (Declared'.row Places.the-type); rd = λ x. x; mk = λ x. x; } λ M 𝓤 H A W. record { copies = Laws''''''''.copy Places.the-type Laws'.the-copy 𝓤 H A
+    W; lawful = Laws''''''''.lawful Places.the-type Laws'.the-laws 𝓤 H A W; makes = Laws''''''''.makes Places.the-type Laws'.the-plain 𝓤 H A; in-mem =
+    Local.mem-whole 𝓤 H A W (Declared'.row Places.the-type); of-mem = Local.whole-mem 𝓤 H A W (Declared'.row Places.the-type); }) ∷ (Value.pVal record
+    { ty = Declared'.row Outgoing.the-type; one = Path.refl; val = Laws''''''''.val Outgoing.the-type Laws''''.the-laws; tells = Laws''''''''.tells
+    Outgoing.the-type Laws''''.the-laws; still = Laws''''''''.still Outgoing.the-type Laws''''.the-copy Exit.yes; row = Rows.whole (Declared'.row
+    Outgoing.the-type); rd = λ x. x; mk = λ x. x; } λ M 𝓤 H A W. record { copies = Laws''''''''.copy Outgoing.the-type Laws''''.the-copy 𝓤 H A W;
+    lawful = Laws''''''''.lawful Outgoing.the-type Laws''''.the-laws 𝓤 H A W; makes = Laws''''''''.makes Outgoing.the-type Laws''''.the-plain 𝓤 H A;
+    in-mem = Local.mem-whole 𝓤 H A W (Declared'.row Outgoing.the-type); of-mem = Local.whole-mem 𝓤 H A W (Declared'.row Outgoing.the-type); }) ∷
+    (Value.pVal record { ty = Declared'.row ActionScan.the-type; one = Path.refl; val = Laws''''''''.val ActionScan.the-type Laws'''.the-laws; tells =
+    Laws''''''''.tells ActionScan.the-type Laws'''.the-laws; still = Laws''''''''.still ActionScan.the-type Laws'''.the-copy Exit.yes; row =
+    Rows.whole (Declared'.row ActionScan.the-type); rd = λ x. x; mk = λ x. x; } λ M 𝓤 H A W. record { copies = Laws''''''''.copy ActionScan.the-type
+    Laws'''.the-copy 𝓤 H A W; lawful = Laws''''''''.lawful ActionScan.the-type Laws'''.the-laws 𝓤 H A W; makes = Laws''''''''.makes
+    ActionScan.the-type Laws'''.the-plain 𝓤 H A; in-mem = Local.mem-whole 𝓤 H A W (Declared'.row ActionScan.the-type); of-mem = Local.whole-mem 𝓤 H A
+    W (Declared'.row ActionScan.the-type); }) ∷ (ShrSlice.pShrS (Referent.rtF (Referent.fInt Syntax.w8)) 2 tt) ∷ List.[]
 abbrev pub r : Kinds.RK 3
-r = Value.rVal record { ty = Declared'.row Relayed.the-type; one = Path.refl; val = Laws'''''''.val Relayed.the-type Laws'''''.the-laws; tells =
-    Laws'''''''.tells Relayed.the-type Laws'''''.the-laws; still = Laws'''''''.still Relayed.the-type Laws'''''.the-copy Exit.yes; row = Rows.whole
-    (Declared'.row Relayed.the-type); rd = λ x. x; mk = λ x. x; } λ M 𝓤 H A W. record { copies = Laws'''''''.copy Relayed.the-type Laws'''''.the-copy
-    𝓤 H A W; lawful = Laws'''''''.lawful Relayed.the-type Laws'''''.the-laws 𝓤 H A W; makes = Laws'''''''.makes Relayed.the-type Laws'''''.the-plain 𝓤
-    H A; in-mem = Local.mem-whole 𝓤 H A W (Declared'.row Relayed.the-type); of-mem = Local.whole-mem 𝓤 H A W (Declared'.row Relayed.the-type); }
+r = Value.rVal record { ty = Declared'.row Relayed.the-type; one = Path.refl; val = Laws''''''''.val Relayed.the-type Laws''''''.the-laws; tells =
+    Laws''''''''.tells Relayed.the-type Laws''''''.the-laws; still = Laws''''''''.still Relayed.the-type Laws''''''.the-copy Exit.yes; row =
+    Rows.whole (Declared'.row Relayed.the-type); rd = λ x. x; mk = λ x. x; } λ M 𝓤 H A W. record { copies = Laws''''''''.copy Relayed.the-type
+    Laws''''''.the-copy 𝓤 H A W; lawful = Laws''''''''.lawful Relayed.the-type Laws''''''.the-laws 𝓤 H A W; makes = Laws''''''''.makes
+    Relayed.the-type Laws''''''.the-plain 𝓤 H A; in-mem = Local.mem-whole 𝓤 H A W (Declared'.row Relayed.the-type); of-mem = Local.whole-mem 𝓤 H A W
+    (Declared'.row Relayed.the-type); }
 abbrev pub xs : List.List Syntax.Ty
-xs = Laws'.mir ∷ InflightAction.ty ∷ Syntax.tyBool ∷ (Syntax.tyInt Syntax.w64) ∷ (Syntax.tyInt Syntax.w64) ∷ Syntax.tyUnit ∷ ref0 ∷ (Syntax.tyStruct
-    (38 ∷ 91 ∷ 93 ∷ List.[]) (Syntax.tcons ref0 (Syntax.tcons (Syntax.tyInt Syntax.w64) Syntax.tnil))) ∷ ref1 ∷ (Syntax.tyStruct (38 ∷ 91 ∷ 93 ∷
-    List.[]) (Syntax.tcons ref1 (Syntax.tcons (Syntax.tyInt Syntax.w64) Syntax.tnil))) ∷ (Syntax.tyInt Syntax.w64) ∷ List.[]
+xs = (Syntax.tyInt Syntax.w64) ∷ Laws''.mir ∷ InflightAction.ty ∷ Syntax.tyBool ∷ (Syntax.tyInt Syntax.w64) ∷ (Syntax.tyInt Syntax.w64) ∷ Laws'.mir ∷
+    (Syntax.tyInt Syntax.w64) ∷ Syntax.tyUnit ∷ ref0 ∷ (Syntax.tyStruct (38 ∷ 91 ∷ 93 ∷ List.[]) (Syntax.tcons ref0 (Syntax.tcons (Syntax.tyInt
+    Syntax.w64) Syntax.tnil))) ∷ ref1 ∷ (Syntax.tyStruct (38 ∷ 91 ∷ 93 ∷ List.[]) (Syntax.tcons ref1 (Syntax.tcons (Syntax.tyInt Syntax.w64)
+    Syntax.tnil))) ∷ (Syntax.tyInt Syntax.w64) ∷ List.[]
 abbrev pub m : Nat.ℕ
 m = 2
 abbrev pub ps·0 : List.List (Kinds.PK 0)
-ps·0 = (Value.pVal record { ty = Declared.row HnsrAnswer.the-type; one = Path.refl; val = Laws''''''.val HnsrAnswer.the-type Laws.the-laws; tells =
-    Laws''''''.tells HnsrAnswer.the-type Laws.the-laws; still = Laws''''''.still HnsrAnswer.the-type Laws.the-copy Exit.yes; row = Rows.whole
-    (Declared.row HnsrAnswer.the-type); rd = λ x. x; mk = λ x. x; } λ M 𝓤 H A W. record { copies = Laws''''''.copy HnsrAnswer.the-type Laws.the-copy 𝓤
-    H A W; lawful = Laws''''''.lawful HnsrAnswer.the-type Laws.the-laws 𝓤 H A W tt; makes = Laws''''''.makes HnsrAnswer.the-type Laws.the-plain 𝓤 H A;
-    in-mem = Local.mem-whole 𝓤 H A W (Declared.row HnsrAnswer.the-type); of-mem = Local.whole-mem 𝓤 H A W (Declared.row HnsrAnswer.the-type); }) ∷
-    (Value.pVal record { ty = Declared'.row OpaqueRelayRuntime.the-type; one = Path.refl; val = Laws'''''''.val OpaqueRelayRuntime.the-type
-    Laws''''.the-laws; tells = Laws'''''''.tells OpaqueRelayRuntime.the-type Laws''''.the-laws; still = Laws'''''''.still OpaqueRelayRuntime.the-type
-    Laws''''.the-copy Exit.yes; row = Rows.whole (Declared'.row OpaqueRelayRuntime.the-type); rd = λ x. x; mk = λ x. x; } λ M 𝓤 H A W. record { copies
-    = Laws'''''''.copy OpaqueRelayRuntime.the-type Laws''''.the-copy 𝓤 H A W; lawful = Laws'''''''.lawful OpaqueRelayRuntime.the-type
-    Laws''''.the-laws 𝓤 H A W; makes = Laws'''''''.makes OpaqueRelayRuntime.the-type Laws''''.the-plain 𝓤 H A; in-mem = Local.mem-whole 𝓤 H A W
-    (Declared'.row OpaqueRelayRuntime.the-type); of-mem = Local.whole-mem 𝓤 H A W (Declared'.row OpaqueRelayRuntime.the-type); }) ∷ (Value.pVal record
-    { ty = Declared'.row Outgoing.the-type; one = Path.refl; val = Laws'''''''.val Outgoing.the-type Laws'''.the-laws; tells = Laws'''''''.tells
-    Outgoing.the-type Laws'''.the-laws; still = Laws'''''''.still Outgoing.the-type Laws'''.the-copy Exit.yes; row = Rows.whole (Declared'.row
-    Outgoing.the-type); rd = λ x. x; mk = λ x. x; } λ M 𝓤 H A W. record { copies = Laws'''''''.copy Outgoing.the-type Laws'''.the-copy 𝓤 H A W; lawful
-    = Laws'''''''.lawful Outgoing.the-type Laws'''.the-laws 𝓤 H A W; makes = Laws'''''''.makes Outgoing.the-type Laws'''.the-plain 𝓤 H A; in-mem =
-    Local.mem-whole 𝓤 H A W (Declared'.row Outgoing.the-type); of-mem = Local.whole-mem 𝓤 H A W (Declared'.row Outgoing.the-type); }) ∷ (Value.pVal
-    record { ty = Declared'.row ActionScan.the-type; one = Path.refl; val = Laws'''''''.val ActionScan.the-type Laws''.the-laws; tells =
-    Laws'''''''.tells ActionScan.the-type Laws''.the-laws; still = Laws'''''''.still ActionScan.the-type Laws''.the-copy Exit.yes; row = Rows.whole
-    (Declared'.row ActionScan.the-type); rd = λ x. x; mk = λ x. x; } λ M 𝓤 H A W. record { copies = Laws'''''''.copy ActionScan.the-type
-    Laws''.the-copy 𝓤 H A W; lawful = Laws'''''''.lawful ActionScan.the-type Laws''.the-laws 𝓤 H A W; makes = Laws'''''''.makes ActionScan.the-type
-    Laws''.the-plain 𝓤 H A; in-mem = Local.mem-whole 𝓤 H A W (Declared'.row ActionScan.the-type); of-mem = Local.whole-mem 𝓤 H A W (Declared'.row
-    ActionScan.the-type); }) ∷ List.[]
+ps·0 = (Value.pVal record { ty = Declared.row HnsrAnswer.the-type; one = Path.refl; val = Laws'''''''.val HnsrAnswer.the-type Laws.the-laws; tells =
+    Laws'''''''.tells HnsrAnswer.the-type Laws.the-laws; still = Laws'''''''.still HnsrAnswer.the-type Laws.the-copy Exit.yes; row = Rows.whole
+    (Declared.row HnsrAnswer.the-type); rd = λ x. x; mk = λ x. x; } λ M 𝓤 H A W. record { copies = Laws'''''''.copy HnsrAnswer.the-type Laws.the-copy
+    𝓤 H A W; lawful = Laws'''''''.lawful HnsrAnswer.the-type Laws.the-laws 𝓤 H A W tt; makes = Laws'''''''.makes HnsrAnswer.the-type Laws.the-plain 𝓤
+    H A; in-mem = Local.mem-whole 𝓤 H A W (Declared.row HnsrAnswer.the-type); of-mem = Local.whole-mem 𝓤 H A W (Declared.row HnsrAnswer.the-type); })
+    ∷ (Value.pVal record { ty = Declared'.row OpaqueRelayRuntime.the-type; one = Path.refl; val = Laws''''''''.val OpaqueRelayRuntime.the-type
+    Laws'''''.the-laws; tells = Laws''''''''.tells OpaqueRelayRuntime.the-type Laws'''''.the-laws; still = Laws''''''''.still
+    OpaqueRelayRuntime.the-type Laws'''''.the-copy Exit.yes; row = Rows.whole (Declared'.row OpaqueRelayRuntime.the-type); rd = λ x. x; mk = λ x. x; }
+    λ M 𝓤 H A W. record { copies = Laws''''''''.copy OpaqueRelayRuntime.the-type Laws'''''.the-copy 𝓤 H A W; lawful = Laws''''''''.lawful
+    OpaqueRelayRuntime.the-type Laws'''''.the-laws 𝓤 H A W; makes = Laws''''''''.makes OpaqueRelayRuntime.the-type Laws'''''.the-plain 𝓤 H A; in-mem =
+    Local.mem-whole 𝓤 H A W (Declared'.row OpaqueRelayRuntime.the-type); of-mem = Local.whole-mem 𝓤 H A W (Declared'.row OpaqueRelayRuntime.the-type);
+    }) ∷ (Value.pVal record { ty = Declared'.row Outgoing.the-type; one = Path.refl; val = Laws''''''''.val Outgoing.the-type Laws''''.the-laws; tells
+    = Laws''''''''.tells Outgoing.the-type Laws''''.the-laws; still = Laws''''''''.still Outgoing.the-type Laws''''.the-copy Exit.yes; row =
+    Rows.whole (Declared'.row Outgoing.the-type); rd = λ x. x; mk = λ x. x; } λ M 𝓤 H A W. record { copies = Laws''''''''.copy Outgoing.the-type
+    Laws''''.the-copy 𝓤 H A W; lawful = Laws''''''''.lawful Outgoing.the-type Laws''''.the-laws 𝓤 H A W; makes = Laws''''''''.makes Outgoing.the-type
+    Laws''''.the-plain 𝓤 H A; in-mem = Local.mem-whole 𝓤 H A W (Declared'.row Outgoing.the-type); of-mem = Local.whole-mem 𝓤 H A W (Declared'.row
+    Outgoing.the-type); }) ∷ (Value.pVal record { ty = Declared'.row ActionScan.the-type; one = Path.refl; val = Laws''''''''.val ActionScan.the-type
+    Laws'''.the-laws; tells = Laws''''''''.tells ActionScan.the-type Laws'''.the-laws; still = Laws''''''''.still ActionScan.the-type Laws'''.the-copy
+    Exit.yes; row = Rows.whole (Declared'.row ActionScan.the-type); rd = λ x. x; mk = λ x. x; } λ M 𝓤 H A W. record { copies = Laws''''''''.copy
+    ActionScan.the-type Laws'''.the-copy 𝓤 H A W; lawful = Laws''''''''.lawful ActionScan.the-type Laws'''.the-laws 𝓤 H A W; makes =
+    Laws''''''''.makes ActionScan.the-type Laws'''.the-plain 𝓤 H A; in-mem = Local.mem-whole 𝓤 H A W (Declared'.row ActionScan.the-type); of-mem =
+    Local.whole-mem 𝓤 H A W (Declared'.row ActionScan.the-type); }) ∷ List.[]
 abbrev pub r·0 : Kinds.RK 0
-r·0 = Value.rVal record { ty = Declared'.row Queued.the-type; one = Path.refl; val = Laws'''''''.val Queued.the-type Laws'.the-laws; tells =
-    Laws'''''''.tells Queued.the-type Laws'.the-laws; still = Laws'''''''.still Queued.the-type Laws'.the-copy Exit.yes; row = Rows.whole
-    (Declared'.row Queued.the-type); rd = λ x. x; mk = λ x. x; } λ M 𝓤 H A W. record { copies = Laws'''''''.copy Queued.the-type Laws'.the-copy 𝓤 H A
-    W; lawful = Laws'''''''.lawful Queued.the-type Laws'.the-laws 𝓤 H A W; makes = Laws'''''''.makes Queued.the-type Laws'.the-plain 𝓤 H A; in-mem =
-    Local.mem-whole 𝓤 H A W (Declared'.row Queued.the-type); of-mem = Local.whole-mem 𝓤 H A W (Declared'.row Queued.the-type); }
+r·0 = Value.rVal record { ty = Declared'.row Queued.the-type; one = Path.refl; val = Laws''''''''.val Queued.the-type Laws''.the-laws; tells =
+    Laws''''''''.tells Queued.the-type Laws''.the-laws; still = Laws''''''''.still Queued.the-type Laws''.the-copy Exit.yes; row = Rows.whole
+    (Declared'.row Queued.the-type); rd = λ x. x; mk = λ x. x; } λ M 𝓤 H A W. record { copies = Laws''''''''.copy Queued.the-type Laws''.the-copy 𝓤 H
+    A W; lawful = Laws''''''''.lawful Queued.the-type Laws''.the-laws 𝓤 H A W; makes = Laws''''''''.makes Queued.the-type Laws''.the-plain 𝓤 H A;
+    in-mem = Local.mem-whole 𝓤 H A W (Declared'.row Queued.the-type); of-mem = Local.whole-mem 𝓤 H A W (Declared'.row Queued.the-type); }
 abbrev pub ps·1 : List.List (Kinds.PK 0)
-ps·1 = (Value.pVal record { ty = Declared'.row Queued.the-type; one = Path.refl; val = Laws'''''''.val Queued.the-type Laws'.the-laws; tells =
-    Laws'''''''.tells Queued.the-type Laws'.the-laws; still = Laws'''''''.still Queued.the-type Laws'.the-copy Exit.yes; row = Rows.whole
-    (Declared'.row Queued.the-type); rd = λ x. x; mk = λ x. x; } λ M 𝓤 H A W. record { copies = Laws'''''''.copy Queued.the-type Laws'.the-copy 𝓤 H A
-    W; lawful = Laws'''''''.lawful Queued.the-type Laws'.the-laws 𝓤 H A W; makes = Laws'''''''.makes Queued.the-type Laws'.the-plain 𝓤 H A; in-mem =
-    Local.mem-whole 𝓤 H A W (Declared'.row Queued.the-type); of-mem = Local.whole-mem 𝓤 H A W (Declared'.row Queued.the-type); }) ∷ List.[]
+ps·1 = (Value.pVal record { ty = Declared'.row Queued.the-type; one = Path.refl; val = Laws''''''''.val Queued.the-type Laws''.the-laws; tells =
+    Laws''''''''.tells Queued.the-type Laws''.the-laws; still = Laws''''''''.still Queued.the-type Laws''.the-copy Exit.yes; row = Rows.whole
+    (Declared'.row Queued.the-type); rd = λ x. x; mk = λ x. x; } λ M 𝓤 H A W. record { copies = Laws''''''''.copy Queued.the-type Laws''.the-copy 𝓤 H
+    A W; lawful = Laws''''''''.lawful Queued.the-type Laws''.the-laws 𝓤 H A W; makes = Laws''''''''.makes Queued.the-type Laws''.the-plain 𝓤 H A;
+    in-mem = Local.mem-whole 𝓤 H A W (Declared'.row Queued.the-type); of-mem = Local.whole-mem 𝓤 H A W (Declared'.row Queued.the-type); }) ∷ List.[]
 abbrev pub r·1 : Kinds.RK 0
 r·1 = InflightAction.result
 abbrev pub ps·2 : List.List (Kinds.PK 0)
-ps·2 = (Value.pVal record { ty = Declared'.row Queued.the-type; one = Path.refl; val = Laws'''''''.val Queued.the-type Laws'.the-laws; tells =
-    Laws'''''''.tells Queued.the-type Laws'.the-laws; still = Laws'''''''.still Queued.the-type Laws'.the-copy Exit.yes; row = Rows.whole
-    (Declared'.row Queued.the-type); rd = λ x. x; mk = λ x. x; } λ M 𝓤 H A W. record { copies = Laws'''''''.copy Queued.the-type Laws'.the-copy 𝓤 H A
-    W; lawful = Laws'''''''.lawful Queued.the-type Laws'.the-laws 𝓤 H A W; makes = Laws'''''''.makes Queued.the-type Laws'.the-plain 𝓤 H A; in-mem =
-    Local.mem-whole 𝓤 H A W (Declared'.row Queued.the-type); of-mem = Local.whole-mem 𝓤 H A W (Declared'.row Queued.the-type); }) ∷ List.[]
+ps·2 = (Value.pVal record { ty = Declared'.row Queued.the-type; one = Path.refl; val = Laws''''''''.val Queued.the-type Laws''.the-laws; tells =
+    Laws''''''''.tells Queued.the-type Laws''.the-laws; still = Laws''''''''.still Queued.the-type Laws''.the-copy Exit.yes; row = Rows.whole
+    (Declared'.row Queued.the-type); rd = λ x. x; mk = λ x. x; } λ M 𝓤 H A W. record { copies = Laws''''''''.copy Queued.the-type Laws''.the-copy 𝓤 H
+    A W; lawful = Laws''''''''.lawful Queued.the-type Laws''.the-laws 𝓤 H A W; makes = Laws''''''''.makes Queued.the-type Laws''.the-plain 𝓤 H A;
+    in-mem = Local.mem-whole 𝓤 H A W (Declared'.row Queued.the-type); of-mem = Local.whole-mem 𝓤 H A W (Declared'.row Queued.the-type); }) ∷ List.[]
 abbrev pub r·2 : Kinds.RK 0
 r·2 = Bool.rBool
 abbrev pub ps·3 : List.List (Kinds.PK 0)
-ps·3 = (Value.pVal record { ty = Declared'.row Queued.the-type; one = Path.refl; val = Laws'''''''.val Queued.the-type Laws'.the-laws; tells =
-    Laws'''''''.tells Queued.the-type Laws'.the-laws; still = Laws'''''''.still Queued.the-type Laws'.the-copy Exit.yes; row = Rows.whole
-    (Declared'.row Queued.the-type); rd = λ x. x; mk = λ x. x; } λ M 𝓤 H A W. record { copies = Laws'''''''.copy Queued.the-type Laws'.the-copy 𝓤 H A
-    W; lawful = Laws'''''''.lawful Queued.the-type Laws'.the-laws 𝓤 H A W; makes = Laws'''''''.makes Queued.the-type Laws'.the-plain 𝓤 H A; in-mem =
-    Local.mem-whole 𝓤 H A W (Declared'.row Queued.the-type); of-mem = Local.whole-mem 𝓤 H A W (Declared'.row Queued.the-type); }) ∷ List.[]
+ps·3 = (Value.pVal record { ty = Declared'.row Queued.the-type; one = Path.refl; val = Laws''''''''.val Queued.the-type Laws''.the-laws; tells =
+    Laws''''''''.tells Queued.the-type Laws''.the-laws; still = Laws''''''''.still Queued.the-type Laws''.the-copy Exit.yes; row = Rows.whole
+    (Declared'.row Queued.the-type); rd = λ x. x; mk = λ x. x; } λ M 𝓤 H A W. record { copies = Laws''''''''.copy Queued.the-type Laws''.the-copy 𝓤 H
+    A W; lawful = Laws''''''''.lawful Queued.the-type Laws''.the-laws 𝓤 H A W; makes = Laws''''''''.makes Queued.the-type Laws''.the-plain 𝓤 H A;
+    in-mem = Local.mem-whole 𝓤 H A W (Declared'.row Queued.the-type); of-mem = Local.whole-mem 𝓤 H A W (Declared'.row Queued.the-type); }) ∷ List.[]
 abbrev pub r·3 : Kinds.RK 0
 r·3 = Num.rNum Syntax.w64
-abbrev pub ps·4 : List.List (Kinds.PK 1)
-ps·4 = (MutSlice.pMutS InflightAction.row 0 tt) ∷ Bool.pBool ∷ (Num.pNum Syntax.w64) ∷ InflightAction.param ∷ List.[]
-abbrev pub r·4 : Kinds.RK 1
-r·4 = Unit.rUnit
-abbrev pub ps·5 : List.List (Kinds.PK 2)
-ps·5 = (MutSlice.pMutS (Referent.rtF (Referent.fInt Syntax.w32)) 0 tt) ∷ Bool.pBool ∷ (Num.pNum Syntax.w64) ∷ (Value.pVal record { ty = Declared'.row
-    Outgoing.the-type; one = Path.refl; val = Laws'''''''.val Outgoing.the-type Laws'''.the-laws; tells = Laws'''''''.tells Outgoing.the-type
-    Laws'''.the-laws; still = Laws'''''''.still Outgoing.the-type Laws'''.the-copy Exit.yes; row = Rows.whole (Declared'.row Outgoing.the-type); rd =
-    λ x. x; mk = λ x. x; } λ M 𝓤 H A W. record { copies = Laws'''''''.copy Outgoing.the-type Laws'''.the-copy 𝓤 H A W; lawful = Laws'''''''.lawful
-    Outgoing.the-type Laws'''.the-laws 𝓤 H A W; makes = Laws'''''''.makes Outgoing.the-type Laws'''.the-plain 𝓤 H A; in-mem = Local.mem-whole 𝓤 H A W
-    (Declared'.row Outgoing.the-type); of-mem = Local.whole-mem 𝓤 H A W (Declared'.row Outgoing.the-type); }) ∷ (Value.pVal record { ty =
-    Declared'.row OpaqueRelayRuntime.the-type; one = Path.refl; val = Laws'''''''.val OpaqueRelayRuntime.the-type Laws''''.the-laws; tells =
-    Laws'''''''.tells OpaqueRelayRuntime.the-type Laws''''.the-laws; still = Laws'''''''.still OpaqueRelayRuntime.the-type Laws''''.the-copy Exit.yes;
-    row = Rows.whole (Declared'.row OpaqueRelayRuntime.the-type); rd = λ x. x; mk = λ x. x; } λ M 𝓤 H A W. record { copies = Laws'''''''.copy
-    OpaqueRelayRuntime.the-type Laws''''.the-copy 𝓤 H A W; lawful = Laws'''''''.lawful OpaqueRelayRuntime.the-type Laws''''.the-laws 𝓤 H A W; makes =
-    Laws'''''''.makes OpaqueRelayRuntime.the-type Laws''''.the-plain 𝓤 H A; in-mem = Local.mem-whole 𝓤 H A W (Declared'.row
-    OpaqueRelayRuntime.the-type); of-mem = Local.whole-mem 𝓤 H A W (Declared'.row OpaqueRelayRuntime.the-type); }) ∷ (ShrSlice.pShrS (Referent.rtF
-    (Referent.fInt Syntax.w8)) 1 tt) ∷ List.[]
-abbrev pub r·5 : Kinds.RK 2
-r·5 = Unit.rUnit
-abbrev pub ps·6 : List.List (Kinds.PK 0)
-ps·6 = Bool.pBool ∷ (Num.pNum Syntax.w64) ∷ (Num.pNum Syntax.w64) ∷ List.[]
-abbrev pub r·6 : Kinds.RK 0
-r·6 = Num.rNum Syntax.w64
-abbrev pub ps·7 : List.List (Kinds.PK 0)
-ps·7 = (Value.pVal record { ty = Declared'.row Queued.the-type; one = Path.refl; val = Laws'''''''.val Queued.the-type Laws'.the-laws; tells =
-    Laws'''''''.tells Queued.the-type Laws'.the-laws; still = Laws'''''''.still Queued.the-type Laws'.the-copy Exit.yes; row = Rows.whole
-    (Declared'.row Queued.the-type); rd = λ x. x; mk = λ x. x; } λ M 𝓤 H A W. record { copies = Laws'''''''.copy Queued.the-type Laws'.the-copy 𝓤 H A
-    W; lawful = Laws'''''''.lawful Queued.the-type Laws'.the-laws 𝓤 H A W; makes = Laws'''''''.makes Queued.the-type Laws'.the-plain 𝓤 H A; in-mem =
-    Local.mem-whole 𝓤 H A W (Declared'.row Queued.the-type); of-mem = Local.whole-mem 𝓤 H A W (Declared'.row Queued.the-type); }) ∷ (Num.pNum
+abbrev pub ps·4 : List.List (Kinds.PK 0)
+ps·4 = (Num.pNum Syntax.w64) ∷ Bool.pBool ∷ (Num.pNum Syntax.w64) ∷ (Num.pNum Syntax.w64) ∷ List.[]
+abbrev pub r·4 : Kinds.RK 0
+r·4 = Num.rNum Syntax.w64
+abbrev pub ps·5 : List.List (Kinds.PK 0)
+ps·5 = (Value.pVal record { ty = Declared'.row Places.the-type; one = Path.refl; val = Laws''''''''.val Places.the-type Laws'.the-laws; tells =
+    Laws''''''''.tells Places.the-type Laws'.the-laws; still = Laws''''''''.still Places.the-type Laws'.the-copy Exit.yes; row = Rows.whole
+    (Declared'.row Places.the-type); rd = λ x. x; mk = λ x. x; } λ M 𝓤 H A W. record { copies = Laws''''''''.copy Places.the-type Laws'.the-copy 𝓤 H A
+    W; lawful = Laws''''''''.lawful Places.the-type Laws'.the-laws 𝓤 H A W; makes = Laws''''''''.makes Places.the-type Laws'.the-plain 𝓤 H A; in-mem =
+    Local.mem-whole 𝓤 H A W (Declared'.row Places.the-type); of-mem = Local.whole-mem 𝓤 H A W (Declared'.row Places.the-type); }) ∷ (Num.pNum
     Syntax.w64) ∷ List.[]
-abbrev pub r·7 : Kinds.RK 0
-r·7 = Value.rVal record { ty = Declared'.row Relayed.the-type; one = Path.refl; val = Laws'''''''.val Relayed.the-type Laws'''''.the-laws; tells =
-    Laws'''''''.tells Relayed.the-type Laws'''''.the-laws; still = Laws'''''''.still Relayed.the-type Laws'''''.the-copy Exit.yes; row = Rows.whole
-    (Declared'.row Relayed.the-type); rd = λ x. x; mk = λ x. x; } λ M 𝓤 H A W. record { copies = Laws'''''''.copy Relayed.the-type Laws'''''.the-copy
-    𝓤 H A W; lawful = Laws'''''''.lawful Relayed.the-type Laws'''''.the-laws 𝓤 H A W; makes = Laws'''''''.makes Relayed.the-type Laws'''''.the-plain 𝓤
-    H A; in-mem = Local.mem-whole 𝓤 H A W (Declared'.row Relayed.the-type); of-mem = Local.whole-mem 𝓤 H A W (Declared'.row Relayed.the-type); }
+abbrev pub r·5 : Kinds.RK 0
+r·5 = Value.rVal record { ty = Declared'.row Places.the-type; one = Path.refl; val = Laws''''''''.val Places.the-type Laws'.the-laws; tells =
+    Laws''''''''.tells Places.the-type Laws'.the-laws; still = Laws''''''''.still Places.the-type Laws'.the-copy Exit.yes; row = Rows.whole
+    (Declared'.row Places.the-type); rd = λ x. x; mk = λ x. x; } λ M 𝓤 H A W. record { copies = Laws''''''''.copy Places.the-type Laws'.the-copy 𝓤 H A
+    W; lawful = Laws''''''''.lawful Places.the-type Laws'.the-laws 𝓤 H A W; makes = Laws''''''''.makes Places.the-type Laws'.the-plain 𝓤 H A; in-mem =
+    Local.mem-whole 𝓤 H A W (Declared'.row Places.the-type); of-mem = Local.whole-mem 𝓤 H A W (Declared'.row Places.the-type); }
+abbrev pub ps·6 : List.List (Kinds.PK 1)
+ps·6 = (MutSlice.pMutS InflightAction.row 0 tt) ∷ Bool.pBool ∷ (Num.pNum Syntax.w64) ∷ InflightAction.param ∷ List.[]
+abbrev pub r·6 : Kinds.RK 1
+r·6 = Unit.rUnit
+abbrev pub ps·7 : List.List (Kinds.PK 2)
+ps·7 = (MutSlice.pMutS (Referent.rtF (Referent.fInt Syntax.w32)) 0 tt) ∷ Bool.pBool ∷ (Num.pNum Syntax.w64) ∷ (Value.pVal record { ty = Declared'.row
+    Outgoing.the-type; one = Path.refl; val = Laws''''''''.val Outgoing.the-type Laws''''.the-laws; tells = Laws''''''''.tells Outgoing.the-type
+    Laws''''.the-laws; still = Laws''''''''.still Outgoing.the-type Laws''''.the-copy Exit.yes; row = Rows.whole (Declared'.row Outgoing.the-type); rd
+    = λ x. x; mk = λ x. x; } λ M 𝓤 H A W. record { copies = Laws''''''''.copy Outgoing.the-type Laws''''.the-copy 𝓤 H A W; lawful =
+    Laws''''''''.lawful Outgoing.the-type Laws''''.the-laws 𝓤 H A W; makes = Laws''''''''.makes Outgoing.the-type Laws''''.the-plain 𝓤 H A; in-mem =
+    Local.mem-whole 𝓤 H A W (Declared'.row Outgoing.the-type); of-mem = Local.whole-mem 𝓤 H A W (Declared'.row Outgoing.the-type); }) ∷ (Value.pVal
+    record { ty = Declared'.row OpaqueRelayRuntime.the-type; one = Path.refl; val = Laws''''''''.val OpaqueRelayRuntime.the-type Laws'''''.the-laws;
+    tells = Laws''''''''.tells OpaqueRelayRuntime.the-type Laws'''''.the-laws; still = Laws''''''''.still OpaqueRelayRuntime.the-type
+    Laws'''''.the-copy Exit.yes; row = Rows.whole (Declared'.row OpaqueRelayRuntime.the-type); rd = λ x. x; mk = λ x. x; } λ M 𝓤 H A W. record {
+    copies = Laws''''''''.copy OpaqueRelayRuntime.the-type Laws'''''.the-copy 𝓤 H A W; lawful = Laws''''''''.lawful OpaqueRelayRuntime.the-type
+    Laws'''''.the-laws 𝓤 H A W; makes = Laws''''''''.makes OpaqueRelayRuntime.the-type Laws'''''.the-plain 𝓤 H A; in-mem = Local.mem-whole 𝓤 H A W
+    (Declared'.row OpaqueRelayRuntime.the-type); of-mem = Local.whole-mem 𝓤 H A W (Declared'.row OpaqueRelayRuntime.the-type); }) ∷ (ShrSlice.pShrS
+    (Referent.rtF (Referent.fInt Syntax.w8)) 1 tt) ∷ List.[]
+abbrev pub r·7 : Kinds.RK 2
+r·7 = Unit.rUnit
+abbrev pub ps·8 : List.List (Kinds.PK 0)
+ps·8 = Bool.pBool ∷ (Num.pNum Syntax.w64) ∷ (Num.pNum Syntax.w64) ∷ List.[]
+abbrev pub r·8 : Kinds.RK 0
+r·8 = Num.rNum Syntax.w64
+abbrev pub ps·9 : List.List (Kinds.PK 0)
+ps·9 = (Value.pVal record { ty = Declared'.row Queued.the-type; one = Path.refl; val = Laws''''''''.val Queued.the-type Laws''.the-laws; tells =
+    Laws''''''''.tells Queued.the-type Laws''.the-laws; still = Laws''''''''.still Queued.the-type Laws''.the-copy Exit.yes; row = Rows.whole
+    (Declared'.row Queued.the-type); rd = λ x. x; mk = λ x. x; } λ M 𝓤 H A W. record { copies = Laws''''''''.copy Queued.the-type Laws''.the-copy 𝓤 H
+    A W; lawful = Laws''''''''.lawful Queued.the-type Laws''.the-laws 𝓤 H A W; makes = Laws''''''''.makes Queued.the-type Laws''.the-plain 𝓤 H A;
+    in-mem = Local.mem-whole 𝓤 H A W (Declared'.row Queued.the-type); of-mem = Local.whole-mem 𝓤 H A W (Declared'.row Queued.the-type); }) ∷ (Num.pNum
+    Syntax.w64) ∷ (Value.pVal record { ty = Declared'.row Places.the-type; one = Path.refl; val = Laws''''''''.val Places.the-type Laws'.the-laws;
+    tells = Laws''''''''.tells Places.the-type Laws'.the-laws; still = Laws''''''''.still Places.the-type Laws'.the-copy Exit.yes; row = Rows.whole
+    (Declared'.row Places.the-type); rd = λ x. x; mk = λ x. x; } λ M 𝓤 H A W. record { copies = Laws''''''''.copy Places.the-type Laws'.the-copy 𝓤 H A
+    W; lawful = Laws''''''''.lawful Places.the-type Laws'.the-laws 𝓤 H A W; makes = Laws''''''''.makes Places.the-type Laws'.the-plain 𝓤 H A; in-mem =
+    Local.mem-whole 𝓤 H A W (Declared'.row Places.the-type); of-mem = Local.whole-mem 𝓤 H A W (Declared'.row Places.the-type); }) ∷ List.[]
+abbrev pub r·9 : Kinds.RK 0
+r·9 = Value.rVal record { ty = Declared'.row Relayed.the-type; one = Path.refl; val = Laws''''''''.val Relayed.the-type Laws''''''.the-laws; tells =
+    Laws''''''''.tells Relayed.the-type Laws''''''.the-laws; still = Laws''''''''.still Relayed.the-type Laws''''''.the-copy Exit.yes; row =
+    Rows.whole (Declared'.row Relayed.the-type); rd = λ x. x; mk = λ x. x; } λ M 𝓤 H A W. record { copies = Laws''''''''.copy Relayed.the-type
+    Laws''''''.the-copy 𝓤 H A W; lawful = Laws''''''''.lawful Relayed.the-type Laws''''''.the-laws 𝓤 H A W; makes = Laws''''''''.makes
+    Relayed.the-type Laws''''''.the-plain 𝓤 H A; in-mem = Local.mem-whole 𝓤 H A W (Declared'.row Relayed.the-type); of-mem = Local.whole-mem 𝓤 H A W
+    (Declared'.row Relayed.the-type); }
 abbrev pub hs : List.List Syntax.Home
 hs = Syntax.valueLocal ∷ Syntax.valueLocal ∷ Syntax.valueLocal ∷ Syntax.valueLocal ∷ Syntax.valueLocal ∷ Syntax.valueLocal ∷ Syntax.valueLocal ∷
     Syntax.valueLocal ∷ Syntax.valueLocal ∷ Syntax.valueLocal ∷ Syntax.valueLocal ∷ Syntax.valueLocal ∷ Syntax.valueLocal ∷ Syntax.valueLocal ∷
-    Syntax.valueLocal ∷ Syntax.valueLocal ∷ Syntax.valueLocal ∷ Syntax.valueLocal ∷ Syntax.valueLocal ∷ List.[]
+    Syntax.valueLocal ∷ Syntax.valueLocal ∷ Syntax.valueLocal ∷ Syntax.valueLocal ∷ Syntax.valueLocal ∷ Syntax.valueLocal ∷ Syntax.valueLocal ∷
+    Syntax.valueLocal ∷ Syntax.valueLocal ∷ List.[]
 abbrev b0 : Syntax.Body
-b0 = Syntax.call "hnsr_circuit::queue::queue" ((Syntax.copy (Syntax.place 3 List.[])) ∷ (Syntax.copy (Syntax.place 4 List.[])) ∷ (Syntax.copy
-    (Syntax.place 5 List.[])) ∷ (Syntax.copy (Syntax.place 6 List.[])) ∷ List.[]) (Syntax.place 8 List.[])
+b0 = Syntax.assign (Syntax.place 9 List.[]) (Syntax.rvOpd (Syntax.copy (Syntax.place 1 ((Syntax.field 1) ∷ List.[]))))
 abbrev b1 : Syntax.Body
-b1 = Syntax.call "hnsr_circuit::queue::queued_action" ((Syntax.copy (Syntax.place 8 List.[])) ∷ List.[]) (Syntax.place 9 List.[])
+b1 = Syntax.call "hnsr_circuit::queue::queue" ((Syntax.copy (Syntax.place 3 List.[])) ∷ (Syntax.copy (Syntax.place 4 List.[])) ∷ (Syntax.copy
+    (Syntax.place 6 List.[])) ∷ (Syntax.copy (Syntax.place 7 List.[])) ∷ List.[]) (Syntax.place 10 List.[])
 abbrev b2 : Syntax.Body
-b2 = Syntax.call "hnsr_circuit::queue::queued_go" ((Syntax.copy (Syntax.place 8 List.[])) ∷ List.[]) (Syntax.place 10 List.[])
+b2 = Syntax.call "hnsr_circuit::queue::queued_action" ((Syntax.copy (Syntax.place 10 List.[])) ∷ List.[]) (Syntax.place 11 List.[])
 abbrev b3 : Syntax.Body
-b3 = Syntax.call "hnsr_circuit::queue::queued_place" ((Syntax.copy (Syntax.place 8 List.[])) ∷ List.[]) (Syntax.place 11 List.[])
+b3 = Syntax.call "hnsr_circuit::queue::queued_go" ((Syntax.copy (Syntax.place 10 List.[])) ∷ List.[]) (Syntax.place 12 List.[])
 abbrev b4 : Syntax.Body
-b4 = Syntax.assign (Syntax.place 14 List.[]) (Syntax.addrOf (Syntax.place 1 ((Syntax.field 0) ∷ (Syntax.deref InflightAction.ty) ∷ List.[])))
+b4 = Syntax.call "hnsr_circuit::queue::queued_place" ((Syntax.copy (Syntax.place 10 List.[])) ∷ List.[]) (Syntax.place 13 List.[])
 abbrev b5 : Syntax.Body
-b5 = Syntax.assign (Syntax.place 15 List.[]) (Syntax.aggregate ((Syntax.copy (Syntax.place 14 List.[])) ∷ (Syntax.copy (Syntax.place 1 ((Syntax.field
-    1) ∷ List.[]))) ∷ List.[]))
+b5 = Syntax.call "hnsr_circuit::places::raised" ((Syntax.copy (Syntax.place 5 ((Syntax.field 3) ∷ List.[]))) ∷ (Syntax.copy (Syntax.place 12 List.[]))
+    ∷ (Syntax.copy (Syntax.place 13 List.[])) ∷ (Syntax.copy (Syntax.place 9 List.[])) ∷ List.[]) (Syntax.place 14 List.[])
 abbrev b6 : Syntax.Body
-b6 = Syntax.call "hnsr_circuit::tables::inflight::set_action" ((Syntax.copy (Syntax.place 15 List.[])) ∷ (Syntax.copy (Syntax.place 10 List.[])) ∷
-    (Syntax.copy (Syntax.place 11 List.[])) ∷ (Syntax.copy (Syntax.place 9 List.[])) ∷ List.[]) (Syntax.place 13 List.[])
+b6 = Syntax.call "hnsr_circuit::places::with_actions" ((Syntax.copy (Syntax.place 5 List.[])) ∷ (Syntax.copy (Syntax.place 14 List.[])) ∷ List.[])
+    (Syntax.place 15 List.[])
 abbrev b7 : Syntax.Body
-b7 = Syntax.assign (Syntax.place 16 List.[]) (Syntax.addrOf (Syntax.place 2 ((Syntax.field 0) ∷ (Syntax.deref (Syntax.tyInt Syntax.w32)) ∷ List.[])))
+b7 = Syntax.assign (Syntax.place 18 List.[]) (Syntax.addrOf (Syntax.place 1 ((Syntax.field 0) ∷ (Syntax.deref InflightAction.ty) ∷ List.[])))
 abbrev b8 : Syntax.Body
-b8 = Syntax.assign (Syntax.place 17 List.[]) (Syntax.aggregate ((Syntax.copy (Syntax.place 16 List.[])) ∷ (Syntax.copy (Syntax.place 2 ((Syntax.field
+b8 = Syntax.assign (Syntax.place 19 List.[]) (Syntax.aggregate ((Syntax.copy (Syntax.place 18 List.[])) ∷ (Syntax.copy (Syntax.place 1 ((Syntax.field
     1) ∷ List.[]))) ∷ List.[]))
 abbrev b9 : Syntax.Body
-b9 = Syntax.call "hnsr_circuit::queue::put_queued" ((Syntax.copy (Syntax.place 17 List.[])) ∷ (Syntax.copy (Syntax.place 10 List.[])) ∷ (Syntax.int
-    Syntax.w64 0) ∷ (Syntax.copy (Syntax.place 5 List.[])) ∷ (Syntax.copy (Syntax.place 4 List.[])) ∷ (Syntax.copy (Syntax.place 7 List.[])) ∷
-    List.[]) (Syntax.place 13 List.[])
+b9 = Syntax.call "hnsr_circuit::tables::inflight::set_action" ((Syntax.copy (Syntax.place 19 List.[])) ∷ (Syntax.copy (Syntax.place 12 List.[])) ∷
+    (Syntax.copy (Syntax.place 13 List.[])) ∷ (Syntax.copy (Syntax.place 11 List.[])) ∷ List.[]) (Syntax.place 17 List.[])
 abbrev b10 : Syntax.Body
-b10 = Syntax.assign (Syntax.place 18 List.[]) (Syntax.rvOpd (Syntax.copy (Syntax.place 7 ((Syntax.field 1) ∷ List.[]))))
+b10 = Syntax.assign (Syntax.place 20 List.[]) (Syntax.addrOf (Syntax.place 2 ((Syntax.field 0) ∷ (Syntax.deref (Syntax.tyInt Syntax.w32)) ∷ List.[])))
 abbrev b11 : Syntax.Body
-b11 = Syntax.call "hnsr_circuit::queue::position_after" ((Syntax.copy (Syntax.place 10 List.[])) ∷ (Syntax.int Syntax.w64 0) ∷ (Syntax.copy
-    (Syntax.place 18 List.[])) ∷ List.[]) (Syntax.place 12 List.[])
+b11 = Syntax.assign (Syntax.place 21 List.[]) (Syntax.aggregate ((Syntax.copy (Syntax.place 20 List.[])) ∷ (Syntax.copy (Syntax.place 2 ((Syntax.field
+    1) ∷ List.[]))) ∷ List.[]))
 abbrev b12 : Syntax.Body
-b12 = Syntax.call "hnsr_circuit::queue::relayed" ((Syntax.copy (Syntax.place 8 List.[])) ∷ (Syntax.copy (Syntax.place 12 List.[])) ∷ List.[])
-    (Syntax.place 0 List.[])
+b12 = Syntax.call "hnsr_circuit::queue::put_queued" ((Syntax.copy (Syntax.place 21 List.[])) ∷ (Syntax.copy (Syntax.place 12 List.[])) ∷ (Syntax.int
+    Syntax.w64 0) ∷ (Syntax.copy (Syntax.place 6 List.[])) ∷ (Syntax.copy (Syntax.place 4 List.[])) ∷ (Syntax.copy (Syntax.place 8 List.[])) ∷
+    List.[]) (Syntax.place 17 List.[])
 abbrev b13 : Syntax.Body
-b13 = Syntax.return
+b13 = Syntax.assign (Syntax.place 22 List.[]) (Syntax.rvOpd (Syntax.copy (Syntax.place 8 ((Syntax.field 1) ∷ List.[]))))
 abbrev b14 : Syntax.Body
-b14 = Syntax.seq b12 b13
+b14 = Syntax.call "hnsr_circuit::queue::position_after" ((Syntax.copy (Syntax.place 12 List.[])) ∷ (Syntax.int Syntax.w64 0) ∷ (Syntax.copy
+    (Syntax.place 22 List.[])) ∷ List.[]) (Syntax.place 16 List.[])
 abbrev b15 : Syntax.Body
-b15 = Syntax.seq b11 b14
+b15 = Syntax.call "hnsr_circuit::queue::relayed" ((Syntax.copy (Syntax.place 10 List.[])) ∷ (Syntax.copy (Syntax.place 16 List.[])) ∷ (Syntax.copy
+    (Syntax.place 15 List.[])) ∷ List.[]) (Syntax.place 0 List.[])
 abbrev b16 : Syntax.Body
-b16 = Syntax.seq b10 b15
+b16 = Syntax.return
 abbrev b17 : Syntax.Body
-b17 = Syntax.seq b9 b16
+b17 = Syntax.seq b15 b16
 abbrev b18 : Syntax.Body
-b18 = Syntax.seq b8 b17
+b18 = Syntax.seq b14 b17
 abbrev b19 : Syntax.Body
-b19 = Syntax.seq b7 b18
+b19 = Syntax.seq b13 b18
 abbrev b20 : Syntax.Body
-b20 = Syntax.seq b6 b19
+b20 = Syntax.seq b12 b19
 abbrev b21 : Syntax.Body
-b21 = Syntax.seq b5 b20
+b21 = Syntax.seq b11 b20
 abbrev b22 : Syntax.Body
-b22 = Syntax.seq b4 b21
+b22 = Syntax.seq b10 b21
 abbrev b23 : Syntax.Body
-b23 = Syntax.seq b3 b22
+b23 = Syntax.seq b9 b22
 abbrev b24 : Syntax.Body
-b24 = Syntax.seq b2 b23
+b24 = Syntax.seq b8 b23
 abbrev b25 : Syntax.Body
-b25 = Syntax.seq b1 b24
+b25 = Syntax.seq b7 b24
 abbrev b26 : Syntax.Body
-b26 = Syntax.seq b0 b25
+b26 = Syntax.seq b6 b25
+abbrev b27 : Syntax.Body
+b27 = Syntax.seq b5 b26
+abbrev b28 : Syntax.Body
+b28 = Syntax.seq b4 b27
+abbrev b29 : Syntax.Body
+b29 = Syntax.seq b3 b28
+abbrev b30 : Syntax.Body
+b30 = Syntax.seq b2 b29
+abbrev b31 : Syntax.Body
+b31 = Syntax.seq b1 b30
+abbrev b32 : Syntax.Body
+b32 = Syntax.seq b0 b31
 abbrev pub body : Syntax.Body
-body = b26
+body = b32
 abbrev pub Claims : Type 1
 Claims = Kinds.In 0 ps·0 × Kinds.Out 0 ps·0 r·0 × Kinds.In 0 ps·1 × Kinds.Out 0 ps·1 r·1 × Kinds.In 0 ps·2 × Kinds.Out 0 ps·2 r·2 × Kinds.In 0 ps·3 ×
-    Kinds.Out 0 ps·3 r·3 × Kinds.In 1 ps·4 × Kinds.Out 1 ps·4 r·4 × Kinds.In 2 ps·5 × Kinds.Out 2 ps·5 r·5 × Kinds.In 0 ps·6 × Kinds.Out 0 ps·6 r·6 ×
-    Kinds.In 0 ps·7 × Kinds.Out 0 ps·7 r·7
+    Kinds.Out 0 ps·3 r·3 × Kinds.In 0 ps·4 × Kinds.Out 0 ps·4 r·4 × Kinds.In 0 ps·5 × Kinds.Out 0 ps·5 r·5 × Kinds.In 1 ps·6 × Kinds.Out 1 ps·6 r·6 ×
+    Kinds.In 2 ps·7 × Kinds.Out 2 ps·7 r·7 × Kinds.In 0 ps·8 × Kinds.Out 0 ps·8 r·8 × Kinds.In 0 ps·9 × Kinds.Out 0 ps·9 r·9
 abbrev e0 : Row.Entry
-e0 = (0, Rows.any-gone Laws'''''.mir)
+e0 = (0, Rows.any-gone Laws''''''.mir)
 abbrev e1 : Row.Entry
 e1 = (1, Mut.mslice InflightAction.row ref2 0)
 abbrev e2 : Row.Entry
@@ -279,133 +326,163 @@ e3 = (3, Rows.whole (Declared.row HnsrAnswer.the-type))
 abbrev e4 : Row.Entry
 e4 = (4, Rows.whole (Declared'.row OpaqueRelayRuntime.the-type))
 abbrev e5 : Row.Entry
-e5 = (5, Rows.whole (Declared'.row Outgoing.the-type))
+e5 = (5, Rows.whole (Declared'.row Places.the-type))
 abbrev e6 : Row.Entry
-e6 = (6, Rows.whole (Declared'.row ActionScan.the-type))
+e6 = (6, Rows.whole (Declared'.row Outgoing.the-type))
 abbrev e7 : Row.Entry
-e7 = (7, Rows.sslice (Referent.rtF (Referent.fInt Syntax.w8)) ref4 2)
+e7 = (7, Rows.whole (Declared'.row ActionScan.the-type))
 abbrev e8 : Row.Entry
-e8 = (8, Rows.any-gone Laws'.mir)
+e8 = (8, Rows.sslice (Referent.rtF (Referent.fInt Syntax.w8)) ref4 2)
 abbrev e9 : Row.Entry
-e9 = (9, Rows.any-gone InflightAction.ty)
+e9 = (9, Rows.any-gone (Syntax.tyInt Syntax.w64))
 abbrev e10 : Row.Entry
-e10 = (10, Rows.any-gone Syntax.tyBool)
+e10 = (10, Rows.any-gone Laws''.mir)
 abbrev e11 : Row.Entry
-e11 = (11, Rows.any-gone (Syntax.tyInt Syntax.w64))
+e11 = (11, Rows.any-gone InflightAction.ty)
 abbrev e12 : Row.Entry
-e12 = (12, Rows.any-gone (Syntax.tyInt Syntax.w64))
+e12 = (12, Rows.any-gone Syntax.tyBool)
 abbrev e13 : Row.Entry
-e13 = (13, Rows.any-gone Syntax.tyUnit)
+e13 = (13, Rows.any-gone (Syntax.tyInt Syntax.w64))
 abbrev e14 : Row.Entry
-e14 = (14, Rows.any-gone ref0)
+e14 = (14, Rows.any-gone (Syntax.tyInt Syntax.w64))
 abbrev e15 : Row.Entry
-e15 = (15, Rows.any-gone (Syntax.tyStruct (38 ∷ 91 ∷ 93 ∷ List.[]) (Syntax.tcons ref0 (Syntax.tcons (Syntax.tyInt Syntax.w64) Syntax.tnil))))
+e15 = (15, Rows.any-gone Laws'.mir)
 abbrev e16 : Row.Entry
-e16 = (16, Rows.any-gone ref1)
+e16 = (16, Rows.any-gone (Syntax.tyInt Syntax.w64))
 abbrev e17 : Row.Entry
-e17 = (17, Rows.any-gone (Syntax.tyStruct (38 ∷ 91 ∷ 93 ∷ List.[]) (Syntax.tcons ref1 (Syntax.tcons (Syntax.tyInt Syntax.w64) Syntax.tnil))))
+e17 = (17, Rows.any-gone Syntax.tyUnit)
 abbrev e18 : Row.Entry
-e18 = (18, Rows.any-gone (Syntax.tyInt Syntax.w64))
+e18 = (18, Rows.any-gone ref0)
+abbrev e19 : Row.Entry
+e19 = (19, Rows.any-gone (Syntax.tyStruct (38 ∷ 91 ∷ 93 ∷ List.[]) (Syntax.tcons ref0 (Syntax.tcons (Syntax.tyInt Syntax.w64) Syntax.tnil))))
+abbrev e20 : Row.Entry
+e20 = (20, Rows.any-gone ref1)
+abbrev e21 : Row.Entry
+e21 = (21, Rows.any-gone (Syntax.tyStruct (38 ∷ 91 ∷ 93 ∷ List.[]) (Syntax.tcons ref1 (Syntax.tcons (Syntax.tyInt Syntax.w64) Syntax.tnil))))
+abbrev e22 : Row.Entry
+e22 = (22, Rows.any-gone (Syntax.tyInt Syntax.w64))
 abbrev e0·1 : Row.Entry
 e0·1 = (0, Rows.whole (Declared'.row Relayed.the-type))
 abbrev e3·1 : Row.Entry
 e3·1 = (3, Rows.any-gone Laws.mir)
 abbrev e4·1 : Row.Entry
-e4·1 = (4, Rows.any-gone Laws''''.mir)
+e4·1 = (4, Rows.any-gone Laws'''''.mir)
 abbrev e5·1 : Row.Entry
-e5·1 = (5, Rows.any-gone Laws'''.mir)
+e5·1 = (5, Rows.any-gone Laws'.mir)
 abbrev e6·1 : Row.Entry
-e6·1 = (6, Rows.any-gone Laws''.mir)
-abbrev e8·1 : Row.Entry
-e8·1 = (8, Rows.whole (Declared'.row Queued.the-type))
+e6·1 = (6, Rows.any-gone Laws''''.mir)
+abbrev e7·1 : Row.Entry
+e7·1 = (7, Rows.any-gone Laws'''.mir)
 abbrev e9·1 : Row.Entry
-e9·1 = (9, InflightAction.held)
+e9·1 = (9, Rows.sc-here (Row.sInt Syntax.w64))
 abbrev e10·1 : Row.Entry
-e10·1 = (10, Rows.sc-here Row.sBool)
+e10·1 = (10, Rows.whole (Declared'.row Queued.the-type))
 abbrev e11·1 : Row.Entry
-e11·1 = (11, Rows.sc-here (Row.sInt Syntax.w64))
+e11·1 = (11, InflightAction.held)
+abbrev e12·1 : Row.Entry
+e12·1 = (12, Rows.sc-here Row.sBool)
+abbrev e13·1 : Row.Entry
+e13·1 = (13, Rows.sc-here (Row.sInt Syntax.w64))
+abbrev e14·1 : Row.Entry
+e14·1 = (14, Rows.sc-here (Row.sInt Syntax.w64))
+abbrev e15·1 : Row.Entry
+e15·1 = (15, Rows.whole (Declared'.row Places.the-type))
 abbrev e1·1 : Row.Entry
 e1·1 = (1, Relend.mslice-owed InflightAction.row ref2 0 3 Row.off)
-abbrev e14·1 : Row.Entry
-e14·1 = (14, Relend.msptr InflightAction.row ref0 3)
-abbrev e15·1 : Row.Entry
-e15·1 = (15, Mut.mslice InflightAction.row ref0 3)
-abbrev e13·1 : Row.Entry
-e13·1 = (13, Rows.sc-here Row.sUnit)
-abbrev e15·2 : Row.Entry
-e15·2 = (15, Mut.msleft InflightAction.row ref0)
+abbrev e18·1 : Row.Entry
+e18·1 = (18, Relend.msptr InflightAction.row ref0 3)
+abbrev e19·1 : Row.Entry
+e19·1 = (19, Mut.mslice InflightAction.row ref0 3)
+abbrev e17·1 : Row.Entry
+e17·1 = (17, Rows.sc-here Row.sUnit)
+abbrev e19·2 : Row.Entry
+e19·2 = (19, Mut.msleft InflightAction.row ref0)
 abbrev e2·1 : Row.Entry
 e2·1 = (2, Relend.mslice-owed (Referent.rtF (Referent.fInt Syntax.w32)) ref3 1 4 Row.off)
+abbrev e20·1 : Row.Entry
+e20·1 = (20, Relend.msptr (Referent.rtF (Referent.fInt Syntax.w32)) ref1 4)
+abbrev e21·1 : Row.Entry
+e21·1 = (21, Mut.mslice (Referent.rtF (Referent.fInt Syntax.w32)) ref1 4)
+abbrev e21·2 : Row.Entry
+e21·2 = (21, Mut.msleft (Referent.rtF (Referent.fInt Syntax.w32)) ref1)
+abbrev e22·1 : Row.Entry
+e22·1 = (22, Rows.sc-here (Row.sInt Syntax.w64))
 abbrev e16·1 : Row.Entry
-e16·1 = (16, Relend.msptr (Referent.rtF (Referent.fInt Syntax.w32)) ref1 4)
-abbrev e17·1 : Row.Entry
-e17·1 = (17, Mut.mslice (Referent.rtF (Referent.fInt Syntax.w32)) ref1 4)
-abbrev e17·2 : Row.Entry
-e17·2 = (17, Mut.msleft (Referent.rtF (Referent.fInt Syntax.w32)) ref1)
-abbrev e18·1 : Row.Entry
-e18·1 = (18, Rows.sc-here (Row.sInt Syntax.w64))
-abbrev e12·1 : Row.Entry
-e12·1 = (12, Rows.sc-here (Row.sInt Syntax.w64))
+e16·1 = (16, Rows.sc-here (Row.sInt Syntax.w64))
 abbrev pub t0 : List.List Row.Entry
 t0 = e0 ∷ e1 ∷ e2 ∷ e3 ∷ e4 ∷ e5 ∷ e6 ∷ e7 ∷ e8 ∷ e9 ∷ e10 ∷ e11 ∷ e12 ∷ e13 ∷ e14 ∷ e15 ∷ List.[]
 abbrev pub t1 : List.List Row.Entry
-t1 = e16 ∷ e17 ∷ e18 ∷ List.[]
+t1 = e16 ∷ e17 ∷ e18 ∷ e19 ∷ e20 ∷ e21 ∷ e22 ∷ List.[]
 abbrev pub t2 : List.List Row.Entry
-t2 = e0·1 ∷ e1 ∷ e2 ∷ e3·1 ∷ e4·1 ∷ e5·1 ∷ e6·1 ∷ e7 ∷ e8 ∷ e9 ∷ e10 ∷ e11 ∷ e12 ∷ e13 ∷ e14 ∷ e15 ∷ List.[]
+t2 = e0·1 ∷ e1 ∷ e2 ∷ e3·1 ∷ e4·1 ∷ e5·1 ∷ e6·1 ∷ e7·1 ∷ e8 ∷ e9 ∷ e10 ∷ e11 ∷ e12 ∷ e13 ∷ e14 ∷ e15 ∷ List.[]
 abbrev pub t3 : List.List Row.Entry
-t3 = e0 ∷ e1 ∷ e2 ∷ e3 ∷ e4 ∷ e5 ∷ e6 ∷ e7 ∷ e8·1 ∷ e9 ∷ e10 ∷ e11 ∷ e12 ∷ e13 ∷ e14 ∷ e15 ∷ List.[]
+t3 = e0 ∷ e1 ∷ e2 ∷ e3 ∷ e4 ∷ e5 ∷ e6 ∷ e7 ∷ e8 ∷ e9·1 ∷ e10 ∷ e11 ∷ e12 ∷ e13 ∷ e14 ∷ e15 ∷ List.[]
 abbrev pub t4 : List.List Row.Entry
-t4 = e0 ∷ e1 ∷ e2 ∷ e3·1 ∷ e4 ∷ e5 ∷ e6 ∷ e7 ∷ e8·1 ∷ e9 ∷ e10 ∷ e11 ∷ e12 ∷ e13 ∷ e14 ∷ e15 ∷ List.[]
+t4 = e0 ∷ e1 ∷ e2 ∷ e3 ∷ e4 ∷ e5 ∷ e6 ∷ e7 ∷ e8 ∷ e9·1 ∷ e10·1 ∷ e11 ∷ e12 ∷ e13 ∷ e14 ∷ e15 ∷ List.[]
 abbrev pub t5 : List.List Row.Entry
-t5 = e0 ∷ e1 ∷ e2 ∷ e3·1 ∷ e4 ∷ e5 ∷ e6·1 ∷ e7 ∷ e8·1 ∷ e9 ∷ e10 ∷ e11 ∷ e12 ∷ e13 ∷ e14 ∷ e15 ∷ List.[]
+t5 = e0 ∷ e1 ∷ e2 ∷ e3·1 ∷ e4 ∷ e5 ∷ e6 ∷ e7 ∷ e8 ∷ e9·1 ∷ e10·1 ∷ e11 ∷ e12 ∷ e13 ∷ e14 ∷ e15 ∷ List.[]
 abbrev pub t6 : List.List Row.Entry
-t6 = e0 ∷ e1 ∷ e2 ∷ e3·1 ∷ e4 ∷ e5 ∷ e6·1 ∷ e7 ∷ e8·1 ∷ e9·1 ∷ e10 ∷ e11 ∷ e12 ∷ e13 ∷ e14 ∷ e15 ∷ List.[]
+t6 = e0 ∷ e1 ∷ e2 ∷ e3·1 ∷ e4 ∷ e5 ∷ e6 ∷ e7·1 ∷ e8 ∷ e9·1 ∷ e10·1 ∷ e11 ∷ e12 ∷ e13 ∷ e14 ∷ e15 ∷ List.[]
 abbrev pub t7 : List.List Row.Entry
-t7 = e0 ∷ e1 ∷ e2 ∷ e3·1 ∷ e4 ∷ e5 ∷ e6·1 ∷ e7 ∷ e8·1 ∷ e9·1 ∷ e10·1 ∷ e11 ∷ e12 ∷ e13 ∷ e14 ∷ e15 ∷ List.[]
+t7 = e0 ∷ e1 ∷ e2 ∷ e3·1 ∷ e4 ∷ e5 ∷ e6 ∷ e7·1 ∷ e8 ∷ e9·1 ∷ e10·1 ∷ e11·1 ∷ e12 ∷ e13 ∷ e14 ∷ e15 ∷ List.[]
 abbrev pub t8 : List.List Row.Entry
-t8 = e0 ∷ e1 ∷ e2 ∷ e3·1 ∷ e4 ∷ e5 ∷ e6·1 ∷ e7 ∷ e8·1 ∷ e9·1 ∷ e10·1 ∷ e11·1 ∷ e12 ∷ e13 ∷ e14 ∷ e15 ∷ List.[]
+t8 = e0 ∷ e1 ∷ e2 ∷ e3·1 ∷ e4 ∷ e5 ∷ e6 ∷ e7·1 ∷ e8 ∷ e9·1 ∷ e10·1 ∷ e11·1 ∷ e12·1 ∷ e13 ∷ e14 ∷ e15 ∷ List.[]
 abbrev pub t9 : List.List Row.Entry
-t9 = e0 ∷ e1·1 ∷ e2 ∷ e3·1 ∷ e4 ∷ e5 ∷ e6·1 ∷ e7 ∷ e8·1 ∷ e9·1 ∷ e10·1 ∷ e11·1 ∷ e12 ∷ e13 ∷ e14·1 ∷ e15 ∷ List.[]
+t9 = e0 ∷ e1 ∷ e2 ∷ e3·1 ∷ e4 ∷ e5 ∷ e6 ∷ e7·1 ∷ e8 ∷ e9·1 ∷ e10·1 ∷ e11·1 ∷ e12·1 ∷ e13·1 ∷ e14 ∷ e15 ∷ List.[]
 abbrev pub t10 : List.List Row.Entry
-t10 = e0 ∷ e1·1 ∷ e2 ∷ e3·1 ∷ e4 ∷ e5 ∷ e6·1 ∷ e7 ∷ e8·1 ∷ e9·1 ∷ e10·1 ∷ e11·1 ∷ e12 ∷ e13 ∷ e14 ∷ e15·1 ∷ List.[]
+t10 = e0 ∷ e1 ∷ e2 ∷ e3·1 ∷ e4 ∷ e5 ∷ e6 ∷ e7·1 ∷ e8 ∷ e9·1 ∷ e10·1 ∷ e11·1 ∷ e12·1 ∷ e13·1 ∷ e14·1 ∷ e15 ∷ List.[]
 abbrev pub t11 : List.List Row.Entry
-t11 = e0 ∷ e1·1 ∷ e2 ∷ e3·1 ∷ e4 ∷ e5 ∷ e6·1 ∷ e7 ∷ e8·1 ∷ e9·1 ∷ e10·1 ∷ e11·1 ∷ e12 ∷ e13·1 ∷ e14 ∷ e15·2 ∷ List.[]
+t11 = e0 ∷ e1 ∷ e2 ∷ e3·1 ∷ e4 ∷ e5 ∷ e6 ∷ e7·1 ∷ e8 ∷ e9·1 ∷ e10·1 ∷ e11·1 ∷ e12·1 ∷ e13·1 ∷ e14·1 ∷ e15·1 ∷ List.[]
 abbrev pub t12 : List.List Row.Entry
-t12 = e0 ∷ e1·1 ∷ e2 ∷ e3·1 ∷ e4 ∷ e5 ∷ e6·1 ∷ e7 ∷ e8·1 ∷ e9 ∷ e10·1 ∷ e11·1 ∷ e12 ∷ e13·1 ∷ e14 ∷ e15·2 ∷ List.[]
+t12 = e0 ∷ e1 ∷ e2 ∷ e3·1 ∷ e4 ∷ e5·1 ∷ e6 ∷ e7·1 ∷ e8 ∷ e9·1 ∷ e10·1 ∷ e11·1 ∷ e12·1 ∷ e13·1 ∷ e14·1 ∷ e15·1 ∷ List.[]
 abbrev pub t13 : List.List Row.Entry
-t13 = e0 ∷ e1·1 ∷ e2 ∷ e3·1 ∷ e4 ∷ e5 ∷ e6·1 ∷ e7 ∷ e8·1 ∷ e9 ∷ e10·1 ∷ e11·1 ∷ e12 ∷ e13 ∷ e14 ∷ e15·2 ∷ List.[]
+t13 = e0 ∷ e1·1 ∷ e2 ∷ e3·1 ∷ e4 ∷ e5·1 ∷ e6 ∷ e7·1 ∷ e8 ∷ e9·1 ∷ e10·1 ∷ e11·1 ∷ e12·1 ∷ e13·1 ∷ e14·1 ∷ e15·1 ∷ List.[]
 abbrev pub t14 : List.List Row.Entry
-t14 = e0 ∷ e1 ∷ e2 ∷ e3·1 ∷ e4 ∷ e5 ∷ e6·1 ∷ e7 ∷ e8·1 ∷ e9 ∷ e10·1 ∷ e11·1 ∷ e12 ∷ e13 ∷ e14 ∷ e15 ∷ List.[]
+t14 = e16 ∷ e17 ∷ e18·1 ∷ e19 ∷ e20 ∷ e21 ∷ e22 ∷ List.[]
 abbrev pub t15 : List.List Row.Entry
-t15 = e0 ∷ e1 ∷ e2·1 ∷ e3·1 ∷ e4 ∷ e5 ∷ e6·1 ∷ e7 ∷ e8·1 ∷ e9 ∷ e10·1 ∷ e11·1 ∷ e12 ∷ e13 ∷ e14 ∷ e15 ∷ List.[]
+t15 = e16 ∷ e17 ∷ e18 ∷ e19·1 ∷ e20 ∷ e21 ∷ e22 ∷ List.[]
 abbrev pub t16 : List.List Row.Entry
-t16 = e16·1 ∷ e17 ∷ e18 ∷ List.[]
+t16 = e16 ∷ e17·1 ∷ e18 ∷ e19·2 ∷ e20 ∷ e21 ∷ e22 ∷ List.[]
 abbrev pub t17 : List.List Row.Entry
-t17 = e16 ∷ e17·1 ∷ e18 ∷ List.[]
+t17 = e0 ∷ e1·1 ∷ e2 ∷ e3·1 ∷ e4 ∷ e5·1 ∷ e6 ∷ e7·1 ∷ e8 ∷ e9·1 ∷ e10·1 ∷ e11 ∷ e12·1 ∷ e13·1 ∷ e14·1 ∷ e15·1 ∷ List.[]
 abbrev pub t18 : List.List Row.Entry
-t18 = e0 ∷ e1 ∷ e2·1 ∷ e3·1 ∷ e4 ∷ e5 ∷ e6·1 ∷ e7 ∷ e8·1 ∷ e9 ∷ e10·1 ∷ e11·1 ∷ e12 ∷ e13·1 ∷ e14 ∷ e15 ∷ List.[]
+t18 = e16 ∷ e17 ∷ e18 ∷ e19·2 ∷ e20 ∷ e21 ∷ e22 ∷ List.[]
 abbrev pub t19 : List.List Row.Entry
-t19 = e16 ∷ e17·2 ∷ e18 ∷ List.[]
+t19 = e0 ∷ e1 ∷ e2 ∷ e3·1 ∷ e4 ∷ e5·1 ∷ e6 ∷ e7·1 ∷ e8 ∷ e9·1 ∷ e10·1 ∷ e11 ∷ e12·1 ∷ e13·1 ∷ e14·1 ∷ e15·1 ∷ List.[]
 abbrev pub t20 : List.List Row.Entry
-t20 = e0 ∷ e1 ∷ e2·1 ∷ e3·1 ∷ e4·1 ∷ e5 ∷ e6·1 ∷ e7 ∷ e8·1 ∷ e9 ∷ e10·1 ∷ e11·1 ∷ e12 ∷ e13·1 ∷ e14 ∷ e15 ∷ List.[]
+t20 = e0 ∷ e1 ∷ e2·1 ∷ e3·1 ∷ e4 ∷ e5·1 ∷ e6 ∷ e7·1 ∷ e8 ∷ e9·1 ∷ e10·1 ∷ e11 ∷ e12·1 ∷ e13·1 ∷ e14·1 ∷ e15·1 ∷ List.[]
 abbrev pub t21 : List.List Row.Entry
-t21 = e0 ∷ e1 ∷ e2·1 ∷ e3·1 ∷ e4·1 ∷ e5·1 ∷ e6·1 ∷ e7 ∷ e8·1 ∷ e9 ∷ e10·1 ∷ e11·1 ∷ e12 ∷ e13·1 ∷ e14 ∷ e15 ∷ List.[]
+t21 = e16 ∷ e17 ∷ e18 ∷ e19 ∷ e20·1 ∷ e21 ∷ e22 ∷ List.[]
 abbrev pub t22 : List.List Row.Entry
-t22 = e0 ∷ e1 ∷ e2·1 ∷ e3·1 ∷ e4·1 ∷ e5·1 ∷ e6·1 ∷ e7 ∷ e8·1 ∷ e9 ∷ e10·1 ∷ e11·1 ∷ e12 ∷ e13 ∷ e14 ∷ e15 ∷ List.[]
+t22 = e16 ∷ e17 ∷ e18 ∷ e19 ∷ e20 ∷ e21·1 ∷ e22 ∷ List.[]
 abbrev pub t23 : List.List Row.Entry
-t23 = e0 ∷ e1 ∷ e2 ∷ e3·1 ∷ e4·1 ∷ e5·1 ∷ e6·1 ∷ e7 ∷ e8·1 ∷ e9 ∷ e10·1 ∷ e11·1 ∷ e12 ∷ e13 ∷ e14 ∷ e15 ∷ List.[]
+t23 = e16 ∷ e17·1 ∷ e18 ∷ e19 ∷ e20 ∷ e21·2 ∷ e22 ∷ List.[]
 abbrev pub t24 : List.List Row.Entry
-t24 = e16 ∷ e17 ∷ e18·1 ∷ List.[]
+t24 = e0 ∷ e1 ∷ e2·1 ∷ e3·1 ∷ e4·1 ∷ e5·1 ∷ e6 ∷ e7·1 ∷ e8 ∷ e9·1 ∷ e10·1 ∷ e11 ∷ e12·1 ∷ e13·1 ∷ e14·1 ∷ e15·1 ∷ List.[]
 abbrev pub t25 : List.List Row.Entry
-t25 = e0 ∷ e1 ∷ e2 ∷ e3·1 ∷ e4·1 ∷ e5·1 ∷ e6·1 ∷ e7 ∷ e8·1 ∷ e9 ∷ e10·1 ∷ e11·1 ∷ e12·1 ∷ e13 ∷ e14 ∷ e15 ∷ List.[]
+t25 = e0 ∷ e1 ∷ e2·1 ∷ e3·1 ∷ e4·1 ∷ e5·1 ∷ e6·1 ∷ e7·1 ∷ e8 ∷ e9·1 ∷ e10·1 ∷ e11 ∷ e12·1 ∷ e13·1 ∷ e14·1 ∷ e15·1 ∷ List.[]
 abbrev pub t26 : List.List Row.Entry
-t26 = e0·1 ∷ e1 ∷ e2 ∷ e3·1 ∷ e4·1 ∷ e5·1 ∷ e6·1 ∷ e7 ∷ e8·1 ∷ e9 ∷ e10·1 ∷ e11·1 ∷ e12·1 ∷ e13 ∷ e14 ∷ e15 ∷ List.[]
+t26 = e16 ∷ e17 ∷ e18 ∷ e19 ∷ e20 ∷ e21·2 ∷ e22 ∷ List.[]
 abbrev pub t27 : List.List Row.Entry
-t27 = e0·1 ∷ e1 ∷ e2 ∷ e3·1 ∷ e4·1 ∷ e5·1 ∷ e6·1 ∷ e7 ∷ e8 ∷ e9 ∷ e10·1 ∷ e11·1 ∷ e12·1 ∷ e13 ∷ e14 ∷ e15 ∷ List.[]
+t27 = e0 ∷ e1 ∷ e2 ∷ e3·1 ∷ e4·1 ∷ e5·1 ∷ e6·1 ∷ e7·1 ∷ e8 ∷ e9·1 ∷ e10·1 ∷ e11 ∷ e12·1 ∷ e13·1 ∷ e14·1 ∷ e15·1 ∷ List.[]
 abbrev pub t28 : List.List Row.Entry
-t28 = e0·1 ∷ e1 ∷ e2 ∷ e3·1 ∷ e4·1 ∷ e5·1 ∷ e6·1 ∷ e7 ∷ e8 ∷ e9 ∷ e10 ∷ e11·1 ∷ e12·1 ∷ e13 ∷ e14 ∷ e15 ∷ List.[]
+t28 = e16 ∷ e17 ∷ e18 ∷ e19 ∷ e20 ∷ e21 ∷ e22·1 ∷ List.[]
 abbrev pub t29 : List.List Row.Entry
-t29 = e0·1 ∷ e1 ∷ e2 ∷ e3·1 ∷ e4·1 ∷ e5·1 ∷ e6·1 ∷ e7 ∷ e8 ∷ e9 ∷ e10 ∷ e11 ∷ e12·1 ∷ e13 ∷ e14 ∷ e15 ∷ List.[]
+t29 = e16·1 ∷ e17 ∷ e18 ∷ e19 ∷ e20 ∷ e21 ∷ e22·1 ∷ List.[]
+abbrev pub t30 : List.List Row.Entry
+t30 = e16·1 ∷ e17 ∷ e18 ∷ e19 ∷ e20 ∷ e21 ∷ e22 ∷ List.[]
+abbrev pub t31 : List.List Row.Entry
+t31 = e0·1 ∷ e1 ∷ e2 ∷ e3·1 ∷ e4·1 ∷ e5·1 ∷ e6·1 ∷ e7·1 ∷ e8 ∷ e9·1 ∷ e10·1 ∷ e11 ∷ e12·1 ∷ e13·1 ∷ e14·1 ∷ e15·1 ∷ List.[]
+abbrev pub t32 : List.List Row.Entry
+t32 = e0·1 ∷ e1 ∷ e2 ∷ e3·1 ∷ e4·1 ∷ e5·1 ∷ e6·1 ∷ e7·1 ∷ e8 ∷ e9 ∷ e10·1 ∷ e11 ∷ e12·1 ∷ e13·1 ∷ e14·1 ∷ e15·1 ∷ List.[]
+abbrev pub t33 : List.List Row.Entry
+t33 = e0·1 ∷ e1 ∷ e2 ∷ e3·1 ∷ e4·1 ∷ e5·1 ∷ e6·1 ∷ e7·1 ∷ e8 ∷ e9 ∷ e10 ∷ e11 ∷ e12·1 ∷ e13·1 ∷ e14·1 ∷ e15·1 ∷ List.[]
+abbrev pub t34 : List.List Row.Entry
+t34 = e0·1 ∷ e1 ∷ e2 ∷ e3·1 ∷ e4·1 ∷ e5·1 ∷ e6·1 ∷ e7·1 ∷ e8 ∷ e9 ∷ e10 ∷ e11 ∷ e12 ∷ e13·1 ∷ e14·1 ∷ e15·1 ∷ List.[]
+abbrev pub t35 : List.List Row.Entry
+t35 = e0·1 ∷ e1 ∷ e2 ∷ e3·1 ∷ e4·1 ∷ e5·1 ∷ e6·1 ∷ e7·1 ∷ e8 ∷ e9 ∷ e10 ∷ e11 ∷ e12 ∷ e13 ∷ e14·1 ∷ e15·1 ∷ List.[]
+abbrev pub t36 : List.List Row.Entry
+t36 = e0·1 ∷ e1 ∷ e2 ∷ e3·1 ∷ e4·1 ∷ e5·1 ∷ e6·1 ∷ e7·1 ∷ e8 ∷ e9 ∷ e10 ∷ e11 ∷ e12 ∷ e13 ∷ e14 ∷ e15·1 ∷ List.[]
 abbrev pub T0 : Row.Cx
 T0 = record { locals = List._++_ t0 t1; slots = List.[] }
 abbrev pub T1 : Row.Cx
@@ -426,125 +503,157 @@ abbrev pub T8 : Row.Cx
 T8 = record { locals = List._++_ t7 t1; slots = List.[] }
 abbrev pub T9 : Row.Cx
 T9 = record { locals = List._++_ t8 t1; slots = List.[] }
+abbrev pub T10 : Row.Cx
+T10 = record { locals = List._++_ t9 t1; slots = List.[] }
 abbrev pub T11 : Row.Cx
-T11 = record { locals = List._++_ t9 t1; slots = List.[] }
+T11 = record { locals = List._++_ t10 t1; slots = List.[] }
 abbrev pub T12 : Row.Cx
-T12 = record { locals = List._++_ t10 t1; slots = List.[] }
+T12 = record { locals = List._++_ t11 t1; slots = List.[] }
 abbrev pub T13 : Row.Cx
-T13 = record { locals = List._++_ t11 t1; slots = List.[] }
-abbrev pub T14 : Row.Cx
-T14 = record { locals = List._++_ t12 t1; slots = List.[] }
+T13 = record { locals = List._++_ t12 t1; slots = List.[] }
 abbrev pub T15 : Row.Cx
-T15 = record { locals = List._++_ t13 t1; slots = List.[] }
+T15 = record { locals = List._++_ t13 t14; slots = List.[] }
+abbrev pub T16 : Row.Cx
+T16 = record { locals = List._++_ t13 t15; slots = List.[] }
 abbrev pub T17 : Row.Cx
-T17 = record { locals = List._++_ t14 t1; slots = List.[] }
-abbrev pub T20 : Row.Cx
-T20 = record { locals = List._++_ t15 t16; slots = List.[] }
+T17 = record { locals = List._++_ t13 t16; slots = List.[] }
+abbrev pub T18 : Row.Cx
+T18 = record { locals = List._++_ t17 t16; slots = List.[] }
+abbrev pub T19 : Row.Cx
+T19 = record { locals = List._++_ t17 t18; slots = List.[] }
 abbrev pub T21 : Row.Cx
-T21 = record { locals = List._++_ t15 t17; slots = List.[] }
-abbrev pub T22 : Row.Cx
-T22 = record { locals = List._++_ t18 t19; slots = List.[] }
-abbrev pub T23 : Row.Cx
-T23 = record { locals = List._++_ t20 t19; slots = List.[] }
+T21 = record { locals = List._++_ t19 t1; slots = List.[] }
 abbrev pub T24 : Row.Cx
-T24 = record { locals = List._++_ t21 t19; slots = List.[] }
+T24 = record { locals = List._++_ t20 t21; slots = List.[] }
 abbrev pub T25 : Row.Cx
-T25 = record { locals = List._++_ t22 t19; slots = List.[] }
+T25 = record { locals = List._++_ t20 t22; slots = List.[] }
+abbrev pub T26 : Row.Cx
+T26 = record { locals = List._++_ t20 t23; slots = List.[] }
 abbrev pub T27 : Row.Cx
-T27 = record { locals = List._++_ t23 t1; slots = List.[] }
+T27 = record { locals = List._++_ t24 t23; slots = List.[] }
 abbrev pub T28 : Row.Cx
-T28 = record { locals = List._++_ t23 t1; slots = List.[] }
-abbrev pub T30 : Row.Cx
-T30 = record { locals = List._++_ t23 t24; slots = List.[] }
+T28 = record { locals = List._++_ t25 t23; slots = List.[] }
+abbrev pub T29 : Row.Cx
+T29 = record { locals = List._++_ t25 t26; slots = List.[] }
 abbrev pub T31 : Row.Cx
-T31 = record { locals = List._++_ t25 t24; slots = List.[] }
+T31 = record { locals = List._++_ t27 t1; slots = List.[] }
 abbrev pub T32 : Row.Cx
-T32 = record { locals = List._++_ t25 t1; slots = List.[] }
-abbrev pub T33 : Row.Cx
-T33 = record { locals = List._++_ t26 t1; slots = List.[] }
+T32 = record { locals = List._++_ t27 t1; slots = List.[] }
 abbrev pub T34 : Row.Cx
-T34 = record { locals = List._++_ t27 t1; slots = List.[] }
+T34 = record { locals = List._++_ t27 t28; slots = List.[] }
 abbrev pub T35 : Row.Cx
-T35 = record { locals = List._++_ t28 t1; slots = List.[] }
+T35 = record { locals = List._++_ t27 t29; slots = List.[] }
 abbrev pub T36 : Row.Cx
-T36 = record { locals = List._++_ t29 t1; slots = List.[] }
+T36 = record { locals = List._++_ t27 t30; slots = List.[] }
 abbrev pub T37 : Row.Cx
-T37 = record { locals = List._++_ t2 t1; slots = List.[] }
+T37 = record { locals = List._++_ t31 t30; slots = List.[] }
+abbrev pub T38 : Row.Cx
+T38 = record { locals = List._++_ t32 t30; slots = List.[] }
+abbrev pub T39 : Row.Cx
+T39 = record { locals = List._++_ t33 t30; slots = List.[] }
+abbrev pub T40 : Row.Cx
+T40 = record { locals = List._++_ t34 t30; slots = List.[] }
+abbrev pub T41 : Row.Cx
+T41 = record { locals = List._++_ t35 t30; slots = List.[] }
+abbrev pub T42 : Row.Cx
+T42 = record { locals = List._++_ t36 t30; slots = List.[] }
+abbrev pub T43 : Row.Cx
+T43 = record { locals = List._++_ t2 t30; slots = List.[] }
+abbrev pub T44 : Row.Cx
+T44 = record { locals = List._++_ t2 t1; slots = List.[] }
 abbrev pub O0 : Typed.Outs
 O0 = record { next = Option.none; exits = List.[]; returns = Option.some T1 }
 module _ (claims· : Claims) where
   abbrev s0 : Typed.Gives T0 T2
   s0 = Know.k-sl-known (Referent.fInt Syntax.w32) T0 2 1 ref3 Row.off 0 λ x. x
   abbrev s1 : Typed.Gives T2 T3
-  s1 = Know.k-shs-known (Referent.fInt Syntax.w8) T2 7 2 ref4 Row.off 0 λ x. x
-  abbrev s2 : Typed.Both T3 T4
-  s2 = Call.callB ps·0 r·0 (claims· .0) (claims· .1) T3 (record { pos = 3; st = List.[]; d = 0; at = λ x. x }, (record { pos = 4; st = List.[]; d = 0;
-      at = λ x. x }, (record { pos = 5; st = List.[]; d = 0; at = λ x. x }, (record { pos = 6; st = List.[]; d = 0; at = λ x. x }, tt),),),) 8 List.[]
-      Laws'.mir
-  abbrev s3 : Typed.Mo T4 → Typed.Mo T5
-  s3 = Scalar.n-room T4 3 Laws.mir
-  abbrev s4 : Typed.Mo T5 → Typed.Mo T6
-  s4 = Scalar.n-room T5 6 Laws''.mir
-  abbrev s5 : Typed.Both T6 T7
-  s5 = Call.callB ps·1 r·1 (claims· .2) (claims· .3) T6 (record { pos = 8; st = List.[]; d = 0; at = λ x. x }, tt,) 9 List.[] InflightAction.ty
-  abbrev s6 : Typed.Both T7 T8
-  s6 = Call.callB ps·2 r·2 (claims· .4) (claims· .5) T7 (record { pos = 8; st = List.[]; d = 0; at = λ x. x }, tt,) 10 List.[] Syntax.tyBool
-  abbrev s7 : Typed.Both T8 T9
-  s7 = Call.callB ps·3 r·3 (claims· .6) (claims· .7) T8 (record { pos = 8; st = List.[]; d = 0; at = λ x. x }, tt,) 11 List.[] (Syntax.tyInt
-      Syntax.w64)
-  abbrev s9 : Typed.Gives T9 T11
-  s9 = Relend.k-sl-relend InflightAction.row T9 1 14 0 3 ref2 ref0 Row.off λ x. x
-  abbrev s10 : Typed.Asks T11 T12
-  s10 = Relend.k-sl-aggregate InflightAction.row (Relend.asMut InflightAction.row) T11 14 15 3 ref0 ref0 (λ x. x) (Scalar.oFld 1 ((Syntax.field 1) ∷
-      List.[]) (Syntax.tyInt Syntax.w64) 8 λ v. Shared.lenV (v .0))
-  abbrev s11 : Typed.Both T12 T13
-  s11 = Call.callB ps·4 r·4 (claims· .8) (claims· .9) T12 (record { pos = 15; ty = Syntax.tyRef Syntax.erased Syntax.mut InflightAction.to; ref = λ x.
-      x; }, (Bool.bAt 10 λ x. x, (Num.vAt 11 λ x. x, (record { pos = 9; st = List.[]; d = 0; at = λ x. x }, tt)),),) 13 (3 ∷ List.[]) Syntax.tyUnit
-  abbrev s12 : Typed.Mo T13 → Typed.Mo T14
-  s12 = Scalar.n-room T13 9 InflightAction.ty
-  abbrev s13 : Typed.Mo T14 → Typed.Mo T15
-  s13 = Scalar.n-room T14 13 Syntax.tyUnit
-  abbrev s15 : Typed.Both T15 T17
-  s15 = Relend.k-back-sl InflightAction.row T15 15 1 0 3 ref2 ref0 Row.off (λ x. x) λ x. x
-  abbrev s18 : Typed.Gives T17 T20
-  s18 = Relend.k-sl-relend (Referent.rtF (Referent.fInt Syntax.w32)) T17 2 16 1 4 ref3 ref1 Row.off λ x. x
-  abbrev s19 : Typed.Asks T20 T21
-  s19 = Relend.k-sl-aggregate (Referent.rtF (Referent.fInt Syntax.w32)) (Relend.asMut (Referent.rtF (Referent.fInt Syntax.w32))) T20 16 17 4 ref1 ref1
-      (λ x. x) (Scalar.oFld 2 ((Syntax.field 1) ∷ List.[]) (Syntax.tyInt Syntax.w64) 8 λ v. Shared.lenV (v .0))
-  abbrev s20 : Typed.Both T21 T22
-  s20 = Call.callB ps·5 r·5 (claims· .10) (claims· .11) T21 (record { pos = 17; ty = Syntax.tyRef Syntax.erased Syntax.mut (Syntax.tyInt Syntax.w32);
-      ref = λ x. x; }, (Bool.bAt 10 λ x. x, (Num.vLit 0, (record { pos = 5; st = List.[]; d = 0; at = λ x. x }, (record { pos = 4; st = List.[]; d =
-      0; at = λ x. x }, (record { pos = 7; ty = Syntax.tyRef (Syntax.named 2) Syntax.imm (Syntax.tyInt Syntax.w8); ref = λ x. x; }, tt,),),),),),) 13
-      (4 ∷ 2 ∷ List.[]) Syntax.tyUnit
-  abbrev s21 : Typed.Mo T22 → Typed.Mo T23
-  s21 = Scalar.n-room T22 4 Laws''''.mir
-  abbrev s22 : Typed.Mo T23 → Typed.Mo T24
-  s22 = Scalar.n-room T23 5 Laws'''.mir
-  abbrev s23 : Typed.Mo T24 → Typed.Mo T25
-  s23 = Scalar.n-room T24 13 Syntax.tyUnit
-  abbrev s25 : Typed.Both T25 T27
-  s25 = Relend.k-back-sl (Referent.rtF (Referent.fInt Syntax.w32)) T25 17 2 1 4 ref3 ref1 Row.off (λ x. x) λ x. x
-  abbrev s26 : Typed.Gives T27 T28
-  s26 = Know.k-sl-known (Referent.fInt Syntax.w32) T27 2 1 ref3 Row.off 0 λ x. x
-  abbrev s28 : Typed.Mo T28 → Typed.Mo T30
-  s28 = Scalar.n-use T28 (Scalar.oFld 7 ((Syntax.field 1) ∷ List.[]) (Syntax.tyInt Syntax.w64) 8 Shared.lenV) 18 (Rows.sc-here (Row.sInt Syntax.w64))
+  s1 = Know.k-shs-known (Referent.fInt Syntax.w8) T2 8 2 ref4 Row.off 0 λ x. x
+  abbrev s2 : Typed.Mo T3 → Typed.Mo T4
+  s2 = Scalar.n-use T3 (Scalar.oFld 1 ((Syntax.field 1) ∷ List.[]) (Syntax.tyInt Syntax.w64) 8 Shared.lenV) 9 (Rows.sc-here (Row.sInt Syntax.w64))
       (Row.sInt Syntax.w64 .of)
-  abbrev s29 : Typed.Both T30 T31
-  s29 = Call.callB ps·6 r·6 (claims· .12) (claims· .13) T30 (Bool.bAt 10 λ x. x, (Num.vLit 0, (Num.vAt 18 λ x. x, tt)),) 12 List.[] (Syntax.tyInt
+  abbrev s3 : Typed.Both T4 T5
+  s3 = Call.callB ps·0 r·0 (claims· .0) (claims· .1) T4 (record { pos = 3; st = List.[]; d = 0; at = λ x. x }, (record { pos = 4; st = List.[]; d = 0;
+      at = λ x. x }, (record { pos = 6; st = List.[]; d = 0; at = λ x. x }, (record { pos = 7; st = List.[]; d = 0; at = λ x. x }, tt),),),) 10
+      List.[] Laws''.mir
+  abbrev s4 : Typed.Mo T5 → Typed.Mo T6
+  s4 = Scalar.n-room T5 3 Laws.mir
+  abbrev s5 : Typed.Mo T6 → Typed.Mo T7
+  s5 = Scalar.n-room T6 7 Laws'''.mir
+  abbrev s6 : Typed.Both T7 T8
+  s6 = Call.callB ps·1 r·1 (claims· .2) (claims· .3) T7 (record { pos = 10; st = List.[]; d = 0; at = λ x. x }, tt,) 11 List.[] InflightAction.ty
+  abbrev s7 : Typed.Both T8 T9
+  s7 = Call.callB ps·2 r·2 (claims· .4) (claims· .5) T8 (record { pos = 10; st = List.[]; d = 0; at = λ x. x }, tt,) 12 List.[] Syntax.tyBool
+  abbrev s8 : Typed.Both T9 T10
+  s8 = Call.callB ps·3 r·3 (claims· .6) (claims· .7) T9 (record { pos = 10; st = List.[]; d = 0; at = λ x. x }, tt,) 13 List.[] (Syntax.tyInt
       Syntax.w64)
-  abbrev s30 : Typed.Mo T31 → Typed.Mo T32
-  s30 = Scalar.n-room T31 18 (Syntax.tyInt Syntax.w64)
-  abbrev s31 : Typed.Both T32 T33
-  s31 = Call.callB ps·7 r·7 (claims· .14) (claims· .15) T32 (record { pos = 8; st = List.[]; d = 0; at = λ x. x }, (Num.vAt 12 λ x. x, tt),) 0 List.[]
-      Laws'''''.mir
-  abbrev s32 : Typed.Mo T33 → Typed.Mo T34
-  s32 = Scalar.n-room T33 8 Laws'.mir
-  abbrev s33 : Typed.Mo T34 → Typed.Mo T35
-  s33 = Scalar.n-room T34 10 Syntax.tyBool
+  abbrev s9 : Typed.Both T10 T11
+  s9 = Call.callB ps·4 r·4 (claims· .8) (claims· .9) T10 (Num.vFld 5 ((Syntax.field 3) ∷ List.[]) 24 λ x. Places.struct .as-values x .1 .1 .1 .0,
+      (Bool.bAt 12 λ x. x, (Num.vAt 13 λ x. x, (Num.vAt 9 λ x. x, tt))),) 14 List.[] (Syntax.tyInt Syntax.w64)
+  abbrev s10 : Typed.Both T11 T12
+  s10 = Call.callB ps·5 r·5 (claims· .10) (claims· .11) T11 (record { pos = 5; st = List.[]; d = 0; at = λ x. x }, (Num.vAt 14 λ x. x, tt),) 15
+      List.[] Laws'.mir
+  abbrev s11 : Typed.Mo T12 → Typed.Mo T13
+  s11 = Scalar.n-room T12 5 Laws'.mir
+  abbrev s13 : Typed.Gives T13 T15
+  s13 = Relend.k-sl-relend InflightAction.row T13 1 18 0 3 ref2 ref0 Row.off λ x. x
+  abbrev s14 : Typed.Asks T15 T16
+  s14 = Relend.k-sl-aggregate InflightAction.row (Relend.asMut InflightAction.row) T15 18 19 3 ref0 ref0 (λ x. x) (Scalar.oFld 1 ((Syntax.field 1) ∷
+      List.[]) (Syntax.tyInt Syntax.w64) 8 λ v. Shared.lenV (v .0))
+  abbrev s15 : Typed.Both T16 T17
+  s15 = Call.callB ps·6 r·6 (claims· .12) (claims· .13) T16 (record { pos = 19; ty = Syntax.tyRef Syntax.erased Syntax.mut InflightAction.to; ref = λ
+      x. x; }, (Bool.bAt 12 λ x. x, (Num.vAt 13 λ x. x, (record { pos = 11; st = List.[]; d = 0; at = λ x. x }, tt)),),) 17 (3 ∷ List.[])
+      Syntax.tyUnit
+  abbrev s16 : Typed.Mo T17 → Typed.Mo T18
+  s16 = Scalar.n-room T17 11 InflightAction.ty
+  abbrev s17 : Typed.Mo T18 → Typed.Mo T19
+  s17 = Scalar.n-room T18 17 Syntax.tyUnit
+  abbrev s19 : Typed.Both T19 T21
+  s19 = Relend.k-back-sl InflightAction.row T19 19 1 0 3 ref2 ref0 Row.off (λ x. x) λ x. x
+  abbrev s22 : Typed.Gives T21 T24
+  s22 = Relend.k-sl-relend (Referent.rtF (Referent.fInt Syntax.w32)) T21 2 20 1 4 ref3 ref1 Row.off λ x. x
+  abbrev s23 : Typed.Asks T24 T25
+  s23 = Relend.k-sl-aggregate (Referent.rtF (Referent.fInt Syntax.w32)) (Relend.asMut (Referent.rtF (Referent.fInt Syntax.w32))) T24 20 21 4 ref1 ref1
+      (λ x. x) (Scalar.oFld 2 ((Syntax.field 1) ∷ List.[]) (Syntax.tyInt Syntax.w64) 8 λ v. Shared.lenV (v .0))
+  abbrev s24 : Typed.Both T25 T26
+  s24 = Call.callB ps·7 r·7 (claims· .14) (claims· .15) T25 (record { pos = 21; ty = Syntax.tyRef Syntax.erased Syntax.mut (Syntax.tyInt Syntax.w32);
+      ref = λ x. x; }, (Bool.bAt 12 λ x. x, (Num.vLit 0, (record { pos = 6; st = List.[]; d = 0; at = λ x. x }, (record { pos = 4; st = List.[]; d =
+      0; at = λ x. x }, (record { pos = 8; ty = Syntax.tyRef (Syntax.named 2) Syntax.imm (Syntax.tyInt Syntax.w8); ref = λ x. x; }, tt,),),),),),) 17
+      (4 ∷ 2 ∷ List.[]) Syntax.tyUnit
+  abbrev s25 : Typed.Mo T26 → Typed.Mo T27
+  s25 = Scalar.n-room T26 4 Laws'''''.mir
+  abbrev s26 : Typed.Mo T27 → Typed.Mo T28
+  s26 = Scalar.n-room T27 6 Laws''''.mir
+  abbrev s27 : Typed.Mo T28 → Typed.Mo T29
+  s27 = Scalar.n-room T28 17 Syntax.tyUnit
+  abbrev s29 : Typed.Both T29 T31
+  s29 = Relend.k-back-sl (Referent.rtF (Referent.fInt Syntax.w32)) T29 21 2 1 4 ref3 ref1 Row.off (λ x. x) λ x. x
+  abbrev s30 : Typed.Gives T31 T32
+  s30 = Know.k-sl-known (Referent.fInt Syntax.w32) T31 2 1 ref3 Row.off 0 λ x. x
+  abbrev s32 : Typed.Mo T32 → Typed.Mo T34
+  s32 = Scalar.n-use T32 (Scalar.oFld 8 ((Syntax.field 1) ∷ List.[]) (Syntax.tyInt Syntax.w64) 8 Shared.lenV) 22 (Rows.sc-here (Row.sInt Syntax.w64))
+      (Row.sInt Syntax.w64 .of)
+  abbrev s33 : Typed.Both T34 T35
+  s33 = Call.callB ps·8 r·8 (claims· .16) (claims· .17) T34 (Bool.bAt 12 λ x. x, (Num.vLit 0, (Num.vAt 22 λ x. x, tt)),) 16 List.[] (Syntax.tyInt
+      Syntax.w64)
   abbrev s34 : Typed.Mo T35 → Typed.Mo T36
-  s34 = Scalar.n-room T35 11 (Syntax.tyInt Syntax.w64)
-  abbrev s35 : Typed.Mo T36 → Typed.Mo T37
-  s35 = Scalar.n-room T36 12 (Syntax.tyInt Syntax.w64)
+  s34 = Scalar.n-room T35 22 (Syntax.tyInt Syntax.w64)
+  abbrev s35 : Typed.Both T36 T37
+  s35 = Call.callB ps·9 r·9 (claims· .18) (claims· .19) T36 (record { pos = 10; st = List.[]; d = 0; at = λ x. x }, (Num.vAt 16 λ x. x, (record { pos
+      = 15; st = List.[]; d = 0; at = λ x. x }, tt)),) 0 List.[] Laws''''''.mir
+  abbrev s36 : Typed.Mo T37 → Typed.Mo T38
+  s36 = Scalar.n-room T37 9 (Syntax.tyInt Syntax.w64)
+  abbrev s37 : Typed.Mo T38 → Typed.Mo T39
+  s37 = Scalar.n-room T38 10 Laws''.mir
+  abbrev s38 : Typed.Mo T39 → Typed.Mo T40
+  s38 = Scalar.n-room T39 12 Syntax.tyBool
+  abbrev s39 : Typed.Mo T40 → Typed.Mo T41
+  s39 = Scalar.n-room T40 13 (Syntax.tyInt Syntax.w64)
+  abbrev s40 : Typed.Mo T41 → Typed.Mo T42
+  s40 = Scalar.n-room T41 14 (Syntax.tyInt Syntax.w64)
+  abbrev s41 : Typed.Mo T42 → Typed.Mo T43
+  s41 = Scalar.n-room T42 15 Laws'.mir
+  abbrev s42 : Typed.Mo T43 → Typed.Mo T44
+  s42 = Scalar.n-room T43 16 (Syntax.tyInt Syntax.w64)
   module _ (Pre· : (κs : Lifetimes.Lfts 3) → Kinds.Dens κs ps → Type 0) (Post· : (κs : Lifetimes.Lfts 3) → (a : Kinds.Dens κs ps) → Kinds.Plain 3 ps r
       κs) where
     module _ (M : Type 1) where
@@ -552,97 +661,115 @@ module _ (claims· : Claims) where
       Closed = (𝓤 : URA.URA M) (H : Wp.Heap 𝓤) (A : Atoms.Atoms 𝓤) (W : Kit.Given 𝓤 H A) (𝓣 : Wp.Tables 𝓤 H) (known0 : Plain.Known 𝓤 H A W 𝓣 0 ps·0
           r·0 (claims· .0) (claims· .1) "hnsr_circuit::queue::queue") (known1 : Plain.Known 𝓤 H A W 𝓣 0 ps·1 r·1 (claims· .2) (claims· .3)
           "hnsr_circuit::queue::queued_action") (known2 : Plain.Known 𝓤 H A W 𝓣 0 ps·2 r·2 (claims· .4) (claims· .5) "hnsr_circuit::queue::queued_go")
-          (known3 : Plain.Known 𝓤 H A W 𝓣 0 ps·3 r·3 (claims· .6) (claims· .7) "hnsr_circuit::queue::queued_place") (known4 : Plain.Known 𝓤 H A W 𝓣 1
-          ps·4 r·4 (claims· .8) (claims· .9) "hnsr_circuit::tables::inflight::set_action") (known5 : Plain.Known 𝓤 H A W 𝓣 2 ps·5 r·5 (claims· .10)
-          (claims· .11) "hnsr_circuit::queue::put_queued") (known6 : Plain.Known 𝓤 H A W 𝓣 0 ps·6 r·6 (claims· .12) (claims· .13)
-          "hnsr_circuit::queue::position_after") (known7 : Plain.Known 𝓤 H A W 𝓣 0 ps·7 r·7 (claims· .14) (claims· .15)
+          (known3 : Plain.Known 𝓤 H A W 𝓣 0 ps·3 r·3 (claims· .6) (claims· .7) "hnsr_circuit::queue::queued_place") (known4 : Plain.Known 𝓤 H A W 𝓣 0
+          ps·4 r·4 (claims· .8) (claims· .9) "hnsr_circuit::places::raised") (known5 : Plain.Known 𝓤 H A W 𝓣 0 ps·5 r·5 (claims· .10) (claims· .11)
+          "hnsr_circuit::places::with_actions") (known6 : Plain.Known 𝓤 H A W 𝓣 1 ps·6 r·6 (claims· .12) (claims· .13)
+          "hnsr_circuit::tables::inflight::set_action") (known7 : Plain.Known 𝓤 H A W 𝓣 2 ps·7 r·7 (claims· .14) (claims· .15)
+          "hnsr_circuit::queue::put_queued") (known8 : Plain.Known 𝓤 H A W 𝓣 0 ps·8 r·8 (claims· .16) (claims· .17)
+          "hnsr_circuit::queue::position_after") (known9 : Plain.Known 𝓤 H A W 𝓣 0 ps·9 r·9 (claims· .18) (claims· .19)
           "hnsr_circuit::queue::relayed") → Statement.Triple 𝓤 (Wp.WpFn 𝓤 H (𝓣 .C) (𝓣 .Λ) (Function.fnOf 3 ps r xs m hs body)) (Function.plainOf 𝓤 H A
           3 ps r Pre· Post·)
     module _ where
-      abbrev at0 : Typed.TF T37 O0
+      abbrev at0 : Typed.TF T44 O0
       at0 = Typed.atRet O0
-      abbrev at1 : Typed.TF T36 O0
-      at1 = λ Ψ. Typed.pass T36 T37 s35 (at0 Ψ)
-      abbrev at2 : Typed.TF T35 O0
-      at2 = λ Ψ. Typed.pass T35 T36 s34 (at1 Ψ)
-      abbrev at3 : Typed.TF T34 O0
-      at3 = λ Ψ. Typed.pass T34 T35 s33 (at2 Ψ)
-      abbrev at4 : Typed.TF T33 O0
-      at4 = λ Ψ. Typed.pass T33 T34 s32 (at3 Ψ)
-      abbrev at5 : Typed.TF T32 O0
-      at5 = λ Ψ. Typed.both s31 (at4 Ψ)
-      abbrev at6 : Typed.TF T31 O0
-      at6 = λ Ψ. Typed.pass T31 T32 s30 (at5 Ψ)
-      abbrev at7 : Typed.TF T30 O0
-      at7 = λ Ψ. Typed.both s29 (at6 Ψ)
-      abbrev at8 : Typed.TF T28 O0
-      at8 = λ Ψ. Typed.pass T28 T30 s28 (at7 Ψ)
-      abbrev at9 : Typed.TF T28 O0
-      at9 = λ Ψ. at8 Ψ
-      abbrev at10 : Typed.TF T27 O0
-      at10 = λ Ψ. Typed.give s26 (at9 Ψ)
-      abbrev at11 : Typed.TF T25 O0
-      at11 = λ Ψ. Typed.both s25 (at10 Ψ)
-      abbrev at12 : Typed.TF T25 O0
+      abbrev at1 : Typed.TF T43 O0
+      at1 = λ Ψ. Typed.pass T43 T44 s42 (at0 Ψ)
+      abbrev at2 : Typed.TF T42 O0
+      at2 = λ Ψ. Typed.pass T42 T43 s41 (at1 Ψ)
+      abbrev at3 : Typed.TF T41 O0
+      at3 = λ Ψ. Typed.pass T41 T42 s40 (at2 Ψ)
+      abbrev at4 : Typed.TF T40 O0
+      at4 = λ Ψ. Typed.pass T40 T41 s39 (at3 Ψ)
+      abbrev at5 : Typed.TF T39 O0
+      at5 = λ Ψ. Typed.pass T39 T40 s38 (at4 Ψ)
+      abbrev at6 : Typed.TF T38 O0
+      at6 = λ Ψ. Typed.pass T38 T39 s37 (at5 Ψ)
+      abbrev at7 : Typed.TF T37 O0
+      at7 = λ Ψ. Typed.pass T37 T38 s36 (at6 Ψ)
+      abbrev at8 : Typed.TF T36 O0
+      at8 = λ Ψ. Typed.both s35 (at7 Ψ)
+      abbrev at9 : Typed.TF T35 O0
+      at9 = λ Ψ. Typed.pass T35 T36 s34 (at8 Ψ)
+      abbrev at10 : Typed.TF T34 O0
+      at10 = λ Ψ. Typed.both s33 (at9 Ψ)
+      abbrev at11 : Typed.TF T32 O0
+      at11 = λ Ψ. Typed.pass T32 T34 s32 (at10 Ψ)
+      abbrev at12 : Typed.TF T32 O0
       at12 = λ Ψ. at11 Ψ
-      abbrev at13 : Typed.TF T24 O0
-      at13 = λ Ψ. Typed.pass T24 T25 s23 (at12 Ψ)
-      abbrev at14 : Typed.TF T23 O0
-      at14 = λ Ψ. Typed.pass T23 T24 s22 (at13 Ψ)
-      abbrev at15 : Typed.TF T22 O0
-      at15 = λ Ψ. Typed.pass T22 T23 s21 (at14 Ψ)
-      abbrev at16 : Typed.TF T21 O0
-      at16 = λ Ψ. Typed.both s20 (at15 Ψ)
-      abbrev at17 : Typed.TF T20 O0
-      at17 = λ Ψ. Typed.ask s19 (at16 Ψ)
-      abbrev at18 : Typed.TF T17 O0
-      at18 = λ Ψ. Typed.give s18 (at17 Ψ)
-      abbrev at19 : Typed.TF T17 O0
-      at19 = λ Ψ. at18 Ψ
-      abbrev at20 : Typed.TF T17 O0
-      at20 = λ Ψ. at19 Ψ
-      abbrev at21 : Typed.TF T15 O0
-      at21 = λ Ψ. Typed.both s15 (at20 Ψ)
-      abbrev at22 : Typed.TF T15 O0
+      abbrev at13 : Typed.TF T31 O0
+      at13 = λ Ψ. Typed.give s30 (at12 Ψ)
+      abbrev at14 : Typed.TF T29 O0
+      at14 = λ Ψ. Typed.both s29 (at13 Ψ)
+      abbrev at15 : Typed.TF T29 O0
+      at15 = λ Ψ. at14 Ψ
+      abbrev at16 : Typed.TF T28 O0
+      at16 = λ Ψ. Typed.pass T28 T29 s27 (at15 Ψ)
+      abbrev at17 : Typed.TF T27 O0
+      at17 = λ Ψ. Typed.pass T27 T28 s26 (at16 Ψ)
+      abbrev at18 : Typed.TF T26 O0
+      at18 = λ Ψ. Typed.pass T26 T27 s25 (at17 Ψ)
+      abbrev at19 : Typed.TF T25 O0
+      at19 = λ Ψ. Typed.both s24 (at18 Ψ)
+      abbrev at20 : Typed.TF T24 O0
+      at20 = λ Ψ. Typed.ask s23 (at19 Ψ)
+      abbrev at21 : Typed.TF T21 O0
+      at21 = λ Ψ. Typed.give s22 (at20 Ψ)
+      abbrev at22 : Typed.TF T21 O0
       at22 = λ Ψ. at21 Ψ
-      abbrev at23 : Typed.TF T14 O0
-      at23 = λ Ψ. Typed.pass T14 T15 s13 (at22 Ψ)
-      abbrev at24 : Typed.TF T13 O0
-      at24 = λ Ψ. Typed.pass T13 T14 s12 (at23 Ψ)
-      abbrev at25 : Typed.TF T12 O0
-      at25 = λ Ψ. Typed.both s11 (at24 Ψ)
-      abbrev at26 : Typed.TF T11 O0
-      at26 = λ Ψ. Typed.ask s10 (at25 Ψ)
-      abbrev at27 : Typed.TF T9 O0
-      at27 = λ Ψ. Typed.give s9 (at26 Ψ)
-      abbrev at28 : Typed.TF T9 O0
-      at28 = λ Ψ. at27 Ψ
-      abbrev at29 : Typed.TF T8 O0
-      at29 = λ Ψ. Typed.both s7 (at28 Ψ)
-      abbrev at30 : Typed.TF T7 O0
-      at30 = λ Ψ. Typed.both s6 (at29 Ψ)
-      abbrev at31 : Typed.TF T6 O0
-      at31 = λ Ψ. Typed.both s5 (at30 Ψ)
-      abbrev at32 : Typed.TF T5 O0
-      at32 = λ Ψ. Typed.pass T5 T6 s4 (at31 Ψ)
-      abbrev at33 : Typed.TF T4 O0
-      at33 = λ Ψ. Typed.pass T4 T5 s3 (at32 Ψ)
-      abbrev at34 : Typed.TF T3 O0
-      at34 = λ Ψ. Typed.both s2 (at33 Ψ)
-      abbrev at35 : Typed.TF T2 O0
-      at35 = λ Ψ. Typed.give s1 (at34 Ψ)
-      abbrev at36 : Typed.TF T0 O0
-      at36 = λ Ψ. Typed.give s0 (at35 Ψ)
+      abbrev at23 : Typed.TF T21 O0
+      at23 = λ Ψ. at22 Ψ
+      abbrev at24 : Typed.TF T19 O0
+      at24 = λ Ψ. Typed.both s19 (at23 Ψ)
+      abbrev at25 : Typed.TF T19 O0
+      at25 = λ Ψ. at24 Ψ
+      abbrev at26 : Typed.TF T18 O0
+      at26 = λ Ψ. Typed.pass T18 T19 s17 (at25 Ψ)
+      abbrev at27 : Typed.TF T17 O0
+      at27 = λ Ψ. Typed.pass T17 T18 s16 (at26 Ψ)
+      abbrev at28 : Typed.TF T16 O0
+      at28 = λ Ψ. Typed.both s15 (at27 Ψ)
+      abbrev at29 : Typed.TF T15 O0
+      at29 = λ Ψ. Typed.ask s14 (at28 Ψ)
+      abbrev at30 : Typed.TF T13 O0
+      at30 = λ Ψ. Typed.give s13 (at29 Ψ)
+      abbrev at31 : Typed.TF T13 O0
+      at31 = λ Ψ. at30 Ψ
+      abbrev at32 : Typed.TF T12 O0
+      at32 = λ Ψ. Typed.pass T12 T13 s11 (at31 Ψ)
+      abbrev at33 : Typed.TF T11 O0
+      at33 = λ Ψ. Typed.both s10 (at32 Ψ)
+      abbrev at34 : Typed.TF T10 O0
+      at34 = λ Ψ. Typed.both s9 (at33 Ψ)
+      abbrev at35 : Typed.TF T9 O0
+      at35 = λ Ψ. Typed.both s8 (at34 Ψ)
+      abbrev at36 : Typed.TF T8 O0
+      at36 = λ Ψ. Typed.both s7 (at35 Ψ)
+      abbrev at37 : Typed.TF T7 O0
+      at37 = λ Ψ. Typed.both s6 (at36 Ψ)
+      abbrev at38 : Typed.TF T6 O0
+      at38 = λ Ψ. Typed.pass T6 T7 s5 (at37 Ψ)
+      abbrev at39 : Typed.TF T5 O0
+      at39 = λ Ψ. Typed.pass T5 T6 s4 (at38 Ψ)
+      abbrev at40 : Typed.TF T4 O0
+      at40 = λ Ψ. Typed.both s3 (at39 Ψ)
+      abbrev at41 : Typed.TF T3 O0
+      at41 = λ Ψ. Typed.pass T3 T4 s2 (at40 Ψ)
+      abbrev at42 : Typed.TF T2 O0
+      at42 = λ Ψ. Typed.give s1 (at41 Ψ)
+      abbrev at43 : Typed.TF T0 O0
+      at43 = λ Ψ. Typed.give s0 (at42 Ψ)
       abbrev pub Φ : Typed.TF T0 O0
-      Φ = at36
+      Φ = at43
       module _ { M : Type 1 } (𝓤 : URA.URA M) (H : Wp.Heap 𝓤) (A : Atoms.Atoms 𝓤) (W : Kit.Given 𝓤 H A) (𝓣 : Wp.Tables 𝓤 H) where
         abbrev Knowns : Type 1
         Knowns = Plain.Known 𝓤 H A W 𝓣 0 ps·0 r·0 (claims· .0) (claims· .1) "hnsr_circuit::queue::queue" × Plain.Known 𝓤 H A W 𝓣 0 ps·1 r·1 (claims·
             .2) (claims· .3) "hnsr_circuit::queue::queued_action" × Plain.Known 𝓤 H A W 𝓣 0 ps·2 r·2 (claims· .4) (claims· .5)
             "hnsr_circuit::queue::queued_go" × Plain.Known 𝓤 H A W 𝓣 0 ps·3 r·3 (claims· .6) (claims· .7) "hnsr_circuit::queue::queued_place" ×
-            Plain.Known 𝓤 H A W 𝓣 1 ps·4 r·4 (claims· .8) (claims· .9) "hnsr_circuit::tables::inflight::set_action" × Plain.Known 𝓤 H A W 𝓣 2 ps·5 r·5
-            (claims· .10) (claims· .11) "hnsr_circuit::queue::put_queued" × Plain.Known 𝓤 H A W 𝓣 0 ps·6 r·6 (claims· .12) (claims· .13)
-            "hnsr_circuit::queue::position_after" × Plain.Known 𝓤 H A W 𝓣 0 ps·7 r·7 (claims· .14) (claims· .15) "hnsr_circuit::queue::relayed"
+            Plain.Known 𝓤 H A W 𝓣 0 ps·4 r·4 (claims· .8) (claims· .9) "hnsr_circuit::places::raised" × Plain.Known 𝓤 H A W 𝓣 0 ps·5 r·5 (claims· .10)
+            (claims· .11) "hnsr_circuit::places::with_actions" × Plain.Known 𝓤 H A W 𝓣 1 ps·6 r·6 (claims· .12) (claims· .13)
+            "hnsr_circuit::tables::inflight::set_action" × Plain.Known 𝓤 H A W 𝓣 2 ps·7 r·7 (claims· .14) (claims· .15)
+            "hnsr_circuit::queue::put_queued" × Plain.Known 𝓤 H A W 𝓣 0 ps·8 r·8 (claims· .16) (claims· .17) "hnsr_circuit::queue::position_after" ×
+            Plain.Known 𝓤 H A W 𝓣 0 ps·9 r·9 (claims· .18) (claims· .19) "hnsr_circuit::queue::relayed"
       module _ (κs : Lifetimes.Lfts 3) (qs : Lifetimes.Shares 3) where
         abbrev life0 : Row.Life
         life0 = Row.lease (κs .0) (qs .0)
@@ -650,80 +777,41 @@ module _ (claims· : Claims) where
         life1 = Row.lease (κs .1 .0) (qs .1 .0)
         abbrev life2 : Row.Life
         life2 = Row.lease (κs .1 .1 .0) (qs .1 .1 .0)
-        abbrev g9 : List.List Row.Entry
-        g9 = (0, Rows.any-gone Laws'''''.mir,) ∷ (1, Relend.mslice-owed InflightAction.row ref2 0 3 life0,) ∷ (2, Mut.mslice (Referent.rtF
-            (Referent.fInt Syntax.w32)) ref3 1,) ∷ (3, Rows.any-gone Laws.mir,) ∷ (4, Rows.whole (Declared'.row OpaqueRelayRuntime.the-type)) ∷ (5,
-            Rows.whole (Declared'.row Outgoing.the-type),) ∷ (6, Rows.any-gone Laws''.mir,) ∷ (7, Rows.sslice (Referent.rtF (Referent.fInt Syntax.w8))
-            ref4 2,) ∷ (8, Rows.whole (Declared'.row Queued.the-type)) ∷ (9, InflightAction.held,) ∷ (10, Rows.sc-here Row.sBool) ∷ (11, Rows.sc-here
-            (Row.sInt Syntax.w64),) ∷ (12, Rows.any-gone (Syntax.tyInt Syntax.w64)) ∷ (13, Rows.any-gone Syntax.tyUnit,) ∷ (14, Relend.msptr
-            InflightAction.row ref0 3,) ∷ (15, Rows.any-gone (Syntax.tyStruct (38 ∷ 91 ∷ 93 ∷ List.[]) (Syntax.tcons ref0 (Syntax.tcons (Syntax.tyInt
-            Syntax.w64) Syntax.tnil))),) ∷ List.[]
-        abbrev g10 : List.List Row.Entry
-        g10 = (0, Rows.any-gone Laws'''''.mir,) ∷ (1, Relend.mslice-owed InflightAction.row ref2 0 3 life0,) ∷ (2, Mut.mslice (Referent.rtF
-            (Referent.fInt Syntax.w32)) ref3 1,) ∷ (3, Rows.any-gone Laws.mir,) ∷ (4, Rows.whole (Declared'.row OpaqueRelayRuntime.the-type)) ∷ (5,
-            Rows.whole (Declared'.row Outgoing.the-type),) ∷ (6, Rows.any-gone Laws''.mir,) ∷ (7, Rows.sslice (Referent.rtF (Referent.fInt Syntax.w8))
-            ref4 2,) ∷ (8, Rows.whole (Declared'.row Queued.the-type)) ∷ (9, InflightAction.held,) ∷ (10, Rows.sc-here Row.sBool) ∷ (11, Rows.sc-here
-            (Row.sInt Syntax.w64),) ∷ (12, Rows.any-gone (Syntax.tyInt Syntax.w64)) ∷ (13, Rows.any-gone Syntax.tyUnit,) ∷ (14, Rows.any-gone ref0,) ∷
-            (15, Mut.mslice InflightAction.row ref0 3,) ∷ List.[]
-        abbrev g11 : List.List Row.Entry
-        g11 = (0, Rows.any-gone Laws'''''.mir,) ∷ (1, Relend.mslice-owed InflightAction.row ref2 0 3 life0,) ∷ (2, Mut.mslice (Referent.rtF
-            (Referent.fInt Syntax.w32)) ref3 1,) ∷ (3, Rows.any-gone Laws.mir,) ∷ (4, Rows.whole (Declared'.row OpaqueRelayRuntime.the-type)) ∷ (5,
-            Rows.whole (Declared'.row Outgoing.the-type),) ∷ (6, Rows.any-gone Laws''.mir,) ∷ (7, Rows.sslice (Referent.rtF (Referent.fInt Syntax.w8))
-            ref4 2,) ∷ (8, Rows.whole (Declared'.row Queued.the-type)) ∷ (9, InflightAction.held,) ∷ (10, Rows.sc-here Row.sBool) ∷ (11, Rows.sc-here
-            (Row.sInt Syntax.w64),) ∷ (12, Rows.any-gone (Syntax.tyInt Syntax.w64)) ∷ (13, Rows.sc-here Row.sUnit,) ∷ (14, Rows.any-gone ref0,) ∷ (15,
-            Mut.msleft InflightAction.row ref0,) ∷ List.[]
-        abbrev g12 : List.List Row.Entry
-        g12 = (0, Rows.any-gone Laws'''''.mir,) ∷ (1, Relend.mslice-owed InflightAction.row ref2 0 3 life0,) ∷ (2, Mut.mslice (Referent.rtF
-            (Referent.fInt Syntax.w32)) ref3 1,) ∷ (3, Rows.any-gone Laws.mir,) ∷ (4, Rows.whole (Declared'.row OpaqueRelayRuntime.the-type)) ∷ (5,
-            Rows.whole (Declared'.row Outgoing.the-type),) ∷ (6, Rows.any-gone Laws''.mir,) ∷ (7, Rows.sslice (Referent.rtF (Referent.fInt Syntax.w8))
-            ref4 2,) ∷ (8, Rows.whole (Declared'.row Queued.the-type)) ∷ (9, Rows.any-gone InflightAction.ty,) ∷ (10, Rows.sc-here Row.sBool) ∷ (11,
-            Rows.sc-here (Row.sInt Syntax.w64),) ∷ (12, Rows.any-gone (Syntax.tyInt Syntax.w64)) ∷ (13, Rows.sc-here Row.sUnit,) ∷ (14, Rows.any-gone
-            ref0,) ∷ (15, Mut.msleft InflightAction.row ref0,) ∷ List.[]
         abbrev g13 : List.List Row.Entry
-        g13 = (0, Rows.any-gone Laws'''''.mir,) ∷ (1, Relend.mslice-owed InflightAction.row ref2 0 3 life0,) ∷ (2, Mut.mslice (Referent.rtF
+        g13 = (0, Rows.any-gone Laws''''''.mir,) ∷ (1, Relend.mslice-owed InflightAction.row ref2 0 3 life0,) ∷ (2, Mut.mslice (Referent.rtF
             (Referent.fInt Syntax.w32)) ref3 1,) ∷ (3, Rows.any-gone Laws.mir,) ∷ (4, Rows.whole (Declared'.row OpaqueRelayRuntime.the-type)) ∷ (5,
-            Rows.whole (Declared'.row Outgoing.the-type),) ∷ (6, Rows.any-gone Laws''.mir,) ∷ (7, Rows.sslice (Referent.rtF (Referent.fInt Syntax.w8))
-            ref4 2,) ∷ (8, Rows.whole (Declared'.row Queued.the-type)) ∷ (9, Rows.any-gone InflightAction.ty,) ∷ (10, Rows.sc-here Row.sBool) ∷ (11,
-            Rows.sc-here (Row.sInt Syntax.w64),) ∷ (12, Rows.any-gone (Syntax.tyInt Syntax.w64)) ∷ (13, Rows.any-gone Syntax.tyUnit,) ∷ (14,
-            Rows.any-gone ref0,) ∷ (15, Mut.msleft InflightAction.row ref0,) ∷ List.[]
-        abbrev g15 : List.List Row.Entry
-        g15 = (0, Rows.any-gone Laws'''''.mir,) ∷ (1, Mut.mslice InflightAction.row ref2 0,) ∷ (2, Relend.mslice-owed (Referent.rtF (Referent.fInt
-            Syntax.w32)) ref3 1 4 life1,) ∷ (3, Rows.any-gone Laws.mir,) ∷ (4, Rows.whole (Declared'.row OpaqueRelayRuntime.the-type)) ∷ (5,
-            Rows.whole (Declared'.row Outgoing.the-type),) ∷ (6, Rows.any-gone Laws''.mir,) ∷ (7, Rows.sslice (Referent.rtF (Referent.fInt Syntax.w8))
-            ref4 2,) ∷ (8, Rows.whole (Declared'.row Queued.the-type)) ∷ (9, Rows.any-gone InflightAction.ty,) ∷ (10, Rows.sc-here Row.sBool) ∷ (11,
-            Rows.sc-here (Row.sInt Syntax.w64),) ∷ (12, Rows.any-gone (Syntax.tyInt Syntax.w64)) ∷ (13, Rows.any-gone Syntax.tyUnit,) ∷ (14,
-            Rows.any-gone ref0,) ∷ (15, Rows.any-gone (Syntax.tyStruct (38 ∷ 91 ∷ 93 ∷ List.[]) (Syntax.tcons ref0 (Syntax.tcons (Syntax.tyInt
-            Syntax.w64) Syntax.tnil))),) ∷ List.[]
-        abbrev g18 : List.List Row.Entry
-        g18 = (0, Rows.any-gone Laws'''''.mir,) ∷ (1, Mut.mslice InflightAction.row ref2 0,) ∷ (2, Relend.mslice-owed (Referent.rtF (Referent.fInt
-            Syntax.w32)) ref3 1 4 life1,) ∷ (3, Rows.any-gone Laws.mir,) ∷ (4, Rows.whole (Declared'.row OpaqueRelayRuntime.the-type)) ∷ (5,
-            Rows.whole (Declared'.row Outgoing.the-type),) ∷ (6, Rows.any-gone Laws''.mir,) ∷ (7, Rows.sslice (Referent.rtF (Referent.fInt Syntax.w8))
-            ref4 2,) ∷ (8, Rows.whole (Declared'.row Queued.the-type)) ∷ (9, Rows.any-gone InflightAction.ty,) ∷ (10, Rows.sc-here Row.sBool) ∷ (11,
-            Rows.sc-here (Row.sInt Syntax.w64),) ∷ (12, Rows.any-gone (Syntax.tyInt Syntax.w64)) ∷ (13, Rows.sc-here Row.sUnit,) ∷ (14, Rows.any-gone
-            ref0,) ∷ (15, Rows.any-gone (Syntax.tyStruct (38 ∷ 91 ∷ 93 ∷ List.[]) (Syntax.tcons ref0 (Syntax.tcons (Syntax.tyInt Syntax.w64)
-            Syntax.tnil))),) ∷ List.[]
+            Rows.any-gone Laws'.mir,) ∷ (6, Rows.whole (Declared'.row Outgoing.the-type)) ∷ (7, Rows.any-gone Laws'''.mir,) ∷ (8, Rows.sslice
+            (Referent.rtF (Referent.fInt Syntax.w8)) ref4 2,) ∷ (9, Rows.sc-here (Row.sInt Syntax.w64)) ∷ (10, Rows.whole (Declared'.row
+            Queued.the-type),) ∷ (11, InflightAction.held) ∷ (12, Rows.sc-here Row.sBool,) ∷ (13, Rows.sc-here (Row.sInt Syntax.w64)) ∷ (14,
+            Rows.sc-here (Row.sInt Syntax.w64),) ∷ (15, Rows.whole (Declared'.row Places.the-type)) ∷ List.[]
+        abbrev g17 : List.List Row.Entry
+        g17 = (0, Rows.any-gone Laws''''''.mir,) ∷ (1, Relend.mslice-owed InflightAction.row ref2 0 3 life0,) ∷ (2, Mut.mslice (Referent.rtF
+            (Referent.fInt Syntax.w32)) ref3 1,) ∷ (3, Rows.any-gone Laws.mir,) ∷ (4, Rows.whole (Declared'.row OpaqueRelayRuntime.the-type)) ∷ (5,
+            Rows.any-gone Laws'.mir,) ∷ (6, Rows.whole (Declared'.row Outgoing.the-type)) ∷ (7, Rows.any-gone Laws'''.mir,) ∷ (8, Rows.sslice
+            (Referent.rtF (Referent.fInt Syntax.w8)) ref4 2,) ∷ (9, Rows.sc-here (Row.sInt Syntax.w64)) ∷ (10, Rows.whole (Declared'.row
+            Queued.the-type),) ∷ (11, Rows.any-gone InflightAction.ty) ∷ (12, Rows.sc-here Row.sBool,) ∷ (13, Rows.sc-here (Row.sInt Syntax.w64)) ∷
+            (14, Rows.sc-here (Row.sInt Syntax.w64),) ∷ (15, Rows.whole (Declared'.row Places.the-type)) ∷ List.[]
         abbrev g20 : List.List Row.Entry
-        g20 = (0, Rows.any-gone Laws'''''.mir,) ∷ (1, Mut.mslice InflightAction.row ref2 0,) ∷ (2, Relend.mslice-owed (Referent.rtF (Referent.fInt
-            Syntax.w32)) ref3 1 4 life1,) ∷ (3, Rows.any-gone Laws.mir,) ∷ (4, Rows.any-gone Laws''''.mir,) ∷ (5, Rows.whole (Declared'.row
-            Outgoing.the-type)) ∷ (6, Rows.any-gone Laws''.mir,) ∷ (7, Rows.sslice (Referent.rtF (Referent.fInt Syntax.w8)) ref4 2,) ∷ (8, Rows.whole
-            (Declared'.row Queued.the-type)) ∷ (9, Rows.any-gone InflightAction.ty,) ∷ (10, Rows.sc-here Row.sBool) ∷ (11, Rows.sc-here (Row.sInt
-            Syntax.w64),) ∷ (12, Rows.any-gone (Syntax.tyInt Syntax.w64)) ∷ (13, Rows.sc-here Row.sUnit,) ∷ (14, Rows.any-gone ref0,) ∷ (15,
-            Rows.any-gone (Syntax.tyStruct (38 ∷ 91 ∷ 93 ∷ List.[]) (Syntax.tcons ref0 (Syntax.tcons (Syntax.tyInt Syntax.w64) Syntax.tnil))),) ∷
-            List.[]
-        abbrev g21 : List.List Row.Entry
-        g21 = (0, Rows.any-gone Laws'''''.mir,) ∷ (1, Mut.mslice InflightAction.row ref2 0,) ∷ (2, Relend.mslice-owed (Referent.rtF (Referent.fInt
-            Syntax.w32)) ref3 1 4 life1,) ∷ (3, Rows.any-gone Laws.mir,) ∷ (4, Rows.any-gone Laws''''.mir,) ∷ (5, Rows.any-gone Laws'''.mir,) ∷ (6,
-            Rows.any-gone Laws''.mir,) ∷ (7, Rows.sslice (Referent.rtF (Referent.fInt Syntax.w8)) ref4 2,) ∷ (8, Rows.whole (Declared'.row
-            Queued.the-type)) ∷ (9, Rows.any-gone InflightAction.ty,) ∷ (10, Rows.sc-here Row.sBool) ∷ (11, Rows.sc-here (Row.sInt Syntax.w64),) ∷
-            (12, Rows.any-gone (Syntax.tyInt Syntax.w64)) ∷ (13, Rows.sc-here Row.sUnit,) ∷ (14, Rows.any-gone ref0,) ∷ (15, Rows.any-gone
-            (Syntax.tyStruct (38 ∷ 91 ∷ 93 ∷ List.[]) (Syntax.tcons ref0 (Syntax.tcons (Syntax.tyInt Syntax.w64) Syntax.tnil))),) ∷ List.[]
-        abbrev g22 : List.List Row.Entry
-        g22 = (0, Rows.any-gone Laws'''''.mir,) ∷ (1, Mut.mslice InflightAction.row ref2 0,) ∷ (2, Relend.mslice-owed (Referent.rtF (Referent.fInt
-            Syntax.w32)) ref3 1 4 life1,) ∷ (3, Rows.any-gone Laws.mir,) ∷ (4, Rows.any-gone Laws''''.mir,) ∷ (5, Rows.any-gone Laws'''.mir,) ∷ (6,
-            Rows.any-gone Laws''.mir,) ∷ (7, Rows.sslice (Referent.rtF (Referent.fInt Syntax.w8)) ref4 2,) ∷ (8, Rows.whole (Declared'.row
-            Queued.the-type)) ∷ (9, Rows.any-gone InflightAction.ty,) ∷ (10, Rows.sc-here Row.sBool) ∷ (11, Rows.sc-here (Row.sInt Syntax.w64),) ∷
-            (12, Rows.any-gone (Syntax.tyInt Syntax.w64)) ∷ (13, Rows.any-gone Syntax.tyUnit,) ∷ (14, Rows.any-gone ref0,) ∷ (15, Rows.any-gone
-            (Syntax.tyStruct (38 ∷ 91 ∷ 93 ∷ List.[]) (Syntax.tcons ref0 (Syntax.tcons (Syntax.tyInt Syntax.w64) Syntax.tnil))),) ∷ List.[]
+        g20 = (0, Rows.any-gone Laws''''''.mir,) ∷ (1, Mut.mslice InflightAction.row ref2 0,) ∷ (2, Relend.mslice-owed (Referent.rtF (Referent.fInt
+            Syntax.w32)) ref3 1 4 life1,) ∷ (3, Rows.any-gone Laws.mir,) ∷ (4, Rows.whole (Declared'.row OpaqueRelayRuntime.the-type)) ∷ (5,
+            Rows.any-gone Laws'.mir,) ∷ (6, Rows.whole (Declared'.row Outgoing.the-type)) ∷ (7, Rows.any-gone Laws'''.mir,) ∷ (8, Rows.sslice
+            (Referent.rtF (Referent.fInt Syntax.w8)) ref4 2,) ∷ (9, Rows.sc-here (Row.sInt Syntax.w64)) ∷ (10, Rows.whole (Declared'.row
+            Queued.the-type),) ∷ (11, Rows.any-gone InflightAction.ty) ∷ (12, Rows.sc-here Row.sBool,) ∷ (13, Rows.sc-here (Row.sInt Syntax.w64)) ∷
+            (14, Rows.sc-here (Row.sInt Syntax.w64),) ∷ (15, Rows.whole (Declared'.row Places.the-type)) ∷ List.[]
+        abbrev g24 : List.List Row.Entry
+        g24 = (0, Rows.any-gone Laws''''''.mir,) ∷ (1, Mut.mslice InflightAction.row ref2 0,) ∷ (2, Relend.mslice-owed (Referent.rtF (Referent.fInt
+            Syntax.w32)) ref3 1 4 life1,) ∷ (3, Rows.any-gone Laws.mir,) ∷ (4, Rows.any-gone Laws'''''.mir,) ∷ (5, Rows.any-gone Laws'.mir,) ∷ (6,
+            Rows.whole (Declared'.row Outgoing.the-type)) ∷ (7, Rows.any-gone Laws'''.mir,) ∷ (8, Rows.sslice (Referent.rtF (Referent.fInt Syntax.w8))
+            ref4 2,) ∷ (9, Rows.sc-here (Row.sInt Syntax.w64)) ∷ (10, Rows.whole (Declared'.row Queued.the-type),) ∷ (11, Rows.any-gone
+            InflightAction.ty) ∷ (12, Rows.sc-here Row.sBool,) ∷ (13, Rows.sc-here (Row.sInt Syntax.w64)) ∷ (14, Rows.sc-here (Row.sInt Syntax.w64),)
+            ∷ (15, Rows.whole (Declared'.row Places.the-type)) ∷ List.[]
+        abbrev g25 : List.List Row.Entry
+        g25 = (0, Rows.any-gone Laws''''''.mir,) ∷ (1, Mut.mslice InflightAction.row ref2 0,) ∷ (2, Relend.mslice-owed (Referent.rtF (Referent.fInt
+            Syntax.w32)) ref3 1 4 life1,) ∷ (3, Rows.any-gone Laws.mir,) ∷ (4, Rows.any-gone Laws'''''.mir,) ∷ (5, Rows.any-gone Laws'.mir,) ∷ (6,
+            Rows.any-gone Laws''''.mir,) ∷ (7, Rows.any-gone Laws'''.mir,) ∷ (8, Rows.sslice (Referent.rtF (Referent.fInt Syntax.w8)) ref4 2,) ∷ (9,
+            Rows.sc-here (Row.sInt Syntax.w64)) ∷ (10, Rows.whole (Declared'.row Queued.the-type),) ∷ (11, Rows.any-gone InflightAction.ty) ∷ (12,
+            Rows.sc-here Row.sBool,) ∷ (13, Rows.sc-here (Row.sInt Syntax.w64)) ∷ (14, Rows.sc-here (Row.sInt Syntax.w64),) ∷ (15, Rows.whole
+            (Declared'.row Places.the-type)) ∷ List.[]
         abbrev G0 : Row.Cx
         G0 = record { locals = List._++_ t0 t1; slots = life0 ∷ life1 ∷ life2 ∷ Row.off ∷ Row.off ∷ List.[]; }
         abbrev G1 : Row.Cx
@@ -745,275 +833,331 @@ module _ (claims· : Claims) where
         abbrev G9 : Row.Cx
         G9 = record { locals = List._++_ t8 t1; slots = life0 ∷ life1 ∷ life2 ∷ Row.off ∷ Row.off ∷ List.[]; }
         abbrev G10 : Row.Cx
-        G10 = record { locals = List._++_ t8 t1; slots = life0 ∷ life1 ∷ life2 ∷ Row.alive ∷ Row.off ∷ List.[]; }
+        G10 = record { locals = List._++_ t9 t1; slots = life0 ∷ life1 ∷ life2 ∷ Row.off ∷ Row.off ∷ List.[]; }
         abbrev G11 : Row.Cx
-        G11 = record { locals = List._++_ g9 t1; slots = Row.off ∷ life1 ∷ life2 ∷ Row.alive ∷ Row.off ∷ List.[]; }
+        G11 = record { locals = List._++_ t10 t1; slots = life0 ∷ life1 ∷ life2 ∷ Row.off ∷ Row.off ∷ List.[]; }
         abbrev G12 : Row.Cx
-        G12 = record { locals = List._++_ g10 t1; slots = Row.off ∷ life1 ∷ life2 ∷ Row.alive ∷ Row.off ∷ List.[]; }
+        G12 = record { locals = List._++_ t11 t1; slots = life0 ∷ life1 ∷ life2 ∷ Row.off ∷ Row.off ∷ List.[]; }
         abbrev G13 : Row.Cx
-        G13 = record { locals = List._++_ g11 t1; slots = Row.off ∷ life1 ∷ life2 ∷ Row.alive ∷ Row.off ∷ List.[]; }
+        G13 = record { locals = List._++_ t12 t1; slots = life0 ∷ life1 ∷ life2 ∷ Row.off ∷ Row.off ∷ List.[]; }
         abbrev G14 : Row.Cx
-        G14 = record { locals = List._++_ g12 t1; slots = Row.off ∷ life1 ∷ life2 ∷ Row.alive ∷ Row.off ∷ List.[]; }
+        G14 = record { locals = List._++_ t12 t1; slots = life0 ∷ life1 ∷ life2 ∷ Row.alive ∷ Row.off ∷ List.[]; }
         abbrev G15 : Row.Cx
-        G15 = record { locals = List._++_ g13 t1; slots = Row.off ∷ life1 ∷ life2 ∷ Row.alive ∷ Row.off ∷ List.[]; }
+        G15 = record { locals = List._++_ g13 t14; slots = Row.off ∷ life1 ∷ life2 ∷ Row.alive ∷ Row.off ∷ List.[]; }
         abbrev G16 : Row.Cx
-        G16 = record { locals = List._++_ g13 t1; slots = Row.off ∷ life1 ∷ life2 ∷ Row.dead ∷ Row.off ∷ List.[]; }
+        G16 = record { locals = List._++_ g13 t15; slots = Row.off ∷ life1 ∷ life2 ∷ Row.alive ∷ Row.off ∷ List.[]; }
         abbrev G17 : Row.Cx
-        G17 = record { locals = List._++_ t14 t1; slots = life0 ∷ life1 ∷ life2 ∷ Row.dead ∷ Row.off ∷ List.[]; }
+        G17 = record { locals = List._++_ g13 t16; slots = Row.off ∷ life1 ∷ life2 ∷ Row.alive ∷ Row.off ∷ List.[]; }
         abbrev G18 : Row.Cx
-        G18 = record { locals = List._++_ t14 t1; slots = life0 ∷ life1 ∷ life2 ∷ Row.off ∷ Row.off ∷ List.[]; }
+        G18 = record { locals = List._++_ g17 t16; slots = Row.off ∷ life1 ∷ life2 ∷ Row.alive ∷ Row.off ∷ List.[]; }
         abbrev G19 : Row.Cx
-        G19 = record { locals = List._++_ t14 t1; slots = life0 ∷ life1 ∷ life2 ∷ Row.off ∷ Row.alive ∷ List.[]; }
+        G19 = record { locals = List._++_ g17 t18; slots = Row.off ∷ life1 ∷ life2 ∷ Row.alive ∷ Row.off ∷ List.[]; }
         abbrev G20 : Row.Cx
-        G20 = record { locals = List._++_ g15 t16; slots = life0 ∷ Row.off ∷ life2 ∷ Row.off ∷ Row.alive ∷ List.[]; }
+        G20 = record { locals = List._++_ g17 t18; slots = Row.off ∷ life1 ∷ life2 ∷ Row.dead ∷ Row.off ∷ List.[]; }
         abbrev G21 : Row.Cx
-        G21 = record { locals = List._++_ g15 t17; slots = life0 ∷ Row.off ∷ life2 ∷ Row.off ∷ Row.alive ∷ List.[]; }
+        G21 = record { locals = List._++_ t19 t1; slots = life0 ∷ life1 ∷ life2 ∷ Row.dead ∷ Row.off ∷ List.[]; }
         abbrev G22 : Row.Cx
-        G22 = record { locals = List._++_ g18 t19; slots = life0 ∷ Row.off ∷ life2 ∷ Row.off ∷ Row.alive ∷ List.[]; }
+        G22 = record { locals = List._++_ t19 t1; slots = life0 ∷ life1 ∷ life2 ∷ Row.off ∷ Row.off ∷ List.[]; }
         abbrev G23 : Row.Cx
-        G23 = record { locals = List._++_ g20 t19; slots = life0 ∷ Row.off ∷ life2 ∷ Row.off ∷ Row.alive ∷ List.[]; }
+        G23 = record { locals = List._++_ t19 t1; slots = life0 ∷ life1 ∷ life2 ∷ Row.off ∷ Row.alive ∷ List.[]; }
         abbrev G24 : Row.Cx
-        G24 = record { locals = List._++_ g21 t19; slots = life0 ∷ Row.off ∷ life2 ∷ Row.off ∷ Row.alive ∷ List.[]; }
+        G24 = record { locals = List._++_ g20 t21; slots = life0 ∷ Row.off ∷ life2 ∷ Row.off ∷ Row.alive ∷ List.[]; }
         abbrev G25 : Row.Cx
-        G25 = record { locals = List._++_ g22 t19; slots = life0 ∷ Row.off ∷ life2 ∷ Row.off ∷ Row.alive ∷ List.[]; }
+        G25 = record { locals = List._++_ g20 t22; slots = life0 ∷ Row.off ∷ life2 ∷ Row.off ∷ Row.alive ∷ List.[]; }
         abbrev G26 : Row.Cx
-        G26 = record { locals = List._++_ g22 t19; slots = life0 ∷ Row.off ∷ life2 ∷ Row.off ∷ Row.dead ∷ List.[]; }
+        G26 = record { locals = List._++_ g20 t23; slots = life0 ∷ Row.off ∷ life2 ∷ Row.off ∷ Row.alive ∷ List.[]; }
         abbrev G27 : Row.Cx
-        G27 = record { locals = List._++_ t23 t1; slots = life0 ∷ life1 ∷ life2 ∷ Row.off ∷ Row.dead ∷ List.[]; }
+        G27 = record { locals = List._++_ g24 t23; slots = life0 ∷ Row.off ∷ life2 ∷ Row.off ∷ Row.alive ∷ List.[]; }
         abbrev G28 : Row.Cx
-        G28 = record { locals = List._++_ t23 t1; slots = life0 ∷ life1 ∷ life2 ∷ Row.off ∷ Row.dead ∷ List.[]; }
+        G28 = record { locals = List._++_ g25 t23; slots = life0 ∷ Row.off ∷ life2 ∷ Row.off ∷ Row.alive ∷ List.[]; }
         abbrev G29 : Row.Cx
-        G29 = record { locals = List._++_ t23 t1; slots = life0 ∷ life1 ∷ life2 ∷ Row.off ∷ Row.off ∷ List.[]; }
+        G29 = record { locals = List._++_ g25 t26; slots = life0 ∷ Row.off ∷ life2 ∷ Row.off ∷ Row.alive ∷ List.[]; }
         abbrev G30 : Row.Cx
-        G30 = record { locals = List._++_ t23 t24; slots = life0 ∷ life1 ∷ life2 ∷ Row.off ∷ Row.off ∷ List.[]; }
+        G30 = record { locals = List._++_ g25 t26; slots = life0 ∷ Row.off ∷ life2 ∷ Row.off ∷ Row.dead ∷ List.[]; }
         abbrev G31 : Row.Cx
-        G31 = record { locals = List._++_ t25 t24; slots = life0 ∷ life1 ∷ life2 ∷ Row.off ∷ Row.off ∷ List.[]; }
+        G31 = record { locals = List._++_ t27 t1; slots = life0 ∷ life1 ∷ life2 ∷ Row.off ∷ Row.dead ∷ List.[]; }
         abbrev G32 : Row.Cx
-        G32 = record { locals = List._++_ t25 t1; slots = life0 ∷ life1 ∷ life2 ∷ Row.off ∷ Row.off ∷ List.[]; }
+        G32 = record { locals = List._++_ t27 t1; slots = life0 ∷ life1 ∷ life2 ∷ Row.off ∷ Row.dead ∷ List.[]; }
         abbrev G33 : Row.Cx
-        G33 = record { locals = List._++_ t26 t1; slots = life0 ∷ life1 ∷ life2 ∷ Row.off ∷ Row.off ∷ List.[]; }
+        G33 = record { locals = List._++_ t27 t1; slots = life0 ∷ life1 ∷ life2 ∷ Row.off ∷ Row.off ∷ List.[]; }
         abbrev G34 : Row.Cx
-        G34 = record { locals = List._++_ t27 t1; slots = life0 ∷ life1 ∷ life2 ∷ Row.off ∷ Row.off ∷ List.[]; }
+        G34 = record { locals = List._++_ t27 t28; slots = life0 ∷ life1 ∷ life2 ∷ Row.off ∷ Row.off ∷ List.[]; }
         abbrev G35 : Row.Cx
-        G35 = record { locals = List._++_ t28 t1; slots = life0 ∷ life1 ∷ life2 ∷ Row.off ∷ Row.off ∷ List.[]; }
+        G35 = record { locals = List._++_ t27 t29; slots = life0 ∷ life1 ∷ life2 ∷ Row.off ∷ Row.off ∷ List.[]; }
         abbrev G36 : Row.Cx
-        G36 = record { locals = List._++_ t29 t1; slots = life0 ∷ life1 ∷ life2 ∷ Row.off ∷ Row.off ∷ List.[]; }
+        G36 = record { locals = List._++_ t27 t30; slots = life0 ∷ life1 ∷ life2 ∷ Row.off ∷ Row.off ∷ List.[]; }
         abbrev G37 : Row.Cx
-        G37 = record { locals = List._++_ t2 t1; slots = life0 ∷ life1 ∷ life2 ∷ Row.off ∷ Row.off ∷ List.[]; }
+        G37 = record { locals = List._++_ t31 t30; slots = life0 ∷ life1 ∷ life2 ∷ Row.off ∷ Row.off ∷ List.[]; }
+        abbrev G38 : Row.Cx
+        G38 = record { locals = List._++_ t32 t30; slots = life0 ∷ life1 ∷ life2 ∷ Row.off ∷ Row.off ∷ List.[]; }
+        abbrev G39 : Row.Cx
+        G39 = record { locals = List._++_ t33 t30; slots = life0 ∷ life1 ∷ life2 ∷ Row.off ∷ Row.off ∷ List.[]; }
+        abbrev G40 : Row.Cx
+        G40 = record { locals = List._++_ t34 t30; slots = life0 ∷ life1 ∷ life2 ∷ Row.off ∷ Row.off ∷ List.[]; }
+        abbrev G41 : Row.Cx
+        G41 = record { locals = List._++_ t35 t30; slots = life0 ∷ life1 ∷ life2 ∷ Row.off ∷ Row.off ∷ List.[]; }
+        abbrev G42 : Row.Cx
+        G42 = record { locals = List._++_ t36 t30; slots = life0 ∷ life1 ∷ life2 ∷ Row.off ∷ Row.off ∷ List.[]; }
+        abbrev G43 : Row.Cx
+        G43 = record { locals = List._++_ t2 t30; slots = life0 ∷ life1 ∷ life2 ∷ Row.off ∷ Row.off ∷ List.[]; }
+        abbrev G44 : Row.Cx
+        G44 = record { locals = List._++_ t2 t1; slots = life0 ∷ life1 ∷ life2 ∷ Row.off ∷ Row.off ∷ List.[]; }
         abbrev Δ0 : Typed.Outs
         Δ0 = record { next = Option.none; exits = List.[]; returns = Option.some G1 }
         module _ { M : Type 1 } (𝓤 : URA.URA M) (H : Wp.Heap 𝓤) (A : Atoms.Atoms 𝓤) (W : Kit.Given 𝓤 H A) (𝓣 : Wp.Tables 𝓤 H) (known : Knowns 𝓤 H A W
             𝓣) (bs : List.List Nat.ℕ) (bd : Lifetimes.AllOutlive 3 (Kinds.osR r) κs) where
           abbrev E : Wp.Env 𝓤 H
           E = Frame.EnvOf 𝓤 H ((Kinds.tyR r) ∷ (Enter.tysP ps xs)) bs
-          d0 : Typed.Typed 𝓤 H A 𝓣 E G37 b13 Δ0 at0
+          d0 : Typed.Typed 𝓤 H A 𝓣 E G44 b16 Δ0 at0
           d0 = Typed.t-return 𝓤 H A W 𝓣 E Δ0 tt
-          d1 : Typed.Typed 𝓤 H A 𝓣 E G36 b13 Δ0 at1
-          d1 = Typed.g-pre 𝓤 H A W 𝓣 E G36 G37 b13 Δ0 (Typed.pass T36 T37 s35) at0 (Scalar.g-room 𝓤 H A W E G36 12 (Syntax.tyInt Syntax.w64)
+          d1 : Typed.Typed 𝓤 H A 𝓣 E G43 b16 Δ0 at1
+          d1 = Typed.g-pre 𝓤 H A W 𝓣 E G43 G44 b16 Δ0 (Typed.pass T43 T44 s42) at0 (Scalar.g-room 𝓤 H A W E G43 16 (Syntax.tyInt Syntax.w64)
               (Scalar.room-sc 𝓤 H A W (Row.sInt Syntax.w64))) d0
-          d2 : Typed.Typed 𝓤 H A 𝓣 E G35 b13 Δ0 at2
-          d2 = Typed.g-pre 𝓤 H A W 𝓣 E G35 G36 b13 Δ0 (Typed.pass T35 T36 s34) at1 (Scalar.g-room 𝓤 H A W E G35 11 (Syntax.tyInt Syntax.w64)
-              (Scalar.room-sc 𝓤 H A W (Row.sInt Syntax.w64))) d1
-          d3 : Typed.Typed 𝓤 H A 𝓣 E G34 b13 Δ0 at3
-          d3 = Typed.g-pre 𝓤 H A W 𝓣 E G34 G35 b13 Δ0 (Typed.pass T34 T35 s33) at2 (Scalar.g-room 𝓤 H A W E G34 10 Syntax.tyBool (Scalar.room-sc 𝓤 H A
-              W Row.sBool)) d2
-          d4 : Typed.Typed 𝓤 H A 𝓣 E G33 b13 Δ0 at4
-          d4 = Typed.g-pre 𝓤 H A W 𝓣 E G33 G34 b13 Δ0 (Typed.pass T33 T34 s32) at3 (Scalar.g-room 𝓤 H A W E G33 8 Laws'.mir (Local.room-whole 𝓤 H A W
-              (Declared'.row Queued.the-type) Laws'.mir Path.refl)) d3
-          d5 : Typed.Typed 𝓤 H A 𝓣 E G32 b14 Δ0 at5
-          d5 = Typed.s-seq 𝓤 H A W 𝓣 E G32 G33 b12 b13 Δ0 (Typed.both s31) at4 (Plain.t-call-plain 𝓤 H A W 𝓣 0 ps·7 r·7 (claims· .14) (claims· .15)
-              "hnsr_circuit::queue::relayed" (known .7) E (λ pos β. β) G32 (record { pos = 8; st = List.[]; d = 0; at = λ x. x }, (Num.vAt 12 λ x. x,
-              tt)) 0 List.[] (Call.sub-id 𝓤 H A W (G32 .slots)) ((Yields.yields-copy 𝓤 H A W (λ ρ. Unit) (Declared'.row Queued.the-type) Path.refl
-              (Copies.cStruct Queued.the-type Laws'.the-laws Laws'.the-copy .copy 𝓤 H A W) (Rows.whole (Declared'.row Queued.the-type)) (λ x. x) (λ x.
-              x) (λ ρ told. Local.mem-whole 𝓤 H A W (Declared'.row Queued.the-type) ρ) λ ρ told. Local.whole-mem 𝓤 H A W (Declared'.row
-              Queued.the-type) ρ, Path.refl,), ((Scalar.reads-sc 𝓤 H A W (Row.sInt Syntax.w64), Path.refl), tt),) (Reads.room-gone 𝓤 H A
-              Laws'''''.mir) tt Path.refl) d4
-          d6 : Typed.Typed 𝓤 H A 𝓣 E G31 b14 Δ0 at6
-          d6 = Typed.g-pre 𝓤 H A W 𝓣 E G31 G32 b14 Δ0 (Typed.pass T31 T32 s30) at5 (Scalar.g-room 𝓤 H A W E G31 18 (Syntax.tyInt Syntax.w64)
-              (Scalar.room-sc 𝓤 H A W (Row.sInt Syntax.w64))) d5
-          d7 : Typed.Typed 𝓤 H A 𝓣 E G30 b15 Δ0 at7
-          d7 = Typed.s-seq 𝓤 H A W 𝓣 E G30 G31 b11 b14 Δ0 (Typed.both s29) at6 (Plain.t-call-plain 𝓤 H A W 𝓣 0 ps·6 r·6 (claims· .12) (claims· .13)
-              "hnsr_circuit::queue::position_after" (known .6) E (λ pos β. β) G30 (Bool.bAt 10 λ x. x, (Num.vLit 0, (Num.vAt 18 λ x. x, tt))) 12
-              List.[] (Call.sub-id 𝓤 H A W (G30 .slots)) ((Scalar.reads-sc 𝓤 H A W Row.sBool, Path.refl), (tt, ((Scalar.reads-sc 𝓤 H A W (Row.sInt
-              Syntax.w64), Path.refl), tt)),) (Reads.room-gone 𝓤 H A (Syntax.tyInt Syntax.w64)) tt Path.refl) d6
-          d8 : Typed.Typed 𝓤 H A 𝓣 E G29 b16 Δ0 at8
-          d8 = Typed.s-seq 𝓤 H A W 𝓣 E G29 G30 b10 b15 Δ0 (Typed.pass T28 T30 s28) at7 (Scalar.t-use 𝓤 H A W E 𝓣 G29 (Scalar.oFld 7 ((Syntax.field 1)
-              ∷ List.[]) (Syntax.tyInt Syntax.w64) 8 Shared.lenV) 18 (Rows.sc-here (Row.sInt Syntax.w64)) (Syntax.tyInt Syntax.w64) (Row.valS
+          d2 : Typed.Typed 𝓤 H A 𝓣 E G42 b16 Δ0 at2
+          d2 = Typed.g-pre 𝓤 H A W 𝓣 E G42 G43 b16 Δ0 (Typed.pass T42 T43 s41) at1 (Scalar.g-room 𝓤 H A W E G42 15 Laws'.mir (Local.room-whole 𝓤 H A W
+              (Declared'.row Places.the-type) Laws'.mir Path.refl)) d1
+          d3 : Typed.Typed 𝓤 H A 𝓣 E G41 b16 Δ0 at3
+          d3 = Typed.g-pre 𝓤 H A W 𝓣 E G41 G42 b16 Δ0 (Typed.pass T41 T42 s40) at2 (Scalar.g-room 𝓤 H A W E G41 14 (Syntax.tyInt Syntax.w64)
+              (Scalar.room-sc 𝓤 H A W (Row.sInt Syntax.w64))) d2
+          d4 : Typed.Typed 𝓤 H A 𝓣 E G40 b16 Δ0 at4
+          d4 = Typed.g-pre 𝓤 H A W 𝓣 E G40 G41 b16 Δ0 (Typed.pass T40 T41 s39) at3 (Scalar.g-room 𝓤 H A W E G40 13 (Syntax.tyInt Syntax.w64)
+              (Scalar.room-sc 𝓤 H A W (Row.sInt Syntax.w64))) d3
+          d5 : Typed.Typed 𝓤 H A 𝓣 E G39 b16 Δ0 at5
+          d5 = Typed.g-pre 𝓤 H A W 𝓣 E G39 G40 b16 Δ0 (Typed.pass T39 T40 s38) at4 (Scalar.g-room 𝓤 H A W E G39 12 Syntax.tyBool (Scalar.room-sc 𝓤 H A
+              W Row.sBool)) d4
+          d6 : Typed.Typed 𝓤 H A 𝓣 E G38 b16 Δ0 at6
+          d6 = Typed.g-pre 𝓤 H A W 𝓣 E G38 G39 b16 Δ0 (Typed.pass T38 T39 s37) at5 (Scalar.g-room 𝓤 H A W E G38 10 Laws''.mir (Local.room-whole 𝓤 H A
+              W (Declared'.row Queued.the-type) Laws''.mir Path.refl)) d5
+          d7 : Typed.Typed 𝓤 H A 𝓣 E G37 b16 Δ0 at7
+          d7 = Typed.g-pre 𝓤 H A W 𝓣 E G37 G38 b16 Δ0 (Typed.pass T37 T38 s36) at6 (Scalar.g-room 𝓤 H A W E G37 9 (Syntax.tyInt Syntax.w64)
+              (Scalar.room-sc 𝓤 H A W (Row.sInt Syntax.w64))) d6
+          d8 : Typed.Typed 𝓤 H A 𝓣 E G36 b17 Δ0 at8
+          d8 = Typed.s-seq 𝓤 H A W 𝓣 E G36 G37 b15 b16 Δ0 (Typed.both s35) at7 (Plain.t-call-plain 𝓤 H A W 𝓣 0 ps·9 r·9 (claims· .18) (claims· .19)
+              "hnsr_circuit::queue::relayed" (known .9) E (λ pos β. β) G36 (record { pos = 10; st = List.[]; d = 0; at = λ x. x }, (Num.vAt 16 λ x. x,
+              (record { pos = 15; st = List.[]; d = 0; at = λ x. x }, tt)),) 0 List.[] (Call.sub-id 𝓤 H A W (G36 .slots)) ((Yields.yields-copy 𝓤 H A W
+              (λ ρ. Unit) (Declared'.row Queued.the-type) Path.refl (Copies.cStruct Queued.the-type Laws''.the-laws Laws''.the-copy .copy 𝓤 H A W)
+              (Rows.whole (Declared'.row Queued.the-type)) (λ x. x) (λ x. x) (λ ρ told. Local.mem-whole 𝓤 H A W (Declared'.row Queued.the-type) ρ) λ ρ
+              told. Local.whole-mem 𝓤 H A W (Declared'.row Queued.the-type) ρ, Path.refl,), ((Scalar.reads-sc 𝓤 H A W (Row.sInt Syntax.w64),
+              Path.refl), ((Yields.yields-copy 𝓤 H A W (λ ρ. Unit) (Declared'.row Places.the-type) Path.refl (Copies.cStruct Places.the-type
+              Laws'.the-laws Laws'.the-copy .copy 𝓤 H A W) (Rows.whole (Declared'.row Places.the-type)) (λ x. x) (λ x. x) (λ ρ told. Local.mem-whole 𝓤
+              H A W (Declared'.row Places.the-type) ρ) λ ρ told. Local.whole-mem 𝓤 H A W (Declared'.row Places.the-type) ρ, Path.refl,), tt,),),)
+              (Reads'.room-gone 𝓤 H A Laws''''''.mir) tt Path.refl) d7
+          d9 : Typed.Typed 𝓤 H A 𝓣 E G35 b17 Δ0 at9
+          d9 = Typed.g-pre 𝓤 H A W 𝓣 E G35 G36 b17 Δ0 (Typed.pass T35 T36 s34) at8 (Scalar.g-room 𝓤 H A W E G35 22 (Syntax.tyInt Syntax.w64)
+              (Scalar.room-sc 𝓤 H A W (Row.sInt Syntax.w64))) d8
+          d10 : Typed.Typed 𝓤 H A 𝓣 E G34 b18 Δ0 at10
+          d10 = Typed.s-seq 𝓤 H A W 𝓣 E G34 G35 b14 b17 Δ0 (Typed.both s33) at9 (Plain.t-call-plain 𝓤 H A W 𝓣 0 ps·8 r·8 (claims· .16) (claims· .17)
+              "hnsr_circuit::queue::position_after" (known .8) E (λ pos β. β) G34 (Bool.bAt 12 λ x. x, (Num.vLit 0, (Num.vAt 22 λ x. x, tt))) 16
+              List.[] (Call.sub-id 𝓤 H A W (G34 .slots)) ((Scalar.reads-sc 𝓤 H A W Row.sBool, Path.refl), (tt, ((Scalar.reads-sc 𝓤 H A W (Row.sInt
+              Syntax.w64), Path.refl), tt)),) (Reads'.room-gone 𝓤 H A (Syntax.tyInt Syntax.w64)) tt Path.refl) d9
+          d11 : Typed.Typed 𝓤 H A 𝓣 E G33 b19 Δ0 at11
+          d11 = Typed.s-seq 𝓤 H A W 𝓣 E G33 G34 b13 b18 Δ0 (Typed.pass T32 T34 s32) at10 (Scalar.t-use 𝓤 H A W E 𝓣 G33 (Scalar.oFld 8 ((Syntax.field
+              1) ∷ List.[]) (Syntax.tyInt Syntax.w64) 8 Shared.lenV) 22 (Rows.sc-here (Row.sInt Syntax.w64)) (Syntax.tyInt Syntax.w64) (Row.valS
               (Row.sInt Syntax.w64)) (Row.sInt Syntax.w64 .of) (Shared.reads-sslice-len 𝓤 H A W (Referent.rtF (Referent.fInt Syntax.w8)) ref4 2 8
-              Path.refl, Path.refl,) (Reads.room-gone 𝓤 H A (Syntax.tyInt Syntax.w64)) (Scalar.holds-sc 𝓤 H A W (Row.sInt Syntax.w64)) Path.refl (λ u.
-              Path.refl) λ u. tt) d7
-          d9 : Typed.Typed 𝓤 H A 𝓣 E G28 b16 Δ0 at9
-          d9 = Typed.g-pre 𝓤 H A W 𝓣 E G28 G29 b16 Δ0 (λ Ψ. Ψ) at8 (Lifetime.g-forget 𝓤 H A W E G28 4 Row.dead Path.refl) d8
-          d10 : Typed.Typed 𝓤 H A 𝓣 E G27 b16 Δ0 at10
-          d10 = Typed.g-pre 𝓤 H A W 𝓣 E G27 G28 b16 Δ0 (Typed.give s26) at9 (Know.g-sl-known 𝓤 H A W (Referent.fInt Syntax.w32) E G27 2 1 ref3 life1 0
-              (λ x. x) record { fits = Dec.lit< tt } (Reads.as-is 𝓤 H A (Mut.mslice (Referent.rtF (Referent.fInt Syntax.w32)) ref3 1)) Path.refl tt)
-              d9
-          d11 : Typed.Typed 𝓤 H A 𝓣 E G26 b16 Δ0 at11
-          d11 = Typed.g-pre 𝓤 H A W 𝓣 E G26 G27 b16 Δ0 (Typed.both s25) at10 (Relend.g-back-sl 𝓤 H A W E (Referent.rtF (Referent.fInt Syntax.w32)) G26
-              17 2 1 4 ref3 ref1 life1 (λ x. x) (λ x. x) (Reads.as-is 𝓤 H A (Mut.msleft (Referent.rtF (Referent.fInt Syntax.w32)) ref1)) (Reads.as-is
-              𝓤 H A (Relend.mslice-owed (Referent.rtF (Referent.fInt Syntax.w32)) ref3 1 4 life1)) Path.refl Path.refl) d10
-          d12 : Typed.Typed 𝓤 H A 𝓣 E G25 b16 Δ0 at12
-          d12 = Typed.g-pre 𝓤 H A W 𝓣 E G25 G26 b16 Δ0 (λ Ψ. Ψ) at11 (Lifetime.g-end 𝓤 H A W E G25 4 Path.refl) d11
-          d13 : Typed.Typed 𝓤 H A 𝓣 E G24 b16 Δ0 at13
-          d13 = Typed.g-pre 𝓤 H A W 𝓣 E G24 G25 b16 Δ0 (Typed.pass T24 T25 s23) at12 (Scalar.g-room 𝓤 H A W E G24 13 Syntax.tyUnit (Scalar.room-sc 𝓤 H
-              A W Row.sUnit)) d12
-          d14 : Typed.Typed 𝓤 H A 𝓣 E G23 b16 Δ0 at14
-          d14 = Typed.g-pre 𝓤 H A W 𝓣 E G23 G24 b16 Δ0 (Typed.pass T23 T24 s22) at13 (Scalar.g-room 𝓤 H A W E G23 5 Laws'''.mir (Local.room-whole 𝓤 H
-              A W (Declared'.row Outgoing.the-type) Laws'''.mir Path.refl)) d13
-          d15 : Typed.Typed 𝓤 H A 𝓣 E G22 b16 Δ0 at15
-          d15 = Typed.g-pre 𝓤 H A W 𝓣 E G22 G23 b16 Δ0 (Typed.pass T22 T23 s21) at14 (Scalar.g-room 𝓤 H A W E G22 4 Laws''''.mir (Local.room-whole 𝓤 H
-              A W (Declared'.row OpaqueRelayRuntime.the-type) Laws''''.mir Path.refl)) d14
-          d16 : Typed.Typed 𝓤 H A 𝓣 E G21 b17 Δ0 at16
-          d16 = Typed.s-seq 𝓤 H A W 𝓣 E G21 G22 b9 b16 Δ0 (Typed.both s20) at15 (Plain.t-call-plain 𝓤 H A W 𝓣 2 ps·5 r·5 (claims· .10) (claims· .11)
-              "hnsr_circuit::queue::put_queued" (known .5) E (λ pos β. β) G21 (record { pos = 17; ty = Syntax.tyRef Syntax.erased Syntax.mut
-              (Syntax.tyInt Syntax.w32); ref = λ x. x; }, (Bool.bAt 10 λ x. x, (Num.vLit 0, (record { pos = 5; st = List.[]; d = 0; at = λ x. x },
-              (record { pos = 4; st = List.[]; d = 0; at = λ x. x }, (record { pos = 7; ty = Syntax.tyRef (Syntax.named 2) Syntax.imm (Syntax.tyInt
-              Syntax.w8); ref = λ x. x; }, tt,),),),),),) 13 (4 ∷ 2 ∷ List.[]) (Call.sub-id 𝓤 H A W (G21 .slots)) (Reads.as-is 𝓤 H A (Mut.mslice
+              Path.refl, Path.refl,) (Reads'.room-gone 𝓤 H A (Syntax.tyInt Syntax.w64)) (Scalar.holds-sc 𝓤 H A W (Row.sInt Syntax.w64)) Path.refl (λ
+              u. Path.refl) λ u. tt) d10
+          d12 : Typed.Typed 𝓤 H A 𝓣 E G32 b19 Δ0 at12
+          d12 = Typed.g-pre 𝓤 H A W 𝓣 E G32 G33 b19 Δ0 (λ Ψ. Ψ) at11 (Lifetime.g-forget 𝓤 H A W E G32 4 Row.dead Path.refl) d11
+          d13 : Typed.Typed 𝓤 H A 𝓣 E G31 b19 Δ0 at13
+          d13 = Typed.g-pre 𝓤 H A W 𝓣 E G31 G32 b19 Δ0 (Typed.give s30) at12 (Know.g-sl-known 𝓤 H A W (Referent.fInt Syntax.w32) E G31 2 1 ref3 life1
+              0 (λ x. x) record { fits = Dec.lit< tt } (Reads'.as-is 𝓤 H A (Mut.mslice (Referent.rtF (Referent.fInt Syntax.w32)) ref3 1)) Path.refl
+              tt) d12
+          d14 : Typed.Typed 𝓤 H A 𝓣 E G30 b19 Δ0 at14
+          d14 = Typed.g-pre 𝓤 H A W 𝓣 E G30 G31 b19 Δ0 (Typed.both s29) at13 (Relend.g-back-sl 𝓤 H A W E (Referent.rtF (Referent.fInt Syntax.w32)) G30
+              21 2 1 4 ref3 ref1 life1 (λ x. x) (λ x. x) (Reads'.as-is 𝓤 H A (Mut.msleft (Referent.rtF (Referent.fInt Syntax.w32)) ref1))
+              (Reads'.as-is 𝓤 H A (Relend.mslice-owed (Referent.rtF (Referent.fInt Syntax.w32)) ref3 1 4 life1)) Path.refl Path.refl) d13
+          d15 : Typed.Typed 𝓤 H A 𝓣 E G29 b19 Δ0 at15
+          d15 = Typed.g-pre 𝓤 H A W 𝓣 E G29 G30 b19 Δ0 (λ Ψ. Ψ) at14 (Lifetime.g-end 𝓤 H A W E G29 4 Path.refl) d14
+          d16 : Typed.Typed 𝓤 H A 𝓣 E G28 b19 Δ0 at16
+          d16 = Typed.g-pre 𝓤 H A W 𝓣 E G28 G29 b19 Δ0 (Typed.pass T28 T29 s27) at15 (Scalar.g-room 𝓤 H A W E G28 17 Syntax.tyUnit (Scalar.room-sc 𝓤 H
+              A W Row.sUnit)) d15
+          d17 : Typed.Typed 𝓤 H A 𝓣 E G27 b19 Δ0 at17
+          d17 = Typed.g-pre 𝓤 H A W 𝓣 E G27 G28 b19 Δ0 (Typed.pass T27 T28 s26) at16 (Scalar.g-room 𝓤 H A W E G27 6 Laws''''.mir (Local.room-whole 𝓤 H
+              A W (Declared'.row Outgoing.the-type) Laws''''.mir Path.refl)) d16
+          d18 : Typed.Typed 𝓤 H A 𝓣 E G26 b19 Δ0 at18
+          d18 = Typed.g-pre 𝓤 H A W 𝓣 E G26 G27 b19 Δ0 (Typed.pass T26 T27 s25) at17 (Scalar.g-room 𝓤 H A W E G26 4 Laws'''''.mir (Local.room-whole 𝓤
+              H A W (Declared'.row OpaqueRelayRuntime.the-type) Laws'''''.mir Path.refl)) d17
+          d19 : Typed.Typed 𝓤 H A 𝓣 E G25 b20 Δ0 at19
+          d19 = Typed.s-seq 𝓤 H A W 𝓣 E G25 G26 b12 b19 Δ0 (Typed.both s24) at18 (Plain.t-call-plain 𝓤 H A W 𝓣 2 ps·7 r·7 (claims· .14) (claims· .15)
+              "hnsr_circuit::queue::put_queued" (known .7) E (λ pos β. β) G25 (record { pos = 21; ty = Syntax.tyRef Syntax.erased Syntax.mut
+              (Syntax.tyInt Syntax.w32); ref = λ x. x; }, (Bool.bAt 12 λ x. x, (Num.vLit 0, (record { pos = 6; st = List.[]; d = 0; at = λ x. x },
+              (record { pos = 4; st = List.[]; d = 0; at = λ x. x }, (record { pos = 8; ty = Syntax.tyRef (Syntax.named 2) Syntax.imm (Syntax.tyInt
+              Syntax.w8); ref = λ x. x; }, tt,),),),),),) 17 (4 ∷ 2 ∷ List.[]) (Call.sub-id 𝓤 H A W (G25 .slots)) (Reads'.as-is 𝓤 H A (Mut.mslice
               (Referent.rtF (Referent.fInt Syntax.w32)) ref1 4), Mut.reads-mslice 𝓤 H A W (Referent.rtF (Referent.fInt Syntax.w32)) ref1 4, Path.refl,
               ((Scalar.reads-sc 𝓤 H A W Row.sBool, Path.refl), (tt, ((Yields.yields-copy 𝓤 H A W (λ ρ. Unit) (Declared'.row Outgoing.the-type)
-              Path.refl (Copies.cStruct Outgoing.the-type Laws'''.the-laws Laws'''.the-copy .copy 𝓤 H A W) (Rows.whole (Declared'.row
+              Path.refl (Copies.cStruct Outgoing.the-type Laws''''.the-laws Laws''''.the-copy .copy 𝓤 H A W) (Rows.whole (Declared'.row
               Outgoing.the-type)) (λ x. x) (λ x. x) (λ ρ told. Local.mem-whole 𝓤 H A W (Declared'.row Outgoing.the-type) ρ) λ ρ told. Local.whole-mem
               𝓤 H A W (Declared'.row Outgoing.the-type) ρ, Path.refl,), ((Yields.yields-copy 𝓤 H A W (λ ρ. Unit) (Declared'.row
-              OpaqueRelayRuntime.the-type) Path.refl (Copies.cStruct OpaqueRelayRuntime.the-type Laws''''.the-laws Laws''''.the-copy .copy 𝓤 H A W)
+              OpaqueRelayRuntime.the-type) Path.refl (Copies.cStruct OpaqueRelayRuntime.the-type Laws'''''.the-laws Laws'''''.the-copy .copy 𝓤 H A W)
               (Rows.whole (Declared'.row OpaqueRelayRuntime.the-type)) (λ x. x) (λ x. x) (λ ρ told. Local.mem-whole 𝓤 H A W (Declared'.row
               OpaqueRelayRuntime.the-type) ρ) λ ρ told. Local.whole-mem 𝓤 H A W (Declared'.row OpaqueRelayRuntime.the-type) ρ, Path.refl,),
               (ShrSlice.spares-sslice 𝓤 H A W (Referent.rtF (Referent.fInt Syntax.w8)) ref4 2, Shared.reads-sslice 𝓤 H A W (Referent.rtF
-              (Referent.fInt Syntax.w8)) ref4 2, Path.refl, tt,),),),),),) (Reads.room-gone 𝓤 H A Syntax.tyUnit) (tt, (tt, tt)) Path.refl) d15
-          d17 : Typed.Typed 𝓤 H A 𝓣 E G20 b18 Δ0 at17
-          d17 = Typed.s-seq 𝓤 H A W 𝓣 E G20 G21 b8 b17 Δ0 (Typed.ask s19) at16 (Relend.t-sl-aggregate 𝓤 H A W E (Referent.rtF (Referent.fInt
-              Syntax.w32)) 𝓣 (Relend.asMut (Referent.rtF (Referent.fInt Syntax.w32))) G20 16 17 4 ref1 ref1 (λ x. x) (Scalar.oFld 2 ((Syntax.field 1)
-              ∷ List.[]) (Syntax.tyInt Syntax.w64) 8 λ v. Shared.lenV (v .0)) (Reads.as-is 𝓤 H A (Relend.msptr (Referent.rtF (Referent.fInt
-              Syntax.w32)) ref1 4)) (Reads.room-gone 𝓤 H A (Syntax.tyStruct (38 ∷ 91 ∷ 93 ∷ List.[]) (Syntax.tcons ref1 (Syntax.tcons (Syntax.tyInt
+              (Referent.fInt Syntax.w8)) ref4 2, Path.refl, tt,),),),),),) (Reads'.room-gone 𝓤 H A Syntax.tyUnit) (tt, (tt, tt)) Path.refl) d18
+          d20 : Typed.Typed 𝓤 H A 𝓣 E G24 b21 Δ0 at20
+          d20 = Typed.s-seq 𝓤 H A W 𝓣 E G24 G25 b11 b20 Δ0 (Typed.ask s23) at19 (Relend.t-sl-aggregate 𝓤 H A W E (Referent.rtF (Referent.fInt
+              Syntax.w32)) 𝓣 (Relend.asMut (Referent.rtF (Referent.fInt Syntax.w32))) G24 20 21 4 ref1 ref1 (λ x. x) (Scalar.oFld 2 ((Syntax.field 1)
+              ∷ List.[]) (Syntax.tyInt Syntax.w64) 8 λ v. Shared.lenV (v .0)) (Reads'.as-is 𝓤 H A (Relend.msptr (Referent.rtF (Referent.fInt
+              Syntax.w32)) ref1 4)) (Reads'.room-gone 𝓤 H A (Syntax.tyStruct (38 ∷ 91 ∷ 93 ∷ List.[]) (Syntax.tcons ref1 (Syntax.tcons (Syntax.tyInt
               Syntax.w64) Syntax.tnil)))) (Relend.reads-owed-len 𝓤 H A W (Referent.rtF (Referent.fInt Syntax.w32)) ref3 1 4 life1 8 Path.refl,
-              Path.refl,) Path.refl Path.refl λ b o k. tt) d16
-          d18 : Typed.Typed 𝓤 H A 𝓣 E G19 b19 Δ0 at18
-          d18 = Typed.s-seq 𝓤 H A W 𝓣 E G19 G20 b7 b18 Δ0 (Typed.give s18) at17 (Relend.t-sl-relend 𝓤 H A W E (Referent.rtF (Referent.fInt
-              Syntax.w32)) 𝓣 G19 2 16 1 4 ref3 ref1 life1 0 (λ x. x) (Reads.as-is 𝓤 H A (Mut.mslice (Referent.rtF (Referent.fInt Syntax.w32)) ref3 1))
-              (Reads.room-gone 𝓤 H A ref1) Path.refl tt Path.refl Path.refl Path.refl λ b o. tt) d17
-          d19 : Typed.Typed 𝓤 H A 𝓣 E G18 b19 Δ0 at19
-          d19 = Typed.g-pre 𝓤 H A W 𝓣 E G18 G19 b19 Δ0 (λ Ψ. Ψ) at18 (Lifetime.g-begin 𝓤 H A W E G18 4 (tt, (tt, (tt, (tt, (tt, (tt, (tt, (tt, (tt,
-              (tt, (tt, (tt, (tt, (tt, (tt, (tt, (tt, (tt, (tt, tt))))))))),),),),),),),),),),)) d18
-          d20 : Typed.Typed 𝓤 H A 𝓣 E G17 b19 Δ0 at20
-          d20 = Typed.g-pre 𝓤 H A W 𝓣 E G17 G18 b19 Δ0 (λ Ψ. Ψ) at19 (Lifetime.g-forget 𝓤 H A W E G17 3 Row.dead Path.refl) d19
-          d21 : Typed.Typed 𝓤 H A 𝓣 E G16 b19 Δ0 at21
-          d21 = Typed.g-pre 𝓤 H A W 𝓣 E G16 G17 b19 Δ0 (Typed.both s15) at20 (Relend.g-back-sl 𝓤 H A W E InflightAction.row G16 15 1 0 3 ref2 ref0
-              life0 (λ x. x) (λ x. x) (Reads.as-is 𝓤 H A (Mut.msleft InflightAction.row ref0)) (Reads.as-is 𝓤 H A (Relend.mslice-owed
-              InflightAction.row ref2 0 3 life0)) Path.refl Path.refl) d20
-          d22 : Typed.Typed 𝓤 H A 𝓣 E G15 b19 Δ0 at22
-          d22 = Typed.g-pre 𝓤 H A W 𝓣 E G15 G16 b19 Δ0 (λ Ψ. Ψ) at21 (Lifetime.g-end 𝓤 H A W E G15 3 Path.refl) d21
-          d23 : Typed.Typed 𝓤 H A 𝓣 E G14 b19 Δ0 at23
-          d23 = Typed.g-pre 𝓤 H A W 𝓣 E G14 G15 b19 Δ0 (Typed.pass T14 T15 s13) at22 (Scalar.g-room 𝓤 H A W E G14 13 Syntax.tyUnit (Scalar.room-sc 𝓤 H
-              A W Row.sUnit)) d22
-          d24 : Typed.Typed 𝓤 H A 𝓣 E G13 b19 Δ0 at24
-          d24 = Typed.g-pre 𝓤 H A W 𝓣 E G13 G14 b19 Δ0 (Typed.pass T13 T14 s12) at23 (Scalar.g-room 𝓤 H A W E G13 9 InflightAction.ty
-              (Local.room-whole 𝓤 H A W InflightAction.row InflightAction.ty Path.refl)) d23
-          d25 : Typed.Typed 𝓤 H A 𝓣 E G12 b20 Δ0 at25
-          d25 = Typed.s-seq 𝓤 H A W 𝓣 E G12 G13 b6 b19 Δ0 (Typed.both s11) at24 (Plain.t-call-plain 𝓤 H A W 𝓣 1 ps·4 r·4 (claims· .8) (claims· .9)
-              "hnsr_circuit::tables::inflight::set_action" (known .4) E (λ pos β. β) G12 (record { pos = 15; ty = Syntax.tyRef Syntax.erased
-              Syntax.mut InflightAction.to; ref = λ x. x; }, (Bool.bAt 10 λ x. x, (Num.vAt 11 λ x. x, (record { pos = 9; st = List.[]; d = 0; at = λ
-              x. x }, tt),),),) 13 (3 ∷ List.[]) (Call.sub-id 𝓤 H A W (G12 .slots)) (Reads.as-is 𝓤 H A (Mut.mslice InflightAction.row ref0 3),
+              Path.refl,) Path.refl Path.refl λ b o k. tt) d19
+          d21 : Typed.Typed 𝓤 H A 𝓣 E G23 b22 Δ0 at21
+          d21 = Typed.s-seq 𝓤 H A W 𝓣 E G23 G24 b10 b21 Δ0 (Typed.give s22) at20 (Relend.t-sl-relend 𝓤 H A W E (Referent.rtF (Referent.fInt
+              Syntax.w32)) 𝓣 G23 2 20 1 4 ref3 ref1 life1 0 (λ x. x) (Reads'.as-is 𝓤 H A (Mut.mslice (Referent.rtF (Referent.fInt Syntax.w32)) ref3
+              1)) (Reads'.room-gone 𝓤 H A ref1) Path.refl tt Path.refl Path.refl Path.refl λ b o. tt) d20
+          d22 : Typed.Typed 𝓤 H A 𝓣 E G22 b22 Δ0 at22
+          d22 = Typed.g-pre 𝓤 H A W 𝓣 E G22 G23 b22 Δ0 (λ Ψ. Ψ) at21 (Lifetime.g-begin 𝓤 H A W E G22 4 (tt, (tt, (tt, (tt, (tt, (tt, (tt, (tt, (tt,
+              (tt, (tt, (tt, (tt, (tt, (tt, (tt, (tt, (tt, (tt, (tt, (tt, (tt, (tt, tt))))))),),),),),),),),),),),),),),),),)) d21
+          d23 : Typed.Typed 𝓤 H A 𝓣 E G21 b22 Δ0 at23
+          d23 = Typed.g-pre 𝓤 H A W 𝓣 E G21 G22 b22 Δ0 (λ Ψ. Ψ) at22 (Lifetime.g-forget 𝓤 H A W E G21 3 Row.dead Path.refl) d22
+          d24 : Typed.Typed 𝓤 H A 𝓣 E G20 b22 Δ0 at24
+          d24 = Typed.g-pre 𝓤 H A W 𝓣 E G20 G21 b22 Δ0 (Typed.both s19) at23 (Relend.g-back-sl 𝓤 H A W E InflightAction.row G20 19 1 0 3 ref2 ref0
+              life0 (λ x. x) (λ x. x) (Reads'.as-is 𝓤 H A (Mut.msleft InflightAction.row ref0)) (Reads'.as-is 𝓤 H A (Relend.mslice-owed
+              InflightAction.row ref2 0 3 life0)) Path.refl Path.refl) d23
+          d25 : Typed.Typed 𝓤 H A 𝓣 E G19 b22 Δ0 at25
+          d25 = Typed.g-pre 𝓤 H A W 𝓣 E G19 G20 b22 Δ0 (λ Ψ. Ψ) at24 (Lifetime.g-end 𝓤 H A W E G19 3 Path.refl) d24
+          d26 : Typed.Typed 𝓤 H A 𝓣 E G18 b22 Δ0 at26
+          d26 = Typed.g-pre 𝓤 H A W 𝓣 E G18 G19 b22 Δ0 (Typed.pass T18 T19 s17) at25 (Scalar.g-room 𝓤 H A W E G18 17 Syntax.tyUnit (Scalar.room-sc 𝓤 H
+              A W Row.sUnit)) d25
+          d27 : Typed.Typed 𝓤 H A 𝓣 E G17 b22 Δ0 at27
+          d27 = Typed.g-pre 𝓤 H A W 𝓣 E G17 G18 b22 Δ0 (Typed.pass T17 T18 s16) at26 (Scalar.g-room 𝓤 H A W E G17 11 InflightAction.ty
+              (Local.room-whole 𝓤 H A W InflightAction.row InflightAction.ty Path.refl)) d26
+          d28 : Typed.Typed 𝓤 H A 𝓣 E G16 b23 Δ0 at28
+          d28 = Typed.s-seq 𝓤 H A W 𝓣 E G16 G17 b9 b22 Δ0 (Typed.both s15) at27 (Plain.t-call-plain 𝓤 H A W 𝓣 1 ps·6 r·6 (claims· .12) (claims· .13)
+              "hnsr_circuit::tables::inflight::set_action" (known .6) E (λ pos β. β) G16 (record { pos = 19; ty = Syntax.tyRef Syntax.erased
+              Syntax.mut InflightAction.to; ref = λ x. x; }, (Bool.bAt 12 λ x. x, (Num.vAt 13 λ x. x, (record { pos = 11; st = List.[]; d = 0; at = λ
+              x. x }, tt),),),) 17 (3 ∷ List.[]) (Call.sub-id 𝓤 H A W (G16 .slots)) (Reads'.as-is 𝓤 H A (Mut.mslice InflightAction.row ref0 3),
               Mut.reads-mslice 𝓤 H A W InflightAction.row ref0 3, Path.refl, ((Scalar.reads-sc 𝓤 H A W Row.sBool, Path.refl), ((Scalar.reads-sc 𝓤 H A
               W (Row.sInt Syntax.w64), Path.refl), ((Yields.yields-copy 𝓤 H A W (λ ρ. Unit) InflightAction.row Path.refl (InflightAction.copies .copy
               𝓤 H A W) InflightAction.held (λ x. x) (λ x. x) (λ ρ told. Local.mem-whole 𝓤 H A W InflightAction.row ρ) λ ρ told. Local.whole-mem 𝓤 H A
-              W InflightAction.row ρ, Path.refl,), tt,),),),) (Reads.room-gone 𝓤 H A Syntax.tyUnit) (tt, tt) Path.refl) d24
-          d26 : Typed.Typed 𝓤 H A 𝓣 E G11 b21 Δ0 at26
-          d26 = Typed.s-seq 𝓤 H A W 𝓣 E G11 G12 b5 b20 Δ0 (Typed.ask s10) at25 (Relend.t-sl-aggregate 𝓤 H A W E InflightAction.row 𝓣 (Relend.asMut
-              InflightAction.row) G11 14 15 3 ref0 ref0 (λ x. x) (Scalar.oFld 1 ((Syntax.field 1) ∷ List.[]) (Syntax.tyInt Syntax.w64) 8 λ v.
-              Shared.lenV (v .0)) (Reads.as-is 𝓤 H A (Relend.msptr InflightAction.row ref0 3)) (Reads.room-gone 𝓤 H A (Syntax.tyStruct (38 ∷ 91 ∷ 93 ∷
-              List.[]) (Syntax.tcons ref0 (Syntax.tcons (Syntax.tyInt Syntax.w64) Syntax.tnil)))) (Relend.reads-owed-len 𝓤 H A W InflightAction.row
-              ref2 0 3 life0 8 Path.refl, Path.refl,) Path.refl Path.refl λ b o k. tt) d25
-          d27 : Typed.Typed 𝓤 H A 𝓣 E G10 b22 Δ0 at27
-          d27 = Typed.s-seq 𝓤 H A W 𝓣 E G10 G11 b4 b21 Δ0 (Typed.give s9) at26 (Relend.t-sl-relend 𝓤 H A W E InflightAction.row 𝓣 G10 1 14 0 3 ref2
-              ref0 life0 0 (λ x. x) (Reads.as-is 𝓤 H A (Mut.mslice InflightAction.row ref2 0)) (Reads.room-gone 𝓤 H A ref0) Path.refl tt Path.refl
-              Path.refl Path.refl λ b o. tt) d26
-          d28 : Typed.Typed 𝓤 H A 𝓣 E G9 b22 Δ0 at28
-          d28 = Typed.g-pre 𝓤 H A W 𝓣 E G9 G10 b22 Δ0 (λ Ψ. Ψ) at27 (Lifetime.g-begin 𝓤 H A W E G9 3 (tt, (tt, (tt, (tt, (tt, (tt, (tt, (tt, (tt, (tt,
-              (tt, (tt, (tt, (tt, (tt, (tt, (tt, (tt, (tt, tt))))))))),),),),),),),),),),)) d27
-          d29 : Typed.Typed 𝓤 H A 𝓣 E G8 b23 Δ0 at29
-          d29 = Typed.s-seq 𝓤 H A W 𝓣 E G8 G9 b3 b22 Δ0 (Typed.both s7) at28 (Plain.t-call-plain 𝓤 H A W 𝓣 0 ps·3 r·3 (claims· .6) (claims· .7)
-              "hnsr_circuit::queue::queued_place" (known .3) E (λ pos β. β) G8 (record { pos = 8; st = List.[]; d = 0; at = λ x. x }, tt) 11 List.[]
+              W InflightAction.row ρ, Path.refl,), tt,),),),) (Reads'.room-gone 𝓤 H A Syntax.tyUnit) (tt, tt) Path.refl) d27
+          d29 : Typed.Typed 𝓤 H A 𝓣 E G15 b24 Δ0 at29
+          d29 = Typed.s-seq 𝓤 H A W 𝓣 E G15 G16 b8 b23 Δ0 (Typed.ask s14) at28 (Relend.t-sl-aggregate 𝓤 H A W E InflightAction.row 𝓣 (Relend.asMut
+              InflightAction.row) G15 18 19 3 ref0 ref0 (λ x. x) (Scalar.oFld 1 ((Syntax.field 1) ∷ List.[]) (Syntax.tyInt Syntax.w64) 8 λ v.
+              Shared.lenV (v .0)) (Reads'.as-is 𝓤 H A (Relend.msptr InflightAction.row ref0 3)) (Reads'.room-gone 𝓤 H A (Syntax.tyStruct (38 ∷ 91 ∷ 93
+              ∷ List.[]) (Syntax.tcons ref0 (Syntax.tcons (Syntax.tyInt Syntax.w64) Syntax.tnil)))) (Relend.reads-owed-len 𝓤 H A W InflightAction.row
+              ref2 0 3 life0 8 Path.refl, Path.refl,) Path.refl Path.refl λ b o k. tt) d28
+          d30 : Typed.Typed 𝓤 H A 𝓣 E G14 b25 Δ0 at30
+          d30 = Typed.s-seq 𝓤 H A W 𝓣 E G14 G15 b7 b24 Δ0 (Typed.give s13) at29 (Relend.t-sl-relend 𝓤 H A W E InflightAction.row 𝓣 G14 1 18 0 3 ref2
+              ref0 life0 0 (λ x. x) (Reads'.as-is 𝓤 H A (Mut.mslice InflightAction.row ref2 0)) (Reads'.room-gone 𝓤 H A ref0) Path.refl tt Path.refl
+              Path.refl Path.refl λ b o. tt) d29
+          d31 : Typed.Typed 𝓤 H A 𝓣 E G13 b25 Δ0 at31
+          d31 = Typed.g-pre 𝓤 H A W 𝓣 E G13 G14 b25 Δ0 (λ Ψ. Ψ) at30 (Lifetime.g-begin 𝓤 H A W E G13 3 (tt, (tt, (tt, (tt, (tt, (tt, (tt, (tt, (tt,
+              (tt, (tt, (tt, (tt, (tt, (tt, (tt, (tt, (tt, (tt, (tt, (tt, (tt, (tt, tt))))))),),),),),),),),),),),),),),),),)) d30
+          d32 : Typed.Typed 𝓤 H A 𝓣 E G12 b25 Δ0 at32
+          d32 = Typed.g-pre 𝓤 H A W 𝓣 E G12 G13 b25 Δ0 (Typed.pass T12 T13 s11) at31 (Scalar.g-room 𝓤 H A W E G12 5 Laws'.mir (Local.room-whole 𝓤 H A
+              W (Declared'.row Places.the-type) Laws'.mir Path.refl)) d31
+          d33 : Typed.Typed 𝓤 H A 𝓣 E G11 b26 Δ0 at33
+          d33 = Typed.s-seq 𝓤 H A W 𝓣 E G11 G12 b6 b25 Δ0 (Typed.both s10) at32 (Plain.t-call-plain 𝓤 H A W 𝓣 0 ps·5 r·5 (claims· .10) (claims· .11)
+              "hnsr_circuit::places::with_actions" (known .5) E (λ pos β. β) G11 (record { pos = 5; st = List.[]; d = 0; at = λ x. x }, (Num.vAt 14 λ
+              x. x, tt)) 15 List.[] (Call.sub-id 𝓤 H A W (G11 .slots)) ((Yields.yields-copy 𝓤 H A W (λ ρ. Unit) (Declared'.row Places.the-type)
+              Path.refl (Copies.cStruct Places.the-type Laws'.the-laws Laws'.the-copy .copy 𝓤 H A W) (Rows.whole (Declared'.row Places.the-type)) (λ
+              x. x) (λ x. x) (λ ρ told. Local.mem-whole 𝓤 H A W (Declared'.row Places.the-type) ρ) λ ρ told. Local.whole-mem 𝓤 H A W (Declared'.row
+              Places.the-type) ρ, Path.refl,), ((Scalar.reads-sc 𝓤 H A W (Row.sInt Syntax.w64), Path.refl), tt),) (Reads'.room-gone 𝓤 H A Laws'.mir)
+              tt Path.refl) d32
+          d34 : Typed.Typed 𝓤 H A 𝓣 E G10 b27 Δ0 at34
+          d34 = Typed.s-seq 𝓤 H A W 𝓣 E G10 G11 b5 b26 Δ0 (Typed.both s9) at33 (Plain.t-call-plain 𝓤 H A W 𝓣 0 ps·4 r·4 (claims· .8) (claims· .9)
+              "hnsr_circuit::places::raised" (known .4) E (λ pos β. β) G10 (Num.vFld 5 ((Syntax.field 3) ∷ List.[]) 24 λ x. Places.struct .as-values x
+              .1 .1 .1 .0, (Bool.bAt 12 λ x. x, (Num.vAt 13 λ x. x, (Num.vAt 9 λ x. x, tt))),) 14 List.[] (Call.sub-id 𝓤 H A W (G10 .slots))
+              ((Reads.reads-field 𝓤 H A W Places.the-type Laws'.the-laws 3 (Syntax.tyInt Syntax.w64) 24 Path.refl, Path.refl,), ((Scalar.reads-sc 𝓤 H
+              A W Row.sBool, Path.refl), ((Scalar.reads-sc 𝓤 H A W (Row.sInt Syntax.w64), Path.refl), ((Scalar.reads-sc 𝓤 H A W (Row.sInt Syntax.w64),
+              Path.refl), tt),),),) (Reads'.room-gone 𝓤 H A (Syntax.tyInt Syntax.w64)) tt Path.refl) d33
+          d35 : Typed.Typed 𝓤 H A 𝓣 E G9 b28 Δ0 at35
+          d35 = Typed.s-seq 𝓤 H A W 𝓣 E G9 G10 b4 b27 Δ0 (Typed.both s8) at34 (Plain.t-call-plain 𝓤 H A W 𝓣 0 ps·3 r·3 (claims· .6) (claims· .7)
+              "hnsr_circuit::queue::queued_place" (known .3) E (λ pos β. β) G9 (record { pos = 10; st = List.[]; d = 0; at = λ x. x }, tt) 13 List.[]
+              (Call.sub-id 𝓤 H A W (G9 .slots)) ((Yields.yields-copy 𝓤 H A W (λ ρ. Unit) (Declared'.row Queued.the-type) Path.refl (Copies.cStruct
+              Queued.the-type Laws''.the-laws Laws''.the-copy .copy 𝓤 H A W) (Rows.whole (Declared'.row Queued.the-type)) (λ x. x) (λ x. x) (λ ρ told.
+              Local.mem-whole 𝓤 H A W (Declared'.row Queued.the-type) ρ) λ ρ told. Local.whole-mem 𝓤 H A W (Declared'.row Queued.the-type) ρ,
+              Path.refl,), tt,) (Reads'.room-gone 𝓤 H A (Syntax.tyInt Syntax.w64)) tt Path.refl) d34
+          d36 : Typed.Typed 𝓤 H A 𝓣 E G8 b29 Δ0 at36
+          d36 = Typed.s-seq 𝓤 H A W 𝓣 E G8 G9 b3 b28 Δ0 (Typed.both s7) at35 (Plain.t-call-plain 𝓤 H A W 𝓣 0 ps·2 r·2 (claims· .4) (claims· .5)
+              "hnsr_circuit::queue::queued_go" (known .2) E (λ pos β. β) G8 (record { pos = 10; st = List.[]; d = 0; at = λ x. x }, tt) 12 List.[]
               (Call.sub-id 𝓤 H A W (G8 .slots)) ((Yields.yields-copy 𝓤 H A W (λ ρ. Unit) (Declared'.row Queued.the-type) Path.refl (Copies.cStruct
-              Queued.the-type Laws'.the-laws Laws'.the-copy .copy 𝓤 H A W) (Rows.whole (Declared'.row Queued.the-type)) (λ x. x) (λ x. x) (λ ρ told.
+              Queued.the-type Laws''.the-laws Laws''.the-copy .copy 𝓤 H A W) (Rows.whole (Declared'.row Queued.the-type)) (λ x. x) (λ x. x) (λ ρ told.
               Local.mem-whole 𝓤 H A W (Declared'.row Queued.the-type) ρ) λ ρ told. Local.whole-mem 𝓤 H A W (Declared'.row Queued.the-type) ρ,
-              Path.refl,), tt,) (Reads.room-gone 𝓤 H A (Syntax.tyInt Syntax.w64)) tt Path.refl) d28
-          d30 : Typed.Typed 𝓤 H A 𝓣 E G7 b24 Δ0 at30
-          d30 = Typed.s-seq 𝓤 H A W 𝓣 E G7 G8 b2 b23 Δ0 (Typed.both s6) at29 (Plain.t-call-plain 𝓤 H A W 𝓣 0 ps·2 r·2 (claims· .4) (claims· .5)
-              "hnsr_circuit::queue::queued_go" (known .2) E (λ pos β. β) G7 (record { pos = 8; st = List.[]; d = 0; at = λ x. x }, tt) 10 List.[]
+              Path.refl,), tt,) (Reads'.room-gone 𝓤 H A Syntax.tyBool) tt Path.refl) d35
+          d37 : Typed.Typed 𝓤 H A 𝓣 E G7 b30 Δ0 at37
+          d37 = Typed.s-seq 𝓤 H A W 𝓣 E G7 G8 b2 b29 Δ0 (Typed.both s6) at36 (Plain.t-call-plain 𝓤 H A W 𝓣 0 ps·1 r·1 (claims· .2) (claims· .3)
+              "hnsr_circuit::queue::queued_action" (known .1) E (λ pos β. β) G7 (record { pos = 10; st = List.[]; d = 0; at = λ x. x }, tt) 11 List.[]
               (Call.sub-id 𝓤 H A W (G7 .slots)) ((Yields.yields-copy 𝓤 H A W (λ ρ. Unit) (Declared'.row Queued.the-type) Path.refl (Copies.cStruct
-              Queued.the-type Laws'.the-laws Laws'.the-copy .copy 𝓤 H A W) (Rows.whole (Declared'.row Queued.the-type)) (λ x. x) (λ x. x) (λ ρ told.
+              Queued.the-type Laws''.the-laws Laws''.the-copy .copy 𝓤 H A W) (Rows.whole (Declared'.row Queued.the-type)) (λ x. x) (λ x. x) (λ ρ told.
               Local.mem-whole 𝓤 H A W (Declared'.row Queued.the-type) ρ) λ ρ told. Local.whole-mem 𝓤 H A W (Declared'.row Queued.the-type) ρ,
-              Path.refl,), tt,) (Reads.room-gone 𝓤 H A Syntax.tyBool) tt Path.refl) d29
-          d31 : Typed.Typed 𝓤 H A 𝓣 E G6 b25 Δ0 at31
-          d31 = Typed.s-seq 𝓤 H A W 𝓣 E G6 G7 b1 b24 Δ0 (Typed.both s5) at30 (Plain.t-call-plain 𝓤 H A W 𝓣 0 ps·1 r·1 (claims· .2) (claims· .3)
-              "hnsr_circuit::queue::queued_action" (known .1) E (λ pos β. β) G6 (record { pos = 8; st = List.[]; d = 0; at = λ x. x }, tt) 9 List.[]
-              (Call.sub-id 𝓤 H A W (G6 .slots)) ((Yields.yields-copy 𝓤 H A W (λ ρ. Unit) (Declared'.row Queued.the-type) Path.refl (Copies.cStruct
-              Queued.the-type Laws'.the-laws Laws'.the-copy .copy 𝓤 H A W) (Rows.whole (Declared'.row Queued.the-type)) (λ x. x) (λ x. x) (λ ρ told.
-              Local.mem-whole 𝓤 H A W (Declared'.row Queued.the-type) ρ) λ ρ told. Local.whole-mem 𝓤 H A W (Declared'.row Queued.the-type) ρ,
-              Path.refl,), tt,) (Reads.room-gone 𝓤 H A InflightAction.ty) tt Path.refl) d30
-          d32 : Typed.Typed 𝓤 H A 𝓣 E G5 b25 Δ0 at32
-          d32 = Typed.g-pre 𝓤 H A W 𝓣 E G5 G6 b25 Δ0 (Typed.pass T5 T6 s4) at31 (Scalar.g-room 𝓤 H A W E G5 6 Laws''.mir (Local.room-whole 𝓤 H A W
-              (Declared'.row ActionScan.the-type) Laws''.mir Path.refl)) d31
-          d33 : Typed.Typed 𝓤 H A 𝓣 E G4 b25 Δ0 at33
-          d33 = Typed.g-pre 𝓤 H A W 𝓣 E G4 G5 b25 Δ0 (Typed.pass T4 T5 s3) at32 (Scalar.g-room 𝓤 H A W E G4 3 Laws.mir (Local.room-whole 𝓤 H A W
-              (Declared.row HnsrAnswer.the-type) Laws.mir Path.refl)) d32
-          d34 : Typed.Typed 𝓤 H A 𝓣 E G3 b26 Δ0 at34
-          d34 = Typed.s-seq 𝓤 H A W 𝓣 E G3 G4 b0 b25 Δ0 (Typed.both s2) at33 (Plain.t-call-plain 𝓤 H A W 𝓣 0 ps·0 r·0 (claims· .0) (claims· .1)
-              "hnsr_circuit::queue::queue" (known .0) E (λ pos β. β) G3 (record { pos = 3; st = List.[]; d = 0; at = λ x. x }, (record { pos = 4; st =
-              List.[]; d = 0; at = λ x. x }, (record { pos = 5; st = List.[]; d = 0; at = λ x. x }, (record { pos = 6; st = List.[]; d = 0; at = λ x.
-              x }, tt),),),) 8 List.[] (Call.sub-id 𝓤 H A W (G3 .slots)) ((Yields.yields-copy 𝓤 H A W (λ ρ. Unit) (Declared.row HnsrAnswer.the-type)
+              Path.refl,), tt,) (Reads'.room-gone 𝓤 H A InflightAction.ty) tt Path.refl) d36
+          d38 : Typed.Typed 𝓤 H A 𝓣 E G6 b30 Δ0 at38
+          d38 = Typed.g-pre 𝓤 H A W 𝓣 E G6 G7 b30 Δ0 (Typed.pass T6 T7 s5) at37 (Scalar.g-room 𝓤 H A W E G6 7 Laws'''.mir (Local.room-whole 𝓤 H A W
+              (Declared'.row ActionScan.the-type) Laws'''.mir Path.refl)) d37
+          d39 : Typed.Typed 𝓤 H A 𝓣 E G5 b30 Δ0 at39
+          d39 = Typed.g-pre 𝓤 H A W 𝓣 E G5 G6 b30 Δ0 (Typed.pass T5 T6 s4) at38 (Scalar.g-room 𝓤 H A W E G5 3 Laws.mir (Local.room-whole 𝓤 H A W
+              (Declared.row HnsrAnswer.the-type) Laws.mir Path.refl)) d38
+          d40 : Typed.Typed 𝓤 H A 𝓣 E G4 b31 Δ0 at40
+          d40 = Typed.s-seq 𝓤 H A W 𝓣 E G4 G5 b1 b30 Δ0 (Typed.both s3) at39 (Plain.t-call-plain 𝓤 H A W 𝓣 0 ps·0 r·0 (claims· .0) (claims· .1)
+              "hnsr_circuit::queue::queue" (known .0) E (λ pos β. β) G4 (record { pos = 3; st = List.[]; d = 0; at = λ x. x }, (record { pos = 4; st =
+              List.[]; d = 0; at = λ x. x }, (record { pos = 6; st = List.[]; d = 0; at = λ x. x }, (record { pos = 7; st = List.[]; d = 0; at = λ x.
+              x }, tt),),),) 10 List.[] (Call.sub-id 𝓤 H A W (G4 .slots)) ((Yields.yields-copy 𝓤 H A W (λ ρ. Unit) (Declared.row HnsrAnswer.the-type)
               Path.refl (Copies.cEnum HnsrAnswer.the-type Laws.the-laws Laws.the-copy .copy 𝓤 H A W) (Rows.whole (Declared.row HnsrAnswer.the-type))
               (λ x. x) (λ x. x) (λ ρ told. Local.mem-whole 𝓤 H A W (Declared.row HnsrAnswer.the-type) ρ) λ ρ told. Local.whole-mem 𝓤 H A W
               (Declared.row HnsrAnswer.the-type) ρ, Path.refl,), ((Yields.yields-copy 𝓤 H A W (λ ρ. Unit) (Declared'.row OpaqueRelayRuntime.the-type)
-              Path.refl (Copies.cStruct OpaqueRelayRuntime.the-type Laws''''.the-laws Laws''''.the-copy .copy 𝓤 H A W) (Rows.whole (Declared'.row
+              Path.refl (Copies.cStruct OpaqueRelayRuntime.the-type Laws'''''.the-laws Laws'''''.the-copy .copy 𝓤 H A W) (Rows.whole (Declared'.row
               OpaqueRelayRuntime.the-type)) (λ x. x) (λ x. x) (λ ρ told. Local.mem-whole 𝓤 H A W (Declared'.row OpaqueRelayRuntime.the-type) ρ) λ ρ
               told. Local.whole-mem 𝓤 H A W (Declared'.row OpaqueRelayRuntime.the-type) ρ, Path.refl,), ((Yields.yields-copy 𝓤 H A W (λ ρ. Unit)
-              (Declared'.row Outgoing.the-type) Path.refl (Copies.cStruct Outgoing.the-type Laws'''.the-laws Laws'''.the-copy .copy 𝓤 H A W)
+              (Declared'.row Outgoing.the-type) Path.refl (Copies.cStruct Outgoing.the-type Laws''''.the-laws Laws''''.the-copy .copy 𝓤 H A W)
               (Rows.whole (Declared'.row Outgoing.the-type)) (λ x. x) (λ x. x) (λ ρ told. Local.mem-whole 𝓤 H A W (Declared'.row Outgoing.the-type) ρ)
               λ ρ told. Local.whole-mem 𝓤 H A W (Declared'.row Outgoing.the-type) ρ, Path.refl,), ((Yields.yields-copy 𝓤 H A W (λ ρ. Unit)
-              (Declared'.row ActionScan.the-type) Path.refl (Copies.cStruct ActionScan.the-type Laws''.the-laws Laws''.the-copy .copy 𝓤 H A W)
+              (Declared'.row ActionScan.the-type) Path.refl (Copies.cStruct ActionScan.the-type Laws'''.the-laws Laws'''.the-copy .copy 𝓤 H A W)
               (Rows.whole (Declared'.row ActionScan.the-type)) (λ x. x) (λ x. x) (λ ρ told. Local.mem-whole 𝓤 H A W (Declared'.row
               ActionScan.the-type) ρ) λ ρ told. Local.whole-mem 𝓤 H A W (Declared'.row ActionScan.the-type) ρ, Path.refl,), tt,),),),)
-              (Reads.room-gone 𝓤 H A Laws'.mir) tt Path.refl) d33
-          d35 : Typed.Typed 𝓤 H A 𝓣 E G2 b26 Δ0 at35
-          d35 = Typed.g-pre 𝓤 H A W 𝓣 E G2 G3 b26 Δ0 (Typed.give s1) at34 (Know.g-shs-known 𝓤 H A W (Referent.fInt Syntax.w8) E G2 7 2 ref4 life2 0 (λ
-              x. x) record { fits = Dec.lit< tt } (Reads.as-is 𝓤 H A (Rows.sslice (Referent.rtF (Referent.fInt Syntax.w8)) ref4 2)) Path.refl tt) d34
-          d36 : Typed.Typed 𝓤 H A 𝓣 E G0 b26 Δ0 at36
-          d36 = Typed.g-pre 𝓤 H A W 𝓣 E G0 G2 b26 Δ0 (Typed.give s0) at35 (Know.g-sl-known 𝓤 H A W (Referent.fInt Syntax.w32) E G0 2 1 ref3 life1 0 (λ
-              x. x) record { fits = Dec.lit< tt } (Reads.as-is 𝓤 H A (Mut.mslice (Referent.rtF (Referent.fInt Syntax.w32)) ref3 1)) Path.refl tt) d35
-          pub typed : Typed.Typed 𝓤 H A 𝓣 E (Function.Γin 3 ps r xs m κs qs) b26 (Function.Δret 3 ps r xs m κs qs) Φ
-          typed = d36
+              (Reads'.room-gone 𝓤 H A Laws''.mir) tt Path.refl) d39
+          d41 : Typed.Typed 𝓤 H A 𝓣 E G3 b32 Δ0 at41
+          d41 = Typed.s-seq 𝓤 H A W 𝓣 E G3 G4 b0 b31 Δ0 (Typed.pass T3 T4 s2) at40 (Scalar.t-use 𝓤 H A W E 𝓣 G3 (Scalar.oFld 1 ((Syntax.field 1) ∷
+              List.[]) (Syntax.tyInt Syntax.w64) 8 Shared.lenV) 9 (Rows.sc-here (Row.sInt Syntax.w64)) (Syntax.tyInt Syntax.w64) (Row.valS (Row.sInt
+              Syntax.w64)) (Row.sInt Syntax.w64 .of) (Mut.reads-mslice-len 𝓤 H A W InflightAction.row ref2 0 8 Path.refl, Path.refl,)
+              (Reads'.room-gone 𝓤 H A (Syntax.tyInt Syntax.w64)) (Scalar.holds-sc 𝓤 H A W (Row.sInt Syntax.w64)) Path.refl (λ u. Path.refl) λ u. tt)
+              d40
+          d42 : Typed.Typed 𝓤 H A 𝓣 E G2 b32 Δ0 at42
+          d42 = Typed.g-pre 𝓤 H A W 𝓣 E G2 G3 b32 Δ0 (Typed.give s1) at41 (Know.g-shs-known 𝓤 H A W (Referent.fInt Syntax.w8) E G2 8 2 ref4 life2 0 (λ
+              x. x) record { fits = Dec.lit< tt } (Reads'.as-is 𝓤 H A (Rows.sslice (Referent.rtF (Referent.fInt Syntax.w8)) ref4 2)) Path.refl tt) d41
+          d43 : Typed.Typed 𝓤 H A 𝓣 E G0 b32 Δ0 at43
+          d43 = Typed.g-pre 𝓤 H A W 𝓣 E G0 G2 b32 Δ0 (Typed.give s0) at42 (Know.g-sl-known 𝓤 H A W (Referent.fInt Syntax.w32) E G0 2 1 ref3 life1 0 (λ
+              x. x) record { fits = Dec.lit< tt } (Reads'.as-is 𝓤 H A (Mut.mslice (Referent.rtF (Referent.fInt Syntax.w32)) ref3 1)) Path.refl tt) d42
+          pub typed : Typed.Typed 𝓤 H A 𝓣 E (Function.Γin 3 ps r xs m κs qs) b32 (Function.Δret 3 ps r xs m κs qs) Φ
+          typed = d43
       module _ (κs : Lifetimes.Lfts 3) where
         pub record Args : Type 0 where
           pub inflight : Kinds.Den { n = 3 } κs (MutSlice.pMutS InflightAction.row 0 tt)
           pub out : Kinds.Den { n = 3 } κs (MutSlice.pMutS (Referent.rtF (Referent.fInt Syntax.w32)) 1 tt)
-          pub before : Kinds.Den { n = 3 } κs (Value.pVal record { ty = Declared.row HnsrAnswer.the-type; one = Path.refl; val = Laws''''''.val
-              HnsrAnswer.the-type Laws.the-laws; tells = Laws''''''.tells HnsrAnswer.the-type Laws.the-laws; still = Laws''''''.still
+          pub before : Kinds.Den { n = 3 } κs (Value.pVal record { ty = Declared.row HnsrAnswer.the-type; one = Path.refl; val = Laws'''''''.val
+              HnsrAnswer.the-type Laws.the-laws; tells = Laws'''''''.tells HnsrAnswer.the-type Laws.the-laws; still = Laws'''''''.still
               HnsrAnswer.the-type Laws.the-copy Exit.yes; row = Rows.whole (Declared.row HnsrAnswer.the-type); rd = λ x. x; mk = λ x. x; } λ M 𝓤 H A
-              W. record { copies = Laws''''''.copy HnsrAnswer.the-type Laws.the-copy 𝓤 H A W; lawful = Laws''''''.lawful HnsrAnswer.the-type
-              Laws.the-laws 𝓤 H A W tt; makes = Laws''''''.makes HnsrAnswer.the-type Laws.the-plain 𝓤 H A; in-mem = Local.mem-whole 𝓤 H A W
+              W. record { copies = Laws'''''''.copy HnsrAnswer.the-type Laws.the-copy 𝓤 H A W; lawful = Laws'''''''.lawful HnsrAnswer.the-type
+              Laws.the-laws 𝓤 H A W tt; makes = Laws'''''''.makes HnsrAnswer.the-type Laws.the-plain 𝓤 H A; in-mem = Local.mem-whole 𝓤 H A W
               (Declared.row HnsrAnswer.the-type); of-mem = Local.whole-mem 𝓤 H A W (Declared.row HnsrAnswer.the-type); })
           pub runtime : Kinds.Den { n = 3 } κs (Value.pVal record { ty = Declared'.row OpaqueRelayRuntime.the-type; one = Path.refl; val =
-              Laws'''''''.val OpaqueRelayRuntime.the-type Laws''''.the-laws; tells = Laws'''''''.tells OpaqueRelayRuntime.the-type Laws''''.the-laws;
-              still = Laws'''''''.still OpaqueRelayRuntime.the-type Laws''''.the-copy Exit.yes; row = Rows.whole (Declared'.row
-              OpaqueRelayRuntime.the-type); rd = λ x. x; mk = λ x. x; } λ M 𝓤 H A W. record { copies = Laws'''''''.copy OpaqueRelayRuntime.the-type
-              Laws''''.the-copy 𝓤 H A W; lawful = Laws'''''''.lawful OpaqueRelayRuntime.the-type Laws''''.the-laws 𝓤 H A W; makes = Laws'''''''.makes
-              OpaqueRelayRuntime.the-type Laws''''.the-plain 𝓤 H A; in-mem = Local.mem-whole 𝓤 H A W (Declared'.row OpaqueRelayRuntime.the-type);
-              of-mem = Local.whole-mem 𝓤 H A W (Declared'.row OpaqueRelayRuntime.the-type); })
-          pub message : Kinds.Den { n = 3 } κs (Value.pVal record { ty = Declared'.row Outgoing.the-type; one = Path.refl; val = Laws'''''''.val
-              Outgoing.the-type Laws'''.the-laws; tells = Laws'''''''.tells Outgoing.the-type Laws'''.the-laws; still = Laws'''''''.still
-              Outgoing.the-type Laws'''.the-copy Exit.yes; row = Rows.whole (Declared'.row Outgoing.the-type); rd = λ x. x; mk = λ x. x; } λ M 𝓤 H A
-              W. record { copies = Laws'''''''.copy Outgoing.the-type Laws'''.the-copy 𝓤 H A W; lawful = Laws'''''''.lawful Outgoing.the-type
-              Laws'''.the-laws 𝓤 H A W; makes = Laws'''''''.makes Outgoing.the-type Laws'''.the-plain 𝓤 H A; in-mem = Local.mem-whole 𝓤 H A W
+              Laws''''''''.val OpaqueRelayRuntime.the-type Laws'''''.the-laws; tells = Laws''''''''.tells OpaqueRelayRuntime.the-type
+              Laws'''''.the-laws; still = Laws''''''''.still OpaqueRelayRuntime.the-type Laws'''''.the-copy Exit.yes; row = Rows.whole (Declared'.row
+              OpaqueRelayRuntime.the-type); rd = λ x. x; mk = λ x. x; } λ M 𝓤 H A W. record { copies = Laws''''''''.copy OpaqueRelayRuntime.the-type
+              Laws'''''.the-copy 𝓤 H A W; lawful = Laws''''''''.lawful OpaqueRelayRuntime.the-type Laws'''''.the-laws 𝓤 H A W; makes =
+              Laws''''''''.makes OpaqueRelayRuntime.the-type Laws'''''.the-plain 𝓤 H A; in-mem = Local.mem-whole 𝓤 H A W (Declared'.row
+              OpaqueRelayRuntime.the-type); of-mem = Local.whole-mem 𝓤 H A W (Declared'.row OpaqueRelayRuntime.the-type); })
+          pub places : Kinds.Den { n = 3 } κs (Value.pVal record { ty = Declared'.row Places.the-type; one = Path.refl; val = Laws''''''''.val
+              Places.the-type Laws'.the-laws; tells = Laws''''''''.tells Places.the-type Laws'.the-laws; still = Laws''''''''.still Places.the-type
+              Laws'.the-copy Exit.yes; row = Rows.whole (Declared'.row Places.the-type); rd = λ x. x; mk = λ x. x; } λ M 𝓤 H A W. record { copies =
+              Laws''''''''.copy Places.the-type Laws'.the-copy 𝓤 H A W; lawful = Laws''''''''.lawful Places.the-type Laws'.the-laws 𝓤 H A W; makes =
+              Laws''''''''.makes Places.the-type Laws'.the-plain 𝓤 H A; in-mem = Local.mem-whole 𝓤 H A W (Declared'.row Places.the-type); of-mem =
+              Local.whole-mem 𝓤 H A W (Declared'.row Places.the-type); })
+          pub message : Kinds.Den { n = 3 } κs (Value.pVal record { ty = Declared'.row Outgoing.the-type; one = Path.refl; val = Laws''''''''.val
+              Outgoing.the-type Laws''''.the-laws; tells = Laws''''''''.tells Outgoing.the-type Laws''''.the-laws; still = Laws''''''''.still
+              Outgoing.the-type Laws''''.the-copy Exit.yes; row = Rows.whole (Declared'.row Outgoing.the-type); rd = λ x. x; mk = λ x. x; } λ M 𝓤 H A
+              W. record { copies = Laws''''''''.copy Outgoing.the-type Laws''''.the-copy 𝓤 H A W; lawful = Laws''''''''.lawful Outgoing.the-type
+              Laws''''.the-laws 𝓤 H A W; makes = Laws''''''''.makes Outgoing.the-type Laws''''.the-plain 𝓤 H A; in-mem = Local.mem-whole 𝓤 H A W
               (Declared'.row Outgoing.the-type); of-mem = Local.whole-mem 𝓤 H A W (Declared'.row Outgoing.the-type); })
-          pub scan : Kinds.Den { n = 3 } κs (Value.pVal record { ty = Declared'.row ActionScan.the-type; one = Path.refl; val = Laws'''''''.val
-              ActionScan.the-type Laws''.the-laws; tells = Laws'''''''.tells ActionScan.the-type Laws''.the-laws; still = Laws'''''''.still
-              ActionScan.the-type Laws''.the-copy Exit.yes; row = Rows.whole (Declared'.row ActionScan.the-type); rd = λ x. x; mk = λ x. x; } λ M 𝓤 H
-              A W. record { copies = Laws'''''''.copy ActionScan.the-type Laws''.the-copy 𝓤 H A W; lawful = Laws'''''''.lawful ActionScan.the-type
-              Laws''.the-laws 𝓤 H A W; makes = Laws'''''''.makes ActionScan.the-type Laws''.the-plain 𝓤 H A; in-mem = Local.mem-whole 𝓤 H A W
+          pub scan : Kinds.Den { n = 3 } κs (Value.pVal record { ty = Declared'.row ActionScan.the-type; one = Path.refl; val = Laws''''''''.val
+              ActionScan.the-type Laws'''.the-laws; tells = Laws''''''''.tells ActionScan.the-type Laws'''.the-laws; still = Laws''''''''.still
+              ActionScan.the-type Laws'''.the-copy Exit.yes; row = Rows.whole (Declared'.row ActionScan.the-type); rd = λ x. x; mk = λ x. x; } λ M 𝓤 H
+              A W. record { copies = Laws''''''''.copy ActionScan.the-type Laws'''.the-copy 𝓤 H A W; lawful = Laws''''''''.lawful ActionScan.the-type
+              Laws'''.the-laws 𝓤 H A W; makes = Laws''''''''.makes ActionScan.the-type Laws'''.the-plain 𝓤 H A; in-mem = Local.mem-whole 𝓤 H A W
               (Declared'.row ActionScan.the-type); of-mem = Local.whole-mem 𝓤 H A W (Declared'.row ActionScan.the-type); })
           pub body : Kinds.Den { n = 3 } κs (ShrSlice.pShrS (Referent.rtF (Referent.fInt Syntax.w8)) 2 tt)
         abbrev pub dens : (a : Args) → Kinds.Dens κs ps
-        dens = λ a. (a .inflight, (a .out, (a .before, (a .runtime, (a .message, (a .scan, (a .body, tt)))))),)
+        dens = λ a. (a .inflight, (a .out, (a .before, (a .runtime, (a .places, (a .message, (a .scan, (a .body, tt)))))),),)
       abbrev pub m0 : (κs : Lifetimes.Lfts 3) → (args : Args κs) → Typed.Mo T0
       m0 = λ κs args. (tt, Enter.partsP κs 1 ps xs (dens κs args))
       abbrev W0 : (κs : Lifetimes.Lfts 3) → (args : Args κs) → Typed.Want O0
@@ -1034,6 +1178,8 @@ module _ (claims· : Claims) where
         pub slice-known : After-slice-known·own before
       abbrev pub m2 : (before : After-slice-known) → (given : s1 .gives (m1 (before .before) (before .slice-known .given))) → Typed.Mo T3
       m2 = λ before given. s1 .next (m1 (before .before) (before .slice-known .given)) given
+      abbrev pub m3 : (before : After-slice-known) → (given : s1 .gives (m1 (before .before) (before .slice-known .given))) → Typed.Mo T4
+      m3 = λ before given. s2 (m2 before given)
       module _ (before· : After-slice-known) where
         pub record After-shared-slice-known·own : Type 0 where
           pub given : s1 .gives (m1 (before· .before) (before· .slice-known .given))
@@ -1041,301 +1187,357 @@ module _ (claims· : Claims) where
         pub before : After-slice-known
         pub shared-slice-known : After-shared-slice-known·own before
       abbrev pub Need-queue-requires : Type 0
-      Need-queue-requires = (c : After-shared-slice-known) → s2 .asks (m2 (c .before) (c .shared-slice-known .given))
-      abbrev pub m3 : (before : After-shared-slice-known) → (given : s2 .gives (m2 (before .before) (before .shared-slice-known .given))) → Typed.Mo
-          T4
-      m3 = λ before given. s2 .next (m2 (before .before) (before .shared-slice-known .given)) given
+      Need-queue-requires = (c : After-shared-slice-known) → s3 .asks (m3 (c .before) (c .shared-slice-known .given))
+      abbrev pub m4 : (before : After-shared-slice-known) → (given : s3 .gives (m3 (before .before) (before .shared-slice-known .given))) → Typed.Mo
+          T5
+      m4 = λ before given. s3 .next (m3 (before .before) (before .shared-slice-known .given)) given
       module _ (before· : After-shared-slice-known) where
         abbrev pub After-queue·own : Type 0
-        After-queue·own = Called.Called ps·0 r·0 (claims· .1) T3 (record { pos = 3; st = List.[]; d = 0; at = λ x. x }, (record { pos = 4; st =
-            List.[]; d = 0; at = λ x. x }, (record { pos = 5; st = List.[]; d = 0; at = λ x. x }, (record { pos = 6; st = List.[]; d = 0; at = λ x. x
-            }, tt),),),) (m2 (before· .before) (before· .shared-slice-known .given))
+        After-queue·own = Called.Called ps·0 r·0 (claims· .1) T4 (record { pos = 3; st = List.[]; d = 0; at = λ x. x }, (record { pos = 4; st =
+            List.[]; d = 0; at = λ x. x }, (record { pos = 6; st = List.[]; d = 0; at = λ x. x }, (record { pos = 7; st = List.[]; d = 0; at = λ x. x
+            }, tt),),),) (m3 (before· .before) (before· .shared-slice-known .given))
       pub record After-queue : Type 0 where
         pub before : After-shared-slice-known
         pub queue : After-queue·own before
-      abbrev pub After-queue·gave : (c : After-queue) → s2 .gives (m2 (c .before .before) (c .before .shared-slice-known .given))
-      After-queue·gave = λ c. Called.given ps·0 r·0 (claims· .1) T3 (record { pos = 3; st = List.[]; d = 0; at = λ x. x }, (record { pos = 4; st =
-          List.[]; d = 0; at = λ x. x }, (record { pos = 5; st = List.[]; d = 0; at = λ x. x }, (record { pos = 6; st = List.[]; d = 0; at = λ x. x },
-          tt),),),) (m2 (c .before .before) (c .before .shared-slice-known .given)) (c .queue)
-      abbrev pub m4 : (before : After-shared-slice-known) → (given : s2 .gives (m2 (before .before) (before .shared-slice-known .given))) → Typed.Mo
-          T5
-      m4 = λ before given. s3 (m3 before given)
-      abbrev pub m5 : (before : After-shared-slice-known) → (given : s2 .gives (m2 (before .before) (before .shared-slice-known .given))) → Typed.Mo
+      abbrev pub After-queue·gave : (c : After-queue) → s3 .gives (m3 (c .before .before) (c .before .shared-slice-known .given))
+      After-queue·gave = λ c. Called.given ps·0 r·0 (claims· .1) T4 (record { pos = 3; st = List.[]; d = 0; at = λ x. x }, (record { pos = 4; st =
+          List.[]; d = 0; at = λ x. x }, (record { pos = 6; st = List.[]; d = 0; at = λ x. x }, (record { pos = 7; st = List.[]; d = 0; at = λ x. x },
+          tt),),),) (m3 (c .before .before) (c .before .shared-slice-known .given)) (c .queue)
+      abbrev pub m5 : (before : After-shared-slice-known) → (given : s3 .gives (m3 (before .before) (before .shared-slice-known .given))) → Typed.Mo
           T6
       m5 = λ before given. s4 (m4 before given)
+      abbrev pub m6 : (before : After-shared-slice-known) → (given : s3 .gives (m3 (before .before) (before .shared-slice-known .given))) → Typed.Mo
+          T7
+      m6 = λ before given. s5 (m5 before given)
       abbrev pub Need-queued-action-requires : Type 0
-      Need-queued-action-requires = (c : After-queue) → s5 .asks (m5 (c .before) (After-queue·gave c))
-      abbrev pub m6 : (before : After-queue) → (given : s5 .gives (m5 (before .before) (After-queue·gave before))) → Typed.Mo T7
-      m6 = λ before given. s5 .next (m5 (before .before) (After-queue·gave before)) given
+      Need-queued-action-requires = (c : After-queue) → s6 .asks (m6 (c .before) (After-queue·gave c))
+      abbrev pub m7 : (before : After-queue) → (given : s6 .gives (m6 (before .before) (After-queue·gave before))) → Typed.Mo T8
+      m7 = λ before given. s6 .next (m6 (before .before) (After-queue·gave before)) given
       module _ (before· : After-queue) where
         abbrev pub After-queued-action·own : Type 0
-        After-queued-action·own = Called.Called ps·1 r·1 (claims· .3) T6 (record { pos = 8; st = List.[]; d = 0; at = λ x. x }, tt,) (m5 (before·
+        After-queued-action·own = Called.Called ps·1 r·1 (claims· .3) T7 (record { pos = 10; st = List.[]; d = 0; at = λ x. x }, tt,) (m6 (before·
             .before) (After-queue·gave before·))
       pub record After-queued-action : Type 0 where
         pub before : After-queue
         pub queued-action : After-queued-action·own before
-      abbrev pub After-queued-action·gave : (c : After-queued-action) → s5 .gives (m5 (c .before .before) (After-queue·gave (c .before)))
-      After-queued-action·gave = λ c. Called.given ps·1 r·1 (claims· .3) T6 (record { pos = 8; st = List.[]; d = 0; at = λ x. x }, tt,) (m5 (c .before
-          .before) (After-queue·gave (c .before))) (c .queued-action)
+      abbrev pub After-queued-action·gave : (c : After-queued-action) → s6 .gives (m6 (c .before .before) (After-queue·gave (c .before)))
+      After-queued-action·gave = λ c. Called.given ps·1 r·1 (claims· .3) T7 (record { pos = 10; st = List.[]; d = 0; at = λ x. x }, tt,) (m6 (c
+          .before .before) (After-queue·gave (c .before))) (c .queued-action)
       abbrev pub Need-queued-go-requires : Type 0
-      Need-queued-go-requires = (c : After-queued-action) → s6 .asks (m6 (c .before) (After-queued-action·gave c))
-      abbrev pub m7 : (before : After-queued-action) → (given : s6 .gives (m6 (before .before) (After-queued-action·gave before))) → Typed.Mo T8
-      m7 = λ before given. s6 .next (m6 (before .before) (After-queued-action·gave before)) given
+      Need-queued-go-requires = (c : After-queued-action) → s7 .asks (m7 (c .before) (After-queued-action·gave c))
+      abbrev pub m8 : (before : After-queued-action) → (given : s7 .gives (m7 (before .before) (After-queued-action·gave before))) → Typed.Mo T9
+      m8 = λ before given. s7 .next (m7 (before .before) (After-queued-action·gave before)) given
       module _ (before· : After-queued-action) where
         abbrev pub After-queued-go·own : Type 0
-        After-queued-go·own = Called.Called ps·2 r·2 (claims· .5) T7 (record { pos = 8; st = List.[]; d = 0; at = λ x. x }, tt,) (m6 (before· .before)
-            (After-queued-action·gave before·))
+        After-queued-go·own = Called.Called ps·2 r·2 (claims· .5) T8 (record { pos = 10; st = List.[]; d = 0; at = λ x. x }, tt,) (m7 (before·
+            .before) (After-queued-action·gave before·))
       pub record After-queued-go : Type 0 where
         pub before : After-queued-action
         pub queued-go : After-queued-go·own before
-      abbrev pub After-queued-go·gave : (c : After-queued-go) → s6 .gives (m6 (c .before .before) (After-queued-action·gave (c .before)))
-      After-queued-go·gave = λ c. Called.given ps·2 r·2 (claims· .5) T7 (record { pos = 8; st = List.[]; d = 0; at = λ x. x }, tt,) (m6 (c .before
+      abbrev pub After-queued-go·gave : (c : After-queued-go) → s7 .gives (m7 (c .before .before) (After-queued-action·gave (c .before)))
+      After-queued-go·gave = λ c. Called.given ps·2 r·2 (claims· .5) T8 (record { pos = 10; st = List.[]; d = 0; at = λ x. x }, tt,) (m7 (c .before
           .before) (After-queued-action·gave (c .before))) (c .queued-go)
       abbrev pub Need-queued-place-requires : Type 0
-      Need-queued-place-requires = (c : After-queued-go) → s7 .asks (m7 (c .before) (After-queued-go·gave c))
-      abbrev pub m8 : (before : After-queued-go) → (given : s7 .gives (m7 (before .before) (After-queued-go·gave before))) → Typed.Mo T9
-      m8 = λ before given. s7 .next (m7 (before .before) (After-queued-go·gave before)) given
+      Need-queued-place-requires = (c : After-queued-go) → s8 .asks (m8 (c .before) (After-queued-go·gave c))
+      abbrev pub m9 : (before : After-queued-go) → (given : s8 .gives (m8 (before .before) (After-queued-go·gave before))) → Typed.Mo T10
+      m9 = λ before given. s8 .next (m8 (before .before) (After-queued-go·gave before)) given
       module _ (before· : After-queued-go) where
         abbrev pub After-queued-place·own : Type 0
-        After-queued-place·own = Called.Called ps·3 r·3 (claims· .7) T8 (record { pos = 8; st = List.[]; d = 0; at = λ x. x }, tt,) (m7 (before·
+        After-queued-place·own = Called.Called ps·3 r·3 (claims· .7) T9 (record { pos = 10; st = List.[]; d = 0; at = λ x. x }, tt,) (m8 (before·
             .before) (After-queued-go·gave before·))
       pub record After-queued-place : Type 0 where
         pub before : After-queued-go
         pub queued-place : After-queued-place·own before
-      abbrev pub After-queued-place·gave : (c : After-queued-place) → s7 .gives (m7 (c .before .before) (After-queued-go·gave (c .before)))
-      After-queued-place·gave = λ c. Called.given ps·3 r·3 (claims· .7) T8 (record { pos = 8; st = List.[]; d = 0; at = λ x. x }, tt,) (m7 (c .before
+      abbrev pub After-queued-place·gave : (c : After-queued-place) → s8 .gives (m8 (c .before .before) (After-queued-go·gave (c .before)))
+      After-queued-place·gave = λ c. Called.given ps·3 r·3 (claims· .7) T9 (record { pos = 10; st = List.[]; d = 0; at = λ x. x }, tt,) (m8 (c .before
           .before) (After-queued-go·gave (c .before))) (c .queued-place)
-      abbrev pub m9 : (before : After-queued-place) → (given : s9 .gives (m8 (before .before) (After-queued-place·gave before))) → Typed.Mo T11
-      m9 = λ before given. s9 .next (m8 (before .before) (After-queued-place·gave before)) given
-      abbrev pub m10 : (before : After-queued-place) → (given : s9 .gives (m8 (before .before) (After-queued-place·gave before))) → Typed.Mo T12
-      m10 = λ before given. s10 .next (m9 before given)
+      abbrev pub Need-raised-requires : Type 0
+      Need-raised-requires = (c : After-queued-place) → s9 .asks (m9 (c .before) (After-queued-place·gave c))
+      abbrev pub m10 : (before : After-queued-place) → (given : s9 .gives (m9 (before .before) (After-queued-place·gave before))) → Typed.Mo T11
+      m10 = λ before given. s9 .next (m9 (before .before) (After-queued-place·gave before)) given
       module _ (before· : After-queued-place) where
-        pub record After-set-action-arg·own : Type 0 where
-          pub given : s9 .gives (m8 (before· .before) (After-queued-place·gave before·))
-      pub record After-set-action-arg : Type 0 where
+        abbrev pub After-raised·own : Type 0
+        After-raised·own = Called.Called ps·4 r·4 (claims· .9) T10 (Num.vFld 5 ((Syntax.field 3) ∷ List.[]) 24 λ x. Places.struct .as-values x .1 .1
+            .1 .0, (Bool.bAt 12 λ x. x, (Num.vAt 13 λ x. x, (Num.vAt 9 λ x. x, tt))),) (m9 (before· .before) (After-queued-place·gave before·))
+      pub record After-raised : Type 0 where
         pub before : After-queued-place
+        pub raised : After-raised·own before
+      abbrev pub After-raised·gave : (c : After-raised) → s9 .gives (m9 (c .before .before) (After-queued-place·gave (c .before)))
+      After-raised·gave = λ c. Called.given ps·4 r·4 (claims· .9) T10 (Num.vFld 5 ((Syntax.field 3) ∷ List.[]) 24 λ x. Places.struct .as-values x .1
+          .1 .1 .0, (Bool.bAt 12 λ x. x, (Num.vAt 13 λ x. x, (Num.vAt 9 λ x. x, tt))),) (m9 (c .before .before) (After-queued-place·gave (c .before)))
+          (c .raised)
+      abbrev pub Need-with-actions-requires : Type 0
+      Need-with-actions-requires = (c : After-raised) → s10 .asks (m10 (c .before) (After-raised·gave c))
+      abbrev pub m11 : (before : After-raised) → (given : s10 .gives (m10 (before .before) (After-raised·gave before))) → Typed.Mo T12
+      m11 = λ before given. s10 .next (m10 (before .before) (After-raised·gave before)) given
+      module _ (before· : After-raised) where
+        abbrev pub After-with-actions·own : Type 0
+        After-with-actions·own = Called.Called ps·5 r·5 (claims· .11) T11 (record { pos = 5; st = List.[]; d = 0; at = λ x. x }, (Num.vAt 14 λ x. x,
+            tt),) (m10 (before· .before) (After-raised·gave before·))
+      pub record After-with-actions : Type 0 where
+        pub before : After-raised
+        pub with-actions : After-with-actions·own before
+      abbrev pub After-with-actions·gave : (c : After-with-actions) → s10 .gives (m10 (c .before .before) (After-raised·gave (c .before)))
+      After-with-actions·gave = λ c. Called.given ps·5 r·5 (claims· .11) T11 (record { pos = 5; st = List.[]; d = 0; at = λ x. x }, (Num.vAt 14 λ x.
+          x, tt),) (m10 (c .before .before) (After-raised·gave (c .before))) (c .with-actions)
+      abbrev pub m12 : (before : After-raised) → (given : s10 .gives (m10 (before .before) (After-raised·gave before))) → Typed.Mo T13
+      m12 = λ before given. s11 (m11 before given)
+      abbrev pub m13 : (before : After-with-actions) → (given : s13 .gives (m12 (before .before) (After-with-actions·gave before))) → Typed.Mo T15
+      m13 = λ before given. s13 .next (m12 (before .before) (After-with-actions·gave before)) given
+      abbrev pub m14 : (before : After-with-actions) → (given : s13 .gives (m12 (before .before) (After-with-actions·gave before))) → Typed.Mo T16
+      m14 = λ before given. s14 .next (m13 before given)
+      module _ (before· : After-with-actions) where
+        pub record After-set-action-arg·own : Type 0 where
+          pub given : s13 .gives (m12 (before· .before) (After-with-actions·gave before·))
+      pub record After-set-action-arg : Type 0 where
+        pub before : After-with-actions
         pub set-action-arg : After-set-action-arg·own before
       abbrev pub Need-set-action-requires : Type 0
-      Need-set-action-requires = (c : After-set-action-arg) → s11 .asks (m10 (c .before) (c .set-action-arg .given))
-      abbrev pub m11 : (before : After-set-action-arg) → (given : s11 .gives (m10 (before .before) (before .set-action-arg .given))) → Typed.Mo T13
-      m11 = λ before given. s11 .next (m10 (before .before) (before .set-action-arg .given)) given
+      Need-set-action-requires = (c : After-set-action-arg) → s15 .asks (m14 (c .before) (c .set-action-arg .given))
+      abbrev pub m15 : (before : After-set-action-arg) → (given : s15 .gives (m14 (before .before) (before .set-action-arg .given))) → Typed.Mo T17
+      m15 = λ before given. s15 .next (m14 (before .before) (before .set-action-arg .given)) given
       module _ (before· : After-set-action-arg) where
         abbrev pub After-set-action·own : Type 0
-        After-set-action·own = Called.Called ps·4 r·4 (claims· .9) T12 (record { pos = 15; ty = Syntax.tyRef Syntax.erased Syntax.mut
-            InflightAction.to; ref = λ x. x; }, (Bool.bAt 10 λ x. x, (Num.vAt 11 λ x. x, (record { pos = 9; st = List.[]; d = 0; at = λ x. x },
-            tt)),),) (m10 (before· .before) (before· .set-action-arg .given))
+        After-set-action·own = Called.Called ps·6 r·6 (claims· .13) T16 (record { pos = 19; ty = Syntax.tyRef Syntax.erased Syntax.mut
+            InflightAction.to; ref = λ x. x; }, (Bool.bAt 12 λ x. x, (Num.vAt 13 λ x. x, (record { pos = 11; st = List.[]; d = 0; at = λ x. x },
+            tt)),),) (m14 (before· .before) (before· .set-action-arg .given))
       pub record After-set-action : Type 0 where
         pub before : After-set-action-arg
         pub set-action : After-set-action·own before
-      abbrev pub After-set-action·gave : (c : After-set-action) → s11 .gives (m10 (c .before .before) (c .before .set-action-arg .given))
-      After-set-action·gave = λ c. Called.given ps·4 r·4 (claims· .9) T12 (record { pos = 15; ty = Syntax.tyRef Syntax.erased Syntax.mut
-          InflightAction.to; ref = λ x. x; }, (Bool.bAt 10 λ x. x, (Num.vAt 11 λ x. x, (record { pos = 9; st = List.[]; d = 0; at = λ x. x }, tt)),),)
-          (m10 (c .before .before) (c .before .set-action-arg .given)) (c .set-action)
-      abbrev pub m12 : (before : After-set-action-arg) → (given : s11 .gives (m10 (before .before) (before .set-action-arg .given))) → Typed.Mo T14
-      m12 = λ before given. s12 (m11 before given)
-      abbrev pub m13 : (before : After-set-action-arg) → (given : s11 .gives (m10 (before .before) (before .set-action-arg .given))) → Typed.Mo T15
-      m13 = λ before given. s13 (m12 before given)
-      abbrev pub m14 : (before : After-set-action) → (given : s15 .gives (m13 (before .before) (After-set-action·gave before))) → Typed.Mo T17
-      m14 = λ before given. s15 .next (m13 (before .before) (After-set-action·gave before)) given
+      abbrev pub After-set-action·gave : (c : After-set-action) → s15 .gives (m14 (c .before .before) (c .before .set-action-arg .given))
+      After-set-action·gave = λ c. Called.given ps·6 r·6 (claims· .13) T16 (record { pos = 19; ty = Syntax.tyRef Syntax.erased Syntax.mut
+          InflightAction.to; ref = λ x. x; }, (Bool.bAt 12 λ x. x, (Num.vAt 13 λ x. x, (record { pos = 11; st = List.[]; d = 0; at = λ x. x },
+          tt)),),) (m14 (c .before .before) (c .before .set-action-arg .given)) (c .set-action)
+      abbrev pub m16 : (before : After-set-action-arg) → (given : s15 .gives (m14 (before .before) (before .set-action-arg .given))) → Typed.Mo T18
+      m16 = λ before given. s16 (m15 before given)
+      abbrev pub m17 : (before : After-set-action-arg) → (given : s15 .gives (m14 (before .before) (before .set-action-arg .given))) → Typed.Mo T19
+      m17 = λ before given. s17 (m16 before given)
+      abbrev pub m18 : (before : After-set-action) → (given : s19 .gives (m17 (before .before) (After-set-action·gave before))) → Typed.Mo T21
+      m18 = λ before given. s19 .next (m17 (before .before) (After-set-action·gave before)) given
       module _ (before· : After-set-action) where
         pub record After-inflight·own : Type 0 where
-          pub given : s15 .gives (m13 (before· .before) (After-set-action·gave before·))
+          pub given : s19 .gives (m17 (before· .before) (After-set-action·gave before·))
       pub record After-inflight : Type 0 where
         pub before : After-set-action
         pub inflight : After-inflight·own before
-      abbrev pub m15 : (before : After-inflight) → (given : s18 .gives (m14 (before .before) (before .inflight .given))) → Typed.Mo T20
-      m15 = λ before given. s18 .next (m14 (before .before) (before .inflight .given)) given
-      abbrev pub m16 : (before : After-inflight) → (given : s18 .gives (m14 (before .before) (before .inflight .given))) → Typed.Mo T21
-      m16 = λ before given. s19 .next (m15 before given)
+      abbrev pub m19 : (before : After-inflight) → (given : s22 .gives (m18 (before .before) (before .inflight .given))) → Typed.Mo T24
+      m19 = λ before given. s22 .next (m18 (before .before) (before .inflight .given)) given
+      abbrev pub m20 : (before : After-inflight) → (given : s22 .gives (m18 (before .before) (before .inflight .given))) → Typed.Mo T25
+      m20 = λ before given. s23 .next (m19 before given)
       module _ (before· : After-inflight) where
         pub record After-put-queued-arg·own : Type 0 where
-          pub given : s18 .gives (m14 (before· .before) (before· .inflight .given))
+          pub given : s22 .gives (m18 (before· .before) (before· .inflight .given))
       pub record After-put-queued-arg : Type 0 where
         pub before : After-inflight
         pub put-queued-arg : After-put-queued-arg·own before
       abbrev pub Need-put-queued-requires : Type 0
-      Need-put-queued-requires = (c : After-put-queued-arg) → s20 .asks (m16 (c .before) (c .put-queued-arg .given))
-      abbrev pub m17 : (before : After-put-queued-arg) → (given : s20 .gives (m16 (before .before) (before .put-queued-arg .given))) → Typed.Mo T22
-      m17 = λ before given. s20 .next (m16 (before .before) (before .put-queued-arg .given)) given
+      Need-put-queued-requires = (c : After-put-queued-arg) → s24 .asks (m20 (c .before) (c .put-queued-arg .given))
+      abbrev pub m21 : (before : After-put-queued-arg) → (given : s24 .gives (m20 (before .before) (before .put-queued-arg .given))) → Typed.Mo T26
+      m21 = λ before given. s24 .next (m20 (before .before) (before .put-queued-arg .given)) given
       module _ (before· : After-put-queued-arg) where
         abbrev pub After-put-queued·own : Type 0
-        After-put-queued·own = Called.Called ps·5 r·5 (claims· .11) T21 (record { pos = 17; ty = Syntax.tyRef Syntax.erased Syntax.mut (Syntax.tyInt
-            Syntax.w32); ref = λ x. x; }, (Bool.bAt 10 λ x. x, (Num.vLit 0, (record { pos = 5; st = List.[]; d = 0; at = λ x. x }, (record { pos = 4;
-            st = List.[]; d = 0; at = λ x. x }, (record { pos = 7; ty = Syntax.tyRef (Syntax.named 2) Syntax.imm (Syntax.tyInt Syntax.w8); ref = λ x.
-            x; }, tt,),),),),),) (m16 (before· .before) (before· .put-queued-arg .given))
+        After-put-queued·own = Called.Called ps·7 r·7 (claims· .15) T25 (record { pos = 21; ty = Syntax.tyRef Syntax.erased Syntax.mut (Syntax.tyInt
+            Syntax.w32); ref = λ x. x; }, (Bool.bAt 12 λ x. x, (Num.vLit 0, (record { pos = 6; st = List.[]; d = 0; at = λ x. x }, (record { pos = 4;
+            st = List.[]; d = 0; at = λ x. x }, (record { pos = 8; ty = Syntax.tyRef (Syntax.named 2) Syntax.imm (Syntax.tyInt Syntax.w8); ref = λ x.
+            x; }, tt,),),),),),) (m20 (before· .before) (before· .put-queued-arg .given))
       pub record After-put-queued : Type 0 where
         pub before : After-put-queued-arg
         pub put-queued : After-put-queued·own before
-      abbrev pub After-put-queued·gave : (c : After-put-queued) → s20 .gives (m16 (c .before .before) (c .before .put-queued-arg .given))
-      After-put-queued·gave = λ c. Called.given ps·5 r·5 (claims· .11) T21 (record { pos = 17; ty = Syntax.tyRef Syntax.erased Syntax.mut
-          (Syntax.tyInt Syntax.w32); ref = λ x. x; }, (Bool.bAt 10 λ x. x, (Num.vLit 0, (record { pos = 5; st = List.[]; d = 0; at = λ x. x }, (record
-          { pos = 4; st = List.[]; d = 0; at = λ x. x }, (record { pos = 7; ty = Syntax.tyRef (Syntax.named 2) Syntax.imm (Syntax.tyInt Syntax.w8);
-          ref = λ x. x; }, tt,),),),),),) (m16 (c .before .before) (c .before .put-queued-arg .given)) (c .put-queued)
-      abbrev pub m18 : (before : After-put-queued-arg) → (given : s20 .gives (m16 (before .before) (before .put-queued-arg .given))) → Typed.Mo T23
-      m18 = λ before given. s21 (m17 before given)
-      abbrev pub m19 : (before : After-put-queued-arg) → (given : s20 .gives (m16 (before .before) (before .put-queued-arg .given))) → Typed.Mo T24
-      m19 = λ before given. s22 (m18 before given)
-      abbrev pub m20 : (before : After-put-queued-arg) → (given : s20 .gives (m16 (before .before) (before .put-queued-arg .given))) → Typed.Mo T25
-      m20 = λ before given. s23 (m19 before given)
-      abbrev pub m21 : (before : After-put-queued) → (given : s25 .gives (m20 (before .before) (After-put-queued·gave before))) → Typed.Mo T27
-      m21 = λ before given. s25 .next (m20 (before .before) (After-put-queued·gave before)) given
+      abbrev pub After-put-queued·gave : (c : After-put-queued) → s24 .gives (m20 (c .before .before) (c .before .put-queued-arg .given))
+      After-put-queued·gave = λ c. Called.given ps·7 r·7 (claims· .15) T25 (record { pos = 21; ty = Syntax.tyRef Syntax.erased Syntax.mut
+          (Syntax.tyInt Syntax.w32); ref = λ x. x; }, (Bool.bAt 12 λ x. x, (Num.vLit 0, (record { pos = 6; st = List.[]; d = 0; at = λ x. x }, (record
+          { pos = 4; st = List.[]; d = 0; at = λ x. x }, (record { pos = 8; ty = Syntax.tyRef (Syntax.named 2) Syntax.imm (Syntax.tyInt Syntax.w8);
+          ref = λ x. x; }, tt,),),),),),) (m20 (c .before .before) (c .before .put-queued-arg .given)) (c .put-queued)
+      abbrev pub m22 : (before : After-put-queued-arg) → (given : s24 .gives (m20 (before .before) (before .put-queued-arg .given))) → Typed.Mo T27
+      m22 = λ before given. s25 (m21 before given)
+      abbrev pub m23 : (before : After-put-queued-arg) → (given : s24 .gives (m20 (before .before) (before .put-queued-arg .given))) → Typed.Mo T28
+      m23 = λ before given. s26 (m22 before given)
+      abbrev pub m24 : (before : After-put-queued-arg) → (given : s24 .gives (m20 (before .before) (before .put-queued-arg .given))) → Typed.Mo T29
+      m24 = λ before given. s27 (m23 before given)
+      abbrev pub m25 : (before : After-put-queued) → (given : s29 .gives (m24 (before .before) (After-put-queued·gave before))) → Typed.Mo T31
+      m25 = λ before given. s29 .next (m24 (before .before) (After-put-queued·gave before)) given
       module _ (before· : After-put-queued) where
         pub record After-out·own : Type 0 where
-          pub given : s25 .gives (m20 (before· .before) (After-put-queued·gave before·))
+          pub given : s29 .gives (m24 (before· .before) (After-put-queued·gave before·))
       pub record After-out : Type 0 where
         pub before : After-put-queued
         pub out : After-out·own before
-      abbrev pub m22 : (before : After-out) → (given : s26 .gives (m21 (before .before) (before .out .given))) → Typed.Mo T28
-      m22 = λ before given. s26 .next (m21 (before .before) (before .out .given)) given
-      abbrev pub m23 : (before : After-out) → (given : s26 .gives (m21 (before .before) (before .out .given))) → Typed.Mo T30
-      m23 = λ before given. s28 (m22 before given)
+      abbrev pub m26 : (before : After-out) → (given : s30 .gives (m25 (before .before) (before .out .given))) → Typed.Mo T32
+      m26 = λ before given. s30 .next (m25 (before .before) (before .out .given)) given
+      abbrev pub m27 : (before : After-out) → (given : s30 .gives (m25 (before .before) (before .out .given))) → Typed.Mo T34
+      m27 = λ before given. s32 (m26 before given)
       module _ (before· : After-out) where
         pub record After-slice-known2·own : Type 0 where
-          pub given : s26 .gives (m21 (before· .before) (before· .out .given))
+          pub given : s30 .gives (m25 (before· .before) (before· .out .given))
       pub record After-slice-known2 : Type 0 where
         pub before : After-out
         pub slice-known2 : After-slice-known2·own before
       abbrev pub Need-position-after-requires : Type 0
-      Need-position-after-requires = (c : After-slice-known2) → s29 .asks (m23 (c .before) (c .slice-known2 .given))
-      abbrev pub m24 : (before : After-slice-known2) → (given : s29 .gives (m23 (before .before) (before .slice-known2 .given))) → Typed.Mo T31
-      m24 = λ before given. s29 .next (m23 (before .before) (before .slice-known2 .given)) given
+      Need-position-after-requires = (c : After-slice-known2) → s33 .asks (m27 (c .before) (c .slice-known2 .given))
+      abbrev pub m28 : (before : After-slice-known2) → (given : s33 .gives (m27 (before .before) (before .slice-known2 .given))) → Typed.Mo T35
+      m28 = λ before given. s33 .next (m27 (before .before) (before .slice-known2 .given)) given
       module _ (before· : After-slice-known2) where
         abbrev pub After-position-after·own : Type 0
-        After-position-after·own = Called.Called ps·6 r·6 (claims· .13) T30 (Bool.bAt 10 λ x. x, (Num.vLit 0, (Num.vAt 18 λ x. x, tt)),) (m23 (before·
+        After-position-after·own = Called.Called ps·8 r·8 (claims· .17) T34 (Bool.bAt 12 λ x. x, (Num.vLit 0, (Num.vAt 22 λ x. x, tt)),) (m27 (before·
             .before) (before· .slice-known2 .given))
       pub record After-position-after : Type 0 where
         pub before : After-slice-known2
         pub position-after : After-position-after·own before
-      abbrev pub After-position-after·gave : (c : After-position-after) → s29 .gives (m23 (c .before .before) (c .before .slice-known2 .given))
-      After-position-after·gave = λ c. Called.given ps·6 r·6 (claims· .13) T30 (Bool.bAt 10 λ x. x, (Num.vLit 0, (Num.vAt 18 λ x. x, tt)),) (m23 (c
+      abbrev pub After-position-after·gave : (c : After-position-after) → s33 .gives (m27 (c .before .before) (c .before .slice-known2 .given))
+      After-position-after·gave = λ c. Called.given ps·8 r·8 (claims· .17) T34 (Bool.bAt 12 λ x. x, (Num.vLit 0, (Num.vAt 22 λ x. x, tt)),) (m27 (c
           .before .before) (c .before .slice-known2 .given)) (c .position-after)
-      abbrev pub m25 : (before : After-slice-known2) → (given : s29 .gives (m23 (before .before) (before .slice-known2 .given))) → Typed.Mo T32
-      m25 = λ before given. s30 (m24 before given)
+      abbrev pub m29 : (before : After-slice-known2) → (given : s33 .gives (m27 (before .before) (before .slice-known2 .given))) → Typed.Mo T36
+      m29 = λ before given. s34 (m28 before given)
       abbrev pub Need-relayed-requires : Type 0
-      Need-relayed-requires = (c : After-position-after) → s31 .asks (m25 (c .before) (After-position-after·gave c))
-      abbrev pub m26 : (before : After-position-after) → (given : s31 .gives (m25 (before .before) (After-position-after·gave before))) → Typed.Mo T33
-      m26 = λ before given. s31 .next (m25 (before .before) (After-position-after·gave before)) given
+      Need-relayed-requires = (c : After-position-after) → s35 .asks (m29 (c .before) (After-position-after·gave c))
+      abbrev pub m30 : (before : After-position-after) → (given : s35 .gives (m29 (before .before) (After-position-after·gave before))) → Typed.Mo T37
+      m30 = λ before given. s35 .next (m29 (before .before) (After-position-after·gave before)) given
       module _ (before· : After-position-after) where
         abbrev pub After-relayed·own : Type 0
-        After-relayed·own = Called.Called ps·7 r·7 (claims· .15) T32 (record { pos = 8; st = List.[]; d = 0; at = λ x. x }, (Num.vAt 12 λ x. x, tt),)
-            (m25 (before· .before) (After-position-after·gave before·))
+        After-relayed·own = Called.Called ps·9 r·9 (claims· .19) T36 (record { pos = 10; st = List.[]; d = 0; at = λ x. x }, (Num.vAt 16 λ x. x,
+            (record { pos = 15; st = List.[]; d = 0; at = λ x. x }, tt)),) (m29 (before· .before) (After-position-after·gave before·))
       pub record After-relayed : Type 0 where
         pub before : After-position-after
         pub relayed : After-relayed·own before
-      abbrev pub After-relayed·gave : (c : After-relayed) → s31 .gives (m25 (c .before .before) (After-position-after·gave (c .before)))
-      After-relayed·gave = λ c. Called.given ps·7 r·7 (claims· .15) T32 (record { pos = 8; st = List.[]; d = 0; at = λ x. x }, (Num.vAt 12 λ x. x,
-          tt),) (m25 (c .before .before) (After-position-after·gave (c .before))) (c .relayed)
-      abbrev pub m27 : (before : After-position-after) → (given : s31 .gives (m25 (before .before) (After-position-after·gave before))) → Typed.Mo T34
-      m27 = λ before given. s32 (m26 before given)
-      abbrev pub m28 : (before : After-position-after) → (given : s31 .gives (m25 (before .before) (After-position-after·gave before))) → Typed.Mo T35
-      m28 = λ before given. s33 (m27 before given)
-      abbrev pub m29 : (before : After-position-after) → (given : s31 .gives (m25 (before .before) (After-position-after·gave before))) → Typed.Mo T36
-      m29 = λ before given. s34 (m28 before given)
-      abbrev pub m30 : (before : After-position-after) → (given : s31 .gives (m25 (before .before) (After-position-after·gave before))) → Typed.Mo T37
-      m30 = λ before given. s35 (m29 before given)
+      abbrev pub After-relayed·gave : (c : After-relayed) → s35 .gives (m29 (c .before .before) (After-position-after·gave (c .before)))
+      After-relayed·gave = λ c. Called.given ps·9 r·9 (claims· .19) T36 (record { pos = 10; st = List.[]; d = 0; at = λ x. x }, (Num.vAt 16 λ x. x,
+          (record { pos = 15; st = List.[]; d = 0; at = λ x. x }, tt)),) (m29 (c .before .before) (After-position-after·gave (c .before))) (c
+          .relayed)
+      abbrev pub m31 : (before : After-position-after) → (given : s35 .gives (m29 (before .before) (After-position-after·gave before))) → Typed.Mo T38
+      m31 = λ before given. s36 (m30 before given)
+      abbrev pub m32 : (before : After-position-after) → (given : s35 .gives (m29 (before .before) (After-position-after·gave before))) → Typed.Mo T39
+      m32 = λ before given. s37 (m31 before given)
+      abbrev pub m33 : (before : After-position-after) → (given : s35 .gives (m29 (before .before) (After-position-after·gave before))) → Typed.Mo T40
+      m33 = λ before given. s38 (m32 before given)
+      abbrev pub m34 : (before : After-position-after) → (given : s35 .gives (m29 (before .before) (After-position-after·gave before))) → Typed.Mo T41
+      m34 = λ before given. s39 (m33 before given)
+      abbrev pub m35 : (before : After-position-after) → (given : s35 .gives (m29 (before .before) (After-position-after·gave before))) → Typed.Mo T42
+      m35 = λ before given. s40 (m34 before given)
+      abbrev pub m36 : (before : After-position-after) → (given : s35 .gives (m29 (before .before) (After-position-after·gave before))) → Typed.Mo T43
+      m36 = λ before given. s41 (m35 before given)
+      abbrev pub m37 : (before : After-position-after) → (given : s35 .gives (m29 (before .before) (After-position-after·gave before))) → Typed.Mo T44
+      m37 = λ before given. s42 (m36 before given)
       abbrev pub Need-same-length : Type 0
-      Need-same-length = (c : After-relayed) → MutSlice.SameLen (Row.get 1 (T37 .locals) (m30 (c .before) (After-relayed·gave c))) (dens (c .before
-          .before .before .before .before .before .before .before .before .before .before .before .before .before .before .κs) (c .before .before
-          .before .before .before .before .before .before .before .before .before .before .before .before .before .args) .0)
+      Need-same-length = (c : After-relayed) → MutSlice.SameLen (Row.get 1 (T44 .locals) (m37 (c .before) (After-relayed·gave c))) (dens (c .before
+          .before .before .before .before .before .before .before .before .before .before .before .before .before .before .before .before .κs) (c
+          .before .before .before .before .before .before .before .before .before .before .before .before .before .before .before .before .before
+          .args) .0)
       abbrev pub Need-same-length-2 : Type 0
-      Need-same-length-2 = (c : After-relayed) → MutSlice.SameLen (Row.get 2 (T37 .locals) (m30 (c .before) (After-relayed·gave c))) (dens (c .before
-          .before .before .before .before .before .before .before .before .before .before .before .before .before .before .κs) (c .before .before
-          .before .before .before .before .before .before .before .before .before .before .before .before .before .args) .1 .0)
+      Need-same-length-2 = (c : After-relayed) → MutSlice.SameLen (Row.get 2 (T44 .locals) (m37 (c .before) (After-relayed·gave c))) (dens (c .before
+          .before .before .before .before .before .before .before .before .before .before .before .before .before .before .before .before .κs) (c
+          .before .before .before .before .before .before .before .before .before .before .before .before .before .before .before .before .before
+          .args) .1 .0)
       abbrev pub Need-returns : Type 0
       Need-returns = (c : After-relayed) → Post· (c .before .before .before .before .before .before .before .before .before .before .before .before
-          .before .before .before .κs) (dens (c .before .before .before .before .before .before .before .before .before .before .before .before
-          .before .before .before .κs) (c .before .before .before .before .before .before .before .before .before .before .before .before .before
-          .before .before .args)) (Function.resV r (c .before .before .before .before .before .before .before .before .before .before .before .before
-          .before .before .before .κs) (m30 (c .before) (After-relayed·gave c) .0)) (Clauses.atExit (Kinds.endedOf 3 ps r) (c .before .before .before
-          .before .before .before .before .before .before .before .before .before .before .before .before .κs) (dens (c .before .before .before
-          .before .before .before .before .before .before .before .before .before .before .before .before .κs) (c .before .before .before .before
-          .before .before .before .before .before .before .before .before .before .before .before .args)) (Enter.lastsP (c .before .before .before
-          .before .before .before .before .before .before .before .before .before .before .before .before .κs) 1 ps xs (dens (c .before .before
-          .before .before .before .before .before .before .before .before .before .before .before .before .before .κs) (c .before .before .before
-          .before .before .before .before .before .before .before .before .before .before .before .before .args)) (m30 (c .before) (After-relayed·gave
-          c) .1)))
+          .before .before .before .before .before .κs) (dens (c .before .before .before .before .before .before .before .before .before .before
+          .before .before .before .before .before .before .before .κs) (c .before .before .before .before .before .before .before .before .before
+          .before .before .before .before .before .before .before .before .args)) (Function.resV r (c .before .before .before .before .before .before
+          .before .before .before .before .before .before .before .before .before .before .before .κs) (m37 (c .before) (After-relayed·gave c) .0))
+          (Clauses.atExit (Kinds.endedOf 3 ps r) (c .before .before .before .before .before .before .before .before .before .before .before .before
+          .before .before .before .before .before .κs) (dens (c .before .before .before .before .before .before .before .before .before .before
+          .before .before .before .before .before .before .before .κs) (c .before .before .before .before .before .before .before .before .before
+          .before .before .before .before .before .before .before .before .args)) (Enter.lastsP (c .before .before .before .before .before .before
+          .before .before .before .before .before .before .before .before .before .before .before .κs) 1 ps xs (dens (c .before .before .before
+          .before .before .before .before .before .before .before .before .before .before .before .before .before .before .κs) (c .before .before
+          .before .before .before .before .before .before .before .before .before .before .before .before .before .before .before .args)) (m37 (c
+          .before) (After-relayed·gave c) .1)))
       module _ (queue-requires : Need-queue-requires) (queued-action-requires : Need-queued-action-requires) (queued-go-requires :
-          Need-queued-go-requires) (queued-place-requires : Need-queued-place-requires) (set-action-requires : Need-set-action-requires)
-          (put-queued-requires : Need-put-queued-requires) (position-after-requires : Need-position-after-requires) (relayed-requires :
-          Need-relayed-requires) (same-length : Need-same-length) (same-length-2 : Need-same-length-2) (returns : Need-returns) where
-        lay8 : (c : After-relayed) → at4 (W0 (c .before .before .before .before .before .before .before .before .before .before .before .before
-            .before .before .before .κs) (c .before .before .before .before .before .before .before .before .before .before .before .before .before
-            .before .before .args)) (m26 (c .before) (After-relayed·gave c))
-        lay8 = λ c. ((MutSlice.fix-len (Row.get 1 (T37 .locals) (m30 (c .before) (After-relayed·gave c)) .ptr) (Row.get 1 (T37 .locals) (m30 (c
-            .before) (After-relayed·gave c)) .name) (Row.get 1 (T37 .locals) (m30 (c .before) (After-relayed·gave c)) .now) (dens (c .before .before
-            .before .before .before .before .before .before .before .before .before .before .before .before .before .κs) (c .before .before .before
-            .before .before .before .before .before .before .before .before .before .before .before .before .args) .0 .now) (same-length record {
-            before = c .before; relayed = c .relayed }), (MutSlice.fix-len (Row.get 2 (T37 .locals) (m30 (c .before) (After-relayed·gave c)) .ptr)
-            (Row.get 2 (T37 .locals) (m30 (c .before) (After-relayed·gave c)) .name) (Row.get 2 (T37 .locals) (m30 (c .before) (After-relayed·gave c))
-            .now) (dens (c .before .before .before .before .before .before .before .before .before .before .before .before .before .before .before
-            .κs) (c .before .before .before .before .before .before .before .before .before .before .before .before .before .before .before .args) .1
-            .0 .now) (same-length-2 record { before = c .before; relayed = c .relayed }), (tt, (tt, (tt, (tt, (Path.refl, tt))))),),), returns record
-            { before = c .before; relayed = c .relayed },)
-        lay7 : (c : After-position-after) → at6 (W0 (c .before .before .before .before .before .before .before .before .before .before .before .before
-            .before .before .κs) (c .before .before .before .before .before .before .before .before .before .before .before .before .before .before
-            .args)) (m24 (c .before) (After-position-after·gave c))
-        lay7 = λ c. (relayed-requires record { before = c .before; position-after = c .position-after }, λ g. lay8 record { before = record { before =
-            c .before; position-after = c .position-after }; relayed = Called.called ps·7 r·7 (claims· .15) T32 (record { pos = 8; st = List.[]; d =
-            0; at = λ x. x }, (Num.vAt 12 λ x. x, tt),) (m25 (c .before) (After-position-after·gave c)) g; },)
-        lay6 : (c : After-put-queued) → at15 (W0 (c .before .before .before .before .before .before .before .before .before .before .before .κs) (c
-            .before .before .before .before .before .before .before .before .before .before .before .args)) (m17 (c .before) (After-put-queued·gave
-            c))
-        lay6 = λ c. (Path.refl, λ g. λ g'. (position-after-requires record { before = record { before = record { before = c .before; put-queued = c
-            .put-queued }; out = record { given = g }; }; slice-known2 = record { given = g' }; }, λ g''. lay7 record { before = record { before =
+          Need-queued-go-requires) (queued-place-requires : Need-queued-place-requires) (raised-requires : Need-raised-requires)
+          (with-actions-requires : Need-with-actions-requires) (set-action-requires : Need-set-action-requires) (put-queued-requires :
+          Need-put-queued-requires) (position-after-requires : Need-position-after-requires) (relayed-requires : Need-relayed-requires) (same-length :
+          Need-same-length) (same-length-2 : Need-same-length-2) (returns : Need-returns) where
+        lay10 : (c : After-relayed) → at7 (W0 (c .before .before .before .before .before .before .before .before .before .before .before .before
+            .before .before .before .before .before .κs) (c .before .before .before .before .before .before .before .before .before .before .before
+            .before .before .before .before .before .before .args)) (m30 (c .before) (After-relayed·gave c))
+        lay10 = λ c. ((MutSlice.fix-len (Row.get 1 (T44 .locals) (m37 (c .before) (After-relayed·gave c)) .ptr) (Row.get 1 (T44 .locals) (m37 (c
+            .before) (After-relayed·gave c)) .name) (Row.get 1 (T44 .locals) (m37 (c .before) (After-relayed·gave c)) .now) (dens (c .before .before
+            .before .before .before .before .before .before .before .before .before .before .before .before .before .before .before .κs) (c .before
+            .before .before .before .before .before .before .before .before .before .before .before .before .before .before .before .before .args) .0
+            .now) (same-length record { before = c .before; relayed = c .relayed }), (MutSlice.fix-len (Row.get 2 (T44 .locals) (m37 (c .before)
+            (After-relayed·gave c)) .ptr) (Row.get 2 (T44 .locals) (m37 (c .before) (After-relayed·gave c)) .name) (Row.get 2 (T44 .locals) (m37 (c
+            .before) (After-relayed·gave c)) .now) (dens (c .before .before .before .before .before .before .before .before .before .before .before
+            .before .before .before .before .before .before .κs) (c .before .before .before .before .before .before .before .before .before .before
+            .before .before .before .before .before .before .before .args) .1 .0 .now) (same-length-2 record { before = c .before; relayed = c
+            .relayed }), (tt, (tt, (tt, (tt, (tt, (Path.refl, tt)))))),),), returns record { before = c .before; relayed = c .relayed },)
+        lay9 : (c : After-position-after) → at9 (W0 (c .before .before .before .before .before .before .before .before .before .before .before .before
+            .before .before .before .before .κs) (c .before .before .before .before .before .before .before .before .before .before .before .before
+            .before .before .before .before .args)) (m28 (c .before) (After-position-after·gave c))
+        lay9 = λ c. (relayed-requires record { before = c .before; position-after = c .position-after }, λ g. lay10 record { before = record { before
+            = c .before; position-after = c .position-after }; relayed = Called.called ps·9 r·9 (claims· .19) T36 (record { pos = 10; st = List.[]; d
+            = 0; at = λ x. x }, (Num.vAt 16 λ x. x, (record { pos = 15; st = List.[]; d = 0; at = λ x. x }, tt)),) (m29 (c .before)
+            (After-position-after·gave c)) g; },)
+        lay8 : (c : After-put-queued) → at18 (W0 (c .before .before .before .before .before .before .before .before .before .before .before .before
+            .before .κs) (c .before .before .before .before .before .before .before .before .before .before .before .before .before .args)) (m21 (c
+            .before) (After-put-queued·gave c))
+        lay8 = λ c. (Path.refl, λ g. λ g'. (position-after-requires record { before = record { before = record { before = c .before; put-queued = c
+            .put-queued }; out = record { given = g }; }; slice-known2 = record { given = g' }; }, λ g''. lay9 record { before = record { before =
             record { before = record { before = c .before; put-queued = c .put-queued }; out = record { given = g }; }; slice-known2 = record { given
-            = g' }; }; position-after = Called.called ps·6 r·6 (claims· .13) T30 (Bool.bAt 10 λ x. x, (Num.vLit 0, (Num.vAt 18 λ x. x, tt)),) (m23
+            = g' }; }; position-after = Called.called ps·8 r·8 (claims· .17) T34 (Bool.bAt 12 λ x. x, (Num.vLit 0, (Num.vAt 22 λ x. x, tt)),) (m27
             record { before = record { before = c .before; put-queued = c .put-queued }; out = record { given = g }; } g') g''; },),)
-        lay5 : (c : After-set-action) → at24 (W0 (c .before .before .before .before .before .before .before .before .κs) (c .before .before .before
-            .before .before .before .before .before .args)) (m11 (c .before) (After-set-action·gave c))
-        lay5 = λ c. (Path.refl, λ g. λ g'. (Path.refl, (put-queued-requires record { before = record { before = record { before = c .before;
-            set-action = c .set-action }; inflight = record { given = g }; }; put-queued-arg = record { given = g' }; }, λ g''. lay6 record { before =
+        lay7 : (c : After-set-action) → at27 (W0 (c .before .before .before .before .before .before .before .before .before .before .κs) (c .before
+            .before .before .before .before .before .before .before .before .before .args)) (m15 (c .before) (After-set-action·gave c))
+        lay7 = λ c. (Path.refl, λ g. λ g'. (Path.refl, (put-queued-requires record { before = record { before = record { before = c .before;
+            set-action = c .set-action }; inflight = record { given = g }; }; put-queued-arg = record { given = g' }; }, λ g''. lay8 record { before =
             record { before = record { before = record { before = c .before; set-action = c .set-action }; inflight = record { given = g }; };
-            put-queued-arg = record { given = g' }; }; put-queued = Called.called ps·5 r·5 (claims· .11) T21 (record { pos = 17; ty = Syntax.tyRef
-            Syntax.erased Syntax.mut (Syntax.tyInt Syntax.w32); ref = λ x. x; }, (Bool.bAt 10 λ x. x, (Num.vLit 0, (record { pos = 5; st = List.[]; d
-            = 0; at = λ x. x }, (record { pos = 4; st = List.[]; d = 0; at = λ x. x }, (record { pos = 7; ty = Syntax.tyRef (Syntax.named 2)
-            Syntax.imm (Syntax.tyInt Syntax.w8); ref = λ x. x; }, tt,),),),),),) (m16 record { before = record { before = c .before; set-action = c
+            put-queued-arg = record { given = g' }; }; put-queued = Called.called ps·7 r·7 (claims· .15) T25 (record { pos = 21; ty = Syntax.tyRef
+            Syntax.erased Syntax.mut (Syntax.tyInt Syntax.w32); ref = λ x. x; }, (Bool.bAt 12 λ x. x, (Num.vLit 0, (record { pos = 6; st = List.[]; d
+            = 0; at = λ x. x }, (record { pos = 4; st = List.[]; d = 0; at = λ x. x }, (record { pos = 8; ty = Syntax.tyRef (Syntax.named 2)
+            Syntax.imm (Syntax.tyInt Syntax.w8); ref = λ x. x; }, tt,),),),),),) (m20 record { before = record { before = c .before; set-action = c
             .set-action }; inflight = record { given = g }; } g') g''; },),),)
-        lay4 : (c : After-queued-place) → at28 (W0 (c .before .before .before .before .before .before .κs) (c .before .before .before .before .before
-            .before .args)) (m8 (c .before) (After-queued-place·gave c))
-        lay4 = λ c. λ g. (Path.refl, (set-action-requires record { before = record { before = c .before; queued-place = c .queued-place };
-            set-action-arg = record { given = g }; }, λ g'. lay5 record { before = record { before = record { before = c .before; queued-place = c
-            .queued-place }; set-action-arg = record { given = g }; }; set-action = Called.called ps·4 r·4 (claims· .9) T12 (record { pos = 15; ty =
-            Syntax.tyRef Syntax.erased Syntax.mut InflightAction.to; ref = λ x. x; }, (Bool.bAt 10 λ x. x, (Num.vAt 11 λ x. x, (record { pos = 9; st =
-            List.[]; d = 0; at = λ x. x }, tt),),),) (m10 record { before = c .before; queued-place = c .queued-place } g) g'; },),)
-        lay3 : (c : After-queued-go) → at29 (W0 (c .before .before .before .before .before .κs) (c .before .before .before .before .before .args)) (m7
+        lay6 : (c : After-with-actions) → at32 (W0 (c .before .before .before .before .before .before .before .before .κs) (c .before .before .before
+            .before .before .before .before .before .args)) (m11 (c .before) (After-with-actions·gave c))
+        lay6 = λ c. λ g. (Path.refl, (set-action-requires record { before = record { before = c .before; with-actions = c .with-actions };
+            set-action-arg = record { given = g }; }, λ g'. lay7 record { before = record { before = record { before = c .before; with-actions = c
+            .with-actions }; set-action-arg = record { given = g }; }; set-action = Called.called ps·6 r·6 (claims· .13) T16 (record { pos = 19; ty =
+            Syntax.tyRef Syntax.erased Syntax.mut InflightAction.to; ref = λ x. x; }, (Bool.bAt 12 λ x. x, (Num.vAt 13 λ x. x, (record { pos = 11; st
+            = List.[]; d = 0; at = λ x. x }, tt),),),) (m14 record { before = c .before; with-actions = c .with-actions } g) g'; },),)
+        lay5 : (c : After-raised) → at33 (W0 (c .before .before .before .before .before .before .before .κs) (c .before .before .before .before
+            .before .before .before .args)) (m10 (c .before) (After-raised·gave c))
+        lay5 = λ c. (with-actions-requires record { before = c .before; raised = c .raised }, λ g. lay6 record { before = record { before = c .before;
+            raised = c .raised }; with-actions = Called.called ps·5 r·5 (claims· .11) T11 (record { pos = 5; st = List.[]; d = 0; at = λ x. x },
+            (Num.vAt 14 λ x. x, tt),) (m10 (c .before) (After-raised·gave c)) g; },)
+        lay4 : (c : After-queued-place) → at34 (W0 (c .before .before .before .before .before .before .κs) (c .before .before .before .before .before
+            .before .args)) (m9 (c .before) (After-queued-place·gave c))
+        lay4 = λ c. (raised-requires record { before = c .before; queued-place = c .queued-place }, λ g. lay5 record { before = record { before = c
+            .before; queued-place = c .queued-place }; raised = Called.called ps·4 r·4 (claims· .9) T10 (Num.vFld 5 ((Syntax.field 3) ∷ List.[]) 24 λ
+            x. Places.struct .as-values x .1 .1 .1 .0, (Bool.bAt 12 λ x. x, (Num.vAt 13 λ x. x, (Num.vAt 9 λ x. x, tt))),) (m9 (c .before)
+            (After-queued-place·gave c)) g; },)
+        lay3 : (c : After-queued-go) → at35 (W0 (c .before .before .before .before .before .κs) (c .before .before .before .before .before .args)) (m8
             (c .before) (After-queued-go·gave c))
         lay3 = λ c. (queued-place-requires record { before = c .before; queued-go = c .queued-go }, λ g. lay4 record { before = record { before = c
-            .before; queued-go = c .queued-go }; queued-place = Called.called ps·3 r·3 (claims· .7) T8 (record { pos = 8; st = List.[]; d = 0; at = λ
-            x. x }, tt,) (m7 (c .before) (After-queued-go·gave c)) g; },)
-        lay2 : (c : After-queued-action) → at30 (W0 (c .before .before .before .before .κs) (c .before .before .before .before .args)) (m6 (c .before)
+            .before; queued-go = c .queued-go }; queued-place = Called.called ps·3 r·3 (claims· .7) T9 (record { pos = 10; st = List.[]; d = 0; at = λ
+            x. x }, tt,) (m8 (c .before) (After-queued-go·gave c)) g; },)
+        lay2 : (c : After-queued-action) → at36 (W0 (c .before .before .before .before .κs) (c .before .before .before .before .args)) (m7 (c .before)
             (After-queued-action·gave c))
         lay2 = λ c. (queued-go-requires record { before = c .before; queued-action = c .queued-action }, λ g. lay3 record { before = record { before =
-            c .before; queued-action = c .queued-action }; queued-go = Called.called ps·2 r·2 (claims· .5) T7 (record { pos = 8; st = List.[]; d = 0;
-            at = λ x. x }, tt,) (m6 (c .before) (After-queued-action·gave c)) g; },)
-        lay1 : (c : After-queue) → at33 (W0 (c .before .before .before .κs) (c .before .before .before .args)) (m3 (c .before) (After-queue·gave c))
+            c .before; queued-action = c .queued-action }; queued-go = Called.called ps·2 r·2 (claims· .5) T8 (record { pos = 10; st = List.[]; d = 0;
+            at = λ x. x }, tt,) (m7 (c .before) (After-queued-action·gave c)) g; },)
+        lay1 : (c : After-queue) → at39 (W0 (c .before .before .before .κs) (c .before .before .before .args)) (m4 (c .before) (After-queue·gave c))
         lay1 = λ c. (queued-action-requires record { before = c .before; queue = c .queue }, λ g. lay2 record { before = record { before = c .before;
-            queue = c .queue }; queued-action = Called.called ps·1 r·1 (claims· .3) T6 (record { pos = 8; st = List.[]; d = 0; at = λ x. x }, tt,) (m5
-            (c .before) (After-queue·gave c)) g; },)
-        pub laid : (c : Start) → at36 (W0 (c .κs) (c .args)) (m0 (c .κs) (c .args))
+            queue = c .queue }; queued-action = Called.called ps·1 r·1 (claims· .3) T7 (record { pos = 10; st = List.[]; d = 0; at = λ x. x }, tt,)
+            (m6 (c .before) (After-queue·gave c)) g; },)
+        pub laid : (c : Start) → at43 (W0 (c .κs) (c .args)) (m0 (c .κs) (c .args))
         laid = λ c. λ g. λ g'. (queue-requires record { before = record { before = c; slice-known = record { given = g } }; shared-slice-known =
             record { given = g' }; }, λ g''. lay1 record { before = record { before = record { before = c; slice-known = record { given = g } };
-            shared-slice-known = record { given = g' }; }; queue = Called.called ps·0 r·0 (claims· .1) T3 (record { pos = 3; st = List.[]; d = 0; at =
-            λ x. x }, (record { pos = 4; st = List.[]; d = 0; at = λ x. x }, (record { pos = 5; st = List.[]; d = 0; at = λ x. x }, (record { pos = 6;
-            st = List.[]; d = 0; at = λ x. x }, tt),),),) (m2 record { before = c; slice-known = record { given = g } } g') g''; },)
+            shared-slice-known = record { given = g' }; }; queue = Called.called ps·0 r·0 (claims· .1) T4 (record { pos = 3; st = List.[]; d = 0; at =
+            λ x. x }, (record { pos = 4; st = List.[]; d = 0; at = λ x. x }, (record { pos = 6; st = List.[]; d = 0; at = λ x. x }, (record { pos = 7;
+            st = List.[]; d = 0; at = λ x. x }, tt),),),) (m3 record { before = c; slice-known = record { given = g } } g') g''; },)
         module _ (κs : Lifetimes.Lfts 3) (qs : Lifetimes.Shares 3) where
           pub asked : (a : Kinds.Dens κs ps) → (good : Kinds.GoodsP κs ps a) → (pre : Pre· κs a) → (bs : List.List Nat.ℕ) → Φ (Any.wantQ 3 ps r xs m
               κs qs a (Post· κs a)) (Function.init 3 ps r xs m κs qs a)
           asked = λ a good pre bs. laid record { κs = κs; args = record { inflight = a .0; out = a .1 .0; before = a .1 .1 .0; runtime = a .1 .1 .1
-              .0; message = a .1 .1 .1 .1 .0; scan = a .1 .1 .1 .1 .1 .0; body = a .1 .1 .1 .1 .1 .1 .0; }; good = good; pre = pre; }
+              .0; places = a .1 .1 .1 .1 .0; message = a .1 .1 .1 .1 .1 .0; scan = a .1 .1 .1 .1 .1 .1 .0; body = a .1 .1 .1 .1 .1 .1 .1 .0; }; good =
+              good; pre = pre; }
         module _ { M : Type 1 } (𝓤 : URA.URA M) (H : Wp.Heap 𝓤) (A : Atoms.Atoms 𝓤) (W : Kit.Given 𝓤 H A) (𝓣 : Wp.Tables 𝓤 H) (known0 : Plain.Known 𝓤
             H A W 𝓣 0 ps·0 r·0 (claims· .0) (claims· .1) "hnsr_circuit::queue::queue") (known1 : Plain.Known 𝓤 H A W 𝓣 0 ps·1 r·1 (claims· .2)
             (claims· .3) "hnsr_circuit::queue::queued_action") (known2 : Plain.Known 𝓤 H A W 𝓣 0 ps·2 r·2 (claims· .4) (claims· .5)
             "hnsr_circuit::queue::queued_go") (known3 : Plain.Known 𝓤 H A W 𝓣 0 ps·3 r·3 (claims· .6) (claims· .7)
-            "hnsr_circuit::queue::queued_place") (known4 : Plain.Known 𝓤 H A W 𝓣 1 ps·4 r·4 (claims· .8) (claims· .9)
-            "hnsr_circuit::tables::inflight::set_action") (known5 : Plain.Known 𝓤 H A W 𝓣 2 ps·5 r·5 (claims· .10) (claims· .11)
-            "hnsr_circuit::queue::put_queued") (known6 : Plain.Known 𝓤 H A W 𝓣 0 ps·6 r·6 (claims· .12) (claims· .13)
-            "hnsr_circuit::queue::position_after") (known7 : Plain.Known 𝓤 H A W 𝓣 0 ps·7 r·7 (claims· .14) (claims· .15)
+            "hnsr_circuit::queue::queued_place") (known4 : Plain.Known 𝓤 H A W 𝓣 0 ps·4 r·4 (claims· .8) (claims· .9) "hnsr_circuit::places::raised")
+            (known5 : Plain.Known 𝓤 H A W 𝓣 0 ps·5 r·5 (claims· .10) (claims· .11) "hnsr_circuit::places::with_actions") (known6 : Plain.Known 𝓤 H A W
+            𝓣 1 ps·6 r·6 (claims· .12) (claims· .13) "hnsr_circuit::tables::inflight::set_action") (known7 : Plain.Known 𝓤 H A W 𝓣 2 ps·7 r·7 (claims·
+            .14) (claims· .15) "hnsr_circuit::queue::put_queued") (known8 : Plain.Known 𝓤 H A W 𝓣 0 ps·8 r·8 (claims· .16) (claims· .17)
+            "hnsr_circuit::queue::position_after") (known9 : Plain.Known 𝓤 H A W 𝓣 0 ps·9 r·9 (claims· .18) (claims· .19)
             "hnsr_circuit::queue::relayed") where
           pub spec : Statement.Triple 𝓤 (Wp.WpFn 𝓤 H (𝓣 .C) (𝓣 .Λ) (Function.fnOf 3 ps r xs m hs body)) (Function.plainOf 𝓤 H A 3 ps r Pre· Post·)
           spec = Plain.t-fn-plain 𝓤 H A W 𝓣 3 ps r xs m hs body (λ κs qs bs. Φ) (λ κs qs bs bd. typed κs qs 𝓤 H A W 𝓣 (known0, known1, known2, known3,
-              known4, known5, known6, known7,) bs bd) Pre· Post· asked
+              known4, known5, known6, known7, known8, known9,) bs bd) Pre· Post· asked

@@ -3,18 +3,20 @@ use Prim.Native.Nat
 use Rattle.hnsr_circuit.proofs.By.InflightAction
 use Rattle.hnsr_circuit.proofs.answer.HnsrAnswer
 use Rattle.hnsr_circuit.proofs.answer.HnsrAnswer.Laws
+use Rattle.hnsr_circuit.proofs.places.Places
+use Rattle.hnsr_circuit.proofs.places.Places.Laws as Laws'
 use Rattle.hnsr_circuit.proofs.queue.Queued
-use Rattle.hnsr_circuit.proofs.queue.Queued.Laws as Laws'
+use Rattle.hnsr_circuit.proofs.queue.Queued.Laws as Laws''
 use Rattle.hnsr_circuit.proofs.records.ActionQuestion
-use Rattle.hnsr_circuit.proofs.records.ActionQuestion.Laws as Laws''
+use Rattle.hnsr_circuit.proofs.records.ActionQuestion.Laws as Laws'''
 use Rattle.hnsr_circuit.proofs.records.ActionScan
-use Rattle.hnsr_circuit.proofs.records.ActionScan.Laws as Laws'''
+use Rattle.hnsr_circuit.proofs.records.ActionScan.Laws as Laws''''
 use Rattle.hnsr_circuit.proofs.records.Outgoing
-use Rattle.hnsr_circuit.proofs.records.Outgoing.Laws as Laws''''
+use Rattle.hnsr_circuit.proofs.records.Outgoing.Laws as Laws'''''
 use Rattle.hnsr_circuit.proofs.runtime.OpaqueRelayRuntime
-use Rattle.hnsr_circuit.proofs.runtime.OpaqueRelayRuntime.Laws as Laws'''''
+use Rattle.hnsr_circuit.proofs.runtime.OpaqueRelayRuntime.Laws as Laws''''''
 use Rattle.hnsr_circuit.proofs.runtime.Sending
-use Rattle.hnsr_circuit.proofs.runtime.Sending.Laws as Laws''''''
+use Rattle.hnsr_circuit.proofs.runtime.Sending.Laws as Laws'''''''
 use borrow.Author.Called
 use borrow.Fn.Any
 use borrow.Fn.Call
@@ -54,11 +56,11 @@ use borrow.Table.Rows
 use borrow.Table.Typed
 use contract.Lifetimes
 use denote.Enum.Declared
-use denote.Enum.Laws as Laws'''''''
+use denote.Enum.Laws as Laws''''''''
 use denote.Exit
 use denote.Struct.At
 use denote.Struct.Declared as Declared'
-use denote.Struct.Laws as Laws''''''''
+use denote.Struct.Laws as Laws'''''''''
 use denote.Triple.Clauses
 use denote.Triple.Statement
 use ghost.Atoms
@@ -86,273 +88,318 @@ abbrev ref5 : Syntax.Ty
 ref5 = Syntax.tyRef (Syntax.named 2) Syntax.imm (Syntax.tyInt Syntax.w8)
 abbrev pub ps : List.List (Kinds.PK 3)
 ps = (MutSlice.pMutS InflightAction.row 0 tt) ∷ (MutSlice.pMutS (Referent.rtF (Referent.fInt Syntax.w32)) 1 tt) ∷ Bool.pBool ∷ (Value.pVal record { ty
-    = Declared'.row Sending.the-type; one = Path.refl; val = Laws''''''''.val Sending.the-type Laws''''''.the-laws; tells = Laws''''''''.tells
-    Sending.the-type Laws''''''.the-laws; still = Laws''''''''.still Sending.the-type Laws''''''.the-copy Exit.yes; row = Rows.whole (Declared'.row
-    Sending.the-type); rd = λ x. x; mk = λ x. x; } λ M 𝓤 H A W. record { copies = Laws''''''''.copy Sending.the-type Laws''''''.the-copy 𝓤 H A W;
-    lawful = Laws''''''''.lawful Sending.the-type Laws''''''.the-laws 𝓤 H A W; makes = Laws''''''''.makes Sending.the-type Laws''''''.the-plain 𝓤 H A;
-    in-mem = Local.mem-whole 𝓤 H A W (Declared'.row Sending.the-type); of-mem = Local.whole-mem 𝓤 H A W (Declared'.row Sending.the-type); }) ∷
-    (Value.pVal record { ty = Declared'.row Outgoing.the-type; one = Path.refl; val = Laws''''''''.val Outgoing.the-type Laws''''.the-laws; tells =
-    Laws''''''''.tells Outgoing.the-type Laws''''.the-laws; still = Laws''''''''.still Outgoing.the-type Laws''''.the-copy Exit.yes; row = Rows.whole
-    (Declared'.row Outgoing.the-type); rd = λ x. x; mk = λ x. x; } λ M 𝓤 H A W. record { copies = Laws''''''''.copy Outgoing.the-type
-    Laws''''.the-copy 𝓤 H A W; lawful = Laws''''''''.lawful Outgoing.the-type Laws''''.the-laws 𝓤 H A W; makes = Laws''''''''.makes Outgoing.the-type
-    Laws''''.the-plain 𝓤 H A; in-mem = Local.mem-whole 𝓤 H A W (Declared'.row Outgoing.the-type); of-mem = Local.whole-mem 𝓤 H A W (Declared'.row
-    Outgoing.the-type); }) ∷ (ShrSlice.pShrS (Referent.rtF (Referent.fInt Syntax.w8)) 2 tt) ∷ List.[]
+    = Declared'.row Sending.the-type; one = Path.refl; val = Laws'''''''''.val Sending.the-type Laws'''''''.the-laws; tells = Laws'''''''''.tells
+    Sending.the-type Laws'''''''.the-laws; still = Laws'''''''''.still Sending.the-type Laws'''''''.the-copy Exit.yes; row = Rows.whole (Declared'.row
+    Sending.the-type); rd = λ x. x; mk = λ x. x; } λ M 𝓤 H A W. record { copies = Laws'''''''''.copy Sending.the-type Laws'''''''.the-copy 𝓤 H A W;
+    lawful = Laws'''''''''.lawful Sending.the-type Laws'''''''.the-laws 𝓤 H A W; makes = Laws'''''''''.makes Sending.the-type Laws'''''''.the-plain 𝓤
+    H A; in-mem = Local.mem-whole 𝓤 H A W (Declared'.row Sending.the-type); of-mem = Local.whole-mem 𝓤 H A W (Declared'.row Sending.the-type); }) ∷
+    (Value.pVal record { ty = Declared'.row Outgoing.the-type; one = Path.refl; val = Laws'''''''''.val Outgoing.the-type Laws'''''.the-laws; tells =
+    Laws'''''''''.tells Outgoing.the-type Laws'''''.the-laws; still = Laws'''''''''.still Outgoing.the-type Laws'''''.the-copy Exit.yes; row =
+    Rows.whole (Declared'.row Outgoing.the-type); rd = λ x. x; mk = λ x. x; } λ M 𝓤 H A W. record { copies = Laws'''''''''.copy Outgoing.the-type
+    Laws'''''.the-copy 𝓤 H A W; lawful = Laws'''''''''.lawful Outgoing.the-type Laws'''''.the-laws 𝓤 H A W; makes = Laws'''''''''.makes
+    Outgoing.the-type Laws'''''.the-plain 𝓤 H A; in-mem = Local.mem-whole 𝓤 H A W (Declared'.row Outgoing.the-type); of-mem = Local.whole-mem 𝓤 H A W
+    (Declared'.row Outgoing.the-type); }) ∷ (ShrSlice.pShrS (Referent.rtF (Referent.fInt Syntax.w8)) 2 tt) ∷ List.[]
 abbrev pub r : Kinds.RK 3
-r = Value.rVal record { ty = Declared'.row Sending.the-type; one = Path.refl; val = Laws''''''''.val Sending.the-type Laws''''''.the-laws; tells =
-    Laws''''''''.tells Sending.the-type Laws''''''.the-laws; still = Laws''''''''.still Sending.the-type Laws''''''.the-copy Exit.yes; row =
-    Rows.whole (Declared'.row Sending.the-type); rd = λ x. x; mk = λ x. x; } λ M 𝓤 H A W. record { copies = Laws''''''''.copy Sending.the-type
-    Laws''''''.the-copy 𝓤 H A W; lawful = Laws''''''''.lawful Sending.the-type Laws''''''.the-laws 𝓤 H A W; makes = Laws''''''''.makes
-    Sending.the-type Laws''''''.the-plain 𝓤 H A; in-mem = Local.mem-whole 𝓤 H A W (Declared'.row Sending.the-type); of-mem = Local.whole-mem 𝓤 H A W
+r = Value.rVal record { ty = Declared'.row Sending.the-type; one = Path.refl; val = Laws'''''''''.val Sending.the-type Laws'''''''.the-laws; tells =
+    Laws'''''''''.tells Sending.the-type Laws'''''''.the-laws; still = Laws'''''''''.still Sending.the-type Laws'''''''.the-copy Exit.yes; row =
+    Rows.whole (Declared'.row Sending.the-type); rd = λ x. x; mk = λ x. x; } λ M 𝓤 H A W. record { copies = Laws'''''''''.copy Sending.the-type
+    Laws'''''''.the-copy 𝓤 H A W; lawful = Laws'''''''''.lawful Sending.the-type Laws'''''''.the-laws 𝓤 H A W; makes = Laws'''''''''.makes
+    Sending.the-type Laws'''''''.the-plain 𝓤 H A; in-mem = Local.mem-whole 𝓤 H A W (Declared'.row Sending.the-type); of-mem = Local.whole-mem 𝓤 H A W
     (Declared'.row Sending.the-type); }
 abbrev pub xs : List.List Syntax.Ty
-xs = Laws'''''.mir ∷ (Syntax.tyInt Syntax.w64) ∷ Laws''.mir ∷ Laws'''.mir ∷ Laws.mir ∷ Laws'.mir ∷ InflightAction.ty ∷ Syntax.tyBool ∷ (Syntax.tyInt
-    Syntax.w64) ∷ (Syntax.tyInt Syntax.w64) ∷ ref0 ∷ (Syntax.tyStruct (38 ∷ 91 ∷ 93 ∷ List.[]) (Syntax.tcons ref0 (Syntax.tcons (Syntax.tyInt
-    Syntax.w64) Syntax.tnil))) ∷ Syntax.tyUnit ∷ ref1 ∷ (Syntax.tyStruct (38 ∷ 91 ∷ 93 ∷ List.[]) (Syntax.tcons ref1 (Syntax.tcons (Syntax.tyInt
-    Syntax.w64) Syntax.tnil))) ∷ ref2 ∷ (Syntax.tyStruct (38 ∷ 91 ∷ 93 ∷ List.[]) (Syntax.tcons ref2 (Syntax.tcons (Syntax.tyInt Syntax.w64)
-    Syntax.tnil))) ∷ (Syntax.tyInt Syntax.w64) ∷ List.[]
+xs = Laws''''''.mir ∷ (Syntax.tyInt Syntax.w64) ∷ Laws'.mir ∷ (Syntax.tyInt Syntax.w64) ∷ Laws'''.mir ∷ Laws''''.mir ∷ Laws.mir ∷ Laws''.mir ∷
+    InflightAction.ty ∷ Syntax.tyBool ∷ (Syntax.tyInt Syntax.w64) ∷ (Syntax.tyInt Syntax.w64) ∷ Laws'.mir ∷ (Syntax.tyInt Syntax.w64) ∷ ref0 ∷
+    (Syntax.tyStruct (38 ∷ 91 ∷ 93 ∷ List.[]) (Syntax.tcons ref0 (Syntax.tcons (Syntax.tyInt Syntax.w64) Syntax.tnil))) ∷ Syntax.tyUnit ∷ ref1 ∷
+    (Syntax.tyStruct (38 ∷ 91 ∷ 93 ∷ List.[]) (Syntax.tcons ref1 (Syntax.tcons (Syntax.tyInt Syntax.w64) Syntax.tnil))) ∷ ref2 ∷ (Syntax.tyStruct (38
+    ∷ 91 ∷ 93 ∷ List.[]) (Syntax.tcons ref2 (Syntax.tcons (Syntax.tyInt Syntax.w64) Syntax.tnil))) ∷ (Syntax.tyInt Syntax.w64) ∷ List.[]
 abbrev pub m : Nat.ℕ
 m = 3
 abbrev pub ps·0 : List.List (Kinds.PK 0)
-ps·0 = (Value.pVal record { ty = Declared'.row OpaqueRelayRuntime.the-type; one = Path.refl; val = Laws''''''''.val OpaqueRelayRuntime.the-type
-    Laws'''''.the-laws; tells = Laws''''''''.tells OpaqueRelayRuntime.the-type Laws'''''.the-laws; still = Laws''''''''.still
-    OpaqueRelayRuntime.the-type Laws'''''.the-copy Exit.yes; row = Rows.whole (Declared'.row OpaqueRelayRuntime.the-type); rd = λ x. x; mk = λ x. x; }
-    λ M 𝓤 H A W. record { copies = Laws''''''''.copy OpaqueRelayRuntime.the-type Laws'''''.the-copy 𝓤 H A W; lawful = Laws''''''''.lawful
-    OpaqueRelayRuntime.the-type Laws'''''.the-laws 𝓤 H A W; makes = Laws''''''''.makes OpaqueRelayRuntime.the-type Laws'''''.the-plain 𝓤 H A; in-mem =
-    Local.mem-whole 𝓤 H A W (Declared'.row OpaqueRelayRuntime.the-type); of-mem = Local.whole-mem 𝓤 H A W (Declared'.row OpaqueRelayRuntime.the-type);
-    }) ∷ (Value.pVal record { ty = Declared'.row Outgoing.the-type; one = Path.refl; val = Laws''''''''.val Outgoing.the-type Laws''''.the-laws; tells
-    = Laws''''''''.tells Outgoing.the-type Laws''''.the-laws; still = Laws''''''''.still Outgoing.the-type Laws''''.the-copy Exit.yes; row =
-    Rows.whole (Declared'.row Outgoing.the-type); rd = λ x. x; mk = λ x. x; } λ M 𝓤 H A W. record { copies = Laws''''''''.copy Outgoing.the-type
-    Laws''''.the-copy 𝓤 H A W; lawful = Laws''''''''.lawful Outgoing.the-type Laws''''.the-laws 𝓤 H A W; makes = Laws''''''''.makes Outgoing.the-type
-    Laws''''.the-plain 𝓤 H A; in-mem = Local.mem-whole 𝓤 H A W (Declared'.row Outgoing.the-type); of-mem = Local.whole-mem 𝓤 H A W (Declared'.row
-    Outgoing.the-type); }) ∷ List.[]
+ps·0 = (Value.pVal record { ty = Declared'.row OpaqueRelayRuntime.the-type; one = Path.refl; val = Laws'''''''''.val OpaqueRelayRuntime.the-type
+    Laws''''''.the-laws; tells = Laws'''''''''.tells OpaqueRelayRuntime.the-type Laws''''''.the-laws; still = Laws'''''''''.still
+    OpaqueRelayRuntime.the-type Laws''''''.the-copy Exit.yes; row = Rows.whole (Declared'.row OpaqueRelayRuntime.the-type); rd = λ x. x; mk = λ x. x;
+    } λ M 𝓤 H A W. record { copies = Laws'''''''''.copy OpaqueRelayRuntime.the-type Laws''''''.the-copy 𝓤 H A W; lawful = Laws'''''''''.lawful
+    OpaqueRelayRuntime.the-type Laws''''''.the-laws 𝓤 H A W; makes = Laws'''''''''.makes OpaqueRelayRuntime.the-type Laws''''''.the-plain 𝓤 H A;
+    in-mem = Local.mem-whole 𝓤 H A W (Declared'.row OpaqueRelayRuntime.the-type); of-mem = Local.whole-mem 𝓤 H A W (Declared'.row
+    OpaqueRelayRuntime.the-type); }) ∷ (Value.pVal record { ty = Declared'.row Outgoing.the-type; one = Path.refl; val = Laws'''''''''.val
+    Outgoing.the-type Laws'''''.the-laws; tells = Laws'''''''''.tells Outgoing.the-type Laws'''''.the-laws; still = Laws'''''''''.still
+    Outgoing.the-type Laws'''''.the-copy Exit.yes; row = Rows.whole (Declared'.row Outgoing.the-type); rd = λ x. x; mk = λ x. x; } λ M 𝓤 H A W. record
+    { copies = Laws'''''''''.copy Outgoing.the-type Laws'''''.the-copy 𝓤 H A W; lawful = Laws'''''''''.lawful Outgoing.the-type Laws'''''.the-laws 𝓤 H
+    A W; makes = Laws'''''''''.makes Outgoing.the-type Laws'''''.the-plain 𝓤 H A; in-mem = Local.mem-whole 𝓤 H A W (Declared'.row Outgoing.the-type);
+    of-mem = Local.whole-mem 𝓤 H A W (Declared'.row Outgoing.the-type); }) ∷ List.[]
 abbrev pub r·0 : Kinds.RK 0
-r·0 = Value.rVal record { ty = Declared'.row ActionQuestion.the-type; one = Path.refl; val = Laws''''''''.val ActionQuestion.the-type Laws''.the-laws;
-    tells = Laws''''''''.tells ActionQuestion.the-type Laws''.the-laws; still = Laws''''''''.still ActionQuestion.the-type Laws''.the-copy Exit.yes;
-    row = Rows.whole (Declared'.row ActionQuestion.the-type); rd = λ x. x; mk = λ x. x; } λ M 𝓤 H A W. record { copies = Laws''''''''.copy
-    ActionQuestion.the-type Laws''.the-copy 𝓤 H A W; lawful = Laws''''''''.lawful ActionQuestion.the-type Laws''.the-laws 𝓤 H A W; makes =
-    Laws''''''''.makes ActionQuestion.the-type Laws''.the-plain 𝓤 H A; in-mem = Local.mem-whole 𝓤 H A W (Declared'.row ActionQuestion.the-type);
-    of-mem = Local.whole-mem 𝓤 H A W (Declared'.row ActionQuestion.the-type); }
+r·0 = Value.rVal record { ty = Declared'.row ActionQuestion.the-type; one = Path.refl; val = Laws'''''''''.val ActionQuestion.the-type
+    Laws'''.the-laws; tells = Laws'''''''''.tells ActionQuestion.the-type Laws'''.the-laws; still = Laws'''''''''.still ActionQuestion.the-type
+    Laws'''.the-copy Exit.yes; row = Rows.whole (Declared'.row ActionQuestion.the-type); rd = λ x. x; mk = λ x. x; } λ M 𝓤 H A W. record { copies =
+    Laws'''''''''.copy ActionQuestion.the-type Laws'''.the-copy 𝓤 H A W; lawful = Laws'''''''''.lawful ActionQuestion.the-type Laws'''.the-laws 𝓤 H A
+    W; makes = Laws'''''''''.makes ActionQuestion.the-type Laws'''.the-plain 𝓤 H A; in-mem = Local.mem-whole 𝓤 H A W (Declared'.row
+    ActionQuestion.the-type); of-mem = Local.whole-mem 𝓤 H A W (Declared'.row ActionQuestion.the-type); }
 abbrev pub ps·1 : List.List (Kinds.PK 1)
-ps·1 = (ShrSlice.pShrS InflightAction.row 0 tt) ∷ (Value.pVal record { ty = Declared'.row ActionQuestion.the-type; one = Path.refl; val =
-    Laws''''''''.val ActionQuestion.the-type Laws''.the-laws; tells = Laws''''''''.tells ActionQuestion.the-type Laws''.the-laws; still =
-    Laws''''''''.still ActionQuestion.the-type Laws''.the-copy Exit.yes; row = Rows.whole (Declared'.row ActionQuestion.the-type); rd = λ x. x; mk = λ
-    x. x; } λ M 𝓤 H A W. record { copies = Laws''''''''.copy ActionQuestion.the-type Laws''.the-copy 𝓤 H A W; lawful = Laws''''''''.lawful
-    ActionQuestion.the-type Laws''.the-laws 𝓤 H A W; makes = Laws''''''''.makes ActionQuestion.the-type Laws''.the-plain 𝓤 H A; in-mem =
+ps·1 = (ShrSlice.pShrS InflightAction.row 0 tt) ∷ (Value.pVal record { ty = Declared'.row Places.the-type; one = Path.refl; val = Laws'''''''''.val
+    Places.the-type Laws'.the-laws; tells = Laws'''''''''.tells Places.the-type Laws'.the-laws; still = Laws'''''''''.still Places.the-type
+    Laws'.the-copy Exit.yes; row = Rows.whole (Declared'.row Places.the-type); rd = λ x. x; mk = λ x. x; } λ M 𝓤 H A W. record { copies =
+    Laws'''''''''.copy Places.the-type Laws'.the-copy 𝓤 H A W; lawful = Laws'''''''''.lawful Places.the-type Laws'.the-laws 𝓤 H A W; makes =
+    Laws'''''''''.makes Places.the-type Laws'.the-plain 𝓤 H A; in-mem = Local.mem-whole 𝓤 H A W (Declared'.row Places.the-type); of-mem =
+    Local.whole-mem 𝓤 H A W (Declared'.row Places.the-type); }) ∷ (Value.pVal record { ty = Declared'.row ActionQuestion.the-type; one = Path.refl;
+    val = Laws'''''''''.val ActionQuestion.the-type Laws'''.the-laws; tells = Laws'''''''''.tells ActionQuestion.the-type Laws'''.the-laws; still =
+    Laws'''''''''.still ActionQuestion.the-type Laws'''.the-copy Exit.yes; row = Rows.whole (Declared'.row ActionQuestion.the-type); rd = λ x. x; mk =
+    λ x. x; } λ M 𝓤 H A W. record { copies = Laws'''''''''.copy ActionQuestion.the-type Laws'''.the-copy 𝓤 H A W; lawful = Laws'''''''''.lawful
+    ActionQuestion.the-type Laws'''.the-laws 𝓤 H A W; makes = Laws'''''''''.makes ActionQuestion.the-type Laws'''.the-plain 𝓤 H A; in-mem =
     Local.mem-whole 𝓤 H A W (Declared'.row ActionQuestion.the-type); of-mem = Local.whole-mem 𝓤 H A W (Declared'.row ActionQuestion.the-type); }) ∷
     List.[]
 abbrev pub r·1 : Kinds.RK 1
-r·1 = Value.rVal record { ty = Declared'.row ActionScan.the-type; one = Path.refl; val = Laws''''''''.val ActionScan.the-type Laws'''.the-laws; tells
-    = Laws''''''''.tells ActionScan.the-type Laws'''.the-laws; still = Laws''''''''.still ActionScan.the-type Laws'''.the-copy Exit.yes; row =
-    Rows.whole (Declared'.row ActionScan.the-type); rd = λ x. x; mk = λ x. x; } λ M 𝓤 H A W. record { copies = Laws''''''''.copy ActionScan.the-type
-    Laws'''.the-copy 𝓤 H A W; lawful = Laws''''''''.lawful ActionScan.the-type Laws'''.the-laws 𝓤 H A W; makes = Laws''''''''.makes
-    ActionScan.the-type Laws'''.the-plain 𝓤 H A; in-mem = Local.mem-whole 𝓤 H A W (Declared'.row ActionScan.the-type); of-mem = Local.whole-mem 𝓤 H A
-    W (Declared'.row ActionScan.the-type); }
+r·1 = Value.rVal record { ty = Declared'.row ActionScan.the-type; one = Path.refl; val = Laws'''''''''.val ActionScan.the-type Laws''''.the-laws;
+    tells = Laws'''''''''.tells ActionScan.the-type Laws''''.the-laws; still = Laws'''''''''.still ActionScan.the-type Laws''''.the-copy Exit.yes; row
+    = Rows.whole (Declared'.row ActionScan.the-type); rd = λ x. x; mk = λ x. x; } λ M 𝓤 H A W. record { copies = Laws'''''''''.copy
+    ActionScan.the-type Laws''''.the-copy 𝓤 H A W; lawful = Laws'''''''''.lawful ActionScan.the-type Laws''''.the-laws 𝓤 H A W; makes =
+    Laws'''''''''.makes ActionScan.the-type Laws''''.the-plain 𝓤 H A; in-mem = Local.mem-whole 𝓤 H A W (Declared'.row ActionScan.the-type); of-mem =
+    Local.whole-mem 𝓤 H A W (Declared'.row ActionScan.the-type); }
 abbrev pub ps·2 : List.List (Kinds.PK 0)
 ps·2 = Bool.pBool ∷ List.[]
 abbrev pub r·2 : Kinds.RK 0
-r·2 = Value.rVal record { ty = Declared.row HnsrAnswer.the-type; one = Path.refl; val = Laws'''''''.val HnsrAnswer.the-type Laws.the-laws; tells =
-    Laws'''''''.tells HnsrAnswer.the-type Laws.the-laws; still = Laws'''''''.still HnsrAnswer.the-type Laws.the-copy Exit.yes; row = Rows.whole
-    (Declared.row HnsrAnswer.the-type); rd = λ x. x; mk = λ x. x; } λ M 𝓤 H A W. record { copies = Laws'''''''.copy HnsrAnswer.the-type Laws.the-copy
-    𝓤 H A W; lawful = Laws'''''''.lawful HnsrAnswer.the-type Laws.the-laws 𝓤 H A W tt; makes = Laws'''''''.makes HnsrAnswer.the-type Laws.the-plain 𝓤
-    H A; in-mem = Local.mem-whole 𝓤 H A W (Declared.row HnsrAnswer.the-type); of-mem = Local.whole-mem 𝓤 H A W (Declared.row HnsrAnswer.the-type); }
+r·2 = Value.rVal record { ty = Declared.row HnsrAnswer.the-type; one = Path.refl; val = Laws''''''''.val HnsrAnswer.the-type Laws.the-laws; tells =
+    Laws''''''''.tells HnsrAnswer.the-type Laws.the-laws; still = Laws''''''''.still HnsrAnswer.the-type Laws.the-copy Exit.yes; row = Rows.whole
+    (Declared.row HnsrAnswer.the-type); rd = λ x. x; mk = λ x. x; } λ M 𝓤 H A W. record { copies = Laws''''''''.copy HnsrAnswer.the-type Laws.the-copy
+    𝓤 H A W; lawful = Laws''''''''.lawful HnsrAnswer.the-type Laws.the-laws 𝓤 H A W tt; makes = Laws''''''''.makes HnsrAnswer.the-type Laws.the-plain
+    𝓤 H A; in-mem = Local.mem-whole 𝓤 H A W (Declared.row HnsrAnswer.the-type); of-mem = Local.whole-mem 𝓤 H A W (Declared.row HnsrAnswer.the-type); }
 abbrev pub ps·3 : List.List (Kinds.PK 0)
-ps·3 = (Value.pVal record { ty = Declared.row HnsrAnswer.the-type; one = Path.refl; val = Laws'''''''.val HnsrAnswer.the-type Laws.the-laws; tells =
-    Laws'''''''.tells HnsrAnswer.the-type Laws.the-laws; still = Laws'''''''.still HnsrAnswer.the-type Laws.the-copy Exit.yes; row = Rows.whole
-    (Declared.row HnsrAnswer.the-type); rd = λ x. x; mk = λ x. x; } λ M 𝓤 H A W. record { copies = Laws'''''''.copy HnsrAnswer.the-type Laws.the-copy
-    𝓤 H A W; lawful = Laws'''''''.lawful HnsrAnswer.the-type Laws.the-laws 𝓤 H A W tt; makes = Laws'''''''.makes HnsrAnswer.the-type Laws.the-plain 𝓤
-    H A; in-mem = Local.mem-whole 𝓤 H A W (Declared.row HnsrAnswer.the-type); of-mem = Local.whole-mem 𝓤 H A W (Declared.row HnsrAnswer.the-type); })
-    ∷ (Value.pVal record { ty = Declared'.row OpaqueRelayRuntime.the-type; one = Path.refl; val = Laws''''''''.val OpaqueRelayRuntime.the-type
-    Laws'''''.the-laws; tells = Laws''''''''.tells OpaqueRelayRuntime.the-type Laws'''''.the-laws; still = Laws''''''''.still
-    OpaqueRelayRuntime.the-type Laws'''''.the-copy Exit.yes; row = Rows.whole (Declared'.row OpaqueRelayRuntime.the-type); rd = λ x. x; mk = λ x. x; }
-    λ M 𝓤 H A W. record { copies = Laws''''''''.copy OpaqueRelayRuntime.the-type Laws'''''.the-copy 𝓤 H A W; lawful = Laws''''''''.lawful
-    OpaqueRelayRuntime.the-type Laws'''''.the-laws 𝓤 H A W; makes = Laws''''''''.makes OpaqueRelayRuntime.the-type Laws'''''.the-plain 𝓤 H A; in-mem =
-    Local.mem-whole 𝓤 H A W (Declared'.row OpaqueRelayRuntime.the-type); of-mem = Local.whole-mem 𝓤 H A W (Declared'.row OpaqueRelayRuntime.the-type);
-    }) ∷ (Value.pVal record { ty = Declared'.row Outgoing.the-type; one = Path.refl; val = Laws''''''''.val Outgoing.the-type Laws''''.the-laws; tells
-    = Laws''''''''.tells Outgoing.the-type Laws''''.the-laws; still = Laws''''''''.still Outgoing.the-type Laws''''.the-copy Exit.yes; row =
-    Rows.whole (Declared'.row Outgoing.the-type); rd = λ x. x; mk = λ x. x; } λ M 𝓤 H A W. record { copies = Laws''''''''.copy Outgoing.the-type
-    Laws''''.the-copy 𝓤 H A W; lawful = Laws''''''''.lawful Outgoing.the-type Laws''''.the-laws 𝓤 H A W; makes = Laws''''''''.makes Outgoing.the-type
-    Laws''''.the-plain 𝓤 H A; in-mem = Local.mem-whole 𝓤 H A W (Declared'.row Outgoing.the-type); of-mem = Local.whole-mem 𝓤 H A W (Declared'.row
-    Outgoing.the-type); }) ∷ (Value.pVal record { ty = Declared'.row ActionScan.the-type; one = Path.refl; val = Laws''''''''.val ActionScan.the-type
-    Laws'''.the-laws; tells = Laws''''''''.tells ActionScan.the-type Laws'''.the-laws; still = Laws''''''''.still ActionScan.the-type Laws'''.the-copy
-    Exit.yes; row = Rows.whole (Declared'.row ActionScan.the-type); rd = λ x. x; mk = λ x. x; } λ M 𝓤 H A W. record { copies = Laws''''''''.copy
-    ActionScan.the-type Laws'''.the-copy 𝓤 H A W; lawful = Laws''''''''.lawful ActionScan.the-type Laws'''.the-laws 𝓤 H A W; makes =
-    Laws''''''''.makes ActionScan.the-type Laws'''.the-plain 𝓤 H A; in-mem = Local.mem-whole 𝓤 H A W (Declared'.row ActionScan.the-type); of-mem =
-    Local.whole-mem 𝓤 H A W (Declared'.row ActionScan.the-type); }) ∷ List.[]
+ps·3 = (Value.pVal record { ty = Declared.row HnsrAnswer.the-type; one = Path.refl; val = Laws''''''''.val HnsrAnswer.the-type Laws.the-laws; tells =
+    Laws''''''''.tells HnsrAnswer.the-type Laws.the-laws; still = Laws''''''''.still HnsrAnswer.the-type Laws.the-copy Exit.yes; row = Rows.whole
+    (Declared.row HnsrAnswer.the-type); rd = λ x. x; mk = λ x. x; } λ M 𝓤 H A W. record { copies = Laws''''''''.copy HnsrAnswer.the-type Laws.the-copy
+    𝓤 H A W; lawful = Laws''''''''.lawful HnsrAnswer.the-type Laws.the-laws 𝓤 H A W tt; makes = Laws''''''''.makes HnsrAnswer.the-type Laws.the-plain
+    𝓤 H A; in-mem = Local.mem-whole 𝓤 H A W (Declared.row HnsrAnswer.the-type); of-mem = Local.whole-mem 𝓤 H A W (Declared.row HnsrAnswer.the-type);
+    }) ∷ (Value.pVal record { ty = Declared'.row OpaqueRelayRuntime.the-type; one = Path.refl; val = Laws'''''''''.val OpaqueRelayRuntime.the-type
+    Laws''''''.the-laws; tells = Laws'''''''''.tells OpaqueRelayRuntime.the-type Laws''''''.the-laws; still = Laws'''''''''.still
+    OpaqueRelayRuntime.the-type Laws''''''.the-copy Exit.yes; row = Rows.whole (Declared'.row OpaqueRelayRuntime.the-type); rd = λ x. x; mk = λ x. x;
+    } λ M 𝓤 H A W. record { copies = Laws'''''''''.copy OpaqueRelayRuntime.the-type Laws''''''.the-copy 𝓤 H A W; lawful = Laws'''''''''.lawful
+    OpaqueRelayRuntime.the-type Laws''''''.the-laws 𝓤 H A W; makes = Laws'''''''''.makes OpaqueRelayRuntime.the-type Laws''''''.the-plain 𝓤 H A;
+    in-mem = Local.mem-whole 𝓤 H A W (Declared'.row OpaqueRelayRuntime.the-type); of-mem = Local.whole-mem 𝓤 H A W (Declared'.row
+    OpaqueRelayRuntime.the-type); }) ∷ (Value.pVal record { ty = Declared'.row Outgoing.the-type; one = Path.refl; val = Laws'''''''''.val
+    Outgoing.the-type Laws'''''.the-laws; tells = Laws'''''''''.tells Outgoing.the-type Laws'''''.the-laws; still = Laws'''''''''.still
+    Outgoing.the-type Laws'''''.the-copy Exit.yes; row = Rows.whole (Declared'.row Outgoing.the-type); rd = λ x. x; mk = λ x. x; } λ M 𝓤 H A W. record
+    { copies = Laws'''''''''.copy Outgoing.the-type Laws'''''.the-copy 𝓤 H A W; lawful = Laws'''''''''.lawful Outgoing.the-type Laws'''''.the-laws 𝓤 H
+    A W; makes = Laws'''''''''.makes Outgoing.the-type Laws'''''.the-plain 𝓤 H A; in-mem = Local.mem-whole 𝓤 H A W (Declared'.row Outgoing.the-type);
+    of-mem = Local.whole-mem 𝓤 H A W (Declared'.row Outgoing.the-type); }) ∷ (Value.pVal record { ty = Declared'.row ActionScan.the-type; one =
+    Path.refl; val = Laws'''''''''.val ActionScan.the-type Laws''''.the-laws; tells = Laws'''''''''.tells ActionScan.the-type Laws''''.the-laws; still
+    = Laws'''''''''.still ActionScan.the-type Laws''''.the-copy Exit.yes; row = Rows.whole (Declared'.row ActionScan.the-type); rd = λ x. x; mk = λ x.
+    x; } λ M 𝓤 H A W. record { copies = Laws'''''''''.copy ActionScan.the-type Laws''''.the-copy 𝓤 H A W; lawful = Laws'''''''''.lawful
+    ActionScan.the-type Laws''''.the-laws 𝓤 H A W; makes = Laws'''''''''.makes ActionScan.the-type Laws''''.the-plain 𝓤 H A; in-mem = Local.mem-whole
+    𝓤 H A W (Declared'.row ActionScan.the-type); of-mem = Local.whole-mem 𝓤 H A W (Declared'.row ActionScan.the-type); }) ∷ List.[]
 abbrev pub r·3 : Kinds.RK 0
-r·3 = Value.rVal record { ty = Declared'.row Queued.the-type; one = Path.refl; val = Laws''''''''.val Queued.the-type Laws'.the-laws; tells =
-    Laws''''''''.tells Queued.the-type Laws'.the-laws; still = Laws''''''''.still Queued.the-type Laws'.the-copy Exit.yes; row = Rows.whole
-    (Declared'.row Queued.the-type); rd = λ x. x; mk = λ x. x; } λ M 𝓤 H A W. record { copies = Laws''''''''.copy Queued.the-type Laws'.the-copy 𝓤 H A
-    W; lawful = Laws''''''''.lawful Queued.the-type Laws'.the-laws 𝓤 H A W; makes = Laws''''''''.makes Queued.the-type Laws'.the-plain 𝓤 H A; in-mem =
-    Local.mem-whole 𝓤 H A W (Declared'.row Queued.the-type); of-mem = Local.whole-mem 𝓤 H A W (Declared'.row Queued.the-type); }
+r·3 = Value.rVal record { ty = Declared'.row Queued.the-type; one = Path.refl; val = Laws'''''''''.val Queued.the-type Laws''.the-laws; tells =
+    Laws'''''''''.tells Queued.the-type Laws''.the-laws; still = Laws'''''''''.still Queued.the-type Laws''.the-copy Exit.yes; row = Rows.whole
+    (Declared'.row Queued.the-type); rd = λ x. x; mk = λ x. x; } λ M 𝓤 H A W. record { copies = Laws'''''''''.copy Queued.the-type Laws''.the-copy 𝓤 H
+    A W; lawful = Laws'''''''''.lawful Queued.the-type Laws''.the-laws 𝓤 H A W; makes = Laws'''''''''.makes Queued.the-type Laws''.the-plain 𝓤 H A;
+    in-mem = Local.mem-whole 𝓤 H A W (Declared'.row Queued.the-type); of-mem = Local.whole-mem 𝓤 H A W (Declared'.row Queued.the-type); }
 abbrev pub ps·4 : List.List (Kinds.PK 0)
-ps·4 = (Value.pVal record { ty = Declared'.row Queued.the-type; one = Path.refl; val = Laws''''''''.val Queued.the-type Laws'.the-laws; tells =
-    Laws''''''''.tells Queued.the-type Laws'.the-laws; still = Laws''''''''.still Queued.the-type Laws'.the-copy Exit.yes; row = Rows.whole
-    (Declared'.row Queued.the-type); rd = λ x. x; mk = λ x. x; } λ M 𝓤 H A W. record { copies = Laws''''''''.copy Queued.the-type Laws'.the-copy 𝓤 H A
-    W; lawful = Laws''''''''.lawful Queued.the-type Laws'.the-laws 𝓤 H A W; makes = Laws''''''''.makes Queued.the-type Laws'.the-plain 𝓤 H A; in-mem =
-    Local.mem-whole 𝓤 H A W (Declared'.row Queued.the-type); of-mem = Local.whole-mem 𝓤 H A W (Declared'.row Queued.the-type); }) ∷ List.[]
+ps·4 = (Value.pVal record { ty = Declared'.row Queued.the-type; one = Path.refl; val = Laws'''''''''.val Queued.the-type Laws''.the-laws; tells =
+    Laws'''''''''.tells Queued.the-type Laws''.the-laws; still = Laws'''''''''.still Queued.the-type Laws''.the-copy Exit.yes; row = Rows.whole
+    (Declared'.row Queued.the-type); rd = λ x. x; mk = λ x. x; } λ M 𝓤 H A W. record { copies = Laws'''''''''.copy Queued.the-type Laws''.the-copy 𝓤 H
+    A W; lawful = Laws'''''''''.lawful Queued.the-type Laws''.the-laws 𝓤 H A W; makes = Laws'''''''''.makes Queued.the-type Laws''.the-plain 𝓤 H A;
+    in-mem = Local.mem-whole 𝓤 H A W (Declared'.row Queued.the-type); of-mem = Local.whole-mem 𝓤 H A W (Declared'.row Queued.the-type); }) ∷ List.[]
 abbrev pub r·4 : Kinds.RK 0
 r·4 = InflightAction.result
 abbrev pub ps·5 : List.List (Kinds.PK 0)
-ps·5 = (Value.pVal record { ty = Declared'.row Queued.the-type; one = Path.refl; val = Laws''''''''.val Queued.the-type Laws'.the-laws; tells =
-    Laws''''''''.tells Queued.the-type Laws'.the-laws; still = Laws''''''''.still Queued.the-type Laws'.the-copy Exit.yes; row = Rows.whole
-    (Declared'.row Queued.the-type); rd = λ x. x; mk = λ x. x; } λ M 𝓤 H A W. record { copies = Laws''''''''.copy Queued.the-type Laws'.the-copy 𝓤 H A
-    W; lawful = Laws''''''''.lawful Queued.the-type Laws'.the-laws 𝓤 H A W; makes = Laws''''''''.makes Queued.the-type Laws'.the-plain 𝓤 H A; in-mem =
-    Local.mem-whole 𝓤 H A W (Declared'.row Queued.the-type); of-mem = Local.whole-mem 𝓤 H A W (Declared'.row Queued.the-type); }) ∷ List.[]
+ps·5 = (Value.pVal record { ty = Declared'.row Queued.the-type; one = Path.refl; val = Laws'''''''''.val Queued.the-type Laws''.the-laws; tells =
+    Laws'''''''''.tells Queued.the-type Laws''.the-laws; still = Laws'''''''''.still Queued.the-type Laws''.the-copy Exit.yes; row = Rows.whole
+    (Declared'.row Queued.the-type); rd = λ x. x; mk = λ x. x; } λ M 𝓤 H A W. record { copies = Laws'''''''''.copy Queued.the-type Laws''.the-copy 𝓤 H
+    A W; lawful = Laws'''''''''.lawful Queued.the-type Laws''.the-laws 𝓤 H A W; makes = Laws'''''''''.makes Queued.the-type Laws''.the-plain 𝓤 H A;
+    in-mem = Local.mem-whole 𝓤 H A W (Declared'.row Queued.the-type); of-mem = Local.whole-mem 𝓤 H A W (Declared'.row Queued.the-type); }) ∷ List.[]
 abbrev pub r·5 : Kinds.RK 0
 r·5 = Bool.rBool
 abbrev pub ps·6 : List.List (Kinds.PK 0)
-ps·6 = (Value.pVal record { ty = Declared'.row Queued.the-type; one = Path.refl; val = Laws''''''''.val Queued.the-type Laws'.the-laws; tells =
-    Laws''''''''.tells Queued.the-type Laws'.the-laws; still = Laws''''''''.still Queued.the-type Laws'.the-copy Exit.yes; row = Rows.whole
-    (Declared'.row Queued.the-type); rd = λ x. x; mk = λ x. x; } λ M 𝓤 H A W. record { copies = Laws''''''''.copy Queued.the-type Laws'.the-copy 𝓤 H A
-    W; lawful = Laws''''''''.lawful Queued.the-type Laws'.the-laws 𝓤 H A W; makes = Laws''''''''.makes Queued.the-type Laws'.the-plain 𝓤 H A; in-mem =
-    Local.mem-whole 𝓤 H A W (Declared'.row Queued.the-type); of-mem = Local.whole-mem 𝓤 H A W (Declared'.row Queued.the-type); }) ∷ List.[]
+ps·6 = (Value.pVal record { ty = Declared'.row Queued.the-type; one = Path.refl; val = Laws'''''''''.val Queued.the-type Laws''.the-laws; tells =
+    Laws'''''''''.tells Queued.the-type Laws''.the-laws; still = Laws'''''''''.still Queued.the-type Laws''.the-copy Exit.yes; row = Rows.whole
+    (Declared'.row Queued.the-type); rd = λ x. x; mk = λ x. x; } λ M 𝓤 H A W. record { copies = Laws'''''''''.copy Queued.the-type Laws''.the-copy 𝓤 H
+    A W; lawful = Laws'''''''''.lawful Queued.the-type Laws''.the-laws 𝓤 H A W; makes = Laws'''''''''.makes Queued.the-type Laws''.the-plain 𝓤 H A;
+    in-mem = Local.mem-whole 𝓤 H A W (Declared'.row Queued.the-type); of-mem = Local.whole-mem 𝓤 H A W (Declared'.row Queued.the-type); }) ∷ List.[]
 abbrev pub r·6 : Kinds.RK 0
 r·6 = Num.rNum Syntax.w64
-abbrev pub ps·7 : List.List (Kinds.PK 1)
-ps·7 = (MutSlice.pMutS InflightAction.row 0 tt) ∷ Bool.pBool ∷ (Num.pNum Syntax.w64) ∷ InflightAction.param ∷ List.[]
-abbrev pub r·7 : Kinds.RK 1
-r·7 = Unit.rUnit
-abbrev pub ps·8 : List.List (Kinds.PK 2)
-ps·8 = (MutSlice.pMutS (Referent.rtF (Referent.fInt Syntax.w32)) 0 tt) ∷ Bool.pBool ∷ (Num.pNum Syntax.w64) ∷ (Value.pVal record { ty = Declared'.row
-    Outgoing.the-type; one = Path.refl; val = Laws''''''''.val Outgoing.the-type Laws''''.the-laws; tells = Laws''''''''.tells Outgoing.the-type
-    Laws''''.the-laws; still = Laws''''''''.still Outgoing.the-type Laws''''.the-copy Exit.yes; row = Rows.whole (Declared'.row Outgoing.the-type); rd
-    = λ x. x; mk = λ x. x; } λ M 𝓤 H A W. record { copies = Laws''''''''.copy Outgoing.the-type Laws''''.the-copy 𝓤 H A W; lawful =
-    Laws''''''''.lawful Outgoing.the-type Laws''''.the-laws 𝓤 H A W; makes = Laws''''''''.makes Outgoing.the-type Laws''''.the-plain 𝓤 H A; in-mem =
-    Local.mem-whole 𝓤 H A W (Declared'.row Outgoing.the-type); of-mem = Local.whole-mem 𝓤 H A W (Declared'.row Outgoing.the-type); }) ∷ (Value.pVal
-    record { ty = Declared'.row OpaqueRelayRuntime.the-type; one = Path.refl; val = Laws''''''''.val OpaqueRelayRuntime.the-type Laws'''''.the-laws;
-    tells = Laws''''''''.tells OpaqueRelayRuntime.the-type Laws'''''.the-laws; still = Laws''''''''.still OpaqueRelayRuntime.the-type
-    Laws'''''.the-copy Exit.yes; row = Rows.whole (Declared'.row OpaqueRelayRuntime.the-type); rd = λ x. x; mk = λ x. x; } λ M 𝓤 H A W. record {
-    copies = Laws''''''''.copy OpaqueRelayRuntime.the-type Laws'''''.the-copy 𝓤 H A W; lawful = Laws''''''''.lawful OpaqueRelayRuntime.the-type
-    Laws'''''.the-laws 𝓤 H A W; makes = Laws''''''''.makes OpaqueRelayRuntime.the-type Laws'''''.the-plain 𝓤 H A; in-mem = Local.mem-whole 𝓤 H A W
+abbrev pub ps·7 : List.List (Kinds.PK 0)
+ps·7 = (Num.pNum Syntax.w64) ∷ Bool.pBool ∷ (Num.pNum Syntax.w64) ∷ (Num.pNum Syntax.w64) ∷ List.[]
+abbrev pub r·7 : Kinds.RK 0
+r·7 = Num.rNum Syntax.w64
+abbrev pub ps·8 : List.List (Kinds.PK 0)
+ps·8 = (Value.pVal record { ty = Declared'.row Places.the-type; one = Path.refl; val = Laws'''''''''.val Places.the-type Laws'.the-laws; tells =
+    Laws'''''''''.tells Places.the-type Laws'.the-laws; still = Laws'''''''''.still Places.the-type Laws'.the-copy Exit.yes; row = Rows.whole
+    (Declared'.row Places.the-type); rd = λ x. x; mk = λ x. x; } λ M 𝓤 H A W. record { copies = Laws'''''''''.copy Places.the-type Laws'.the-copy 𝓤 H
+    A W; lawful = Laws'''''''''.lawful Places.the-type Laws'.the-laws 𝓤 H A W; makes = Laws'''''''''.makes Places.the-type Laws'.the-plain 𝓤 H A;
+    in-mem = Local.mem-whole 𝓤 H A W (Declared'.row Places.the-type); of-mem = Local.whole-mem 𝓤 H A W (Declared'.row Places.the-type); }) ∷ (Num.pNum
+    Syntax.w64) ∷ List.[]
+abbrev pub r·8 : Kinds.RK 0
+r·8 = Value.rVal record { ty = Declared'.row Places.the-type; one = Path.refl; val = Laws'''''''''.val Places.the-type Laws'.the-laws; tells =
+    Laws'''''''''.tells Places.the-type Laws'.the-laws; still = Laws'''''''''.still Places.the-type Laws'.the-copy Exit.yes; row = Rows.whole
+    (Declared'.row Places.the-type); rd = λ x. x; mk = λ x. x; } λ M 𝓤 H A W. record { copies = Laws'''''''''.copy Places.the-type Laws'.the-copy 𝓤 H
+    A W; lawful = Laws'''''''''.lawful Places.the-type Laws'.the-laws 𝓤 H A W; makes = Laws'''''''''.makes Places.the-type Laws'.the-plain 𝓤 H A;
+    in-mem = Local.mem-whole 𝓤 H A W (Declared'.row Places.the-type); of-mem = Local.whole-mem 𝓤 H A W (Declared'.row Places.the-type); }
+abbrev pub ps·9 : List.List (Kinds.PK 1)
+ps·9 = (MutSlice.pMutS InflightAction.row 0 tt) ∷ Bool.pBool ∷ (Num.pNum Syntax.w64) ∷ InflightAction.param ∷ List.[]
+abbrev pub r·9 : Kinds.RK 1
+r·9 = Unit.rUnit
+abbrev pub ps·10 : List.List (Kinds.PK 2)
+ps·10 = (MutSlice.pMutS (Referent.rtF (Referent.fInt Syntax.w32)) 0 tt) ∷ Bool.pBool ∷ (Num.pNum Syntax.w64) ∷ (Value.pVal record { ty = Declared'.row
+    Outgoing.the-type; one = Path.refl; val = Laws'''''''''.val Outgoing.the-type Laws'''''.the-laws; tells = Laws'''''''''.tells Outgoing.the-type
+    Laws'''''.the-laws; still = Laws'''''''''.still Outgoing.the-type Laws'''''.the-copy Exit.yes; row = Rows.whole (Declared'.row Outgoing.the-type);
+    rd = λ x. x; mk = λ x. x; } λ M 𝓤 H A W. record { copies = Laws'''''''''.copy Outgoing.the-type Laws'''''.the-copy 𝓤 H A W; lawful =
+    Laws'''''''''.lawful Outgoing.the-type Laws'''''.the-laws 𝓤 H A W; makes = Laws'''''''''.makes Outgoing.the-type Laws'''''.the-plain 𝓤 H A; in-mem
+    = Local.mem-whole 𝓤 H A W (Declared'.row Outgoing.the-type); of-mem = Local.whole-mem 𝓤 H A W (Declared'.row Outgoing.the-type); }) ∷ (Value.pVal
+    record { ty = Declared'.row OpaqueRelayRuntime.the-type; one = Path.refl; val = Laws'''''''''.val OpaqueRelayRuntime.the-type Laws''''''.the-laws;
+    tells = Laws'''''''''.tells OpaqueRelayRuntime.the-type Laws''''''.the-laws; still = Laws'''''''''.still OpaqueRelayRuntime.the-type
+    Laws''''''.the-copy Exit.yes; row = Rows.whole (Declared'.row OpaqueRelayRuntime.the-type); rd = λ x. x; mk = λ x. x; } λ M 𝓤 H A W. record {
+    copies = Laws'''''''''.copy OpaqueRelayRuntime.the-type Laws''''''.the-copy 𝓤 H A W; lawful = Laws'''''''''.lawful OpaqueRelayRuntime.the-type
+    Laws''''''.the-laws 𝓤 H A W; makes = Laws'''''''''.makes OpaqueRelayRuntime.the-type Laws''''''.the-plain 𝓤 H A; in-mem = Local.mem-whole 𝓤 H A W
     (Declared'.row OpaqueRelayRuntime.the-type); of-mem = Local.whole-mem 𝓤 H A W (Declared'.row OpaqueRelayRuntime.the-type); }) ∷ (ShrSlice.pShrS
     (Referent.rtF (Referent.fInt Syntax.w8)) 1 tt) ∷ List.[]
-abbrev pub r·8 : Kinds.RK 2
-r·8 = Unit.rUnit
-abbrev pub ps·9 : List.List (Kinds.PK 0)
-ps·9 = Bool.pBool ∷ (Num.pNum Syntax.w64) ∷ (Num.pNum Syntax.w64) ∷ List.[]
-abbrev pub r·9 : Kinds.RK 0
-r·9 = Num.rNum Syntax.w64
-abbrev pub ps·10 : List.List (Kinds.PK 0)
-ps·10 = (Value.pVal record { ty = Declared'.row Queued.the-type; one = Path.refl; val = Laws''''''''.val Queued.the-type Laws'.the-laws; tells =
-    Laws''''''''.tells Queued.the-type Laws'.the-laws; still = Laws''''''''.still Queued.the-type Laws'.the-copy Exit.yes; row = Rows.whole
-    (Declared'.row Queued.the-type); rd = λ x. x; mk = λ x. x; } λ M 𝓤 H A W. record { copies = Laws''''''''.copy Queued.the-type Laws'.the-copy 𝓤 H A
-    W; lawful = Laws''''''''.lawful Queued.the-type Laws'.the-laws 𝓤 H A W; makes = Laws''''''''.makes Queued.the-type Laws'.the-plain 𝓤 H A; in-mem =
-    Local.mem-whole 𝓤 H A W (Declared'.row Queued.the-type); of-mem = Local.whole-mem 𝓤 H A W (Declared'.row Queued.the-type); }) ∷ (Num.pNum
-    Syntax.w64) ∷ List.[]
-abbrev pub r·10 : Kinds.RK 0
-r·10 = Value.rVal record { ty = Declared'.row Sending.the-type; one = Path.refl; val = Laws''''''''.val Sending.the-type Laws''''''.the-laws; tells =
-    Laws''''''''.tells Sending.the-type Laws''''''.the-laws; still = Laws''''''''.still Sending.the-type Laws''''''.the-copy Exit.yes; row =
-    Rows.whole (Declared'.row Sending.the-type); rd = λ x. x; mk = λ x. x; } λ M 𝓤 H A W. record { copies = Laws''''''''.copy Sending.the-type
-    Laws''''''.the-copy 𝓤 H A W; lawful = Laws''''''''.lawful Sending.the-type Laws''''''.the-laws 𝓤 H A W; makes = Laws''''''''.makes
-    Sending.the-type Laws''''''.the-plain 𝓤 H A; in-mem = Local.mem-whole 𝓤 H A W (Declared'.row Sending.the-type); of-mem = Local.whole-mem 𝓤 H A W
+abbrev pub r·10 : Kinds.RK 2
+r·10 = Unit.rUnit
+abbrev pub ps·11 : List.List (Kinds.PK 0)
+ps·11 = Bool.pBool ∷ (Num.pNum Syntax.w64) ∷ (Num.pNum Syntax.w64) ∷ List.[]
+abbrev pub r·11 : Kinds.RK 0
+r·11 = Num.rNum Syntax.w64
+abbrev pub ps·12 : List.List (Kinds.PK 0)
+ps·12 = (Value.pVal record { ty = Declared'.row Queued.the-type; one = Path.refl; val = Laws'''''''''.val Queued.the-type Laws''.the-laws; tells =
+    Laws'''''''''.tells Queued.the-type Laws''.the-laws; still = Laws'''''''''.still Queued.the-type Laws''.the-copy Exit.yes; row = Rows.whole
+    (Declared'.row Queued.the-type); rd = λ x. x; mk = λ x. x; } λ M 𝓤 H A W. record { copies = Laws'''''''''.copy Queued.the-type Laws''.the-copy 𝓤 H
+    A W; lawful = Laws'''''''''.lawful Queued.the-type Laws''.the-laws 𝓤 H A W; makes = Laws'''''''''.makes Queued.the-type Laws''.the-plain 𝓤 H A;
+    in-mem = Local.mem-whole 𝓤 H A W (Declared'.row Queued.the-type); of-mem = Local.whole-mem 𝓤 H A W (Declared'.row Queued.the-type); }) ∷ (Num.pNum
+    Syntax.w64) ∷ (Value.pVal record { ty = Declared'.row Places.the-type; one = Path.refl; val = Laws'''''''''.val Places.the-type Laws'.the-laws;
+    tells = Laws'''''''''.tells Places.the-type Laws'.the-laws; still = Laws'''''''''.still Places.the-type Laws'.the-copy Exit.yes; row = Rows.whole
+    (Declared'.row Places.the-type); rd = λ x. x; mk = λ x. x; } λ M 𝓤 H A W. record { copies = Laws'''''''''.copy Places.the-type Laws'.the-copy 𝓤 H
+    A W; lawful = Laws'''''''''.lawful Places.the-type Laws'.the-laws 𝓤 H A W; makes = Laws'''''''''.makes Places.the-type Laws'.the-plain 𝓤 H A;
+    in-mem = Local.mem-whole 𝓤 H A W (Declared'.row Places.the-type); of-mem = Local.whole-mem 𝓤 H A W (Declared'.row Places.the-type); }) ∷ List.[]
+abbrev pub r·12 : Kinds.RK 0
+r·12 = Value.rVal record { ty = Declared'.row Sending.the-type; one = Path.refl; val = Laws'''''''''.val Sending.the-type Laws'''''''.the-laws; tells
+    = Laws'''''''''.tells Sending.the-type Laws'''''''.the-laws; still = Laws'''''''''.still Sending.the-type Laws'''''''.the-copy Exit.yes; row =
+    Rows.whole (Declared'.row Sending.the-type); rd = λ x. x; mk = λ x. x; } λ M 𝓤 H A W. record { copies = Laws'''''''''.copy Sending.the-type
+    Laws'''''''.the-copy 𝓤 H A W; lawful = Laws'''''''''.lawful Sending.the-type Laws'''''''.the-laws 𝓤 H A W; makes = Laws'''''''''.makes
+    Sending.the-type Laws'''''''.the-plain 𝓤 H A; in-mem = Local.mem-whole 𝓤 H A W (Declared'.row Sending.the-type); of-mem = Local.whole-mem 𝓤 H A W
     (Declared'.row Sending.the-type); }
 abbrev pub hs : List.List Syntax.Home
 hs = Syntax.valueLocal ∷ Syntax.valueLocal ∷ Syntax.valueLocal ∷ Syntax.valueLocal ∷ Syntax.valueLocal ∷ Syntax.valueLocal ∷ Syntax.valueLocal ∷
     Syntax.valueLocal ∷ Syntax.valueLocal ∷ Syntax.valueLocal ∷ Syntax.valueLocal ∷ Syntax.valueLocal ∷ Syntax.valueLocal ∷ Syntax.valueLocal ∷
     Syntax.valueLocal ∷ Syntax.valueLocal ∷ Syntax.valueLocal ∷ Syntax.valueLocal ∷ Syntax.valueLocal ∷ Syntax.valueLocal ∷ Syntax.valueLocal ∷
-    Syntax.valueLocal ∷ Syntax.valueLocal ∷ Syntax.valueLocal ∷ Syntax.valueLocal ∷ List.[]
+    Syntax.valueLocal ∷ Syntax.valueLocal ∷ Syntax.valueLocal ∷ Syntax.valueLocal ∷ Syntax.valueLocal ∷ Syntax.valueLocal ∷ Syntax.valueLocal ∷
+    Syntax.valueLocal ∷ List.[]
 abbrev b0 : Syntax.Body
 b0 = Syntax.assign (Syntax.place 7 List.[]) (Syntax.rvOpd (Syntax.copy (Syntax.place 4 ((Syntax.field 0) ∷ List.[]))))
 abbrev b1 : Syntax.Body
 b1 = Syntax.assign (Syntax.place 8 List.[]) (Syntax.rvOpd (Syntax.copy (Syntax.place 4 ((Syntax.field 1) ∷ List.[]))))
 abbrev b2 : Syntax.Body
-b2 = Syntax.call "hnsr_circuit::queue::asking" ((Syntax.copy (Syntax.place 7 List.[])) ∷ (Syntax.copy (Syntax.place 5 List.[])) ∷ List.[])
-    (Syntax.place 9 List.[])
+b2 = Syntax.assign (Syntax.place 9 List.[]) (Syntax.rvOpd (Syntax.copy (Syntax.place 4 ((Syntax.field 2) ∷ List.[]))))
 abbrev b3 : Syntax.Body
-b3 = Syntax.assign (Syntax.place 17 List.[]) (Syntax.addrOf (Syntax.place 1 ((Syntax.field 0) ∷ (Syntax.deref InflightAction.ty) ∷ List.[])))
+b3 = Syntax.assign (Syntax.place 10 List.[]) (Syntax.rvOpd (Syntax.copy (Syntax.place 1 ((Syntax.field 1) ∷ List.[]))))
 abbrev b4 : Syntax.Body
-b4 = Syntax.assign (Syntax.place 18 List.[]) (Syntax.aggregate ((Syntax.copy (Syntax.place 17 List.[])) ∷ (Syntax.copy (Syntax.place 1 ((Syntax.field
-    1) ∷ List.[]))) ∷ List.[]))
+b4 = Syntax.call "hnsr_circuit::queue::asking" ((Syntax.copy (Syntax.place 7 List.[])) ∷ (Syntax.copy (Syntax.place 5 List.[])) ∷ List.[])
+    (Syntax.place 11 List.[])
 abbrev b5 : Syntax.Body
-b5 = Syntax.call "hnsr_circuit::tables::inflight::scan_actions" ((Syntax.copy (Syntax.place 18 List.[])) ∷ (Syntax.copy (Syntax.place 9 List.[])) ∷
-    List.[]) (Syntax.place 10 List.[])
+b5 = Syntax.assign (Syntax.place 21 List.[]) (Syntax.addrOf (Syntax.place 1 ((Syntax.field 0) ∷ (Syntax.deref InflightAction.ty) ∷ List.[])))
 abbrev b6 : Syntax.Body
-b6 = Syntax.call "hnsr_circuit::queue::going" ((Syntax.copy (Syntax.place 3 List.[])) ∷ List.[]) (Syntax.place 11 List.[])
+b6 = Syntax.assign (Syntax.place 22 List.[]) (Syntax.aggregate ((Syntax.copy (Syntax.place 21 List.[])) ∷ (Syntax.copy (Syntax.place 1 ((Syntax.field
+    1) ∷ List.[]))) ∷ List.[]))
 abbrev b7 : Syntax.Body
-b7 = Syntax.call "hnsr_circuit::queue::queue" ((Syntax.copy (Syntax.place 11 List.[])) ∷ (Syntax.copy (Syntax.place 7 List.[])) ∷ (Syntax.copy
-    (Syntax.place 5 List.[])) ∷ (Syntax.copy (Syntax.place 10 List.[])) ∷ List.[]) (Syntax.place 12 List.[])
+b7 = Syntax.call "hnsr_circuit::tables::inflight::scan_actions" ((Syntax.copy (Syntax.place 22 List.[])) ∷ (Syntax.copy (Syntax.place 9 List.[])) ∷
+    (Syntax.copy (Syntax.place 11 List.[])) ∷ List.[]) (Syntax.place 12 List.[])
 abbrev b8 : Syntax.Body
-b8 = Syntax.call "hnsr_circuit::queue::queued_action" ((Syntax.copy (Syntax.place 12 List.[])) ∷ List.[]) (Syntax.place 13 List.[])
+b8 = Syntax.call "hnsr_circuit::queue::going" ((Syntax.copy (Syntax.place 3 List.[])) ∷ List.[]) (Syntax.place 13 List.[])
 abbrev b9 : Syntax.Body
-b9 = Syntax.call "hnsr_circuit::queue::queued_go" ((Syntax.copy (Syntax.place 12 List.[])) ∷ List.[]) (Syntax.place 14 List.[])
+b9 = Syntax.call "hnsr_circuit::queue::queue" ((Syntax.copy (Syntax.place 13 List.[])) ∷ (Syntax.copy (Syntax.place 7 List.[])) ∷ (Syntax.copy
+    (Syntax.place 5 List.[])) ∷ (Syntax.copy (Syntax.place 12 List.[])) ∷ List.[]) (Syntax.place 14 List.[])
 abbrev b10 : Syntax.Body
-b10 = Syntax.call "hnsr_circuit::queue::queued_place" ((Syntax.copy (Syntax.place 12 List.[])) ∷ List.[]) (Syntax.place 15 List.[])
+b10 = Syntax.call "hnsr_circuit::queue::queued_action" ((Syntax.copy (Syntax.place 14 List.[])) ∷ List.[]) (Syntax.place 15 List.[])
 abbrev b11 : Syntax.Body
-b11 = Syntax.assign (Syntax.place 20 List.[]) (Syntax.addrOf (Syntax.place 1 ((Syntax.field 0) ∷ (Syntax.deref InflightAction.ty) ∷ List.[])))
+b11 = Syntax.call "hnsr_circuit::queue::queued_go" ((Syntax.copy (Syntax.place 14 List.[])) ∷ List.[]) (Syntax.place 16 List.[])
 abbrev b12 : Syntax.Body
-b12 = Syntax.assign (Syntax.place 21 List.[]) (Syntax.aggregate ((Syntax.copy (Syntax.place 20 List.[])) ∷ (Syntax.copy (Syntax.place 1 ((Syntax.field
-    1) ∷ List.[]))) ∷ List.[]))
+b12 = Syntax.call "hnsr_circuit::queue::queued_place" ((Syntax.copy (Syntax.place 14 List.[])) ∷ List.[]) (Syntax.place 17 List.[])
 abbrev b13 : Syntax.Body
-b13 = Syntax.call "hnsr_circuit::tables::inflight::set_action" ((Syntax.copy (Syntax.place 21 List.[])) ∷ (Syntax.copy (Syntax.place 14 List.[])) ∷
-    (Syntax.copy (Syntax.place 15 List.[])) ∷ (Syntax.copy (Syntax.place 13 List.[])) ∷ List.[]) (Syntax.place 19 List.[])
+b13 = Syntax.call "hnsr_circuit::places::raised" ((Syntax.copy (Syntax.place 9 ((Syntax.field 3) ∷ List.[]))) ∷ (Syntax.copy (Syntax.place 16
+    List.[])) ∷ (Syntax.copy (Syntax.place 17 List.[])) ∷ (Syntax.copy (Syntax.place 10 List.[])) ∷ List.[]) (Syntax.place 18 List.[])
 abbrev b14 : Syntax.Body
-b14 = Syntax.assign (Syntax.place 22 List.[]) (Syntax.addrOf (Syntax.place 2 ((Syntax.field 0) ∷ (Syntax.deref (Syntax.tyInt Syntax.w32)) ∷ List.[])))
+b14 = Syntax.call "hnsr_circuit::places::with_actions" ((Syntax.copy (Syntax.place 9 List.[])) ∷ (Syntax.copy (Syntax.place 18 List.[])) ∷ List.[])
+    (Syntax.place 19 List.[])
 abbrev b15 : Syntax.Body
-b15 = Syntax.assign (Syntax.place 23 List.[]) (Syntax.aggregate ((Syntax.copy (Syntax.place 22 List.[])) ∷ (Syntax.copy (Syntax.place 2 ((Syntax.field
-    1) ∷ List.[]))) ∷ List.[]))
+b15 = Syntax.assign (Syntax.place 24 List.[]) (Syntax.addrOf (Syntax.place 1 ((Syntax.field 0) ∷ (Syntax.deref InflightAction.ty) ∷ List.[])))
 abbrev b16 : Syntax.Body
-b16 = Syntax.call "hnsr_circuit::queue::put_queued" ((Syntax.copy (Syntax.place 23 List.[])) ∷ (Syntax.copy (Syntax.place 14 List.[])) ∷ (Syntax.copy
-    (Syntax.place 8 List.[])) ∷ (Syntax.copy (Syntax.place 5 List.[])) ∷ (Syntax.copy (Syntax.place 7 List.[])) ∷ (Syntax.copy (Syntax.place 6
-    List.[])) ∷ List.[]) (Syntax.place 19 List.[])
+b16 = Syntax.assign (Syntax.place 25 List.[]) (Syntax.aggregate ((Syntax.copy (Syntax.place 24 List.[])) ∷ (Syntax.copy (Syntax.place 1 ((Syntax.field
+    1) ∷ List.[]))) ∷ List.[]))
 abbrev b17 : Syntax.Body
-b17 = Syntax.assign (Syntax.place 24 List.[]) (Syntax.rvOpd (Syntax.copy (Syntax.place 6 ((Syntax.field 1) ∷ List.[]))))
+b17 = Syntax.call "hnsr_circuit::tables::inflight::set_action" ((Syntax.copy (Syntax.place 25 List.[])) ∷ (Syntax.copy (Syntax.place 16 List.[])) ∷
+    (Syntax.copy (Syntax.place 17 List.[])) ∷ (Syntax.copy (Syntax.place 15 List.[])) ∷ List.[]) (Syntax.place 23 List.[])
 abbrev b18 : Syntax.Body
-b18 = Syntax.call "hnsr_circuit::queue::position_after" ((Syntax.copy (Syntax.place 14 List.[])) ∷ (Syntax.copy (Syntax.place 8 List.[])) ∷
-    (Syntax.copy (Syntax.place 24 List.[])) ∷ List.[]) (Syntax.place 16 List.[])
+b18 = Syntax.assign (Syntax.place 26 List.[]) (Syntax.addrOf (Syntax.place 2 ((Syntax.field 0) ∷ (Syntax.deref (Syntax.tyInt Syntax.w32)) ∷ List.[])))
 abbrev b19 : Syntax.Body
-b19 = Syntax.call "hnsr_circuit::queue::sending_on" ((Syntax.copy (Syntax.place 12 List.[])) ∷ (Syntax.copy (Syntax.place 16 List.[])) ∷ List.[])
-    (Syntax.place 0 List.[])
+b19 = Syntax.assign (Syntax.place 27 List.[]) (Syntax.aggregate ((Syntax.copy (Syntax.place 26 List.[])) ∷ (Syntax.copy (Syntax.place 2 ((Syntax.field
+    1) ∷ List.[]))) ∷ List.[]))
 abbrev b20 : Syntax.Body
-b20 = Syntax.return
+b20 = Syntax.call "hnsr_circuit::queue::put_queued" ((Syntax.copy (Syntax.place 27 List.[])) ∷ (Syntax.copy (Syntax.place 16 List.[])) ∷ (Syntax.copy
+    (Syntax.place 8 List.[])) ∷ (Syntax.copy (Syntax.place 5 List.[])) ∷ (Syntax.copy (Syntax.place 7 List.[])) ∷ (Syntax.copy (Syntax.place 6
+    List.[])) ∷ List.[]) (Syntax.place 23 List.[])
 abbrev b21 : Syntax.Body
-b21 = Syntax.seq b19 b20
+b21 = Syntax.assign (Syntax.place 28 List.[]) (Syntax.rvOpd (Syntax.copy (Syntax.place 6 ((Syntax.field 1) ∷ List.[]))))
 abbrev b22 : Syntax.Body
-b22 = Syntax.seq b18 b21
+b22 = Syntax.call "hnsr_circuit::queue::position_after" ((Syntax.copy (Syntax.place 16 List.[])) ∷ (Syntax.copy (Syntax.place 8 List.[])) ∷
+    (Syntax.copy (Syntax.place 28 List.[])) ∷ List.[]) (Syntax.place 20 List.[])
 abbrev b23 : Syntax.Body
-b23 = Syntax.seq b17 b22
+b23 = Syntax.call "hnsr_circuit::queue::sending_on" ((Syntax.copy (Syntax.place 14 List.[])) ∷ (Syntax.copy (Syntax.place 20 List.[])) ∷ (Syntax.copy
+    (Syntax.place 19 List.[])) ∷ List.[]) (Syntax.place 0 List.[])
 abbrev b24 : Syntax.Body
-b24 = Syntax.seq b16 b23
+b24 = Syntax.return
 abbrev b25 : Syntax.Body
-b25 = Syntax.seq b15 b24
+b25 = Syntax.seq b23 b24
 abbrev b26 : Syntax.Body
-b26 = Syntax.seq b14 b25
+b26 = Syntax.seq b22 b25
 abbrev b27 : Syntax.Body
-b27 = Syntax.seq b13 b26
+b27 = Syntax.seq b21 b26
 abbrev b28 : Syntax.Body
-b28 = Syntax.seq b12 b27
+b28 = Syntax.seq b20 b27
 abbrev b29 : Syntax.Body
-b29 = Syntax.seq b11 b28
+b29 = Syntax.seq b19 b28
 abbrev b30 : Syntax.Body
-b30 = Syntax.seq b10 b29
+b30 = Syntax.seq b18 b29
 abbrev b31 : Syntax.Body
-b31 = Syntax.seq b9 b30
+b31 = Syntax.seq b17 b30
 abbrev b32 : Syntax.Body
-b32 = Syntax.seq b8 b31
+b32 = Syntax.seq b16 b31
 abbrev b33 : Syntax.Body
-b33 = Syntax.seq b7 b32
+b33 = Syntax.seq b15 b32
 abbrev b34 : Syntax.Body
-b34 = Syntax.seq b6 b33
+b34 = Syntax.seq b14 b33
 abbrev b35 : Syntax.Body
-b35 = Syntax.seq b5 b34
+b35 = Syntax.seq b13 b34
 abbrev b36 : Syntax.Body
-b36 = Syntax.seq b4 b35
+b36 = Syntax.seq b12 b35
 abbrev b37 : Syntax.Body
-b37 = Syntax.seq b3 b36
+b37 = Syntax.seq b11 b36
 abbrev b38 : Syntax.Body
-b38 = Syntax.seq b2 b37
+b38 = Syntax.seq b10 b37
 abbrev b39 : Syntax.Body
-b39 = Syntax.seq b1 b38
+b39 = Syntax.seq b9 b38
 abbrev b40 : Syntax.Body
-b40 = Syntax.seq b0 b39
+b40 = Syntax.seq b8 b39
+abbrev b41 : Syntax.Body
+b41 = Syntax.seq b7 b40
+abbrev b42 : Syntax.Body
+b42 = Syntax.seq b6 b41
+abbrev b43 : Syntax.Body
+b43 = Syntax.seq b5 b42
+abbrev b44 : Syntax.Body
+b44 = Syntax.seq b4 b43
+abbrev b45 : Syntax.Body
+b45 = Syntax.seq b3 b44
+abbrev b46 : Syntax.Body
+b46 = Syntax.seq b2 b45
+abbrev b47 : Syntax.Body
+b47 = Syntax.seq b1 b46
+abbrev b48 : Syntax.Body
+b48 = Syntax.seq b0 b47
 abbrev pub body : Syntax.Body
-body = b40
+body = b48
 abbrev pub Claims : Type 1
 Claims = Kinds.In 0 ps·0 × Kinds.Out 0 ps·0 r·0 × Kinds.In 1 ps·1 × Kinds.Out 1 ps·1 r·1 × Kinds.In 0 ps·2 × Kinds.Out 0 ps·2 r·2 × Kinds.In 0 ps·3 ×
     Kinds.Out 0 ps·3 r·3 × Kinds.In 0 ps·4 × Kinds.Out 0 ps·4 r·4 × Kinds.In 0 ps·5 × Kinds.Out 0 ps·5 r·5 × Kinds.In 0 ps·6 × Kinds.Out 0 ps·6 r·6 ×
-    Kinds.In 1 ps·7 × Kinds.Out 1 ps·7 r·7 × Kinds.In 2 ps·8 × Kinds.Out 2 ps·8 r·8 × Kinds.In 0 ps·9 × Kinds.Out 0 ps·9 r·9 × Kinds.In 0 ps·10 ×
-    Kinds.Out 0 ps·10 r·10
+    Kinds.In 0 ps·7 × Kinds.Out 0 ps·7 r·7 × Kinds.In 0 ps·8 × Kinds.Out 0 ps·8 r·8 × Kinds.In 1 ps·9 × Kinds.Out 1 ps·9 r·9 × Kinds.In 2 ps·10 ×
+    Kinds.Out 2 ps·10 r·10 × Kinds.In 0 ps·11 × Kinds.Out 0 ps·11 r·11 × Kinds.In 0 ps·12 × Kinds.Out 0 ps·12 r·12
 abbrev e0 : Row.Entry
-e0 = (0, Rows.any-gone Laws''''''.mir)
+e0 = (0, Rows.any-gone Laws'''''''.mir)
 abbrev e1 : Row.Entry
 e1 = (1, Mut.mslice InflightAction.row ref3 0)
 abbrev e2 : Row.Entry
@@ -366,99 +413,115 @@ e5 = (5, Rows.whole (Declared'.row Outgoing.the-type))
 abbrev e6 : Row.Entry
 e6 = (6, Rows.sslice (Referent.rtF (Referent.fInt Syntax.w8)) ref5 2)
 abbrev e7 : Row.Entry
-e7 = (7, Rows.any-gone Laws'''''.mir)
+e7 = (7, Rows.any-gone Laws''''''.mir)
 abbrev e8 : Row.Entry
 e8 = (8, Rows.any-gone (Syntax.tyInt Syntax.w64))
 abbrev e9 : Row.Entry
-e9 = (9, Rows.any-gone Laws''.mir)
+e9 = (9, Rows.any-gone Laws'.mir)
 abbrev e10 : Row.Entry
-e10 = (10, Rows.any-gone Laws'''.mir)
+e10 = (10, Rows.any-gone (Syntax.tyInt Syntax.w64))
 abbrev e11 : Row.Entry
-e11 = (11, Rows.any-gone Laws.mir)
+e11 = (11, Rows.any-gone Laws'''.mir)
 abbrev e12 : Row.Entry
-e12 = (12, Rows.any-gone Laws'.mir)
+e12 = (12, Rows.any-gone Laws''''.mir)
 abbrev e13 : Row.Entry
-e13 = (13, Rows.any-gone InflightAction.ty)
+e13 = (13, Rows.any-gone Laws.mir)
 abbrev e14 : Row.Entry
-e14 = (14, Rows.any-gone Syntax.tyBool)
+e14 = (14, Rows.any-gone Laws''.mir)
 abbrev e15 : Row.Entry
-e15 = (15, Rows.any-gone (Syntax.tyInt Syntax.w64))
+e15 = (15, Rows.any-gone InflightAction.ty)
 abbrev e16 : Row.Entry
-e16 = (16, Rows.any-gone (Syntax.tyInt Syntax.w64))
+e16 = (16, Rows.any-gone Syntax.tyBool)
 abbrev e17 : Row.Entry
-e17 = (17, Rows.any-gone ref0)
+e17 = (17, Rows.any-gone (Syntax.tyInt Syntax.w64))
 abbrev e18 : Row.Entry
-e18 = (18, Rows.any-gone (Syntax.tyStruct (38 ∷ 91 ∷ 93 ∷ List.[]) (Syntax.tcons ref0 (Syntax.tcons (Syntax.tyInt Syntax.w64) Syntax.tnil))))
+e18 = (18, Rows.any-gone (Syntax.tyInt Syntax.w64))
 abbrev e19 : Row.Entry
-e19 = (19, Rows.any-gone Syntax.tyUnit)
+e19 = (19, Rows.any-gone Laws'.mir)
 abbrev e20 : Row.Entry
-e20 = (20, Rows.any-gone ref1)
+e20 = (20, Rows.any-gone (Syntax.tyInt Syntax.w64))
 abbrev e21 : Row.Entry
-e21 = (21, Rows.any-gone (Syntax.tyStruct (38 ∷ 91 ∷ 93 ∷ List.[]) (Syntax.tcons ref1 (Syntax.tcons (Syntax.tyInt Syntax.w64) Syntax.tnil))))
+e21 = (21, Rows.any-gone ref0)
 abbrev e22 : Row.Entry
-e22 = (22, Rows.any-gone ref2)
+e22 = (22, Rows.any-gone (Syntax.tyStruct (38 ∷ 91 ∷ 93 ∷ List.[]) (Syntax.tcons ref0 (Syntax.tcons (Syntax.tyInt Syntax.w64) Syntax.tnil))))
 abbrev e23 : Row.Entry
-e23 = (23, Rows.any-gone (Syntax.tyStruct (38 ∷ 91 ∷ 93 ∷ List.[]) (Syntax.tcons ref2 (Syntax.tcons (Syntax.tyInt Syntax.w64) Syntax.tnil))))
+e23 = (23, Rows.any-gone Syntax.tyUnit)
 abbrev e24 : Row.Entry
-e24 = (24, Rows.any-gone (Syntax.tyInt Syntax.w64))
+e24 = (24, Rows.any-gone ref1)
+abbrev e25 : Row.Entry
+e25 = (25, Rows.any-gone (Syntax.tyStruct (38 ∷ 91 ∷ 93 ∷ List.[]) (Syntax.tcons ref1 (Syntax.tcons (Syntax.tyInt Syntax.w64) Syntax.tnil))))
+abbrev e26 : Row.Entry
+e26 = (26, Rows.any-gone ref2)
+abbrev e27 : Row.Entry
+e27 = (27, Rows.any-gone (Syntax.tyStruct (38 ∷ 91 ∷ 93 ∷ List.[]) (Syntax.tcons ref2 (Syntax.tcons (Syntax.tyInt Syntax.w64) Syntax.tnil))))
+abbrev e28 : Row.Entry
+e28 = (28, Rows.any-gone (Syntax.tyInt Syntax.w64))
 abbrev e0·1 : Row.Entry
 e0·1 = (0, Rows.whole (Declared'.row Sending.the-type))
 abbrev e3·1 : Row.Entry
 e3·1 = (3, Rows.any-gone Syntax.tyBool)
 abbrev e4·1 : Row.Entry
-e4·1 = (4, Rows.any-gone Laws''''''.mir)
+e4·1 = (4, Rows.any-gone Laws'''''''.mir)
 abbrev e5·1 : Row.Entry
-e5·1 = (5, Rows.any-gone Laws''''.mir)
+e5·1 = (5, Rows.any-gone Laws'''''.mir)
 abbrev e7·1 : Row.Entry
 e7·1 = (7, Rows.whole (Declared'.row OpaqueRelayRuntime.the-type))
 abbrev e8·1 : Row.Entry
 e8·1 = (8, Rows.sc-here (Row.sInt Syntax.w64))
 abbrev e9·1 : Row.Entry
-e9·1 = (9, Rows.whole (Declared'.row ActionQuestion.the-type))
+e9·1 = (9, Rows.whole (Declared'.row Places.the-type))
+abbrev e10·1 : Row.Entry
+e10·1 = (10, Rows.sc-here (Row.sInt Syntax.w64))
+abbrev e11·1 : Row.Entry
+e11·1 = (11, Rows.whole (Declared'.row ActionQuestion.the-type))
 abbrev e1·1 : Row.Entry
 e1·1 = (1, Reshare.mslice-owedS InflightAction.row ref3 0 3 Row.off)
-abbrev e17·1 : Row.Entry
-e17·1 = (17, Relend.ssptr InflightAction.row ref0 3)
-abbrev e18·1 : Row.Entry
-e18·1 = (18, Rows.sslice InflightAction.row ref0 3)
-abbrev e10·1 : Row.Entry
-e10·1 = (10, Rows.whole (Declared'.row ActionScan.the-type))
-abbrev e11·1 : Row.Entry
-e11·1 = (11, Rows.whole (Declared.row HnsrAnswer.the-type))
+abbrev e21·1 : Row.Entry
+e21·1 = (21, Relend.ssptr InflightAction.row ref0 3)
+abbrev e22·1 : Row.Entry
+e22·1 = (22, Rows.sslice InflightAction.row ref0 3)
 abbrev e12·1 : Row.Entry
-e12·1 = (12, Rows.whole (Declared'.row Queued.the-type))
+e12·1 = (12, Rows.whole (Declared'.row ActionScan.the-type))
 abbrev e13·1 : Row.Entry
-e13·1 = (13, InflightAction.held)
+e13·1 = (13, Rows.whole (Declared.row HnsrAnswer.the-type))
 abbrev e14·1 : Row.Entry
-e14·1 = (14, Rows.sc-here Row.sBool)
+e14·1 = (14, Rows.whole (Declared'.row Queued.the-type))
 abbrev e15·1 : Row.Entry
-e15·1 = (15, Rows.sc-here (Row.sInt Syntax.w64))
+e15·1 = (15, InflightAction.held)
+abbrev e16·1 : Row.Entry
+e16·1 = (16, Rows.sc-here Row.sBool)
+abbrev e17·1 : Row.Entry
+e17·1 = (17, Rows.sc-here (Row.sInt Syntax.w64))
+abbrev e18·1 : Row.Entry
+e18·1 = (18, Rows.sc-here (Row.sInt Syntax.w64))
+abbrev e19·1 : Row.Entry
+e19·1 = (19, Rows.whole (Declared'.row Places.the-type))
 abbrev e1·2 : Row.Entry
 e1·2 = (1, Relend.mslice-owed InflightAction.row ref3 0 4 Row.off)
-abbrev e20·1 : Row.Entry
-e20·1 = (20, Relend.msptr InflightAction.row ref1 4)
-abbrev e21·1 : Row.Entry
-e21·1 = (21, Mut.mslice InflightAction.row ref1 4)
-abbrev e19·1 : Row.Entry
-e19·1 = (19, Rows.sc-here Row.sUnit)
-abbrev e21·2 : Row.Entry
-e21·2 = (21, Mut.msleft InflightAction.row ref1)
+abbrev e24·1 : Row.Entry
+e24·1 = (24, Relend.msptr InflightAction.row ref1 4)
+abbrev e25·1 : Row.Entry
+e25·1 = (25, Mut.mslice InflightAction.row ref1 4)
+abbrev e23·1 : Row.Entry
+e23·1 = (23, Rows.sc-here Row.sUnit)
+abbrev e25·2 : Row.Entry
+e25·2 = (25, Mut.msleft InflightAction.row ref1)
 abbrev e2·1 : Row.Entry
 e2·1 = (2, Relend.mslice-owed (Referent.rtF (Referent.fInt Syntax.w32)) ref4 1 5 Row.off)
-abbrev e22·1 : Row.Entry
-e22·1 = (22, Relend.msptr (Referent.rtF (Referent.fInt Syntax.w32)) ref2 5)
-abbrev e23·1 : Row.Entry
-e23·1 = (23, Mut.mslice (Referent.rtF (Referent.fInt Syntax.w32)) ref2 5)
-abbrev e23·2 : Row.Entry
-e23·2 = (23, Mut.msleft (Referent.rtF (Referent.fInt Syntax.w32)) ref2)
-abbrev e24·1 : Row.Entry
-e24·1 = (24, Rows.sc-here (Row.sInt Syntax.w64))
-abbrev e16·1 : Row.Entry
-e16·1 = (16, Rows.sc-here (Row.sInt Syntax.w64))
+abbrev e26·1 : Row.Entry
+e26·1 = (26, Relend.msptr (Referent.rtF (Referent.fInt Syntax.w32)) ref2 5)
+abbrev e27·1 : Row.Entry
+e27·1 = (27, Mut.mslice (Referent.rtF (Referent.fInt Syntax.w32)) ref2 5)
+abbrev e27·2 : Row.Entry
+e27·2 = (27, Mut.msleft (Referent.rtF (Referent.fInt Syntax.w32)) ref2)
+abbrev e28·1 : Row.Entry
+e28·1 = (28, Rows.sc-here (Row.sInt Syntax.w64))
+abbrev e20·1 : Row.Entry
+e20·1 = (20, Rows.sc-here (Row.sInt Syntax.w64))
 abbrev pub t0 : List.List Row.Entry
 t0 = e0 ∷ e1 ∷ e2 ∷ e3 ∷ e4 ∷ e5 ∷ e6 ∷ e7 ∷ e8 ∷ e9 ∷ e10 ∷ e11 ∷ e12 ∷ e13 ∷ e14 ∷ e15 ∷ List.[]
 abbrev pub t1 : List.List Row.Entry
-t1 = e16 ∷ e17 ∷ e18 ∷ e19 ∷ e20 ∷ e21 ∷ e22 ∷ e23 ∷ e24 ∷ List.[]
+t1 = e16 ∷ e17 ∷ e18 ∷ e19 ∷ e20 ∷ e21 ∷ e22 ∷ e23 ∷ e24 ∷ e25 ∷ e26 ∷ e27 ∷ e28 ∷ List.[]
 abbrev pub t2 : List.List Row.Entry
 t2 = e0·1 ∷ e1 ∷ e2 ∷ e3·1 ∷ e4·1 ∷ e5·1 ∷ e6 ∷ e7 ∷ e8 ∷ e9 ∷ e10 ∷ e11 ∷ e12 ∷ e13 ∷ e14 ∷ e15 ∷ List.[]
 abbrev pub t3 : List.List Row.Entry
@@ -466,81 +529,97 @@ t3 = e0 ∷ e1 ∷ e2 ∷ e3 ∷ e4 ∷ e5 ∷ e6 ∷ e7·1 ∷ e8 ∷ e9 ∷ e1
 abbrev pub t4 : List.List Row.Entry
 t4 = e0 ∷ e1 ∷ e2 ∷ e3 ∷ e4 ∷ e5 ∷ e6 ∷ e7·1 ∷ e8·1 ∷ e9 ∷ e10 ∷ e11 ∷ e12 ∷ e13 ∷ e14 ∷ e15 ∷ List.[]
 abbrev pub t5 : List.List Row.Entry
-t5 = e0 ∷ e1 ∷ e2 ∷ e3 ∷ e4·1 ∷ e5 ∷ e6 ∷ e7·1 ∷ e8·1 ∷ e9 ∷ e10 ∷ e11 ∷ e12 ∷ e13 ∷ e14 ∷ e15 ∷ List.[]
+t5 = e0 ∷ e1 ∷ e2 ∷ e3 ∷ e4 ∷ e5 ∷ e6 ∷ e7·1 ∷ e8·1 ∷ e9·1 ∷ e10 ∷ e11 ∷ e12 ∷ e13 ∷ e14 ∷ e15 ∷ List.[]
 abbrev pub t6 : List.List Row.Entry
 t6 = e0 ∷ e1 ∷ e2 ∷ e3 ∷ e4·1 ∷ e5 ∷ e6 ∷ e7·1 ∷ e8·1 ∷ e9·1 ∷ e10 ∷ e11 ∷ e12 ∷ e13 ∷ e14 ∷ e15 ∷ List.[]
 abbrev pub t7 : List.List Row.Entry
-t7 = e0 ∷ e1·1 ∷ e2 ∷ e3 ∷ e4·1 ∷ e5 ∷ e6 ∷ e7·1 ∷ e8·1 ∷ e9·1 ∷ e10 ∷ e11 ∷ e12 ∷ e13 ∷ e14 ∷ e15 ∷ List.[]
+t7 = e0 ∷ e1 ∷ e2 ∷ e3 ∷ e4·1 ∷ e5 ∷ e6 ∷ e7·1 ∷ e8·1 ∷ e9·1 ∷ e10·1 ∷ e11 ∷ e12 ∷ e13 ∷ e14 ∷ e15 ∷ List.[]
 abbrev pub t8 : List.List Row.Entry
-t8 = e16 ∷ e17·1 ∷ e18 ∷ e19 ∷ e20 ∷ e21 ∷ e22 ∷ e23 ∷ e24 ∷ List.[]
+t8 = e0 ∷ e1 ∷ e2 ∷ e3 ∷ e4·1 ∷ e5 ∷ e6 ∷ e7·1 ∷ e8·1 ∷ e9·1 ∷ e10·1 ∷ e11·1 ∷ e12 ∷ e13 ∷ e14 ∷ e15 ∷ List.[]
 abbrev pub t9 : List.List Row.Entry
-t9 = e16 ∷ e17 ∷ e18·1 ∷ e19 ∷ e20 ∷ e21 ∷ e22 ∷ e23 ∷ e24 ∷ List.[]
+t9 = e0 ∷ e1·1 ∷ e2 ∷ e3 ∷ e4·1 ∷ e5 ∷ e6 ∷ e7·1 ∷ e8·1 ∷ e9·1 ∷ e10·1 ∷ e11·1 ∷ e12 ∷ e13 ∷ e14 ∷ e15 ∷ List.[]
 abbrev pub t10 : List.List Row.Entry
-t10 = e0 ∷ e1·1 ∷ e2 ∷ e3 ∷ e4·1 ∷ e5 ∷ e6 ∷ e7·1 ∷ e8·1 ∷ e9·1 ∷ e10·1 ∷ e11 ∷ e12 ∷ e13 ∷ e14 ∷ e15 ∷ List.[]
+t10 = e16 ∷ e17 ∷ e18 ∷ e19 ∷ e20 ∷ e21·1 ∷ e22 ∷ e23 ∷ e24 ∷ e25 ∷ e26 ∷ e27 ∷ e28 ∷ List.[]
 abbrev pub t11 : List.List Row.Entry
-t11 = e0 ∷ e1·1 ∷ e2 ∷ e3 ∷ e4·1 ∷ e5 ∷ e6 ∷ e7·1 ∷ e8·1 ∷ e9 ∷ e10·1 ∷ e11 ∷ e12 ∷ e13 ∷ e14 ∷ e15 ∷ List.[]
+t11 = e16 ∷ e17 ∷ e18 ∷ e19 ∷ e20 ∷ e21 ∷ e22·1 ∷ e23 ∷ e24 ∷ e25 ∷ e26 ∷ e27 ∷ e28 ∷ List.[]
 abbrev pub t12 : List.List Row.Entry
-t12 = e0 ∷ e1 ∷ e2 ∷ e3 ∷ e4·1 ∷ e5 ∷ e6 ∷ e7·1 ∷ e8·1 ∷ e9 ∷ e10·1 ∷ e11 ∷ e12 ∷ e13 ∷ e14 ∷ e15 ∷ List.[]
+t12 = e0 ∷ e1·1 ∷ e2 ∷ e3 ∷ e4·1 ∷ e5 ∷ e6 ∷ e7·1 ∷ e8·1 ∷ e9·1 ∷ e10·1 ∷ e11·1 ∷ e12·1 ∷ e13 ∷ e14 ∷ e15 ∷ List.[]
 abbrev pub t13 : List.List Row.Entry
-t13 = e0 ∷ e1 ∷ e2 ∷ e3 ∷ e4·1 ∷ e5 ∷ e6 ∷ e7·1 ∷ e8·1 ∷ e9 ∷ e10·1 ∷ e11·1 ∷ e12 ∷ e13 ∷ e14 ∷ e15 ∷ List.[]
+t13 = e0 ∷ e1·1 ∷ e2 ∷ e3 ∷ e4·1 ∷ e5 ∷ e6 ∷ e7·1 ∷ e8·1 ∷ e9·1 ∷ e10·1 ∷ e11 ∷ e12·1 ∷ e13 ∷ e14 ∷ e15 ∷ List.[]
 abbrev pub t14 : List.List Row.Entry
-t14 = e0 ∷ e1 ∷ e2 ∷ e3 ∷ e4·1 ∷ e5 ∷ e6 ∷ e7·1 ∷ e8·1 ∷ e9 ∷ e10·1 ∷ e11·1 ∷ e12·1 ∷ e13 ∷ e14 ∷ e15 ∷ List.[]
+t14 = e0 ∷ e1 ∷ e2 ∷ e3 ∷ e4·1 ∷ e5 ∷ e6 ∷ e7·1 ∷ e8·1 ∷ e9·1 ∷ e10·1 ∷ e11 ∷ e12·1 ∷ e13 ∷ e14 ∷ e15 ∷ List.[]
 abbrev pub t15 : List.List Row.Entry
-t15 = e0 ∷ e1 ∷ e2 ∷ e3 ∷ e4·1 ∷ e5 ∷ e6 ∷ e7·1 ∷ e8·1 ∷ e9 ∷ e10 ∷ e11·1 ∷ e12·1 ∷ e13 ∷ e14 ∷ e15 ∷ List.[]
+t15 = e0 ∷ e1 ∷ e2 ∷ e3 ∷ e4·1 ∷ e5 ∷ e6 ∷ e7·1 ∷ e8·1 ∷ e9·1 ∷ e10·1 ∷ e11 ∷ e12·1 ∷ e13·1 ∷ e14 ∷ e15 ∷ List.[]
 abbrev pub t16 : List.List Row.Entry
-t16 = e0 ∷ e1 ∷ e2 ∷ e3 ∷ e4·1 ∷ e5 ∷ e6 ∷ e7·1 ∷ e8·1 ∷ e9 ∷ e10 ∷ e11 ∷ e12·1 ∷ e13 ∷ e14 ∷ e15 ∷ List.[]
+t16 = e0 ∷ e1 ∷ e2 ∷ e3 ∷ e4·1 ∷ e5 ∷ e6 ∷ e7·1 ∷ e8·1 ∷ e9·1 ∷ e10·1 ∷ e11 ∷ e12·1 ∷ e13·1 ∷ e14·1 ∷ e15 ∷ List.[]
 abbrev pub t17 : List.List Row.Entry
-t17 = e0 ∷ e1 ∷ e2 ∷ e3 ∷ e4·1 ∷ e5 ∷ e6 ∷ e7·1 ∷ e8·1 ∷ e9 ∷ e10 ∷ e11 ∷ e12·1 ∷ e13·1 ∷ e14 ∷ e15 ∷ List.[]
+t17 = e0 ∷ e1 ∷ e2 ∷ e3 ∷ e4·1 ∷ e5 ∷ e6 ∷ e7·1 ∷ e8·1 ∷ e9·1 ∷ e10·1 ∷ e11 ∷ e12 ∷ e13·1 ∷ e14·1 ∷ e15 ∷ List.[]
 abbrev pub t18 : List.List Row.Entry
-t18 = e0 ∷ e1 ∷ e2 ∷ e3 ∷ e4·1 ∷ e5 ∷ e6 ∷ e7·1 ∷ e8·1 ∷ e9 ∷ e10 ∷ e11 ∷ e12·1 ∷ e13·1 ∷ e14·1 ∷ e15 ∷ List.[]
+t18 = e0 ∷ e1 ∷ e2 ∷ e3 ∷ e4·1 ∷ e5 ∷ e6 ∷ e7·1 ∷ e8·1 ∷ e9·1 ∷ e10·1 ∷ e11 ∷ e12 ∷ e13 ∷ e14·1 ∷ e15 ∷ List.[]
 abbrev pub t19 : List.List Row.Entry
-t19 = e0 ∷ e1 ∷ e2 ∷ e3 ∷ e4·1 ∷ e5 ∷ e6 ∷ e7·1 ∷ e8·1 ∷ e9 ∷ e10 ∷ e11 ∷ e12·1 ∷ e13·1 ∷ e14·1 ∷ e15·1 ∷ List.[]
+t19 = e0 ∷ e1 ∷ e2 ∷ e3 ∷ e4·1 ∷ e5 ∷ e6 ∷ e7·1 ∷ e8·1 ∷ e9·1 ∷ e10·1 ∷ e11 ∷ e12 ∷ e13 ∷ e14·1 ∷ e15·1 ∷ List.[]
 abbrev pub t20 : List.List Row.Entry
-t20 = e0 ∷ e1·2 ∷ e2 ∷ e3 ∷ e4·1 ∷ e5 ∷ e6 ∷ e7·1 ∷ e8·1 ∷ e9 ∷ e10 ∷ e11 ∷ e12·1 ∷ e13·1 ∷ e14·1 ∷ e15·1 ∷ List.[]
+t20 = e16·1 ∷ e17 ∷ e18 ∷ e19 ∷ e20 ∷ e21 ∷ e22 ∷ e23 ∷ e24 ∷ e25 ∷ e26 ∷ e27 ∷ e28 ∷ List.[]
 abbrev pub t21 : List.List Row.Entry
-t21 = e16 ∷ e17 ∷ e18 ∷ e19 ∷ e20·1 ∷ e21 ∷ e22 ∷ e23 ∷ e24 ∷ List.[]
+t21 = e16·1 ∷ e17·1 ∷ e18 ∷ e19 ∷ e20 ∷ e21 ∷ e22 ∷ e23 ∷ e24 ∷ e25 ∷ e26 ∷ e27 ∷ e28 ∷ List.[]
 abbrev pub t22 : List.List Row.Entry
-t22 = e16 ∷ e17 ∷ e18 ∷ e19 ∷ e20 ∷ e21·1 ∷ e22 ∷ e23 ∷ e24 ∷ List.[]
+t22 = e16·1 ∷ e17·1 ∷ e18·1 ∷ e19 ∷ e20 ∷ e21 ∷ e22 ∷ e23 ∷ e24 ∷ e25 ∷ e26 ∷ e27 ∷ e28 ∷ List.[]
 abbrev pub t23 : List.List Row.Entry
-t23 = e16 ∷ e17 ∷ e18 ∷ e19·1 ∷ e20 ∷ e21·2 ∷ e22 ∷ e23 ∷ e24 ∷ List.[]
+t23 = e16·1 ∷ e17·1 ∷ e18·1 ∷ e19·1 ∷ e20 ∷ e21 ∷ e22 ∷ e23 ∷ e24 ∷ e25 ∷ e26 ∷ e27 ∷ e28 ∷ List.[]
 abbrev pub t24 : List.List Row.Entry
-t24 = e0 ∷ e1·2 ∷ e2 ∷ e3 ∷ e4·1 ∷ e5 ∷ e6 ∷ e7·1 ∷ e8·1 ∷ e9 ∷ e10 ∷ e11 ∷ e12·1 ∷ e13 ∷ e14·1 ∷ e15·1 ∷ List.[]
+t24 = e0 ∷ e1 ∷ e2 ∷ e3 ∷ e4·1 ∷ e5 ∷ e6 ∷ e7·1 ∷ e8·1 ∷ e9 ∷ e10·1 ∷ e11 ∷ e12 ∷ e13 ∷ e14·1 ∷ e15·1 ∷ List.[]
 abbrev pub t25 : List.List Row.Entry
-t25 = e16 ∷ e17 ∷ e18 ∷ e19 ∷ e20 ∷ e21·2 ∷ e22 ∷ e23 ∷ e24 ∷ List.[]
+t25 = e0 ∷ e1·2 ∷ e2 ∷ e3 ∷ e4·1 ∷ e5 ∷ e6 ∷ e7·1 ∷ e8·1 ∷ e9 ∷ e10·1 ∷ e11 ∷ e12 ∷ e13 ∷ e14·1 ∷ e15·1 ∷ List.[]
 abbrev pub t26 : List.List Row.Entry
-t26 = e0 ∷ e1 ∷ e2 ∷ e3 ∷ e4·1 ∷ e5 ∷ e6 ∷ e7·1 ∷ e8·1 ∷ e9 ∷ e10 ∷ e11 ∷ e12·1 ∷ e13 ∷ e14·1 ∷ e15·1 ∷ List.[]
+t26 = e16·1 ∷ e17·1 ∷ e18·1 ∷ e19·1 ∷ e20 ∷ e21 ∷ e22 ∷ e23 ∷ e24·1 ∷ e25 ∷ e26 ∷ e27 ∷ e28 ∷ List.[]
 abbrev pub t27 : List.List Row.Entry
-t27 = e0 ∷ e1 ∷ e2·1 ∷ e3 ∷ e4·1 ∷ e5 ∷ e6 ∷ e7·1 ∷ e8·1 ∷ e9 ∷ e10 ∷ e11 ∷ e12·1 ∷ e13 ∷ e14·1 ∷ e15·1 ∷ List.[]
+t27 = e16·1 ∷ e17·1 ∷ e18·1 ∷ e19·1 ∷ e20 ∷ e21 ∷ e22 ∷ e23 ∷ e24 ∷ e25·1 ∷ e26 ∷ e27 ∷ e28 ∷ List.[]
 abbrev pub t28 : List.List Row.Entry
-t28 = e16 ∷ e17 ∷ e18 ∷ e19 ∷ e20 ∷ e21 ∷ e22·1 ∷ e23 ∷ e24 ∷ List.[]
+t28 = e16·1 ∷ e17·1 ∷ e18·1 ∷ e19·1 ∷ e20 ∷ e21 ∷ e22 ∷ e23·1 ∷ e24 ∷ e25·2 ∷ e26 ∷ e27 ∷ e28 ∷ List.[]
 abbrev pub t29 : List.List Row.Entry
-t29 = e16 ∷ e17 ∷ e18 ∷ e19 ∷ e20 ∷ e21 ∷ e22 ∷ e23·1 ∷ e24 ∷ List.[]
+t29 = e0 ∷ e1·2 ∷ e2 ∷ e3 ∷ e4·1 ∷ e5 ∷ e6 ∷ e7·1 ∷ e8·1 ∷ e9 ∷ e10·1 ∷ e11 ∷ e12 ∷ e13 ∷ e14·1 ∷ e15 ∷ List.[]
 abbrev pub t30 : List.List Row.Entry
-t30 = e16 ∷ e17 ∷ e18 ∷ e19·1 ∷ e20 ∷ e21 ∷ e22 ∷ e23·2 ∷ e24 ∷ List.[]
+t30 = e16·1 ∷ e17·1 ∷ e18·1 ∷ e19·1 ∷ e20 ∷ e21 ∷ e22 ∷ e23 ∷ e24 ∷ e25·2 ∷ e26 ∷ e27 ∷ e28 ∷ List.[]
 abbrev pub t31 : List.List Row.Entry
-t31 = e0 ∷ e1 ∷ e2·1 ∷ e3 ∷ e4·1 ∷ e5·1 ∷ e6 ∷ e7·1 ∷ e8·1 ∷ e9 ∷ e10 ∷ e11 ∷ e12·1 ∷ e13 ∷ e14·1 ∷ e15·1 ∷ List.[]
+t31 = e0 ∷ e1 ∷ e2 ∷ e3 ∷ e4·1 ∷ e5 ∷ e6 ∷ e7·1 ∷ e8·1 ∷ e9 ∷ e10·1 ∷ e11 ∷ e12 ∷ e13 ∷ e14·1 ∷ e15 ∷ List.[]
 abbrev pub t32 : List.List Row.Entry
-t32 = e0 ∷ e1 ∷ e2·1 ∷ e3 ∷ e4·1 ∷ e5·1 ∷ e6 ∷ e7 ∷ e8·1 ∷ e9 ∷ e10 ∷ e11 ∷ e12·1 ∷ e13 ∷ e14·1 ∷ e15·1 ∷ List.[]
+t32 = e0 ∷ e1 ∷ e2·1 ∷ e3 ∷ e4·1 ∷ e5 ∷ e6 ∷ e7·1 ∷ e8·1 ∷ e9 ∷ e10·1 ∷ e11 ∷ e12 ∷ e13 ∷ e14·1 ∷ e15 ∷ List.[]
 abbrev pub t33 : List.List Row.Entry
-t33 = e16 ∷ e17 ∷ e18 ∷ e19 ∷ e20 ∷ e21 ∷ e22 ∷ e23·2 ∷ e24 ∷ List.[]
+t33 = e16·1 ∷ e17·1 ∷ e18·1 ∷ e19·1 ∷ e20 ∷ e21 ∷ e22 ∷ e23 ∷ e24 ∷ e25 ∷ e26·1 ∷ e27 ∷ e28 ∷ List.[]
 abbrev pub t34 : List.List Row.Entry
-t34 = e0 ∷ e1 ∷ e2 ∷ e3 ∷ e4·1 ∷ e5·1 ∷ e6 ∷ e7 ∷ e8·1 ∷ e9 ∷ e10 ∷ e11 ∷ e12·1 ∷ e13 ∷ e14·1 ∷ e15·1 ∷ List.[]
+t34 = e16·1 ∷ e17·1 ∷ e18·1 ∷ e19·1 ∷ e20 ∷ e21 ∷ e22 ∷ e23 ∷ e24 ∷ e25 ∷ e26 ∷ e27·1 ∷ e28 ∷ List.[]
 abbrev pub t35 : List.List Row.Entry
-t35 = e16 ∷ e17 ∷ e18 ∷ e19 ∷ e20 ∷ e21 ∷ e22 ∷ e23 ∷ e24·1 ∷ List.[]
+t35 = e16·1 ∷ e17·1 ∷ e18·1 ∷ e19·1 ∷ e20 ∷ e21 ∷ e22 ∷ e23·1 ∷ e24 ∷ e25 ∷ e26 ∷ e27·2 ∷ e28 ∷ List.[]
 abbrev pub t36 : List.List Row.Entry
-t36 = e16·1 ∷ e17 ∷ e18 ∷ e19 ∷ e20 ∷ e21 ∷ e22 ∷ e23 ∷ e24·1 ∷ List.[]
+t36 = e0 ∷ e1 ∷ e2·1 ∷ e3 ∷ e4·1 ∷ e5·1 ∷ e6 ∷ e7·1 ∷ e8·1 ∷ e9 ∷ e10·1 ∷ e11 ∷ e12 ∷ e13 ∷ e14·1 ∷ e15 ∷ List.[]
 abbrev pub t37 : List.List Row.Entry
-t37 = e16·1 ∷ e17 ∷ e18 ∷ e19 ∷ e20 ∷ e21 ∷ e22 ∷ e23 ∷ e24 ∷ List.[]
+t37 = e0 ∷ e1 ∷ e2·1 ∷ e3 ∷ e4·1 ∷ e5·1 ∷ e6 ∷ e7 ∷ e8·1 ∷ e9 ∷ e10·1 ∷ e11 ∷ e12 ∷ e13 ∷ e14·1 ∷ e15 ∷ List.[]
 abbrev pub t38 : List.List Row.Entry
-t38 = e0·1 ∷ e1 ∷ e2 ∷ e3 ∷ e4·1 ∷ e5·1 ∷ e6 ∷ e7 ∷ e8·1 ∷ e9 ∷ e10 ∷ e11 ∷ e12·1 ∷ e13 ∷ e14·1 ∷ e15·1 ∷ List.[]
+t38 = e16·1 ∷ e17·1 ∷ e18·1 ∷ e19·1 ∷ e20 ∷ e21 ∷ e22 ∷ e23 ∷ e24 ∷ e25 ∷ e26 ∷ e27·2 ∷ e28 ∷ List.[]
 abbrev pub t39 : List.List Row.Entry
-t39 = e0·1 ∷ e1 ∷ e2 ∷ e3 ∷ e4·1 ∷ e5·1 ∷ e6 ∷ e7 ∷ e8 ∷ e9 ∷ e10 ∷ e11 ∷ e12·1 ∷ e13 ∷ e14·1 ∷ e15·1 ∷ List.[]
+t39 = e0 ∷ e1 ∷ e2 ∷ e3 ∷ e4·1 ∷ e5·1 ∷ e6 ∷ e7 ∷ e8·1 ∷ e9 ∷ e10·1 ∷ e11 ∷ e12 ∷ e13 ∷ e14·1 ∷ e15 ∷ List.[]
 abbrev pub t40 : List.List Row.Entry
-t40 = e0·1 ∷ e1 ∷ e2 ∷ e3 ∷ e4·1 ∷ e5·1 ∷ e6 ∷ e7 ∷ e8 ∷ e9 ∷ e10 ∷ e11 ∷ e12 ∷ e13 ∷ e14·1 ∷ e15·1 ∷ List.[]
+t40 = e16·1 ∷ e17·1 ∷ e18·1 ∷ e19·1 ∷ e20 ∷ e21 ∷ e22 ∷ e23 ∷ e24 ∷ e25 ∷ e26 ∷ e27 ∷ e28·1 ∷ List.[]
 abbrev pub t41 : List.List Row.Entry
-t41 = e0·1 ∷ e1 ∷ e2 ∷ e3 ∷ e4·1 ∷ e5·1 ∷ e6 ∷ e7 ∷ e8 ∷ e9 ∷ e10 ∷ e11 ∷ e12 ∷ e13 ∷ e14 ∷ e15·1 ∷ List.[]
+t41 = e16·1 ∷ e17·1 ∷ e18·1 ∷ e19·1 ∷ e20·1 ∷ e21 ∷ e22 ∷ e23 ∷ e24 ∷ e25 ∷ e26 ∷ e27 ∷ e28·1 ∷ List.[]
 abbrev pub t42 : List.List Row.Entry
-t42 = e0·1 ∷ e1 ∷ e2 ∷ e3 ∷ e4·1 ∷ e5·1 ∷ e6 ∷ e7 ∷ e8 ∷ e9 ∷ e10 ∷ e11 ∷ e12 ∷ e13 ∷ e14 ∷ e15 ∷ List.[]
+t42 = e16·1 ∷ e17·1 ∷ e18·1 ∷ e19·1 ∷ e20·1 ∷ e21 ∷ e22 ∷ e23 ∷ e24 ∷ e25 ∷ e26 ∷ e27 ∷ e28 ∷ List.[]
+abbrev pub t43 : List.List Row.Entry
+t43 = e0·1 ∷ e1 ∷ e2 ∷ e3 ∷ e4·1 ∷ e5·1 ∷ e6 ∷ e7 ∷ e8·1 ∷ e9 ∷ e10·1 ∷ e11 ∷ e12 ∷ e13 ∷ e14·1 ∷ e15 ∷ List.[]
+abbrev pub t44 : List.List Row.Entry
+t44 = e0·1 ∷ e1 ∷ e2 ∷ e3 ∷ e4·1 ∷ e5·1 ∷ e6 ∷ e7 ∷ e8 ∷ e9 ∷ e10·1 ∷ e11 ∷ e12 ∷ e13 ∷ e14·1 ∷ e15 ∷ List.[]
+abbrev pub t45 : List.List Row.Entry
+t45 = e0·1 ∷ e1 ∷ e2 ∷ e3 ∷ e4·1 ∷ e5·1 ∷ e6 ∷ e7 ∷ e8 ∷ e9 ∷ e10 ∷ e11 ∷ e12 ∷ e13 ∷ e14·1 ∷ e15 ∷ List.[]
+abbrev pub t46 : List.List Row.Entry
+t46 = e0·1 ∷ e1 ∷ e2 ∷ e3 ∷ e4·1 ∷ e5·1 ∷ e6 ∷ e7 ∷ e8 ∷ e9 ∷ e10 ∷ e11 ∷ e12 ∷ e13 ∷ e14 ∷ e15 ∷ List.[]
+abbrev pub t47 : List.List Row.Entry
+t47 = e16 ∷ e17·1 ∷ e18·1 ∷ e19·1 ∷ e20·1 ∷ e21 ∷ e22 ∷ e23 ∷ e24 ∷ e25 ∷ e26 ∷ e27 ∷ e28 ∷ List.[]
+abbrev pub t48 : List.List Row.Entry
+t48 = e16 ∷ e17 ∷ e18·1 ∷ e19·1 ∷ e20·1 ∷ e21 ∷ e22 ∷ e23 ∷ e24 ∷ e25 ∷ e26 ∷ e27 ∷ e28 ∷ List.[]
+abbrev pub t49 : List.List Row.Entry
+t49 = e16 ∷ e17 ∷ e18 ∷ e19·1 ∷ e20·1 ∷ e21 ∷ e22 ∷ e23 ∷ e24 ∷ e25 ∷ e26 ∷ e27 ∷ e28 ∷ List.[]
+abbrev pub t50 : List.List Row.Entry
+t50 = e16 ∷ e17 ∷ e18 ∷ e19 ∷ e20·1 ∷ e21 ∷ e22 ∷ e23 ∷ e24 ∷ e25 ∷ e26 ∷ e27 ∷ e28 ∷ List.[]
 abbrev pub T0 : Row.Cx
 T0 = record { locals = List._++_ t0 t1; slots = List.[] }
 abbrev pub T1 : Row.Cx
@@ -557,22 +636,22 @@ abbrev pub T6 : Row.Cx
 T6 = record { locals = List._++_ t5 t1; slots = List.[] }
 abbrev pub T7 : Row.Cx
 T7 = record { locals = List._++_ t6 t1; slots = List.[] }
+abbrev pub T8 : Row.Cx
+T8 = record { locals = List._++_ t7 t1; slots = List.[] }
 abbrev pub T9 : Row.Cx
-T9 = record { locals = List._++_ t7 t8; slots = List.[] }
-abbrev pub T10 : Row.Cx
-T10 = record { locals = List._++_ t7 t9; slots = List.[] }
+T9 = record { locals = List._++_ t8 t1; slots = List.[] }
 abbrev pub T11 : Row.Cx
-T11 = record { locals = List._++_ t10 t9; slots = List.[] }
+T11 = record { locals = List._++_ t9 t10; slots = List.[] }
 abbrev pub T12 : Row.Cx
-T12 = record { locals = List._++_ t10 t1; slots = List.[] }
+T12 = record { locals = List._++_ t9 t11; slots = List.[] }
 abbrev pub T13 : Row.Cx
-T13 = record { locals = List._++_ t11 t1; slots = List.[] }
+T13 = record { locals = List._++_ t12 t11; slots = List.[] }
+abbrev pub T14 : Row.Cx
+T14 = record { locals = List._++_ t12 t1; slots = List.[] }
 abbrev pub T15 : Row.Cx
-T15 = record { locals = List._++_ t12 t1; slots = List.[] }
+T15 = record { locals = List._++_ t13 t1; slots = List.[] }
 abbrev pub T17 : Row.Cx
-T17 = record { locals = List._++_ t13 t1; slots = List.[] }
-abbrev pub T18 : Row.Cx
-T18 = record { locals = List._++_ t14 t1; slots = List.[] }
+T17 = record { locals = List._++_ t14 t1; slots = List.[] }
 abbrev pub T19 : Row.Cx
 T19 = record { locals = List._++_ t15 t1; slots = List.[] }
 abbrev pub T20 : Row.Cx
@@ -583,54 +662,70 @@ abbrev pub T22 : Row.Cx
 T22 = record { locals = List._++_ t18 t1; slots = List.[] }
 abbrev pub T23 : Row.Cx
 T23 = record { locals = List._++_ t19 t1; slots = List.[] }
+abbrev pub T24 : Row.Cx
+T24 = record { locals = List._++_ t19 t20; slots = List.[] }
 abbrev pub T25 : Row.Cx
-T25 = record { locals = List._++_ t20 t21; slots = List.[] }
+T25 = record { locals = List._++_ t19 t21; slots = List.[] }
 abbrev pub T26 : Row.Cx
-T26 = record { locals = List._++_ t20 t22; slots = List.[] }
+T26 = record { locals = List._++_ t19 t22; slots = List.[] }
 abbrev pub T27 : Row.Cx
-T27 = record { locals = List._++_ t20 t23; slots = List.[] }
+T27 = record { locals = List._++_ t19 t23; slots = List.[] }
 abbrev pub T28 : Row.Cx
 T28 = record { locals = List._++_ t24 t23; slots = List.[] }
-abbrev pub T29 : Row.Cx
-T29 = record { locals = List._++_ t24 t25; slots = List.[] }
+abbrev pub T30 : Row.Cx
+T30 = record { locals = List._++_ t25 t26; slots = List.[] }
 abbrev pub T31 : Row.Cx
-T31 = record { locals = List._++_ t26 t1; slots = List.[] }
+T31 = record { locals = List._++_ t25 t27; slots = List.[] }
+abbrev pub T32 : Row.Cx
+T32 = record { locals = List._++_ t25 t28; slots = List.[] }
+abbrev pub T33 : Row.Cx
+T33 = record { locals = List._++_ t29 t28; slots = List.[] }
 abbrev pub T34 : Row.Cx
-T34 = record { locals = List._++_ t27 t28; slots = List.[] }
-abbrev pub T35 : Row.Cx
-T35 = record { locals = List._++_ t27 t29; slots = List.[] }
+T34 = record { locals = List._++_ t29 t30; slots = List.[] }
 abbrev pub T36 : Row.Cx
-T36 = record { locals = List._++_ t27 t30; slots = List.[] }
-abbrev pub T37 : Row.Cx
-T37 = record { locals = List._++_ t31 t30; slots = List.[] }
-abbrev pub T38 : Row.Cx
-T38 = record { locals = List._++_ t32 t30; slots = List.[] }
+T36 = record { locals = List._++_ t31 t23; slots = List.[] }
 abbrev pub T39 : Row.Cx
 T39 = record { locals = List._++_ t32 t33; slots = List.[] }
+abbrev pub T40 : Row.Cx
+T40 = record { locals = List._++_ t32 t34; slots = List.[] }
 abbrev pub T41 : Row.Cx
-T41 = record { locals = List._++_ t34 t1; slots = List.[] }
+T41 = record { locals = List._++_ t32 t35; slots = List.[] }
 abbrev pub T42 : Row.Cx
-T42 = record { locals = List._++_ t34 t1; slots = List.[] }
+T42 = record { locals = List._++_ t36 t35; slots = List.[] }
+abbrev pub T43 : Row.Cx
+T43 = record { locals = List._++_ t37 t35; slots = List.[] }
 abbrev pub T44 : Row.Cx
-T44 = record { locals = List._++_ t34 t35; slots = List.[] }
-abbrev pub T45 : Row.Cx
-T45 = record { locals = List._++_ t34 t36; slots = List.[] }
+T44 = record { locals = List._++_ t37 t38; slots = List.[] }
 abbrev pub T46 : Row.Cx
-T46 = record { locals = List._++_ t34 t37; slots = List.[] }
+T46 = record { locals = List._++_ t39 t23; slots = List.[] }
 abbrev pub T47 : Row.Cx
-T47 = record { locals = List._++_ t38 t37; slots = List.[] }
-abbrev pub T48 : Row.Cx
-T48 = record { locals = List._++_ t39 t37; slots = List.[] }
+T47 = record { locals = List._++_ t39 t23; slots = List.[] }
 abbrev pub T49 : Row.Cx
-T49 = record { locals = List._++_ t40 t37; slots = List.[] }
+T49 = record { locals = List._++_ t39 t40; slots = List.[] }
 abbrev pub T50 : Row.Cx
-T50 = record { locals = List._++_ t41 t37; slots = List.[] }
+T50 = record { locals = List._++_ t39 t41; slots = List.[] }
 abbrev pub T51 : Row.Cx
-T51 = record { locals = List._++_ t42 t37; slots = List.[] }
+T51 = record { locals = List._++_ t39 t42; slots = List.[] }
 abbrev pub T52 : Row.Cx
-T52 = record { locals = List._++_ t42 t1; slots = List.[] }
+T52 = record { locals = List._++_ t43 t42; slots = List.[] }
 abbrev pub T53 : Row.Cx
-T53 = record { locals = List._++_ t2 t1; slots = List.[] }
+T53 = record { locals = List._++_ t44 t42; slots = List.[] }
+abbrev pub T54 : Row.Cx
+T54 = record { locals = List._++_ t45 t42; slots = List.[] }
+abbrev pub T55 : Row.Cx
+T55 = record { locals = List._++_ t46 t42; slots = List.[] }
+abbrev pub T56 : Row.Cx
+T56 = record { locals = List._++_ t46 t47; slots = List.[] }
+abbrev pub T57 : Row.Cx
+T57 = record { locals = List._++_ t46 t48; slots = List.[] }
+abbrev pub T58 : Row.Cx
+T58 = record { locals = List._++_ t46 t49; slots = List.[] }
+abbrev pub T59 : Row.Cx
+T59 = record { locals = List._++_ t46 t50; slots = List.[] }
+abbrev pub T60 : Row.Cx
+T60 = record { locals = List._++_ t46 t1; slots = List.[] }
+abbrev pub T61 : Row.Cx
+T61 = record { locals = List._++_ t2 t1; slots = List.[] }
 abbrev pub O0 : Typed.Outs
 O0 = record { next = Option.none; exits = List.[]; returns = Option.some T1 }
 module _ (claims· : Claims) where
@@ -645,103 +740,126 @@ module _ (claims· : Claims) where
       Sending.the-type)) (u .1 .1 .1 .1 .0) T′ m′) (λ u. Unit) λ u. Unit
   abbrev s3 : (bs : List.List Nat.ℕ) → Typed.Mo T4 → Typed.Mo T5
   s3 = λ bs. Scalar.n-use T4 (Scalar.oFld 4 ((Syntax.field 1) ∷ List.[]) (Syntax.tyInt Syntax.w64) 160 (Reads.fieldV Sending.the-type
-      Laws''''''.the-laws 1)) 8 (Rows.sc-here (Row.sInt Syntax.w64)) (Row.sInt Syntax.w64 .of)
-  abbrev s4 : (bs : List.List Nat.ℕ) → Typed.Mo T5 → Typed.Mo T6
-  s4 = λ bs. Scalar.n-room T5 4 Laws''''''.mir
-  abbrev s5 : (bs : List.List Nat.ℕ) → Typed.Both T6 T7
-  s5 = λ bs. Call.callB ps·0 r·0 (claims· .0) (claims· .1) T6 (record { pos = 7; st = List.[]; d = 0; at = λ x. x }, (record { pos = 5; st = List.[];
-      d = 0; at = λ x. x }, tt),) 9 List.[] Laws''.mir
-  abbrev s7 : (bs : List.List Nat.ℕ) → Typed.Gives T7 T9
-  s7 = λ bs. Reshare.k-sl-reshare InflightAction.row T7 1 17 0 3 ref3 ref0 Row.off λ x. x
-  abbrev s8 : (bs : List.List Nat.ℕ) → Typed.Asks T9 T10
-  s8 = λ bs. Relend.k-sl-aggregate InflightAction.row (Relend.asShr InflightAction.row) T9 17 18 3 ref0 ref0 (λ x. x) (Scalar.oFld 1 ((Syntax.field 1)
-      ∷ List.[]) (Syntax.tyInt Syntax.w64) 8 λ v. Shared.lenV (v .0))
-  abbrev s9 : (bs : List.List Nat.ℕ) → Typed.Both T10 T11
-  s9 = λ bs. Call.callB ps·1 r·1 (claims· .2) (claims· .3) T10 (record { pos = 18; ty = Syntax.tyRef Syntax.erased Syntax.imm InflightAction.to; ref =
-      λ x. x; }, (record { pos = 9; st = List.[]; d = 0; at = λ x. x }, tt),) 10 (3 ∷ List.[]) Laws'''.mir
-  abbrev s10 : (bs : List.List Nat.ℕ) → Typed.Mo T11 → Typed.Mo T12
-  s10 = λ bs. Scalar.n-room T11 18 (Syntax.tyStruct (38 ∷ 91 ∷ 93 ∷ List.[]) (Syntax.tcons ref0 (Syntax.tcons (Syntax.tyInt Syntax.w64) Syntax.tnil)))
-  abbrev s11 : (bs : List.List Nat.ℕ) → Typed.Mo T12 → Typed.Mo T13
-  s11 = λ bs. Scalar.n-room T12 9 Laws''.mir
-  abbrev s13 : (bs : List.List Nat.ℕ) → Typed.Mo T13 → Typed.Mo T15
-  s13 = λ bs. Reshare.n-back-sl-shr InflightAction.row T13 1 0 3 ref3 Row.off λ x. x
-  abbrev s15 : (bs : List.List Nat.ℕ) → Typed.Both T15 T17
-  s15 = λ bs. Call.callB ps·2 r·2 (claims· .4) (claims· .5) T15 (Bool.bAt 3 λ x. x, tt) 11 List.[] Laws.mir
-  abbrev s16 : (bs : List.List Nat.ℕ) → Typed.Both T17 T18
-  s16 = λ bs. Call.callB ps·3 r·3 (claims· .6) (claims· .7) T17 (record { pos = 11; st = List.[]; d = 0; at = λ x. x }, (record { pos = 7; st =
-      List.[]; d = 0; at = λ x. x }, (record { pos = 5; st = List.[]; d = 0; at = λ x. x }, (record { pos = 10; st = List.[]; d = 0; at = λ x. x },
-      tt),),),) 12 List.[] Laws'.mir
-  abbrev s17 : (bs : List.List Nat.ℕ) → Typed.Mo T18 → Typed.Mo T19
-  s17 = λ bs. Scalar.n-room T18 10 Laws'''.mir
-  abbrev s18 : (bs : List.List Nat.ℕ) → Typed.Mo T19 → Typed.Mo T20
-  s18 = λ bs. Scalar.n-room T19 11 Laws.mir
-  abbrev s19 : (bs : List.List Nat.ℕ) → Typed.Both T20 T21
-  s19 = λ bs. Call.callB ps·4 r·4 (claims· .8) (claims· .9) T20 (record { pos = 12; st = List.[]; d = 0; at = λ x. x }, tt,) 13 List.[]
-      InflightAction.ty
-  abbrev s20 : (bs : List.List Nat.ℕ) → Typed.Both T21 T22
-  s20 = λ bs. Call.callB ps·5 r·5 (claims· .10) (claims· .11) T21 (record { pos = 12; st = List.[]; d = 0; at = λ x. x }, tt,) 14 List.[]
-      Syntax.tyBool
-  abbrev s21 : (bs : List.List Nat.ℕ) → Typed.Both T22 T23
-  s21 = λ bs. Call.callB ps·6 r·6 (claims· .12) (claims· .13) T22 (record { pos = 12; st = List.[]; d = 0; at = λ x. x }, tt,) 15 List.[]
-      (Syntax.tyInt Syntax.w64)
-  abbrev s23 : (bs : List.List Nat.ℕ) → Typed.Gives T23 T25
-  s23 = λ bs. Relend.k-sl-relend InflightAction.row T23 1 20 0 4 ref3 ref1 Row.off λ x. x
-  abbrev s24 : (bs : List.List Nat.ℕ) → Typed.Asks T25 T26
-  s24 = λ bs. Relend.k-sl-aggregate InflightAction.row (Relend.asMut InflightAction.row) T25 20 21 4 ref1 ref1 (λ x. x) (Scalar.oFld 1 ((Syntax.field
-      1) ∷ List.[]) (Syntax.tyInt Syntax.w64) 8 λ v. Shared.lenV (v .0))
-  abbrev s25 : (bs : List.List Nat.ℕ) → Typed.Both T26 T27
-  s25 = λ bs. Call.callB ps·7 r·7 (claims· .14) (claims· .15) T26 (record { pos = 21; ty = Syntax.tyRef Syntax.erased Syntax.mut InflightAction.to;
-      ref = λ x. x; }, (Bool.bAt 14 λ x. x, (Num.vAt 15 λ x. x, (record { pos = 13; st = List.[]; d = 0; at = λ x. x }, tt)),),) 19 (4 ∷ List.[])
-      Syntax.tyUnit
-  abbrev s26 : (bs : List.List Nat.ℕ) → Typed.Mo T27 → Typed.Mo T28
-  s26 = λ bs. Scalar.n-room T27 13 InflightAction.ty
-  abbrev s27 : (bs : List.List Nat.ℕ) → Typed.Mo T28 → Typed.Mo T29
-  s27 = λ bs. Scalar.n-room T28 19 Syntax.tyUnit
-  abbrev s29 : (bs : List.List Nat.ℕ) → Typed.Both T29 T31
-  s29 = λ bs. Relend.k-back-sl InflightAction.row T29 21 1 0 4 ref3 ref1 Row.off (λ x. x) λ x. x
-  abbrev s32 : (bs : List.List Nat.ℕ) → Typed.Gives T31 T34
-  s32 = λ bs. Relend.k-sl-relend (Referent.rtF (Referent.fInt Syntax.w32)) T31 2 22 1 5 ref4 ref2 Row.off λ x. x
-  abbrev s33 : (bs : List.List Nat.ℕ) → Typed.Asks T34 T35
-  s33 = λ bs. Relend.k-sl-aggregate (Referent.rtF (Referent.fInt Syntax.w32)) (Relend.asMut (Referent.rtF (Referent.fInt Syntax.w32))) T34 22 23 5
-      ref2 ref2 (λ x. x) (Scalar.oFld 2 ((Syntax.field 1) ∷ List.[]) (Syntax.tyInt Syntax.w64) 8 λ v. Shared.lenV (v .0))
-  abbrev s34 : (bs : List.List Nat.ℕ) → Typed.Both T35 T36
-  s34 = λ bs. Call.callB ps·8 r·8 (claims· .16) (claims· .17) T35 (record { pos = 23; ty = Syntax.tyRef Syntax.erased Syntax.mut (Syntax.tyInt
-      Syntax.w32); ref = λ x. x; }, (Bool.bAt 14 λ x. x, (Num.vAt 8 λ x. x, (record { pos = 5; st = List.[]; d = 0; at = λ x. x }, (record { pos = 7;
-      st = List.[]; d = 0; at = λ x. x }, (record { pos = 6; ty = Syntax.tyRef (Syntax.named 2) Syntax.imm (Syntax.tyInt Syntax.w8); ref = λ x. x; },
-      tt,),),),),),) 19 (5 ∷ 2 ∷ List.[]) Syntax.tyUnit
-  abbrev s35 : (bs : List.List Nat.ℕ) → Typed.Mo T36 → Typed.Mo T37
-  s35 = λ bs. Scalar.n-room T36 5 Laws''''.mir
-  abbrev s36 : (bs : List.List Nat.ℕ) → Typed.Mo T37 → Typed.Mo T38
-  s36 = λ bs. Scalar.n-room T37 7 Laws'''''.mir
-  abbrev s37 : (bs : List.List Nat.ℕ) → Typed.Mo T38 → Typed.Mo T39
-  s37 = λ bs. Scalar.n-room T38 19 Syntax.tyUnit
-  abbrev s39 : (bs : List.List Nat.ℕ) → Typed.Both T39 T41
-  s39 = λ bs. Relend.k-back-sl (Referent.rtF (Referent.fInt Syntax.w32)) T39 23 2 1 5 ref4 ref2 Row.off (λ x. x) λ x. x
-  abbrev s40 : (bs : List.List Nat.ℕ) → Typed.Gives T41 T42
-  s40 = λ bs. Know.k-sl-known (Referent.fInt Syntax.w32) T41 2 1 ref4 Row.off 0 λ x. x
-  abbrev s42 : (bs : List.List Nat.ℕ) → Typed.Mo T42 → Typed.Mo T44
-  s42 = λ bs. Scalar.n-use T42 (Scalar.oFld 6 ((Syntax.field 1) ∷ List.[]) (Syntax.tyInt Syntax.w64) 8 Shared.lenV) 24 (Rows.sc-here (Row.sInt
+      Laws'''''''.the-laws 1)) 8 (Rows.sc-here (Row.sInt Syntax.w64)) (Row.sInt Syntax.w64 .of)
+  abbrev s4 : (bs : List.List Nat.ℕ) → Typed.Both T5 T6
+  s4 = λ bs. WayStmt.k-way-copy-out T5 (Row.out 4 (T5 .locals)) (λ u. Row.drop 4 (T5 .locals) u) 9 (Rows.whole (Declared'.row Places.the-type)) (λ u.
+      At.getAt (Sending.the-type .parts) 2 (Sending.struct .as-values (u .1 .1 .1 .1 .0))) (λ T′. record { locals = Row.setRow 4 (4, Rows.whole
+      (Declared'.row Sending.the-type)) T′; slots = List.[]; }) (λ u T′ m′. Row.set 4 (4, Rows.whole (Declared'.row Sending.the-type)) (u .1 .1 .1 .1
+      .0) T′ m′) (λ u. Unit) λ u. Unit
+  abbrev s5 : (bs : List.List Nat.ℕ) → Typed.Mo T6 → Typed.Mo T7
+  s5 = λ bs. Scalar.n-room T6 4 Laws'''''''.mir
+  abbrev s6 : (bs : List.List Nat.ℕ) → Typed.Mo T7 → Typed.Mo T8
+  s6 = λ bs. Scalar.n-use T7 (Scalar.oFld 1 ((Syntax.field 1) ∷ List.[]) (Syntax.tyInt Syntax.w64) 8 Shared.lenV) 10 (Rows.sc-here (Row.sInt
       Syntax.w64)) (Row.sInt Syntax.w64 .of)
-  abbrev s43 : (bs : List.List Nat.ℕ) → Typed.Both T44 T45
-  s43 = λ bs. Call.callB ps·9 r·9 (claims· .18) (claims· .19) T44 (Bool.bAt 14 λ x. x, (Num.vAt 8 λ x. x, (Num.vAt 24 λ x. x, tt)),) 16 List.[]
+  abbrev s7 : (bs : List.List Nat.ℕ) → Typed.Both T8 T9
+  s7 = λ bs. Call.callB ps·0 r·0 (claims· .0) (claims· .1) T8 (record { pos = 7; st = List.[]; d = 0; at = λ x. x }, (record { pos = 5; st = List.[];
+      d = 0; at = λ x. x }, tt),) 11 List.[] Laws'''.mir
+  abbrev s9 : (bs : List.List Nat.ℕ) → Typed.Gives T9 T11
+  s9 = λ bs. Reshare.k-sl-reshare InflightAction.row T9 1 21 0 3 ref3 ref0 Row.off λ x. x
+  abbrev s10 : (bs : List.List Nat.ℕ) → Typed.Asks T11 T12
+  s10 = λ bs. Relend.k-sl-aggregate InflightAction.row (Relend.asShr InflightAction.row) T11 21 22 3 ref0 ref0 (λ x. x) (Scalar.oFld 1 ((Syntax.field
+      1) ∷ List.[]) (Syntax.tyInt Syntax.w64) 8 λ v. Shared.lenV (v .0))
+  abbrev s11 : (bs : List.List Nat.ℕ) → Typed.Both T12 T13
+  s11 = λ bs. Call.callB ps·1 r·1 (claims· .2) (claims· .3) T12 (record { pos = 22; ty = Syntax.tyRef Syntax.erased Syntax.imm InflightAction.to; ref
+      = λ x. x; }, (record { pos = 9; st = List.[]; d = 0; at = λ x. x }, (record { pos = 11; st = List.[]; d = 0; at = λ x. x }, tt),),) 12 (3 ∷
+      List.[]) Laws''''.mir
+  abbrev s12 : (bs : List.List Nat.ℕ) → Typed.Mo T13 → Typed.Mo T14
+  s12 = λ bs. Scalar.n-room T13 22 (Syntax.tyStruct (38 ∷ 91 ∷ 93 ∷ List.[]) (Syntax.tcons ref0 (Syntax.tcons (Syntax.tyInt Syntax.w64) Syntax.tnil)))
+  abbrev s13 : (bs : List.List Nat.ℕ) → Typed.Mo T14 → Typed.Mo T15
+  s13 = λ bs. Scalar.n-room T14 11 Laws'''.mir
+  abbrev s15 : (bs : List.List Nat.ℕ) → Typed.Mo T15 → Typed.Mo T17
+  s15 = λ bs. Reshare.n-back-sl-shr InflightAction.row T15 1 0 3 ref3 Row.off λ x. x
+  abbrev s17 : (bs : List.List Nat.ℕ) → Typed.Both T17 T19
+  s17 = λ bs. Call.callB ps·2 r·2 (claims· .4) (claims· .5) T17 (Bool.bAt 3 λ x. x, tt) 13 List.[] Laws.mir
+  abbrev s18 : (bs : List.List Nat.ℕ) → Typed.Both T19 T20
+  s18 = λ bs. Call.callB ps·3 r·3 (claims· .6) (claims· .7) T19 (record { pos = 13; st = List.[]; d = 0; at = λ x. x }, (record { pos = 7; st =
+      List.[]; d = 0; at = λ x. x }, (record { pos = 5; st = List.[]; d = 0; at = λ x. x }, (record { pos = 12; st = List.[]; d = 0; at = λ x. x },
+      tt),),),) 14 List.[] Laws''.mir
+  abbrev s19 : (bs : List.List Nat.ℕ) → Typed.Mo T20 → Typed.Mo T21
+  s19 = λ bs. Scalar.n-room T20 12 Laws''''.mir
+  abbrev s20 : (bs : List.List Nat.ℕ) → Typed.Mo T21 → Typed.Mo T22
+  s20 = λ bs. Scalar.n-room T21 13 Laws.mir
+  abbrev s21 : (bs : List.List Nat.ℕ) → Typed.Both T22 T23
+  s21 = λ bs. Call.callB ps·4 r·4 (claims· .8) (claims· .9) T22 (record { pos = 14; st = List.[]; d = 0; at = λ x. x }, tt,) 15 List.[]
+      InflightAction.ty
+  abbrev s22 : (bs : List.List Nat.ℕ) → Typed.Both T23 T24
+  s22 = λ bs. Call.callB ps·5 r·5 (claims· .10) (claims· .11) T23 (record { pos = 14; st = List.[]; d = 0; at = λ x. x }, tt,) 16 List.[]
+      Syntax.tyBool
+  abbrev s23 : (bs : List.List Nat.ℕ) → Typed.Both T24 T25
+  s23 = λ bs. Call.callB ps·6 r·6 (claims· .12) (claims· .13) T24 (record { pos = 14; st = List.[]; d = 0; at = λ x. x }, tt,) 17 List.[]
       (Syntax.tyInt Syntax.w64)
-  abbrev s44 : (bs : List.List Nat.ℕ) → Typed.Mo T45 → Typed.Mo T46
-  s44 = λ bs. Scalar.n-room T45 24 (Syntax.tyInt Syntax.w64)
-  abbrev s45 : (bs : List.List Nat.ℕ) → Typed.Both T46 T47
-  s45 = λ bs. Call.callB ps·10 r·10 (claims· .20) (claims· .21) T46 (record { pos = 12; st = List.[]; d = 0; at = λ x. x }, (Num.vAt 16 λ x. x, tt),)
-      0 List.[] Laws''''''.mir
-  abbrev s46 : (bs : List.List Nat.ℕ) → Typed.Mo T47 → Typed.Mo T48
-  s46 = λ bs. Scalar.n-room T47 8 (Syntax.tyInt Syntax.w64)
-  abbrev s47 : (bs : List.List Nat.ℕ) → Typed.Mo T48 → Typed.Mo T49
-  s47 = λ bs. Scalar.n-room T48 12 Laws'.mir
-  abbrev s48 : (bs : List.List Nat.ℕ) → Typed.Mo T49 → Typed.Mo T50
-  s48 = λ bs. Scalar.n-room T49 14 Syntax.tyBool
+  abbrev s24 : (bs : List.List Nat.ℕ) → Typed.Both T25 T26
+  s24 = λ bs. Call.callB ps·7 r·7 (claims· .14) (claims· .15) T25 (Num.vFld 9 ((Syntax.field 3) ∷ List.[]) 24 λ x. Places.struct .as-values x .1 .1 .1
+      .0, (Bool.bAt 16 λ x. x, (Num.vAt 17 λ x. x, (Num.vAt 10 λ x. x, tt))),) 18 List.[] (Syntax.tyInt Syntax.w64)
+  abbrev s25 : (bs : List.List Nat.ℕ) → Typed.Both T26 T27
+  s25 = λ bs. Call.callB ps·8 r·8 (claims· .16) (claims· .17) T26 (record { pos = 9; st = List.[]; d = 0; at = λ x. x }, (Num.vAt 18 λ x. x, tt),) 19
+      List.[] Laws'.mir
+  abbrev s26 : (bs : List.List Nat.ℕ) → Typed.Mo T27 → Typed.Mo T28
+  s26 = λ bs. Scalar.n-room T27 9 Laws'.mir
+  abbrev s28 : (bs : List.List Nat.ℕ) → Typed.Gives T28 T30
+  s28 = λ bs. Relend.k-sl-relend InflightAction.row T28 1 24 0 4 ref3 ref1 Row.off λ x. x
+  abbrev s29 : (bs : List.List Nat.ℕ) → Typed.Asks T30 T31
+  s29 = λ bs. Relend.k-sl-aggregate InflightAction.row (Relend.asMut InflightAction.row) T30 24 25 4 ref1 ref1 (λ x. x) (Scalar.oFld 1 ((Syntax.field
+      1) ∷ List.[]) (Syntax.tyInt Syntax.w64) 8 λ v. Shared.lenV (v .0))
+  abbrev s30 : (bs : List.List Nat.ℕ) → Typed.Both T31 T32
+  s30 = λ bs. Call.callB ps·9 r·9 (claims· .18) (claims· .19) T31 (record { pos = 25; ty = Syntax.tyRef Syntax.erased Syntax.mut InflightAction.to;
+      ref = λ x. x; }, (Bool.bAt 16 λ x. x, (Num.vAt 17 λ x. x, (record { pos = 15; st = List.[]; d = 0; at = λ x. x }, tt)),),) 23 (4 ∷ List.[])
+      Syntax.tyUnit
+  abbrev s31 : (bs : List.List Nat.ℕ) → Typed.Mo T32 → Typed.Mo T33
+  s31 = λ bs. Scalar.n-room T32 15 InflightAction.ty
+  abbrev s32 : (bs : List.List Nat.ℕ) → Typed.Mo T33 → Typed.Mo T34
+  s32 = λ bs. Scalar.n-room T33 23 Syntax.tyUnit
+  abbrev s34 : (bs : List.List Nat.ℕ) → Typed.Both T34 T36
+  s34 = λ bs. Relend.k-back-sl InflightAction.row T34 25 1 0 4 ref3 ref1 Row.off (λ x. x) λ x. x
+  abbrev s37 : (bs : List.List Nat.ℕ) → Typed.Gives T36 T39
+  s37 = λ bs. Relend.k-sl-relend (Referent.rtF (Referent.fInt Syntax.w32)) T36 2 26 1 5 ref4 ref2 Row.off λ x. x
+  abbrev s38 : (bs : List.List Nat.ℕ) → Typed.Asks T39 T40
+  s38 = λ bs. Relend.k-sl-aggregate (Referent.rtF (Referent.fInt Syntax.w32)) (Relend.asMut (Referent.rtF (Referent.fInt Syntax.w32))) T39 26 27 5
+      ref2 ref2 (λ x. x) (Scalar.oFld 2 ((Syntax.field 1) ∷ List.[]) (Syntax.tyInt Syntax.w64) 8 λ v. Shared.lenV (v .0))
+  abbrev s39 : (bs : List.List Nat.ℕ) → Typed.Both T40 T41
+  s39 = λ bs. Call.callB ps·10 r·10 (claims· .20) (claims· .21) T40 (record { pos = 27; ty = Syntax.tyRef Syntax.erased Syntax.mut (Syntax.tyInt
+      Syntax.w32); ref = λ x. x; }, (Bool.bAt 16 λ x. x, (Num.vAt 8 λ x. x, (record { pos = 5; st = List.[]; d = 0; at = λ x. x }, (record { pos = 7;
+      st = List.[]; d = 0; at = λ x. x }, (record { pos = 6; ty = Syntax.tyRef (Syntax.named 2) Syntax.imm (Syntax.tyInt Syntax.w8); ref = λ x. x; },
+      tt,),),),),),) 23 (5 ∷ 2 ∷ List.[]) Syntax.tyUnit
+  abbrev s40 : (bs : List.List Nat.ℕ) → Typed.Mo T41 → Typed.Mo T42
+  s40 = λ bs. Scalar.n-room T41 5 Laws'''''.mir
+  abbrev s41 : (bs : List.List Nat.ℕ) → Typed.Mo T42 → Typed.Mo T43
+  s41 = λ bs. Scalar.n-room T42 7 Laws''''''.mir
+  abbrev s42 : (bs : List.List Nat.ℕ) → Typed.Mo T43 → Typed.Mo T44
+  s42 = λ bs. Scalar.n-room T43 23 Syntax.tyUnit
+  abbrev s44 : (bs : List.List Nat.ℕ) → Typed.Both T44 T46
+  s44 = λ bs. Relend.k-back-sl (Referent.rtF (Referent.fInt Syntax.w32)) T44 27 2 1 5 ref4 ref2 Row.off (λ x. x) λ x. x
+  abbrev s45 : (bs : List.List Nat.ℕ) → Typed.Gives T46 T47
+  s45 = λ bs. Know.k-sl-known (Referent.fInt Syntax.w32) T46 2 1 ref4 Row.off 0 λ x. x
+  abbrev s47 : (bs : List.List Nat.ℕ) → Typed.Mo T47 → Typed.Mo T49
+  s47 = λ bs. Scalar.n-use T47 (Scalar.oFld 6 ((Syntax.field 1) ∷ List.[]) (Syntax.tyInt Syntax.w64) 8 Shared.lenV) 28 (Rows.sc-here (Row.sInt
+      Syntax.w64)) (Row.sInt Syntax.w64 .of)
+  abbrev s48 : (bs : List.List Nat.ℕ) → Typed.Both T49 T50
+  s48 = λ bs. Call.callB ps·11 r·11 (claims· .22) (claims· .23) T49 (Bool.bAt 16 λ x. x, (Num.vAt 8 λ x. x, (Num.vAt 28 λ x. x, tt)),) 20 List.[]
+      (Syntax.tyInt Syntax.w64)
   abbrev s49 : (bs : List.List Nat.ℕ) → Typed.Mo T50 → Typed.Mo T51
-  s49 = λ bs. Scalar.n-room T50 15 (Syntax.tyInt Syntax.w64)
-  abbrev s50 : (bs : List.List Nat.ℕ) → Typed.Mo T51 → Typed.Mo T52
-  s50 = λ bs. Scalar.n-room T51 16 (Syntax.tyInt Syntax.w64)
+  s49 = λ bs. Scalar.n-room T50 28 (Syntax.tyInt Syntax.w64)
+  abbrev s50 : (bs : List.List Nat.ℕ) → Typed.Both T51 T52
+  s50 = λ bs. Call.callB ps·12 r·12 (claims· .24) (claims· .25) T51 (record { pos = 14; st = List.[]; d = 0; at = λ x. x }, (Num.vAt 20 λ x. x,
+      (record { pos = 19; st = List.[]; d = 0; at = λ x. x }, tt)),) 0 List.[] Laws'''''''.mir
   abbrev s51 : (bs : List.List Nat.ℕ) → Typed.Mo T52 → Typed.Mo T53
-  s51 = λ bs. Scalar.n-room T52 3 Syntax.tyBool
+  s51 = λ bs. Scalar.n-room T52 8 (Syntax.tyInt Syntax.w64)
+  abbrev s52 : (bs : List.List Nat.ℕ) → Typed.Mo T53 → Typed.Mo T54
+  s52 = λ bs. Scalar.n-room T53 10 (Syntax.tyInt Syntax.w64)
+  abbrev s53 : (bs : List.List Nat.ℕ) → Typed.Mo T54 → Typed.Mo T55
+  s53 = λ bs. Scalar.n-room T54 14 Laws''.mir
+  abbrev s54 : (bs : List.List Nat.ℕ) → Typed.Mo T55 → Typed.Mo T56
+  s54 = λ bs. Scalar.n-room T55 16 Syntax.tyBool
+  abbrev s55 : (bs : List.List Nat.ℕ) → Typed.Mo T56 → Typed.Mo T57
+  s55 = λ bs. Scalar.n-room T56 17 (Syntax.tyInt Syntax.w64)
+  abbrev s56 : (bs : List.List Nat.ℕ) → Typed.Mo T57 → Typed.Mo T58
+  s56 = λ bs. Scalar.n-room T57 18 (Syntax.tyInt Syntax.w64)
+  abbrev s57 : (bs : List.List Nat.ℕ) → Typed.Mo T58 → Typed.Mo T59
+  s57 = λ bs. Scalar.n-room T58 19 Laws'.mir
+  abbrev s58 : (bs : List.List Nat.ℕ) → Typed.Mo T59 → Typed.Mo T60
+  s58 = λ bs. Scalar.n-room T59 20 (Syntax.tyInt Syntax.w64)
+  abbrev s59 : (bs : List.List Nat.ℕ) → Typed.Mo T60 → Typed.Mo T61
+  s59 = λ bs. Scalar.n-room T60 3 Syntax.tyBool
   module _ (Pre· : (κs : Lifetimes.Lfts 3) → Kinds.Dens κs ps → Type 0) (Post· : (κs : Lifetimes.Lfts 3) → (a : Kinds.Dens κs ps) → Kinds.Plain 3 ps r
       κs) where
     module _ (M : Type 1) where
@@ -752,121 +870,138 @@ module _ (claims· : Claims) where
           "hnsr_circuit::queue::going") (known3 : Plain.Known 𝓤 H A W 𝓣 0 ps·3 r·3 (claims· .6) (claims· .7) "hnsr_circuit::queue::queue") (known4 :
           Plain.Known 𝓤 H A W 𝓣 0 ps·4 r·4 (claims· .8) (claims· .9) "hnsr_circuit::queue::queued_action") (known5 : Plain.Known 𝓤 H A W 𝓣 0 ps·5 r·5
           (claims· .10) (claims· .11) "hnsr_circuit::queue::queued_go") (known6 : Plain.Known 𝓤 H A W 𝓣 0 ps·6 r·6 (claims· .12) (claims· .13)
-          "hnsr_circuit::queue::queued_place") (known7 : Plain.Known 𝓤 H A W 𝓣 1 ps·7 r·7 (claims· .14) (claims· .15)
-          "hnsr_circuit::tables::inflight::set_action") (known8 : Plain.Known 𝓤 H A W 𝓣 2 ps·8 r·8 (claims· .16) (claims· .17)
-          "hnsr_circuit::queue::put_queued") (known9 : Plain.Known 𝓤 H A W 𝓣 0 ps·9 r·9 (claims· .18) (claims· .19)
-          "hnsr_circuit::queue::position_after") (known10 : Plain.Known 𝓤 H A W 𝓣 0 ps·10 r·10 (claims· .20) (claims· .21)
+          "hnsr_circuit::queue::queued_place") (known7 : Plain.Known 𝓤 H A W 𝓣 0 ps·7 r·7 (claims· .14) (claims· .15) "hnsr_circuit::places::raised")
+          (known8 : Plain.Known 𝓤 H A W 𝓣 0 ps·8 r·8 (claims· .16) (claims· .17) "hnsr_circuit::places::with_actions") (known9 : Plain.Known 𝓤 H A W 𝓣
+          1 ps·9 r·9 (claims· .18) (claims· .19) "hnsr_circuit::tables::inflight::set_action") (known10 : Plain.Known 𝓤 H A W 𝓣 2 ps·10 r·10 (claims·
+          .20) (claims· .21) "hnsr_circuit::queue::put_queued") (known11 : Plain.Known 𝓤 H A W 𝓣 0 ps·11 r·11 (claims· .22) (claims· .23)
+          "hnsr_circuit::queue::position_after") (known12 : Plain.Known 𝓤 H A W 𝓣 0 ps·12 r·12 (claims· .24) (claims· .25)
           "hnsr_circuit::queue::sending_on") → Statement.Triple 𝓤 (Wp.WpFn 𝓤 H (𝓣 .C) (𝓣 .Λ) (Function.fnOf 3 ps r xs m hs body)) (Function.plainOf 𝓤
           H A 3 ps r Pre· Post·)
     module _ where
-      abbrev at0 : (bs : List.List Nat.ℕ) → Typed.TF T53 O0
+      abbrev at0 : (bs : List.List Nat.ℕ) → Typed.TF T61 O0
       at0 = λ bs. Typed.atRet O0
-      abbrev at1 : (bs : List.List Nat.ℕ) → Typed.TF T52 O0
-      at1 = λ bs. λ Ψ. Typed.pass T52 T53 (s51 bs) (at0 bs Ψ)
-      abbrev at2 : (bs : List.List Nat.ℕ) → Typed.TF T51 O0
-      at2 = λ bs. λ Ψ. Typed.pass T51 T52 (s50 bs) (at1 bs Ψ)
-      abbrev at3 : (bs : List.List Nat.ℕ) → Typed.TF T50 O0
-      at3 = λ bs. λ Ψ. Typed.pass T50 T51 (s49 bs) (at2 bs Ψ)
-      abbrev at4 : (bs : List.List Nat.ℕ) → Typed.TF T49 O0
-      at4 = λ bs. λ Ψ. Typed.pass T49 T50 (s48 bs) (at3 bs Ψ)
-      abbrev at5 : (bs : List.List Nat.ℕ) → Typed.TF T48 O0
-      at5 = λ bs. λ Ψ. Typed.pass T48 T49 (s47 bs) (at4 bs Ψ)
-      abbrev at6 : (bs : List.List Nat.ℕ) → Typed.TF T47 O0
-      at6 = λ bs. λ Ψ. Typed.pass T47 T48 (s46 bs) (at5 bs Ψ)
-      abbrev at7 : (bs : List.List Nat.ℕ) → Typed.TF T46 O0
-      at7 = λ bs. λ Ψ. Typed.both (s45 bs) (at6 bs Ψ)
-      abbrev at8 : (bs : List.List Nat.ℕ) → Typed.TF T45 O0
-      at8 = λ bs. λ Ψ. Typed.pass T45 T46 (s44 bs) (at7 bs Ψ)
-      abbrev at9 : (bs : List.List Nat.ℕ) → Typed.TF T44 O0
-      at9 = λ bs. λ Ψ. Typed.both (s43 bs) (at8 bs Ψ)
-      abbrev at10 : (bs : List.List Nat.ℕ) → Typed.TF T42 O0
-      at10 = λ bs. λ Ψ. Typed.pass T42 T44 (s42 bs) (at9 bs Ψ)
-      abbrev at11 : (bs : List.List Nat.ℕ) → Typed.TF T42 O0
-      at11 = λ bs. λ Ψ. at10 bs Ψ
-      abbrev at12 : (bs : List.List Nat.ℕ) → Typed.TF T41 O0
-      at12 = λ bs. λ Ψ. Typed.give (s40 bs) (at11 bs Ψ)
-      abbrev at13 : (bs : List.List Nat.ℕ) → Typed.TF T39 O0
-      at13 = λ bs. λ Ψ. Typed.both (s39 bs) (at12 bs Ψ)
-      abbrev at14 : (bs : List.List Nat.ℕ) → Typed.TF T39 O0
+      abbrev at1 : (bs : List.List Nat.ℕ) → Typed.TF T60 O0
+      at1 = λ bs. λ Ψ. Typed.pass T60 T61 (s59 bs) (at0 bs Ψ)
+      abbrev at2 : (bs : List.List Nat.ℕ) → Typed.TF T59 O0
+      at2 = λ bs. λ Ψ. Typed.pass T59 T60 (s58 bs) (at1 bs Ψ)
+      abbrev at3 : (bs : List.List Nat.ℕ) → Typed.TF T58 O0
+      at3 = λ bs. λ Ψ. Typed.pass T58 T59 (s57 bs) (at2 bs Ψ)
+      abbrev at4 : (bs : List.List Nat.ℕ) → Typed.TF T57 O0
+      at4 = λ bs. λ Ψ. Typed.pass T57 T58 (s56 bs) (at3 bs Ψ)
+      abbrev at5 : (bs : List.List Nat.ℕ) → Typed.TF T56 O0
+      at5 = λ bs. λ Ψ. Typed.pass T56 T57 (s55 bs) (at4 bs Ψ)
+      abbrev at6 : (bs : List.List Nat.ℕ) → Typed.TF T55 O0
+      at6 = λ bs. λ Ψ. Typed.pass T55 T56 (s54 bs) (at5 bs Ψ)
+      abbrev at7 : (bs : List.List Nat.ℕ) → Typed.TF T54 O0
+      at7 = λ bs. λ Ψ. Typed.pass T54 T55 (s53 bs) (at6 bs Ψ)
+      abbrev at8 : (bs : List.List Nat.ℕ) → Typed.TF T53 O0
+      at8 = λ bs. λ Ψ. Typed.pass T53 T54 (s52 bs) (at7 bs Ψ)
+      abbrev at9 : (bs : List.List Nat.ℕ) → Typed.TF T52 O0
+      at9 = λ bs. λ Ψ. Typed.pass T52 T53 (s51 bs) (at8 bs Ψ)
+      abbrev at10 : (bs : List.List Nat.ℕ) → Typed.TF T51 O0
+      at10 = λ bs. λ Ψ. Typed.both (s50 bs) (at9 bs Ψ)
+      abbrev at11 : (bs : List.List Nat.ℕ) → Typed.TF T50 O0
+      at11 = λ bs. λ Ψ. Typed.pass T50 T51 (s49 bs) (at10 bs Ψ)
+      abbrev at12 : (bs : List.List Nat.ℕ) → Typed.TF T49 O0
+      at12 = λ bs. λ Ψ. Typed.both (s48 bs) (at11 bs Ψ)
+      abbrev at13 : (bs : List.List Nat.ℕ) → Typed.TF T47 O0
+      at13 = λ bs. λ Ψ. Typed.pass T47 T49 (s47 bs) (at12 bs Ψ)
+      abbrev at14 : (bs : List.List Nat.ℕ) → Typed.TF T47 O0
       at14 = λ bs. λ Ψ. at13 bs Ψ
-      abbrev at15 : (bs : List.List Nat.ℕ) → Typed.TF T38 O0
-      at15 = λ bs. λ Ψ. Typed.pass T38 T39 (s37 bs) (at14 bs Ψ)
-      abbrev at16 : (bs : List.List Nat.ℕ) → Typed.TF T37 O0
-      at16 = λ bs. λ Ψ. Typed.pass T37 T38 (s36 bs) (at15 bs Ψ)
-      abbrev at17 : (bs : List.List Nat.ℕ) → Typed.TF T36 O0
-      at17 = λ bs. λ Ψ. Typed.pass T36 T37 (s35 bs) (at16 bs Ψ)
-      abbrev at18 : (bs : List.List Nat.ℕ) → Typed.TF T35 O0
-      at18 = λ bs. λ Ψ. Typed.both (s34 bs) (at17 bs Ψ)
-      abbrev at19 : (bs : List.List Nat.ℕ) → Typed.TF T34 O0
-      at19 = λ bs. λ Ψ. Typed.ask (s33 bs) (at18 bs Ψ)
-      abbrev at20 : (bs : List.List Nat.ℕ) → Typed.TF T31 O0
-      at20 = λ bs. λ Ψ. Typed.give (s32 bs) (at19 bs Ψ)
-      abbrev at21 : (bs : List.List Nat.ℕ) → Typed.TF T31 O0
-      at21 = λ bs. λ Ψ. at20 bs Ψ
-      abbrev at22 : (bs : List.List Nat.ℕ) → Typed.TF T31 O0
-      at22 = λ bs. λ Ψ. at21 bs Ψ
-      abbrev at23 : (bs : List.List Nat.ℕ) → Typed.TF T29 O0
-      at23 = λ bs. λ Ψ. Typed.both (s29 bs) (at22 bs Ψ)
-      abbrev at24 : (bs : List.List Nat.ℕ) → Typed.TF T29 O0
+      abbrev at15 : (bs : List.List Nat.ℕ) → Typed.TF T46 O0
+      at15 = λ bs. λ Ψ. Typed.give (s45 bs) (at14 bs Ψ)
+      abbrev at16 : (bs : List.List Nat.ℕ) → Typed.TF T44 O0
+      at16 = λ bs. λ Ψ. Typed.both (s44 bs) (at15 bs Ψ)
+      abbrev at17 : (bs : List.List Nat.ℕ) → Typed.TF T44 O0
+      at17 = λ bs. λ Ψ. at16 bs Ψ
+      abbrev at18 : (bs : List.List Nat.ℕ) → Typed.TF T43 O0
+      at18 = λ bs. λ Ψ. Typed.pass T43 T44 (s42 bs) (at17 bs Ψ)
+      abbrev at19 : (bs : List.List Nat.ℕ) → Typed.TF T42 O0
+      at19 = λ bs. λ Ψ. Typed.pass T42 T43 (s41 bs) (at18 bs Ψ)
+      abbrev at20 : (bs : List.List Nat.ℕ) → Typed.TF T41 O0
+      at20 = λ bs. λ Ψ. Typed.pass T41 T42 (s40 bs) (at19 bs Ψ)
+      abbrev at21 : (bs : List.List Nat.ℕ) → Typed.TF T40 O0
+      at21 = λ bs. λ Ψ. Typed.both (s39 bs) (at20 bs Ψ)
+      abbrev at22 : (bs : List.List Nat.ℕ) → Typed.TF T39 O0
+      at22 = λ bs. λ Ψ. Typed.ask (s38 bs) (at21 bs Ψ)
+      abbrev at23 : (bs : List.List Nat.ℕ) → Typed.TF T36 O0
+      at23 = λ bs. λ Ψ. Typed.give (s37 bs) (at22 bs Ψ)
+      abbrev at24 : (bs : List.List Nat.ℕ) → Typed.TF T36 O0
       at24 = λ bs. λ Ψ. at23 bs Ψ
-      abbrev at25 : (bs : List.List Nat.ℕ) → Typed.TF T28 O0
-      at25 = λ bs. λ Ψ. Typed.pass T28 T29 (s27 bs) (at24 bs Ψ)
-      abbrev at26 : (bs : List.List Nat.ℕ) → Typed.TF T27 O0
-      at26 = λ bs. λ Ψ. Typed.pass T27 T28 (s26 bs) (at25 bs Ψ)
-      abbrev at27 : (bs : List.List Nat.ℕ) → Typed.TF T26 O0
-      at27 = λ bs. λ Ψ. Typed.both (s25 bs) (at26 bs Ψ)
-      abbrev at28 : (bs : List.List Nat.ℕ) → Typed.TF T25 O0
-      at28 = λ bs. λ Ψ. Typed.ask (s24 bs) (at27 bs Ψ)
-      abbrev at29 : (bs : List.List Nat.ℕ) → Typed.TF T23 O0
-      at29 = λ bs. λ Ψ. Typed.give (s23 bs) (at28 bs Ψ)
-      abbrev at30 : (bs : List.List Nat.ℕ) → Typed.TF T23 O0
-      at30 = λ bs. λ Ψ. at29 bs Ψ
-      abbrev at31 : (bs : List.List Nat.ℕ) → Typed.TF T22 O0
-      at31 = λ bs. λ Ψ. Typed.both (s21 bs) (at30 bs Ψ)
-      abbrev at32 : (bs : List.List Nat.ℕ) → Typed.TF T21 O0
-      at32 = λ bs. λ Ψ. Typed.both (s20 bs) (at31 bs Ψ)
-      abbrev at33 : (bs : List.List Nat.ℕ) → Typed.TF T20 O0
-      at33 = λ bs. λ Ψ. Typed.both (s19 bs) (at32 bs Ψ)
-      abbrev at34 : (bs : List.List Nat.ℕ) → Typed.TF T19 O0
-      at34 = λ bs. λ Ψ. Typed.pass T19 T20 (s18 bs) (at33 bs Ψ)
-      abbrev at35 : (bs : List.List Nat.ℕ) → Typed.TF T18 O0
-      at35 = λ bs. λ Ψ. Typed.pass T18 T19 (s17 bs) (at34 bs Ψ)
-      abbrev at36 : (bs : List.List Nat.ℕ) → Typed.TF T17 O0
-      at36 = λ bs. λ Ψ. Typed.both (s16 bs) (at35 bs Ψ)
-      abbrev at37 : (bs : List.List Nat.ℕ) → Typed.TF T15 O0
-      at37 = λ bs. λ Ψ. Typed.both (s15 bs) (at36 bs Ψ)
-      abbrev at38 : (bs : List.List Nat.ℕ) → Typed.TF T15 O0
-      at38 = λ bs. λ Ψ. at37 bs Ψ
-      abbrev at39 : (bs : List.List Nat.ℕ) → Typed.TF T13 O0
-      at39 = λ bs. λ Ψ. Typed.pass T13 T15 (s13 bs) (at38 bs Ψ)
-      abbrev at40 : (bs : List.List Nat.ℕ) → Typed.TF T13 O0
-      at40 = λ bs. λ Ψ. at39 bs Ψ
-      abbrev at41 : (bs : List.List Nat.ℕ) → Typed.TF T12 O0
-      at41 = λ bs. λ Ψ. Typed.pass T12 T13 (s11 bs) (at40 bs Ψ)
-      abbrev at42 : (bs : List.List Nat.ℕ) → Typed.TF T11 O0
-      at42 = λ bs. λ Ψ. Typed.pass T11 T12 (s10 bs) (at41 bs Ψ)
-      abbrev at43 : (bs : List.List Nat.ℕ) → Typed.TF T10 O0
-      at43 = λ bs. λ Ψ. Typed.both (s9 bs) (at42 bs Ψ)
-      abbrev at44 : (bs : List.List Nat.ℕ) → Typed.TF T9 O0
-      at44 = λ bs. λ Ψ. Typed.ask (s8 bs) (at43 bs Ψ)
-      abbrev at45 : (bs : List.List Nat.ℕ) → Typed.TF T7 O0
-      at45 = λ bs. λ Ψ. Typed.give (s7 bs) (at44 bs Ψ)
-      abbrev at46 : (bs : List.List Nat.ℕ) → Typed.TF T7 O0
+      abbrev at25 : (bs : List.List Nat.ℕ) → Typed.TF T36 O0
+      at25 = λ bs. λ Ψ. at24 bs Ψ
+      abbrev at26 : (bs : List.List Nat.ℕ) → Typed.TF T34 O0
+      at26 = λ bs. λ Ψ. Typed.both (s34 bs) (at25 bs Ψ)
+      abbrev at27 : (bs : List.List Nat.ℕ) → Typed.TF T34 O0
+      at27 = λ bs. λ Ψ. at26 bs Ψ
+      abbrev at28 : (bs : List.List Nat.ℕ) → Typed.TF T33 O0
+      at28 = λ bs. λ Ψ. Typed.pass T33 T34 (s32 bs) (at27 bs Ψ)
+      abbrev at29 : (bs : List.List Nat.ℕ) → Typed.TF T32 O0
+      at29 = λ bs. λ Ψ. Typed.pass T32 T33 (s31 bs) (at28 bs Ψ)
+      abbrev at30 : (bs : List.List Nat.ℕ) → Typed.TF T31 O0
+      at30 = λ bs. λ Ψ. Typed.both (s30 bs) (at29 bs Ψ)
+      abbrev at31 : (bs : List.List Nat.ℕ) → Typed.TF T30 O0
+      at31 = λ bs. λ Ψ. Typed.ask (s29 bs) (at30 bs Ψ)
+      abbrev at32 : (bs : List.List Nat.ℕ) → Typed.TF T28 O0
+      at32 = λ bs. λ Ψ. Typed.give (s28 bs) (at31 bs Ψ)
+      abbrev at33 : (bs : List.List Nat.ℕ) → Typed.TF T28 O0
+      at33 = λ bs. λ Ψ. at32 bs Ψ
+      abbrev at34 : (bs : List.List Nat.ℕ) → Typed.TF T27 O0
+      at34 = λ bs. λ Ψ. Typed.pass T27 T28 (s26 bs) (at33 bs Ψ)
+      abbrev at35 : (bs : List.List Nat.ℕ) → Typed.TF T26 O0
+      at35 = λ bs. λ Ψ. Typed.both (s25 bs) (at34 bs Ψ)
+      abbrev at36 : (bs : List.List Nat.ℕ) → Typed.TF T25 O0
+      at36 = λ bs. λ Ψ. Typed.both (s24 bs) (at35 bs Ψ)
+      abbrev at37 : (bs : List.List Nat.ℕ) → Typed.TF T24 O0
+      at37 = λ bs. λ Ψ. Typed.both (s23 bs) (at36 bs Ψ)
+      abbrev at38 : (bs : List.List Nat.ℕ) → Typed.TF T23 O0
+      at38 = λ bs. λ Ψ. Typed.both (s22 bs) (at37 bs Ψ)
+      abbrev at39 : (bs : List.List Nat.ℕ) → Typed.TF T22 O0
+      at39 = λ bs. λ Ψ. Typed.both (s21 bs) (at38 bs Ψ)
+      abbrev at40 : (bs : List.List Nat.ℕ) → Typed.TF T21 O0
+      at40 = λ bs. λ Ψ. Typed.pass T21 T22 (s20 bs) (at39 bs Ψ)
+      abbrev at41 : (bs : List.List Nat.ℕ) → Typed.TF T20 O0
+      at41 = λ bs. λ Ψ. Typed.pass T20 T21 (s19 bs) (at40 bs Ψ)
+      abbrev at42 : (bs : List.List Nat.ℕ) → Typed.TF T19 O0
+      at42 = λ bs. λ Ψ. Typed.both (s18 bs) (at41 bs Ψ)
+      abbrev at43 : (bs : List.List Nat.ℕ) → Typed.TF T17 O0
+      at43 = λ bs. λ Ψ. Typed.both (s17 bs) (at42 bs Ψ)
+      abbrev at44 : (bs : List.List Nat.ℕ) → Typed.TF T17 O0
+      at44 = λ bs. λ Ψ. at43 bs Ψ
+      abbrev at45 : (bs : List.List Nat.ℕ) → Typed.TF T15 O0
+      at45 = λ bs. λ Ψ. Typed.pass T15 T17 (s15 bs) (at44 bs Ψ)
+      abbrev at46 : (bs : List.List Nat.ℕ) → Typed.TF T15 O0
       at46 = λ bs. λ Ψ. at45 bs Ψ
-      abbrev at47 : (bs : List.List Nat.ℕ) → Typed.TF T6 O0
-      at47 = λ bs. λ Ψ. Typed.both (s5 bs) (at46 bs Ψ)
-      abbrev at48 : (bs : List.List Nat.ℕ) → Typed.TF T5 O0
-      at48 = λ bs. λ Ψ. Typed.pass T5 T6 (s4 bs) (at47 bs Ψ)
-      abbrev at49 : (bs : List.List Nat.ℕ) → Typed.TF T4 O0
-      at49 = λ bs. λ Ψ. Typed.pass T4 T5 (s3 bs) (at48 bs Ψ)
-      abbrev at50 : (bs : List.List Nat.ℕ) → Typed.TF T3 O0
-      at50 = λ bs. λ Ψ. Typed.both (s2 bs) (at49 bs Ψ)
-      abbrev at51 : (bs : List.List Nat.ℕ) → Typed.TF T2 O0
-      at51 = λ bs. λ Ψ. Typed.give (s1 bs) (at50 bs Ψ)
-      abbrev at52 : (bs : List.List Nat.ℕ) → Typed.TF T0 O0
-      at52 = λ bs. λ Ψ. Typed.give (s0 bs) (at51 bs Ψ)
+      abbrev at47 : (bs : List.List Nat.ℕ) → Typed.TF T14 O0
+      at47 = λ bs. λ Ψ. Typed.pass T14 T15 (s13 bs) (at46 bs Ψ)
+      abbrev at48 : (bs : List.List Nat.ℕ) → Typed.TF T13 O0
+      at48 = λ bs. λ Ψ. Typed.pass T13 T14 (s12 bs) (at47 bs Ψ)
+      abbrev at49 : (bs : List.List Nat.ℕ) → Typed.TF T12 O0
+      at49 = λ bs. λ Ψ. Typed.both (s11 bs) (at48 bs Ψ)
+      abbrev at50 : (bs : List.List Nat.ℕ) → Typed.TF T11 O0
+      at50 = λ bs. λ Ψ. Typed.ask (s10 bs) (at49 bs Ψ)
+      abbrev at51 : (bs : List.List Nat.ℕ) → Typed.TF T9 O0
+      at51 = λ bs. λ Ψ. Typed.give (s9 bs) (at50 bs Ψ)
+      abbrev at52 : (bs : List.List Nat.ℕ) → Typed.TF T9 O0
+      at52 = λ bs. λ Ψ. at51 bs Ψ
+      abbrev at53 : (bs : List.List Nat.ℕ) → Typed.TF T8 O0
+      at53 = λ bs. λ Ψ. Typed.both (s7 bs) (at52 bs Ψ)
+      abbrev at54 : (bs : List.List Nat.ℕ) → Typed.TF T7 O0
+      at54 = λ bs. λ Ψ. Typed.pass T7 T8 (s6 bs) (at53 bs Ψ)
+      abbrev at55 : (bs : List.List Nat.ℕ) → Typed.TF T6 O0
+      at55 = λ bs. λ Ψ. Typed.pass T6 T7 (s5 bs) (at54 bs Ψ)
+      abbrev at56 : (bs : List.List Nat.ℕ) → Typed.TF T5 O0
+      at56 = λ bs. λ Ψ. Typed.both (s4 bs) (at55 bs Ψ)
+      abbrev at57 : (bs : List.List Nat.ℕ) → Typed.TF T4 O0
+      at57 = λ bs. λ Ψ. Typed.pass T4 T5 (s3 bs) (at56 bs Ψ)
+      abbrev at58 : (bs : List.List Nat.ℕ) → Typed.TF T3 O0
+      at58 = λ bs. λ Ψ. Typed.both (s2 bs) (at57 bs Ψ)
+      abbrev at59 : (bs : List.List Nat.ℕ) → Typed.TF T2 O0
+      at59 = λ bs. λ Ψ. Typed.give (s1 bs) (at58 bs Ψ)
+      abbrev at60 : (bs : List.List Nat.ℕ) → Typed.TF T0 O0
+      at60 = λ bs. λ Ψ. Typed.give (s0 bs) (at59 bs Ψ)
       abbrev pub Φ : (bs : List.List Nat.ℕ) → Typed.TF T0 O0
-      Φ = λ bs. at52 bs
+      Φ = λ bs. at60 bs
       module _ { M : Type 1 } (𝓤 : URA.URA M) (H : Wp.Heap 𝓤) (A : Atoms.Atoms 𝓤) (W : Kit.Given 𝓤 H A) (𝓣 : Wp.Tables 𝓤 H) where
         abbrev Knowns : Type 1
         Knowns = Plain.Known 𝓤 H A W 𝓣 0 ps·0 r·0 (claims· .0) (claims· .1) "hnsr_circuit::queue::asking" × Plain.Known 𝓤 H A W 𝓣 1 ps·1 r·1 (claims·
@@ -874,9 +1009,11 @@ module _ (claims· : Claims) where
             "hnsr_circuit::queue::going" × Plain.Known 𝓤 H A W 𝓣 0 ps·3 r·3 (claims· .6) (claims· .7) "hnsr_circuit::queue::queue" × Plain.Known 𝓤 H A
             W 𝓣 0 ps·4 r·4 (claims· .8) (claims· .9) "hnsr_circuit::queue::queued_action" × Plain.Known 𝓤 H A W 𝓣 0 ps·5 r·5 (claims· .10) (claims·
             .11) "hnsr_circuit::queue::queued_go" × Plain.Known 𝓤 H A W 𝓣 0 ps·6 r·6 (claims· .12) (claims· .13) "hnsr_circuit::queue::queued_place" ×
-            Plain.Known 𝓤 H A W 𝓣 1 ps·7 r·7 (claims· .14) (claims· .15) "hnsr_circuit::tables::inflight::set_action" × Plain.Known 𝓤 H A W 𝓣 2 ps·8
-            r·8 (claims· .16) (claims· .17) "hnsr_circuit::queue::put_queued" × Plain.Known 𝓤 H A W 𝓣 0 ps·9 r·9 (claims· .18) (claims· .19)
-            "hnsr_circuit::queue::position_after" × Plain.Known 𝓤 H A W 𝓣 0 ps·10 r·10 (claims· .20) (claims· .21) "hnsr_circuit::queue::sending_on"
+            Plain.Known 𝓤 H A W 𝓣 0 ps·7 r·7 (claims· .14) (claims· .15) "hnsr_circuit::places::raised" × Plain.Known 𝓤 H A W 𝓣 0 ps·8 r·8 (claims·
+            .16) (claims· .17) "hnsr_circuit::places::with_actions" × Plain.Known 𝓤 H A W 𝓣 1 ps·9 r·9 (claims· .18) (claims· .19)
+            "hnsr_circuit::tables::inflight::set_action" × Plain.Known 𝓤 H A W 𝓣 2 ps·10 r·10 (claims· .20) (claims· .21)
+            "hnsr_circuit::queue::put_queued" × Plain.Known 𝓤 H A W 𝓣 0 ps·11 r·11 (claims· .22) (claims· .23) "hnsr_circuit::queue::position_after" ×
+            Plain.Known 𝓤 H A W 𝓣 0 ps·12 r·12 (claims· .24) (claims· .25) "hnsr_circuit::queue::sending_on"
       module _ (κs : Lifetimes.Lfts 3) (qs : Lifetimes.Shares 3) where
         abbrev life0 : Row.Life
         life0 = Row.lease (κs .0) (qs .0)
@@ -884,62 +1021,62 @@ module _ (claims· : Claims) where
         life1 = Row.lease (κs .1 .0) (qs .1 .0)
         abbrev life2 : Row.Life
         life2 = Row.lease (κs .1 .1 .0) (qs .1 .1 .0)
-        abbrev g7 : List.List Row.Entry
-        g7 = (0, Rows.any-gone Laws''''''.mir,) ∷ (1, Reshare.mslice-owedS InflightAction.row ref3 0 3 life0,) ∷ (2, Mut.mslice (Referent.rtF
-            (Referent.fInt Syntax.w32)) ref4 1,) ∷ (3, Rows.sc-here Row.sBool) ∷ (4, Rows.any-gone Laws''''''.mir,) ∷ (5, Rows.whole (Declared'.row
+        abbrev g9 : List.List Row.Entry
+        g9 = (0, Rows.any-gone Laws'''''''.mir,) ∷ (1, Reshare.mslice-owedS InflightAction.row ref3 0 3 life0,) ∷ (2, Mut.mslice (Referent.rtF
+            (Referent.fInt Syntax.w32)) ref4 1,) ∷ (3, Rows.sc-here Row.sBool) ∷ (4, Rows.any-gone Laws'''''''.mir,) ∷ (5, Rows.whole (Declared'.row
             Outgoing.the-type)) ∷ (6, Rows.sslice (Referent.rtF (Referent.fInt Syntax.w8)) ref5 2,) ∷ (7, Rows.whole (Declared'.row
-            OpaqueRelayRuntime.the-type)) ∷ (8, Rows.sc-here (Row.sInt Syntax.w64),) ∷ (9, Rows.whole (Declared'.row ActionQuestion.the-type)) ∷ (10,
-            Rows.any-gone Laws'''.mir,) ∷ (11, Rows.any-gone Laws.mir,) ∷ (12, Rows.any-gone Laws'.mir,) ∷ (13, Rows.any-gone InflightAction.ty) ∷
-            (14, Rows.any-gone Syntax.tyBool,) ∷ (15, Rows.any-gone (Syntax.tyInt Syntax.w64)) ∷ List.[]
-        abbrev g10 : List.List Row.Entry
-        g10 = (0, Rows.any-gone Laws''''''.mir,) ∷ (1, Reshare.mslice-owedS InflightAction.row ref3 0 3 life0,) ∷ (2, Mut.mslice (Referent.rtF
-            (Referent.fInt Syntax.w32)) ref4 1,) ∷ (3, Rows.sc-here Row.sBool) ∷ (4, Rows.any-gone Laws''''''.mir,) ∷ (5, Rows.whole (Declared'.row
+            OpaqueRelayRuntime.the-type)) ∷ (8, Rows.sc-here (Row.sInt Syntax.w64),) ∷ (9, Rows.whole (Declared'.row Places.the-type)) ∷ (10,
+            Rows.sc-here (Row.sInt Syntax.w64),) ∷ (11, Rows.whole (Declared'.row ActionQuestion.the-type)) ∷ (12, Rows.any-gone Laws''''.mir,) ∷ (13,
+            Rows.any-gone Laws.mir,) ∷ (14, Rows.any-gone Laws''.mir,) ∷ (15, Rows.any-gone InflightAction.ty) ∷ List.[]
+        abbrev g12 : List.List Row.Entry
+        g12 = (0, Rows.any-gone Laws'''''''.mir,) ∷ (1, Reshare.mslice-owedS InflightAction.row ref3 0 3 life0,) ∷ (2, Mut.mslice (Referent.rtF
+            (Referent.fInt Syntax.w32)) ref4 1,) ∷ (3, Rows.sc-here Row.sBool) ∷ (4, Rows.any-gone Laws'''''''.mir,) ∷ (5, Rows.whole (Declared'.row
             Outgoing.the-type)) ∷ (6, Rows.sslice (Referent.rtF (Referent.fInt Syntax.w8)) ref5 2,) ∷ (7, Rows.whole (Declared'.row
-            OpaqueRelayRuntime.the-type)) ∷ (8, Rows.sc-here (Row.sInt Syntax.w64),) ∷ (9, Rows.whole (Declared'.row ActionQuestion.the-type)) ∷ (10,
-            Rows.whole (Declared'.row ActionScan.the-type),) ∷ (11, Rows.any-gone Laws.mir,) ∷ (12, Rows.any-gone Laws'.mir,) ∷ (13, Rows.any-gone
-            InflightAction.ty) ∷ (14, Rows.any-gone Syntax.tyBool,) ∷ (15, Rows.any-gone (Syntax.tyInt Syntax.w64)) ∷ List.[]
-        abbrev g11 : List.List Row.Entry
-        g11 = (0, Rows.any-gone Laws''''''.mir,) ∷ (1, Reshare.mslice-owedS InflightAction.row ref3 0 3 life0,) ∷ (2, Mut.mslice (Referent.rtF
-            (Referent.fInt Syntax.w32)) ref4 1,) ∷ (3, Rows.sc-here Row.sBool) ∷ (4, Rows.any-gone Laws''''''.mir,) ∷ (5, Rows.whole (Declared'.row
+            OpaqueRelayRuntime.the-type)) ∷ (8, Rows.sc-here (Row.sInt Syntax.w64),) ∷ (9, Rows.whole (Declared'.row Places.the-type)) ∷ (10,
+            Rows.sc-here (Row.sInt Syntax.w64),) ∷ (11, Rows.whole (Declared'.row ActionQuestion.the-type)) ∷ (12, Rows.whole (Declared'.row
+            ActionScan.the-type),) ∷ (13, Rows.any-gone Laws.mir,) ∷ (14, Rows.any-gone Laws''.mir,) ∷ (15, Rows.any-gone InflightAction.ty) ∷ List.[]
+        abbrev g13 : List.List Row.Entry
+        g13 = (0, Rows.any-gone Laws'''''''.mir,) ∷ (1, Reshare.mslice-owedS InflightAction.row ref3 0 3 life0,) ∷ (2, Mut.mslice (Referent.rtF
+            (Referent.fInt Syntax.w32)) ref4 1,) ∷ (3, Rows.sc-here Row.sBool) ∷ (4, Rows.any-gone Laws'''''''.mir,) ∷ (5, Rows.whole (Declared'.row
             Outgoing.the-type)) ∷ (6, Rows.sslice (Referent.rtF (Referent.fInt Syntax.w8)) ref5 2,) ∷ (7, Rows.whole (Declared'.row
-            OpaqueRelayRuntime.the-type)) ∷ (8, Rows.sc-here (Row.sInt Syntax.w64),) ∷ (9, Rows.any-gone Laws''.mir,) ∷ (10, Rows.whole (Declared'.row
-            ActionScan.the-type)) ∷ (11, Rows.any-gone Laws.mir,) ∷ (12, Rows.any-gone Laws'.mir,) ∷ (13, Rows.any-gone InflightAction.ty) ∷ (14,
-            Rows.any-gone Syntax.tyBool,) ∷ (15, Rows.any-gone (Syntax.tyInt Syntax.w64)) ∷ List.[]
-        abbrev g20 : List.List Row.Entry
-        g20 = (0, Rows.any-gone Laws''''''.mir,) ∷ (1, Relend.mslice-owed InflightAction.row ref3 0 4 life0,) ∷ (2, Mut.mslice (Referent.rtF
-            (Referent.fInt Syntax.w32)) ref4 1,) ∷ (3, Rows.sc-here Row.sBool) ∷ (4, Rows.any-gone Laws''''''.mir,) ∷ (5, Rows.whole (Declared'.row
+            OpaqueRelayRuntime.the-type)) ∷ (8, Rows.sc-here (Row.sInt Syntax.w64),) ∷ (9, Rows.whole (Declared'.row Places.the-type)) ∷ (10,
+            Rows.sc-here (Row.sInt Syntax.w64),) ∷ (11, Rows.any-gone Laws'''.mir,) ∷ (12, Rows.whole (Declared'.row ActionScan.the-type)) ∷ (13,
+            Rows.any-gone Laws.mir,) ∷ (14, Rows.any-gone Laws''.mir,) ∷ (15, Rows.any-gone InflightAction.ty) ∷ List.[]
+        abbrev g25 : List.List Row.Entry
+        g25 = (0, Rows.any-gone Laws'''''''.mir,) ∷ (1, Relend.mslice-owed InflightAction.row ref3 0 4 life0,) ∷ (2, Mut.mslice (Referent.rtF
+            (Referent.fInt Syntax.w32)) ref4 1,) ∷ (3, Rows.sc-here Row.sBool) ∷ (4, Rows.any-gone Laws'''''''.mir,) ∷ (5, Rows.whole (Declared'.row
             Outgoing.the-type)) ∷ (6, Rows.sslice (Referent.rtF (Referent.fInt Syntax.w8)) ref5 2,) ∷ (7, Rows.whole (Declared'.row
-            OpaqueRelayRuntime.the-type)) ∷ (8, Rows.sc-here (Row.sInt Syntax.w64),) ∷ (9, Rows.any-gone Laws''.mir,) ∷ (10, Rows.any-gone
-            Laws'''.mir,) ∷ (11, Rows.any-gone Laws.mir,) ∷ (12, Rows.whole (Declared'.row Queued.the-type)) ∷ (13, InflightAction.held,) ∷ (14,
-            Rows.sc-here Row.sBool) ∷ (15, Rows.sc-here (Row.sInt Syntax.w64),) ∷ List.[]
-        abbrev g24 : List.List Row.Entry
-        g24 = (0, Rows.any-gone Laws''''''.mir,) ∷ (1, Relend.mslice-owed InflightAction.row ref3 0 4 life0,) ∷ (2, Mut.mslice (Referent.rtF
-            (Referent.fInt Syntax.w32)) ref4 1,) ∷ (3, Rows.sc-here Row.sBool) ∷ (4, Rows.any-gone Laws''''''.mir,) ∷ (5, Rows.whole (Declared'.row
+            OpaqueRelayRuntime.the-type)) ∷ (8, Rows.sc-here (Row.sInt Syntax.w64),) ∷ (9, Rows.any-gone Laws'.mir,) ∷ (10, Rows.sc-here (Row.sInt
+            Syntax.w64)) ∷ (11, Rows.any-gone Laws'''.mir,) ∷ (12, Rows.any-gone Laws''''.mir,) ∷ (13, Rows.any-gone Laws.mir,) ∷ (14, Rows.whole
+            (Declared'.row Queued.the-type)) ∷ (15, InflightAction.held,) ∷ List.[]
+        abbrev g29 : List.List Row.Entry
+        g29 = (0, Rows.any-gone Laws'''''''.mir,) ∷ (1, Relend.mslice-owed InflightAction.row ref3 0 4 life0,) ∷ (2, Mut.mslice (Referent.rtF
+            (Referent.fInt Syntax.w32)) ref4 1,) ∷ (3, Rows.sc-here Row.sBool) ∷ (4, Rows.any-gone Laws'''''''.mir,) ∷ (5, Rows.whole (Declared'.row
             Outgoing.the-type)) ∷ (6, Rows.sslice (Referent.rtF (Referent.fInt Syntax.w8)) ref5 2,) ∷ (7, Rows.whole (Declared'.row
-            OpaqueRelayRuntime.the-type)) ∷ (8, Rows.sc-here (Row.sInt Syntax.w64),) ∷ (9, Rows.any-gone Laws''.mir,) ∷ (10, Rows.any-gone
-            Laws'''.mir,) ∷ (11, Rows.any-gone Laws.mir,) ∷ (12, Rows.whole (Declared'.row Queued.the-type)) ∷ (13, Rows.any-gone InflightAction.ty,)
-            ∷ (14, Rows.sc-here Row.sBool) ∷ (15, Rows.sc-here (Row.sInt Syntax.w64),) ∷ List.[]
-        abbrev g27 : List.List Row.Entry
-        g27 = (0, Rows.any-gone Laws''''''.mir,) ∷ (1, Mut.mslice InflightAction.row ref3 0,) ∷ (2, Relend.mslice-owed (Referent.rtF (Referent.fInt
-            Syntax.w32)) ref4 1 5 life1,) ∷ (3, Rows.sc-here Row.sBool) ∷ (4, Rows.any-gone Laws''''''.mir,) ∷ (5, Rows.whole (Declared'.row
-            Outgoing.the-type)) ∷ (6, Rows.sslice (Referent.rtF (Referent.fInt Syntax.w8)) ref5 2,) ∷ (7, Rows.whole (Declared'.row
-            OpaqueRelayRuntime.the-type)) ∷ (8, Rows.sc-here (Row.sInt Syntax.w64),) ∷ (9, Rows.any-gone Laws''.mir,) ∷ (10, Rows.any-gone
-            Laws'''.mir,) ∷ (11, Rows.any-gone Laws.mir,) ∷ (12, Rows.whole (Declared'.row Queued.the-type)) ∷ (13, Rows.any-gone InflightAction.ty,)
-            ∷ (14, Rows.sc-here Row.sBool) ∷ (15, Rows.sc-here (Row.sInt Syntax.w64),) ∷ List.[]
-        abbrev g31 : List.List Row.Entry
-        g31 = (0, Rows.any-gone Laws''''''.mir,) ∷ (1, Mut.mslice InflightAction.row ref3 0,) ∷ (2, Relend.mslice-owed (Referent.rtF (Referent.fInt
-            Syntax.w32)) ref4 1 5 life1,) ∷ (3, Rows.sc-here Row.sBool) ∷ (4, Rows.any-gone Laws''''''.mir,) ∷ (5, Rows.any-gone Laws''''.mir,) ∷ (6,
-            Rows.sslice (Referent.rtF (Referent.fInt Syntax.w8)) ref5 2,) ∷ (7, Rows.whole (Declared'.row OpaqueRelayRuntime.the-type)) ∷ (8,
-            Rows.sc-here (Row.sInt Syntax.w64),) ∷ (9, Rows.any-gone Laws''.mir,) ∷ (10, Rows.any-gone Laws'''.mir,) ∷ (11, Rows.any-gone Laws.mir,) ∷
-            (12, Rows.whole (Declared'.row Queued.the-type)) ∷ (13, Rows.any-gone InflightAction.ty,) ∷ (14, Rows.sc-here Row.sBool) ∷ (15,
-            Rows.sc-here (Row.sInt Syntax.w64),) ∷ List.[]
+            OpaqueRelayRuntime.the-type)) ∷ (8, Rows.sc-here (Row.sInt Syntax.w64),) ∷ (9, Rows.any-gone Laws'.mir,) ∷ (10, Rows.sc-here (Row.sInt
+            Syntax.w64)) ∷ (11, Rows.any-gone Laws'''.mir,) ∷ (12, Rows.any-gone Laws''''.mir,) ∷ (13, Rows.any-gone Laws.mir,) ∷ (14, Rows.whole
+            (Declared'.row Queued.the-type)) ∷ (15, Rows.any-gone InflightAction.ty,) ∷ List.[]
         abbrev g32 : List.List Row.Entry
-        g32 = (0, Rows.any-gone Laws''''''.mir,) ∷ (1, Mut.mslice InflightAction.row ref3 0,) ∷ (2, Relend.mslice-owed (Referent.rtF (Referent.fInt
-            Syntax.w32)) ref4 1 5 life1,) ∷ (3, Rows.sc-here Row.sBool) ∷ (4, Rows.any-gone Laws''''''.mir,) ∷ (5, Rows.any-gone Laws''''.mir,) ∷ (6,
-            Rows.sslice (Referent.rtF (Referent.fInt Syntax.w8)) ref5 2,) ∷ (7, Rows.any-gone Laws'''''.mir,) ∷ (8, Rows.sc-here (Row.sInt
-            Syntax.w64)) ∷ (9, Rows.any-gone Laws''.mir,) ∷ (10, Rows.any-gone Laws'''.mir,) ∷ (11, Rows.any-gone Laws.mir,) ∷ (12, Rows.whole
-            (Declared'.row Queued.the-type)) ∷ (13, Rows.any-gone InflightAction.ty,) ∷ (14, Rows.sc-here Row.sBool) ∷ (15, Rows.sc-here (Row.sInt
-            Syntax.w64),) ∷ List.[]
+        g32 = (0, Rows.any-gone Laws'''''''.mir,) ∷ (1, Mut.mslice InflightAction.row ref3 0,) ∷ (2, Relend.mslice-owed (Referent.rtF (Referent.fInt
+            Syntax.w32)) ref4 1 5 life1,) ∷ (3, Rows.sc-here Row.sBool) ∷ (4, Rows.any-gone Laws'''''''.mir,) ∷ (5, Rows.whole (Declared'.row
+            Outgoing.the-type)) ∷ (6, Rows.sslice (Referent.rtF (Referent.fInt Syntax.w8)) ref5 2,) ∷ (7, Rows.whole (Declared'.row
+            OpaqueRelayRuntime.the-type)) ∷ (8, Rows.sc-here (Row.sInt Syntax.w64),) ∷ (9, Rows.any-gone Laws'.mir,) ∷ (10, Rows.sc-here (Row.sInt
+            Syntax.w64)) ∷ (11, Rows.any-gone Laws'''.mir,) ∷ (12, Rows.any-gone Laws''''.mir,) ∷ (13, Rows.any-gone Laws.mir,) ∷ (14, Rows.whole
+            (Declared'.row Queued.the-type)) ∷ (15, Rows.any-gone InflightAction.ty,) ∷ List.[]
+        abbrev g36 : List.List Row.Entry
+        g36 = (0, Rows.any-gone Laws'''''''.mir,) ∷ (1, Mut.mslice InflightAction.row ref3 0,) ∷ (2, Relend.mslice-owed (Referent.rtF (Referent.fInt
+            Syntax.w32)) ref4 1 5 life1,) ∷ (3, Rows.sc-here Row.sBool) ∷ (4, Rows.any-gone Laws'''''''.mir,) ∷ (5, Rows.any-gone Laws'''''.mir,) ∷
+            (6, Rows.sslice (Referent.rtF (Referent.fInt Syntax.w8)) ref5 2,) ∷ (7, Rows.whole (Declared'.row OpaqueRelayRuntime.the-type)) ∷ (8,
+            Rows.sc-here (Row.sInt Syntax.w64),) ∷ (9, Rows.any-gone Laws'.mir,) ∷ (10, Rows.sc-here (Row.sInt Syntax.w64)) ∷ (11, Rows.any-gone
+            Laws'''.mir,) ∷ (12, Rows.any-gone Laws''''.mir,) ∷ (13, Rows.any-gone Laws.mir,) ∷ (14, Rows.whole (Declared'.row Queued.the-type)) ∷
+            (15, Rows.any-gone InflightAction.ty,) ∷ List.[]
+        abbrev g37 : List.List Row.Entry
+        g37 = (0, Rows.any-gone Laws'''''''.mir,) ∷ (1, Mut.mslice InflightAction.row ref3 0,) ∷ (2, Relend.mslice-owed (Referent.rtF (Referent.fInt
+            Syntax.w32)) ref4 1 5 life1,) ∷ (3, Rows.sc-here Row.sBool) ∷ (4, Rows.any-gone Laws'''''''.mir,) ∷ (5, Rows.any-gone Laws'''''.mir,) ∷
+            (6, Rows.sslice (Referent.rtF (Referent.fInt Syntax.w8)) ref5 2,) ∷ (7, Rows.any-gone Laws''''''.mir,) ∷ (8, Rows.sc-here (Row.sInt
+            Syntax.w64)) ∷ (9, Rows.any-gone Laws'.mir,) ∷ (10, Rows.sc-here (Row.sInt Syntax.w64)) ∷ (11, Rows.any-gone Laws'''.mir,) ∷ (12,
+            Rows.any-gone Laws''''.mir,) ∷ (13, Rows.any-gone Laws.mir,) ∷ (14, Rows.whole (Declared'.row Queued.the-type)) ∷ (15, Rows.any-gone
+            InflightAction.ty,) ∷ List.[]
         abbrev G0 : Row.Cx
         G0 = record { locals = List._++_ t0 t1; slots = life0 ∷ life1 ∷ life2 ∷ Row.off ∷ Row.off ∷ Row.off ∷ List.[]; }
         abbrev G1 : Row.Cx
@@ -957,25 +1094,25 @@ module _ (claims· : Claims) where
         abbrev G7 : Row.Cx
         G7 = record { locals = List._++_ t6 t1; slots = life0 ∷ life1 ∷ life2 ∷ Row.off ∷ Row.off ∷ Row.off ∷ List.[]; }
         abbrev G8 : Row.Cx
-        G8 = record { locals = List._++_ t6 t1; slots = life0 ∷ life1 ∷ life2 ∷ Row.alive ∷ Row.off ∷ Row.off ∷ List.[]; }
+        G8 = record { locals = List._++_ t7 t1; slots = life0 ∷ life1 ∷ life2 ∷ Row.off ∷ Row.off ∷ Row.off ∷ List.[]; }
         abbrev G9 : Row.Cx
-        G9 = record { locals = List._++_ g7 t8; slots = Row.off ∷ life1 ∷ life2 ∷ Row.alive ∷ Row.off ∷ Row.off ∷ List.[]; }
+        G9 = record { locals = List._++_ t8 t1; slots = life0 ∷ life1 ∷ life2 ∷ Row.off ∷ Row.off ∷ Row.off ∷ List.[]; }
         abbrev G10 : Row.Cx
-        G10 = record { locals = List._++_ g7 t9; slots = Row.off ∷ life1 ∷ life2 ∷ Row.alive ∷ Row.off ∷ Row.off ∷ List.[]; }
+        G10 = record { locals = List._++_ t8 t1; slots = life0 ∷ life1 ∷ life2 ∷ Row.alive ∷ Row.off ∷ Row.off ∷ List.[]; }
         abbrev G11 : Row.Cx
-        G11 = record { locals = List._++_ g10 t9; slots = Row.off ∷ life1 ∷ life2 ∷ Row.alive ∷ Row.off ∷ Row.off ∷ List.[]; }
+        G11 = record { locals = List._++_ g9 t10; slots = Row.off ∷ life1 ∷ life2 ∷ Row.alive ∷ Row.off ∷ Row.off ∷ List.[]; }
         abbrev G12 : Row.Cx
-        G12 = record { locals = List._++_ g10 t1; slots = Row.off ∷ life1 ∷ life2 ∷ Row.alive ∷ Row.off ∷ Row.off ∷ List.[]; }
+        G12 = record { locals = List._++_ g9 t11; slots = Row.off ∷ life1 ∷ life2 ∷ Row.alive ∷ Row.off ∷ Row.off ∷ List.[]; }
         abbrev G13 : Row.Cx
-        G13 = record { locals = List._++_ g11 t1; slots = Row.off ∷ life1 ∷ life2 ∷ Row.alive ∷ Row.off ∷ Row.off ∷ List.[]; }
+        G13 = record { locals = List._++_ g12 t11; slots = Row.off ∷ life1 ∷ life2 ∷ Row.alive ∷ Row.off ∷ Row.off ∷ List.[]; }
         abbrev G14 : Row.Cx
-        G14 = record { locals = List._++_ g11 t1; slots = Row.off ∷ life1 ∷ life2 ∷ Row.dead ∷ Row.off ∷ Row.off ∷ List.[]; }
+        G14 = record { locals = List._++_ g12 t1; slots = Row.off ∷ life1 ∷ life2 ∷ Row.alive ∷ Row.off ∷ Row.off ∷ List.[]; }
         abbrev G15 : Row.Cx
-        G15 = record { locals = List._++_ t12 t1; slots = life0 ∷ life1 ∷ life2 ∷ Row.dead ∷ Row.off ∷ Row.off ∷ List.[]; }
+        G15 = record { locals = List._++_ g13 t1; slots = Row.off ∷ life1 ∷ life2 ∷ Row.alive ∷ Row.off ∷ Row.off ∷ List.[]; }
         abbrev G16 : Row.Cx
-        G16 = record { locals = List._++_ t12 t1; slots = life0 ∷ life1 ∷ life2 ∷ Row.off ∷ Row.off ∷ Row.off ∷ List.[]; }
+        G16 = record { locals = List._++_ g13 t1; slots = Row.off ∷ life1 ∷ life2 ∷ Row.dead ∷ Row.off ∷ Row.off ∷ List.[]; }
         abbrev G17 : Row.Cx
-        G17 = record { locals = List._++_ t13 t1; slots = life0 ∷ life1 ∷ life2 ∷ Row.off ∷ Row.off ∷ Row.off ∷ List.[]; }
+        G17 = record { locals = List._++_ t14 t1; slots = life0 ∷ life1 ∷ life2 ∷ Row.dead ∷ Row.off ∷ Row.off ∷ List.[]; }
         abbrev G18 : Row.Cx
         G18 = record { locals = List._++_ t14 t1; slots = life0 ∷ life1 ∷ life2 ∷ Row.off ∷ Row.off ∷ Row.off ∷ List.[]; }
         abbrev G19 : Row.Cx
@@ -989,319 +1126,397 @@ module _ (claims· : Claims) where
         abbrev G23 : Row.Cx
         G23 = record { locals = List._++_ t19 t1; slots = life0 ∷ life1 ∷ life2 ∷ Row.off ∷ Row.off ∷ Row.off ∷ List.[]; }
         abbrev G24 : Row.Cx
-        G24 = record { locals = List._++_ t19 t1; slots = life0 ∷ life1 ∷ life2 ∷ Row.off ∷ Row.alive ∷ Row.off ∷ List.[]; }
+        G24 = record { locals = List._++_ t19 t20; slots = life0 ∷ life1 ∷ life2 ∷ Row.off ∷ Row.off ∷ Row.off ∷ List.[]; }
         abbrev G25 : Row.Cx
-        G25 = record { locals = List._++_ g20 t21; slots = Row.off ∷ life1 ∷ life2 ∷ Row.off ∷ Row.alive ∷ Row.off ∷ List.[]; }
+        G25 = record { locals = List._++_ t19 t21; slots = life0 ∷ life1 ∷ life2 ∷ Row.off ∷ Row.off ∷ Row.off ∷ List.[]; }
         abbrev G26 : Row.Cx
-        G26 = record { locals = List._++_ g20 t22; slots = Row.off ∷ life1 ∷ life2 ∷ Row.off ∷ Row.alive ∷ Row.off ∷ List.[]; }
+        G26 = record { locals = List._++_ t19 t22; slots = life0 ∷ life1 ∷ life2 ∷ Row.off ∷ Row.off ∷ Row.off ∷ List.[]; }
         abbrev G27 : Row.Cx
-        G27 = record { locals = List._++_ g20 t23; slots = Row.off ∷ life1 ∷ life2 ∷ Row.off ∷ Row.alive ∷ Row.off ∷ List.[]; }
+        G27 = record { locals = List._++_ t19 t23; slots = life0 ∷ life1 ∷ life2 ∷ Row.off ∷ Row.off ∷ Row.off ∷ List.[]; }
         abbrev G28 : Row.Cx
-        G28 = record { locals = List._++_ g24 t23; slots = Row.off ∷ life1 ∷ life2 ∷ Row.off ∷ Row.alive ∷ Row.off ∷ List.[]; }
+        G28 = record { locals = List._++_ t24 t23; slots = life0 ∷ life1 ∷ life2 ∷ Row.off ∷ Row.off ∷ Row.off ∷ List.[]; }
         abbrev G29 : Row.Cx
-        G29 = record { locals = List._++_ g24 t25; slots = Row.off ∷ life1 ∷ life2 ∷ Row.off ∷ Row.alive ∷ Row.off ∷ List.[]; }
+        G29 = record { locals = List._++_ t24 t23; slots = life0 ∷ life1 ∷ life2 ∷ Row.off ∷ Row.alive ∷ Row.off ∷ List.[]; }
         abbrev G30 : Row.Cx
-        G30 = record { locals = List._++_ g24 t25; slots = Row.off ∷ life1 ∷ life2 ∷ Row.off ∷ Row.dead ∷ Row.off ∷ List.[]; }
+        G30 = record { locals = List._++_ g25 t26; slots = Row.off ∷ life1 ∷ life2 ∷ Row.off ∷ Row.alive ∷ Row.off ∷ List.[]; }
         abbrev G31 : Row.Cx
-        G31 = record { locals = List._++_ t26 t1; slots = life0 ∷ life1 ∷ life2 ∷ Row.off ∷ Row.dead ∷ Row.off ∷ List.[]; }
+        G31 = record { locals = List._++_ g25 t27; slots = Row.off ∷ life1 ∷ life2 ∷ Row.off ∷ Row.alive ∷ Row.off ∷ List.[]; }
         abbrev G32 : Row.Cx
-        G32 = record { locals = List._++_ t26 t1; slots = life0 ∷ life1 ∷ life2 ∷ Row.off ∷ Row.off ∷ Row.off ∷ List.[]; }
+        G32 = record { locals = List._++_ g25 t28; slots = Row.off ∷ life1 ∷ life2 ∷ Row.off ∷ Row.alive ∷ Row.off ∷ List.[]; }
         abbrev G33 : Row.Cx
-        G33 = record { locals = List._++_ t26 t1; slots = life0 ∷ life1 ∷ life2 ∷ Row.off ∷ Row.off ∷ Row.alive ∷ List.[]; }
+        G33 = record { locals = List._++_ g29 t28; slots = Row.off ∷ life1 ∷ life2 ∷ Row.off ∷ Row.alive ∷ Row.off ∷ List.[]; }
         abbrev G34 : Row.Cx
-        G34 = record { locals = List._++_ g27 t28; slots = life0 ∷ Row.off ∷ life2 ∷ Row.off ∷ Row.off ∷ Row.alive ∷ List.[]; }
+        G34 = record { locals = List._++_ g29 t30; slots = Row.off ∷ life1 ∷ life2 ∷ Row.off ∷ Row.alive ∷ Row.off ∷ List.[]; }
         abbrev G35 : Row.Cx
-        G35 = record { locals = List._++_ g27 t29; slots = life0 ∷ Row.off ∷ life2 ∷ Row.off ∷ Row.off ∷ Row.alive ∷ List.[]; }
+        G35 = record { locals = List._++_ g29 t30; slots = Row.off ∷ life1 ∷ life2 ∷ Row.off ∷ Row.dead ∷ Row.off ∷ List.[]; }
         abbrev G36 : Row.Cx
-        G36 = record { locals = List._++_ g27 t30; slots = life0 ∷ Row.off ∷ life2 ∷ Row.off ∷ Row.off ∷ Row.alive ∷ List.[]; }
+        G36 = record { locals = List._++_ t31 t23; slots = life0 ∷ life1 ∷ life2 ∷ Row.off ∷ Row.dead ∷ Row.off ∷ List.[]; }
         abbrev G37 : Row.Cx
-        G37 = record { locals = List._++_ g31 t30; slots = life0 ∷ Row.off ∷ life2 ∷ Row.off ∷ Row.off ∷ Row.alive ∷ List.[]; }
+        G37 = record { locals = List._++_ t31 t23; slots = life0 ∷ life1 ∷ life2 ∷ Row.off ∷ Row.off ∷ Row.off ∷ List.[]; }
         abbrev G38 : Row.Cx
-        G38 = record { locals = List._++_ g32 t30; slots = life0 ∷ Row.off ∷ life2 ∷ Row.off ∷ Row.off ∷ Row.alive ∷ List.[]; }
+        G38 = record { locals = List._++_ t31 t23; slots = life0 ∷ life1 ∷ life2 ∷ Row.off ∷ Row.off ∷ Row.alive ∷ List.[]; }
         abbrev G39 : Row.Cx
         G39 = record { locals = List._++_ g32 t33; slots = life0 ∷ Row.off ∷ life2 ∷ Row.off ∷ Row.off ∷ Row.alive ∷ List.[]; }
         abbrev G40 : Row.Cx
-        G40 = record { locals = List._++_ g32 t33; slots = life0 ∷ Row.off ∷ life2 ∷ Row.off ∷ Row.off ∷ Row.dead ∷ List.[]; }
+        G40 = record { locals = List._++_ g32 t34; slots = life0 ∷ Row.off ∷ life2 ∷ Row.off ∷ Row.off ∷ Row.alive ∷ List.[]; }
         abbrev G41 : Row.Cx
-        G41 = record { locals = List._++_ t34 t1; slots = life0 ∷ life1 ∷ life2 ∷ Row.off ∷ Row.off ∷ Row.dead ∷ List.[]; }
+        G41 = record { locals = List._++_ g32 t35; slots = life0 ∷ Row.off ∷ life2 ∷ Row.off ∷ Row.off ∷ Row.alive ∷ List.[]; }
         abbrev G42 : Row.Cx
-        G42 = record { locals = List._++_ t34 t1; slots = life0 ∷ life1 ∷ life2 ∷ Row.off ∷ Row.off ∷ Row.dead ∷ List.[]; }
+        G42 = record { locals = List._++_ g36 t35; slots = life0 ∷ Row.off ∷ life2 ∷ Row.off ∷ Row.off ∷ Row.alive ∷ List.[]; }
         abbrev G43 : Row.Cx
-        G43 = record { locals = List._++_ t34 t1; slots = life0 ∷ life1 ∷ life2 ∷ Row.off ∷ Row.off ∷ Row.off ∷ List.[]; }
+        G43 = record { locals = List._++_ g37 t35; slots = life0 ∷ Row.off ∷ life2 ∷ Row.off ∷ Row.off ∷ Row.alive ∷ List.[]; }
         abbrev G44 : Row.Cx
-        G44 = record { locals = List._++_ t34 t35; slots = life0 ∷ life1 ∷ life2 ∷ Row.off ∷ Row.off ∷ Row.off ∷ List.[]; }
+        G44 = record { locals = List._++_ g37 t38; slots = life0 ∷ Row.off ∷ life2 ∷ Row.off ∷ Row.off ∷ Row.alive ∷ List.[]; }
         abbrev G45 : Row.Cx
-        G45 = record { locals = List._++_ t34 t36; slots = life0 ∷ life1 ∷ life2 ∷ Row.off ∷ Row.off ∷ Row.off ∷ List.[]; }
+        G45 = record { locals = List._++_ g37 t38; slots = life0 ∷ Row.off ∷ life2 ∷ Row.off ∷ Row.off ∷ Row.dead ∷ List.[]; }
         abbrev G46 : Row.Cx
-        G46 = record { locals = List._++_ t34 t37; slots = life0 ∷ life1 ∷ life2 ∷ Row.off ∷ Row.off ∷ Row.off ∷ List.[]; }
+        G46 = record { locals = List._++_ t39 t23; slots = life0 ∷ life1 ∷ life2 ∷ Row.off ∷ Row.off ∷ Row.dead ∷ List.[]; }
         abbrev G47 : Row.Cx
-        G47 = record { locals = List._++_ t38 t37; slots = life0 ∷ life1 ∷ life2 ∷ Row.off ∷ Row.off ∷ Row.off ∷ List.[]; }
+        G47 = record { locals = List._++_ t39 t23; slots = life0 ∷ life1 ∷ life2 ∷ Row.off ∷ Row.off ∷ Row.dead ∷ List.[]; }
         abbrev G48 : Row.Cx
-        G48 = record { locals = List._++_ t39 t37; slots = life0 ∷ life1 ∷ life2 ∷ Row.off ∷ Row.off ∷ Row.off ∷ List.[]; }
+        G48 = record { locals = List._++_ t39 t23; slots = life0 ∷ life1 ∷ life2 ∷ Row.off ∷ Row.off ∷ Row.off ∷ List.[]; }
         abbrev G49 : Row.Cx
-        G49 = record { locals = List._++_ t40 t37; slots = life0 ∷ life1 ∷ life2 ∷ Row.off ∷ Row.off ∷ Row.off ∷ List.[]; }
+        G49 = record { locals = List._++_ t39 t40; slots = life0 ∷ life1 ∷ life2 ∷ Row.off ∷ Row.off ∷ Row.off ∷ List.[]; }
         abbrev G50 : Row.Cx
-        G50 = record { locals = List._++_ t41 t37; slots = life0 ∷ life1 ∷ life2 ∷ Row.off ∷ Row.off ∷ Row.off ∷ List.[]; }
+        G50 = record { locals = List._++_ t39 t41; slots = life0 ∷ life1 ∷ life2 ∷ Row.off ∷ Row.off ∷ Row.off ∷ List.[]; }
         abbrev G51 : Row.Cx
-        G51 = record { locals = List._++_ t42 t37; slots = life0 ∷ life1 ∷ life2 ∷ Row.off ∷ Row.off ∷ Row.off ∷ List.[]; }
+        G51 = record { locals = List._++_ t39 t42; slots = life0 ∷ life1 ∷ life2 ∷ Row.off ∷ Row.off ∷ Row.off ∷ List.[]; }
         abbrev G52 : Row.Cx
-        G52 = record { locals = List._++_ t42 t1; slots = life0 ∷ life1 ∷ life2 ∷ Row.off ∷ Row.off ∷ Row.off ∷ List.[]; }
+        G52 = record { locals = List._++_ t43 t42; slots = life0 ∷ life1 ∷ life2 ∷ Row.off ∷ Row.off ∷ Row.off ∷ List.[]; }
         abbrev G53 : Row.Cx
-        G53 = record { locals = List._++_ t2 t1; slots = life0 ∷ life1 ∷ life2 ∷ Row.off ∷ Row.off ∷ Row.off ∷ List.[]; }
+        G53 = record { locals = List._++_ t44 t42; slots = life0 ∷ life1 ∷ life2 ∷ Row.off ∷ Row.off ∷ Row.off ∷ List.[]; }
+        abbrev G54 : Row.Cx
+        G54 = record { locals = List._++_ t45 t42; slots = life0 ∷ life1 ∷ life2 ∷ Row.off ∷ Row.off ∷ Row.off ∷ List.[]; }
+        abbrev G55 : Row.Cx
+        G55 = record { locals = List._++_ t46 t42; slots = life0 ∷ life1 ∷ life2 ∷ Row.off ∷ Row.off ∷ Row.off ∷ List.[]; }
+        abbrev G56 : Row.Cx
+        G56 = record { locals = List._++_ t46 t47; slots = life0 ∷ life1 ∷ life2 ∷ Row.off ∷ Row.off ∷ Row.off ∷ List.[]; }
+        abbrev G57 : Row.Cx
+        G57 = record { locals = List._++_ t46 t48; slots = life0 ∷ life1 ∷ life2 ∷ Row.off ∷ Row.off ∷ Row.off ∷ List.[]; }
+        abbrev G58 : Row.Cx
+        G58 = record { locals = List._++_ t46 t49; slots = life0 ∷ life1 ∷ life2 ∷ Row.off ∷ Row.off ∷ Row.off ∷ List.[]; }
+        abbrev G59 : Row.Cx
+        G59 = record { locals = List._++_ t46 t50; slots = life0 ∷ life1 ∷ life2 ∷ Row.off ∷ Row.off ∷ Row.off ∷ List.[]; }
+        abbrev G60 : Row.Cx
+        G60 = record { locals = List._++_ t46 t1; slots = life0 ∷ life1 ∷ life2 ∷ Row.off ∷ Row.off ∷ Row.off ∷ List.[]; }
+        abbrev G61 : Row.Cx
+        G61 = record { locals = List._++_ t2 t1; slots = life0 ∷ life1 ∷ life2 ∷ Row.off ∷ Row.off ∷ Row.off ∷ List.[]; }
         abbrev Δ0 : Typed.Outs
         Δ0 = record { next = Option.none; exits = List.[]; returns = Option.some G1 }
         module _ { M : Type 1 } (𝓤 : URA.URA M) (H : Wp.Heap 𝓤) (A : Atoms.Atoms 𝓤) (W : Kit.Given 𝓤 H A) (𝓣 : Wp.Tables 𝓤 H) (known : Knowns 𝓤 H A W
             𝓣) (bs : List.List Nat.ℕ) (bd : Lifetimes.AllOutlive 3 (Kinds.osR r) κs) where
           abbrev E : Wp.Env 𝓤 H
           E = Frame.EnvOf 𝓤 H ((Kinds.tyR r) ∷ (Enter.tysP ps xs)) bs
-          d0 : Typed.Typed 𝓤 H A 𝓣 E G53 b20 Δ0 (at0 bs)
+          d0 : Typed.Typed 𝓤 H A 𝓣 E G61 b24 Δ0 (at0 bs)
           d0 = Typed.t-return 𝓤 H A W 𝓣 E Δ0 tt
-          d1 : Typed.Typed 𝓤 H A 𝓣 E G52 b20 Δ0 (at1 bs)
-          d1 = Typed.g-pre 𝓤 H A W 𝓣 E G52 G53 b20 Δ0 (Typed.pass T52 T53 (s51 bs)) (at0 bs) (Scalar.g-room 𝓤 H A W E G52 3 Syntax.tyBool
+          d1 : Typed.Typed 𝓤 H A 𝓣 E G60 b24 Δ0 (at1 bs)
+          d1 = Typed.g-pre 𝓤 H A W 𝓣 E G60 G61 b24 Δ0 (Typed.pass T60 T61 (s59 bs)) (at0 bs) (Scalar.g-room 𝓤 H A W E G60 3 Syntax.tyBool
               (Scalar.room-sc 𝓤 H A W Row.sBool)) d0
-          d2 : Typed.Typed 𝓤 H A 𝓣 E G51 b20 Δ0 (at2 bs)
-          d2 = Typed.g-pre 𝓤 H A W 𝓣 E G51 G52 b20 Δ0 (Typed.pass T51 T52 (s50 bs)) (at1 bs) (Scalar.g-room 𝓤 H A W E G51 16 (Syntax.tyInt Syntax.w64)
+          d2 : Typed.Typed 𝓤 H A 𝓣 E G59 b24 Δ0 (at2 bs)
+          d2 = Typed.g-pre 𝓤 H A W 𝓣 E G59 G60 b24 Δ0 (Typed.pass T59 T60 (s58 bs)) (at1 bs) (Scalar.g-room 𝓤 H A W E G59 20 (Syntax.tyInt Syntax.w64)
               (Scalar.room-sc 𝓤 H A W (Row.sInt Syntax.w64))) d1
-          d3 : Typed.Typed 𝓤 H A 𝓣 E G50 b20 Δ0 (at3 bs)
-          d3 = Typed.g-pre 𝓤 H A W 𝓣 E G50 G51 b20 Δ0 (Typed.pass T50 T51 (s49 bs)) (at2 bs) (Scalar.g-room 𝓤 H A W E G50 15 (Syntax.tyInt Syntax.w64)
-              (Scalar.room-sc 𝓤 H A W (Row.sInt Syntax.w64))) d2
-          d4 : Typed.Typed 𝓤 H A 𝓣 E G49 b20 Δ0 (at4 bs)
-          d4 = Typed.g-pre 𝓤 H A W 𝓣 E G49 G50 b20 Δ0 (Typed.pass T49 T50 (s48 bs)) (at3 bs) (Scalar.g-room 𝓤 H A W E G49 14 Syntax.tyBool
-              (Scalar.room-sc 𝓤 H A W Row.sBool)) d3
-          d5 : Typed.Typed 𝓤 H A 𝓣 E G48 b20 Δ0 (at5 bs)
-          d5 = Typed.g-pre 𝓤 H A W 𝓣 E G48 G49 b20 Δ0 (Typed.pass T48 T49 (s47 bs)) (at4 bs) (Scalar.g-room 𝓤 H A W E G48 12 Laws'.mir
-              (Local.room-whole 𝓤 H A W (Declared'.row Queued.the-type) Laws'.mir Path.refl)) d4
-          d6 : Typed.Typed 𝓤 H A 𝓣 E G47 b20 Δ0 (at6 bs)
-          d6 = Typed.g-pre 𝓤 H A W 𝓣 E G47 G48 b20 Δ0 (Typed.pass T47 T48 (s46 bs)) (at5 bs) (Scalar.g-room 𝓤 H A W E G47 8 (Syntax.tyInt Syntax.w64)
-              (Scalar.room-sc 𝓤 H A W (Row.sInt Syntax.w64))) d5
-          d7 : Typed.Typed 𝓤 H A 𝓣 E G46 b21 Δ0 (at7 bs)
-          d7 = Typed.s-seq 𝓤 H A W 𝓣 E G46 G47 b19 b20 Δ0 (Typed.both (s45 bs)) (at6 bs) (Plain.t-call-plain 𝓤 H A W 𝓣 0 ps·10 r·10 (claims· .20)
-              (claims· .21) "hnsr_circuit::queue::sending_on" (known .10) E (λ pos β. β) G46 (record { pos = 12; st = List.[]; d = 0; at = λ x. x },
-              (Num.vAt 16 λ x. x, tt)) 0 List.[] (Call.sub-id 𝓤 H A W (G46 .slots)) ((Yields.yields-copy 𝓤 H A W (λ ρ. Unit) (Declared'.row
-              Queued.the-type) Path.refl (Copies.cStruct Queued.the-type Laws'.the-laws Laws'.the-copy .copy 𝓤 H A W) (Rows.whole (Declared'.row
-              Queued.the-type)) (λ x. x) (λ x. x) (λ ρ told. Local.mem-whole 𝓤 H A W (Declared'.row Queued.the-type) ρ) λ ρ told. Local.whole-mem 𝓤 H
-              A W (Declared'.row Queued.the-type) ρ, Path.refl,), ((Scalar.reads-sc 𝓤 H A W (Row.sInt Syntax.w64), Path.refl), tt),) (Reads'.room-gone
-              𝓤 H A Laws''''''.mir) tt Path.refl) d6
-          d8 : Typed.Typed 𝓤 H A 𝓣 E G45 b21 Δ0 (at8 bs)
-          d8 = Typed.g-pre 𝓤 H A W 𝓣 E G45 G46 b21 Δ0 (Typed.pass T45 T46 (s44 bs)) (at7 bs) (Scalar.g-room 𝓤 H A W E G45 24 (Syntax.tyInt Syntax.w64)
+          d3 : Typed.Typed 𝓤 H A 𝓣 E G58 b24 Δ0 (at3 bs)
+          d3 = Typed.g-pre 𝓤 H A W 𝓣 E G58 G59 b24 Δ0 (Typed.pass T58 T59 (s57 bs)) (at2 bs) (Scalar.g-room 𝓤 H A W E G58 19 Laws'.mir
+              (Local.room-whole 𝓤 H A W (Declared'.row Places.the-type) Laws'.mir Path.refl)) d2
+          d4 : Typed.Typed 𝓤 H A 𝓣 E G57 b24 Δ0 (at4 bs)
+          d4 = Typed.g-pre 𝓤 H A W 𝓣 E G57 G58 b24 Δ0 (Typed.pass T57 T58 (s56 bs)) (at3 bs) (Scalar.g-room 𝓤 H A W E G57 18 (Syntax.tyInt Syntax.w64)
+              (Scalar.room-sc 𝓤 H A W (Row.sInt Syntax.w64))) d3
+          d5 : Typed.Typed 𝓤 H A 𝓣 E G56 b24 Δ0 (at5 bs)
+          d5 = Typed.g-pre 𝓤 H A W 𝓣 E G56 G57 b24 Δ0 (Typed.pass T56 T57 (s55 bs)) (at4 bs) (Scalar.g-room 𝓤 H A W E G56 17 (Syntax.tyInt Syntax.w64)
+              (Scalar.room-sc 𝓤 H A W (Row.sInt Syntax.w64))) d4
+          d6 : Typed.Typed 𝓤 H A 𝓣 E G55 b24 Δ0 (at6 bs)
+          d6 = Typed.g-pre 𝓤 H A W 𝓣 E G55 G56 b24 Δ0 (Typed.pass T55 T56 (s54 bs)) (at5 bs) (Scalar.g-room 𝓤 H A W E G55 16 Syntax.tyBool
+              (Scalar.room-sc 𝓤 H A W Row.sBool)) d5
+          d7 : Typed.Typed 𝓤 H A 𝓣 E G54 b24 Δ0 (at7 bs)
+          d7 = Typed.g-pre 𝓤 H A W 𝓣 E G54 G55 b24 Δ0 (Typed.pass T54 T55 (s53 bs)) (at6 bs) (Scalar.g-room 𝓤 H A W E G54 14 Laws''.mir
+              (Local.room-whole 𝓤 H A W (Declared'.row Queued.the-type) Laws''.mir Path.refl)) d6
+          d8 : Typed.Typed 𝓤 H A 𝓣 E G53 b24 Δ0 (at8 bs)
+          d8 = Typed.g-pre 𝓤 H A W 𝓣 E G53 G54 b24 Δ0 (Typed.pass T53 T54 (s52 bs)) (at7 bs) (Scalar.g-room 𝓤 H A W E G53 10 (Syntax.tyInt Syntax.w64)
               (Scalar.room-sc 𝓤 H A W (Row.sInt Syntax.w64))) d7
-          d9 : Typed.Typed 𝓤 H A 𝓣 E G44 b22 Δ0 (at9 bs)
-          d9 = Typed.s-seq 𝓤 H A W 𝓣 E G44 G45 b18 b21 Δ0 (Typed.both (s43 bs)) (at8 bs) (Plain.t-call-plain 𝓤 H A W 𝓣 0 ps·9 r·9 (claims· .18)
-              (claims· .19) "hnsr_circuit::queue::position_after" (known .9) E (λ pos β. β) G44 (Bool.bAt 14 λ x. x, (Num.vAt 8 λ x. x, (Num.vAt 24 λ
-              x. x, tt))) 16 List.[] (Call.sub-id 𝓤 H A W (G44 .slots)) ((Scalar.reads-sc 𝓤 H A W Row.sBool, Path.refl), ((Scalar.reads-sc 𝓤 H A W
+          d9 : Typed.Typed 𝓤 H A 𝓣 E G52 b24 Δ0 (at9 bs)
+          d9 = Typed.g-pre 𝓤 H A W 𝓣 E G52 G53 b24 Δ0 (Typed.pass T52 T53 (s51 bs)) (at8 bs) (Scalar.g-room 𝓤 H A W E G52 8 (Syntax.tyInt Syntax.w64)
+              (Scalar.room-sc 𝓤 H A W (Row.sInt Syntax.w64))) d8
+          d10 : Typed.Typed 𝓤 H A 𝓣 E G51 b25 Δ0 (at10 bs)
+          d10 = Typed.s-seq 𝓤 H A W 𝓣 E G51 G52 b23 b24 Δ0 (Typed.both (s50 bs)) (at9 bs) (Plain.t-call-plain 𝓤 H A W 𝓣 0 ps·12 r·12 (claims· .24)
+              (claims· .25) "hnsr_circuit::queue::sending_on" (known .12) E (λ pos β. β) G51 (record { pos = 14; st = List.[]; d = 0; at = λ x. x },
+              (Num.vAt 20 λ x. x, (record { pos = 19; st = List.[]; d = 0; at = λ x. x }, tt)),) 0 List.[] (Call.sub-id 𝓤 H A W (G51 .slots))
+              ((Yields.yields-copy 𝓤 H A W (λ ρ. Unit) (Declared'.row Queued.the-type) Path.refl (Copies.cStruct Queued.the-type Laws''.the-laws
+              Laws''.the-copy .copy 𝓤 H A W) (Rows.whole (Declared'.row Queued.the-type)) (λ x. x) (λ x. x) (λ ρ told. Local.mem-whole 𝓤 H A W
+              (Declared'.row Queued.the-type) ρ) λ ρ told. Local.whole-mem 𝓤 H A W (Declared'.row Queued.the-type) ρ, Path.refl,), ((Scalar.reads-sc 𝓤
+              H A W (Row.sInt Syntax.w64), Path.refl), ((Yields.yields-copy 𝓤 H A W (λ ρ. Unit) (Declared'.row Places.the-type) Path.refl
+              (Copies.cStruct Places.the-type Laws'.the-laws Laws'.the-copy .copy 𝓤 H A W) (Rows.whole (Declared'.row Places.the-type)) (λ x. x) (λ x.
+              x) (λ ρ told. Local.mem-whole 𝓤 H A W (Declared'.row Places.the-type) ρ) λ ρ told. Local.whole-mem 𝓤 H A W (Declared'.row
+              Places.the-type) ρ, Path.refl,), tt,),),) (Reads'.room-gone 𝓤 H A Laws'''''''.mir) tt Path.refl) d9
+          d11 : Typed.Typed 𝓤 H A 𝓣 E G50 b25 Δ0 (at11 bs)
+          d11 = Typed.g-pre 𝓤 H A W 𝓣 E G50 G51 b25 Δ0 (Typed.pass T50 T51 (s49 bs)) (at10 bs) (Scalar.g-room 𝓤 H A W E G50 28 (Syntax.tyInt
+              Syntax.w64) (Scalar.room-sc 𝓤 H A W (Row.sInt Syntax.w64))) d10
+          d12 : Typed.Typed 𝓤 H A 𝓣 E G49 b26 Δ0 (at12 bs)
+          d12 = Typed.s-seq 𝓤 H A W 𝓣 E G49 G50 b22 b25 Δ0 (Typed.both (s48 bs)) (at11 bs) (Plain.t-call-plain 𝓤 H A W 𝓣 0 ps·11 r·11 (claims· .22)
+              (claims· .23) "hnsr_circuit::queue::position_after" (known .11) E (λ pos β. β) G49 (Bool.bAt 16 λ x. x, (Num.vAt 8 λ x. x, (Num.vAt 28 λ
+              x. x, tt))) 20 List.[] (Call.sub-id 𝓤 H A W (G49 .slots)) ((Scalar.reads-sc 𝓤 H A W Row.sBool, Path.refl), ((Scalar.reads-sc 𝓤 H A W
               (Row.sInt Syntax.w64), Path.refl), ((Scalar.reads-sc 𝓤 H A W (Row.sInt Syntax.w64), Path.refl), tt),),) (Reads'.room-gone 𝓤 H A
-              (Syntax.tyInt Syntax.w64)) tt Path.refl) d8
-          d10 : Typed.Typed 𝓤 H A 𝓣 E G43 b23 Δ0 (at10 bs)
-          d10 = Typed.s-seq 𝓤 H A W 𝓣 E G43 G44 b17 b22 Δ0 (Typed.pass T42 T44 (s42 bs)) (at9 bs) (Scalar.t-use 𝓤 H A W E 𝓣 G43 (Scalar.oFld 6
-              ((Syntax.field 1) ∷ List.[]) (Syntax.tyInt Syntax.w64) 8 Shared.lenV) 24 (Rows.sc-here (Row.sInt Syntax.w64)) (Syntax.tyInt Syntax.w64)
+              (Syntax.tyInt Syntax.w64)) tt Path.refl) d11
+          d13 : Typed.Typed 𝓤 H A 𝓣 E G48 b27 Δ0 (at13 bs)
+          d13 = Typed.s-seq 𝓤 H A W 𝓣 E G48 G49 b21 b26 Δ0 (Typed.pass T47 T49 (s47 bs)) (at12 bs) (Scalar.t-use 𝓤 H A W E 𝓣 G48 (Scalar.oFld 6
+              ((Syntax.field 1) ∷ List.[]) (Syntax.tyInt Syntax.w64) 8 Shared.lenV) 28 (Rows.sc-here (Row.sInt Syntax.w64)) (Syntax.tyInt Syntax.w64)
               (Row.valS (Row.sInt Syntax.w64)) (Row.sInt Syntax.w64 .of) (Shared.reads-sslice-len 𝓤 H A W (Referent.rtF (Referent.fInt Syntax.w8))
               ref5 2 8 Path.refl, Path.refl,) (Reads'.room-gone 𝓤 H A (Syntax.tyInt Syntax.w64)) (Scalar.holds-sc 𝓤 H A W (Row.sInt Syntax.w64))
-              Path.refl (λ u. Path.refl) λ u. tt) d9
-          d11 : Typed.Typed 𝓤 H A 𝓣 E G42 b23 Δ0 (at11 bs)
-          d11 = Typed.g-pre 𝓤 H A W 𝓣 E G42 G43 b23 Δ0 (λ Ψ. Ψ) (at10 bs) (Lifetime.g-forget 𝓤 H A W E G42 5 Row.dead Path.refl) d10
-          d12 : Typed.Typed 𝓤 H A 𝓣 E G41 b23 Δ0 (at12 bs)
-          d12 = Typed.g-pre 𝓤 H A W 𝓣 E G41 G42 b23 Δ0 (Typed.give (s40 bs)) (at11 bs) (Know.g-sl-known 𝓤 H A W (Referent.fInt Syntax.w32) E G41 2 1
+              Path.refl (λ u. Path.refl) λ u. tt) d12
+          d14 : Typed.Typed 𝓤 H A 𝓣 E G47 b27 Δ0 (at14 bs)
+          d14 = Typed.g-pre 𝓤 H A W 𝓣 E G47 G48 b27 Δ0 (λ Ψ. Ψ) (at13 bs) (Lifetime.g-forget 𝓤 H A W E G47 5 Row.dead Path.refl) d13
+          d15 : Typed.Typed 𝓤 H A 𝓣 E G46 b27 Δ0 (at15 bs)
+          d15 = Typed.g-pre 𝓤 H A W 𝓣 E G46 G47 b27 Δ0 (Typed.give (s45 bs)) (at14 bs) (Know.g-sl-known 𝓤 H A W (Referent.fInt Syntax.w32) E G46 2 1
               ref4 life1 0 (λ x. x) record { fits = Dec.lit< tt } (Reads'.as-is 𝓤 H A (Mut.mslice (Referent.rtF (Referent.fInt Syntax.w32)) ref4 1))
-              Path.refl tt) d11
-          d13 : Typed.Typed 𝓤 H A 𝓣 E G40 b23 Δ0 (at13 bs)
-          d13 = Typed.g-pre 𝓤 H A W 𝓣 E G40 G41 b23 Δ0 (Typed.both (s39 bs)) (at12 bs) (Relend.g-back-sl 𝓤 H A W E (Referent.rtF (Referent.fInt
-              Syntax.w32)) G40 23 2 1 5 ref4 ref2 life1 (λ x. x) (λ x. x) (Reads'.as-is 𝓤 H A (Mut.msleft (Referent.rtF (Referent.fInt Syntax.w32))
-              ref2)) (Reads'.as-is 𝓤 H A (Relend.mslice-owed (Referent.rtF (Referent.fInt Syntax.w32)) ref4 1 5 life1)) Path.refl Path.refl) d12
-          d14 : Typed.Typed 𝓤 H A 𝓣 E G39 b23 Δ0 (at14 bs)
-          d14 = Typed.g-pre 𝓤 H A W 𝓣 E G39 G40 b23 Δ0 (λ Ψ. Ψ) (at13 bs) (Lifetime.g-end 𝓤 H A W E G39 5 Path.refl) d13
-          d15 : Typed.Typed 𝓤 H A 𝓣 E G38 b23 Δ0 (at15 bs)
-          d15 = Typed.g-pre 𝓤 H A W 𝓣 E G38 G39 b23 Δ0 (Typed.pass T38 T39 (s37 bs)) (at14 bs) (Scalar.g-room 𝓤 H A W E G38 19 Syntax.tyUnit
-              (Scalar.room-sc 𝓤 H A W Row.sUnit)) d14
-          d16 : Typed.Typed 𝓤 H A 𝓣 E G37 b23 Δ0 (at16 bs)
-          d16 = Typed.g-pre 𝓤 H A W 𝓣 E G37 G38 b23 Δ0 (Typed.pass T37 T38 (s36 bs)) (at15 bs) (Scalar.g-room 𝓤 H A W E G37 7 Laws'''''.mir
-              (Local.room-whole 𝓤 H A W (Declared'.row OpaqueRelayRuntime.the-type) Laws'''''.mir Path.refl)) d15
-          d17 : Typed.Typed 𝓤 H A 𝓣 E G36 b23 Δ0 (at17 bs)
-          d17 = Typed.g-pre 𝓤 H A W 𝓣 E G36 G37 b23 Δ0 (Typed.pass T36 T37 (s35 bs)) (at16 bs) (Scalar.g-room 𝓤 H A W E G36 5 Laws''''.mir
-              (Local.room-whole 𝓤 H A W (Declared'.row Outgoing.the-type) Laws''''.mir Path.refl)) d16
-          d18 : Typed.Typed 𝓤 H A 𝓣 E G35 b24 Δ0 (at18 bs)
-          d18 = Typed.s-seq 𝓤 H A W 𝓣 E G35 G36 b16 b23 Δ0 (Typed.both (s34 bs)) (at17 bs) (Plain.t-call-plain 𝓤 H A W 𝓣 2 ps·8 r·8 (claims· .16)
-              (claims· .17) "hnsr_circuit::queue::put_queued" (known .8) E (λ pos β. β) G35 (record { pos = 23; ty = Syntax.tyRef Syntax.erased
-              Syntax.mut (Syntax.tyInt Syntax.w32); ref = λ x. x; }, (Bool.bAt 14 λ x. x, (Num.vAt 8 λ x. x, (record { pos = 5; st = List.[]; d = 0;
+              Path.refl tt) d14
+          d16 : Typed.Typed 𝓤 H A 𝓣 E G45 b27 Δ0 (at16 bs)
+          d16 = Typed.g-pre 𝓤 H A W 𝓣 E G45 G46 b27 Δ0 (Typed.both (s44 bs)) (at15 bs) (Relend.g-back-sl 𝓤 H A W E (Referent.rtF (Referent.fInt
+              Syntax.w32)) G45 27 2 1 5 ref4 ref2 life1 (λ x. x) (λ x. x) (Reads'.as-is 𝓤 H A (Mut.msleft (Referent.rtF (Referent.fInt Syntax.w32))
+              ref2)) (Reads'.as-is 𝓤 H A (Relend.mslice-owed (Referent.rtF (Referent.fInt Syntax.w32)) ref4 1 5 life1)) Path.refl Path.refl) d15
+          d17 : Typed.Typed 𝓤 H A 𝓣 E G44 b27 Δ0 (at17 bs)
+          d17 = Typed.g-pre 𝓤 H A W 𝓣 E G44 G45 b27 Δ0 (λ Ψ. Ψ) (at16 bs) (Lifetime.g-end 𝓤 H A W E G44 5 Path.refl) d16
+          d18 : Typed.Typed 𝓤 H A 𝓣 E G43 b27 Δ0 (at18 bs)
+          d18 = Typed.g-pre 𝓤 H A W 𝓣 E G43 G44 b27 Δ0 (Typed.pass T43 T44 (s42 bs)) (at17 bs) (Scalar.g-room 𝓤 H A W E G43 23 Syntax.tyUnit
+              (Scalar.room-sc 𝓤 H A W Row.sUnit)) d17
+          d19 : Typed.Typed 𝓤 H A 𝓣 E G42 b27 Δ0 (at19 bs)
+          d19 = Typed.g-pre 𝓤 H A W 𝓣 E G42 G43 b27 Δ0 (Typed.pass T42 T43 (s41 bs)) (at18 bs) (Scalar.g-room 𝓤 H A W E G42 7 Laws''''''.mir
+              (Local.room-whole 𝓤 H A W (Declared'.row OpaqueRelayRuntime.the-type) Laws''''''.mir Path.refl)) d18
+          d20 : Typed.Typed 𝓤 H A 𝓣 E G41 b27 Δ0 (at20 bs)
+          d20 = Typed.g-pre 𝓤 H A W 𝓣 E G41 G42 b27 Δ0 (Typed.pass T41 T42 (s40 bs)) (at19 bs) (Scalar.g-room 𝓤 H A W E G41 5 Laws'''''.mir
+              (Local.room-whole 𝓤 H A W (Declared'.row Outgoing.the-type) Laws'''''.mir Path.refl)) d19
+          d21 : Typed.Typed 𝓤 H A 𝓣 E G40 b28 Δ0 (at21 bs)
+          d21 = Typed.s-seq 𝓤 H A W 𝓣 E G40 G41 b20 b27 Δ0 (Typed.both (s39 bs)) (at20 bs) (Plain.t-call-plain 𝓤 H A W 𝓣 2 ps·10 r·10 (claims· .20)
+              (claims· .21) "hnsr_circuit::queue::put_queued" (known .10) E (λ pos β. β) G40 (record { pos = 27; ty = Syntax.tyRef Syntax.erased
+              Syntax.mut (Syntax.tyInt Syntax.w32); ref = λ x. x; }, (Bool.bAt 16 λ x. x, (Num.vAt 8 λ x. x, (record { pos = 5; st = List.[]; d = 0;
               at = λ x. x }, (record { pos = 7; st = List.[]; d = 0; at = λ x. x }, (record { pos = 6; ty = Syntax.tyRef (Syntax.named 2) Syntax.imm
-              (Syntax.tyInt Syntax.w8); ref = λ x. x; }, tt,),),),),),) 19 (5 ∷ 2 ∷ List.[]) (Call.sub-id 𝓤 H A W (G35 .slots)) (Reads'.as-is 𝓤 H A
+              (Syntax.tyInt Syntax.w8); ref = λ x. x; }, tt,),),),),),) 23 (5 ∷ 2 ∷ List.[]) (Call.sub-id 𝓤 H A W (G40 .slots)) (Reads'.as-is 𝓤 H A
               (Mut.mslice (Referent.rtF (Referent.fInt Syntax.w32)) ref2 5), Mut.reads-mslice 𝓤 H A W (Referent.rtF (Referent.fInt Syntax.w32)) ref2
               5, Path.refl, ((Scalar.reads-sc 𝓤 H A W Row.sBool, Path.refl), ((Scalar.reads-sc 𝓤 H A W (Row.sInt Syntax.w64), Path.refl),
-              ((Yields.yields-copy 𝓤 H A W (λ ρ. Unit) (Declared'.row Outgoing.the-type) Path.refl (Copies.cStruct Outgoing.the-type Laws''''.the-laws
-              Laws''''.the-copy .copy 𝓤 H A W) (Rows.whole (Declared'.row Outgoing.the-type)) (λ x. x) (λ x. x) (λ ρ told. Local.mem-whole 𝓤 H A W
-              (Declared'.row Outgoing.the-type) ρ) λ ρ told. Local.whole-mem 𝓤 H A W (Declared'.row Outgoing.the-type) ρ, Path.refl,),
-              ((Yields.yields-copy 𝓤 H A W (λ ρ. Unit) (Declared'.row OpaqueRelayRuntime.the-type) Path.refl (Copies.cStruct
-              OpaqueRelayRuntime.the-type Laws'''''.the-laws Laws'''''.the-copy .copy 𝓤 H A W) (Rows.whole (Declared'.row
+              ((Yields.yields-copy 𝓤 H A W (λ ρ. Unit) (Declared'.row Outgoing.the-type) Path.refl (Copies.cStruct Outgoing.the-type
+              Laws'''''.the-laws Laws'''''.the-copy .copy 𝓤 H A W) (Rows.whole (Declared'.row Outgoing.the-type)) (λ x. x) (λ x. x) (λ ρ told.
+              Local.mem-whole 𝓤 H A W (Declared'.row Outgoing.the-type) ρ) λ ρ told. Local.whole-mem 𝓤 H A W (Declared'.row Outgoing.the-type) ρ,
+              Path.refl,), ((Yields.yields-copy 𝓤 H A W (λ ρ. Unit) (Declared'.row OpaqueRelayRuntime.the-type) Path.refl (Copies.cStruct
+              OpaqueRelayRuntime.the-type Laws''''''.the-laws Laws''''''.the-copy .copy 𝓤 H A W) (Rows.whole (Declared'.row
               OpaqueRelayRuntime.the-type)) (λ x. x) (λ x. x) (λ ρ told. Local.mem-whole 𝓤 H A W (Declared'.row OpaqueRelayRuntime.the-type) ρ) λ ρ
               told. Local.whole-mem 𝓤 H A W (Declared'.row OpaqueRelayRuntime.the-type) ρ, Path.refl,), (ShrSlice.spares-sslice 𝓤 H A W (Referent.rtF
               (Referent.fInt Syntax.w8)) ref5 2, Shared.reads-sslice 𝓤 H A W (Referent.rtF (Referent.fInt Syntax.w8)) ref5 2, Path.refl,
-              tt,),),),),),) (Reads'.room-gone 𝓤 H A Syntax.tyUnit) (tt, (tt, tt)) Path.refl) d17
-          d19 : Typed.Typed 𝓤 H A 𝓣 E G34 b25 Δ0 (at19 bs)
-          d19 = Typed.s-seq 𝓤 H A W 𝓣 E G34 G35 b15 b24 Δ0 (Typed.ask (s33 bs)) (at18 bs) (Relend.t-sl-aggregate 𝓤 H A W E (Referent.rtF
-              (Referent.fInt Syntax.w32)) 𝓣 (Relend.asMut (Referent.rtF (Referent.fInt Syntax.w32))) G34 22 23 5 ref2 ref2 (λ x. x) (Scalar.oFld 2
+              tt,),),),),),) (Reads'.room-gone 𝓤 H A Syntax.tyUnit) (tt, (tt, tt)) Path.refl) d20
+          d22 : Typed.Typed 𝓤 H A 𝓣 E G39 b29 Δ0 (at22 bs)
+          d22 = Typed.s-seq 𝓤 H A W 𝓣 E G39 G40 b19 b28 Δ0 (Typed.ask (s38 bs)) (at21 bs) (Relend.t-sl-aggregate 𝓤 H A W E (Referent.rtF
+              (Referent.fInt Syntax.w32)) 𝓣 (Relend.asMut (Referent.rtF (Referent.fInt Syntax.w32))) G39 26 27 5 ref2 ref2 (λ x. x) (Scalar.oFld 2
               ((Syntax.field 1) ∷ List.[]) (Syntax.tyInt Syntax.w64) 8 λ v. Shared.lenV (v .0)) (Reads'.as-is 𝓤 H A (Relend.msptr (Referent.rtF
               (Referent.fInt Syntax.w32)) ref2 5)) (Reads'.room-gone 𝓤 H A (Syntax.tyStruct (38 ∷ 91 ∷ 93 ∷ List.[]) (Syntax.tcons ref2 (Syntax.tcons
               (Syntax.tyInt Syntax.w64) Syntax.tnil)))) (Relend.reads-owed-len 𝓤 H A W (Referent.rtF (Referent.fInt Syntax.w32)) ref4 1 5 life1 8
-              Path.refl, Path.refl,) Path.refl Path.refl λ b o k. tt) d18
-          d20 : Typed.Typed 𝓤 H A 𝓣 E G33 b26 Δ0 (at20 bs)
-          d20 = Typed.s-seq 𝓤 H A W 𝓣 E G33 G34 b14 b25 Δ0 (Typed.give (s32 bs)) (at19 bs) (Relend.t-sl-relend 𝓤 H A W E (Referent.rtF (Referent.fInt
-              Syntax.w32)) 𝓣 G33 2 22 1 5 ref4 ref2 life1 0 (λ x. x) (Reads'.as-is 𝓤 H A (Mut.mslice (Referent.rtF (Referent.fInt Syntax.w32)) ref4
-              1)) (Reads'.room-gone 𝓤 H A ref2) Path.refl tt Path.refl Path.refl Path.refl λ b o. tt) d19
-          d21 : Typed.Typed 𝓤 H A 𝓣 E G32 b26 Δ0 (at21 bs)
-          d21 = Typed.g-pre 𝓤 H A W 𝓣 E G32 G33 b26 Δ0 (λ Ψ. Ψ) (at20 bs) (Lifetime.g-begin 𝓤 H A W E G32 5 (tt, (tt, (tt, (tt, (tt, (tt, (tt, (tt,
-              (tt, (tt, (tt, (tt, (tt, (tt, (tt, (tt, (tt, (tt, (tt, (tt, (tt, (tt, (tt, (tt, (tt, tt)))))),),),),),),),),),),),),),),),),),),),)) d20
-          d22 : Typed.Typed 𝓤 H A 𝓣 E G31 b26 Δ0 (at22 bs)
-          d22 = Typed.g-pre 𝓤 H A W 𝓣 E G31 G32 b26 Δ0 (λ Ψ. Ψ) (at21 bs) (Lifetime.g-forget 𝓤 H A W E G31 4 Row.dead Path.refl) d21
-          d23 : Typed.Typed 𝓤 H A 𝓣 E G30 b26 Δ0 (at23 bs)
-          d23 = Typed.g-pre 𝓤 H A W 𝓣 E G30 G31 b26 Δ0 (Typed.both (s29 bs)) (at22 bs) (Relend.g-back-sl 𝓤 H A W E InflightAction.row G30 21 1 0 4
+              Path.refl, Path.refl,) Path.refl Path.refl λ b o k. tt) d21
+          d23 : Typed.Typed 𝓤 H A 𝓣 E G38 b30 Δ0 (at23 bs)
+          d23 = Typed.s-seq 𝓤 H A W 𝓣 E G38 G39 b18 b29 Δ0 (Typed.give (s37 bs)) (at22 bs) (Relend.t-sl-relend 𝓤 H A W E (Referent.rtF (Referent.fInt
+              Syntax.w32)) 𝓣 G38 2 26 1 5 ref4 ref2 life1 0 (λ x. x) (Reads'.as-is 𝓤 H A (Mut.mslice (Referent.rtF (Referent.fInt Syntax.w32)) ref4
+              1)) (Reads'.room-gone 𝓤 H A ref2) Path.refl tt Path.refl Path.refl Path.refl λ b o. tt) d22
+          d24 : Typed.Typed 𝓤 H A 𝓣 E G37 b30 Δ0 (at24 bs)
+          d24 = Typed.g-pre 𝓤 H A W 𝓣 E G37 G38 b30 Δ0 (λ Ψ. Ψ) (at23 bs) (Lifetime.g-begin 𝓤 H A W E G37 5 (tt, (tt, (tt, (tt, (tt, (tt, (tt, (tt,
+              (tt, (tt, (tt, (tt, (tt, (tt, (tt, (tt, (tt, (tt, (tt, (tt, (tt, (tt, (tt, (tt, (tt, (tt, (tt, (tt, (tt,
+              tt))))),),),),),),),),),),),),),),),),),),),),),),),),)) d23
+          d25 : Typed.Typed 𝓤 H A 𝓣 E G36 b30 Δ0 (at25 bs)
+          d25 = Typed.g-pre 𝓤 H A W 𝓣 E G36 G37 b30 Δ0 (λ Ψ. Ψ) (at24 bs) (Lifetime.g-forget 𝓤 H A W E G36 4 Row.dead Path.refl) d24
+          d26 : Typed.Typed 𝓤 H A 𝓣 E G35 b30 Δ0 (at26 bs)
+          d26 = Typed.g-pre 𝓤 H A W 𝓣 E G35 G36 b30 Δ0 (Typed.both (s34 bs)) (at25 bs) (Relend.g-back-sl 𝓤 H A W E InflightAction.row G35 25 1 0 4
               ref3 ref1 life0 (λ x. x) (λ x. x) (Reads'.as-is 𝓤 H A (Mut.msleft InflightAction.row ref1)) (Reads'.as-is 𝓤 H A (Relend.mslice-owed
-              InflightAction.row ref3 0 4 life0)) Path.refl Path.refl) d22
-          d24 : Typed.Typed 𝓤 H A 𝓣 E G29 b26 Δ0 (at24 bs)
-          d24 = Typed.g-pre 𝓤 H A W 𝓣 E G29 G30 b26 Δ0 (λ Ψ. Ψ) (at23 bs) (Lifetime.g-end 𝓤 H A W E G29 4 Path.refl) d23
-          d25 : Typed.Typed 𝓤 H A 𝓣 E G28 b26 Δ0 (at25 bs)
-          d25 = Typed.g-pre 𝓤 H A W 𝓣 E G28 G29 b26 Δ0 (Typed.pass T28 T29 (s27 bs)) (at24 bs) (Scalar.g-room 𝓤 H A W E G28 19 Syntax.tyUnit
-              (Scalar.room-sc 𝓤 H A W Row.sUnit)) d24
-          d26 : Typed.Typed 𝓤 H A 𝓣 E G27 b26 Δ0 (at26 bs)
-          d26 = Typed.g-pre 𝓤 H A W 𝓣 E G27 G28 b26 Δ0 (Typed.pass T27 T28 (s26 bs)) (at25 bs) (Scalar.g-room 𝓤 H A W E G27 13 InflightAction.ty
-              (Local.room-whole 𝓤 H A W InflightAction.row InflightAction.ty Path.refl)) d25
-          d27 : Typed.Typed 𝓤 H A 𝓣 E G26 b27 Δ0 (at27 bs)
-          d27 = Typed.s-seq 𝓤 H A W 𝓣 E G26 G27 b13 b26 Δ0 (Typed.both (s25 bs)) (at26 bs) (Plain.t-call-plain 𝓤 H A W 𝓣 1 ps·7 r·7 (claims· .14)
-              (claims· .15) "hnsr_circuit::tables::inflight::set_action" (known .7) E (λ pos β. β) G26 (record { pos = 21; ty = Syntax.tyRef
-              Syntax.erased Syntax.mut InflightAction.to; ref = λ x. x; }, (Bool.bAt 14 λ x. x, (Num.vAt 15 λ x. x, (record { pos = 13; st = List.[];
-              d = 0; at = λ x. x }, tt),),),) 19 (4 ∷ List.[]) (Call.sub-id 𝓤 H A W (G26 .slots)) (Reads'.as-is 𝓤 H A (Mut.mslice InflightAction.row
+              InflightAction.row ref3 0 4 life0)) Path.refl Path.refl) d25
+          d27 : Typed.Typed 𝓤 H A 𝓣 E G34 b30 Δ0 (at27 bs)
+          d27 = Typed.g-pre 𝓤 H A W 𝓣 E G34 G35 b30 Δ0 (λ Ψ. Ψ) (at26 bs) (Lifetime.g-end 𝓤 H A W E G34 4 Path.refl) d26
+          d28 : Typed.Typed 𝓤 H A 𝓣 E G33 b30 Δ0 (at28 bs)
+          d28 = Typed.g-pre 𝓤 H A W 𝓣 E G33 G34 b30 Δ0 (Typed.pass T33 T34 (s32 bs)) (at27 bs) (Scalar.g-room 𝓤 H A W E G33 23 Syntax.tyUnit
+              (Scalar.room-sc 𝓤 H A W Row.sUnit)) d27
+          d29 : Typed.Typed 𝓤 H A 𝓣 E G32 b30 Δ0 (at29 bs)
+          d29 = Typed.g-pre 𝓤 H A W 𝓣 E G32 G33 b30 Δ0 (Typed.pass T32 T33 (s31 bs)) (at28 bs) (Scalar.g-room 𝓤 H A W E G32 15 InflightAction.ty
+              (Local.room-whole 𝓤 H A W InflightAction.row InflightAction.ty Path.refl)) d28
+          d30 : Typed.Typed 𝓤 H A 𝓣 E G31 b31 Δ0 (at30 bs)
+          d30 = Typed.s-seq 𝓤 H A W 𝓣 E G31 G32 b17 b30 Δ0 (Typed.both (s30 bs)) (at29 bs) (Plain.t-call-plain 𝓤 H A W 𝓣 1 ps·9 r·9 (claims· .18)
+              (claims· .19) "hnsr_circuit::tables::inflight::set_action" (known .9) E (λ pos β. β) G31 (record { pos = 25; ty = Syntax.tyRef
+              Syntax.erased Syntax.mut InflightAction.to; ref = λ x. x; }, (Bool.bAt 16 λ x. x, (Num.vAt 17 λ x. x, (record { pos = 15; st = List.[];
+              d = 0; at = λ x. x }, tt),),),) 23 (4 ∷ List.[]) (Call.sub-id 𝓤 H A W (G31 .slots)) (Reads'.as-is 𝓤 H A (Mut.mslice InflightAction.row
               ref1 4), Mut.reads-mslice 𝓤 H A W InflightAction.row ref1 4, Path.refl, ((Scalar.reads-sc 𝓤 H A W Row.sBool, Path.refl),
               ((Scalar.reads-sc 𝓤 H A W (Row.sInt Syntax.w64), Path.refl), ((Yields.yields-copy 𝓤 H A W (λ ρ. Unit) InflightAction.row Path.refl
               (InflightAction.copies .copy 𝓤 H A W) InflightAction.held (λ x. x) (λ x. x) (λ ρ told. Local.mem-whole 𝓤 H A W InflightAction.row ρ) λ ρ
               told. Local.whole-mem 𝓤 H A W InflightAction.row ρ, Path.refl,), tt,),),),) (Reads'.room-gone 𝓤 H A Syntax.tyUnit) (tt, tt) Path.refl)
-              d26
-          d28 : Typed.Typed 𝓤 H A 𝓣 E G25 b28 Δ0 (at28 bs)
-          d28 = Typed.s-seq 𝓤 H A W 𝓣 E G25 G26 b12 b27 Δ0 (Typed.ask (s24 bs)) (at27 bs) (Relend.t-sl-aggregate 𝓤 H A W E InflightAction.row 𝓣
-              (Relend.asMut InflightAction.row) G25 20 21 4 ref1 ref1 (λ x. x) (Scalar.oFld 1 ((Syntax.field 1) ∷ List.[]) (Syntax.tyInt Syntax.w64) 8
+              d29
+          d31 : Typed.Typed 𝓤 H A 𝓣 E G30 b32 Δ0 (at31 bs)
+          d31 = Typed.s-seq 𝓤 H A W 𝓣 E G30 G31 b16 b31 Δ0 (Typed.ask (s29 bs)) (at30 bs) (Relend.t-sl-aggregate 𝓤 H A W E InflightAction.row 𝓣
+              (Relend.asMut InflightAction.row) G30 24 25 4 ref1 ref1 (λ x. x) (Scalar.oFld 1 ((Syntax.field 1) ∷ List.[]) (Syntax.tyInt Syntax.w64) 8
               λ v. Shared.lenV (v .0)) (Reads'.as-is 𝓤 H A (Relend.msptr InflightAction.row ref1 4)) (Reads'.room-gone 𝓤 H A (Syntax.tyStruct (38 ∷ 91
               ∷ 93 ∷ List.[]) (Syntax.tcons ref1 (Syntax.tcons (Syntax.tyInt Syntax.w64) Syntax.tnil)))) (Relend.reads-owed-len 𝓤 H A W
-              InflightAction.row ref3 0 4 life0 8 Path.refl, Path.refl,) Path.refl Path.refl λ b o k. tt) d27
-          d29 : Typed.Typed 𝓤 H A 𝓣 E G24 b29 Δ0 (at29 bs)
-          d29 = Typed.s-seq 𝓤 H A W 𝓣 E G24 G25 b11 b28 Δ0 (Typed.give (s23 bs)) (at28 bs) (Relend.t-sl-relend 𝓤 H A W E InflightAction.row 𝓣 G24 1 20
+              InflightAction.row ref3 0 4 life0 8 Path.refl, Path.refl,) Path.refl Path.refl λ b o k. tt) d30
+          d32 : Typed.Typed 𝓤 H A 𝓣 E G29 b33 Δ0 (at32 bs)
+          d32 = Typed.s-seq 𝓤 H A W 𝓣 E G29 G30 b15 b32 Δ0 (Typed.give (s28 bs)) (at31 bs) (Relend.t-sl-relend 𝓤 H A W E InflightAction.row 𝓣 G29 1 24
               0 4 ref3 ref1 life0 0 (λ x. x) (Reads'.as-is 𝓤 H A (Mut.mslice InflightAction.row ref3 0)) (Reads'.room-gone 𝓤 H A ref1) Path.refl tt
-              Path.refl Path.refl Path.refl λ b o. tt) d28
-          d30 : Typed.Typed 𝓤 H A 𝓣 E G23 b29 Δ0 (at30 bs)
-          d30 = Typed.g-pre 𝓤 H A W 𝓣 E G23 G24 b29 Δ0 (λ Ψ. Ψ) (at29 bs) (Lifetime.g-begin 𝓤 H A W E G23 4 (tt, (tt, (tt, (tt, (tt, (tt, (tt, (tt,
-              (tt, (tt, (tt, (tt, (tt, (tt, (tt, (tt, (tt, (tt, (tt, (tt, (tt, (tt, (tt, (tt, (tt, tt)))))),),),),),),),),),),),),),),),),),),),)) d29
-          d31 : Typed.Typed 𝓤 H A 𝓣 E G22 b30 Δ0 (at31 bs)
-          d31 = Typed.s-seq 𝓤 H A W 𝓣 E G22 G23 b10 b29 Δ0 (Typed.both (s21 bs)) (at30 bs) (Plain.t-call-plain 𝓤 H A W 𝓣 0 ps·6 r·6 (claims· .12)
-              (claims· .13) "hnsr_circuit::queue::queued_place" (known .6) E (λ pos β. β) G22 (record { pos = 12; st = List.[]; d = 0; at = λ x. x },
+              Path.refl Path.refl Path.refl λ b o. tt) d31
+          d33 : Typed.Typed 𝓤 H A 𝓣 E G28 b33 Δ0 (at33 bs)
+          d33 = Typed.g-pre 𝓤 H A W 𝓣 E G28 G29 b33 Δ0 (λ Ψ. Ψ) (at32 bs) (Lifetime.g-begin 𝓤 H A W E G28 4 (tt, (tt, (tt, (tt, (tt, (tt, (tt, (tt,
+              (tt, (tt, (tt, (tt, (tt, (tt, (tt, (tt, (tt, (tt, (tt, (tt, (tt, (tt, (tt, (tt, (tt, (tt, (tt, (tt, (tt,
+              tt))))),),),),),),),),),),),),),),),),),),),),),),),),)) d32
+          d34 : Typed.Typed 𝓤 H A 𝓣 E G27 b33 Δ0 (at34 bs)
+          d34 = Typed.g-pre 𝓤 H A W 𝓣 E G27 G28 b33 Δ0 (Typed.pass T27 T28 (s26 bs)) (at33 bs) (Scalar.g-room 𝓤 H A W E G27 9 Laws'.mir
+              (Local.room-whole 𝓤 H A W (Declared'.row Places.the-type) Laws'.mir Path.refl)) d33
+          d35 : Typed.Typed 𝓤 H A 𝓣 E G26 b34 Δ0 (at35 bs)
+          d35 = Typed.s-seq 𝓤 H A W 𝓣 E G26 G27 b14 b33 Δ0 (Typed.both (s25 bs)) (at34 bs) (Plain.t-call-plain 𝓤 H A W 𝓣 0 ps·8 r·8 (claims· .16)
+              (claims· .17) "hnsr_circuit::places::with_actions" (known .8) E (λ pos β. β) G26 (record { pos = 9; st = List.[]; d = 0; at = λ x. x },
+              (Num.vAt 18 λ x. x, tt)) 19 List.[] (Call.sub-id 𝓤 H A W (G26 .slots)) ((Yields.yields-copy 𝓤 H A W (λ ρ. Unit) (Declared'.row
+              Places.the-type) Path.refl (Copies.cStruct Places.the-type Laws'.the-laws Laws'.the-copy .copy 𝓤 H A W) (Rows.whole (Declared'.row
+              Places.the-type)) (λ x. x) (λ x. x) (λ ρ told. Local.mem-whole 𝓤 H A W (Declared'.row Places.the-type) ρ) λ ρ told. Local.whole-mem 𝓤 H
+              A W (Declared'.row Places.the-type) ρ, Path.refl,), ((Scalar.reads-sc 𝓤 H A W (Row.sInt Syntax.w64), Path.refl), tt),) (Reads'.room-gone
+              𝓤 H A Laws'.mir) tt Path.refl) d34
+          d36 : Typed.Typed 𝓤 H A 𝓣 E G25 b35 Δ0 (at36 bs)
+          d36 = Typed.s-seq 𝓤 H A W 𝓣 E G25 G26 b13 b34 Δ0 (Typed.both (s24 bs)) (at35 bs) (Plain.t-call-plain 𝓤 H A W 𝓣 0 ps·7 r·7 (claims· .14)
+              (claims· .15) "hnsr_circuit::places::raised" (known .7) E (λ pos β. β) G25 (Num.vFld 9 ((Syntax.field 3) ∷ List.[]) 24 λ x.
+              Places.struct .as-values x .1 .1 .1 .0, (Bool.bAt 16 λ x. x, (Num.vAt 17 λ x. x, (Num.vAt 10 λ x. x, tt))),) 18 List.[] (Call.sub-id 𝓤 H
+              A W (G25 .slots)) ((Reads.reads-field 𝓤 H A W Places.the-type Laws'.the-laws 3 (Syntax.tyInt Syntax.w64) 24 Path.refl, Path.refl,),
+              ((Scalar.reads-sc 𝓤 H A W Row.sBool, Path.refl), ((Scalar.reads-sc 𝓤 H A W (Row.sInt Syntax.w64), Path.refl), ((Scalar.reads-sc 𝓤 H A W
+              (Row.sInt Syntax.w64), Path.refl), tt),),),) (Reads'.room-gone 𝓤 H A (Syntax.tyInt Syntax.w64)) tt Path.refl) d35
+          d37 : Typed.Typed 𝓤 H A 𝓣 E G24 b36 Δ0 (at37 bs)
+          d37 = Typed.s-seq 𝓤 H A W 𝓣 E G24 G25 b12 b35 Δ0 (Typed.both (s23 bs)) (at36 bs) (Plain.t-call-plain 𝓤 H A W 𝓣 0 ps·6 r·6 (claims· .12)
+              (claims· .13) "hnsr_circuit::queue::queued_place" (known .6) E (λ pos β. β) G24 (record { pos = 14; st = List.[]; d = 0; at = λ x. x },
+              tt) 17 List.[] (Call.sub-id 𝓤 H A W (G24 .slots)) ((Yields.yields-copy 𝓤 H A W (λ ρ. Unit) (Declared'.row Queued.the-type) Path.refl
+              (Copies.cStruct Queued.the-type Laws''.the-laws Laws''.the-copy .copy 𝓤 H A W) (Rows.whole (Declared'.row Queued.the-type)) (λ x. x) (λ
+              x. x) (λ ρ told. Local.mem-whole 𝓤 H A W (Declared'.row Queued.the-type) ρ) λ ρ told. Local.whole-mem 𝓤 H A W (Declared'.row
+              Queued.the-type) ρ, Path.refl,), tt,) (Reads'.room-gone 𝓤 H A (Syntax.tyInt Syntax.w64)) tt Path.refl) d36
+          d38 : Typed.Typed 𝓤 H A 𝓣 E G23 b37 Δ0 (at38 bs)
+          d38 = Typed.s-seq 𝓤 H A W 𝓣 E G23 G24 b11 b36 Δ0 (Typed.both (s22 bs)) (at37 bs) (Plain.t-call-plain 𝓤 H A W 𝓣 0 ps·5 r·5 (claims· .10)
+              (claims· .11) "hnsr_circuit::queue::queued_go" (known .5) E (λ pos β. β) G23 (record { pos = 14; st = List.[]; d = 0; at = λ x. x }, tt)
+              16 List.[] (Call.sub-id 𝓤 H A W (G23 .slots)) ((Yields.yields-copy 𝓤 H A W (λ ρ. Unit) (Declared'.row Queued.the-type) Path.refl
+              (Copies.cStruct Queued.the-type Laws''.the-laws Laws''.the-copy .copy 𝓤 H A W) (Rows.whole (Declared'.row Queued.the-type)) (λ x. x) (λ
+              x. x) (λ ρ told. Local.mem-whole 𝓤 H A W (Declared'.row Queued.the-type) ρ) λ ρ told. Local.whole-mem 𝓤 H A W (Declared'.row
+              Queued.the-type) ρ, Path.refl,), tt,) (Reads'.room-gone 𝓤 H A Syntax.tyBool) tt Path.refl) d37
+          d39 : Typed.Typed 𝓤 H A 𝓣 E G22 b38 Δ0 (at39 bs)
+          d39 = Typed.s-seq 𝓤 H A W 𝓣 E G22 G23 b10 b37 Δ0 (Typed.both (s21 bs)) (at38 bs) (Plain.t-call-plain 𝓤 H A W 𝓣 0 ps·4 r·4 (claims· .8)
+              (claims· .9) "hnsr_circuit::queue::queued_action" (known .4) E (λ pos β. β) G22 (record { pos = 14; st = List.[]; d = 0; at = λ x. x },
               tt) 15 List.[] (Call.sub-id 𝓤 H A W (G22 .slots)) ((Yields.yields-copy 𝓤 H A W (λ ρ. Unit) (Declared'.row Queued.the-type) Path.refl
-              (Copies.cStruct Queued.the-type Laws'.the-laws Laws'.the-copy .copy 𝓤 H A W) (Rows.whole (Declared'.row Queued.the-type)) (λ x. x) (λ x.
-              x) (λ ρ told. Local.mem-whole 𝓤 H A W (Declared'.row Queued.the-type) ρ) λ ρ told. Local.whole-mem 𝓤 H A W (Declared'.row
-              Queued.the-type) ρ, Path.refl,), tt,) (Reads'.room-gone 𝓤 H A (Syntax.tyInt Syntax.w64)) tt Path.refl) d30
-          d32 : Typed.Typed 𝓤 H A 𝓣 E G21 b31 Δ0 (at32 bs)
-          d32 = Typed.s-seq 𝓤 H A W 𝓣 E G21 G22 b9 b30 Δ0 (Typed.both (s20 bs)) (at31 bs) (Plain.t-call-plain 𝓤 H A W 𝓣 0 ps·5 r·5 (claims· .10)
-              (claims· .11) "hnsr_circuit::queue::queued_go" (known .5) E (λ pos β. β) G21 (record { pos = 12; st = List.[]; d = 0; at = λ x. x }, tt)
-              14 List.[] (Call.sub-id 𝓤 H A W (G21 .slots)) ((Yields.yields-copy 𝓤 H A W (λ ρ. Unit) (Declared'.row Queued.the-type) Path.refl
-              (Copies.cStruct Queued.the-type Laws'.the-laws Laws'.the-copy .copy 𝓤 H A W) (Rows.whole (Declared'.row Queued.the-type)) (λ x. x) (λ x.
-              x) (λ ρ told. Local.mem-whole 𝓤 H A W (Declared'.row Queued.the-type) ρ) λ ρ told. Local.whole-mem 𝓤 H A W (Declared'.row
-              Queued.the-type) ρ, Path.refl,), tt,) (Reads'.room-gone 𝓤 H A Syntax.tyBool) tt Path.refl) d31
-          d33 : Typed.Typed 𝓤 H A 𝓣 E G20 b32 Δ0 (at33 bs)
-          d33 = Typed.s-seq 𝓤 H A W 𝓣 E G20 G21 b8 b31 Δ0 (Typed.both (s19 bs)) (at32 bs) (Plain.t-call-plain 𝓤 H A W 𝓣 0 ps·4 r·4 (claims· .8)
-              (claims· .9) "hnsr_circuit::queue::queued_action" (known .4) E (λ pos β. β) G20 (record { pos = 12; st = List.[]; d = 0; at = λ x. x },
-              tt) 13 List.[] (Call.sub-id 𝓤 H A W (G20 .slots)) ((Yields.yields-copy 𝓤 H A W (λ ρ. Unit) (Declared'.row Queued.the-type) Path.refl
-              (Copies.cStruct Queued.the-type Laws'.the-laws Laws'.the-copy .copy 𝓤 H A W) (Rows.whole (Declared'.row Queued.the-type)) (λ x. x) (λ x.
-              x) (λ ρ told. Local.mem-whole 𝓤 H A W (Declared'.row Queued.the-type) ρ) λ ρ told. Local.whole-mem 𝓤 H A W (Declared'.row
-              Queued.the-type) ρ, Path.refl,), tt,) (Reads'.room-gone 𝓤 H A InflightAction.ty) tt Path.refl) d32
-          d34 : Typed.Typed 𝓤 H A 𝓣 E G19 b32 Δ0 (at34 bs)
-          d34 = Typed.g-pre 𝓤 H A W 𝓣 E G19 G20 b32 Δ0 (Typed.pass T19 T20 (s18 bs)) (at33 bs) (Scalar.g-room 𝓤 H A W E G19 11 Laws.mir
-              (Local.room-whole 𝓤 H A W (Declared.row HnsrAnswer.the-type) Laws.mir Path.refl)) d33
-          d35 : Typed.Typed 𝓤 H A 𝓣 E G18 b32 Δ0 (at35 bs)
-          d35 = Typed.g-pre 𝓤 H A W 𝓣 E G18 G19 b32 Δ0 (Typed.pass T18 T19 (s17 bs)) (at34 bs) (Scalar.g-room 𝓤 H A W E G18 10 Laws'''.mir
-              (Local.room-whole 𝓤 H A W (Declared'.row ActionScan.the-type) Laws'''.mir Path.refl)) d34
-          d36 : Typed.Typed 𝓤 H A 𝓣 E G17 b33 Δ0 (at36 bs)
-          d36 = Typed.s-seq 𝓤 H A W 𝓣 E G17 G18 b7 b32 Δ0 (Typed.both (s16 bs)) (at35 bs) (Plain.t-call-plain 𝓤 H A W 𝓣 0 ps·3 r·3 (claims· .6)
-              (claims· .7) "hnsr_circuit::queue::queue" (known .3) E (λ pos β. β) G17 (record { pos = 11; st = List.[]; d = 0; at = λ x. x }, (record
-              { pos = 7; st = List.[]; d = 0; at = λ x. x }, (record { pos = 5; st = List.[]; d = 0; at = λ x. x }, (record { pos = 10; st = List.[];
-              d = 0; at = λ x. x }, tt),),),) 12 List.[] (Call.sub-id 𝓤 H A W (G17 .slots)) ((Yields.yields-copy 𝓤 H A W (λ ρ. Unit) (Declared.row
+              (Copies.cStruct Queued.the-type Laws''.the-laws Laws''.the-copy .copy 𝓤 H A W) (Rows.whole (Declared'.row Queued.the-type)) (λ x. x) (λ
+              x. x) (λ ρ told. Local.mem-whole 𝓤 H A W (Declared'.row Queued.the-type) ρ) λ ρ told. Local.whole-mem 𝓤 H A W (Declared'.row
+              Queued.the-type) ρ, Path.refl,), tt,) (Reads'.room-gone 𝓤 H A InflightAction.ty) tt Path.refl) d38
+          d40 : Typed.Typed 𝓤 H A 𝓣 E G21 b38 Δ0 (at40 bs)
+          d40 = Typed.g-pre 𝓤 H A W 𝓣 E G21 G22 b38 Δ0 (Typed.pass T21 T22 (s20 bs)) (at39 bs) (Scalar.g-room 𝓤 H A W E G21 13 Laws.mir
+              (Local.room-whole 𝓤 H A W (Declared.row HnsrAnswer.the-type) Laws.mir Path.refl)) d39
+          d41 : Typed.Typed 𝓤 H A 𝓣 E G20 b38 Δ0 (at41 bs)
+          d41 = Typed.g-pre 𝓤 H A W 𝓣 E G20 G21 b38 Δ0 (Typed.pass T20 T21 (s19 bs)) (at40 bs) (Scalar.g-room 𝓤 H A W E G20 12 Laws''''.mir
+              (Local.room-whole 𝓤 H A W (Declared'.row ActionScan.the-type) Laws''''.mir Path.refl)) d40
+          d42 : Typed.Typed 𝓤 H A 𝓣 E G19 b39 Δ0 (at42 bs)
+          d42 = Typed.s-seq 𝓤 H A W 𝓣 E G19 G20 b9 b38 Δ0 (Typed.both (s18 bs)) (at41 bs) (Plain.t-call-plain 𝓤 H A W 𝓣 0 ps·3 r·3 (claims· .6)
+              (claims· .7) "hnsr_circuit::queue::queue" (known .3) E (λ pos β. β) G19 (record { pos = 13; st = List.[]; d = 0; at = λ x. x }, (record
+              { pos = 7; st = List.[]; d = 0; at = λ x. x }, (record { pos = 5; st = List.[]; d = 0; at = λ x. x }, (record { pos = 12; st = List.[];
+              d = 0; at = λ x. x }, tt),),),) 14 List.[] (Call.sub-id 𝓤 H A W (G19 .slots)) ((Yields.yields-copy 𝓤 H A W (λ ρ. Unit) (Declared.row
               HnsrAnswer.the-type) Path.refl (Copies.cEnum HnsrAnswer.the-type Laws.the-laws Laws.the-copy .copy 𝓤 H A W) (Rows.whole (Declared.row
               HnsrAnswer.the-type)) (λ x. x) (λ x. x) (λ ρ told. Local.mem-whole 𝓤 H A W (Declared.row HnsrAnswer.the-type) ρ) λ ρ told.
               Local.whole-mem 𝓤 H A W (Declared.row HnsrAnswer.the-type) ρ, Path.refl,), ((Yields.yields-copy 𝓤 H A W (λ ρ. Unit) (Declared'.row
-              OpaqueRelayRuntime.the-type) Path.refl (Copies.cStruct OpaqueRelayRuntime.the-type Laws'''''.the-laws Laws'''''.the-copy .copy 𝓤 H A W)
-              (Rows.whole (Declared'.row OpaqueRelayRuntime.the-type)) (λ x. x) (λ x. x) (λ ρ told. Local.mem-whole 𝓤 H A W (Declared'.row
+              OpaqueRelayRuntime.the-type) Path.refl (Copies.cStruct OpaqueRelayRuntime.the-type Laws''''''.the-laws Laws''''''.the-copy .copy 𝓤 H A
+              W) (Rows.whole (Declared'.row OpaqueRelayRuntime.the-type)) (λ x. x) (λ x. x) (λ ρ told. Local.mem-whole 𝓤 H A W (Declared'.row
               OpaqueRelayRuntime.the-type) ρ) λ ρ told. Local.whole-mem 𝓤 H A W (Declared'.row OpaqueRelayRuntime.the-type) ρ, Path.refl,),
-              ((Yields.yields-copy 𝓤 H A W (λ ρ. Unit) (Declared'.row Outgoing.the-type) Path.refl (Copies.cStruct Outgoing.the-type Laws''''.the-laws
-              Laws''''.the-copy .copy 𝓤 H A W) (Rows.whole (Declared'.row Outgoing.the-type)) (λ x. x) (λ x. x) (λ ρ told. Local.mem-whole 𝓤 H A W
-              (Declared'.row Outgoing.the-type) ρ) λ ρ told. Local.whole-mem 𝓤 H A W (Declared'.row Outgoing.the-type) ρ, Path.refl,),
-              ((Yields.yields-copy 𝓤 H A W (λ ρ. Unit) (Declared'.row ActionScan.the-type) Path.refl (Copies.cStruct ActionScan.the-type
-              Laws'''.the-laws Laws'''.the-copy .copy 𝓤 H A W) (Rows.whole (Declared'.row ActionScan.the-type)) (λ x. x) (λ x. x) (λ ρ told.
+              ((Yields.yields-copy 𝓤 H A W (λ ρ. Unit) (Declared'.row Outgoing.the-type) Path.refl (Copies.cStruct Outgoing.the-type
+              Laws'''''.the-laws Laws'''''.the-copy .copy 𝓤 H A W) (Rows.whole (Declared'.row Outgoing.the-type)) (λ x. x) (λ x. x) (λ ρ told.
+              Local.mem-whole 𝓤 H A W (Declared'.row Outgoing.the-type) ρ) λ ρ told. Local.whole-mem 𝓤 H A W (Declared'.row Outgoing.the-type) ρ,
+              Path.refl,), ((Yields.yields-copy 𝓤 H A W (λ ρ. Unit) (Declared'.row ActionScan.the-type) Path.refl (Copies.cStruct ActionScan.the-type
+              Laws''''.the-laws Laws''''.the-copy .copy 𝓤 H A W) (Rows.whole (Declared'.row ActionScan.the-type)) (λ x. x) (λ x. x) (λ ρ told.
               Local.mem-whole 𝓤 H A W (Declared'.row ActionScan.the-type) ρ) λ ρ told. Local.whole-mem 𝓤 H A W (Declared'.row ActionScan.the-type) ρ,
-              Path.refl,), tt,),),),) (Reads'.room-gone 𝓤 H A Laws'.mir) tt Path.refl) d35
-          d37 : Typed.Typed 𝓤 H A 𝓣 E G16 b34 Δ0 (at37 bs)
-          d37 = Typed.s-seq 𝓤 H A W 𝓣 E G16 G17 b6 b33 Δ0 (Typed.both (s15 bs)) (at36 bs) (Plain.t-call-plain 𝓤 H A W 𝓣 0 ps·2 r·2 (claims· .4)
-              (claims· .5) "hnsr_circuit::queue::going" (known .2) E (λ pos β. β) G16 (Bool.bAt 3 λ x. x, tt) 11 List.[] (Call.sub-id 𝓤 H A W (G16
-              .slots)) ((Scalar.reads-sc 𝓤 H A W Row.sBool, Path.refl), tt) (Reads'.room-gone 𝓤 H A Laws.mir) tt Path.refl) d36
-          d38 : Typed.Typed 𝓤 H A 𝓣 E G15 b34 Δ0 (at38 bs)
-          d38 = Typed.g-pre 𝓤 H A W 𝓣 E G15 G16 b34 Δ0 (λ Ψ. Ψ) (at37 bs) (Lifetime.g-forget 𝓤 H A W E G15 3 Row.dead Path.refl) d37
-          d39 : Typed.Typed 𝓤 H A 𝓣 E G14 b34 Δ0 (at39 bs)
-          d39 = Typed.g-pre 𝓤 H A W 𝓣 E G14 G15 b34 Δ0 (Typed.pass T13 T15 (s13 bs)) (at38 bs) (Reshare.g-back-sl-shr 𝓤 H A W E InflightAction.row G14
-              1 0 3 ref3 life0 (λ x. x) (Reads'.as-is 𝓤 H A (Reshare.mslice-owedS InflightAction.row ref3 0 3 life0)) Path.refl Path.refl) d38
-          d40 : Typed.Typed 𝓤 H A 𝓣 E G13 b34 Δ0 (at40 bs)
-          d40 = Typed.g-pre 𝓤 H A W 𝓣 E G13 G14 b34 Δ0 (λ Ψ. Ψ) (at39 bs) (Lifetime.g-end 𝓤 H A W E G13 3 Path.refl) d39
-          d41 : Typed.Typed 𝓤 H A 𝓣 E G12 b34 Δ0 (at41 bs)
-          d41 = Typed.g-pre 𝓤 H A W 𝓣 E G12 G13 b34 Δ0 (Typed.pass T12 T13 (s11 bs)) (at40 bs) (Scalar.g-room 𝓤 H A W E G12 9 Laws''.mir
-              (Local.room-whole 𝓤 H A W (Declared'.row ActionQuestion.the-type) Laws''.mir Path.refl)) d40
-          d42 : Typed.Typed 𝓤 H A 𝓣 E G11 b34 Δ0 (at42 bs)
-          d42 = Typed.g-pre 𝓤 H A W 𝓣 E G11 G12 b34 Δ0 (Typed.pass T11 T12 (s10 bs)) (at41 bs) (Scalar.g-room 𝓤 H A W E G11 18 (Syntax.tyStruct (38 ∷
+              Path.refl,), tt,),),),) (Reads'.room-gone 𝓤 H A Laws''.mir) tt Path.refl) d41
+          d43 : Typed.Typed 𝓤 H A 𝓣 E G18 b40 Δ0 (at43 bs)
+          d43 = Typed.s-seq 𝓤 H A W 𝓣 E G18 G19 b8 b39 Δ0 (Typed.both (s17 bs)) (at42 bs) (Plain.t-call-plain 𝓤 H A W 𝓣 0 ps·2 r·2 (claims· .4)
+              (claims· .5) "hnsr_circuit::queue::going" (known .2) E (λ pos β. β) G18 (Bool.bAt 3 λ x. x, tt) 13 List.[] (Call.sub-id 𝓤 H A W (G18
+              .slots)) ((Scalar.reads-sc 𝓤 H A W Row.sBool, Path.refl), tt) (Reads'.room-gone 𝓤 H A Laws.mir) tt Path.refl) d42
+          d44 : Typed.Typed 𝓤 H A 𝓣 E G17 b40 Δ0 (at44 bs)
+          d44 = Typed.g-pre 𝓤 H A W 𝓣 E G17 G18 b40 Δ0 (λ Ψ. Ψ) (at43 bs) (Lifetime.g-forget 𝓤 H A W E G17 3 Row.dead Path.refl) d43
+          d45 : Typed.Typed 𝓤 H A 𝓣 E G16 b40 Δ0 (at45 bs)
+          d45 = Typed.g-pre 𝓤 H A W 𝓣 E G16 G17 b40 Δ0 (Typed.pass T15 T17 (s15 bs)) (at44 bs) (Reshare.g-back-sl-shr 𝓤 H A W E InflightAction.row G16
+              1 0 3 ref3 life0 (λ x. x) (Reads'.as-is 𝓤 H A (Reshare.mslice-owedS InflightAction.row ref3 0 3 life0)) Path.refl Path.refl) d44
+          d46 : Typed.Typed 𝓤 H A 𝓣 E G15 b40 Δ0 (at46 bs)
+          d46 = Typed.g-pre 𝓤 H A W 𝓣 E G15 G16 b40 Δ0 (λ Ψ. Ψ) (at45 bs) (Lifetime.g-end 𝓤 H A W E G15 3 Path.refl) d45
+          d47 : Typed.Typed 𝓤 H A 𝓣 E G14 b40 Δ0 (at47 bs)
+          d47 = Typed.g-pre 𝓤 H A W 𝓣 E G14 G15 b40 Δ0 (Typed.pass T14 T15 (s13 bs)) (at46 bs) (Scalar.g-room 𝓤 H A W E G14 11 Laws'''.mir
+              (Local.room-whole 𝓤 H A W (Declared'.row ActionQuestion.the-type) Laws'''.mir Path.refl)) d46
+          d48 : Typed.Typed 𝓤 H A 𝓣 E G13 b40 Δ0 (at48 bs)
+          d48 = Typed.g-pre 𝓤 H A W 𝓣 E G13 G14 b40 Δ0 (Typed.pass T13 T14 (s12 bs)) (at47 bs) (Scalar.g-room 𝓤 H A W E G13 22 (Syntax.tyStruct (38 ∷
               91 ∷ 93 ∷ List.[]) (Syntax.tcons ref0 (Syntax.tcons (Syntax.tyInt Syntax.w64) Syntax.tnil))) (Shared.room-sslice 𝓤 H A W
-              InflightAction.row ref0 3)) d41
-          d43 : Typed.Typed 𝓤 H A 𝓣 E G10 b35 Δ0 (at43 bs)
-          d43 = Typed.s-seq 𝓤 H A W 𝓣 E G10 G11 b5 b34 Δ0 (Typed.both (s9 bs)) (at42 bs) (Plain.t-call-plain 𝓤 H A W 𝓣 1 ps·1 r·1 (claims· .2)
-              (claims· .3) "hnsr_circuit::tables::inflight::scan_actions" (known .1) E (λ pos β. β) G10 (record { pos = 18; ty = Syntax.tyRef
-              Syntax.erased Syntax.imm InflightAction.to; ref = λ x. x; }, (record { pos = 9; st = List.[]; d = 0; at = λ x. x }, tt),) 10 (3 ∷
-              List.[]) (Call.sub-id 𝓤 H A W (G10 .slots)) (ShrSlice.spares-sslice 𝓤 H A W InflightAction.row ref0 3, Shared.reads-sslice 𝓤 H A W
-              InflightAction.row ref0 3, Path.refl, ((Yields.yields-copy 𝓤 H A W (λ ρ. Unit) (Declared'.row ActionQuestion.the-type) Path.refl
-              (Copies.cStruct ActionQuestion.the-type Laws''.the-laws Laws''.the-copy .copy 𝓤 H A W) (Rows.whole (Declared'.row
-              ActionQuestion.the-type)) (λ x. x) (λ x. x) (λ ρ told. Local.mem-whole 𝓤 H A W (Declared'.row ActionQuestion.the-type) ρ) λ ρ told.
-              Local.whole-mem 𝓤 H A W (Declared'.row ActionQuestion.the-type) ρ, Path.refl,), tt,),) (Reads'.room-gone 𝓤 H A Laws'''.mir) (tt, tt)
-              Path.refl) d42
-          d44 : Typed.Typed 𝓤 H A 𝓣 E G9 b36 Δ0 (at44 bs)
-          d44 = Typed.s-seq 𝓤 H A W 𝓣 E G9 G10 b4 b35 Δ0 (Typed.ask (s8 bs)) (at43 bs) (Relend.t-sl-aggregate 𝓤 H A W E InflightAction.row 𝓣
-              (Relend.asShr InflightAction.row) G9 17 18 3 ref0 ref0 (λ x. x) (Scalar.oFld 1 ((Syntax.field 1) ∷ List.[]) (Syntax.tyInt Syntax.w64) 8
+              InflightAction.row ref0 3)) d47
+          d49 : Typed.Typed 𝓤 H A 𝓣 E G12 b41 Δ0 (at49 bs)
+          d49 = Typed.s-seq 𝓤 H A W 𝓣 E G12 G13 b7 b40 Δ0 (Typed.both (s11 bs)) (at48 bs) (Plain.t-call-plain 𝓤 H A W 𝓣 1 ps·1 r·1 (claims· .2)
+              (claims· .3) "hnsr_circuit::tables::inflight::scan_actions" (known .1) E (λ pos β. β) G12 (record { pos = 22; ty = Syntax.tyRef
+              Syntax.erased Syntax.imm InflightAction.to; ref = λ x. x; }, (record { pos = 9; st = List.[]; d = 0; at = λ x. x }, (record { pos = 11;
+              st = List.[]; d = 0; at = λ x. x }, tt),),) 12 (3 ∷ List.[]) (Call.sub-id 𝓤 H A W (G12 .slots)) (ShrSlice.spares-sslice 𝓤 H A W
+              InflightAction.row ref0 3, Shared.reads-sslice 𝓤 H A W InflightAction.row ref0 3, Path.refl, ((Yields.yields-copy 𝓤 H A W (λ ρ. Unit)
+              (Declared'.row Places.the-type) Path.refl (Copies.cStruct Places.the-type Laws'.the-laws Laws'.the-copy .copy 𝓤 H A W) (Rows.whole
+              (Declared'.row Places.the-type)) (λ x. x) (λ x. x) (λ ρ told. Local.mem-whole 𝓤 H A W (Declared'.row Places.the-type) ρ) λ ρ told.
+              Local.whole-mem 𝓤 H A W (Declared'.row Places.the-type) ρ, Path.refl,), ((Yields.yields-copy 𝓤 H A W (λ ρ. Unit) (Declared'.row
+              ActionQuestion.the-type) Path.refl (Copies.cStruct ActionQuestion.the-type Laws'''.the-laws Laws'''.the-copy .copy 𝓤 H A W) (Rows.whole
+              (Declared'.row ActionQuestion.the-type)) (λ x. x) (λ x. x) (λ ρ told. Local.mem-whole 𝓤 H A W (Declared'.row ActionQuestion.the-type) ρ)
+              λ ρ told. Local.whole-mem 𝓤 H A W (Declared'.row ActionQuestion.the-type) ρ, Path.refl,), tt,),),) (Reads'.room-gone 𝓤 H A Laws''''.mir)
+              (tt, tt) Path.refl) d48
+          d50 : Typed.Typed 𝓤 H A 𝓣 E G11 b42 Δ0 (at50 bs)
+          d50 = Typed.s-seq 𝓤 H A W 𝓣 E G11 G12 b6 b41 Δ0 (Typed.ask (s10 bs)) (at49 bs) (Relend.t-sl-aggregate 𝓤 H A W E InflightAction.row 𝓣
+              (Relend.asShr InflightAction.row) G11 21 22 3 ref0 ref0 (λ x. x) (Scalar.oFld 1 ((Syntax.field 1) ∷ List.[]) (Syntax.tyInt Syntax.w64) 8
               λ v. Shared.lenV (v .0)) (Reads'.as-is 𝓤 H A (Relend.ssptr InflightAction.row ref0 3)) (Reads'.room-gone 𝓤 H A (Syntax.tyStruct (38 ∷ 91
               ∷ 93 ∷ List.[]) (Syntax.tcons ref0 (Syntax.tcons (Syntax.tyInt Syntax.w64) Syntax.tnil)))) (Reshare.reads-owedS-len 𝓤 H A W
-              InflightAction.row ref3 0 3 life0 8 Path.refl, Path.refl,) Path.refl Path.refl λ b o k. tt) d43
-          d45 : Typed.Typed 𝓤 H A 𝓣 E G8 b37 Δ0 (at45 bs)
-          d45 = Typed.s-seq 𝓤 H A W 𝓣 E G8 G9 b3 b36 Δ0 (Typed.give (s7 bs)) (at44 bs) (Reshare.t-sl-reshare 𝓤 H A W E InflightAction.row 𝓣 G8 1 17 0
-              3 ref3 ref0 life0 0 (λ x. x) (Reads'.as-is 𝓤 H A (Mut.mslice InflightAction.row ref3 0)) (Reads'.room-gone 𝓤 H A ref0) Path.refl tt
-              Path.refl Path.refl Path.refl λ b o. tt) d44
-          d46 : Typed.Typed 𝓤 H A 𝓣 E G7 b37 Δ0 (at46 bs)
-          d46 = Typed.g-pre 𝓤 H A W 𝓣 E G7 G8 b37 Δ0 (λ Ψ. Ψ) (at45 bs) (Lifetime.g-begin 𝓤 H A W E G7 3 (tt, (tt, (tt, (tt, (tt, (tt, (tt, (tt, (tt,
-              (tt, (tt, (tt, (tt, (tt, (tt, (tt, (tt, (tt, (tt, (tt, (tt, (tt, (tt, (tt, (tt, tt)))))),),),),),),),),),),),),),),),),),),),)) d45
-          d47 : Typed.Typed 𝓤 H A 𝓣 E G6 b38 Δ0 (at47 bs)
-          d47 = Typed.s-seq 𝓤 H A W 𝓣 E G6 G7 b2 b37 Δ0 (Typed.both (s5 bs)) (at46 bs) (Plain.t-call-plain 𝓤 H A W 𝓣 0 ps·0 r·0 (claims· .0) (claims·
-              .1) "hnsr_circuit::queue::asking" (known .0) E (λ pos β. β) G6 (record { pos = 7; st = List.[]; d = 0; at = λ x. x }, (record { pos = 5;
-              st = List.[]; d = 0; at = λ x. x }, tt),) 9 List.[] (Call.sub-id 𝓤 H A W (G6 .slots)) ((Yields.yields-copy 𝓤 H A W (λ ρ. Unit)
-              (Declared'.row OpaqueRelayRuntime.the-type) Path.refl (Copies.cStruct OpaqueRelayRuntime.the-type Laws'''''.the-laws Laws'''''.the-copy
-              .copy 𝓤 H A W) (Rows.whole (Declared'.row OpaqueRelayRuntime.the-type)) (λ x. x) (λ x. x) (λ ρ told. Local.mem-whole 𝓤 H A W
-              (Declared'.row OpaqueRelayRuntime.the-type) ρ) λ ρ told. Local.whole-mem 𝓤 H A W (Declared'.row OpaqueRelayRuntime.the-type) ρ,
+              InflightAction.row ref3 0 3 life0 8 Path.refl, Path.refl,) Path.refl Path.refl λ b o k. tt) d49
+          d51 : Typed.Typed 𝓤 H A 𝓣 E G10 b43 Δ0 (at51 bs)
+          d51 = Typed.s-seq 𝓤 H A W 𝓣 E G10 G11 b5 b42 Δ0 (Typed.give (s9 bs)) (at50 bs) (Reshare.t-sl-reshare 𝓤 H A W E InflightAction.row 𝓣 G10 1 21
+              0 3 ref3 ref0 life0 0 (λ x. x) (Reads'.as-is 𝓤 H A (Mut.mslice InflightAction.row ref3 0)) (Reads'.room-gone 𝓤 H A ref0) Path.refl tt
+              Path.refl Path.refl Path.refl λ b o. tt) d50
+          d52 : Typed.Typed 𝓤 H A 𝓣 E G9 b43 Δ0 (at52 bs)
+          d52 = Typed.g-pre 𝓤 H A W 𝓣 E G9 G10 b43 Δ0 (λ Ψ. Ψ) (at51 bs) (Lifetime.g-begin 𝓤 H A W E G9 3 (tt, (tt, (tt, (tt, (tt, (tt, (tt, (tt, (tt,
+              (tt, (tt, (tt, (tt, (tt, (tt, (tt, (tt, (tt, (tt, (tt, (tt, (tt, (tt, (tt, (tt, (tt, (tt, (tt, (tt,
+              tt))))),),),),),),),),),),),),),),),),),),),),),),),),)) d51
+          d53 : Typed.Typed 𝓤 H A 𝓣 E G8 b44 Δ0 (at53 bs)
+          d53 = Typed.s-seq 𝓤 H A W 𝓣 E G8 G9 b4 b43 Δ0 (Typed.both (s7 bs)) (at52 bs) (Plain.t-call-plain 𝓤 H A W 𝓣 0 ps·0 r·0 (claims· .0) (claims·
+              .1) "hnsr_circuit::queue::asking" (known .0) E (λ pos β. β) G8 (record { pos = 7; st = List.[]; d = 0; at = λ x. x }, (record { pos = 5;
+              st = List.[]; d = 0; at = λ x. x }, tt),) 11 List.[] (Call.sub-id 𝓤 H A W (G8 .slots)) ((Yields.yields-copy 𝓤 H A W (λ ρ. Unit)
+              (Declared'.row OpaqueRelayRuntime.the-type) Path.refl (Copies.cStruct OpaqueRelayRuntime.the-type Laws''''''.the-laws
+              Laws''''''.the-copy .copy 𝓤 H A W) (Rows.whole (Declared'.row OpaqueRelayRuntime.the-type)) (λ x. x) (λ x. x) (λ ρ told. Local.mem-whole
+              𝓤 H A W (Declared'.row OpaqueRelayRuntime.the-type) ρ) λ ρ told. Local.whole-mem 𝓤 H A W (Declared'.row OpaqueRelayRuntime.the-type) ρ,
               Path.refl,), ((Yields.yields-copy 𝓤 H A W (λ ρ. Unit) (Declared'.row Outgoing.the-type) Path.refl (Copies.cStruct Outgoing.the-type
-              Laws''''.the-laws Laws''''.the-copy .copy 𝓤 H A W) (Rows.whole (Declared'.row Outgoing.the-type)) (λ x. x) (λ x. x) (λ ρ told.
+              Laws'''''.the-laws Laws'''''.the-copy .copy 𝓤 H A W) (Rows.whole (Declared'.row Outgoing.the-type)) (λ x. x) (λ x. x) (λ ρ told.
               Local.mem-whole 𝓤 H A W (Declared'.row Outgoing.the-type) ρ) λ ρ told. Local.whole-mem 𝓤 H A W (Declared'.row Outgoing.the-type) ρ,
-              Path.refl,), tt,),) (Reads'.room-gone 𝓤 H A Laws''.mir) tt Path.refl) d46
-          d48 : Typed.Typed 𝓤 H A 𝓣 E G5 b38 Δ0 (at48 bs)
-          d48 = Typed.g-pre 𝓤 H A W 𝓣 E G5 G6 b38 Δ0 (Typed.pass T5 T6 (s4 bs)) (at47 bs) (Scalar.g-room 𝓤 H A W E G5 4 Laws''''''.mir
-              (Local.room-whole 𝓤 H A W (Declared'.row Sending.the-type) Laws''''''.mir Path.refl)) d47
-          d49 : Typed.Typed 𝓤 H A 𝓣 E G4 b39 Δ0 (at49 bs)
-          d49 = Typed.s-seq 𝓤 H A W 𝓣 E G4 G5 b1 b38 Δ0 (Typed.pass T4 T5 (s3 bs)) (at48 bs) (Scalar.t-use 𝓤 H A W E 𝓣 G4 (Scalar.oFld 4
-              ((Syntax.field 1) ∷ List.[]) (Syntax.tyInt Syntax.w64) 160 (Reads.fieldV Sending.the-type Laws''''''.the-laws 1)) 8 (Rows.sc-here
+              Path.refl,), tt,),) (Reads'.room-gone 𝓤 H A Laws'''.mir) tt Path.refl) d52
+          d54 : Typed.Typed 𝓤 H A 𝓣 E G7 b45 Δ0 (at54 bs)
+          d54 = Typed.s-seq 𝓤 H A W 𝓣 E G7 G8 b3 b44 Δ0 (Typed.pass T7 T8 (s6 bs)) (at53 bs) (Scalar.t-use 𝓤 H A W E 𝓣 G7 (Scalar.oFld 1
+              ((Syntax.field 1) ∷ List.[]) (Syntax.tyInt Syntax.w64) 8 Shared.lenV) 10 (Rows.sc-here (Row.sInt Syntax.w64)) (Syntax.tyInt Syntax.w64)
+              (Row.valS (Row.sInt Syntax.w64)) (Row.sInt Syntax.w64 .of) (Mut.reads-mslice-len 𝓤 H A W InflightAction.row ref3 0 8 Path.refl,
+              Path.refl,) (Reads'.room-gone 𝓤 H A (Syntax.tyInt Syntax.w64)) (Scalar.holds-sc 𝓤 H A W (Row.sInt Syntax.w64)) Path.refl (λ u.
+              Path.refl) λ u. tt) d53
+          d55 : Typed.Typed 𝓤 H A 𝓣 E G6 b45 Δ0 (at55 bs)
+          d55 = Typed.g-pre 𝓤 H A W 𝓣 E G6 G7 b45 Δ0 (Typed.pass T6 T7 (s5 bs)) (at54 bs) (Scalar.g-room 𝓤 H A W E G6 4 Laws'''''''.mir
+              (Local.room-whole 𝓤 H A W (Declared'.row Sending.the-type) Laws'''''''.mir Path.refl)) d54
+          d56 : Typed.Typed 𝓤 H A 𝓣 E G5 b46 Δ0 (at56 bs)
+          d56 = Typed.s-seq 𝓤 H A W 𝓣 E G5 G6 b2 b45 Δ0 (Typed.both (s4 bs)) (at55 bs) (WayStmt.t-way-copy-out 𝓤 H A W E 𝓣 (Declared'.row
+              Places.the-type) Path.refl (Copies.cStruct Places.the-type Laws'.the-laws Laws'.the-copy .copy 𝓤 H A W) (λ ρ. Unit) G5 (Row.out 4 (G5
+              .locals)) (λ u. Row.drop 4 (G5 .locals) u) (G5 .slots) 4 (λ t. (Syntax.field 2) ∷ t) Laws'.mir Laws'.mir 9 (Rows.whole (Declared'.row
+              Places.the-type)) (λ x. x) (λ u. At.getAt (Sending.the-type .parts) 2 (Sending.struct .as-values (u .1 .1 .1 .1 .0))) (λ u. (Row.hd 0
+              (Row.tl (Row.tl (Row.tl (Row.tl bs)))), Nat._+_ 0 168)) (λ T′. record { locals = Row.setRow 4 (4, Rows.whole (Declared'.row
+              Sending.the-type)) T′; slots = G5 .slots; }) (λ u T′ m′. Row.set 4 (4, Rows.whole (Declared'.row Sending.the-type)) (u .1 .1 .1 .1 .0)
+              T′ m′) (λ u. Unit) (λ x. Unit) (Own.told-none 𝓤 H A (G5 .slots)) (DerefMove.learns-nothing 𝓤 H A (Declared'.row Places.the-type)) (λ ρ
+              told u asked. Way'.w-partˢ 𝓤 H A W E (Declared'.row Sending.the-type) (Declared'.row Places.the-type) Laws'''''''.mir Laws'.mir 2 168 (u
+              .1 .1 .1 .1 .0) (At.getAt (Sending.the-type .parts) 2 (Sending.struct .as-values (u .1 .1 .1 .1 .0))) (Row.hd 0 (Row.tl (Row.tl (Row.tl
+              (Row.tl bs)))), 0) (Way.w-look 𝓤 H A W E (Way.w-local 𝓤 H A W E G5 ρ u (G5 .slots) 4 (Declared'.row Sending.the-type) (Rows.whole
+              (Declared'.row Sending.the-type)) (λ x. x) (λ x. x) (u .1 .1 .1 .1 .0) (Local.mem-whole 𝓤 H A W (Declared'.row Sending.the-type) ρ (u .1
+              .1 .1 .1 .0) (Row.hd 0 (Row.tl (Row.tl (Row.tl (Row.tl bs)))))) (Local.whole-mem 𝓤 H A W (Declared'.row Sending.the-type) ρ (u .1 .1 .1
+              .1 .0) (Row.hd 0 (Row.tl (Row.tl (Row.tl (Row.tl bs)))))))) Path.refl λ q. Inner.cut-record 𝓤 H A q (Declared'.row Sending.the-type)
+              Places.the-type 168 (u .1 .1 .1 .1 .0) (u .1 .1 .1 .1 .0) (At.getAt (Sending.the-type .parts) 2 (Sending.struct .as-values (u .1 .1 .1
+              .1 .0))) (At.getAt (Sending.the-type .parts) 2 (Sending.struct .as-values (u .1 .1 .1 .1 .0))) (Row.hd 0 (Row.tl (Row.tl (Row.tl (Row.tl
+              bs)))), 0) (Behind.look-at 𝓤 H A W q Sending.the-type Laws'''''''.the-laws 2 168 Path.refl Path.refl (Row.hd 0 (Row.tl (Row.tl (Row.tl
+              (Row.tl bs)))), 0) (u .1 .1 .1 .1 .0) (Sending.struct .as-values (u .1 .1 .1 .1 .0)) Path.refl)) (Reads'.room-gone 𝓤 H A Laws'.mir)
+              (Yields.makes-mem 𝓤 H A W (λ ρ. Unit) (Declared'.row Places.the-type) Path.refl (Rows.whole (Declared'.row Places.the-type)) (λ x. x) λ
+              ρ told. Local.whole-mem 𝓤 H A W (Declared'.row Places.the-type) ρ) Path.refl Path.refl Path.refl) d55
+          d57 : Typed.Typed 𝓤 H A 𝓣 E G4 b47 Δ0 (at57 bs)
+          d57 = Typed.s-seq 𝓤 H A W 𝓣 E G4 G5 b1 b46 Δ0 (Typed.pass T4 T5 (s3 bs)) (at56 bs) (Scalar.t-use 𝓤 H A W E 𝓣 G4 (Scalar.oFld 4
+              ((Syntax.field 1) ∷ List.[]) (Syntax.tyInt Syntax.w64) 160 (Reads.fieldV Sending.the-type Laws'''''''.the-laws 1)) 8 (Rows.sc-here
               (Row.sInt Syntax.w64)) (Syntax.tyInt Syntax.w64) (Row.valS (Row.sInt Syntax.w64)) (Row.sInt Syntax.w64 .of) (Reads.reads-field 𝓤 H A W
-              Sending.the-type Laws''''''.the-laws 1 (Syntax.tyInt Syntax.w64) 160 Path.refl, Path.refl,) (Reads'.room-gone 𝓤 H A (Syntax.tyInt
-              Syntax.w64)) (Scalar.holds-sc 𝓤 H A W (Row.sInt Syntax.w64)) Path.refl (λ u. Path.refl) λ u. tt) d48
-          d50 : Typed.Typed 𝓤 H A 𝓣 E G3 b40 Δ0 (at50 bs)
-          d50 = Typed.s-seq 𝓤 H A W 𝓣 E G3 G4 b0 b39 Δ0 (Typed.both (s2 bs)) (at49 bs) (WayStmt.t-way-copy-out 𝓤 H A W E 𝓣 (Declared'.row
-              OpaqueRelayRuntime.the-type) Path.refl (Copies.cStruct OpaqueRelayRuntime.the-type Laws'''''.the-laws Laws'''''.the-copy .copy 𝓤 H A W)
-              (λ ρ. Unit) G3 (Row.out 4 (G3 .locals)) (λ u. Row.drop 4 (G3 .locals) u) (G3 .slots) 4 (λ t. (Syntax.field 0) ∷ t) Laws'''''.mir
-              Laws'''''.mir 7 (Rows.whole (Declared'.row OpaqueRelayRuntime.the-type)) (λ x. x) (λ u. At.getAt (Sending.the-type .parts) 0
+              Sending.the-type Laws'''''''.the-laws 1 (Syntax.tyInt Syntax.w64) 160 Path.refl, Path.refl,) (Reads'.room-gone 𝓤 H A (Syntax.tyInt
+              Syntax.w64)) (Scalar.holds-sc 𝓤 H A W (Row.sInt Syntax.w64)) Path.refl (λ u. Path.refl) λ u. tt) d56
+          d58 : Typed.Typed 𝓤 H A 𝓣 E G3 b48 Δ0 (at58 bs)
+          d58 = Typed.s-seq 𝓤 H A W 𝓣 E G3 G4 b0 b47 Δ0 (Typed.both (s2 bs)) (at57 bs) (WayStmt.t-way-copy-out 𝓤 H A W E 𝓣 (Declared'.row
+              OpaqueRelayRuntime.the-type) Path.refl (Copies.cStruct OpaqueRelayRuntime.the-type Laws''''''.the-laws Laws''''''.the-copy .copy 𝓤 H A
+              W) (λ ρ. Unit) G3 (Row.out 4 (G3 .locals)) (λ u. Row.drop 4 (G3 .locals) u) (G3 .slots) 4 (λ t. (Syntax.field 0) ∷ t) Laws''''''.mir
+              Laws''''''.mir 7 (Rows.whole (Declared'.row OpaqueRelayRuntime.the-type)) (λ x. x) (λ u. At.getAt (Sending.the-type .parts) 0
               (Sending.struct .as-values (u .1 .1 .1 .1 .0))) (λ u. (Row.hd 0 (Row.tl (Row.tl (Row.tl (Row.tl bs)))), Nat._+_ 0 0)) (λ T′. record {
               locals = Row.setRow 4 (4, Rows.whole (Declared'.row Sending.the-type)) T′; slots = G3 .slots; }) (λ u T′ m′. Row.set 4 (4, Rows.whole
               (Declared'.row Sending.the-type)) (u .1 .1 .1 .1 .0) T′ m′) (λ u. Unit) (λ x. Unit) (Own.told-none 𝓤 H A (G3 .slots))
               (DerefMove.learns-nothing 𝓤 H A (Declared'.row OpaqueRelayRuntime.the-type)) (λ ρ told u asked. Way'.w-partˢ 𝓤 H A W E (Declared'.row
-              Sending.the-type) (Declared'.row OpaqueRelayRuntime.the-type) Laws''''''.mir Laws'''''.mir 0 0 (u .1 .1 .1 .1 .0) (At.getAt
+              Sending.the-type) (Declared'.row OpaqueRelayRuntime.the-type) Laws'''''''.mir Laws''''''.mir 0 0 (u .1 .1 .1 .1 .0) (At.getAt
               (Sending.the-type .parts) 0 (Sending.struct .as-values (u .1 .1 .1 .1 .0))) (Row.hd 0 (Row.tl (Row.tl (Row.tl (Row.tl bs)))), 0)
               (Way.w-look 𝓤 H A W E (Way.w-local 𝓤 H A W E G3 ρ u (G3 .slots) 4 (Declared'.row Sending.the-type) (Rows.whole (Declared'.row
               Sending.the-type)) (λ x. x) (λ x. x) (u .1 .1 .1 .1 .0) (Local.mem-whole 𝓤 H A W (Declared'.row Sending.the-type) ρ (u .1 .1 .1 .1 .0)
@@ -1309,37 +1524,37 @@ module _ (claims· : Claims) where
               (Row.hd 0 (Row.tl (Row.tl (Row.tl (Row.tl bs)))))))) Path.refl λ q. Inner.cut-record 𝓤 H A q (Declared'.row Sending.the-type)
               OpaqueRelayRuntime.the-type 0 (u .1 .1 .1 .1 .0) (u .1 .1 .1 .1 .0) (At.getAt (Sending.the-type .parts) 0 (Sending.struct .as-values (u
               .1 .1 .1 .1 .0))) (At.getAt (Sending.the-type .parts) 0 (Sending.struct .as-values (u .1 .1 .1 .1 .0))) (Row.hd 0 (Row.tl (Row.tl
-              (Row.tl (Row.tl bs)))), 0) (Behind.look-at 𝓤 H A W q Sending.the-type Laws''''''.the-laws 0 0 Path.refl Path.refl (Row.hd 0 (Row.tl
+              (Row.tl (Row.tl bs)))), 0) (Behind.look-at 𝓤 H A W q Sending.the-type Laws'''''''.the-laws 0 0 Path.refl Path.refl (Row.hd 0 (Row.tl
               (Row.tl (Row.tl (Row.tl bs)))), 0,) (u .1 .1 .1 .1 .0) (Sending.struct .as-values (u .1 .1 .1 .1 .0)) Path.refl)) (Reads'.room-gone 𝓤 H
-              A Laws'''''.mir) (Yields.makes-mem 𝓤 H A W (λ ρ. Unit) (Declared'.row OpaqueRelayRuntime.the-type) Path.refl (Rows.whole (Declared'.row
+              A Laws''''''.mir) (Yields.makes-mem 𝓤 H A W (λ ρ. Unit) (Declared'.row OpaqueRelayRuntime.the-type) Path.refl (Rows.whole (Declared'.row
               OpaqueRelayRuntime.the-type)) (λ x. x) λ ρ told. Local.whole-mem 𝓤 H A W (Declared'.row OpaqueRelayRuntime.the-type) ρ) Path.refl
-              Path.refl Path.refl) d49
-          d51 : Typed.Typed 𝓤 H A 𝓣 E G2 b40 Δ0 (at51 bs)
-          d51 = Typed.g-pre 𝓤 H A W 𝓣 E G2 G3 b40 Δ0 (Typed.give (s1 bs)) (at50 bs) (Know.g-shs-known 𝓤 H A W (Referent.fInt Syntax.w8) E G2 6 2 ref5
+              Path.refl Path.refl) d57
+          d59 : Typed.Typed 𝓤 H A 𝓣 E G2 b48 Δ0 (at59 bs)
+          d59 = Typed.g-pre 𝓤 H A W 𝓣 E G2 G3 b48 Δ0 (Typed.give (s1 bs)) (at58 bs) (Know.g-shs-known 𝓤 H A W (Referent.fInt Syntax.w8) E G2 6 2 ref5
               life2 0 (λ x. x) record { fits = Dec.lit< tt } (Reads'.as-is 𝓤 H A (Rows.sslice (Referent.rtF (Referent.fInt Syntax.w8)) ref5 2))
-              Path.refl tt) d50
-          d52 : Typed.Typed 𝓤 H A 𝓣 E G0 b40 Δ0 (at52 bs)
-          d52 = Typed.g-pre 𝓤 H A W 𝓣 E G0 G2 b40 Δ0 (Typed.give (s0 bs)) (at51 bs) (Know.g-sl-known 𝓤 H A W (Referent.fInt Syntax.w32) E G0 2 1 ref4
+              Path.refl tt) d58
+          d60 : Typed.Typed 𝓤 H A 𝓣 E G0 b48 Δ0 (at60 bs)
+          d60 = Typed.g-pre 𝓤 H A W 𝓣 E G0 G2 b48 Δ0 (Typed.give (s0 bs)) (at59 bs) (Know.g-sl-known 𝓤 H A W (Referent.fInt Syntax.w32) E G0 2 1 ref4
               life1 0 (λ x. x) record { fits = Dec.lit< tt } (Reads'.as-is 𝓤 H A (Mut.mslice (Referent.rtF (Referent.fInt Syntax.w32)) ref4 1))
-              Path.refl tt) d51
-          pub typed : Typed.Typed 𝓤 H A 𝓣 E (Function.Γin 3 ps r xs m κs qs) b40 (Function.Δret 3 ps r xs m κs qs) (Φ bs)
-          typed = d52
+              Path.refl tt) d59
+          pub typed : Typed.Typed 𝓤 H A 𝓣 E (Function.Γin 3 ps r xs m κs qs) b48 (Function.Δret 3 ps r xs m κs qs) (Φ bs)
+          typed = d60
       module _ (κs : Lifetimes.Lfts 3) where
         pub record Args : Type 0 where
           pub inflight : Kinds.Den { n = 3 } κs (MutSlice.pMutS InflightAction.row 0 tt)
           pub out : Kinds.Den { n = 3 } κs (MutSlice.pMutS (Referent.rtF (Referent.fInt Syntax.w32)) 1 tt)
           pub go : Kinds.Den { n = 3 } κs Bool.pBool
-          pub sending : Kinds.Den { n = 3 } κs (Value.pVal record { ty = Declared'.row Sending.the-type; one = Path.refl; val = Laws''''''''.val
-              Sending.the-type Laws''''''.the-laws; tells = Laws''''''''.tells Sending.the-type Laws''''''.the-laws; still = Laws''''''''.still
-              Sending.the-type Laws''''''.the-copy Exit.yes; row = Rows.whole (Declared'.row Sending.the-type); rd = λ x. x; mk = λ x. x; } λ M 𝓤 H A
-              W. record { copies = Laws''''''''.copy Sending.the-type Laws''''''.the-copy 𝓤 H A W; lawful = Laws''''''''.lawful Sending.the-type
-              Laws''''''.the-laws 𝓤 H A W; makes = Laws''''''''.makes Sending.the-type Laws''''''.the-plain 𝓤 H A; in-mem = Local.mem-whole 𝓤 H A W
+          pub sending : Kinds.Den { n = 3 } κs (Value.pVal record { ty = Declared'.row Sending.the-type; one = Path.refl; val = Laws'''''''''.val
+              Sending.the-type Laws'''''''.the-laws; tells = Laws'''''''''.tells Sending.the-type Laws'''''''.the-laws; still = Laws'''''''''.still
+              Sending.the-type Laws'''''''.the-copy Exit.yes; row = Rows.whole (Declared'.row Sending.the-type); rd = λ x. x; mk = λ x. x; } λ M 𝓤 H A
+              W. record { copies = Laws'''''''''.copy Sending.the-type Laws'''''''.the-copy 𝓤 H A W; lawful = Laws'''''''''.lawful Sending.the-type
+              Laws'''''''.the-laws 𝓤 H A W; makes = Laws'''''''''.makes Sending.the-type Laws'''''''.the-plain 𝓤 H A; in-mem = Local.mem-whole 𝓤 H A W
               (Declared'.row Sending.the-type); of-mem = Local.whole-mem 𝓤 H A W (Declared'.row Sending.the-type); })
-          pub message : Kinds.Den { n = 3 } κs (Value.pVal record { ty = Declared'.row Outgoing.the-type; one = Path.refl; val = Laws''''''''.val
-              Outgoing.the-type Laws''''.the-laws; tells = Laws''''''''.tells Outgoing.the-type Laws''''.the-laws; still = Laws''''''''.still
-              Outgoing.the-type Laws''''.the-copy Exit.yes; row = Rows.whole (Declared'.row Outgoing.the-type); rd = λ x. x; mk = λ x. x; } λ M 𝓤 H A
-              W. record { copies = Laws''''''''.copy Outgoing.the-type Laws''''.the-copy 𝓤 H A W; lawful = Laws''''''''.lawful Outgoing.the-type
-              Laws''''.the-laws 𝓤 H A W; makes = Laws''''''''.makes Outgoing.the-type Laws''''.the-plain 𝓤 H A; in-mem = Local.mem-whole 𝓤 H A W
+          pub message : Kinds.Den { n = 3 } κs (Value.pVal record { ty = Declared'.row Outgoing.the-type; one = Path.refl; val = Laws'''''''''.val
+              Outgoing.the-type Laws'''''.the-laws; tells = Laws'''''''''.tells Outgoing.the-type Laws'''''.the-laws; still = Laws'''''''''.still
+              Outgoing.the-type Laws'''''.the-copy Exit.yes; row = Rows.whole (Declared'.row Outgoing.the-type); rd = λ x. x; mk = λ x. x; } λ M 𝓤 H A
+              W. record { copies = Laws'''''''''.copy Outgoing.the-type Laws'''''.the-copy 𝓤 H A W; lawful = Laws'''''''''.lawful Outgoing.the-type
+              Laws'''''.the-laws 𝓤 H A W; makes = Laws'''''''''.makes Outgoing.the-type Laws'''''.the-plain 𝓤 H A; in-mem = Local.mem-whole 𝓤 H A W
               (Declared'.row Outgoing.the-type); of-mem = Local.whole-mem 𝓤 H A W (Declared'.row Outgoing.the-type); })
           pub body : Kinds.Den { n = 3 } κs (ShrSlice.pShrS (Referent.rtF (Referent.fInt Syntax.w8)) 2 tt)
         abbrev pub dens : (a : Args) → Kinds.Dens κs ps
@@ -1378,509 +1593,616 @@ module _ (claims· : Claims) where
       abbrev pub m4 : (before : After-shared-slice-known) → (given : s2 (before .before .before .blocks) .gives (m2 (before .before) (before
           .shared-slice-known .given))) → Typed.Mo T5
       m4 = λ before given. s3 (before .before .before .blocks) (m3 before given)
-      abbrev pub m5 : (before : After-shared-slice-known) → (given : s2 (before .before .before .blocks) .gives (m2 (before .before) (before
-          .shared-slice-known .given))) → Typed.Mo T6
-      m5 = λ before given. s4 (before .before .before .blocks) (m4 before given)
       module _ (before· : After-shared-slice-known) where
         pub record After-runtime·own : Type 0 where
           pub given : s2 (before· .before .before .blocks) .gives (m2 (before· .before) (before· .shared-slice-known .given))
       pub record After-runtime : Type 0 where
         pub before : After-shared-slice-known
         pub runtime : After-runtime·own before
-      abbrev pub Need-asking-requires : Type 0
-      Need-asking-requires = (c : After-runtime) → s5 (c .before .before .before .blocks) .asks (m5 (c .before) (c .runtime .given))
-      abbrev pub m6 : (before : After-runtime) → (given : s5 (before .before .before .before .blocks) .gives (m5 (before .before) (before .runtime
+      abbrev pub m5 : (before : After-runtime) → (given : s4 (before .before .before .before .blocks) .gives (m4 (before .before) (before .runtime
+          .given))) → Typed.Mo T6
+      m5 = λ before given. s4 (before .before .before .before .blocks) .next (m4 (before .before) (before .runtime .given)) given
+      abbrev pub m6 : (before : After-runtime) → (given : s4 (before .before .before .before .blocks) .gives (m4 (before .before) (before .runtime
           .given))) → Typed.Mo T7
-      m6 = λ before given. s5 (before .before .before .before .blocks) .next (m5 (before .before) (before .runtime .given)) given
+      m6 = λ before given. s5 (before .before .before .before .blocks) (m5 before given)
+      abbrev pub m7 : (before : After-runtime) → (given : s4 (before .before .before .before .blocks) .gives (m4 (before .before) (before .runtime
+          .given))) → Typed.Mo T8
+      m7 = λ before given. s6 (before .before .before .before .blocks) (m6 before given)
       module _ (before· : After-runtime) where
-        abbrev pub After-asking·own : Type 0
-        After-asking·own = Called.Called ps·0 r·0 (claims· .1) T6 (record { pos = 7; st = List.[]; d = 0; at = λ x. x }, (record { pos = 5; st =
-            List.[]; d = 0; at = λ x. x }, tt),) (m5 (before· .before) (before· .runtime .given))
-      pub record After-asking : Type 0 where
+        pub record After-places·own : Type 0 where
+          pub given : s4 (before· .before .before .before .blocks) .gives (m4 (before· .before) (before· .runtime .given))
+      pub record After-places : Type 0 where
         pub before : After-runtime
+        pub places : After-places·own before
+      abbrev pub Need-asking-requires : Type 0
+      Need-asking-requires = (c : After-places) → s7 (c .before .before .before .before .blocks) .asks (m7 (c .before) (c .places .given))
+      abbrev pub m8 : (before : After-places) → (given : s7 (before .before .before .before .before .blocks) .gives (m7 (before .before) (before
+          .places .given))) → Typed.Mo T9
+      m8 = λ before given. s7 (before .before .before .before .before .blocks) .next (m7 (before .before) (before .places .given)) given
+      module _ (before· : After-places) where
+        abbrev pub After-asking·own : Type 0
+        After-asking·own = Called.Called ps·0 r·0 (claims· .1) T8 (record { pos = 7; st = List.[]; d = 0; at = λ x. x }, (record { pos = 5; st =
+            List.[]; d = 0; at = λ x. x }, tt),) (m7 (before· .before) (before· .places .given))
+      pub record After-asking : Type 0 where
+        pub before : After-places
         pub asking : After-asking·own before
-      abbrev pub After-asking·gave : (c : After-asking) → s5 (c .before .before .before .before .blocks) .gives (m5 (c .before .before) (c .before
-          .runtime .given))
-      After-asking·gave = λ c. Called.given ps·0 r·0 (claims· .1) T6 (record { pos = 7; st = List.[]; d = 0; at = λ x. x }, (record { pos = 5; st =
-          List.[]; d = 0; at = λ x. x }, tt),) (m5 (c .before .before) (c .before .runtime .given)) (c .asking)
-      abbrev pub m7 : (before : After-asking) → (given : s7 (before .before .before .before .before .blocks) .gives (m6 (before .before)
-          (After-asking·gave before))) → Typed.Mo T9
-      m7 = λ before given. s7 (before .before .before .before .before .blocks) .next (m6 (before .before) (After-asking·gave before)) given
-      abbrev pub m8 : (before : After-asking) → (given : s7 (before .before .before .before .before .blocks) .gives (m6 (before .before)
-          (After-asking·gave before))) → Typed.Mo T10
-      m8 = λ before given. s8 (before .before .before .before .before .blocks) .next (m7 before given)
+      abbrev pub After-asking·gave : (c : After-asking) → s7 (c .before .before .before .before .before .blocks) .gives (m7 (c .before .before) (c
+          .before .places .given))
+      After-asking·gave = λ c. Called.given ps·0 r·0 (claims· .1) T8 (record { pos = 7; st = List.[]; d = 0; at = λ x. x }, (record { pos = 5; st =
+          List.[]; d = 0; at = λ x. x }, tt),) (m7 (c .before .before) (c .before .places .given)) (c .asking)
+      abbrev pub m9 : (before : After-asking) → (given : s9 (before .before .before .before .before .before .blocks) .gives (m8 (before .before)
+          (After-asking·gave before))) → Typed.Mo T11
+      m9 = λ before given. s9 (before .before .before .before .before .before .blocks) .next (m8 (before .before) (After-asking·gave before)) given
+      abbrev pub m10 : (before : After-asking) → (given : s9 (before .before .before .before .before .before .blocks) .gives (m8 (before .before)
+          (After-asking·gave before))) → Typed.Mo T12
+      m10 = λ before given. s10 (before .before .before .before .before .before .blocks) .next (m9 before given)
       module _ (before· : After-asking) where
         pub record After-scan-actions-arg·own : Type 0 where
-          pub given : s7 (before· .before .before .before .before .blocks) .gives (m6 (before· .before) (After-asking·gave before·))
+          pub given : s9 (before· .before .before .before .before .before .blocks) .gives (m8 (before· .before) (After-asking·gave before·))
       pub record After-scan-actions-arg : Type 0 where
         pub before : After-asking
         pub scan-actions-arg : After-scan-actions-arg·own before
       abbrev pub Need-scan-actions-requires : Type 0
-      Need-scan-actions-requires = (c : After-scan-actions-arg) → s9 (c .before .before .before .before .before .blocks) .asks (m8 (c .before) (c
-          .scan-actions-arg .given))
-      abbrev pub m9 : (before : After-scan-actions-arg) → (given : s9 (before .before .before .before .before .before .blocks) .gives (m8 (before
-          .before) (before .scan-actions-arg .given))) → Typed.Mo T11
-      m9 = λ before given. s9 (before .before .before .before .before .before .blocks) .next (m8 (before .before) (before .scan-actions-arg .given))
-          given
+      Need-scan-actions-requires = (c : After-scan-actions-arg) → s11 (c .before .before .before .before .before .before .blocks) .asks (m10 (c
+          .before) (c .scan-actions-arg .given))
+      abbrev pub m11 : (before : After-scan-actions-arg) → (given : s11 (before .before .before .before .before .before .before .blocks) .gives (m10
+          (before .before) (before .scan-actions-arg .given))) → Typed.Mo T13
+      m11 = λ before given. s11 (before .before .before .before .before .before .before .blocks) .next (m10 (before .before) (before .scan-actions-arg
+          .given)) given
       module _ (before· : After-scan-actions-arg) where
         abbrev pub After-scan-actions·own : Type 0
-        After-scan-actions·own = Called.Called ps·1 r·1 (claims· .3) T10 (record { pos = 18; ty = Syntax.tyRef Syntax.erased Syntax.imm
-            InflightAction.to; ref = λ x. x; }, (record { pos = 9; st = List.[]; d = 0; at = λ x. x }, tt),) (m8 (before· .before) (before·
-            .scan-actions-arg .given))
+        After-scan-actions·own = Called.Called ps·1 r·1 (claims· .3) T12 (record { pos = 22; ty = Syntax.tyRef Syntax.erased Syntax.imm
+            InflightAction.to; ref = λ x. x; }, (record { pos = 9; st = List.[]; d = 0; at = λ x. x }, (record { pos = 11; st = List.[]; d = 0; at = λ
+            x. x }, tt),),) (m10 (before· .before) (before· .scan-actions-arg .given))
       pub record After-scan-actions : Type 0 where
         pub before : After-scan-actions-arg
         pub scan-actions : After-scan-actions·own before
-      abbrev pub After-scan-actions·gave : (c : After-scan-actions) → s9 (c .before .before .before .before .before .before .blocks) .gives (m8 (c
-          .before .before) (c .before .scan-actions-arg .given))
-      After-scan-actions·gave = λ c. Called.given ps·1 r·1 (claims· .3) T10 (record { pos = 18; ty = Syntax.tyRef Syntax.erased Syntax.imm
-          InflightAction.to; ref = λ x. x; }, (record { pos = 9; st = List.[]; d = 0; at = λ x. x }, tt),) (m8 (c .before .before) (c .before
-          .scan-actions-arg .given)) (c .scan-actions)
-      abbrev pub m10 : (before : After-scan-actions-arg) → (given : s9 (before .before .before .before .before .before .blocks) .gives (m8 (before
-          .before) (before .scan-actions-arg .given))) → Typed.Mo T12
-      m10 = λ before given. s10 (before .before .before .before .before .before .blocks) (m9 before given)
-      abbrev pub m11 : (before : After-scan-actions-arg) → (given : s9 (before .before .before .before .before .before .blocks) .gives (m8 (before
-          .before) (before .scan-actions-arg .given))) → Typed.Mo T13
-      m11 = λ before given. s11 (before .before .before .before .before .before .blocks) (m10 before given)
-      abbrev pub m12 : (before : After-scan-actions-arg) → (given : s9 (before .before .before .before .before .before .blocks) .gives (m8 (before
-          .before) (before .scan-actions-arg .given))) → Typed.Mo T15
-      m12 = λ before given. s13 (before .before .before .before .before .before .blocks) (m11 before given)
+      abbrev pub After-scan-actions·gave : (c : After-scan-actions) → s11 (c .before .before .before .before .before .before .before .blocks) .gives
+          (m10 (c .before .before) (c .before .scan-actions-arg .given))
+      After-scan-actions·gave = λ c. Called.given ps·1 r·1 (claims· .3) T12 (record { pos = 22; ty = Syntax.tyRef Syntax.erased Syntax.imm
+          InflightAction.to; ref = λ x. x; }, (record { pos = 9; st = List.[]; d = 0; at = λ x. x }, (record { pos = 11; st = List.[]; d = 0; at = λ
+          x. x }, tt),),) (m10 (c .before .before) (c .before .scan-actions-arg .given)) (c .scan-actions)
+      abbrev pub m12 : (before : After-scan-actions-arg) → (given : s11 (before .before .before .before .before .before .before .blocks) .gives (m10
+          (before .before) (before .scan-actions-arg .given))) → Typed.Mo T14
+      m12 = λ before given. s12 (before .before .before .before .before .before .before .blocks) (m11 before given)
+      abbrev pub m13 : (before : After-scan-actions-arg) → (given : s11 (before .before .before .before .before .before .before .blocks) .gives (m10
+          (before .before) (before .scan-actions-arg .given))) → Typed.Mo T15
+      m13 = λ before given. s13 (before .before .before .before .before .before .before .blocks) (m12 before given)
+      abbrev pub m14 : (before : After-scan-actions-arg) → (given : s11 (before .before .before .before .before .before .before .blocks) .gives (m10
+          (before .before) (before .scan-actions-arg .given))) → Typed.Mo T17
+      m14 = λ before given. s15 (before .before .before .before .before .before .before .blocks) (m13 before given)
       abbrev pub Need-going-requires : Type 0
-      Need-going-requires = (c : After-scan-actions) → s15 (c .before .before .before .before .before .before .blocks) .asks (m12 (c .before)
+      Need-going-requires = (c : After-scan-actions) → s17 (c .before .before .before .before .before .before .before .blocks) .asks (m14 (c .before)
           (After-scan-actions·gave c))
-      abbrev pub m13 : (before : After-scan-actions) → (given : s15 (before .before .before .before .before .before .before .blocks) .gives (m12
-          (before .before) (After-scan-actions·gave before))) → Typed.Mo T17
-      m13 = λ before given. s15 (before .before .before .before .before .before .before .blocks) .next (m12 (before .before) (After-scan-actions·gave
-          before)) given
+      abbrev pub m15 : (before : After-scan-actions) → (given : s17 (before .before .before .before .before .before .before .before .blocks) .gives
+          (m14 (before .before) (After-scan-actions·gave before))) → Typed.Mo T19
+      m15 = λ before given. s17 (before .before .before .before .before .before .before .before .blocks) .next (m14 (before .before)
+          (After-scan-actions·gave before)) given
       module _ (before· : After-scan-actions) where
         abbrev pub After-going·own : Type 0
-        After-going·own = Called.Called ps·2 r·2 (claims· .5) T15 (Bool.bAt 3 λ x. x, tt) (m12 (before· .before) (After-scan-actions·gave before·))
+        After-going·own = Called.Called ps·2 r·2 (claims· .5) T17 (Bool.bAt 3 λ x. x, tt) (m14 (before· .before) (After-scan-actions·gave before·))
       pub record After-going : Type 0 where
         pub before : After-scan-actions
         pub going : After-going·own before
-      abbrev pub After-going·gave : (c : After-going) → s15 (c .before .before .before .before .before .before .before .blocks) .gives (m12 (c .before
-          .before) (After-scan-actions·gave (c .before)))
-      After-going·gave = λ c. Called.given ps·2 r·2 (claims· .5) T15 (Bool.bAt 3 λ x. x, tt) (m12 (c .before .before) (After-scan-actions·gave (c
+      abbrev pub After-going·gave : (c : After-going) → s17 (c .before .before .before .before .before .before .before .before .blocks) .gives (m14 (c
+          .before .before) (After-scan-actions·gave (c .before)))
+      After-going·gave = λ c. Called.given ps·2 r·2 (claims· .5) T17 (Bool.bAt 3 λ x. x, tt) (m14 (c .before .before) (After-scan-actions·gave (c
           .before))) (c .going)
       abbrev pub Need-queue-requires : Type 0
-      Need-queue-requires = (c : After-going) → s16 (c .before .before .before .before .before .before .before .blocks) .asks (m13 (c .before)
+      Need-queue-requires = (c : After-going) → s18 (c .before .before .before .before .before .before .before .before .blocks) .asks (m15 (c .before)
           (After-going·gave c))
-      abbrev pub m14 : (before : After-going) → (given : s16 (before .before .before .before .before .before .before .before .blocks) .gives (m13
-          (before .before) (After-going·gave before))) → Typed.Mo T18
-      m14 = λ before given. s16 (before .before .before .before .before .before .before .before .blocks) .next (m13 (before .before) (After-going·gave
-          before)) given
+      abbrev pub m16 : (before : After-going) → (given : s18 (before .before .before .before .before .before .before .before .before .blocks) .gives
+          (m15 (before .before) (After-going·gave before))) → Typed.Mo T20
+      m16 = λ before given. s18 (before .before .before .before .before .before .before .before .before .blocks) .next (m15 (before .before)
+          (After-going·gave before)) given
       module _ (before· : After-going) where
         abbrev pub After-queue·own : Type 0
-        After-queue·own = Called.Called ps·3 r·3 (claims· .7) T17 (record { pos = 11; st = List.[]; d = 0; at = λ x. x }, (record { pos = 7; st =
-            List.[]; d = 0; at = λ x. x }, (record { pos = 5; st = List.[]; d = 0; at = λ x. x }, (record { pos = 10; st = List.[]; d = 0; at = λ x. x
-            }, tt),),),) (m13 (before· .before) (After-going·gave before·))
+        After-queue·own = Called.Called ps·3 r·3 (claims· .7) T19 (record { pos = 13; st = List.[]; d = 0; at = λ x. x }, (record { pos = 7; st =
+            List.[]; d = 0; at = λ x. x }, (record { pos = 5; st = List.[]; d = 0; at = λ x. x }, (record { pos = 12; st = List.[]; d = 0; at = λ x. x
+            }, tt),),),) (m15 (before· .before) (After-going·gave before·))
       pub record After-queue : Type 0 where
         pub before : After-going
         pub queue : After-queue·own before
-      abbrev pub After-queue·gave : (c : After-queue) → s16 (c .before .before .before .before .before .before .before .before .blocks) .gives (m13 (c
-          .before .before) (After-going·gave (c .before)))
-      After-queue·gave = λ c. Called.given ps·3 r·3 (claims· .7) T17 (record { pos = 11; st = List.[]; d = 0; at = λ x. x }, (record { pos = 7; st =
-          List.[]; d = 0; at = λ x. x }, (record { pos = 5; st = List.[]; d = 0; at = λ x. x }, (record { pos = 10; st = List.[]; d = 0; at = λ x. x
-          }, tt),),),) (m13 (c .before .before) (After-going·gave (c .before))) (c .queue)
-      abbrev pub m15 : (before : After-going) → (given : s16 (before .before .before .before .before .before .before .before .blocks) .gives (m13
-          (before .before) (After-going·gave before))) → Typed.Mo T19
-      m15 = λ before given. s17 (before .before .before .before .before .before .before .before .blocks) (m14 before given)
-      abbrev pub m16 : (before : After-going) → (given : s16 (before .before .before .before .before .before .before .before .blocks) .gives (m13
-          (before .before) (After-going·gave before))) → Typed.Mo T20
-      m16 = λ before given. s18 (before .before .before .before .before .before .before .before .blocks) (m15 before given)
+      abbrev pub After-queue·gave : (c : After-queue) → s18 (c .before .before .before .before .before .before .before .before .before .blocks) .gives
+          (m15 (c .before .before) (After-going·gave (c .before)))
+      After-queue·gave = λ c. Called.given ps·3 r·3 (claims· .7) T19 (record { pos = 13; st = List.[]; d = 0; at = λ x. x }, (record { pos = 7; st =
+          List.[]; d = 0; at = λ x. x }, (record { pos = 5; st = List.[]; d = 0; at = λ x. x }, (record { pos = 12; st = List.[]; d = 0; at = λ x. x
+          }, tt),),),) (m15 (c .before .before) (After-going·gave (c .before))) (c .queue)
+      abbrev pub m17 : (before : After-going) → (given : s18 (before .before .before .before .before .before .before .before .before .blocks) .gives
+          (m15 (before .before) (After-going·gave before))) → Typed.Mo T21
+      m17 = λ before given. s19 (before .before .before .before .before .before .before .before .before .blocks) (m16 before given)
+      abbrev pub m18 : (before : After-going) → (given : s18 (before .before .before .before .before .before .before .before .before .blocks) .gives
+          (m15 (before .before) (After-going·gave before))) → Typed.Mo T22
+      m18 = λ before given. s20 (before .before .before .before .before .before .before .before .before .blocks) (m17 before given)
       abbrev pub Need-queued-action-requires : Type 0
-      Need-queued-action-requires = (c : After-queue) → s19 (c .before .before .before .before .before .before .before .before .blocks) .asks (m16 (c
-          .before) (After-queue·gave c))
-      abbrev pub m17 : (before : After-queue) → (given : s19 (before .before .before .before .before .before .before .before .before .blocks) .gives
-          (m16 (before .before) (After-queue·gave before))) → Typed.Mo T21
-      m17 = λ before given. s19 (before .before .before .before .before .before .before .before .before .blocks) .next (m16 (before .before)
+      Need-queued-action-requires = (c : After-queue) → s21 (c .before .before .before .before .before .before .before .before .before .blocks) .asks
+          (m18 (c .before) (After-queue·gave c))
+      abbrev pub m19 : (before : After-queue) → (given : s21 (before .before .before .before .before .before .before .before .before .before .blocks)
+          .gives (m18 (before .before) (After-queue·gave before))) → Typed.Mo T23
+      m19 = λ before given. s21 (before .before .before .before .before .before .before .before .before .before .blocks) .next (m18 (before .before)
           (After-queue·gave before)) given
       module _ (before· : After-queue) where
         abbrev pub After-queued-action·own : Type 0
-        After-queued-action·own = Called.Called ps·4 r·4 (claims· .9) T20 (record { pos = 12; st = List.[]; d = 0; at = λ x. x }, tt,) (m16 (before·
+        After-queued-action·own = Called.Called ps·4 r·4 (claims· .9) T22 (record { pos = 14; st = List.[]; d = 0; at = λ x. x }, tt,) (m18 (before·
             .before) (After-queue·gave before·))
       pub record After-queued-action : Type 0 where
         pub before : After-queue
         pub queued-action : After-queued-action·own before
-      abbrev pub After-queued-action·gave : (c : After-queued-action) → s19 (c .before .before .before .before .before .before .before .before .before
-          .blocks) .gives (m16 (c .before .before) (After-queue·gave (c .before)))
-      After-queued-action·gave = λ c. Called.given ps·4 r·4 (claims· .9) T20 (record { pos = 12; st = List.[]; d = 0; at = λ x. x }, tt,) (m16 (c
+      abbrev pub After-queued-action·gave : (c : After-queued-action) → s21 (c .before .before .before .before .before .before .before .before .before
+          .before .blocks) .gives (m18 (c .before .before) (After-queue·gave (c .before)))
+      After-queued-action·gave = λ c. Called.given ps·4 r·4 (claims· .9) T22 (record { pos = 14; st = List.[]; d = 0; at = λ x. x }, tt,) (m18 (c
           .before .before) (After-queue·gave (c .before))) (c .queued-action)
       abbrev pub Need-queued-go-requires : Type 0
-      Need-queued-go-requires = (c : After-queued-action) → s20 (c .before .before .before .before .before .before .before .before .before .blocks)
-          .asks (m17 (c .before) (After-queued-action·gave c))
-      abbrev pub m18 : (before : After-queued-action) → (given : s20 (before .before .before .before .before .before .before .before .before .before
-          .blocks) .gives (m17 (before .before) (After-queued-action·gave before))) → Typed.Mo T22
-      m18 = λ before given. s20 (before .before .before .before .before .before .before .before .before .before .blocks) .next (m17 (before .before)
-          (After-queued-action·gave before)) given
+      Need-queued-go-requires = (c : After-queued-action) → s22 (c .before .before .before .before .before .before .before .before .before .before
+          .blocks) .asks (m19 (c .before) (After-queued-action·gave c))
+      abbrev pub m20 : (before : After-queued-action) → (given : s22 (before .before .before .before .before .before .before .before .before .before
+          .before .blocks) .gives (m19 (before .before) (After-queued-action·gave before))) → Typed.Mo T24
+      m20 = λ before given. s22 (before .before .before .before .before .before .before .before .before .before .before .blocks) .next (m19 (before
+          .before) (After-queued-action·gave before)) given
       module _ (before· : After-queued-action) where
         abbrev pub After-queued-go·own : Type 0
-        After-queued-go·own = Called.Called ps·5 r·5 (claims· .11) T21 (record { pos = 12; st = List.[]; d = 0; at = λ x. x }, tt,) (m17 (before·
+        After-queued-go·own = Called.Called ps·5 r·5 (claims· .11) T23 (record { pos = 14; st = List.[]; d = 0; at = λ x. x }, tt,) (m19 (before·
             .before) (After-queued-action·gave before·))
       pub record After-queued-go : Type 0 where
         pub before : After-queued-action
         pub queued-go : After-queued-go·own before
-      abbrev pub After-queued-go·gave : (c : After-queued-go) → s20 (c .before .before .before .before .before .before .before .before .before .before
-          .blocks) .gives (m17 (c .before .before) (After-queued-action·gave (c .before)))
-      After-queued-go·gave = λ c. Called.given ps·5 r·5 (claims· .11) T21 (record { pos = 12; st = List.[]; d = 0; at = λ x. x }, tt,) (m17 (c .before
+      abbrev pub After-queued-go·gave : (c : After-queued-go) → s22 (c .before .before .before .before .before .before .before .before .before .before
+          .before .blocks) .gives (m19 (c .before .before) (After-queued-action·gave (c .before)))
+      After-queued-go·gave = λ c. Called.given ps·5 r·5 (claims· .11) T23 (record { pos = 14; st = List.[]; d = 0; at = λ x. x }, tt,) (m19 (c .before
           .before) (After-queued-action·gave (c .before))) (c .queued-go)
       abbrev pub Need-queued-place-requires : Type 0
-      Need-queued-place-requires = (c : After-queued-go) → s21 (c .before .before .before .before .before .before .before .before .before .before
-          .blocks) .asks (m18 (c .before) (After-queued-go·gave c))
-      abbrev pub m19 : (before : After-queued-go) → (given : s21 (before .before .before .before .before .before .before .before .before .before
-          .before .blocks) .gives (m18 (before .before) (After-queued-go·gave before))) → Typed.Mo T23
-      m19 = λ before given. s21 (before .before .before .before .before .before .before .before .before .before .before .blocks) .next (m18 (before
-          .before) (After-queued-go·gave before)) given
+      Need-queued-place-requires = (c : After-queued-go) → s23 (c .before .before .before .before .before .before .before .before .before .before
+          .before .blocks) .asks (m20 (c .before) (After-queued-go·gave c))
+      abbrev pub m21 : (before : After-queued-go) → (given : s23 (before .before .before .before .before .before .before .before .before .before
+          .before .before .blocks) .gives (m20 (before .before) (After-queued-go·gave before))) → Typed.Mo T25
+      m21 = λ before given. s23 (before .before .before .before .before .before .before .before .before .before .before .before .blocks) .next (m20
+          (before .before) (After-queued-go·gave before)) given
       module _ (before· : After-queued-go) where
         abbrev pub After-queued-place·own : Type 0
-        After-queued-place·own = Called.Called ps·6 r·6 (claims· .13) T22 (record { pos = 12; st = List.[]; d = 0; at = λ x. x }, tt,) (m18 (before·
+        After-queued-place·own = Called.Called ps·6 r·6 (claims· .13) T24 (record { pos = 14; st = List.[]; d = 0; at = λ x. x }, tt,) (m20 (before·
             .before) (After-queued-go·gave before·))
       pub record After-queued-place : Type 0 where
         pub before : After-queued-go
         pub queued-place : After-queued-place·own before
-      abbrev pub After-queued-place·gave : (c : After-queued-place) → s21 (c .before .before .before .before .before .before .before .before .before
-          .before .before .blocks) .gives (m18 (c .before .before) (After-queued-go·gave (c .before)))
-      After-queued-place·gave = λ c. Called.given ps·6 r·6 (claims· .13) T22 (record { pos = 12; st = List.[]; d = 0; at = λ x. x }, tt,) (m18 (c
+      abbrev pub After-queued-place·gave : (c : After-queued-place) → s23 (c .before .before .before .before .before .before .before .before .before
+          .before .before .before .blocks) .gives (m20 (c .before .before) (After-queued-go·gave (c .before)))
+      After-queued-place·gave = λ c. Called.given ps·6 r·6 (claims· .13) T24 (record { pos = 14; st = List.[]; d = 0; at = λ x. x }, tt,) (m20 (c
           .before .before) (After-queued-go·gave (c .before))) (c .queued-place)
-      abbrev pub m20 : (before : After-queued-place) → (given : s23 (before .before .before .before .before .before .before .before .before .before
-          .before .before .blocks) .gives (m19 (before .before) (After-queued-place·gave before))) → Typed.Mo T25
-      m20 = λ before given. s23 (before .before .before .before .before .before .before .before .before .before .before .before .blocks) .next (m19
-          (before .before) (After-queued-place·gave before)) given
-      abbrev pub m21 : (before : After-queued-place) → (given : s23 (before .before .before .before .before .before .before .before .before .before
-          .before .before .blocks) .gives (m19 (before .before) (After-queued-place·gave before))) → Typed.Mo T26
-      m21 = λ before given. s24 (before .before .before .before .before .before .before .before .before .before .before .before .blocks) .next (m20
-          before given)
+      abbrev pub Need-raised-requires : Type 0
+      Need-raised-requires = (c : After-queued-place) → s24 (c .before .before .before .before .before .before .before .before .before .before .before
+          .before .blocks) .asks (m21 (c .before) (After-queued-place·gave c))
+      abbrev pub m22 : (before : After-queued-place) → (given : s24 (before .before .before .before .before .before .before .before .before .before
+          .before .before .before .blocks) .gives (m21 (before .before) (After-queued-place·gave before))) → Typed.Mo T26
+      m22 = λ before given. s24 (before .before .before .before .before .before .before .before .before .before .before .before .before .blocks) .next
+          (m21 (before .before) (After-queued-place·gave before)) given
       module _ (before· : After-queued-place) where
-        pub record After-set-action-arg·own : Type 0 where
-          pub given : s23 (before· .before .before .before .before .before .before .before .before .before .before .before .blocks) .gives (m19
-              (before· .before) (After-queued-place·gave before·))
-      pub record After-set-action-arg : Type 0 where
+        abbrev pub After-raised·own : Type 0
+        After-raised·own = Called.Called ps·7 r·7 (claims· .15) T25 (Num.vFld 9 ((Syntax.field 3) ∷ List.[]) 24 λ x. Places.struct .as-values x .1 .1
+            .1 .0, (Bool.bAt 16 λ x. x, (Num.vAt 17 λ x. x, (Num.vAt 10 λ x. x, tt))),) (m21 (before· .before) (After-queued-place·gave before·))
+      pub record After-raised : Type 0 where
         pub before : After-queued-place
+        pub raised : After-raised·own before
+      abbrev pub After-raised·gave : (c : After-raised) → s24 (c .before .before .before .before .before .before .before .before .before .before
+          .before .before .before .blocks) .gives (m21 (c .before .before) (After-queued-place·gave (c .before)))
+      After-raised·gave = λ c. Called.given ps·7 r·7 (claims· .15) T25 (Num.vFld 9 ((Syntax.field 3) ∷ List.[]) 24 λ x. Places.struct .as-values x .1
+          .1 .1 .0, (Bool.bAt 16 λ x. x, (Num.vAt 17 λ x. x, (Num.vAt 10 λ x. x, tt))),) (m21 (c .before .before) (After-queued-place·gave (c
+          .before))) (c .raised)
+      abbrev pub Need-with-actions-requires : Type 0
+      Need-with-actions-requires = (c : After-raised) → s25 (c .before .before .before .before .before .before .before .before .before .before .before
+          .before .before .blocks) .asks (m22 (c .before) (After-raised·gave c))
+      abbrev pub m23 : (before : After-raised) → (given : s25 (before .before .before .before .before .before .before .before .before .before .before
+          .before .before .before .blocks) .gives (m22 (before .before) (After-raised·gave before))) → Typed.Mo T27
+      m23 = λ before given. s25 (before .before .before .before .before .before .before .before .before .before .before .before .before .before
+          .blocks) .next (m22 (before .before) (After-raised·gave before)) given
+      module _ (before· : After-raised) where
+        abbrev pub After-with-actions·own : Type 0
+        After-with-actions·own = Called.Called ps·8 r·8 (claims· .17) T26 (record { pos = 9; st = List.[]; d = 0; at = λ x. x }, (Num.vAt 18 λ x. x,
+            tt),) (m22 (before· .before) (After-raised·gave before·))
+      pub record After-with-actions : Type 0 where
+        pub before : After-raised
+        pub with-actions : After-with-actions·own before
+      abbrev pub After-with-actions·gave : (c : After-with-actions) → s25 (c .before .before .before .before .before .before .before .before .before
+          .before .before .before .before .before .blocks) .gives (m22 (c .before .before) (After-raised·gave (c .before)))
+      After-with-actions·gave = λ c. Called.given ps·8 r·8 (claims· .17) T26 (record { pos = 9; st = List.[]; d = 0; at = λ x. x }, (Num.vAt 18 λ x.
+          x, tt),) (m22 (c .before .before) (After-raised·gave (c .before))) (c .with-actions)
+      abbrev pub m24 : (before : After-raised) → (given : s25 (before .before .before .before .before .before .before .before .before .before .before
+          .before .before .before .blocks) .gives (m22 (before .before) (After-raised·gave before))) → Typed.Mo T28
+      m24 = λ before given. s26 (before .before .before .before .before .before .before .before .before .before .before .before .before .before
+          .blocks) (m23 before given)
+      abbrev pub m25 : (before : After-with-actions) → (given : s28 (before .before .before .before .before .before .before .before .before .before
+          .before .before .before .before .before .blocks) .gives (m24 (before .before) (After-with-actions·gave before))) → Typed.Mo T30
+      m25 = λ before given. s28 (before .before .before .before .before .before .before .before .before .before .before .before .before .before
+          .before .blocks) .next (m24 (before .before) (After-with-actions·gave before)) given
+      abbrev pub m26 : (before : After-with-actions) → (given : s28 (before .before .before .before .before .before .before .before .before .before
+          .before .before .before .before .before .blocks) .gives (m24 (before .before) (After-with-actions·gave before))) → Typed.Mo T31
+      m26 = λ before given. s29 (before .before .before .before .before .before .before .before .before .before .before .before .before .before
+          .before .blocks) .next (m25 before given)
+      module _ (before· : After-with-actions) where
+        pub record After-set-action-arg·own : Type 0 where
+          pub given : s28 (before· .before .before .before .before .before .before .before .before .before .before .before .before .before .before
+              .blocks) .gives (m24 (before· .before) (After-with-actions·gave before·))
+      pub record After-set-action-arg : Type 0 where
+        pub before : After-with-actions
         pub set-action-arg : After-set-action-arg·own before
       abbrev pub Need-set-action-requires : Type 0
-      Need-set-action-requires = (c : After-set-action-arg) → s25 (c .before .before .before .before .before .before .before .before .before .before
-          .before .before .blocks) .asks (m21 (c .before) (c .set-action-arg .given))
-      abbrev pub m22 : (before : After-set-action-arg) → (given : s25 (before .before .before .before .before .before .before .before .before .before
-          .before .before .before .blocks) .gives (m21 (before .before) (before .set-action-arg .given))) → Typed.Mo T27
-      m22 = λ before given. s25 (before .before .before .before .before .before .before .before .before .before .before .before .before .blocks) .next
-          (m21 (before .before) (before .set-action-arg .given)) given
+      Need-set-action-requires = (c : After-set-action-arg) → s30 (c .before .before .before .before .before .before .before .before .before .before
+          .before .before .before .before .before .blocks) .asks (m26 (c .before) (c .set-action-arg .given))
+      abbrev pub m27 : (before : After-set-action-arg) → (given : s30 (before .before .before .before .before .before .before .before .before .before
+          .before .before .before .before .before .before .blocks) .gives (m26 (before .before) (before .set-action-arg .given))) → Typed.Mo T32
+      m27 = λ before given. s30 (before .before .before .before .before .before .before .before .before .before .before .before .before .before
+          .before .before .blocks) .next (m26 (before .before) (before .set-action-arg .given)) given
       module _ (before· : After-set-action-arg) where
         abbrev pub After-set-action·own : Type 0
-        After-set-action·own = Called.Called ps·7 r·7 (claims· .15) T26 (record { pos = 21; ty = Syntax.tyRef Syntax.erased Syntax.mut
-            InflightAction.to; ref = λ x. x; }, (Bool.bAt 14 λ x. x, (Num.vAt 15 λ x. x, (record { pos = 13; st = List.[]; d = 0; at = λ x. x },
-            tt)),),) (m21 (before· .before) (before· .set-action-arg .given))
+        After-set-action·own = Called.Called ps·9 r·9 (claims· .19) T31 (record { pos = 25; ty = Syntax.tyRef Syntax.erased Syntax.mut
+            InflightAction.to; ref = λ x. x; }, (Bool.bAt 16 λ x. x, (Num.vAt 17 λ x. x, (record { pos = 15; st = List.[]; d = 0; at = λ x. x },
+            tt)),),) (m26 (before· .before) (before· .set-action-arg .given))
       pub record After-set-action : Type 0 where
         pub before : After-set-action-arg
         pub set-action : After-set-action·own before
-      abbrev pub After-set-action·gave : (c : After-set-action) → s25 (c .before .before .before .before .before .before .before .before .before
-          .before .before .before .before .blocks) .gives (m21 (c .before .before) (c .before .set-action-arg .given))
-      After-set-action·gave = λ c. Called.given ps·7 r·7 (claims· .15) T26 (record { pos = 21; ty = Syntax.tyRef Syntax.erased Syntax.mut
-          InflightAction.to; ref = λ x. x; }, (Bool.bAt 14 λ x. x, (Num.vAt 15 λ x. x, (record { pos = 13; st = List.[]; d = 0; at = λ x. x },
-          tt)),),) (m21 (c .before .before) (c .before .set-action-arg .given)) (c .set-action)
-      abbrev pub m23 : (before : After-set-action-arg) → (given : s25 (before .before .before .before .before .before .before .before .before .before
-          .before .before .before .blocks) .gives (m21 (before .before) (before .set-action-arg .given))) → Typed.Mo T28
-      m23 = λ before given. s26 (before .before .before .before .before .before .before .before .before .before .before .before .before .blocks) (m22
-          before given)
-      abbrev pub m24 : (before : After-set-action-arg) → (given : s25 (before .before .before .before .before .before .before .before .before .before
-          .before .before .before .blocks) .gives (m21 (before .before) (before .set-action-arg .given))) → Typed.Mo T29
-      m24 = λ before given. s27 (before .before .before .before .before .before .before .before .before .before .before .before .before .blocks) (m23
-          before given)
-      abbrev pub m25 : (before : After-set-action) → (given : s29 (before .before .before .before .before .before .before .before .before .before
-          .before .before .before .before .blocks) .gives (m24 (before .before) (After-set-action·gave before))) → Typed.Mo T31
-      m25 = λ before given. s29 (before .before .before .before .before .before .before .before .before .before .before .before .before .before
-          .blocks) .next (m24 (before .before) (After-set-action·gave before)) given
+      abbrev pub After-set-action·gave : (c : After-set-action) → s30 (c .before .before .before .before .before .before .before .before .before
+          .before .before .before .before .before .before .before .blocks) .gives (m26 (c .before .before) (c .before .set-action-arg .given))
+      After-set-action·gave = λ c. Called.given ps·9 r·9 (claims· .19) T31 (record { pos = 25; ty = Syntax.tyRef Syntax.erased Syntax.mut
+          InflightAction.to; ref = λ x. x; }, (Bool.bAt 16 λ x. x, (Num.vAt 17 λ x. x, (record { pos = 15; st = List.[]; d = 0; at = λ x. x },
+          tt)),),) (m26 (c .before .before) (c .before .set-action-arg .given)) (c .set-action)
+      abbrev pub m28 : (before : After-set-action-arg) → (given : s30 (before .before .before .before .before .before .before .before .before .before
+          .before .before .before .before .before .before .blocks) .gives (m26 (before .before) (before .set-action-arg .given))) → Typed.Mo T33
+      m28 = λ before given. s31 (before .before .before .before .before .before .before .before .before .before .before .before .before .before
+          .before .before .blocks) (m27 before given)
+      abbrev pub m29 : (before : After-set-action-arg) → (given : s30 (before .before .before .before .before .before .before .before .before .before
+          .before .before .before .before .before .before .blocks) .gives (m26 (before .before) (before .set-action-arg .given))) → Typed.Mo T34
+      m29 = λ before given. s32 (before .before .before .before .before .before .before .before .before .before .before .before .before .before
+          .before .before .blocks) (m28 before given)
+      abbrev pub m30 : (before : After-set-action) → (given : s34 (before .before .before .before .before .before .before .before .before .before
+          .before .before .before .before .before .before .before .blocks) .gives (m29 (before .before) (After-set-action·gave before))) → Typed.Mo
+          T36
+      m30 = λ before given. s34 (before .before .before .before .before .before .before .before .before .before .before .before .before .before
+          .before .before .before .blocks) .next (m29 (before .before) (After-set-action·gave before)) given
       module _ (before· : After-set-action) where
         pub record After-inflight·own : Type 0 where
-          pub given : s29 (before· .before .before .before .before .before .before .before .before .before .before .before .before .before .blocks)
-              .gives (m24 (before· .before) (After-set-action·gave before·))
+          pub given : s34 (before· .before .before .before .before .before .before .before .before .before .before .before .before .before .before
+              .before .before .blocks) .gives (m29 (before· .before) (After-set-action·gave before·))
       pub record After-inflight : Type 0 where
         pub before : After-set-action
         pub inflight : After-inflight·own before
-      abbrev pub m26 : (before : After-inflight) → (given : s32 (before .before .before .before .before .before .before .before .before .before
-          .before .before .before .before .before .blocks) .gives (m25 (before .before) (before .inflight .given))) → Typed.Mo T34
-      m26 = λ before given. s32 (before .before .before .before .before .before .before .before .before .before .before .before .before .before
-          .before .blocks) .next (m25 (before .before) (before .inflight .given)) given
-      abbrev pub m27 : (before : After-inflight) → (given : s32 (before .before .before .before .before .before .before .before .before .before
-          .before .before .before .before .before .blocks) .gives (m25 (before .before) (before .inflight .given))) → Typed.Mo T35
-      m27 = λ before given. s33 (before .before .before .before .before .before .before .before .before .before .before .before .before .before
-          .before .blocks) .next (m26 before given)
+      abbrev pub m31 : (before : After-inflight) → (given : s37 (before .before .before .before .before .before .before .before .before .before
+          .before .before .before .before .before .before .before .before .blocks) .gives (m30 (before .before) (before .inflight .given))) → Typed.Mo
+          T39
+      m31 = λ before given. s37 (before .before .before .before .before .before .before .before .before .before .before .before .before .before
+          .before .before .before .before .blocks) .next (m30 (before .before) (before .inflight .given)) given
+      abbrev pub m32 : (before : After-inflight) → (given : s37 (before .before .before .before .before .before .before .before .before .before
+          .before .before .before .before .before .before .before .before .blocks) .gives (m30 (before .before) (before .inflight .given))) → Typed.Mo
+          T40
+      m32 = λ before given. s38 (before .before .before .before .before .before .before .before .before .before .before .before .before .before
+          .before .before .before .before .blocks) .next (m31 before given)
       module _ (before· : After-inflight) where
         pub record After-put-queued-arg·own : Type 0 where
-          pub given : s32 (before· .before .before .before .before .before .before .before .before .before .before .before .before .before .before
-              .blocks) .gives (m25 (before· .before) (before· .inflight .given))
+          pub given : s37 (before· .before .before .before .before .before .before .before .before .before .before .before .before .before .before
+              .before .before .before .blocks) .gives (m30 (before· .before) (before· .inflight .given))
       pub record After-put-queued-arg : Type 0 where
         pub before : After-inflight
         pub put-queued-arg : After-put-queued-arg·own before
       abbrev pub Need-put-queued-requires : Type 0
-      Need-put-queued-requires = (c : After-put-queued-arg) → s34 (c .before .before .before .before .before .before .before .before .before .before
-          .before .before .before .before .before .blocks) .asks (m27 (c .before) (c .put-queued-arg .given))
-      abbrev pub m28 : (before : After-put-queued-arg) → (given : s34 (before .before .before .before .before .before .before .before .before .before
-          .before .before .before .before .before .before .blocks) .gives (m27 (before .before) (before .put-queued-arg .given))) → Typed.Mo T36
-      m28 = λ before given. s34 (before .before .before .before .before .before .before .before .before .before .before .before .before .before
-          .before .before .blocks) .next (m27 (before .before) (before .put-queued-arg .given)) given
+      Need-put-queued-requires = (c : After-put-queued-arg) → s39 (c .before .before .before .before .before .before .before .before .before .before
+          .before .before .before .before .before .before .before .before .blocks) .asks (m32 (c .before) (c .put-queued-arg .given))
+      abbrev pub m33 : (before : After-put-queued-arg) → (given : s39 (before .before .before .before .before .before .before .before .before .before
+          .before .before .before .before .before .before .before .before .before .blocks) .gives (m32 (before .before) (before .put-queued-arg
+          .given))) → Typed.Mo T41
+      m33 = λ before given. s39 (before .before .before .before .before .before .before .before .before .before .before .before .before .before
+          .before .before .before .before .before .blocks) .next (m32 (before .before) (before .put-queued-arg .given)) given
       module _ (before· : After-put-queued-arg) where
         abbrev pub After-put-queued·own : Type 0
-        After-put-queued·own = Called.Called ps·8 r·8 (claims· .17) T35 (record { pos = 23; ty = Syntax.tyRef Syntax.erased Syntax.mut (Syntax.tyInt
-            Syntax.w32); ref = λ x. x; }, (Bool.bAt 14 λ x. x, (Num.vAt 8 λ x. x, (record { pos = 5; st = List.[]; d = 0; at = λ x. x }, (record { pos
+        After-put-queued·own = Called.Called ps·10 r·10 (claims· .21) T40 (record { pos = 27; ty = Syntax.tyRef Syntax.erased Syntax.mut (Syntax.tyInt
+            Syntax.w32); ref = λ x. x; }, (Bool.bAt 16 λ x. x, (Num.vAt 8 λ x. x, (record { pos = 5; st = List.[]; d = 0; at = λ x. x }, (record { pos
             = 7; st = List.[]; d = 0; at = λ x. x }, (record { pos = 6; ty = Syntax.tyRef (Syntax.named 2) Syntax.imm (Syntax.tyInt Syntax.w8); ref =
-            λ x. x; }, tt,),),),),),) (m27 (before· .before) (before· .put-queued-arg .given))
+            λ x. x; }, tt,),),),),),) (m32 (before· .before) (before· .put-queued-arg .given))
       pub record After-put-queued : Type 0 where
         pub before : After-put-queued-arg
         pub put-queued : After-put-queued·own before
-      abbrev pub After-put-queued·gave : (c : After-put-queued) → s34 (c .before .before .before .before .before .before .before .before .before
-          .before .before .before .before .before .before .before .blocks) .gives (m27 (c .before .before) (c .before .put-queued-arg .given))
-      After-put-queued·gave = λ c. Called.given ps·8 r·8 (claims· .17) T35 (record { pos = 23; ty = Syntax.tyRef Syntax.erased Syntax.mut
-          (Syntax.tyInt Syntax.w32); ref = λ x. x; }, (Bool.bAt 14 λ x. x, (Num.vAt 8 λ x. x, (record { pos = 5; st = List.[]; d = 0; at = λ x. x },
+      abbrev pub After-put-queued·gave : (c : After-put-queued) → s39 (c .before .before .before .before .before .before .before .before .before
+          .before .before .before .before .before .before .before .before .before .before .blocks) .gives (m32 (c .before .before) (c .before
+          .put-queued-arg .given))
+      After-put-queued·gave = λ c. Called.given ps·10 r·10 (claims· .21) T40 (record { pos = 27; ty = Syntax.tyRef Syntax.erased Syntax.mut
+          (Syntax.tyInt Syntax.w32); ref = λ x. x; }, (Bool.bAt 16 λ x. x, (Num.vAt 8 λ x. x, (record { pos = 5; st = List.[]; d = 0; at = λ x. x },
           (record { pos = 7; st = List.[]; d = 0; at = λ x. x }, (record { pos = 6; ty = Syntax.tyRef (Syntax.named 2) Syntax.imm (Syntax.tyInt
-          Syntax.w8); ref = λ x. x; }, tt,),),),),),) (m27 (c .before .before) (c .before .put-queued-arg .given)) (c .put-queued)
-      abbrev pub m29 : (before : After-put-queued-arg) → (given : s34 (before .before .before .before .before .before .before .before .before .before
-          .before .before .before .before .before .before .blocks) .gives (m27 (before .before) (before .put-queued-arg .given))) → Typed.Mo T37
-      m29 = λ before given. s35 (before .before .before .before .before .before .before .before .before .before .before .before .before .before
-          .before .before .blocks) (m28 before given)
-      abbrev pub m30 : (before : After-put-queued-arg) → (given : s34 (before .before .before .before .before .before .before .before .before .before
-          .before .before .before .before .before .before .blocks) .gives (m27 (before .before) (before .put-queued-arg .given))) → Typed.Mo T38
-      m30 = λ before given. s36 (before .before .before .before .before .before .before .before .before .before .before .before .before .before
-          .before .before .blocks) (m29 before given)
-      abbrev pub m31 : (before : After-put-queued-arg) → (given : s34 (before .before .before .before .before .before .before .before .before .before
-          .before .before .before .before .before .before .blocks) .gives (m27 (before .before) (before .put-queued-arg .given))) → Typed.Mo T39
-      m31 = λ before given. s37 (before .before .before .before .before .before .before .before .before .before .before .before .before .before
-          .before .before .blocks) (m30 before given)
-      abbrev pub m32 : (before : After-put-queued) → (given : s39 (before .before .before .before .before .before .before .before .before .before
-          .before .before .before .before .before .before .before .blocks) .gives (m31 (before .before) (After-put-queued·gave before))) → Typed.Mo
-          T41
-      m32 = λ before given. s39 (before .before .before .before .before .before .before .before .before .before .before .before .before .before
-          .before .before .before .blocks) .next (m31 (before .before) (After-put-queued·gave before)) given
+          Syntax.w8); ref = λ x. x; }, tt,),),),),),) (m32 (c .before .before) (c .before .put-queued-arg .given)) (c .put-queued)
+      abbrev pub m34 : (before : After-put-queued-arg) → (given : s39 (before .before .before .before .before .before .before .before .before .before
+          .before .before .before .before .before .before .before .before .before .blocks) .gives (m32 (before .before) (before .put-queued-arg
+          .given))) → Typed.Mo T42
+      m34 = λ before given. s40 (before .before .before .before .before .before .before .before .before .before .before .before .before .before
+          .before .before .before .before .before .blocks) (m33 before given)
+      abbrev pub m35 : (before : After-put-queued-arg) → (given : s39 (before .before .before .before .before .before .before .before .before .before
+          .before .before .before .before .before .before .before .before .before .blocks) .gives (m32 (before .before) (before .put-queued-arg
+          .given))) → Typed.Mo T43
+      m35 = λ before given. s41 (before .before .before .before .before .before .before .before .before .before .before .before .before .before
+          .before .before .before .before .before .blocks) (m34 before given)
+      abbrev pub m36 : (before : After-put-queued-arg) → (given : s39 (before .before .before .before .before .before .before .before .before .before
+          .before .before .before .before .before .before .before .before .before .blocks) .gives (m32 (before .before) (before .put-queued-arg
+          .given))) → Typed.Mo T44
+      m36 = λ before given. s42 (before .before .before .before .before .before .before .before .before .before .before .before .before .before
+          .before .before .before .before .before .blocks) (m35 before given)
+      abbrev pub m37 : (before : After-put-queued) → (given : s44 (before .before .before .before .before .before .before .before .before .before
+          .before .before .before .before .before .before .before .before .before .before .blocks) .gives (m36 (before .before) (After-put-queued·gave
+          before))) → Typed.Mo T46
+      m37 = λ before given. s44 (before .before .before .before .before .before .before .before .before .before .before .before .before .before
+          .before .before .before .before .before .before .blocks) .next (m36 (before .before) (After-put-queued·gave before)) given
       module _ (before· : After-put-queued) where
         pub record After-out·own : Type 0 where
-          pub given : s39 (before· .before .before .before .before .before .before .before .before .before .before .before .before .before .before
-              .before .before .blocks) .gives (m31 (before· .before) (After-put-queued·gave before·))
+          pub given : s44 (before· .before .before .before .before .before .before .before .before .before .before .before .before .before .before
+              .before .before .before .before .before .blocks) .gives (m36 (before· .before) (After-put-queued·gave before·))
       pub record After-out : Type 0 where
         pub before : After-put-queued
         pub out : After-out·own before
-      abbrev pub m33 : (before : After-out) → (given : s40 (before .before .before .before .before .before .before .before .before .before .before
-          .before .before .before .before .before .before .before .blocks) .gives (m32 (before .before) (before .out .given))) → Typed.Mo T42
-      m33 = λ before given. s40 (before .before .before .before .before .before .before .before .before .before .before .before .before .before
-          .before .before .before .before .blocks) .next (m32 (before .before) (before .out .given)) given
-      abbrev pub m34 : (before : After-out) → (given : s40 (before .before .before .before .before .before .before .before .before .before .before
-          .before .before .before .before .before .before .before .blocks) .gives (m32 (before .before) (before .out .given))) → Typed.Mo T44
-      m34 = λ before given. s42 (before .before .before .before .before .before .before .before .before .before .before .before .before .before
-          .before .before .before .before .blocks) (m33 before given)
+      abbrev pub m38 : (before : After-out) → (given : s45 (before .before .before .before .before .before .before .before .before .before .before
+          .before .before .before .before .before .before .before .before .before .before .blocks) .gives (m37 (before .before) (before .out .given)))
+          → Typed.Mo T47
+      m38 = λ before given. s45 (before .before .before .before .before .before .before .before .before .before .before .before .before .before
+          .before .before .before .before .before .before .before .blocks) .next (m37 (before .before) (before .out .given)) given
+      abbrev pub m39 : (before : After-out) → (given : s45 (before .before .before .before .before .before .before .before .before .before .before
+          .before .before .before .before .before .before .before .before .before .before .blocks) .gives (m37 (before .before) (before .out .given)))
+          → Typed.Mo T49
+      m39 = λ before given. s47 (before .before .before .before .before .before .before .before .before .before .before .before .before .before
+          .before .before .before .before .before .before .before .blocks) (m38 before given)
       module _ (before· : After-out) where
         pub record After-slice-known2·own : Type 0 where
-          pub given : s40 (before· .before .before .before .before .before .before .before .before .before .before .before .before .before .before
-              .before .before .before .blocks) .gives (m32 (before· .before) (before· .out .given))
+          pub given : s45 (before· .before .before .before .before .before .before .before .before .before .before .before .before .before .before
+              .before .before .before .before .before .before .blocks) .gives (m37 (before· .before) (before· .out .given))
       pub record After-slice-known2 : Type 0 where
         pub before : After-out
         pub slice-known2 : After-slice-known2·own before
       abbrev pub Need-position-after-requires : Type 0
-      Need-position-after-requires = (c : After-slice-known2) → s43 (c .before .before .before .before .before .before .before .before .before .before
-          .before .before .before .before .before .before .before .before .blocks) .asks (m34 (c .before) (c .slice-known2 .given))
-      abbrev pub m35 : (before : After-slice-known2) → (given : s43 (before .before .before .before .before .before .before .before .before .before
-          .before .before .before .before .before .before .before .before .before .blocks) .gives (m34 (before .before) (before .slice-known2
-          .given))) → Typed.Mo T45
-      m35 = λ before given. s43 (before .before .before .before .before .before .before .before .before .before .before .before .before .before
-          .before .before .before .before .before .blocks) .next (m34 (before .before) (before .slice-known2 .given)) given
+      Need-position-after-requires = (c : After-slice-known2) → s48 (c .before .before .before .before .before .before .before .before .before .before
+          .before .before .before .before .before .before .before .before .before .before .before .blocks) .asks (m39 (c .before) (c .slice-known2
+          .given))
+      abbrev pub m40 : (before : After-slice-known2) → (given : s48 (before .before .before .before .before .before .before .before .before .before
+          .before .before .before .before .before .before .before .before .before .before .before .before .blocks) .gives (m39 (before .before)
+          (before .slice-known2 .given))) → Typed.Mo T50
+      m40 = λ before given. s48 (before .before .before .before .before .before .before .before .before .before .before .before .before .before
+          .before .before .before .before .before .before .before .before .blocks) .next (m39 (before .before) (before .slice-known2 .given)) given
       module _ (before· : After-slice-known2) where
         abbrev pub After-position-after·own : Type 0
-        After-position-after·own = Called.Called ps·9 r·9 (claims· .19) T44 (Bool.bAt 14 λ x. x, (Num.vAt 8 λ x. x, (Num.vAt 24 λ x. x, tt)),) (m34
+        After-position-after·own = Called.Called ps·11 r·11 (claims· .23) T49 (Bool.bAt 16 λ x. x, (Num.vAt 8 λ x. x, (Num.vAt 28 λ x. x, tt)),) (m39
             (before· .before) (before· .slice-known2 .given))
       pub record After-position-after : Type 0 where
         pub before : After-slice-known2
         pub position-after : After-position-after·own before
-      abbrev pub After-position-after·gave : (c : After-position-after) → s43 (c .before .before .before .before .before .before .before .before
-          .before .before .before .before .before .before .before .before .before .before .before .blocks) .gives (m34 (c .before .before) (c .before
-          .slice-known2 .given))
-      After-position-after·gave = λ c. Called.given ps·9 r·9 (claims· .19) T44 (Bool.bAt 14 λ x. x, (Num.vAt 8 λ x. x, (Num.vAt 24 λ x. x, tt)),) (m34
-          (c .before .before) (c .before .slice-known2 .given)) (c .position-after)
-      abbrev pub m36 : (before : After-slice-known2) → (given : s43 (before .before .before .before .before .before .before .before .before .before
-          .before .before .before .before .before .before .before .before .before .blocks) .gives (m34 (before .before) (before .slice-known2
-          .given))) → Typed.Mo T46
-      m36 = λ before given. s44 (before .before .before .before .before .before .before .before .before .before .before .before .before .before
-          .before .before .before .before .before .blocks) (m35 before given)
+      abbrev pub After-position-after·gave : (c : After-position-after) → s48 (c .before .before .before .before .before .before .before .before
+          .before .before .before .before .before .before .before .before .before .before .before .before .before .before .blocks) .gives (m39 (c
+          .before .before) (c .before .slice-known2 .given))
+      After-position-after·gave = λ c. Called.given ps·11 r·11 (claims· .23) T49 (Bool.bAt 16 λ x. x, (Num.vAt 8 λ x. x, (Num.vAt 28 λ x. x, tt)),)
+          (m39 (c .before .before) (c .before .slice-known2 .given)) (c .position-after)
+      abbrev pub m41 : (before : After-slice-known2) → (given : s48 (before .before .before .before .before .before .before .before .before .before
+          .before .before .before .before .before .before .before .before .before .before .before .before .blocks) .gives (m39 (before .before)
+          (before .slice-known2 .given))) → Typed.Mo T51
+      m41 = λ before given. s49 (before .before .before .before .before .before .before .before .before .before .before .before .before .before
+          .before .before .before .before .before .before .before .before .blocks) (m40 before given)
       abbrev pub Need-sending-on-requires : Type 0
-      Need-sending-on-requires = (c : After-position-after) → s45 (c .before .before .before .before .before .before .before .before .before .before
-          .before .before .before .before .before .before .before .before .before .blocks) .asks (m36 (c .before) (After-position-after·gave c))
-      abbrev pub m37 : (before : After-position-after) → (given : s45 (before .before .before .before .before .before .before .before .before .before
-          .before .before .before .before .before .before .before .before .before .before .blocks) .gives (m36 (before .before)
-          (After-position-after·gave before))) → Typed.Mo T47
-      m37 = λ before given. s45 (before .before .before .before .before .before .before .before .before .before .before .before .before .before
-          .before .before .before .before .before .before .blocks) .next (m36 (before .before) (After-position-after·gave before)) given
+      Need-sending-on-requires = (c : After-position-after) → s50 (c .before .before .before .before .before .before .before .before .before .before
+          .before .before .before .before .before .before .before .before .before .before .before .before .blocks) .asks (m41 (c .before)
+          (After-position-after·gave c))
+      abbrev pub m42 : (before : After-position-after) → (given : s50 (before .before .before .before .before .before .before .before .before .before
+          .before .before .before .before .before .before .before .before .before .before .before .before .before .blocks) .gives (m41 (before
+          .before) (After-position-after·gave before))) → Typed.Mo T52
+      m42 = λ before given. s50 (before .before .before .before .before .before .before .before .before .before .before .before .before .before
+          .before .before .before .before .before .before .before .before .before .blocks) .next (m41 (before .before) (After-position-after·gave
+          before)) given
       module _ (before· : After-position-after) where
         abbrev pub After-sending-on·own : Type 0
-        After-sending-on·own = Called.Called ps·10 r·10 (claims· .21) T46 (record { pos = 12; st = List.[]; d = 0; at = λ x. x }, (Num.vAt 16 λ x. x,
-            tt),) (m36 (before· .before) (After-position-after·gave before·))
+        After-sending-on·own = Called.Called ps·12 r·12 (claims· .25) T51 (record { pos = 14; st = List.[]; d = 0; at = λ x. x }, (Num.vAt 20 λ x. x,
+            (record { pos = 19; st = List.[]; d = 0; at = λ x. x }, tt)),) (m41 (before· .before) (After-position-after·gave before·))
       pub record After-sending-on : Type 0 where
         pub before : After-position-after
         pub sending-on : After-sending-on·own before
-      abbrev pub After-sending-on·gave : (c : After-sending-on) → s45 (c .before .before .before .before .before .before .before .before .before
-          .before .before .before .before .before .before .before .before .before .before .before .blocks) .gives (m36 (c .before .before)
-          (After-position-after·gave (c .before)))
-      After-sending-on·gave = λ c. Called.given ps·10 r·10 (claims· .21) T46 (record { pos = 12; st = List.[]; d = 0; at = λ x. x }, (Num.vAt 16 λ x.
-          x, tt),) (m36 (c .before .before) (After-position-after·gave (c .before))) (c .sending-on)
-      abbrev pub m38 : (before : After-position-after) → (given : s45 (before .before .before .before .before .before .before .before .before .before
-          .before .before .before .before .before .before .before .before .before .before .blocks) .gives (m36 (before .before)
-          (After-position-after·gave before))) → Typed.Mo T48
-      m38 = λ before given. s46 (before .before .before .before .before .before .before .before .before .before .before .before .before .before
-          .before .before .before .before .before .before .blocks) (m37 before given)
-      abbrev pub m39 : (before : After-position-after) → (given : s45 (before .before .before .before .before .before .before .before .before .before
-          .before .before .before .before .before .before .before .before .before .before .blocks) .gives (m36 (before .before)
-          (After-position-after·gave before))) → Typed.Mo T49
-      m39 = λ before given. s47 (before .before .before .before .before .before .before .before .before .before .before .before .before .before
-          .before .before .before .before .before .before .blocks) (m38 before given)
-      abbrev pub m40 : (before : After-position-after) → (given : s45 (before .before .before .before .before .before .before .before .before .before
-          .before .before .before .before .before .before .before .before .before .before .blocks) .gives (m36 (before .before)
-          (After-position-after·gave before))) → Typed.Mo T50
-      m40 = λ before given. s48 (before .before .before .before .before .before .before .before .before .before .before .before .before .before
-          .before .before .before .before .before .before .blocks) (m39 before given)
-      abbrev pub m41 : (before : After-position-after) → (given : s45 (before .before .before .before .before .before .before .before .before .before
-          .before .before .before .before .before .before .before .before .before .before .blocks) .gives (m36 (before .before)
-          (After-position-after·gave before))) → Typed.Mo T51
-      m41 = λ before given. s49 (before .before .before .before .before .before .before .before .before .before .before .before .before .before
-          .before .before .before .before .before .before .blocks) (m40 before given)
-      abbrev pub m42 : (before : After-position-after) → (given : s45 (before .before .before .before .before .before .before .before .before .before
-          .before .before .before .before .before .before .before .before .before .before .blocks) .gives (m36 (before .before)
-          (After-position-after·gave before))) → Typed.Mo T52
-      m42 = λ before given. s50 (before .before .before .before .before .before .before .before .before .before .before .before .before .before
-          .before .before .before .before .before .before .blocks) (m41 before given)
-      abbrev pub m43 : (before : After-position-after) → (given : s45 (before .before .before .before .before .before .before .before .before .before
-          .before .before .before .before .before .before .before .before .before .before .blocks) .gives (m36 (before .before)
-          (After-position-after·gave before))) → Typed.Mo T53
+      abbrev pub After-sending-on·gave : (c : After-sending-on) → s50 (c .before .before .before .before .before .before .before .before .before
+          .before .before .before .before .before .before .before .before .before .before .before .before .before .before .blocks) .gives (m41 (c
+          .before .before) (After-position-after·gave (c .before)))
+      After-sending-on·gave = λ c. Called.given ps·12 r·12 (claims· .25) T51 (record { pos = 14; st = List.[]; d = 0; at = λ x. x }, (Num.vAt 20 λ x.
+          x, (record { pos = 19; st = List.[]; d = 0; at = λ x. x }, tt)),) (m41 (c .before .before) (After-position-after·gave (c .before))) (c
+          .sending-on)
+      abbrev pub m43 : (before : After-position-after) → (given : s50 (before .before .before .before .before .before .before .before .before .before
+          .before .before .before .before .before .before .before .before .before .before .before .before .before .blocks) .gives (m41 (before
+          .before) (After-position-after·gave before))) → Typed.Mo T53
       m43 = λ before given. s51 (before .before .before .before .before .before .before .before .before .before .before .before .before .before
-          .before .before .before .before .before .before .blocks) (m42 before given)
+          .before .before .before .before .before .before .before .before .before .blocks) (m42 before given)
+      abbrev pub m44 : (before : After-position-after) → (given : s50 (before .before .before .before .before .before .before .before .before .before
+          .before .before .before .before .before .before .before .before .before .before .before .before .before .blocks) .gives (m41 (before
+          .before) (After-position-after·gave before))) → Typed.Mo T54
+      m44 = λ before given. s52 (before .before .before .before .before .before .before .before .before .before .before .before .before .before
+          .before .before .before .before .before .before .before .before .before .blocks) (m43 before given)
+      abbrev pub m45 : (before : After-position-after) → (given : s50 (before .before .before .before .before .before .before .before .before .before
+          .before .before .before .before .before .before .before .before .before .before .before .before .before .blocks) .gives (m41 (before
+          .before) (After-position-after·gave before))) → Typed.Mo T55
+      m45 = λ before given. s53 (before .before .before .before .before .before .before .before .before .before .before .before .before .before
+          .before .before .before .before .before .before .before .before .before .blocks) (m44 before given)
+      abbrev pub m46 : (before : After-position-after) → (given : s50 (before .before .before .before .before .before .before .before .before .before
+          .before .before .before .before .before .before .before .before .before .before .before .before .before .blocks) .gives (m41 (before
+          .before) (After-position-after·gave before))) → Typed.Mo T56
+      m46 = λ before given. s54 (before .before .before .before .before .before .before .before .before .before .before .before .before .before
+          .before .before .before .before .before .before .before .before .before .blocks) (m45 before given)
+      abbrev pub m47 : (before : After-position-after) → (given : s50 (before .before .before .before .before .before .before .before .before .before
+          .before .before .before .before .before .before .before .before .before .before .before .before .before .blocks) .gives (m41 (before
+          .before) (After-position-after·gave before))) → Typed.Mo T57
+      m47 = λ before given. s55 (before .before .before .before .before .before .before .before .before .before .before .before .before .before
+          .before .before .before .before .before .before .before .before .before .blocks) (m46 before given)
+      abbrev pub m48 : (before : After-position-after) → (given : s50 (before .before .before .before .before .before .before .before .before .before
+          .before .before .before .before .before .before .before .before .before .before .before .before .before .blocks) .gives (m41 (before
+          .before) (After-position-after·gave before))) → Typed.Mo T58
+      m48 = λ before given. s56 (before .before .before .before .before .before .before .before .before .before .before .before .before .before
+          .before .before .before .before .before .before .before .before .before .blocks) (m47 before given)
+      abbrev pub m49 : (before : After-position-after) → (given : s50 (before .before .before .before .before .before .before .before .before .before
+          .before .before .before .before .before .before .before .before .before .before .before .before .before .blocks) .gives (m41 (before
+          .before) (After-position-after·gave before))) → Typed.Mo T59
+      m49 = λ before given. s57 (before .before .before .before .before .before .before .before .before .before .before .before .before .before
+          .before .before .before .before .before .before .before .before .before .blocks) (m48 before given)
+      abbrev pub m50 : (before : After-position-after) → (given : s50 (before .before .before .before .before .before .before .before .before .before
+          .before .before .before .before .before .before .before .before .before .before .before .before .before .blocks) .gives (m41 (before
+          .before) (After-position-after·gave before))) → Typed.Mo T60
+      m50 = λ before given. s58 (before .before .before .before .before .before .before .before .before .before .before .before .before .before
+          .before .before .before .before .before .before .before .before .before .blocks) (m49 before given)
+      abbrev pub m51 : (before : After-position-after) → (given : s50 (before .before .before .before .before .before .before .before .before .before
+          .before .before .before .before .before .before .before .before .before .before .before .before .before .blocks) .gives (m41 (before
+          .before) (After-position-after·gave before))) → Typed.Mo T61
+      m51 = λ before given. s59 (before .before .before .before .before .before .before .before .before .before .before .before .before .before
+          .before .before .before .before .before .before .before .before .before .blocks) (m50 before given)
       abbrev pub Need-same-length : Type 0
-      Need-same-length = (c : After-sending-on) → MutSlice.SameLen (Row.get 1 (T53 .locals) (m43 (c .before) (After-sending-on·gave c))) (dens (c
+      Need-same-length = (c : After-sending-on) → MutSlice.SameLen (Row.get 1 (T61 .locals) (m51 (c .before) (After-sending-on·gave c))) (dens (c
           .before .before .before .before .before .before .before .before .before .before .before .before .before .before .before .before .before
-          .before .before .before .κs) (c .before .before .before .before .before .before .before .before .before .before .before .before .before
-          .before .before .before .before .before .before .before .args) .0)
+          .before .before .before .before .before .before .κs) (c .before .before .before .before .before .before .before .before .before .before
+          .before .before .before .before .before .before .before .before .before .before .before .before .before .args) .0)
       abbrev pub Need-same-length-2 : Type 0
-      Need-same-length-2 = (c : After-sending-on) → MutSlice.SameLen (Row.get 2 (T53 .locals) (m43 (c .before) (After-sending-on·gave c))) (dens (c
+      Need-same-length-2 = (c : After-sending-on) → MutSlice.SameLen (Row.get 2 (T61 .locals) (m51 (c .before) (After-sending-on·gave c))) (dens (c
           .before .before .before .before .before .before .before .before .before .before .before .before .before .before .before .before .before
-          .before .before .before .κs) (c .before .before .before .before .before .before .before .before .before .before .before .before .before
-          .before .before .before .before .before .before .before .args) .1 .0)
+          .before .before .before .before .before .before .κs) (c .before .before .before .before .before .before .before .before .before .before
+          .before .before .before .before .before .before .before .before .before .before .before .before .before .args) .1 .0)
       abbrev pub Need-returns : Type 0
       Need-returns = (c : After-sending-on) → Post· (c .before .before .before .before .before .before .before .before .before .before .before .before
-          .before .before .before .before .before .before .before .before .κs) (dens (c .before .before .before .before .before .before .before
-          .before .before .before .before .before .before .before .before .before .before .before .before .before .κs) (c .before .before .before
+          .before .before .before .before .before .before .before .before .before .before .before .κs) (dens (c .before .before .before .before
           .before .before .before .before .before .before .before .before .before .before .before .before .before .before .before .before .before
-          .args)) (Function.resV r (c .before .before .before .before .before .before .before .before .before .before .before .before .before .before
-          .before .before .before .before .before .before .κs) (m43 (c .before) (After-sending-on·gave c) .0)) (Clauses.atExit (Kinds.endedOf 3 ps r)
-          (c .before .before .before .before .before .before .before .before .before .before .before .before .before .before .before .before .before
-          .before .before .before .κs) (dens (c .before .before .before .before .before .before .before .before .before .before .before .before
-          .before .before .before .before .before .before .before .before .κs) (c .before .before .before .before .before .before .before .before
-          .before .before .before .before .before .before .before .before .before .before .before .before .args)) (Enter.lastsP (c .before .before
+          .before .before .κs) (c .before .before .before .before .before .before .before .before .before .before .before .before .before .before
+          .before .before .before .before .before .before .before .before .before .args)) (Function.resV r (c .before .before .before .before .before
           .before .before .before .before .before .before .before .before .before .before .before .before .before .before .before .before .before
-          .before .κs) 1 ps xs (dens (c .before .before .before .before .before .before .before .before .before .before .before .before .before
-          .before .before .before .before .before .before .before .κs) (c .before .before .before .before .before .before .before .before .before
-          .before .before .before .before .before .before .before .before .before .before .before .args)) (m43 (c .before) (After-sending-on·gave c)
-          .1)))
+          .before .κs) (m51 (c .before) (After-sending-on·gave c) .0)) (Clauses.atExit (Kinds.endedOf 3 ps r) (c .before .before .before .before
+          .before .before .before .before .before .before .before .before .before .before .before .before .before .before .before .before .before
+          .before .before .κs) (dens (c .before .before .before .before .before .before .before .before .before .before .before .before .before
+          .before .before .before .before .before .before .before .before .before .before .κs) (c .before .before .before .before .before .before
+          .before .before .before .before .before .before .before .before .before .before .before .before .before .before .before .before .before
+          .args)) (Enter.lastsP (c .before .before .before .before .before .before .before .before .before .before .before .before .before .before
+          .before .before .before .before .before .before .before .before .before .κs) 1 ps xs (dens (c .before .before .before .before .before
+          .before .before .before .before .before .before .before .before .before .before .before .before .before .before .before .before .before
+          .before .κs) (c .before .before .before .before .before .before .before .before .before .before .before .before .before .before .before
+          .before .before .before .before .before .before .before .before .args)) (m51 (c .before) (After-sending-on·gave c) .1)))
       module _ (asking-requires : Need-asking-requires) (scan-actions-requires : Need-scan-actions-requires) (going-requires : Need-going-requires)
           (queue-requires : Need-queue-requires) (queued-action-requires : Need-queued-action-requires) (queued-go-requires : Need-queued-go-requires)
-          (queued-place-requires : Need-queued-place-requires) (set-action-requires : Need-set-action-requires) (put-queued-requires :
-          Need-put-queued-requires) (position-after-requires : Need-position-after-requires) (sending-on-requires : Need-sending-on-requires)
-          (same-length : Need-same-length) (same-length-2 : Need-same-length-2) (returns : Need-returns) where
-        lay11 : (c : After-sending-on) → at6 (c .before .before .before .before .before .before .before .before .before .before .before .before
-            .before .before .before .before .before .before .before .before .blocks) (W0 (c .before .before .before .before .before .before .before
-            .before .before .before .before .before .before .before .before .before .before .before .before .before .κs) (c .before .before .before
-            .before .before .before .before .before .before .before .before .before .before .before .before .before .before .before .before .before
-            .args) (c .before .before .before .before .before .before .before .before .before .before .before .before .before .before .before .before
-            .before .before .before .before .blocks)) (m37 (c .before) (After-sending-on·gave c))
-        lay11 = λ c. ((MutSlice.fix-len (Row.get 1 (T53 .locals) (m43 (c .before) (After-sending-on·gave c)) .ptr) (Row.get 1 (T53 .locals) (m43 (c
-            .before) (After-sending-on·gave c)) .name) (Row.get 1 (T53 .locals) (m43 (c .before) (After-sending-on·gave c)) .now) (dens (c .before
+          (queued-place-requires : Need-queued-place-requires) (raised-requires : Need-raised-requires) (with-actions-requires :
+          Need-with-actions-requires) (set-action-requires : Need-set-action-requires) (put-queued-requires : Need-put-queued-requires)
+          (position-after-requires : Need-position-after-requires) (sending-on-requires : Need-sending-on-requires) (same-length : Need-same-length)
+          (same-length-2 : Need-same-length-2) (returns : Need-returns) where
+        lay13 : (c : After-sending-on) → at9 (c .before .before .before .before .before .before .before .before .before .before .before .before
+            .before .before .before .before .before .before .before .before .before .before .before .blocks) (W0 (c .before .before .before .before
             .before .before .before .before .before .before .before .before .before .before .before .before .before .before .before .before .before
             .before .before .κs) (c .before .before .before .before .before .before .before .before .before .before .before .before .before .before
-            .before .before .before .before .before .before .args) .0 .now) (same-length record { before = c .before; sending-on = c .sending-on }),
-            (MutSlice.fix-len (Row.get 2 (T53 .locals) (m43 (c .before) (After-sending-on·gave c)) .ptr) (Row.get 2 (T53 .locals) (m43 (c .before)
-            (After-sending-on·gave c)) .name) (Row.get 2 (T53 .locals) (m43 (c .before) (After-sending-on·gave c)) .now) (dens (c .before .before
+            .before .before .before .before .before .before .before .before .before .args) (c .before .before .before .before .before .before .before
+            .before .before .before .before .before .before .before .before .before .before .before .before .before .before .before .before .blocks))
+            (m42 (c .before) (After-sending-on·gave c))
+        lay13 = λ c. ((MutSlice.fix-len (Row.get 1 (T61 .locals) (m51 (c .before) (After-sending-on·gave c)) .ptr) (Row.get 1 (T61 .locals) (m51 (c
+            .before) (After-sending-on·gave c)) .name) (Row.get 1 (T61 .locals) (m51 (c .before) (After-sending-on·gave c)) .now) (dens (c .before
             .before .before .before .before .before .before .before .before .before .before .before .before .before .before .before .before .before
-            .before .κs) (c .before .before .before .before .before .before .before .before .before .before .before .before .before .before .before
-            .before .before .before .before .before .args) .1 .0 .now) (same-length-2 record { before = c .before; sending-on = c .sending-on }), (tt,
-            (tt, (tt, (Path.refl, tt)))),),), returns record { before = c .before; sending-on = c .sending-on },)
-        lay10 : (c : After-position-after) → at8 (c .before .before .before .before .before .before .before .before .before .before .before .before
+            .before .before .before .before .before .κs) (c .before .before .before .before .before .before .before .before .before .before .before
+            .before .before .before .before .before .before .before .before .before .before .before .before .args) .0 .now) (same-length record {
+            before = c .before; sending-on = c .sending-on }), (MutSlice.fix-len (Row.get 2 (T61 .locals) (m51 (c .before) (After-sending-on·gave c))
+            .ptr) (Row.get 2 (T61 .locals) (m51 (c .before) (After-sending-on·gave c)) .name) (Row.get 2 (T61 .locals) (m51 (c .before)
+            (After-sending-on·gave c)) .now) (dens (c .before .before .before .before .before .before .before .before .before .before .before .before
+            .before .before .before .before .before .before .before .before .before .before .before .κs) (c .before .before .before .before .before
+            .before .before .before .before .before .before .before .before .before .before .before .before .before .before .before .before .before
+            .before .args) .1 .0 .now) (same-length-2 record { before = c .before; sending-on = c .sending-on }), (tt, (tt, (tt, (Path.refl,
+            tt)))),),), returns record { before = c .before; sending-on = c .sending-on },)
+        lay12 : (c : After-position-after) → at11 (c .before .before .before .before .before .before .before .before .before .before .before .before
+            .before .before .before .before .before .before .before .before .before .before .blocks) (W0 (c .before .before .before .before .before
+            .before .before .before .before .before .before .before .before .before .before .before .before .before .before .before .before .before
+            .κs) (c .before .before .before .before .before .before .before .before .before .before .before .before .before .before .before .before
+            .before .before .before .before .before .before .args) (c .before .before .before .before .before .before .before .before .before .before
+            .before .before .before .before .before .before .before .before .before .before .before .before .blocks)) (m40 (c .before)
+            (After-position-after·gave c))
+        lay12 = λ c. (sending-on-requires record { before = c .before; position-after = c .position-after }, λ g. lay13 record { before = record {
+            before = c .before; position-after = c .position-after }; sending-on = Called.called ps·12 r·12 (claims· .25) T51 (record { pos = 14; st =
+            List.[]; d = 0; at = λ x. x }, (Num.vAt 20 λ x. x, (record { pos = 19; st = List.[]; d = 0; at = λ x. x }, tt)),) (m41 (c .before)
+            (After-position-after·gave c)) g; },)
+        lay11 : (c : After-put-queued) → at20 (c .before .before .before .before .before .before .before .before .before .before .before .before
             .before .before .before .before .before .before .before .blocks) (W0 (c .before .before .before .before .before .before .before .before
             .before .before .before .before .before .before .before .before .before .before .before .κs) (c .before .before .before .before .before
             .before .before .before .before .before .before .before .before .before .before .before .before .before .before .args) (c .before .before
             .before .before .before .before .before .before .before .before .before .before .before .before .before .before .before .before .before
-            .blocks)) (m35 (c .before) (After-position-after·gave c))
-        lay10 = λ c. (sending-on-requires record { before = c .before; position-after = c .position-after }, λ g. lay11 record { before = record {
-            before = c .before; position-after = c .position-after }; sending-on = Called.called ps·10 r·10 (claims· .21) T46 (record { pos = 12; st =
-            List.[]; d = 0; at = λ x. x }, (Num.vAt 16 λ x. x, tt),) (m36 (c .before) (After-position-after·gave c)) g; },)
-        lay9 : (c : After-put-queued) → at17 (c .before .before .before .before .before .before .before .before .before .before .before .before
+            .blocks)) (m33 (c .before) (After-put-queued·gave c))
+        lay11 = λ c. (Path.refl, λ g. λ g'. (position-after-requires record { before = record { before = record { before = c .before; put-queued = c
+            .put-queued }; out = record { given = g }; }; slice-known2 = record { given = g' }; }, λ g''. lay12 record { before = record { before =
+            record { before = record { before = c .before; put-queued = c .put-queued }; out = record { given = g }; }; slice-known2 = record { given
+            = g' }; }; position-after = Called.called ps·11 r·11 (claims· .23) T49 (Bool.bAt 16 λ x. x, (Num.vAt 8 λ x. x, (Num.vAt 28 λ x. x, tt)),)
+            (m39 record { before = record { before = c .before; put-queued = c .put-queued }; out = record { given = g }; } g') g''; },),)
+        lay10 : (c : After-set-action) → at29 (c .before .before .before .before .before .before .before .before .before .before .before .before
             .before .before .before .before .blocks) (W0 (c .before .before .before .before .before .before .before .before .before .before .before
             .before .before .before .before .before .κs) (c .before .before .before .before .before .before .before .before .before .before .before
             .before .before .before .before .before .args) (c .before .before .before .before .before .before .before .before .before .before .before
-            .before .before .before .before .before .blocks)) (m28 (c .before) (After-put-queued·gave c))
-        lay9 = λ c. (Path.refl, λ g. λ g'. (position-after-requires record { before = record { before = record { before = c .before; put-queued = c
-            .put-queued }; out = record { given = g }; }; slice-known2 = record { given = g' }; }, λ g''. lay10 record { before = record { before =
-            record { before = record { before = c .before; put-queued = c .put-queued }; out = record { given = g }; }; slice-known2 = record { given
-            = g' }; }; position-after = Called.called ps·9 r·9 (claims· .19) T44 (Bool.bAt 14 λ x. x, (Num.vAt 8 λ x. x, (Num.vAt 24 λ x. x, tt)),)
-            (m34 record { before = record { before = c .before; put-queued = c .put-queued }; out = record { given = g }; } g') g''; },),)
-        lay8 : (c : After-set-action) → at26 (c .before .before .before .before .before .before .before .before .before .before .before .before
-            .before .blocks) (W0 (c .before .before .before .before .before .before .before .before .before .before .before .before .before .κs) (c
-            .before .before .before .before .before .before .before .before .before .before .before .before .before .args) (c .before .before .before
-            .before .before .before .before .before .before .before .before .before .before .blocks)) (m22 (c .before) (After-set-action·gave c))
-        lay8 = λ c. (Path.refl, λ g. λ g'. (Path.refl, (put-queued-requires record { before = record { before = record { before = c .before;
-            set-action = c .set-action }; inflight = record { given = g }; }; put-queued-arg = record { given = g' }; }, λ g''. lay9 record { before =
-            record { before = record { before = record { before = c .before; set-action = c .set-action }; inflight = record { given = g }; };
-            put-queued-arg = record { given = g' }; }; put-queued = Called.called ps·8 r·8 (claims· .17) T35 (record { pos = 23; ty = Syntax.tyRef
-            Syntax.erased Syntax.mut (Syntax.tyInt Syntax.w32); ref = λ x. x; }, (Bool.bAt 14 λ x. x, (Num.vAt 8 λ x. x, (record { pos = 5; st =
+            .before .before .before .before .before .blocks)) (m27 (c .before) (After-set-action·gave c))
+        lay10 = λ c. (Path.refl, λ g. λ g'. (Path.refl, (put-queued-requires record { before = record { before = record { before = c .before;
+            set-action = c .set-action }; inflight = record { given = g }; }; put-queued-arg = record { given = g' }; }, λ g''. lay11 record { before
+            = record { before = record { before = record { before = c .before; set-action = c .set-action }; inflight = record { given = g }; };
+            put-queued-arg = record { given = g' }; }; put-queued = Called.called ps·10 r·10 (claims· .21) T40 (record { pos = 27; ty = Syntax.tyRef
+            Syntax.erased Syntax.mut (Syntax.tyInt Syntax.w32); ref = λ x. x; }, (Bool.bAt 16 λ x. x, (Num.vAt 8 λ x. x, (record { pos = 5; st =
             List.[]; d = 0; at = λ x. x }, (record { pos = 7; st = List.[]; d = 0; at = λ x. x }, (record { pos = 6; ty = Syntax.tyRef (Syntax.named
-            2) Syntax.imm (Syntax.tyInt Syntax.w8); ref = λ x. x; }, tt,),),),),),) (m27 record { before = record { before = c .before; set-action = c
+            2) Syntax.imm (Syntax.tyInt Syntax.w8); ref = λ x. x; }, tt,),),),),),) (m32 record { before = record { before = c .before; set-action = c
             .set-action }; inflight = record { given = g }; } g') g''; },),),)
-        lay7 : (c : After-queued-place) → at30 (c .before .before .before .before .before .before .before .before .before .before .before .blocks) (W0
-            (c .before .before .before .before .before .before .before .before .before .before .before .κs) (c .before .before .before .before .before
+        lay9 : (c : After-with-actions) → at34 (c .before .before .before .before .before .before .before .before .before .before .before .before
+            .before .before .blocks) (W0 (c .before .before .before .before .before .before .before .before .before .before .before .before .before
+            .before .κs) (c .before .before .before .before .before .before .before .before .before .before .before .before .before .before .args) (c
+            .before .before .before .before .before .before .before .before .before .before .before .before .before .before .blocks)) (m23 (c .before)
+            (After-with-actions·gave c))
+        lay9 = λ c. λ g. (Path.refl, (set-action-requires record { before = record { before = c .before; with-actions = c .with-actions };
+            set-action-arg = record { given = g }; }, λ g'. lay10 record { before = record { before = record { before = c .before; with-actions = c
+            .with-actions }; set-action-arg = record { given = g }; }; set-action = Called.called ps·9 r·9 (claims· .19) T31 (record { pos = 25; ty =
+            Syntax.tyRef Syntax.erased Syntax.mut InflightAction.to; ref = λ x. x; }, (Bool.bAt 16 λ x. x, (Num.vAt 17 λ x. x, (record { pos = 15; st
+            = List.[]; d = 0; at = λ x. x }, tt),),),) (m26 record { before = c .before; with-actions = c .with-actions } g) g'; },),)
+        lay8 : (c : After-raised) → at35 (c .before .before .before .before .before .before .before .before .before .before .before .before .before
+            .blocks) (W0 (c .before .before .before .before .before .before .before .before .before .before .before .before .before .κs) (c .before
+            .before .before .before .before .before .before .before .before .before .before .before .before .args) (c .before .before .before .before
+            .before .before .before .before .before .before .before .before .before .blocks)) (m22 (c .before) (After-raised·gave c))
+        lay8 = λ c. (with-actions-requires record { before = c .before; raised = c .raised }, λ g. lay9 record { before = record { before = c .before;
+            raised = c .raised }; with-actions = Called.called ps·8 r·8 (claims· .17) T26 (record { pos = 9; st = List.[]; d = 0; at = λ x. x },
+            (Num.vAt 18 λ x. x, tt),) (m22 (c .before) (After-raised·gave c)) g; },)
+        lay7 : (c : After-queued-place) → at36 (c .before .before .before .before .before .before .before .before .before .before .before .before
+            .blocks) (W0 (c .before .before .before .before .before .before .before .before .before .before .before .before .κs) (c .before .before
+            .before .before .before .before .before .before .before .before .before .before .args) (c .before .before .before .before .before .before
+            .before .before .before .before .before .before .blocks)) (m21 (c .before) (After-queued-place·gave c))
+        lay7 = λ c. (raised-requires record { before = c .before; queued-place = c .queued-place }, λ g. lay8 record { before = record { before = c
+            .before; queued-place = c .queued-place }; raised = Called.called ps·7 r·7 (claims· .15) T25 (Num.vFld 9 ((Syntax.field 3) ∷ List.[]) 24 λ
+            x. Places.struct .as-values x .1 .1 .1 .0, (Bool.bAt 16 λ x. x, (Num.vAt 17 λ x. x, (Num.vAt 10 λ x. x, tt))),) (m21 (c .before)
+            (After-queued-place·gave c)) g; },)
+        lay6 : (c : After-queued-go) → at37 (c .before .before .before .before .before .before .before .before .before .before .before .blocks) (W0 (c
+            .before .before .before .before .before .before .before .before .before .before .before .κs) (c .before .before .before .before .before
             .before .before .before .before .before .before .args) (c .before .before .before .before .before .before .before .before .before .before
-            .before .blocks)) (m19 (c .before) (After-queued-place·gave c))
-        lay7 = λ c. λ g. (Path.refl, (set-action-requires record { before = record { before = c .before; queued-place = c .queued-place };
-            set-action-arg = record { given = g }; }, λ g'. lay8 record { before = record { before = record { before = c .before; queued-place = c
-            .queued-place }; set-action-arg = record { given = g }; }; set-action = Called.called ps·7 r·7 (claims· .15) T26 (record { pos = 21; ty =
-            Syntax.tyRef Syntax.erased Syntax.mut InflightAction.to; ref = λ x. x; }, (Bool.bAt 14 λ x. x, (Num.vAt 15 λ x. x, (record { pos = 13; st
-            = List.[]; d = 0; at = λ x. x }, tt),),),) (m21 record { before = c .before; queued-place = c .queued-place } g) g'; },),)
-        lay6 : (c : After-queued-go) → at31 (c .before .before .before .before .before .before .before .before .before .before .blocks) (W0 (c .before
-            .before .before .before .before .before .before .before .before .before .κs) (c .before .before .before .before .before .before .before
-            .before .before .before .args) (c .before .before .before .before .before .before .before .before .before .before .blocks)) (m18 (c
-            .before) (After-queued-go·gave c))
+            .before .blocks)) (m20 (c .before) (After-queued-go·gave c))
         lay6 = λ c. (queued-place-requires record { before = c .before; queued-go = c .queued-go }, λ g. lay7 record { before = record { before = c
-            .before; queued-go = c .queued-go }; queued-place = Called.called ps·6 r·6 (claims· .13) T22 (record { pos = 12; st = List.[]; d = 0; at =
-            λ x. x }, tt,) (m18 (c .before) (After-queued-go·gave c)) g; },)
-        lay5 : (c : After-queued-action) → at32 (c .before .before .before .before .before .before .before .before .before .blocks) (W0 (c .before
-            .before .before .before .before .before .before .before .before .κs) (c .before .before .before .before .before .before .before .before
-            .before .args) (c .before .before .before .before .before .before .before .before .before .blocks)) (m17 (c .before)
-            (After-queued-action·gave c))
+            .before; queued-go = c .queued-go }; queued-place = Called.called ps·6 r·6 (claims· .13) T24 (record { pos = 14; st = List.[]; d = 0; at =
+            λ x. x }, tt,) (m20 (c .before) (After-queued-go·gave c)) g; },)
+        lay5 : (c : After-queued-action) → at38 (c .before .before .before .before .before .before .before .before .before .before .blocks) (W0 (c
+            .before .before .before .before .before .before .before .before .before .before .κs) (c .before .before .before .before .before .before
+            .before .before .before .before .args) (c .before .before .before .before .before .before .before .before .before .before .blocks)) (m19
+            (c .before) (After-queued-action·gave c))
         lay5 = λ c. (queued-go-requires record { before = c .before; queued-action = c .queued-action }, λ g. lay6 record { before = record { before =
-            c .before; queued-action = c .queued-action }; queued-go = Called.called ps·5 r·5 (claims· .11) T21 (record { pos = 12; st = List.[]; d =
-            0; at = λ x. x }, tt,) (m17 (c .before) (After-queued-action·gave c)) g; },)
-        lay4 : (c : After-queue) → at35 (c .before .before .before .before .before .before .before .before .blocks) (W0 (c .before .before .before
-            .before .before .before .before .before .κs) (c .before .before .before .before .before .before .before .before .args) (c .before .before
-            .before .before .before .before .before .before .blocks)) (m14 (c .before) (After-queue·gave c))
+            c .before; queued-action = c .queued-action }; queued-go = Called.called ps·5 r·5 (claims· .11) T23 (record { pos = 14; st = List.[]; d =
+            0; at = λ x. x }, tt,) (m19 (c .before) (After-queued-action·gave c)) g; },)
+        lay4 : (c : After-queue) → at41 (c .before .before .before .before .before .before .before .before .before .blocks) (W0 (c .before .before
+            .before .before .before .before .before .before .before .κs) (c .before .before .before .before .before .before .before .before .before
+            .args) (c .before .before .before .before .before .before .before .before .before .blocks)) (m16 (c .before) (After-queue·gave c))
         lay4 = λ c. (queued-action-requires record { before = c .before; queue = c .queue }, λ g. lay5 record { before = record { before = c .before;
-            queue = c .queue }; queued-action = Called.called ps·4 r·4 (claims· .9) T20 (record { pos = 12; st = List.[]; d = 0; at = λ x. x }, tt,)
-            (m16 (c .before) (After-queue·gave c)) g; },)
-        lay3 : (c : After-going) → at36 (c .before .before .before .before .before .before .before .blocks) (W0 (c .before .before .before .before
-            .before .before .before .κs) (c .before .before .before .before .before .before .before .args) (c .before .before .before .before .before
-            .before .before .blocks)) (m13 (c .before) (After-going·gave c))
+            queue = c .queue }; queued-action = Called.called ps·4 r·4 (claims· .9) T22 (record { pos = 14; st = List.[]; d = 0; at = λ x. x }, tt,)
+            (m18 (c .before) (After-queue·gave c)) g; },)
+        lay3 : (c : After-going) → at42 (c .before .before .before .before .before .before .before .before .blocks) (W0 (c .before .before .before
+            .before .before .before .before .before .κs) (c .before .before .before .before .before .before .before .before .args) (c .before .before
+            .before .before .before .before .before .before .blocks)) (m15 (c .before) (After-going·gave c))
         lay3 = λ c. (queue-requires record { before = c .before; going = c .going }, λ g. lay4 record { before = record { before = c .before; going =
-            c .going }; queue = Called.called ps·3 r·3 (claims· .7) T17 (record { pos = 11; st = List.[]; d = 0; at = λ x. x }, (record { pos = 7; st
-            = List.[]; d = 0; at = λ x. x }, (record { pos = 5; st = List.[]; d = 0; at = λ x. x }, (record { pos = 10; st = List.[]; d = 0; at = λ x.
-            x }, tt),),),) (m13 (c .before) (After-going·gave c)) g; },)
-        lay2 : (c : After-scan-actions) → at42 (c .before .before .before .before .before .before .blocks) (W0 (c .before .before .before .before
-            .before .before .κs) (c .before .before .before .before .before .before .args) (c .before .before .before .before .before .before
-            .blocks)) (m9 (c .before) (After-scan-actions·gave c))
+            c .going }; queue = Called.called ps·3 r·3 (claims· .7) T19 (record { pos = 13; st = List.[]; d = 0; at = λ x. x }, (record { pos = 7; st
+            = List.[]; d = 0; at = λ x. x }, (record { pos = 5; st = List.[]; d = 0; at = λ x. x }, (record { pos = 12; st = List.[]; d = 0; at = λ x.
+            x }, tt),),),) (m15 (c .before) (After-going·gave c)) g; },)
+        lay2 : (c : After-scan-actions) → at48 (c .before .before .before .before .before .before .before .blocks) (W0 (c .before .before .before
+            .before .before .before .before .κs) (c .before .before .before .before .before .before .before .args) (c .before .before .before .before
+            .before .before .before .blocks)) (m11 (c .before) (After-scan-actions·gave c))
         lay2 = λ c. (going-requires record { before = c .before; scan-actions = c .scan-actions }, λ g. lay3 record { before = record { before = c
-            .before; scan-actions = c .scan-actions }; going = Called.called ps·2 r·2 (claims· .5) T15 (Bool.bAt 3 λ x. x, tt) (m12 (c .before)
+            .before; scan-actions = c .scan-actions }; going = Called.called ps·2 r·2 (claims· .5) T17 (Bool.bAt 3 λ x. x, tt) (m14 (c .before)
             (After-scan-actions·gave c)) g; },)
-        lay1 : (c : After-asking) → at46 (c .before .before .before .before .blocks) (W0 (c .before .before .before .before .κs) (c .before .before
-            .before .before .args) (c .before .before .before .before .blocks)) (m6 (c .before) (After-asking·gave c))
+        lay1 : (c : After-asking) → at52 (c .before .before .before .before .before .blocks) (W0 (c .before .before .before .before .before .κs) (c
+            .before .before .before .before .before .args) (c .before .before .before .before .before .blocks)) (m8 (c .before) (After-asking·gave c))
         lay1 = λ c. λ g. (Path.refl, (scan-actions-requires record { before = record { before = c .before; asking = c .asking }; scan-actions-arg =
             record { given = g }; }, λ g'. lay2 record { before = record { before = record { before = c .before; asking = c .asking };
-            scan-actions-arg = record { given = g }; }; scan-actions = Called.called ps·1 r·1 (claims· .3) T10 (record { pos = 18; ty = Syntax.tyRef
-            Syntax.erased Syntax.imm InflightAction.to; ref = λ x. x; }, (record { pos = 9; st = List.[]; d = 0; at = λ x. x }, tt),) (m8 record {
-            before = c .before; asking = c .asking } g) g'; },),)
-        pub laid : (c : Start) → at52 (c .blocks) (W0 (c .κs) (c .args) (c .blocks)) (m0 (c .κs) (c .args) (c .blocks))
-        laid = λ c. λ g. λ g'. (tt, λ g''. (asking-requires record { before = record { before = record { before = c; slice-known = record { given = g
-            } }; shared-slice-known = record { given = g' }; }; runtime = record { given = g'' }; }, λ g'3. lay1 record { before = record { before =
-            record { before = record { before = c; slice-known = record { given = g } }; shared-slice-known = record { given = g' }; }; runtime =
-            record { given = g'' }; }; asking = Called.called ps·0 r·0 (claims· .1) T6 (record { pos = 7; st = List.[]; d = 0; at = λ x. x }, (record
-            { pos = 5; st = List.[]; d = 0; at = λ x. x }, tt),) (m5 record { before = record { before = c; slice-known = record { given = g } };
-            shared-slice-known = record { given = g' }; } g'') g'3; },),)
+            scan-actions-arg = record { given = g }; }; scan-actions = Called.called ps·1 r·1 (claims· .3) T12 (record { pos = 22; ty = Syntax.tyRef
+            Syntax.erased Syntax.imm InflightAction.to; ref = λ x. x; }, (record { pos = 9; st = List.[]; d = 0; at = λ x. x }, (record { pos = 11; st
+            = List.[]; d = 0; at = λ x. x }, tt),),) (m10 record { before = c .before; asking = c .asking } g) g'; },),)
+        pub laid : (c : Start) → at60 (c .blocks) (W0 (c .κs) (c .args) (c .blocks)) (m0 (c .κs) (c .args) (c .blocks))
+        laid = λ c. λ g. λ g'. (tt, λ g''. (tt, λ g'3. (asking-requires record { before = record { before = record { before = record { before = c;
+            slice-known = record { given = g } }; shared-slice-known = record { given = g' }; }; runtime = record { given = g'' }; }; places = record
+            { given = g'3 }; }, λ g'4. lay1 record { before = record { before = record { before = record { before = record { before = c; slice-known =
+            record { given = g } }; shared-slice-known = record { given = g' }; }; runtime = record { given = g'' }; }; places = record { given = g'3
+            }; }; asking = Called.called ps·0 r·0 (claims· .1) T8 (record { pos = 7; st = List.[]; d = 0; at = λ x. x }, (record { pos = 5; st =
+            List.[]; d = 0; at = λ x. x }, tt),) (m7 record { before = record { before = record { before = c; slice-known = record { given = g } };
+            shared-slice-known = record { given = g' }; }; runtime = record { given = g'' }; } g'3) g'4; },),),)
         module _ (κs : Lifetimes.Lfts 3) (qs : Lifetimes.Shares 3) where
           pub asked : (a : Kinds.Dens κs ps) → (good : Kinds.GoodsP κs ps a) → (pre : Pre· κs a) → (bs : List.List Nat.ℕ) → Φ bs (Any.wantQ 3 ps r xs
               m κs qs a (Post· κs a)) (Function.init 3 ps r xs m κs qs a)
@@ -1892,11 +2214,13 @@ module _ (claims· : Claims) where
             "hnsr_circuit::queue::going") (known3 : Plain.Known 𝓤 H A W 𝓣 0 ps·3 r·3 (claims· .6) (claims· .7) "hnsr_circuit::queue::queue") (known4 :
             Plain.Known 𝓤 H A W 𝓣 0 ps·4 r·4 (claims· .8) (claims· .9) "hnsr_circuit::queue::queued_action") (known5 : Plain.Known 𝓤 H A W 𝓣 0 ps·5
             r·5 (claims· .10) (claims· .11) "hnsr_circuit::queue::queued_go") (known6 : Plain.Known 𝓤 H A W 𝓣 0 ps·6 r·6 (claims· .12) (claims· .13)
-            "hnsr_circuit::queue::queued_place") (known7 : Plain.Known 𝓤 H A W 𝓣 1 ps·7 r·7 (claims· .14) (claims· .15)
-            "hnsr_circuit::tables::inflight::set_action") (known8 : Plain.Known 𝓤 H A W 𝓣 2 ps·8 r·8 (claims· .16) (claims· .17)
-            "hnsr_circuit::queue::put_queued") (known9 : Plain.Known 𝓤 H A W 𝓣 0 ps·9 r·9 (claims· .18) (claims· .19)
-            "hnsr_circuit::queue::position_after") (known10 : Plain.Known 𝓤 H A W 𝓣 0 ps·10 r·10 (claims· .20) (claims· .21)
+            "hnsr_circuit::queue::queued_place") (known7 : Plain.Known 𝓤 H A W 𝓣 0 ps·7 r·7 (claims· .14) (claims· .15)
+            "hnsr_circuit::places::raised") (known8 : Plain.Known 𝓤 H A W 𝓣 0 ps·8 r·8 (claims· .16) (claims· .17)
+            "hnsr_circuit::places::with_actions") (known9 : Plain.Known 𝓤 H A W 𝓣 1 ps·9 r·9 (claims· .18) (claims· .19)
+            "hnsr_circuit::tables::inflight::set_action") (known10 : Plain.Known 𝓤 H A W 𝓣 2 ps·10 r·10 (claims· .20) (claims· .21)
+            "hnsr_circuit::queue::put_queued") (known11 : Plain.Known 𝓤 H A W 𝓣 0 ps·11 r·11 (claims· .22) (claims· .23)
+            "hnsr_circuit::queue::position_after") (known12 : Plain.Known 𝓤 H A W 𝓣 0 ps·12 r·12 (claims· .24) (claims· .25)
             "hnsr_circuit::queue::sending_on") where
           pub spec : Statement.Triple 𝓤 (Wp.WpFn 𝓤 H (𝓣 .C) (𝓣 .Λ) (Function.fnOf 3 ps r xs m hs body)) (Function.plainOf 𝓤 H A 3 ps r Pre· Post·)
           spec = Plain.t-fn-plain 𝓤 H A W 𝓣 3 ps r xs m hs body (λ κs qs bs. Φ bs) (λ κs qs bs bd. typed κs qs 𝓤 H A W 𝓣 (known0, known1, known2,
-              known3, known4, known5, known6, known7, known8, known9, known10,) bs bd) Pre· Post· asked
+              known3, known4, known5, known6, known7, known8, known9, known10, known11, known12,) bs bd) Pre· Post· asked

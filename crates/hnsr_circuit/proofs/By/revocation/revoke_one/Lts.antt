@@ -4,12 +4,14 @@ use Rattle.hnsr_body.proofs.messages.Notice
 use Rattle.hnsr_body.proofs.messages.Notice.Laws
 use Rattle.hnsr_circuit.proofs.By.InflightAction
 use Rattle.hnsr_circuit.proofs.By.RelayCircuit
+use Rattle.hnsr_circuit.proofs.places.Places
+use Rattle.hnsr_circuit.proofs.places.Places.Laws as Laws'
 use Rattle.hnsr_circuit.proofs.runtime.OpaqueRelayRuntime
-use Rattle.hnsr_circuit.proofs.runtime.OpaqueRelayRuntime.Laws as Laws'
+use Rattle.hnsr_circuit.proofs.runtime.OpaqueRelayRuntime.Laws as Laws''
 use Rattle.hnsr_circuit.proofs.runtime.Relayed
-use Rattle.hnsr_circuit.proofs.runtime.Relayed.Laws as Laws''
+use Rattle.hnsr_circuit.proofs.runtime.Relayed.Laws as Laws'''
 use Rattle.hnsr_circuit.proofs.runtime.Sending
-use Rattle.hnsr_circuit.proofs.runtime.Sending.Laws as Laws'''
+use Rattle.hnsr_circuit.proofs.runtime.Sending.Laws as Laws''''
 use borrow.Author.Called
 use borrow.Fn.Any
 use borrow.Fn.Call
@@ -37,10 +39,10 @@ use borrow.Table.Rows
 use borrow.Table.Typed
 use contract.Lifetimes
 use denote.Enum.Declared
-use denote.Enum.Laws as Laws''''
+use denote.Enum.Laws as Laws'''''
 use denote.Exit
 use denote.Struct.Declared as Declared'
-use denote.Struct.Laws as Laws'''''
+use denote.Struct.Laws as Laws''''''
 use denote.Triple.Clauses
 use denote.Triple.Statement
 use ghost.Atoms
@@ -69,99 +71,110 @@ abbrev ref5 : Syntax.Ty
 ref5 = Syntax.tyRef (Syntax.named 2) Syntax.mut (Syntax.tyInt Syntax.w32)
 abbrev pub ps : List.List (Kinds.PK 3)
 ps = (MutSlice.pMutS RelayCircuit.row 0 tt) ∷ (MutSlice.pMutS InflightAction.row 1 tt) ∷ (MutSlice.pMutS (Referent.rtF (Referent.fInt Syntax.w32)) 2
-    tt) ∷ (Value.pVal record { ty = Declared'.row OpaqueRelayRuntime.the-type; one = Path.refl; val = Laws'''''.val OpaqueRelayRuntime.the-type
-    Laws'.the-laws; tells = Laws'''''.tells OpaqueRelayRuntime.the-type Laws'.the-laws; still = Laws'''''.still OpaqueRelayRuntime.the-type
-    Laws'.the-copy Exit.yes; row = Rows.whole (Declared'.row OpaqueRelayRuntime.the-type); rd = λ x. x; mk = λ x. x; } λ M 𝓤 H A W. record { copies =
-    Laws'''''.copy OpaqueRelayRuntime.the-type Laws'.the-copy 𝓤 H A W; lawful = Laws'''''.lawful OpaqueRelayRuntime.the-type Laws'.the-laws 𝓤 H A W;
-    makes = Laws'''''.makes OpaqueRelayRuntime.the-type Laws'.the-plain 𝓤 H A; in-mem = Local.mem-whole 𝓤 H A W (Declared'.row
+    tt) ∷ (Value.pVal record { ty = Declared'.row OpaqueRelayRuntime.the-type; one = Path.refl; val = Laws''''''.val OpaqueRelayRuntime.the-type
+    Laws''.the-laws; tells = Laws''''''.tells OpaqueRelayRuntime.the-type Laws''.the-laws; still = Laws''''''.still OpaqueRelayRuntime.the-type
+    Laws''.the-copy Exit.yes; row = Rows.whole (Declared'.row OpaqueRelayRuntime.the-type); rd = λ x. x; mk = λ x. x; } λ M 𝓤 H A W. record { copies =
+    Laws''''''.copy OpaqueRelayRuntime.the-type Laws''.the-copy 𝓤 H A W; lawful = Laws''''''.lawful OpaqueRelayRuntime.the-type Laws''.the-laws 𝓤 H A
+    W; makes = Laws''''''.makes OpaqueRelayRuntime.the-type Laws''.the-plain 𝓤 H A; in-mem = Local.mem-whole 𝓤 H A W (Declared'.row
     OpaqueRelayRuntime.the-type); of-mem = Local.whole-mem 𝓤 H A W (Declared'.row OpaqueRelayRuntime.the-type); }) ∷ (Value.pVal record { ty =
-    Declared.row Notice.the-type; one = Path.refl; val = Laws''''.val Notice.the-type Laws.the-laws; tells = Laws''''.tells Notice.the-type
-    Laws.the-laws; still = Laws''''.still Notice.the-type Laws.the-copy Exit.yes; row = Rows.whole (Declared.row Notice.the-type); rd = λ x. x; mk = λ
-    x. x; } λ M 𝓤 H A W. record { copies = Laws''''.copy Notice.the-type Laws.the-copy 𝓤 H A W; lawful = Laws''''.lawful Notice.the-type Laws.the-laws
-    𝓤 H A W tt; makes = Laws''''.makes Notice.the-type Laws.the-plain 𝓤 H A; in-mem = Local.mem-whole 𝓤 H A W (Declared.row Notice.the-type); of-mem =
-    Local.whole-mem 𝓤 H A W (Declared.row Notice.the-type); }) ∷ (Num.pNum Syntax.w64) ∷ List.[]
+    Declared'.row Places.the-type; one = Path.refl; val = Laws''''''.val Places.the-type Laws'.the-laws; tells = Laws''''''.tells Places.the-type
+    Laws'.the-laws; still = Laws''''''.still Places.the-type Laws'.the-copy Exit.yes; row = Rows.whole (Declared'.row Places.the-type); rd = λ x. x;
+    mk = λ x. x; } λ M 𝓤 H A W. record { copies = Laws''''''.copy Places.the-type Laws'.the-copy 𝓤 H A W; lawful = Laws''''''.lawful Places.the-type
+    Laws'.the-laws 𝓤 H A W; makes = Laws''''''.makes Places.the-type Laws'.the-plain 𝓤 H A; in-mem = Local.mem-whole 𝓤 H A W (Declared'.row
+    Places.the-type); of-mem = Local.whole-mem 𝓤 H A W (Declared'.row Places.the-type); }) ∷ (Value.pVal record { ty = Declared.row Notice.the-type;
+    one = Path.refl; val = Laws'''''.val Notice.the-type Laws.the-laws; tells = Laws'''''.tells Notice.the-type Laws.the-laws; still = Laws'''''.still
+    Notice.the-type Laws.the-copy Exit.yes; row = Rows.whole (Declared.row Notice.the-type); rd = λ x. x; mk = λ x. x; } λ M 𝓤 H A W. record { copies
+    = Laws'''''.copy Notice.the-type Laws.the-copy 𝓤 H A W; lawful = Laws'''''.lawful Notice.the-type Laws.the-laws 𝓤 H A W tt; makes =
+    Laws'''''.makes Notice.the-type Laws.the-plain 𝓤 H A; in-mem = Local.mem-whole 𝓤 H A W (Declared.row Notice.the-type); of-mem = Local.whole-mem 𝓤
+    H A W (Declared.row Notice.the-type); }) ∷ (Num.pNum Syntax.w64) ∷ List.[]
 abbrev pub r : Kinds.RK 3
-r = Value.rVal record { ty = Declared'.row Relayed.the-type; one = Path.refl; val = Laws'''''.val Relayed.the-type Laws''.the-laws; tells =
-    Laws'''''.tells Relayed.the-type Laws''.the-laws; still = Laws'''''.still Relayed.the-type Laws''.the-copy Exit.yes; row = Rows.whole
-    (Declared'.row Relayed.the-type); rd = λ x. x; mk = λ x. x; } λ M 𝓤 H A W. record { copies = Laws'''''.copy Relayed.the-type Laws''.the-copy 𝓤 H A
-    W; lawful = Laws'''''.lawful Relayed.the-type Laws''.the-laws 𝓤 H A W; makes = Laws'''''.makes Relayed.the-type Laws''.the-plain 𝓤 H A; in-mem =
-    Local.mem-whole 𝓤 H A W (Declared'.row Relayed.the-type); of-mem = Local.whole-mem 𝓤 H A W (Declared'.row Relayed.the-type); }
+r = Value.rVal record { ty = Declared'.row Relayed.the-type; one = Path.refl; val = Laws''''''.val Relayed.the-type Laws'''.the-laws; tells =
+    Laws''''''.tells Relayed.the-type Laws'''.the-laws; still = Laws''''''.still Relayed.the-type Laws'''.the-copy Exit.yes; row = Rows.whole
+    (Declared'.row Relayed.the-type); rd = λ x. x; mk = λ x. x; } λ M 𝓤 H A W. record { copies = Laws''''''.copy Relayed.the-type Laws'''.the-copy 𝓤 H
+    A W; lawful = Laws''''''.lawful Relayed.the-type Laws'''.the-laws 𝓤 H A W; makes = Laws''''''.makes Relayed.the-type Laws'''.the-plain 𝓤 H A;
+    in-mem = Local.mem-whole 𝓤 H A W (Declared'.row Relayed.the-type); of-mem = Local.whole-mem 𝓤 H A W (Declared'.row Relayed.the-type); }
 abbrev pub xs : List.List Syntax.Ty
-xs = Laws'''.mir ∷ Laws'''.mir ∷ ref0 ∷ (Syntax.tyStruct (38 ∷ 91 ∷ 93 ∷ List.[]) (Syntax.tcons ref0 (Syntax.tcons (Syntax.tyInt Syntax.w64)
+xs = Laws''''.mir ∷ Laws''''.mir ∷ ref0 ∷ (Syntax.tyStruct (38 ∷ 91 ∷ 93 ∷ List.[]) (Syntax.tcons ref0 (Syntax.tcons (Syntax.tyInt Syntax.w64)
     Syntax.tnil))) ∷ ref1 ∷ (Syntax.tyStruct (38 ∷ 91 ∷ 93 ∷ List.[]) (Syntax.tcons ref1 (Syntax.tcons (Syntax.tyInt Syntax.w64) Syntax.tnil))) ∷ ref2
     ∷ (Syntax.tyStruct (38 ∷ 91 ∷ 93 ∷ List.[]) (Syntax.tcons ref2 (Syntax.tcons (Syntax.tyInt Syntax.w64) Syntax.tnil))) ∷ List.[]
 abbrev pub m : Nat.ℕ
 m = 3
 abbrev pub ps·0 : List.List (Kinds.PK 0)
-ps·0 = (Value.pVal record { ty = Declared'.row OpaqueRelayRuntime.the-type; one = Path.refl; val = Laws'''''.val OpaqueRelayRuntime.the-type
-    Laws'.the-laws; tells = Laws'''''.tells OpaqueRelayRuntime.the-type Laws'.the-laws; still = Laws'''''.still OpaqueRelayRuntime.the-type
-    Laws'.the-copy Exit.yes; row = Rows.whole (Declared'.row OpaqueRelayRuntime.the-type); rd = λ x. x; mk = λ x. x; } λ M 𝓤 H A W. record { copies =
-    Laws'''''.copy OpaqueRelayRuntime.the-type Laws'.the-copy 𝓤 H A W; lawful = Laws'''''.lawful OpaqueRelayRuntime.the-type Laws'.the-laws 𝓤 H A W;
-    makes = Laws'''''.makes OpaqueRelayRuntime.the-type Laws'.the-plain 𝓤 H A; in-mem = Local.mem-whole 𝓤 H A W (Declared'.row
-    OpaqueRelayRuntime.the-type); of-mem = Local.whole-mem 𝓤 H A W (Declared'.row OpaqueRelayRuntime.the-type); }) ∷ List.[]
+ps·0 = (Value.pVal record { ty = Declared'.row OpaqueRelayRuntime.the-type; one = Path.refl; val = Laws''''''.val OpaqueRelayRuntime.the-type
+    Laws''.the-laws; tells = Laws''''''.tells OpaqueRelayRuntime.the-type Laws''.the-laws; still = Laws''''''.still OpaqueRelayRuntime.the-type
+    Laws''.the-copy Exit.yes; row = Rows.whole (Declared'.row OpaqueRelayRuntime.the-type); rd = λ x. x; mk = λ x. x; } λ M 𝓤 H A W. record { copies =
+    Laws''''''.copy OpaqueRelayRuntime.the-type Laws''.the-copy 𝓤 H A W; lawful = Laws''''''.lawful OpaqueRelayRuntime.the-type Laws''.the-laws 𝓤 H A
+    W; makes = Laws''''''.makes OpaqueRelayRuntime.the-type Laws''.the-plain 𝓤 H A; in-mem = Local.mem-whole 𝓤 H A W (Declared'.row
+    OpaqueRelayRuntime.the-type); of-mem = Local.whole-mem 𝓤 H A W (Declared'.row OpaqueRelayRuntime.the-type); }) ∷ (Value.pVal record { ty =
+    Declared'.row Places.the-type; one = Path.refl; val = Laws''''''.val Places.the-type Laws'.the-laws; tells = Laws''''''.tells Places.the-type
+    Laws'.the-laws; still = Laws''''''.still Places.the-type Laws'.the-copy Exit.yes; row = Rows.whole (Declared'.row Places.the-type); rd = λ x. x;
+    mk = λ x. x; } λ M 𝓤 H A W. record { copies = Laws''''''.copy Places.the-type Laws'.the-copy 𝓤 H A W; lawful = Laws''''''.lawful Places.the-type
+    Laws'.the-laws 𝓤 H A W; makes = Laws''''''.makes Places.the-type Laws'.the-plain 𝓤 H A; in-mem = Local.mem-whole 𝓤 H A W (Declared'.row
+    Places.the-type); of-mem = Local.whole-mem 𝓤 H A W (Declared'.row Places.the-type); }) ∷ List.[]
 abbrev pub r·0 : Kinds.RK 0
-r·0 = Value.rVal record { ty = Declared'.row Sending.the-type; one = Path.refl; val = Laws'''''.val Sending.the-type Laws'''.the-laws; tells =
-    Laws'''''.tells Sending.the-type Laws'''.the-laws; still = Laws'''''.still Sending.the-type Laws'''.the-copy Exit.yes; row = Rows.whole
-    (Declared'.row Sending.the-type); rd = λ x. x; mk = λ x. x; } λ M 𝓤 H A W. record { copies = Laws'''''.copy Sending.the-type Laws'''.the-copy 𝓤 H
-    A W; lawful = Laws'''''.lawful Sending.the-type Laws'''.the-laws 𝓤 H A W; makes = Laws'''''.makes Sending.the-type Laws'''.the-plain 𝓤 H A; in-mem
-    = Local.mem-whole 𝓤 H A W (Declared'.row Sending.the-type); of-mem = Local.whole-mem 𝓤 H A W (Declared'.row Sending.the-type); }
+r·0 = Value.rVal record { ty = Declared'.row Sending.the-type; one = Path.refl; val = Laws''''''.val Sending.the-type Laws''''.the-laws; tells =
+    Laws''''''.tells Sending.the-type Laws''''.the-laws; still = Laws''''''.still Sending.the-type Laws''''.the-copy Exit.yes; row = Rows.whole
+    (Declared'.row Sending.the-type); rd = λ x. x; mk = λ x. x; } λ M 𝓤 H A W. record { copies = Laws''''''.copy Sending.the-type Laws''''.the-copy 𝓤
+    H A W; lawful = Laws''''''.lawful Sending.the-type Laws''''.the-laws 𝓤 H A W; makes = Laws''''''.makes Sending.the-type Laws''''.the-plain 𝓤 H A;
+    in-mem = Local.mem-whole 𝓤 H A W (Declared'.row Sending.the-type); of-mem = Local.whole-mem 𝓤 H A W (Declared'.row Sending.the-type); }
 abbrev pub ps·1 : List.List (Kinds.PK 3)
 ps·1 = (MutSlice.pMutS RelayCircuit.row 0 tt) ∷ (MutSlice.pMutS InflightAction.row 1 tt) ∷ (MutSlice.pMutS (Referent.rtF (Referent.fInt Syntax.w32)) 2
-    tt) ∷ (Value.pVal record { ty = Declared'.row Sending.the-type; one = Path.refl; val = Laws'''''.val Sending.the-type Laws'''.the-laws; tells =
-    Laws'''''.tells Sending.the-type Laws'''.the-laws; still = Laws'''''.still Sending.the-type Laws'''.the-copy Exit.yes; row = Rows.whole
-    (Declared'.row Sending.the-type); rd = λ x. x; mk = λ x. x; } λ M 𝓤 H A W. record { copies = Laws'''''.copy Sending.the-type Laws'''.the-copy 𝓤 H
-    A W; lawful = Laws'''''.lawful Sending.the-type Laws'''.the-laws 𝓤 H A W; makes = Laws'''''.makes Sending.the-type Laws'''.the-plain 𝓤 H A; in-mem
-    = Local.mem-whole 𝓤 H A W (Declared'.row Sending.the-type); of-mem = Local.whole-mem 𝓤 H A W (Declared'.row Sending.the-type); }) ∷ (Value.pVal
-    record { ty = Declared.row Notice.the-type; one = Path.refl; val = Laws''''.val Notice.the-type Laws.the-laws; tells = Laws''''.tells
-    Notice.the-type Laws.the-laws; still = Laws''''.still Notice.the-type Laws.the-copy Exit.yes; row = Rows.whole (Declared.row Notice.the-type); rd
-    = λ x. x; mk = λ x. x; } λ M 𝓤 H A W. record { copies = Laws''''.copy Notice.the-type Laws.the-copy 𝓤 H A W; lawful = Laws''''.lawful
-    Notice.the-type Laws.the-laws 𝓤 H A W tt; makes = Laws''''.makes Notice.the-type Laws.the-plain 𝓤 H A; in-mem = Local.mem-whole 𝓤 H A W
-    (Declared.row Notice.the-type); of-mem = Local.whole-mem 𝓤 H A W (Declared.row Notice.the-type); }) ∷ (Num.pNum Syntax.w64) ∷ List.[]
+    tt) ∷ (Value.pVal record { ty = Declared'.row Sending.the-type; one = Path.refl; val = Laws''''''.val Sending.the-type Laws''''.the-laws; tells =
+    Laws''''''.tells Sending.the-type Laws''''.the-laws; still = Laws''''''.still Sending.the-type Laws''''.the-copy Exit.yes; row = Rows.whole
+    (Declared'.row Sending.the-type); rd = λ x. x; mk = λ x. x; } λ M 𝓤 H A W. record { copies = Laws''''''.copy Sending.the-type Laws''''.the-copy 𝓤
+    H A W; lawful = Laws''''''.lawful Sending.the-type Laws''''.the-laws 𝓤 H A W; makes = Laws''''''.makes Sending.the-type Laws''''.the-plain 𝓤 H A;
+    in-mem = Local.mem-whole 𝓤 H A W (Declared'.row Sending.the-type); of-mem = Local.whole-mem 𝓤 H A W (Declared'.row Sending.the-type); }) ∷
+    (Value.pVal record { ty = Declared.row Notice.the-type; one = Path.refl; val = Laws'''''.val Notice.the-type Laws.the-laws; tells =
+    Laws'''''.tells Notice.the-type Laws.the-laws; still = Laws'''''.still Notice.the-type Laws.the-copy Exit.yes; row = Rows.whole (Declared.row
+    Notice.the-type); rd = λ x. x; mk = λ x. x; } λ M 𝓤 H A W. record { copies = Laws'''''.copy Notice.the-type Laws.the-copy 𝓤 H A W; lawful =
+    Laws'''''.lawful Notice.the-type Laws.the-laws 𝓤 H A W tt; makes = Laws'''''.makes Notice.the-type Laws.the-plain 𝓤 H A; in-mem = Local.mem-whole
+    𝓤 H A W (Declared.row Notice.the-type); of-mem = Local.whole-mem 𝓤 H A W (Declared.row Notice.the-type); }) ∷ (Num.pNum Syntax.w64) ∷ List.[]
 abbrev pub r·1 : Kinds.RK 3
-r·1 = Value.rVal record { ty = Declared'.row Sending.the-type; one = Path.refl; val = Laws'''''.val Sending.the-type Laws'''.the-laws; tells =
-    Laws'''''.tells Sending.the-type Laws'''.the-laws; still = Laws'''''.still Sending.the-type Laws'''.the-copy Exit.yes; row = Rows.whole
-    (Declared'.row Sending.the-type); rd = λ x. x; mk = λ x. x; } λ M 𝓤 H A W. record { copies = Laws'''''.copy Sending.the-type Laws'''.the-copy 𝓤 H
-    A W; lawful = Laws'''''.lawful Sending.the-type Laws'''.the-laws 𝓤 H A W; makes = Laws'''''.makes Sending.the-type Laws'''.the-plain 𝓤 H A; in-mem
-    = Local.mem-whole 𝓤 H A W (Declared'.row Sending.the-type); of-mem = Local.whole-mem 𝓤 H A W (Declared'.row Sending.the-type); }
+r·1 = Value.rVal record { ty = Declared'.row Sending.the-type; one = Path.refl; val = Laws''''''.val Sending.the-type Laws''''.the-laws; tells =
+    Laws''''''.tells Sending.the-type Laws''''.the-laws; still = Laws''''''.still Sending.the-type Laws''''.the-copy Exit.yes; row = Rows.whole
+    (Declared'.row Sending.the-type); rd = λ x. x; mk = λ x. x; } λ M 𝓤 H A W. record { copies = Laws''''''.copy Sending.the-type Laws''''.the-copy 𝓤
+    H A W; lawful = Laws''''''.lawful Sending.the-type Laws''''.the-laws 𝓤 H A W; makes = Laws''''''.makes Sending.the-type Laws''''.the-plain 𝓤 H A;
+    in-mem = Local.mem-whole 𝓤 H A W (Declared'.row Sending.the-type); of-mem = Local.whole-mem 𝓤 H A W (Declared'.row Sending.the-type); }
 abbrev pub ps·2 : List.List (Kinds.PK 0)
-ps·2 = (Value.pVal record { ty = Declared'.row Sending.the-type; one = Path.refl; val = Laws'''''.val Sending.the-type Laws'''.the-laws; tells =
-    Laws'''''.tells Sending.the-type Laws'''.the-laws; still = Laws'''''.still Sending.the-type Laws'''.the-copy Exit.yes; row = Rows.whole
-    (Declared'.row Sending.the-type); rd = λ x. x; mk = λ x. x; } λ M 𝓤 H A W. record { copies = Laws'''''.copy Sending.the-type Laws'''.the-copy 𝓤 H
-    A W; lawful = Laws'''''.lawful Sending.the-type Laws'''.the-laws 𝓤 H A W; makes = Laws'''''.makes Sending.the-type Laws'''.the-plain 𝓤 H A; in-mem
-    = Local.mem-whole 𝓤 H A W (Declared'.row Sending.the-type); of-mem = Local.whole-mem 𝓤 H A W (Declared'.row Sending.the-type); }) ∷ List.[]
+ps·2 = (Value.pVal record { ty = Declared'.row Sending.the-type; one = Path.refl; val = Laws''''''.val Sending.the-type Laws''''.the-laws; tells =
+    Laws''''''.tells Sending.the-type Laws''''.the-laws; still = Laws''''''.still Sending.the-type Laws''''.the-copy Exit.yes; row = Rows.whole
+    (Declared'.row Sending.the-type); rd = λ x. x; mk = λ x. x; } λ M 𝓤 H A W. record { copies = Laws''''''.copy Sending.the-type Laws''''.the-copy 𝓤
+    H A W; lawful = Laws''''''.lawful Sending.the-type Laws''''.the-laws 𝓤 H A W; makes = Laws''''''.makes Sending.the-type Laws''''.the-plain 𝓤 H A;
+    in-mem = Local.mem-whole 𝓤 H A W (Declared'.row Sending.the-type); of-mem = Local.whole-mem 𝓤 H A W (Declared'.row Sending.the-type); }) ∷ List.[]
 abbrev pub r·2 : Kinds.RK 0
-r·2 = Value.rVal record { ty = Declared'.row Relayed.the-type; one = Path.refl; val = Laws'''''.val Relayed.the-type Laws''.the-laws; tells =
-    Laws'''''.tells Relayed.the-type Laws''.the-laws; still = Laws'''''.still Relayed.the-type Laws''.the-copy Exit.yes; row = Rows.whole
-    (Declared'.row Relayed.the-type); rd = λ x. x; mk = λ x. x; } λ M 𝓤 H A W. record { copies = Laws'''''.copy Relayed.the-type Laws''.the-copy 𝓤 H A
-    W; lawful = Laws'''''.lawful Relayed.the-type Laws''.the-laws 𝓤 H A W; makes = Laws'''''.makes Relayed.the-type Laws''.the-plain 𝓤 H A; in-mem =
-    Local.mem-whole 𝓤 H A W (Declared'.row Relayed.the-type); of-mem = Local.whole-mem 𝓤 H A W (Declared'.row Relayed.the-type); }
+r·2 = Value.rVal record { ty = Declared'.row Relayed.the-type; one = Path.refl; val = Laws''''''.val Relayed.the-type Laws'''.the-laws; tells =
+    Laws''''''.tells Relayed.the-type Laws'''.the-laws; still = Laws''''''.still Relayed.the-type Laws'''.the-copy Exit.yes; row = Rows.whole
+    (Declared'.row Relayed.the-type); rd = λ x. x; mk = λ x. x; } λ M 𝓤 H A W. record { copies = Laws''''''.copy Relayed.the-type Laws'''.the-copy 𝓤 H
+    A W; lawful = Laws''''''.lawful Relayed.the-type Laws'''.the-laws 𝓤 H A W; makes = Laws''''''.makes Relayed.the-type Laws'''.the-plain 𝓤 H A;
+    in-mem = Local.mem-whole 𝓤 H A W (Declared'.row Relayed.the-type); of-mem = Local.whole-mem 𝓤 H A W (Declared'.row Relayed.the-type); }
 abbrev pub hs : List.List Syntax.Home
 hs = Syntax.valueLocal ∷ Syntax.valueLocal ∷ Syntax.valueLocal ∷ Syntax.valueLocal ∷ Syntax.valueLocal ∷ Syntax.valueLocal ∷ Syntax.valueLocal ∷
     Syntax.valueLocal ∷ Syntax.valueLocal ∷ Syntax.valueLocal ∷ Syntax.valueLocal ∷ Syntax.valueLocal ∷ Syntax.valueLocal ∷ Syntax.valueLocal ∷
-    Syntax.valueLocal ∷ List.[]
+    Syntax.valueLocal ∷ Syntax.valueLocal ∷ List.[]
 abbrev b0 : Syntax.Body
-b0 = Syntax.call "hnsr_circuit::revocation::started" ((Syntax.copy (Syntax.place 4 List.[])) ∷ List.[]) (Syntax.place 7 List.[])
+b0 = Syntax.call "hnsr_circuit::revocation::started" ((Syntax.copy (Syntax.place 4 List.[])) ∷ (Syntax.copy (Syntax.place 5 List.[])) ∷ List.[])
+    (Syntax.place 8 List.[])
 abbrev b1 : Syntax.Body
-b1 = Syntax.assign (Syntax.place 9 List.[]) (Syntax.addrOf (Syntax.place 1 ((Syntax.field 0) ∷ (Syntax.deref RelayCircuit.ty) ∷ List.[])))
+b1 = Syntax.assign (Syntax.place 10 List.[]) (Syntax.addrOf (Syntax.place 1 ((Syntax.field 0) ∷ (Syntax.deref RelayCircuit.ty) ∷ List.[])))
 abbrev b2 : Syntax.Body
-b2 = Syntax.assign (Syntax.place 10 List.[]) (Syntax.aggregate ((Syntax.copy (Syntax.place 9 List.[])) ∷ (Syntax.copy (Syntax.place 1 ((Syntax.field
+b2 = Syntax.assign (Syntax.place 11 List.[]) (Syntax.aggregate ((Syntax.copy (Syntax.place 10 List.[])) ∷ (Syntax.copy (Syntax.place 1 ((Syntax.field
     1) ∷ List.[]))) ∷ List.[]))
 abbrev b3 : Syntax.Body
-b3 = Syntax.assign (Syntax.place 11 List.[]) (Syntax.addrOf (Syntax.place 2 ((Syntax.field 0) ∷ (Syntax.deref InflightAction.ty) ∷ List.[])))
+b3 = Syntax.assign (Syntax.place 12 List.[]) (Syntax.addrOf (Syntax.place 2 ((Syntax.field 0) ∷ (Syntax.deref InflightAction.ty) ∷ List.[])))
 abbrev b4 : Syntax.Body
-b4 = Syntax.assign (Syntax.place 12 List.[]) (Syntax.aggregate ((Syntax.copy (Syntax.place 11 List.[])) ∷ (Syntax.copy (Syntax.place 2 ((Syntax.field
+b4 = Syntax.assign (Syntax.place 13 List.[]) (Syntax.aggregate ((Syntax.copy (Syntax.place 12 List.[])) ∷ (Syntax.copy (Syntax.place 2 ((Syntax.field
     1) ∷ List.[]))) ∷ List.[]))
 abbrev b5 : Syntax.Body
-b5 = Syntax.assign (Syntax.place 13 List.[]) (Syntax.addrOf (Syntax.place 3 ((Syntax.field 0) ∷ (Syntax.deref (Syntax.tyInt Syntax.w32)) ∷ List.[])))
+b5 = Syntax.assign (Syntax.place 14 List.[]) (Syntax.addrOf (Syntax.place 3 ((Syntax.field 0) ∷ (Syntax.deref (Syntax.tyInt Syntax.w32)) ∷ List.[])))
 abbrev b6 : Syntax.Body
-b6 = Syntax.assign (Syntax.place 14 List.[]) (Syntax.aggregate ((Syntax.copy (Syntax.place 13 List.[])) ∷ (Syntax.copy (Syntax.place 3 ((Syntax.field
+b6 = Syntax.assign (Syntax.place 15 List.[]) (Syntax.aggregate ((Syntax.copy (Syntax.place 14 List.[])) ∷ (Syntax.copy (Syntax.place 3 ((Syntax.field
     1) ∷ List.[]))) ∷ List.[]))
 abbrev b7 : Syntax.Body
-b7 = Syntax.call "hnsr_circuit::revocation::revoke_circuit" ((Syntax.copy (Syntax.place 10 List.[])) ∷ (Syntax.copy (Syntax.place 12 List.[])) ∷
-    (Syntax.copy (Syntax.place 14 List.[])) ∷ (Syntax.copy (Syntax.place 7 List.[])) ∷ (Syntax.copy (Syntax.place 5 List.[])) ∷ (Syntax.copy
-    (Syntax.place 6 List.[])) ∷ List.[]) (Syntax.place 8 List.[])
+b7 = Syntax.call "hnsr_circuit::revocation::revoke_circuit" ((Syntax.copy (Syntax.place 11 List.[])) ∷ (Syntax.copy (Syntax.place 13 List.[])) ∷
+    (Syntax.copy (Syntax.place 15 List.[])) ∷ (Syntax.copy (Syntax.place 8 List.[])) ∷ (Syntax.copy (Syntax.place 6 List.[])) ∷ (Syntax.copy
+    (Syntax.place 7 List.[])) ∷ List.[]) (Syntax.place 9 List.[])
 abbrev b8 : Syntax.Body
-b8 = Syntax.call "hnsr_circuit::revocation::finished" ((Syntax.copy (Syntax.place 8 List.[])) ∷ List.[]) (Syntax.place 0 List.[])
+b8 = Syntax.call "hnsr_circuit::revocation::finished" ((Syntax.copy (Syntax.place 9 List.[])) ∷ List.[]) (Syntax.place 0 List.[])
 abbrev b9 : Syntax.Body
 b9 = Syntax.return
 abbrev b10 : Syntax.Body
@@ -187,7 +200,7 @@ body = b18
 abbrev pub Claims : Type 1
 Claims = Kinds.In 0 ps·0 × Kinds.Out 0 ps·0 r·0 × Kinds.In 3 ps·1 × Kinds.Out 3 ps·1 r·1 × Kinds.In 0 ps·2 × Kinds.Out 0 ps·2 r·2
 abbrev e0 : Row.Entry
-e0 = (0, Rows.any-gone Laws''.mir)
+e0 = (0, Rows.any-gone Laws'''.mir)
 abbrev e1 : Row.Entry
 e1 = (1, Mut.mslice RelayCircuit.row ref3 0)
 abbrev e2 : Row.Entry
@@ -197,97 +210,103 @@ e3 = (3, Mut.mslice (Referent.rtF (Referent.fInt Syntax.w32)) ref5 2)
 abbrev e4 : Row.Entry
 e4 = (4, Rows.whole (Declared'.row OpaqueRelayRuntime.the-type))
 abbrev e5 : Row.Entry
-e5 = (5, Rows.whole (Declared.row Notice.the-type))
+e5 = (5, Rows.whole (Declared'.row Places.the-type))
 abbrev e6 : Row.Entry
-e6 = (6, Rows.sc-here (Row.sInt Syntax.w64))
+e6 = (6, Rows.whole (Declared.row Notice.the-type))
 abbrev e7 : Row.Entry
-e7 = (7, Rows.any-gone Laws'''.mir)
+e7 = (7, Rows.sc-here (Row.sInt Syntax.w64))
 abbrev e8 : Row.Entry
-e8 = (8, Rows.any-gone Laws'''.mir)
+e8 = (8, Rows.any-gone Laws''''.mir)
 abbrev e9 : Row.Entry
-e9 = (9, Rows.any-gone ref0)
+e9 = (9, Rows.any-gone Laws''''.mir)
 abbrev e10 : Row.Entry
-e10 = (10, Rows.any-gone (Syntax.tyStruct (38 ∷ 91 ∷ 93 ∷ List.[]) (Syntax.tcons ref0 (Syntax.tcons (Syntax.tyInt Syntax.w64) Syntax.tnil))))
+e10 = (10, Rows.any-gone ref0)
 abbrev e11 : Row.Entry
-e11 = (11, Rows.any-gone ref1)
+e11 = (11, Rows.any-gone (Syntax.tyStruct (38 ∷ 91 ∷ 93 ∷ List.[]) (Syntax.tcons ref0 (Syntax.tcons (Syntax.tyInt Syntax.w64) Syntax.tnil))))
 abbrev e12 : Row.Entry
-e12 = (12, Rows.any-gone (Syntax.tyStruct (38 ∷ 91 ∷ 93 ∷ List.[]) (Syntax.tcons ref1 (Syntax.tcons (Syntax.tyInt Syntax.w64) Syntax.tnil))))
+e12 = (12, Rows.any-gone ref1)
 abbrev e13 : Row.Entry
-e13 = (13, Rows.any-gone ref2)
+e13 = (13, Rows.any-gone (Syntax.tyStruct (38 ∷ 91 ∷ 93 ∷ List.[]) (Syntax.tcons ref1 (Syntax.tcons (Syntax.tyInt Syntax.w64) Syntax.tnil))))
 abbrev e14 : Row.Entry
-e14 = (14, Rows.any-gone (Syntax.tyStruct (38 ∷ 91 ∷ 93 ∷ List.[]) (Syntax.tcons ref2 (Syntax.tcons (Syntax.tyInt Syntax.w64) Syntax.tnil))))
+e14 = (14, Rows.any-gone ref2)
+abbrev e15 : Row.Entry
+e15 = (15, Rows.any-gone (Syntax.tyStruct (38 ∷ 91 ∷ 93 ∷ List.[]) (Syntax.tcons ref2 (Syntax.tcons (Syntax.tyInt Syntax.w64) Syntax.tnil))))
 abbrev e0·1 : Row.Entry
 e0·1 = (0, Rows.whole (Declared'.row Relayed.the-type))
 abbrev e4·1 : Row.Entry
-e4·1 = (4, Rows.any-gone Laws'.mir)
+e4·1 = (4, Rows.any-gone Laws''.mir)
 abbrev e5·1 : Row.Entry
-e5·1 = (5, Rows.any-gone Laws.mir)
+e5·1 = (5, Rows.any-gone Laws'.mir)
 abbrev e6·1 : Row.Entry
-e6·1 = (6, Rows.any-gone (Syntax.tyInt Syntax.w64))
+e6·1 = (6, Rows.any-gone Laws.mir)
 abbrev e7·1 : Row.Entry
-e7·1 = (7, Rows.whole (Declared'.row Sending.the-type))
-abbrev e1·1 : Row.Entry
-e1·1 = (1, Relend.mslice-owed RelayCircuit.row ref3 0 3 Row.off)
-abbrev e9·1 : Row.Entry
-e9·1 = (9, Relend.msptr RelayCircuit.row ref0 3)
-abbrev e10·1 : Row.Entry
-e10·1 = (10, Mut.mslice RelayCircuit.row ref0 3)
-abbrev e2·1 : Row.Entry
-e2·1 = (2, Relend.mslice-owed InflightAction.row ref4 1 4 Row.off)
-abbrev e11·1 : Row.Entry
-e11·1 = (11, Relend.msptr InflightAction.row ref1 4)
-abbrev e12·1 : Row.Entry
-e12·1 = (12, Mut.mslice InflightAction.row ref1 4)
-abbrev e3·1 : Row.Entry
-e3·1 = (3, Relend.mslice-owed (Referent.rtF (Referent.fInt Syntax.w32)) ref5 2 5 Row.off)
-abbrev e13·1 : Row.Entry
-e13·1 = (13, Relend.msptr (Referent.rtF (Referent.fInt Syntax.w32)) ref2 5)
-abbrev e14·1 : Row.Entry
-e14·1 = (14, Mut.mslice (Referent.rtF (Referent.fInt Syntax.w32)) ref2 5)
+e7·1 = (7, Rows.any-gone (Syntax.tyInt Syntax.w64))
 abbrev e8·1 : Row.Entry
 e8·1 = (8, Rows.whole (Declared'.row Sending.the-type))
-abbrev e10·2 : Row.Entry
-e10·2 = (10, Mut.msleft RelayCircuit.row ref0)
-abbrev e12·2 : Row.Entry
-e12·2 = (12, Mut.msleft InflightAction.row ref1)
-abbrev e14·2 : Row.Entry
-e14·2 = (14, Mut.msleft (Referent.rtF (Referent.fInt Syntax.w32)) ref2)
+abbrev e1·1 : Row.Entry
+e1·1 = (1, Relend.mslice-owed RelayCircuit.row ref3 0 3 Row.off)
+abbrev e10·1 : Row.Entry
+e10·1 = (10, Relend.msptr RelayCircuit.row ref0 3)
+abbrev e11·1 : Row.Entry
+e11·1 = (11, Mut.mslice RelayCircuit.row ref0 3)
+abbrev e2·1 : Row.Entry
+e2·1 = (2, Relend.mslice-owed InflightAction.row ref4 1 4 Row.off)
+abbrev e12·1 : Row.Entry
+e12·1 = (12, Relend.msptr InflightAction.row ref1 4)
+abbrev e13·1 : Row.Entry
+e13·1 = (13, Mut.mslice InflightAction.row ref1 4)
+abbrev e3·1 : Row.Entry
+e3·1 = (3, Relend.mslice-owed (Referent.rtF (Referent.fInt Syntax.w32)) ref5 2 5 Row.off)
+abbrev e14·1 : Row.Entry
+e14·1 = (14, Relend.msptr (Referent.rtF (Referent.fInt Syntax.w32)) ref2 5)
+abbrev e15·1 : Row.Entry
+e15·1 = (15, Mut.mslice (Referent.rtF (Referent.fInt Syntax.w32)) ref2 5)
+abbrev e9·1 : Row.Entry
+e9·1 = (9, Rows.whole (Declared'.row Sending.the-type))
+abbrev e11·2 : Row.Entry
+e11·2 = (11, Mut.msleft RelayCircuit.row ref0)
+abbrev e13·2 : Row.Entry
+e13·2 = (13, Mut.msleft InflightAction.row ref1)
+abbrev e15·2 : Row.Entry
+e15·2 = (15, Mut.msleft (Referent.rtF (Referent.fInt Syntax.w32)) ref2)
 abbrev pub t0 : List.List Row.Entry
-t0 = e0 ∷ e1 ∷ e2 ∷ e3 ∷ e4 ∷ e5 ∷ e6 ∷ e7 ∷ e8 ∷ e9 ∷ e10 ∷ e11 ∷ e12 ∷ e13 ∷ e14 ∷ List.[]
+t0 = e0 ∷ e1 ∷ e2 ∷ e3 ∷ e4 ∷ e5 ∷ e6 ∷ e7 ∷ e8 ∷ e9 ∷ e10 ∷ e11 ∷ e12 ∷ e13 ∷ e14 ∷ e15 ∷ List.[]
 abbrev pub t1 : List.List Row.Entry
-t1 = e0·1 ∷ e1 ∷ e2 ∷ e3 ∷ e4·1 ∷ e5·1 ∷ e6·1 ∷ e7 ∷ e8 ∷ e9 ∷ e10 ∷ e11 ∷ e12 ∷ e13 ∷ e14 ∷ List.[]
+t1 = e0·1 ∷ e1 ∷ e2 ∷ e3 ∷ e4·1 ∷ e5·1 ∷ e6·1 ∷ e7·1 ∷ e8 ∷ e9 ∷ e10 ∷ e11 ∷ e12 ∷ e13 ∷ e14 ∷ e15 ∷ List.[]
 abbrev pub t2 : List.List Row.Entry
-t2 = e0 ∷ e1 ∷ e2 ∷ e3 ∷ e4 ∷ e5 ∷ e6 ∷ e7·1 ∷ e8 ∷ e9 ∷ e10 ∷ e11 ∷ e12 ∷ e13 ∷ e14 ∷ List.[]
+t2 = e0 ∷ e1 ∷ e2 ∷ e3 ∷ e4 ∷ e5 ∷ e6 ∷ e7 ∷ e8·1 ∷ e9 ∷ e10 ∷ e11 ∷ e12 ∷ e13 ∷ e14 ∷ e15 ∷ List.[]
 abbrev pub t3 : List.List Row.Entry
-t3 = e0 ∷ e1 ∷ e2 ∷ e3 ∷ e4·1 ∷ e5 ∷ e6 ∷ e7·1 ∷ e8 ∷ e9 ∷ e10 ∷ e11 ∷ e12 ∷ e13 ∷ e14 ∷ List.[]
+t3 = e0 ∷ e1 ∷ e2 ∷ e3 ∷ e4·1 ∷ e5 ∷ e6 ∷ e7 ∷ e8·1 ∷ e9 ∷ e10 ∷ e11 ∷ e12 ∷ e13 ∷ e14 ∷ e15 ∷ List.[]
 abbrev pub t4 : List.List Row.Entry
-t4 = e0 ∷ e1·1 ∷ e2 ∷ e3 ∷ e4·1 ∷ e5 ∷ e6 ∷ e7·1 ∷ e8 ∷ e9·1 ∷ e10 ∷ e11 ∷ e12 ∷ e13 ∷ e14 ∷ List.[]
+t4 = e0 ∷ e1 ∷ e2 ∷ e3 ∷ e4·1 ∷ e5·1 ∷ e6 ∷ e7 ∷ e8·1 ∷ e9 ∷ e10 ∷ e11 ∷ e12 ∷ e13 ∷ e14 ∷ e15 ∷ List.[]
 abbrev pub t5 : List.List Row.Entry
-t5 = e0 ∷ e1·1 ∷ e2 ∷ e3 ∷ e4·1 ∷ e5 ∷ e6 ∷ e7·1 ∷ e8 ∷ e9 ∷ e10·1 ∷ e11 ∷ e12 ∷ e13 ∷ e14 ∷ List.[]
+t5 = e0 ∷ e1·1 ∷ e2 ∷ e3 ∷ e4·1 ∷ e5·1 ∷ e6 ∷ e7 ∷ e8·1 ∷ e9 ∷ e10·1 ∷ e11 ∷ e12 ∷ e13 ∷ e14 ∷ e15 ∷ List.[]
 abbrev pub t6 : List.List Row.Entry
-t6 = e0 ∷ e1·1 ∷ e2·1 ∷ e3 ∷ e4·1 ∷ e5 ∷ e6 ∷ e7·1 ∷ e8 ∷ e9 ∷ e10·1 ∷ e11·1 ∷ e12 ∷ e13 ∷ e14 ∷ List.[]
+t6 = e0 ∷ e1·1 ∷ e2 ∷ e3 ∷ e4·1 ∷ e5·1 ∷ e6 ∷ e7 ∷ e8·1 ∷ e9 ∷ e10 ∷ e11·1 ∷ e12 ∷ e13 ∷ e14 ∷ e15 ∷ List.[]
 abbrev pub t7 : List.List Row.Entry
-t7 = e0 ∷ e1·1 ∷ e2·1 ∷ e3 ∷ e4·1 ∷ e5 ∷ e6 ∷ e7·1 ∷ e8 ∷ e9 ∷ e10·1 ∷ e11 ∷ e12·1 ∷ e13 ∷ e14 ∷ List.[]
+t7 = e0 ∷ e1·1 ∷ e2·1 ∷ e3 ∷ e4·1 ∷ e5·1 ∷ e6 ∷ e7 ∷ e8·1 ∷ e9 ∷ e10 ∷ e11·1 ∷ e12·1 ∷ e13 ∷ e14 ∷ e15 ∷ List.[]
 abbrev pub t8 : List.List Row.Entry
-t8 = e0 ∷ e1·1 ∷ e2·1 ∷ e3·1 ∷ e4·1 ∷ e5 ∷ e6 ∷ e7·1 ∷ e8 ∷ e9 ∷ e10·1 ∷ e11 ∷ e12·1 ∷ e13·1 ∷ e14 ∷ List.[]
+t8 = e0 ∷ e1·1 ∷ e2·1 ∷ e3 ∷ e4·1 ∷ e5·1 ∷ e6 ∷ e7 ∷ e8·1 ∷ e9 ∷ e10 ∷ e11·1 ∷ e12 ∷ e13·1 ∷ e14 ∷ e15 ∷ List.[]
 abbrev pub t9 : List.List Row.Entry
-t9 = e0 ∷ e1·1 ∷ e2·1 ∷ e3·1 ∷ e4·1 ∷ e5 ∷ e6 ∷ e7·1 ∷ e8 ∷ e9 ∷ e10·1 ∷ e11 ∷ e12·1 ∷ e13 ∷ e14·1 ∷ List.[]
+t9 = e0 ∷ e1·1 ∷ e2·1 ∷ e3·1 ∷ e4·1 ∷ e5·1 ∷ e6 ∷ e7 ∷ e8·1 ∷ e9 ∷ e10 ∷ e11·1 ∷ e12 ∷ e13·1 ∷ e14·1 ∷ e15 ∷ List.[]
 abbrev pub t10 : List.List Row.Entry
-t10 = e0 ∷ e1·1 ∷ e2·1 ∷ e3·1 ∷ e4·1 ∷ e5 ∷ e6 ∷ e7·1 ∷ e8·1 ∷ e9 ∷ e10·2 ∷ e11 ∷ e12·2 ∷ e13 ∷ e14·2 ∷ List.[]
+t10 = e0 ∷ e1·1 ∷ e2·1 ∷ e3·1 ∷ e4·1 ∷ e5·1 ∷ e6 ∷ e7 ∷ e8·1 ∷ e9 ∷ e10 ∷ e11·1 ∷ e12 ∷ e13·1 ∷ e14 ∷ e15·1 ∷ List.[]
 abbrev pub t11 : List.List Row.Entry
-t11 = e0 ∷ e1·1 ∷ e2·1 ∷ e3·1 ∷ e4·1 ∷ e5·1 ∷ e6 ∷ e7·1 ∷ e8·1 ∷ e9 ∷ e10·2 ∷ e11 ∷ e12·2 ∷ e13 ∷ e14·2 ∷ List.[]
+t11 = e0 ∷ e1·1 ∷ e2·1 ∷ e3·1 ∷ e4·1 ∷ e5·1 ∷ e6 ∷ e7 ∷ e8·1 ∷ e9·1 ∷ e10 ∷ e11·2 ∷ e12 ∷ e13·2 ∷ e14 ∷ e15·2 ∷ List.[]
 abbrev pub t12 : List.List Row.Entry
-t12 = e0 ∷ e1·1 ∷ e2·1 ∷ e3·1 ∷ e4·1 ∷ e5·1 ∷ e6 ∷ e7 ∷ e8·1 ∷ e9 ∷ e10·2 ∷ e11 ∷ e12·2 ∷ e13 ∷ e14·2 ∷ List.[]
+t12 = e0 ∷ e1·1 ∷ e2·1 ∷ e3·1 ∷ e4·1 ∷ e5·1 ∷ e6·1 ∷ e7 ∷ e8·1 ∷ e9·1 ∷ e10 ∷ e11·2 ∷ e12 ∷ e13·2 ∷ e14 ∷ e15·2 ∷ List.[]
 abbrev pub t13 : List.List Row.Entry
-t13 = e0 ∷ e1 ∷ e2·1 ∷ e3·1 ∷ e4·1 ∷ e5·1 ∷ e6 ∷ e7 ∷ e8·1 ∷ e9 ∷ e10 ∷ e11 ∷ e12·2 ∷ e13 ∷ e14·2 ∷ List.[]
+t13 = e0 ∷ e1·1 ∷ e2·1 ∷ e3·1 ∷ e4·1 ∷ e5·1 ∷ e6·1 ∷ e7 ∷ e8 ∷ e9·1 ∷ e10 ∷ e11·2 ∷ e12 ∷ e13·2 ∷ e14 ∷ e15·2 ∷ List.[]
 abbrev pub t14 : List.List Row.Entry
-t14 = e0 ∷ e1 ∷ e2 ∷ e3·1 ∷ e4·1 ∷ e5·1 ∷ e6 ∷ e7 ∷ e8·1 ∷ e9 ∷ e10 ∷ e11 ∷ e12 ∷ e13 ∷ e14·2 ∷ List.[]
+t14 = e0 ∷ e1 ∷ e2·1 ∷ e3·1 ∷ e4·1 ∷ e5·1 ∷ e6·1 ∷ e7 ∷ e8 ∷ e9·1 ∷ e10 ∷ e11 ∷ e12 ∷ e13·2 ∷ e14 ∷ e15·2 ∷ List.[]
 abbrev pub t15 : List.List Row.Entry
-t15 = e0 ∷ e1 ∷ e2 ∷ e3 ∷ e4·1 ∷ e5·1 ∷ e6 ∷ e7 ∷ e8·1 ∷ e9 ∷ e10 ∷ e11 ∷ e12 ∷ e13 ∷ e14 ∷ List.[]
+t15 = e0 ∷ e1 ∷ e2 ∷ e3·1 ∷ e4·1 ∷ e5·1 ∷ e6·1 ∷ e7 ∷ e8 ∷ e9·1 ∷ e10 ∷ e11 ∷ e12 ∷ e13 ∷ e14 ∷ e15·2 ∷ List.[]
 abbrev pub t16 : List.List Row.Entry
-t16 = e0·1 ∷ e1 ∷ e2 ∷ e3 ∷ e4·1 ∷ e5·1 ∷ e6 ∷ e7 ∷ e8·1 ∷ e9 ∷ e10 ∷ e11 ∷ e12 ∷ e13 ∷ e14 ∷ List.[]
+t16 = e0 ∷ e1 ∷ e2 ∷ e3 ∷ e4·1 ∷ e5·1 ∷ e6·1 ∷ e7 ∷ e8 ∷ e9·1 ∷ e10 ∷ e11 ∷ e12 ∷ e13 ∷ e14 ∷ e15 ∷ List.[]
 abbrev pub t17 : List.List Row.Entry
-t17 = e0·1 ∷ e1 ∷ e2 ∷ e3 ∷ e4·1 ∷ e5·1 ∷ e6 ∷ e7 ∷ e8 ∷ e9 ∷ e10 ∷ e11 ∷ e12 ∷ e13 ∷ e14 ∷ List.[]
+t17 = e0·1 ∷ e1 ∷ e2 ∷ e3 ∷ e4·1 ∷ e5·1 ∷ e6·1 ∷ e7 ∷ e8 ∷ e9·1 ∷ e10 ∷ e11 ∷ e12 ∷ e13 ∷ e14 ∷ e15 ∷ List.[]
+abbrev pub t18 : List.List Row.Entry
+t18 = e0·1 ∷ e1 ∷ e2 ∷ e3 ∷ e4·1 ∷ e5·1 ∷ e6·1 ∷ e7 ∷ e8 ∷ e9 ∷ e10 ∷ e11 ∷ e12 ∷ e13 ∷ e14 ∷ e15 ∷ List.[]
 abbrev pub T0 : Row.Cx
 T0 = record { locals = t0; slots = List.[] }
 abbrev pub T1 : Row.Cx
@@ -298,16 +317,16 @@ abbrev pub T3 : Row.Cx
 T3 = record { locals = t2; slots = List.[] }
 abbrev pub T4 : Row.Cx
 T4 = record { locals = t3; slots = List.[] }
-abbrev pub T6 : Row.Cx
-T6 = record { locals = t4; slots = List.[] }
+abbrev pub T5 : Row.Cx
+T5 = record { locals = t4; slots = List.[] }
 abbrev pub T7 : Row.Cx
 T7 = record { locals = t5; slots = List.[] }
-abbrev pub T9 : Row.Cx
-T9 = record { locals = t6; slots = List.[] }
+abbrev pub T8 : Row.Cx
+T8 = record { locals = t6; slots = List.[] }
 abbrev pub T10 : Row.Cx
 T10 = record { locals = t7; slots = List.[] }
-abbrev pub T12 : Row.Cx
-T12 = record { locals = t8; slots = List.[] }
+abbrev pub T11 : Row.Cx
+T11 = record { locals = t8; slots = List.[] }
 abbrev pub T13 : Row.Cx
 T13 = record { locals = t9; slots = List.[] }
 abbrev pub T14 : Row.Cx
@@ -316,67 +335,72 @@ abbrev pub T15 : Row.Cx
 T15 = record { locals = t11; slots = List.[] }
 abbrev pub T16 : Row.Cx
 T16 = record { locals = t12; slots = List.[] }
-abbrev pub T18 : Row.Cx
-T18 = record { locals = t13; slots = List.[] }
-abbrev pub T21 : Row.Cx
-T21 = record { locals = t14; slots = List.[] }
-abbrev pub T24 : Row.Cx
-T24 = record { locals = t15; slots = List.[] }
+abbrev pub T17 : Row.Cx
+T17 = record { locals = t13; slots = List.[] }
+abbrev pub T19 : Row.Cx
+T19 = record { locals = t14; slots = List.[] }
+abbrev pub T22 : Row.Cx
+T22 = record { locals = t15; slots = List.[] }
 abbrev pub T25 : Row.Cx
-T25 = record { locals = t15; slots = List.[] }
-abbrev pub T27 : Row.Cx
-T27 = record { locals = t16; slots = List.[] }
+T25 = record { locals = t16; slots = List.[] }
+abbrev pub T26 : Row.Cx
+T26 = record { locals = t16; slots = List.[] }
 abbrev pub T28 : Row.Cx
 T28 = record { locals = t17; slots = List.[] }
 abbrev pub T29 : Row.Cx
-T29 = record { locals = t1; slots = List.[] }
+T29 = record { locals = t18; slots = List.[] }
+abbrev pub T30 : Row.Cx
+T30 = record { locals = t1; slots = List.[] }
 abbrev pub O0 : Typed.Outs
 O0 = record { next = Option.none; exits = List.[]; returns = Option.some T1 }
 module _ (claims· : Claims) where
   abbrev s0 : Typed.Gives T0 T2
   s0 = Know.k-sl-known (Referent.fInt Syntax.w32) T0 3 2 ref5 Row.off 0 λ x. x
   abbrev s1 : Typed.Both T2 T3
-  s1 = Call.callB ps·0 r·0 (claims· .0) (claims· .1) T2 (record { pos = 4; st = List.[]; d = 0; at = λ x. x }, tt,) 7 List.[] Laws'''.mir
+  s1 = Call.callB ps·0 r·0 (claims· .0) (claims· .1) T2 (record { pos = 4; st = List.[]; d = 0; at = λ x. x }, (record { pos = 5; st = List.[]; d = 0;
+      at = λ x. x }, tt),) 8 List.[] Laws''''.mir
   abbrev s2 : Typed.Mo T3 → Typed.Mo T4
-  s2 = Scalar.n-room T3 4 Laws'.mir
-  abbrev s4 : Typed.Gives T4 T6
-  s4 = Relend.k-sl-relend RelayCircuit.row T4 1 9 0 3 ref3 ref0 Row.off λ x. x
-  abbrev s5 : Typed.Asks T6 T7
-  s5 = Relend.k-sl-aggregate RelayCircuit.row (Relend.asMut RelayCircuit.row) T6 9 10 3 ref0 ref0 (λ x. x) (Scalar.oFld 1 ((Syntax.field 1) ∷ List.[])
-      (Syntax.tyInt Syntax.w64) 8 λ v. Shared.lenV (v .0))
-  abbrev s7 : Typed.Gives T7 T9
-  s7 = Relend.k-sl-relend InflightAction.row T7 2 11 1 4 ref4 ref1 Row.off λ x. x
-  abbrev s8 : Typed.Asks T9 T10
-  s8 = Relend.k-sl-aggregate InflightAction.row (Relend.asMut InflightAction.row) T9 11 12 4 ref1 ref1 (λ x. x) (Scalar.oFld 2 ((Syntax.field 1) ∷
+  s2 = Scalar.n-room T3 4 Laws''.mir
+  abbrev s3 : Typed.Mo T4 → Typed.Mo T5
+  s3 = Scalar.n-room T4 5 Laws'.mir
+  abbrev s5 : Typed.Gives T5 T7
+  s5 = Relend.k-sl-relend RelayCircuit.row T5 1 10 0 3 ref3 ref0 Row.off λ x. x
+  abbrev s6 : Typed.Asks T7 T8
+  s6 = Relend.k-sl-aggregate RelayCircuit.row (Relend.asMut RelayCircuit.row) T7 10 11 3 ref0 ref0 (λ x. x) (Scalar.oFld 1 ((Syntax.field 1) ∷
       List.[]) (Syntax.tyInt Syntax.w64) 8 λ v. Shared.lenV (v .0))
-  abbrev s10 : Typed.Gives T10 T12
-  s10 = Relend.k-sl-relend (Referent.rtF (Referent.fInt Syntax.w32)) T10 3 13 2 5 ref5 ref2 Row.off λ x. x
-  abbrev s11 : Typed.Asks T12 T13
-  s11 = Relend.k-sl-aggregate (Referent.rtF (Referent.fInt Syntax.w32)) (Relend.asMut (Referent.rtF (Referent.fInt Syntax.w32))) T12 13 14 5 ref2 ref2
+  abbrev s8 : Typed.Gives T8 T10
+  s8 = Relend.k-sl-relend InflightAction.row T8 2 12 1 4 ref4 ref1 Row.off λ x. x
+  abbrev s9 : Typed.Asks T10 T11
+  s9 = Relend.k-sl-aggregate InflightAction.row (Relend.asMut InflightAction.row) T10 12 13 4 ref1 ref1 (λ x. x) (Scalar.oFld 2 ((Syntax.field 1) ∷
+      List.[]) (Syntax.tyInt Syntax.w64) 8 λ v. Shared.lenV (v .0))
+  abbrev s11 : Typed.Gives T11 T13
+  s11 = Relend.k-sl-relend (Referent.rtF (Referent.fInt Syntax.w32)) T11 3 14 2 5 ref5 ref2 Row.off λ x. x
+  abbrev s12 : Typed.Asks T13 T14
+  s12 = Relend.k-sl-aggregate (Referent.rtF (Referent.fInt Syntax.w32)) (Relend.asMut (Referent.rtF (Referent.fInt Syntax.w32))) T13 14 15 5 ref2 ref2
       (λ x. x) (Scalar.oFld 3 ((Syntax.field 1) ∷ List.[]) (Syntax.tyInt Syntax.w64) 8 λ v. Shared.lenV (v .0))
-  abbrev s12 : Typed.Both T13 T14
-  s12 = Call.callB ps·1 r·1 (claims· .2) (claims· .3) T13 (record { pos = 10; ty = Syntax.tyRef Syntax.erased Syntax.mut RelayCircuit.to; ref = λ x.
-      x; }, (record { pos = 12; ty = Syntax.tyRef Syntax.erased Syntax.mut InflightAction.to; ref = λ x. x; }, (record { pos = 14; ty = Syntax.tyRef
-      Syntax.erased Syntax.mut (Syntax.tyInt Syntax.w32); ref = λ x. x; }, (record { pos = 7; st = List.[]; d = 0; at = λ x. x }, (record { pos = 5;
-      st = List.[]; d = 0; at = λ x. x }, (Num.vAt 6 λ x. x, tt)),),),),) 8 (3 ∷ 4 ∷ 5 ∷ List.[]) Laws'''.mir
-  abbrev s13 : Typed.Mo T14 → Typed.Mo T15
-  s13 = Scalar.n-room T14 5 Laws.mir
+  abbrev s13 : Typed.Both T14 T15
+  s13 = Call.callB ps·1 r·1 (claims· .2) (claims· .3) T14 (record { pos = 11; ty = Syntax.tyRef Syntax.erased Syntax.mut RelayCircuit.to; ref = λ x.
+      x; }, (record { pos = 13; ty = Syntax.tyRef Syntax.erased Syntax.mut InflightAction.to; ref = λ x. x; }, (record { pos = 15; ty = Syntax.tyRef
+      Syntax.erased Syntax.mut (Syntax.tyInt Syntax.w32); ref = λ x. x; }, (record { pos = 8; st = List.[]; d = 0; at = λ x. x }, (record { pos = 6;
+      st = List.[]; d = 0; at = λ x. x }, (Num.vAt 7 λ x. x, tt)),),),),) 9 (3 ∷ 4 ∷ 5 ∷ List.[]) Laws''''.mir
   abbrev s14 : Typed.Mo T15 → Typed.Mo T16
-  s14 = Scalar.n-room T15 7 Laws'''.mir
-  abbrev s16 : Typed.Both T16 T18
-  s16 = Relend.k-back-sl RelayCircuit.row T16 10 1 0 3 ref3 ref0 Row.off (λ x. x) λ x. x
-  abbrev s19 : Typed.Both T18 T21
-  s19 = Relend.k-back-sl InflightAction.row T18 12 2 1 4 ref4 ref1 Row.off (λ x. x) λ x. x
-  abbrev s22 : Typed.Both T21 T24
-  s22 = Relend.k-back-sl (Referent.rtF (Referent.fInt Syntax.w32)) T21 14 3 2 5 ref5 ref2 Row.off (λ x. x) λ x. x
-  abbrev s23 : Typed.Gives T24 T25
-  s23 = Know.k-sl-known (Referent.fInt Syntax.w32) T24 3 2 ref5 Row.off 0 λ x. x
-  abbrev s25 : Typed.Both T25 T27
-  s25 = Call.callB ps·2 r·2 (claims· .4) (claims· .5) T25 (record { pos = 8; st = List.[]; d = 0; at = λ x. x }, tt,) 0 List.[] Laws''.mir
-  abbrev s26 : Typed.Mo T27 → Typed.Mo T28
-  s26 = Scalar.n-room T27 8 Laws'''.mir
+  s14 = Scalar.n-room T15 6 Laws.mir
+  abbrev s15 : Typed.Mo T16 → Typed.Mo T17
+  s15 = Scalar.n-room T16 8 Laws''''.mir
+  abbrev s17 : Typed.Both T17 T19
+  s17 = Relend.k-back-sl RelayCircuit.row T17 11 1 0 3 ref3 ref0 Row.off (λ x. x) λ x. x
+  abbrev s20 : Typed.Both T19 T22
+  s20 = Relend.k-back-sl InflightAction.row T19 13 2 1 4 ref4 ref1 Row.off (λ x. x) λ x. x
+  abbrev s23 : Typed.Both T22 T25
+  s23 = Relend.k-back-sl (Referent.rtF (Referent.fInt Syntax.w32)) T22 15 3 2 5 ref5 ref2 Row.off (λ x. x) λ x. x
+  abbrev s24 : Typed.Gives T25 T26
+  s24 = Know.k-sl-known (Referent.fInt Syntax.w32) T25 3 2 ref5 Row.off 0 λ x. x
+  abbrev s26 : Typed.Both T26 T28
+  s26 = Call.callB ps·2 r·2 (claims· .4) (claims· .5) T26 (record { pos = 9; st = List.[]; d = 0; at = λ x. x }, tt,) 0 List.[] Laws'''.mir
   abbrev s27 : Typed.Mo T28 → Typed.Mo T29
-  s27 = Scalar.n-room T28 6 (Syntax.tyInt Syntax.w64)
+  s27 = Scalar.n-room T28 9 Laws''''.mir
+  abbrev s28 : Typed.Mo T29 → Typed.Mo T30
+  s28 = Scalar.n-room T29 7 (Syntax.tyInt Syntax.w64)
   module _ (Pre· : (κs : Lifetimes.Lfts 3) → Kinds.Dens κs ps → Type 0) (Post· : (κs : Lifetimes.Lfts 3) → (a : Kinds.Dens κs ps) → Kinds.Plain 3 ps r
       κs) where
     module _ (M : Type 1) where
@@ -387,66 +411,68 @@ module _ (claims· : Claims) where
           "hnsr_circuit::revocation::finished") → Statement.Triple 𝓤 (Wp.WpFn 𝓤 H (𝓣 .C) (𝓣 .Λ) (Function.fnOf 3 ps r xs m hs body)) (Function.plainOf
           𝓤 H A 3 ps r Pre· Post·)
     module _ where
-      abbrev at0 : Typed.TF T29 O0
+      abbrev at0 : Typed.TF T30 O0
       at0 = Typed.atRet O0
-      abbrev at1 : Typed.TF T28 O0
-      at1 = λ Ψ. Typed.pass T28 T29 s27 (at0 Ψ)
-      abbrev at2 : Typed.TF T27 O0
-      at2 = λ Ψ. Typed.pass T27 T28 s26 (at1 Ψ)
-      abbrev at3 : Typed.TF T25 O0
-      at3 = λ Ψ. Typed.both s25 (at2 Ψ)
-      abbrev at4 : Typed.TF T25 O0
+      abbrev at1 : Typed.TF T29 O0
+      at1 = λ Ψ. Typed.pass T29 T30 s28 (at0 Ψ)
+      abbrev at2 : Typed.TF T28 O0
+      at2 = λ Ψ. Typed.pass T28 T29 s27 (at1 Ψ)
+      abbrev at3 : Typed.TF T26 O0
+      at3 = λ Ψ. Typed.both s26 (at2 Ψ)
+      abbrev at4 : Typed.TF T26 O0
       at4 = λ Ψ. at3 Ψ
-      abbrev at5 : Typed.TF T24 O0
-      at5 = λ Ψ. Typed.give s23 (at4 Ψ)
-      abbrev at6 : Typed.TF T21 O0
-      at6 = λ Ψ. Typed.both s22 (at5 Ψ)
-      abbrev at7 : Typed.TF T21 O0
+      abbrev at5 : Typed.TF T25 O0
+      at5 = λ Ψ. Typed.give s24 (at4 Ψ)
+      abbrev at6 : Typed.TF T22 O0
+      at6 = λ Ψ. Typed.both s23 (at5 Ψ)
+      abbrev at7 : Typed.TF T22 O0
       at7 = λ Ψ. at6 Ψ
-      abbrev at8 : Typed.TF T21 O0
+      abbrev at8 : Typed.TF T22 O0
       at8 = λ Ψ. at7 Ψ
-      abbrev at9 : Typed.TF T18 O0
-      at9 = λ Ψ. Typed.both s19 (at8 Ψ)
-      abbrev at10 : Typed.TF T18 O0
+      abbrev at9 : Typed.TF T19 O0
+      at9 = λ Ψ. Typed.both s20 (at8 Ψ)
+      abbrev at10 : Typed.TF T19 O0
       at10 = λ Ψ. at9 Ψ
-      abbrev at11 : Typed.TF T18 O0
+      abbrev at11 : Typed.TF T19 O0
       at11 = λ Ψ. at10 Ψ
-      abbrev at12 : Typed.TF T16 O0
-      at12 = λ Ψ. Typed.both s16 (at11 Ψ)
-      abbrev at13 : Typed.TF T16 O0
+      abbrev at12 : Typed.TF T17 O0
+      at12 = λ Ψ. Typed.both s17 (at11 Ψ)
+      abbrev at13 : Typed.TF T17 O0
       at13 = λ Ψ. at12 Ψ
-      abbrev at14 : Typed.TF T15 O0
-      at14 = λ Ψ. Typed.pass T15 T16 s14 (at13 Ψ)
-      abbrev at15 : Typed.TF T14 O0
-      at15 = λ Ψ. Typed.pass T14 T15 s13 (at14 Ψ)
-      abbrev at16 : Typed.TF T13 O0
-      at16 = λ Ψ. Typed.both s12 (at15 Ψ)
-      abbrev at17 : Typed.TF T12 O0
-      at17 = λ Ψ. Typed.ask s11 (at16 Ψ)
-      abbrev at18 : Typed.TF T10 O0
-      at18 = λ Ψ. Typed.give s10 (at17 Ψ)
-      abbrev at19 : Typed.TF T10 O0
+      abbrev at14 : Typed.TF T16 O0
+      at14 = λ Ψ. Typed.pass T16 T17 s15 (at13 Ψ)
+      abbrev at15 : Typed.TF T15 O0
+      at15 = λ Ψ. Typed.pass T15 T16 s14 (at14 Ψ)
+      abbrev at16 : Typed.TF T14 O0
+      at16 = λ Ψ. Typed.both s13 (at15 Ψ)
+      abbrev at17 : Typed.TF T13 O0
+      at17 = λ Ψ. Typed.ask s12 (at16 Ψ)
+      abbrev at18 : Typed.TF T11 O0
+      at18 = λ Ψ. Typed.give s11 (at17 Ψ)
+      abbrev at19 : Typed.TF T11 O0
       at19 = λ Ψ. at18 Ψ
-      abbrev at20 : Typed.TF T9 O0
-      at20 = λ Ψ. Typed.ask s8 (at19 Ψ)
-      abbrev at21 : Typed.TF T7 O0
-      at21 = λ Ψ. Typed.give s7 (at20 Ψ)
-      abbrev at22 : Typed.TF T7 O0
+      abbrev at20 : Typed.TF T10 O0
+      at20 = λ Ψ. Typed.ask s9 (at19 Ψ)
+      abbrev at21 : Typed.TF T8 O0
+      at21 = λ Ψ. Typed.give s8 (at20 Ψ)
+      abbrev at22 : Typed.TF T8 O0
       at22 = λ Ψ. at21 Ψ
-      abbrev at23 : Typed.TF T6 O0
-      at23 = λ Ψ. Typed.ask s5 (at22 Ψ)
-      abbrev at24 : Typed.TF T4 O0
-      at24 = λ Ψ. Typed.give s4 (at23 Ψ)
-      abbrev at25 : Typed.TF T4 O0
+      abbrev at23 : Typed.TF T7 O0
+      at23 = λ Ψ. Typed.ask s6 (at22 Ψ)
+      abbrev at24 : Typed.TF T5 O0
+      at24 = λ Ψ. Typed.give s5 (at23 Ψ)
+      abbrev at25 : Typed.TF T5 O0
       at25 = λ Ψ. at24 Ψ
-      abbrev at26 : Typed.TF T3 O0
-      at26 = λ Ψ. Typed.pass T3 T4 s2 (at25 Ψ)
-      abbrev at27 : Typed.TF T2 O0
-      at27 = λ Ψ. Typed.both s1 (at26 Ψ)
-      abbrev at28 : Typed.TF T0 O0
-      at28 = λ Ψ. Typed.give s0 (at27 Ψ)
+      abbrev at26 : Typed.TF T4 O0
+      at26 = λ Ψ. Typed.pass T4 T5 s3 (at25 Ψ)
+      abbrev at27 : Typed.TF T3 O0
+      at27 = λ Ψ. Typed.pass T3 T4 s2 (at26 Ψ)
+      abbrev at28 : Typed.TF T2 O0
+      at28 = λ Ψ. Typed.both s1 (at27 Ψ)
+      abbrev at29 : Typed.TF T0 O0
+      at29 = λ Ψ. Typed.give s0 (at28 Ψ)
       abbrev pub Φ : Typed.TF T0 O0
-      Φ = at28
+      Φ = at29
       module _ { M : Type 1 } (𝓤 : URA.URA M) (H : Wp.Heap 𝓤) (A : Atoms.Atoms 𝓤) (W : Kit.Given 𝓤 H A) (𝓣 : Wp.Tables 𝓤 H) where
         abbrev Knowns : Type 1
         Knowns = Plain.Known 𝓤 H A W 𝓣 0 ps·0 r·0 (claims· .0) (claims· .1) "hnsr_circuit::revocation::started" × Plain.Known 𝓤 H A W 𝓣 3 ps·1 r·1
@@ -459,86 +485,89 @@ module _ (claims· : Claims) where
         life1 = Row.lease (κs .1 .0) (qs .1 .0)
         abbrev life2 : Row.Life
         life2 = Row.lease (κs .1 .1 .0) (qs .1 .1 .0)
-        abbrev g4 : List.List Row.Entry
-        g4 = (0, Rows.any-gone Laws''.mir,) ∷ (1, Relend.mslice-owed RelayCircuit.row ref3 0 3 life0,) ∷ (2, Mut.mslice InflightAction.row ref4 1,) ∷
-            (3, Mut.mslice (Referent.rtF (Referent.fInt Syntax.w32)) ref5 2,) ∷ (4, Rows.any-gone Laws'.mir,) ∷ (5, Rows.whole (Declared.row
-            Notice.the-type)) ∷ (6, Rows.sc-here (Row.sInt Syntax.w64),) ∷ (7, Rows.whole (Declared'.row Sending.the-type)) ∷ (8, Rows.any-gone
-            Laws'''.mir,) ∷ (9, Relend.msptr RelayCircuit.row ref0 3,) ∷ (10, Rows.any-gone (Syntax.tyStruct (38 ∷ 91 ∷ 93 ∷ List.[]) (Syntax.tcons
-            ref0 (Syntax.tcons (Syntax.tyInt Syntax.w64) Syntax.tnil))),) ∷ (11, Rows.any-gone ref1,) ∷ (12, Rows.any-gone (Syntax.tyStruct (38 ∷ 91 ∷
-            93 ∷ List.[]) (Syntax.tcons ref1 (Syntax.tcons (Syntax.tyInt Syntax.w64) Syntax.tnil))),) ∷ (13, Rows.any-gone ref2,) ∷ (14, Rows.any-gone
-            (Syntax.tyStruct (38 ∷ 91 ∷ 93 ∷ List.[]) (Syntax.tcons ref2 (Syntax.tcons (Syntax.tyInt Syntax.w64) Syntax.tnil))),) ∷ List.[]
         abbrev g5 : List.List Row.Entry
-        g5 = (0, Rows.any-gone Laws''.mir,) ∷ (1, Relend.mslice-owed RelayCircuit.row ref3 0 3 life0,) ∷ (2, Mut.mslice InflightAction.row ref4 1,) ∷
-            (3, Mut.mslice (Referent.rtF (Referent.fInt Syntax.w32)) ref5 2,) ∷ (4, Rows.any-gone Laws'.mir,) ∷ (5, Rows.whole (Declared.row
-            Notice.the-type)) ∷ (6, Rows.sc-here (Row.sInt Syntax.w64),) ∷ (7, Rows.whole (Declared'.row Sending.the-type)) ∷ (8, Rows.any-gone
-            Laws'''.mir,) ∷ (9, Rows.any-gone ref0,) ∷ (10, Mut.mslice RelayCircuit.row ref0 3,) ∷ (11, Rows.any-gone ref1,) ∷ (12, Rows.any-gone
-            (Syntax.tyStruct (38 ∷ 91 ∷ 93 ∷ List.[]) (Syntax.tcons ref1 (Syntax.tcons (Syntax.tyInt Syntax.w64) Syntax.tnil))),) ∷ (13, Rows.any-gone
-            ref2,) ∷ (14, Rows.any-gone (Syntax.tyStruct (38 ∷ 91 ∷ 93 ∷ List.[]) (Syntax.tcons ref2 (Syntax.tcons (Syntax.tyInt Syntax.w64)
+        g5 = (0, Rows.any-gone Laws'''.mir,) ∷ (1, Relend.mslice-owed RelayCircuit.row ref3 0 3 life0,) ∷ (2, Mut.mslice InflightAction.row ref4 1,) ∷
+            (3, Mut.mslice (Referent.rtF (Referent.fInt Syntax.w32)) ref5 2,) ∷ (4, Rows.any-gone Laws''.mir,) ∷ (5, Rows.any-gone Laws'.mir,) ∷ (6,
+            Rows.whole (Declared.row Notice.the-type)) ∷ (7, Rows.sc-here (Row.sInt Syntax.w64),) ∷ (8, Rows.whole (Declared'.row Sending.the-type)) ∷
+            (9, Rows.any-gone Laws''''.mir,) ∷ (10, Relend.msptr RelayCircuit.row ref0 3,) ∷ (11, Rows.any-gone (Syntax.tyStruct (38 ∷ 91 ∷ 93 ∷
+            List.[]) (Syntax.tcons ref0 (Syntax.tcons (Syntax.tyInt Syntax.w64) Syntax.tnil))),) ∷ (12, Rows.any-gone ref1,) ∷ (13, Rows.any-gone
+            (Syntax.tyStruct (38 ∷ 91 ∷ 93 ∷ List.[]) (Syntax.tcons ref1 (Syntax.tcons (Syntax.tyInt Syntax.w64) Syntax.tnil))),) ∷ (14, Rows.any-gone
+            ref2,) ∷ (15, Rows.any-gone (Syntax.tyStruct (38 ∷ 91 ∷ 93 ∷ List.[]) (Syntax.tcons ref2 (Syntax.tcons (Syntax.tyInt Syntax.w64)
             Syntax.tnil))),) ∷ List.[]
         abbrev g6 : List.List Row.Entry
-        g6 = (0, Rows.any-gone Laws''.mir,) ∷ (1, Relend.mslice-owed RelayCircuit.row ref3 0 3 life0,) ∷ (2, Relend.mslice-owed InflightAction.row
-            ref4 1 4 life1,) ∷ (3, Mut.mslice (Referent.rtF (Referent.fInt Syntax.w32)) ref5 2,) ∷ (4, Rows.any-gone Laws'.mir,) ∷ (5, Rows.whole
-            (Declared.row Notice.the-type)) ∷ (6, Rows.sc-here (Row.sInt Syntax.w64),) ∷ (7, Rows.whole (Declared'.row Sending.the-type)) ∷ (8,
-            Rows.any-gone Laws'''.mir,) ∷ (9, Rows.any-gone ref0,) ∷ (10, Mut.mslice RelayCircuit.row ref0 3,) ∷ (11, Relend.msptr InflightAction.row
-            ref1 4,) ∷ (12, Rows.any-gone (Syntax.tyStruct (38 ∷ 91 ∷ 93 ∷ List.[]) (Syntax.tcons ref1 (Syntax.tcons (Syntax.tyInt Syntax.w64)
-            Syntax.tnil))),) ∷ (13, Rows.any-gone ref2,) ∷ (14, Rows.any-gone (Syntax.tyStruct (38 ∷ 91 ∷ 93 ∷ List.[]) (Syntax.tcons ref2
-            (Syntax.tcons (Syntax.tyInt Syntax.w64) Syntax.tnil))),) ∷ List.[]
+        g6 = (0, Rows.any-gone Laws'''.mir,) ∷ (1, Relend.mslice-owed RelayCircuit.row ref3 0 3 life0,) ∷ (2, Mut.mslice InflightAction.row ref4 1,) ∷
+            (3, Mut.mslice (Referent.rtF (Referent.fInt Syntax.w32)) ref5 2,) ∷ (4, Rows.any-gone Laws''.mir,) ∷ (5, Rows.any-gone Laws'.mir,) ∷ (6,
+            Rows.whole (Declared.row Notice.the-type)) ∷ (7, Rows.sc-here (Row.sInt Syntax.w64),) ∷ (8, Rows.whole (Declared'.row Sending.the-type)) ∷
+            (9, Rows.any-gone Laws''''.mir,) ∷ (10, Rows.any-gone ref0,) ∷ (11, Mut.mslice RelayCircuit.row ref0 3,) ∷ (12, Rows.any-gone ref1,) ∷
+            (13, Rows.any-gone (Syntax.tyStruct (38 ∷ 91 ∷ 93 ∷ List.[]) (Syntax.tcons ref1 (Syntax.tcons (Syntax.tyInt Syntax.w64) Syntax.tnil))),) ∷
+            (14, Rows.any-gone ref2,) ∷ (15, Rows.any-gone (Syntax.tyStruct (38 ∷ 91 ∷ 93 ∷ List.[]) (Syntax.tcons ref2 (Syntax.tcons (Syntax.tyInt
+            Syntax.w64) Syntax.tnil))),) ∷ List.[]
         abbrev g7 : List.List Row.Entry
-        g7 = (0, Rows.any-gone Laws''.mir,) ∷ (1, Relend.mslice-owed RelayCircuit.row ref3 0 3 life0,) ∷ (2, Relend.mslice-owed InflightAction.row
-            ref4 1 4 life1,) ∷ (3, Mut.mslice (Referent.rtF (Referent.fInt Syntax.w32)) ref5 2,) ∷ (4, Rows.any-gone Laws'.mir,) ∷ (5, Rows.whole
-            (Declared.row Notice.the-type)) ∷ (6, Rows.sc-here (Row.sInt Syntax.w64),) ∷ (7, Rows.whole (Declared'.row Sending.the-type)) ∷ (8,
-            Rows.any-gone Laws'''.mir,) ∷ (9, Rows.any-gone ref0,) ∷ (10, Mut.mslice RelayCircuit.row ref0 3,) ∷ (11, Rows.any-gone ref1,) ∷ (12,
-            Mut.mslice InflightAction.row ref1 4,) ∷ (13, Rows.any-gone ref2,) ∷ (14, Rows.any-gone (Syntax.tyStruct (38 ∷ 91 ∷ 93 ∷ List.[])
+        g7 = (0, Rows.any-gone Laws'''.mir,) ∷ (1, Relend.mslice-owed RelayCircuit.row ref3 0 3 life0,) ∷ (2, Relend.mslice-owed InflightAction.row
+            ref4 1 4 life1,) ∷ (3, Mut.mslice (Referent.rtF (Referent.fInt Syntax.w32)) ref5 2,) ∷ (4, Rows.any-gone Laws''.mir,) ∷ (5, Rows.any-gone
+            Laws'.mir,) ∷ (6, Rows.whole (Declared.row Notice.the-type)) ∷ (7, Rows.sc-here (Row.sInt Syntax.w64),) ∷ (8, Rows.whole (Declared'.row
+            Sending.the-type)) ∷ (9, Rows.any-gone Laws''''.mir,) ∷ (10, Rows.any-gone ref0,) ∷ (11, Mut.mslice RelayCircuit.row ref0 3,) ∷ (12,
+            Relend.msptr InflightAction.row ref1 4,) ∷ (13, Rows.any-gone (Syntax.tyStruct (38 ∷ 91 ∷ 93 ∷ List.[]) (Syntax.tcons ref1 (Syntax.tcons
+            (Syntax.tyInt Syntax.w64) Syntax.tnil))),) ∷ (14, Rows.any-gone ref2,) ∷ (15, Rows.any-gone (Syntax.tyStruct (38 ∷ 91 ∷ 93 ∷ List.[])
             (Syntax.tcons ref2 (Syntax.tcons (Syntax.tyInt Syntax.w64) Syntax.tnil))),) ∷ List.[]
         abbrev g8 : List.List Row.Entry
-        g8 = (0, Rows.any-gone Laws''.mir,) ∷ (1, Relend.mslice-owed RelayCircuit.row ref3 0 3 life0,) ∷ (2, Relend.mslice-owed InflightAction.row
-            ref4 1 4 life1,) ∷ (3, Relend.mslice-owed (Referent.rtF (Referent.fInt Syntax.w32)) ref5 2 5 life2,) ∷ (4, Rows.any-gone Laws'.mir,) ∷ (5,
-            Rows.whole (Declared.row Notice.the-type)) ∷ (6, Rows.sc-here (Row.sInt Syntax.w64),) ∷ (7, Rows.whole (Declared'.row Sending.the-type)) ∷
-            (8, Rows.any-gone Laws'''.mir,) ∷ (9, Rows.any-gone ref0,) ∷ (10, Mut.mslice RelayCircuit.row ref0 3,) ∷ (11, Rows.any-gone ref1,) ∷ (12,
-            Mut.mslice InflightAction.row ref1 4,) ∷ (13, Relend.msptr (Referent.rtF (Referent.fInt Syntax.w32)) ref2 5,) ∷ (14, Rows.any-gone
-            (Syntax.tyStruct (38 ∷ 91 ∷ 93 ∷ List.[]) (Syntax.tcons ref2 (Syntax.tcons (Syntax.tyInt Syntax.w64) Syntax.tnil))),) ∷ List.[]
+        g8 = (0, Rows.any-gone Laws'''.mir,) ∷ (1, Relend.mslice-owed RelayCircuit.row ref3 0 3 life0,) ∷ (2, Relend.mslice-owed InflightAction.row
+            ref4 1 4 life1,) ∷ (3, Mut.mslice (Referent.rtF (Referent.fInt Syntax.w32)) ref5 2,) ∷ (4, Rows.any-gone Laws''.mir,) ∷ (5, Rows.any-gone
+            Laws'.mir,) ∷ (6, Rows.whole (Declared.row Notice.the-type)) ∷ (7, Rows.sc-here (Row.sInt Syntax.w64),) ∷ (8, Rows.whole (Declared'.row
+            Sending.the-type)) ∷ (9, Rows.any-gone Laws''''.mir,) ∷ (10, Rows.any-gone ref0,) ∷ (11, Mut.mslice RelayCircuit.row ref0 3,) ∷ (12,
+            Rows.any-gone ref1,) ∷ (13, Mut.mslice InflightAction.row ref1 4,) ∷ (14, Rows.any-gone ref2,) ∷ (15, Rows.any-gone (Syntax.tyStruct (38 ∷
+            91 ∷ 93 ∷ List.[]) (Syntax.tcons ref2 (Syntax.tcons (Syntax.tyInt Syntax.w64) Syntax.tnil))),) ∷ List.[]
         abbrev g9 : List.List Row.Entry
-        g9 = (0, Rows.any-gone Laws''.mir,) ∷ (1, Relend.mslice-owed RelayCircuit.row ref3 0 3 life0,) ∷ (2, Relend.mslice-owed InflightAction.row
-            ref4 1 4 life1,) ∷ (3, Relend.mslice-owed (Referent.rtF (Referent.fInt Syntax.w32)) ref5 2 5 life2,) ∷ (4, Rows.any-gone Laws'.mir,) ∷ (5,
-            Rows.whole (Declared.row Notice.the-type)) ∷ (6, Rows.sc-here (Row.sInt Syntax.w64),) ∷ (7, Rows.whole (Declared'.row Sending.the-type)) ∷
-            (8, Rows.any-gone Laws'''.mir,) ∷ (9, Rows.any-gone ref0,) ∷ (10, Mut.mslice RelayCircuit.row ref0 3,) ∷ (11, Rows.any-gone ref1,) ∷ (12,
-            Mut.mslice InflightAction.row ref1 4,) ∷ (13, Rows.any-gone ref2,) ∷ (14, Mut.mslice (Referent.rtF (Referent.fInt Syntax.w32)) ref2 5,) ∷
-            List.[]
+        g9 = (0, Rows.any-gone Laws'''.mir,) ∷ (1, Relend.mslice-owed RelayCircuit.row ref3 0 3 life0,) ∷ (2, Relend.mslice-owed InflightAction.row
+            ref4 1 4 life1,) ∷ (3, Relend.mslice-owed (Referent.rtF (Referent.fInt Syntax.w32)) ref5 2 5 life2,) ∷ (4, Rows.any-gone Laws''.mir,) ∷
+            (5, Rows.any-gone Laws'.mir,) ∷ (6, Rows.whole (Declared.row Notice.the-type)) ∷ (7, Rows.sc-here (Row.sInt Syntax.w64),) ∷ (8, Rows.whole
+            (Declared'.row Sending.the-type)) ∷ (9, Rows.any-gone Laws''''.mir,) ∷ (10, Rows.any-gone ref0,) ∷ (11, Mut.mslice RelayCircuit.row ref0
+            3,) ∷ (12, Rows.any-gone ref1,) ∷ (13, Mut.mslice InflightAction.row ref1 4,) ∷ (14, Relend.msptr (Referent.rtF (Referent.fInt
+            Syntax.w32)) ref2 5,) ∷ (15, Rows.any-gone (Syntax.tyStruct (38 ∷ 91 ∷ 93 ∷ List.[]) (Syntax.tcons ref2 (Syntax.tcons (Syntax.tyInt
+            Syntax.w64) Syntax.tnil))),) ∷ List.[]
         abbrev g10 : List.List Row.Entry
-        g10 = (0, Rows.any-gone Laws''.mir,) ∷ (1, Relend.mslice-owed RelayCircuit.row ref3 0 3 life0,) ∷ (2, Relend.mslice-owed InflightAction.row
-            ref4 1 4 life1,) ∷ (3, Relend.mslice-owed (Referent.rtF (Referent.fInt Syntax.w32)) ref5 2 5 life2,) ∷ (4, Rows.any-gone Laws'.mir,) ∷ (5,
-            Rows.whole (Declared.row Notice.the-type)) ∷ (6, Rows.sc-here (Row.sInt Syntax.w64),) ∷ (7, Rows.whole (Declared'.row Sending.the-type)) ∷
-            (8, Rows.whole (Declared'.row Sending.the-type),) ∷ (9, Rows.any-gone ref0,) ∷ (10, Mut.msleft RelayCircuit.row ref0,) ∷ (11,
-            Rows.any-gone ref1,) ∷ (12, Mut.msleft InflightAction.row ref1,) ∷ (13, Rows.any-gone ref2,) ∷ (14, Mut.msleft (Referent.rtF
-            (Referent.fInt Syntax.w32)) ref2,) ∷ List.[]
+        g10 = (0, Rows.any-gone Laws'''.mir,) ∷ (1, Relend.mslice-owed RelayCircuit.row ref3 0 3 life0,) ∷ (2, Relend.mslice-owed InflightAction.row
+            ref4 1 4 life1,) ∷ (3, Relend.mslice-owed (Referent.rtF (Referent.fInt Syntax.w32)) ref5 2 5 life2,) ∷ (4, Rows.any-gone Laws''.mir,) ∷
+            (5, Rows.any-gone Laws'.mir,) ∷ (6, Rows.whole (Declared.row Notice.the-type)) ∷ (7, Rows.sc-here (Row.sInt Syntax.w64),) ∷ (8, Rows.whole
+            (Declared'.row Sending.the-type)) ∷ (9, Rows.any-gone Laws''''.mir,) ∷ (10, Rows.any-gone ref0,) ∷ (11, Mut.mslice RelayCircuit.row ref0
+            3,) ∷ (12, Rows.any-gone ref1,) ∷ (13, Mut.mslice InflightAction.row ref1 4,) ∷ (14, Rows.any-gone ref2,) ∷ (15, Mut.mslice (Referent.rtF
+            (Referent.fInt Syntax.w32)) ref2 5,) ∷ List.[]
         abbrev g11 : List.List Row.Entry
-        g11 = (0, Rows.any-gone Laws''.mir,) ∷ (1, Relend.mslice-owed RelayCircuit.row ref3 0 3 life0,) ∷ (2, Relend.mslice-owed InflightAction.row
-            ref4 1 4 life1,) ∷ (3, Relend.mslice-owed (Referent.rtF (Referent.fInt Syntax.w32)) ref5 2 5 life2,) ∷ (4, Rows.any-gone Laws'.mir,) ∷ (5,
-            Rows.any-gone Laws.mir,) ∷ (6, Rows.sc-here (Row.sInt Syntax.w64)) ∷ (7, Rows.whole (Declared'.row Sending.the-type),) ∷ (8, Rows.whole
-            (Declared'.row Sending.the-type)) ∷ (9, Rows.any-gone ref0,) ∷ (10, Mut.msleft RelayCircuit.row ref0,) ∷ (11, Rows.any-gone ref1,) ∷ (12,
-            Mut.msleft InflightAction.row ref1,) ∷ (13, Rows.any-gone ref2,) ∷ (14, Mut.msleft (Referent.rtF (Referent.fInt Syntax.w32)) ref2,) ∷
-            List.[]
-        abbrev g12 : List.List Row.Entry
-        g12 = (0, Rows.any-gone Laws''.mir,) ∷ (1, Relend.mslice-owed RelayCircuit.row ref3 0 3 life0,) ∷ (2, Relend.mslice-owed InflightAction.row
-            ref4 1 4 life1,) ∷ (3, Relend.mslice-owed (Referent.rtF (Referent.fInt Syntax.w32)) ref5 2 5 life2,) ∷ (4, Rows.any-gone Laws'.mir,) ∷ (5,
-            Rows.any-gone Laws.mir,) ∷ (6, Rows.sc-here (Row.sInt Syntax.w64)) ∷ (7, Rows.any-gone Laws'''.mir,) ∷ (8, Rows.whole (Declared'.row
-            Sending.the-type)) ∷ (9, Rows.any-gone ref0,) ∷ (10, Mut.msleft RelayCircuit.row ref0,) ∷ (11, Rows.any-gone ref1,) ∷ (12, Mut.msleft
-            InflightAction.row ref1,) ∷ (13, Rows.any-gone ref2,) ∷ (14, Mut.msleft (Referent.rtF (Referent.fInt Syntax.w32)) ref2,) ∷ List.[]
-        abbrev g13 : List.List Row.Entry
-        g13 = (0, Rows.any-gone Laws''.mir,) ∷ (1, Mut.mslice RelayCircuit.row ref3 0,) ∷ (2, Relend.mslice-owed InflightAction.row ref4 1 4 life1,) ∷
-            (3, Relend.mslice-owed (Referent.rtF (Referent.fInt Syntax.w32)) ref5 2 5 life2,) ∷ (4, Rows.any-gone Laws'.mir,) ∷ (5, Rows.any-gone
-            Laws.mir,) ∷ (6, Rows.sc-here (Row.sInt Syntax.w64)) ∷ (7, Rows.any-gone Laws'''.mir,) ∷ (8, Rows.whole (Declared'.row Sending.the-type))
-            ∷ (9, Rows.any-gone ref0,) ∷ (10, Rows.any-gone (Syntax.tyStruct (38 ∷ 91 ∷ 93 ∷ List.[]) (Syntax.tcons ref0 (Syntax.tcons (Syntax.tyInt
-            Syntax.w64) Syntax.tnil))),) ∷ (11, Rows.any-gone ref1,) ∷ (12, Mut.msleft InflightAction.row ref1,) ∷ (13, Rows.any-gone ref2,) ∷ (14,
+        g11 = (0, Rows.any-gone Laws'''.mir,) ∷ (1, Relend.mslice-owed RelayCircuit.row ref3 0 3 life0,) ∷ (2, Relend.mslice-owed InflightAction.row
+            ref4 1 4 life1,) ∷ (3, Relend.mslice-owed (Referent.rtF (Referent.fInt Syntax.w32)) ref5 2 5 life2,) ∷ (4, Rows.any-gone Laws''.mir,) ∷
+            (5, Rows.any-gone Laws'.mir,) ∷ (6, Rows.whole (Declared.row Notice.the-type)) ∷ (7, Rows.sc-here (Row.sInt Syntax.w64),) ∷ (8, Rows.whole
+            (Declared'.row Sending.the-type)) ∷ (9, Rows.whole (Declared'.row Sending.the-type),) ∷ (10, Rows.any-gone ref0,) ∷ (11, Mut.msleft
+            RelayCircuit.row ref0,) ∷ (12, Rows.any-gone ref1,) ∷ (13, Mut.msleft InflightAction.row ref1,) ∷ (14, Rows.any-gone ref2,) ∷ (15,
             Mut.msleft (Referent.rtF (Referent.fInt Syntax.w32)) ref2,) ∷ List.[]
+        abbrev g12 : List.List Row.Entry
+        g12 = (0, Rows.any-gone Laws'''.mir,) ∷ (1, Relend.mslice-owed RelayCircuit.row ref3 0 3 life0,) ∷ (2, Relend.mslice-owed InflightAction.row
+            ref4 1 4 life1,) ∷ (3, Relend.mslice-owed (Referent.rtF (Referent.fInt Syntax.w32)) ref5 2 5 life2,) ∷ (4, Rows.any-gone Laws''.mir,) ∷
+            (5, Rows.any-gone Laws'.mir,) ∷ (6, Rows.any-gone Laws.mir,) ∷ (7, Rows.sc-here (Row.sInt Syntax.w64)) ∷ (8, Rows.whole (Declared'.row
+            Sending.the-type),) ∷ (9, Rows.whole (Declared'.row Sending.the-type)) ∷ (10, Rows.any-gone ref0,) ∷ (11, Mut.msleft RelayCircuit.row
+            ref0,) ∷ (12, Rows.any-gone ref1,) ∷ (13, Mut.msleft InflightAction.row ref1,) ∷ (14, Rows.any-gone ref2,) ∷ (15, Mut.msleft (Referent.rtF
+            (Referent.fInt Syntax.w32)) ref2,) ∷ List.[]
+        abbrev g13 : List.List Row.Entry
+        g13 = (0, Rows.any-gone Laws'''.mir,) ∷ (1, Relend.mslice-owed RelayCircuit.row ref3 0 3 life0,) ∷ (2, Relend.mslice-owed InflightAction.row
+            ref4 1 4 life1,) ∷ (3, Relend.mslice-owed (Referent.rtF (Referent.fInt Syntax.w32)) ref5 2 5 life2,) ∷ (4, Rows.any-gone Laws''.mir,) ∷
+            (5, Rows.any-gone Laws'.mir,) ∷ (6, Rows.any-gone Laws.mir,) ∷ (7, Rows.sc-here (Row.sInt Syntax.w64)) ∷ (8, Rows.any-gone Laws''''.mir,)
+            ∷ (9, Rows.whole (Declared'.row Sending.the-type)) ∷ (10, Rows.any-gone ref0,) ∷ (11, Mut.msleft RelayCircuit.row ref0,) ∷ (12,
+            Rows.any-gone ref1,) ∷ (13, Mut.msleft InflightAction.row ref1,) ∷ (14, Rows.any-gone ref2,) ∷ (15, Mut.msleft (Referent.rtF
+            (Referent.fInt Syntax.w32)) ref2,) ∷ List.[]
         abbrev g14 : List.List Row.Entry
-        g14 = (0, Rows.any-gone Laws''.mir,) ∷ (1, Mut.mslice RelayCircuit.row ref3 0,) ∷ (2, Mut.mslice InflightAction.row ref4 1,) ∷ (3,
-            Relend.mslice-owed (Referent.rtF (Referent.fInt Syntax.w32)) ref5 2 5 life2,) ∷ (4, Rows.any-gone Laws'.mir,) ∷ (5, Rows.any-gone
-            Laws.mir,) ∷ (6, Rows.sc-here (Row.sInt Syntax.w64)) ∷ (7, Rows.any-gone Laws'''.mir,) ∷ (8, Rows.whole (Declared'.row Sending.the-type))
-            ∷ (9, Rows.any-gone ref0,) ∷ (10, Rows.any-gone (Syntax.tyStruct (38 ∷ 91 ∷ 93 ∷ List.[]) (Syntax.tcons ref0 (Syntax.tcons (Syntax.tyInt
-            Syntax.w64) Syntax.tnil))),) ∷ (11, Rows.any-gone ref1,) ∷ (12, Rows.any-gone (Syntax.tyStruct (38 ∷ 91 ∷ 93 ∷ List.[]) (Syntax.tcons ref1
-            (Syntax.tcons (Syntax.tyInt Syntax.w64) Syntax.tnil))),) ∷ (13, Rows.any-gone ref2,) ∷ (14, Mut.msleft (Referent.rtF (Referent.fInt
-            Syntax.w32)) ref2,) ∷ List.[]
+        g14 = (0, Rows.any-gone Laws'''.mir,) ∷ (1, Mut.mslice RelayCircuit.row ref3 0,) ∷ (2, Relend.mslice-owed InflightAction.row ref4 1 4 life1,)
+            ∷ (3, Relend.mslice-owed (Referent.rtF (Referent.fInt Syntax.w32)) ref5 2 5 life2,) ∷ (4, Rows.any-gone Laws''.mir,) ∷ (5, Rows.any-gone
+            Laws'.mir,) ∷ (6, Rows.any-gone Laws.mir,) ∷ (7, Rows.sc-here (Row.sInt Syntax.w64)) ∷ (8, Rows.any-gone Laws''''.mir,) ∷ (9, Rows.whole
+            (Declared'.row Sending.the-type)) ∷ (10, Rows.any-gone ref0,) ∷ (11, Rows.any-gone (Syntax.tyStruct (38 ∷ 91 ∷ 93 ∷ List.[]) (Syntax.tcons
+            ref0 (Syntax.tcons (Syntax.tyInt Syntax.w64) Syntax.tnil))),) ∷ (12, Rows.any-gone ref1,) ∷ (13, Mut.msleft InflightAction.row ref1,) ∷
+            (14, Rows.any-gone ref2,) ∷ (15, Mut.msleft (Referent.rtF (Referent.fInt Syntax.w32)) ref2,) ∷ List.[]
+        abbrev g15 : List.List Row.Entry
+        g15 = (0, Rows.any-gone Laws'''.mir,) ∷ (1, Mut.mslice RelayCircuit.row ref3 0,) ∷ (2, Mut.mslice InflightAction.row ref4 1,) ∷ (3,
+            Relend.mslice-owed (Referent.rtF (Referent.fInt Syntax.w32)) ref5 2 5 life2,) ∷ (4, Rows.any-gone Laws''.mir,) ∷ (5, Rows.any-gone
+            Laws'.mir,) ∷ (6, Rows.any-gone Laws.mir,) ∷ (7, Rows.sc-here (Row.sInt Syntax.w64)) ∷ (8, Rows.any-gone Laws''''.mir,) ∷ (9, Rows.whole
+            (Declared'.row Sending.the-type)) ∷ (10, Rows.any-gone ref0,) ∷ (11, Rows.any-gone (Syntax.tyStruct (38 ∷ 91 ∷ 93 ∷ List.[]) (Syntax.tcons
+            ref0 (Syntax.tcons (Syntax.tyInt Syntax.w64) Syntax.tnil))),) ∷ (12, Rows.any-gone ref1,) ∷ (13, Rows.any-gone (Syntax.tyStruct (38 ∷ 91 ∷
+            93 ∷ List.[]) (Syntax.tcons ref1 (Syntax.tcons (Syntax.tyInt Syntax.w64) Syntax.tnil))),) ∷ (14, Rows.any-gone ref2,) ∷ (15, Mut.msleft
+            (Referent.rtF (Referent.fInt Syntax.w32)) ref2,) ∷ List.[]
         abbrev G0 : Row.Cx
         G0 = record { locals = t0; slots = life0 ∷ life1 ∷ life2 ∷ Row.off ∷ Row.off ∷ Row.off ∷ List.[]; }
         abbrev G1 : Row.Cx
@@ -550,21 +579,21 @@ module _ (claims· : Claims) where
         abbrev G4 : Row.Cx
         G4 = record { locals = t3; slots = life0 ∷ life1 ∷ life2 ∷ Row.off ∷ Row.off ∷ Row.off ∷ List.[]; }
         abbrev G5 : Row.Cx
-        G5 = record { locals = t3; slots = life0 ∷ life1 ∷ life2 ∷ Row.alive ∷ Row.off ∷ Row.off ∷ List.[]; }
+        G5 = record { locals = t4; slots = life0 ∷ life1 ∷ life2 ∷ Row.off ∷ Row.off ∷ Row.off ∷ List.[]; }
         abbrev G6 : Row.Cx
-        G6 = record { locals = g4; slots = Row.off ∷ life1 ∷ life2 ∷ Row.alive ∷ Row.off ∷ Row.off ∷ List.[]; }
+        G6 = record { locals = t4; slots = life0 ∷ life1 ∷ life2 ∷ Row.alive ∷ Row.off ∷ Row.off ∷ List.[]; }
         abbrev G7 : Row.Cx
         G7 = record { locals = g5; slots = Row.off ∷ life1 ∷ life2 ∷ Row.alive ∷ Row.off ∷ Row.off ∷ List.[]; }
         abbrev G8 : Row.Cx
-        G8 = record { locals = g5; slots = Row.off ∷ life1 ∷ life2 ∷ Row.alive ∷ Row.alive ∷ Row.off ∷ List.[]; }
+        G8 = record { locals = g6; slots = Row.off ∷ life1 ∷ life2 ∷ Row.alive ∷ Row.off ∷ Row.off ∷ List.[]; }
         abbrev G9 : Row.Cx
-        G9 = record { locals = g6; slots = Row.off ∷ Row.off ∷ life2 ∷ Row.alive ∷ Row.alive ∷ Row.off ∷ List.[]; }
+        G9 = record { locals = g6; slots = Row.off ∷ life1 ∷ life2 ∷ Row.alive ∷ Row.alive ∷ Row.off ∷ List.[]; }
         abbrev G10 : Row.Cx
         G10 = record { locals = g7; slots = Row.off ∷ Row.off ∷ life2 ∷ Row.alive ∷ Row.alive ∷ Row.off ∷ List.[]; }
         abbrev G11 : Row.Cx
-        G11 = record { locals = g7; slots = Row.off ∷ Row.off ∷ life2 ∷ Row.alive ∷ Row.alive ∷ Row.alive ∷ List.[]; }
+        G11 = record { locals = g8; slots = Row.off ∷ Row.off ∷ life2 ∷ Row.alive ∷ Row.alive ∷ Row.off ∷ List.[]; }
         abbrev G12 : Row.Cx
-        G12 = record { locals = g8; slots = Row.off ∷ Row.off ∷ Row.off ∷ Row.alive ∷ Row.alive ∷ Row.alive ∷ List.[]; }
+        G12 = record { locals = g8; slots = Row.off ∷ Row.off ∷ life2 ∷ Row.alive ∷ Row.alive ∷ Row.alive ∷ List.[]; }
         abbrev G13 : Row.Cx
         G13 = record { locals = g9; slots = Row.off ∷ Row.off ∷ Row.off ∷ Row.alive ∷ Row.alive ∷ Row.alive ∷ List.[]; }
         abbrev G14 : Row.Cx
@@ -574,180 +603,194 @@ module _ (claims· : Claims) where
         abbrev G16 : Row.Cx
         G16 = record { locals = g12; slots = Row.off ∷ Row.off ∷ Row.off ∷ Row.alive ∷ Row.alive ∷ Row.alive ∷ List.[]; }
         abbrev G17 : Row.Cx
-        G17 = record { locals = g12; slots = Row.off ∷ Row.off ∷ Row.off ∷ Row.dead ∷ Row.alive ∷ Row.alive ∷ List.[]; }
+        G17 = record { locals = g13; slots = Row.off ∷ Row.off ∷ Row.off ∷ Row.alive ∷ Row.alive ∷ Row.alive ∷ List.[]; }
         abbrev G18 : Row.Cx
-        G18 = record { locals = g13; slots = life0 ∷ Row.off ∷ Row.off ∷ Row.dead ∷ Row.alive ∷ Row.alive ∷ List.[]; }
+        G18 = record { locals = g13; slots = Row.off ∷ Row.off ∷ Row.off ∷ Row.dead ∷ Row.alive ∷ Row.alive ∷ List.[]; }
         abbrev G19 : Row.Cx
-        G19 = record { locals = g13; slots = life0 ∷ Row.off ∷ Row.off ∷ Row.off ∷ Row.alive ∷ Row.alive ∷ List.[]; }
+        G19 = record { locals = g14; slots = life0 ∷ Row.off ∷ Row.off ∷ Row.dead ∷ Row.alive ∷ Row.alive ∷ List.[]; }
         abbrev G20 : Row.Cx
-        G20 = record { locals = g13; slots = life0 ∷ Row.off ∷ Row.off ∷ Row.off ∷ Row.dead ∷ Row.alive ∷ List.[]; }
+        G20 = record { locals = g14; slots = life0 ∷ Row.off ∷ Row.off ∷ Row.off ∷ Row.alive ∷ Row.alive ∷ List.[]; }
         abbrev G21 : Row.Cx
-        G21 = record { locals = g14; slots = life0 ∷ life1 ∷ Row.off ∷ Row.off ∷ Row.dead ∷ Row.alive ∷ List.[]; }
+        G21 = record { locals = g14; slots = life0 ∷ Row.off ∷ Row.off ∷ Row.off ∷ Row.dead ∷ Row.alive ∷ List.[]; }
         abbrev G22 : Row.Cx
-        G22 = record { locals = g14; slots = life0 ∷ life1 ∷ Row.off ∷ Row.off ∷ Row.off ∷ Row.alive ∷ List.[]; }
+        G22 = record { locals = g15; slots = life0 ∷ life1 ∷ Row.off ∷ Row.off ∷ Row.dead ∷ Row.alive ∷ List.[]; }
         abbrev G23 : Row.Cx
-        G23 = record { locals = g14; slots = life0 ∷ life1 ∷ Row.off ∷ Row.off ∷ Row.off ∷ Row.dead ∷ List.[]; }
+        G23 = record { locals = g15; slots = life0 ∷ life1 ∷ Row.off ∷ Row.off ∷ Row.off ∷ Row.alive ∷ List.[]; }
         abbrev G24 : Row.Cx
-        G24 = record { locals = t15; slots = life0 ∷ life1 ∷ life2 ∷ Row.off ∷ Row.off ∷ Row.dead ∷ List.[]; }
+        G24 = record { locals = g15; slots = life0 ∷ life1 ∷ Row.off ∷ Row.off ∷ Row.off ∷ Row.dead ∷ List.[]; }
         abbrev G25 : Row.Cx
-        G25 = record { locals = t15; slots = life0 ∷ life1 ∷ life2 ∷ Row.off ∷ Row.off ∷ Row.dead ∷ List.[]; }
+        G25 = record { locals = t16; slots = life0 ∷ life1 ∷ life2 ∷ Row.off ∷ Row.off ∷ Row.dead ∷ List.[]; }
         abbrev G26 : Row.Cx
-        G26 = record { locals = t15; slots = life0 ∷ life1 ∷ life2 ∷ Row.off ∷ Row.off ∷ Row.off ∷ List.[]; }
+        G26 = record { locals = t16; slots = life0 ∷ life1 ∷ life2 ∷ Row.off ∷ Row.off ∷ Row.dead ∷ List.[]; }
         abbrev G27 : Row.Cx
         G27 = record { locals = t16; slots = life0 ∷ life1 ∷ life2 ∷ Row.off ∷ Row.off ∷ Row.off ∷ List.[]; }
         abbrev G28 : Row.Cx
         G28 = record { locals = t17; slots = life0 ∷ life1 ∷ life2 ∷ Row.off ∷ Row.off ∷ Row.off ∷ List.[]; }
         abbrev G29 : Row.Cx
-        G29 = record { locals = t1; slots = life0 ∷ life1 ∷ life2 ∷ Row.off ∷ Row.off ∷ Row.off ∷ List.[]; }
+        G29 = record { locals = t18; slots = life0 ∷ life1 ∷ life2 ∷ Row.off ∷ Row.off ∷ Row.off ∷ List.[]; }
+        abbrev G30 : Row.Cx
+        G30 = record { locals = t1; slots = life0 ∷ life1 ∷ life2 ∷ Row.off ∷ Row.off ∷ Row.off ∷ List.[]; }
         abbrev Δ0 : Typed.Outs
         Δ0 = record { next = Option.none; exits = List.[]; returns = Option.some G1 }
         module _ { M : Type 1 } (𝓤 : URA.URA M) (H : Wp.Heap 𝓤) (A : Atoms.Atoms 𝓤) (W : Kit.Given 𝓤 H A) (𝓣 : Wp.Tables 𝓤 H) (known : Knowns 𝓤 H A W
             𝓣) (bs : List.List Nat.ℕ) (bd : Lifetimes.AllOutlive 3 (Kinds.osR r) κs) where
           abbrev E : Wp.Env 𝓤 H
           E = Frame.EnvOf 𝓤 H ((Kinds.tyR r) ∷ (Enter.tysP ps xs)) bs
-          d0 : Typed.Typed 𝓤 H A 𝓣 E G29 b9 Δ0 at0
+          d0 : Typed.Typed 𝓤 H A 𝓣 E G30 b9 Δ0 at0
           d0 = Typed.t-return 𝓤 H A W 𝓣 E Δ0 tt
-          d1 : Typed.Typed 𝓤 H A 𝓣 E G28 b9 Δ0 at1
-          d1 = Typed.g-pre 𝓤 H A W 𝓣 E G28 G29 b9 Δ0 (Typed.pass T28 T29 s27) at0 (Scalar.g-room 𝓤 H A W E G28 6 (Syntax.tyInt Syntax.w64)
+          d1 : Typed.Typed 𝓤 H A 𝓣 E G29 b9 Δ0 at1
+          d1 = Typed.g-pre 𝓤 H A W 𝓣 E G29 G30 b9 Δ0 (Typed.pass T29 T30 s28) at0 (Scalar.g-room 𝓤 H A W E G29 7 (Syntax.tyInt Syntax.w64)
               (Scalar.room-sc 𝓤 H A W (Row.sInt Syntax.w64))) d0
-          d2 : Typed.Typed 𝓤 H A 𝓣 E G27 b9 Δ0 at2
-          d2 = Typed.g-pre 𝓤 H A W 𝓣 E G27 G28 b9 Δ0 (Typed.pass T27 T28 s26) at1 (Scalar.g-room 𝓤 H A W E G27 8 Laws'''.mir (Local.room-whole 𝓤 H A W
-              (Declared'.row Sending.the-type) Laws'''.mir Path.refl)) d1
-          d3 : Typed.Typed 𝓤 H A 𝓣 E G26 b10 Δ0 at3
-          d3 = Typed.s-seq 𝓤 H A W 𝓣 E G26 G27 b8 b9 Δ0 (Typed.both s25) at2 (Plain.t-call-plain 𝓤 H A W 𝓣 0 ps·2 r·2 (claims· .4) (claims· .5)
-              "hnsr_circuit::revocation::finished" (known .2) E (λ pos β. β) G26 (record { pos = 8; st = List.[]; d = 0; at = λ x. x }, tt) 0 List.[]
-              (Call.sub-id 𝓤 H A W (G26 .slots)) ((Yields.yields-copy 𝓤 H A W (λ ρ. Unit) (Declared'.row Sending.the-type) Path.refl (Copies.cStruct
-              Sending.the-type Laws'''.the-laws Laws'''.the-copy .copy 𝓤 H A W) (Rows.whole (Declared'.row Sending.the-type)) (λ x. x) (λ x. x) (λ ρ
+          d2 : Typed.Typed 𝓤 H A 𝓣 E G28 b9 Δ0 at2
+          d2 = Typed.g-pre 𝓤 H A W 𝓣 E G28 G29 b9 Δ0 (Typed.pass T28 T29 s27) at1 (Scalar.g-room 𝓤 H A W E G28 9 Laws''''.mir (Local.room-whole 𝓤 H A
+              W (Declared'.row Sending.the-type) Laws''''.mir Path.refl)) d1
+          d3 : Typed.Typed 𝓤 H A 𝓣 E G27 b10 Δ0 at3
+          d3 = Typed.s-seq 𝓤 H A W 𝓣 E G27 G28 b8 b9 Δ0 (Typed.both s26) at2 (Plain.t-call-plain 𝓤 H A W 𝓣 0 ps·2 r·2 (claims· .4) (claims· .5)
+              "hnsr_circuit::revocation::finished" (known .2) E (λ pos β. β) G27 (record { pos = 9; st = List.[]; d = 0; at = λ x. x }, tt) 0 List.[]
+              (Call.sub-id 𝓤 H A W (G27 .slots)) ((Yields.yields-copy 𝓤 H A W (λ ρ. Unit) (Declared'.row Sending.the-type) Path.refl (Copies.cStruct
+              Sending.the-type Laws''''.the-laws Laws''''.the-copy .copy 𝓤 H A W) (Rows.whole (Declared'.row Sending.the-type)) (λ x. x) (λ x. x) (λ ρ
               told. Local.mem-whole 𝓤 H A W (Declared'.row Sending.the-type) ρ) λ ρ told. Local.whole-mem 𝓤 H A W (Declared'.row Sending.the-type) ρ,
-              Path.refl,), tt,) (Reads.room-gone 𝓤 H A Laws''.mir) tt Path.refl) d2
-          d4 : Typed.Typed 𝓤 H A 𝓣 E G25 b10 Δ0 at4
-          d4 = Typed.g-pre 𝓤 H A W 𝓣 E G25 G26 b10 Δ0 (λ Ψ. Ψ) at3 (Lifetime.g-forget 𝓤 H A W E G25 5 Row.dead Path.refl) d3
-          d5 : Typed.Typed 𝓤 H A 𝓣 E G24 b10 Δ0 at5
-          d5 = Typed.g-pre 𝓤 H A W 𝓣 E G24 G25 b10 Δ0 (Typed.give s23) at4 (Know.g-sl-known 𝓤 H A W (Referent.fInt Syntax.w32) E G24 3 2 ref5 life2 0
+              Path.refl,), tt,) (Reads.room-gone 𝓤 H A Laws'''.mir) tt Path.refl) d2
+          d4 : Typed.Typed 𝓤 H A 𝓣 E G26 b10 Δ0 at4
+          d4 = Typed.g-pre 𝓤 H A W 𝓣 E G26 G27 b10 Δ0 (λ Ψ. Ψ) at3 (Lifetime.g-forget 𝓤 H A W E G26 5 Row.dead Path.refl) d3
+          d5 : Typed.Typed 𝓤 H A 𝓣 E G25 b10 Δ0 at5
+          d5 = Typed.g-pre 𝓤 H A W 𝓣 E G25 G26 b10 Δ0 (Typed.give s24) at4 (Know.g-sl-known 𝓤 H A W (Referent.fInt Syntax.w32) E G25 3 2 ref5 life2 0
               (λ x. x) record { fits = Dec.lit< tt } (Reads.as-is 𝓤 H A (Mut.mslice (Referent.rtF (Referent.fInt Syntax.w32)) ref5 2)) Path.refl tt)
               d4
-          d6 : Typed.Typed 𝓤 H A 𝓣 E G23 b10 Δ0 at6
-          d6 = Typed.g-pre 𝓤 H A W 𝓣 E G23 G24 b10 Δ0 (Typed.both s22) at5 (Relend.g-back-sl 𝓤 H A W E (Referent.rtF (Referent.fInt Syntax.w32)) G23
-              14 3 2 5 ref5 ref2 life2 (λ x. x) (λ x. x) (Reads.as-is 𝓤 H A (Mut.msleft (Referent.rtF (Referent.fInt Syntax.w32)) ref2)) (Reads.as-is
+          d6 : Typed.Typed 𝓤 H A 𝓣 E G24 b10 Δ0 at6
+          d6 = Typed.g-pre 𝓤 H A W 𝓣 E G24 G25 b10 Δ0 (Typed.both s23) at5 (Relend.g-back-sl 𝓤 H A W E (Referent.rtF (Referent.fInt Syntax.w32)) G24
+              15 3 2 5 ref5 ref2 life2 (λ x. x) (λ x. x) (Reads.as-is 𝓤 H A (Mut.msleft (Referent.rtF (Referent.fInt Syntax.w32)) ref2)) (Reads.as-is
               𝓤 H A (Relend.mslice-owed (Referent.rtF (Referent.fInt Syntax.w32)) ref5 2 5 life2)) Path.refl Path.refl) d5
-          d7 : Typed.Typed 𝓤 H A 𝓣 E G22 b10 Δ0 at7
-          d7 = Typed.g-pre 𝓤 H A W 𝓣 E G22 G23 b10 Δ0 (λ Ψ. Ψ) at6 (Lifetime.g-end 𝓤 H A W E G22 5 Path.refl) d6
-          d8 : Typed.Typed 𝓤 H A 𝓣 E G21 b10 Δ0 at8
-          d8 = Typed.g-pre 𝓤 H A W 𝓣 E G21 G22 b10 Δ0 (λ Ψ. Ψ) at7 (Lifetime.g-forget 𝓤 H A W E G21 4 Row.dead Path.refl) d7
-          d9 : Typed.Typed 𝓤 H A 𝓣 E G20 b10 Δ0 at9
-          d9 = Typed.g-pre 𝓤 H A W 𝓣 E G20 G21 b10 Δ0 (Typed.both s19) at8 (Relend.g-back-sl 𝓤 H A W E InflightAction.row G20 12 2 1 4 ref4 ref1 life1
+          d7 : Typed.Typed 𝓤 H A 𝓣 E G23 b10 Δ0 at7
+          d7 = Typed.g-pre 𝓤 H A W 𝓣 E G23 G24 b10 Δ0 (λ Ψ. Ψ) at6 (Lifetime.g-end 𝓤 H A W E G23 5 Path.refl) d6
+          d8 : Typed.Typed 𝓤 H A 𝓣 E G22 b10 Δ0 at8
+          d8 = Typed.g-pre 𝓤 H A W 𝓣 E G22 G23 b10 Δ0 (λ Ψ. Ψ) at7 (Lifetime.g-forget 𝓤 H A W E G22 4 Row.dead Path.refl) d7
+          d9 : Typed.Typed 𝓤 H A 𝓣 E G21 b10 Δ0 at9
+          d9 = Typed.g-pre 𝓤 H A W 𝓣 E G21 G22 b10 Δ0 (Typed.both s20) at8 (Relend.g-back-sl 𝓤 H A W E InflightAction.row G21 13 2 1 4 ref4 ref1 life1
               (λ x. x) (λ x. x) (Reads.as-is 𝓤 H A (Mut.msleft InflightAction.row ref1)) (Reads.as-is 𝓤 H A (Relend.mslice-owed InflightAction.row
               ref4 1 4 life1)) Path.refl Path.refl) d8
-          d10 : Typed.Typed 𝓤 H A 𝓣 E G19 b10 Δ0 at10
-          d10 = Typed.g-pre 𝓤 H A W 𝓣 E G19 G20 b10 Δ0 (λ Ψ. Ψ) at9 (Lifetime.g-end 𝓤 H A W E G19 4 Path.refl) d9
-          d11 : Typed.Typed 𝓤 H A 𝓣 E G18 b10 Δ0 at11
-          d11 = Typed.g-pre 𝓤 H A W 𝓣 E G18 G19 b10 Δ0 (λ Ψ. Ψ) at10 (Lifetime.g-forget 𝓤 H A W E G18 3 Row.dead Path.refl) d10
-          d12 : Typed.Typed 𝓤 H A 𝓣 E G17 b10 Δ0 at12
-          d12 = Typed.g-pre 𝓤 H A W 𝓣 E G17 G18 b10 Δ0 (Typed.both s16) at11 (Relend.g-back-sl 𝓤 H A W E RelayCircuit.row G17 10 1 0 3 ref3 ref0 life0
+          d10 : Typed.Typed 𝓤 H A 𝓣 E G20 b10 Δ0 at10
+          d10 = Typed.g-pre 𝓤 H A W 𝓣 E G20 G21 b10 Δ0 (λ Ψ. Ψ) at9 (Lifetime.g-end 𝓤 H A W E G20 4 Path.refl) d9
+          d11 : Typed.Typed 𝓤 H A 𝓣 E G19 b10 Δ0 at11
+          d11 = Typed.g-pre 𝓤 H A W 𝓣 E G19 G20 b10 Δ0 (λ Ψ. Ψ) at10 (Lifetime.g-forget 𝓤 H A W E G19 3 Row.dead Path.refl) d10
+          d12 : Typed.Typed 𝓤 H A 𝓣 E G18 b10 Δ0 at12
+          d12 = Typed.g-pre 𝓤 H A W 𝓣 E G18 G19 b10 Δ0 (Typed.both s17) at11 (Relend.g-back-sl 𝓤 H A W E RelayCircuit.row G18 11 1 0 3 ref3 ref0 life0
               (λ x. x) (λ x. x) (Reads.as-is 𝓤 H A (Mut.msleft RelayCircuit.row ref0)) (Reads.as-is 𝓤 H A (Relend.mslice-owed RelayCircuit.row ref3 0
               3 life0)) Path.refl Path.refl) d11
-          d13 : Typed.Typed 𝓤 H A 𝓣 E G16 b10 Δ0 at13
-          d13 = Typed.g-pre 𝓤 H A W 𝓣 E G16 G17 b10 Δ0 (λ Ψ. Ψ) at12 (Lifetime.g-end 𝓤 H A W E G16 3 Path.refl) d12
-          d14 : Typed.Typed 𝓤 H A 𝓣 E G15 b10 Δ0 at14
-          d14 = Typed.g-pre 𝓤 H A W 𝓣 E G15 G16 b10 Δ0 (Typed.pass T15 T16 s14) at13 (Scalar.g-room 𝓤 H A W E G15 7 Laws'''.mir (Local.room-whole 𝓤 H
-              A W (Declared'.row Sending.the-type) Laws'''.mir Path.refl)) d13
-          d15 : Typed.Typed 𝓤 H A 𝓣 E G14 b10 Δ0 at15
-          d15 = Typed.g-pre 𝓤 H A W 𝓣 E G14 G15 b10 Δ0 (Typed.pass T14 T15 s13) at14 (Scalar.g-room 𝓤 H A W E G14 5 Laws.mir (Local.room-whole 𝓤 H A W
+          d13 : Typed.Typed 𝓤 H A 𝓣 E G17 b10 Δ0 at13
+          d13 = Typed.g-pre 𝓤 H A W 𝓣 E G17 G18 b10 Δ0 (λ Ψ. Ψ) at12 (Lifetime.g-end 𝓤 H A W E G17 3 Path.refl) d12
+          d14 : Typed.Typed 𝓤 H A 𝓣 E G16 b10 Δ0 at14
+          d14 = Typed.g-pre 𝓤 H A W 𝓣 E G16 G17 b10 Δ0 (Typed.pass T16 T17 s15) at13 (Scalar.g-room 𝓤 H A W E G16 8 Laws''''.mir (Local.room-whole 𝓤 H
+              A W (Declared'.row Sending.the-type) Laws''''.mir Path.refl)) d13
+          d15 : Typed.Typed 𝓤 H A 𝓣 E G15 b10 Δ0 at15
+          d15 = Typed.g-pre 𝓤 H A W 𝓣 E G15 G16 b10 Δ0 (Typed.pass T15 T16 s14) at14 (Scalar.g-room 𝓤 H A W E G15 6 Laws.mir (Local.room-whole 𝓤 H A W
               (Declared.row Notice.the-type) Laws.mir Path.refl)) d14
-          d16 : Typed.Typed 𝓤 H A 𝓣 E G13 b11 Δ0 at16
-          d16 = Typed.s-seq 𝓤 H A W 𝓣 E G13 G14 b7 b10 Δ0 (Typed.both s12) at15 (Plain.t-call-plain 𝓤 H A W 𝓣 3 ps·1 r·1 (claims· .2) (claims· .3)
-              "hnsr_circuit::revocation::revoke_circuit" (known .1) E (λ pos β. β) G13 (record { pos = 10; ty = Syntax.tyRef Syntax.erased Syntax.mut
-              RelayCircuit.to; ref = λ x. x; }, (record { pos = 12; ty = Syntax.tyRef Syntax.erased Syntax.mut InflightAction.to; ref = λ x. x; },
-              (record { pos = 14; ty = Syntax.tyRef Syntax.erased Syntax.mut (Syntax.tyInt Syntax.w32); ref = λ x. x; }, (record { pos = 7; st =
-              List.[]; d = 0; at = λ x. x }, (record { pos = 5; st = List.[]; d = 0; at = λ x. x }, (Num.vAt 6 λ x. x, tt),),),),),) 8 (3 ∷ 4 ∷ 5 ∷
-              List.[]) (Call.sub-id 𝓤 H A W (G13 .slots)) (Reads.as-is 𝓤 H A (Mut.mslice RelayCircuit.row ref0 3), Mut.reads-mslice 𝓤 H A W
+          d16 : Typed.Typed 𝓤 H A 𝓣 E G14 b11 Δ0 at16
+          d16 = Typed.s-seq 𝓤 H A W 𝓣 E G14 G15 b7 b10 Δ0 (Typed.both s13) at15 (Plain.t-call-plain 𝓤 H A W 𝓣 3 ps·1 r·1 (claims· .2) (claims· .3)
+              "hnsr_circuit::revocation::revoke_circuit" (known .1) E (λ pos β. β) G14 (record { pos = 11; ty = Syntax.tyRef Syntax.erased Syntax.mut
+              RelayCircuit.to; ref = λ x. x; }, (record { pos = 13; ty = Syntax.tyRef Syntax.erased Syntax.mut InflightAction.to; ref = λ x. x; },
+              (record { pos = 15; ty = Syntax.tyRef Syntax.erased Syntax.mut (Syntax.tyInt Syntax.w32); ref = λ x. x; }, (record { pos = 8; st =
+              List.[]; d = 0; at = λ x. x }, (record { pos = 6; st = List.[]; d = 0; at = λ x. x }, (Num.vAt 7 λ x. x, tt),),),),),) 9 (3 ∷ 4 ∷ 5 ∷
+              List.[]) (Call.sub-id 𝓤 H A W (G14 .slots)) (Reads.as-is 𝓤 H A (Mut.mslice RelayCircuit.row ref0 3), Mut.reads-mslice 𝓤 H A W
               RelayCircuit.row ref0 3, Path.refl, (Reads.as-is 𝓤 H A (Mut.mslice InflightAction.row ref1 4), Mut.reads-mslice 𝓤 H A W
               InflightAction.row ref1 4, Path.refl, (Reads.as-is 𝓤 H A (Mut.mslice (Referent.rtF (Referent.fInt Syntax.w32)) ref2 5), Mut.reads-mslice
               𝓤 H A W (Referent.rtF (Referent.fInt Syntax.w32)) ref2 5, Path.refl, ((Yields.yields-copy 𝓤 H A W (λ ρ. Unit) (Declared'.row
-              Sending.the-type) Path.refl (Copies.cStruct Sending.the-type Laws'''.the-laws Laws'''.the-copy .copy 𝓤 H A W) (Rows.whole (Declared'.row
-              Sending.the-type)) (λ x. x) (λ x. x) (λ ρ told. Local.mem-whole 𝓤 H A W (Declared'.row Sending.the-type) ρ) λ ρ told. Local.whole-mem 𝓤
-              H A W (Declared'.row Sending.the-type) ρ, Path.refl,), ((Yields.yields-copy 𝓤 H A W (λ ρ. Unit) (Declared.row Notice.the-type) Path.refl
-              (Copies.cEnum Notice.the-type Laws.the-laws Laws.the-copy .copy 𝓤 H A W) (Rows.whole (Declared.row Notice.the-type)) (λ x. x) (λ x. x)
-              (λ ρ told. Local.mem-whole 𝓤 H A W (Declared.row Notice.the-type) ρ) λ ρ told. Local.whole-mem 𝓤 H A W (Declared.row Notice.the-type) ρ,
-              Path.refl,), ((Scalar.reads-sc 𝓤 H A W (Row.sInt Syntax.w64), Path.refl), tt),),),),),) (Reads.room-gone 𝓤 H A Laws'''.mir) (tt, (tt,
-              (tt, tt))) Path.refl) d15
-          d17 : Typed.Typed 𝓤 H A 𝓣 E G12 b12 Δ0 at17
-          d17 = Typed.s-seq 𝓤 H A W 𝓣 E G12 G13 b6 b11 Δ0 (Typed.ask s11) at16 (Relend.t-sl-aggregate 𝓤 H A W E (Referent.rtF (Referent.fInt
-              Syntax.w32)) 𝓣 (Relend.asMut (Referent.rtF (Referent.fInt Syntax.w32))) G12 13 14 5 ref2 ref2 (λ x. x) (Scalar.oFld 3 ((Syntax.field 1)
+              Sending.the-type) Path.refl (Copies.cStruct Sending.the-type Laws''''.the-laws Laws''''.the-copy .copy 𝓤 H A W) (Rows.whole
+              (Declared'.row Sending.the-type)) (λ x. x) (λ x. x) (λ ρ told. Local.mem-whole 𝓤 H A W (Declared'.row Sending.the-type) ρ) λ ρ told.
+              Local.whole-mem 𝓤 H A W (Declared'.row Sending.the-type) ρ, Path.refl,), ((Yields.yields-copy 𝓤 H A W (λ ρ. Unit) (Declared.row
+              Notice.the-type) Path.refl (Copies.cEnum Notice.the-type Laws.the-laws Laws.the-copy .copy 𝓤 H A W) (Rows.whole (Declared.row
+              Notice.the-type)) (λ x. x) (λ x. x) (λ ρ told. Local.mem-whole 𝓤 H A W (Declared.row Notice.the-type) ρ) λ ρ told. Local.whole-mem 𝓤 H A
+              W (Declared.row Notice.the-type) ρ, Path.refl,), ((Scalar.reads-sc 𝓤 H A W (Row.sInt Syntax.w64), Path.refl), tt),),),),),)
+              (Reads.room-gone 𝓤 H A Laws''''.mir) (tt, (tt, (tt, tt))) Path.refl) d15
+          d17 : Typed.Typed 𝓤 H A 𝓣 E G13 b12 Δ0 at17
+          d17 = Typed.s-seq 𝓤 H A W 𝓣 E G13 G14 b6 b11 Δ0 (Typed.ask s12) at16 (Relend.t-sl-aggregate 𝓤 H A W E (Referent.rtF (Referent.fInt
+              Syntax.w32)) 𝓣 (Relend.asMut (Referent.rtF (Referent.fInt Syntax.w32))) G13 14 15 5 ref2 ref2 (λ x. x) (Scalar.oFld 3 ((Syntax.field 1)
               ∷ List.[]) (Syntax.tyInt Syntax.w64) 8 λ v. Shared.lenV (v .0)) (Reads.as-is 𝓤 H A (Relend.msptr (Referent.rtF (Referent.fInt
               Syntax.w32)) ref2 5)) (Reads.room-gone 𝓤 H A (Syntax.tyStruct (38 ∷ 91 ∷ 93 ∷ List.[]) (Syntax.tcons ref2 (Syntax.tcons (Syntax.tyInt
               Syntax.w64) Syntax.tnil)))) (Relend.reads-owed-len 𝓤 H A W (Referent.rtF (Referent.fInt Syntax.w32)) ref5 2 5 life2 8 Path.refl,
               Path.refl,) Path.refl Path.refl λ b o k. tt) d16
-          d18 : Typed.Typed 𝓤 H A 𝓣 E G11 b13 Δ0 at18
-          d18 = Typed.s-seq 𝓤 H A W 𝓣 E G11 G12 b5 b12 Δ0 (Typed.give s10) at17 (Relend.t-sl-relend 𝓤 H A W E (Referent.rtF (Referent.fInt
-              Syntax.w32)) 𝓣 G11 3 13 2 5 ref5 ref2 life2 0 (λ x. x) (Reads.as-is 𝓤 H A (Mut.mslice (Referent.rtF (Referent.fInt Syntax.w32)) ref5 2))
+          d18 : Typed.Typed 𝓤 H A 𝓣 E G12 b13 Δ0 at18
+          d18 = Typed.s-seq 𝓤 H A W 𝓣 E G12 G13 b5 b12 Δ0 (Typed.give s11) at17 (Relend.t-sl-relend 𝓤 H A W E (Referent.rtF (Referent.fInt
+              Syntax.w32)) 𝓣 G12 3 14 2 5 ref5 ref2 life2 0 (λ x. x) (Reads.as-is 𝓤 H A (Mut.mslice (Referent.rtF (Referent.fInt Syntax.w32)) ref5 2))
               (Reads.room-gone 𝓤 H A ref2) Path.refl tt Path.refl Path.refl Path.refl λ b o. tt) d17
-          d19 : Typed.Typed 𝓤 H A 𝓣 E G10 b13 Δ0 at19
-          d19 = Typed.g-pre 𝓤 H A W 𝓣 E G10 G11 b13 Δ0 (λ Ψ. Ψ) at18 (Lifetime.g-begin 𝓤 H A W E G10 5 (tt, ((tt, tt), ((tt, tt), (tt, (tt, (tt, (tt,
-              (tt, (tt, (tt, (tt, (tt, (tt, (tt, (tt, tt)))))))))),),),),),)) d18
-          d20 : Typed.Typed 𝓤 H A 𝓣 E G9 b14 Δ0 at20
-          d20 = Typed.s-seq 𝓤 H A W 𝓣 E G9 G10 b4 b13 Δ0 (Typed.ask s8) at19 (Relend.t-sl-aggregate 𝓤 H A W E InflightAction.row 𝓣 (Relend.asMut
-              InflightAction.row) G9 11 12 4 ref1 ref1 (λ x. x) (Scalar.oFld 2 ((Syntax.field 1) ∷ List.[]) (Syntax.tyInt Syntax.w64) 8 λ v.
+          d19 : Typed.Typed 𝓤 H A 𝓣 E G11 b13 Δ0 at19
+          d19 = Typed.g-pre 𝓤 H A W 𝓣 E G11 G12 b13 Δ0 (λ Ψ. Ψ) at18 (Lifetime.g-begin 𝓤 H A W E G11 5 (tt, ((tt, tt), ((tt, tt), (tt, (tt, (tt, (tt,
+              (tt, (tt, (tt, (tt, (tt, (tt, (tt, (tt, (tt, tt)))))))))),),),),),),)) d18
+          d20 : Typed.Typed 𝓤 H A 𝓣 E G10 b14 Δ0 at20
+          d20 = Typed.s-seq 𝓤 H A W 𝓣 E G10 G11 b4 b13 Δ0 (Typed.ask s9) at19 (Relend.t-sl-aggregate 𝓤 H A W E InflightAction.row 𝓣 (Relend.asMut
+              InflightAction.row) G10 12 13 4 ref1 ref1 (λ x. x) (Scalar.oFld 2 ((Syntax.field 1) ∷ List.[]) (Syntax.tyInt Syntax.w64) 8 λ v.
               Shared.lenV (v .0)) (Reads.as-is 𝓤 H A (Relend.msptr InflightAction.row ref1 4)) (Reads.room-gone 𝓤 H A (Syntax.tyStruct (38 ∷ 91 ∷ 93 ∷
               List.[]) (Syntax.tcons ref1 (Syntax.tcons (Syntax.tyInt Syntax.w64) Syntax.tnil)))) (Relend.reads-owed-len 𝓤 H A W InflightAction.row
               ref4 1 4 life1 8 Path.refl, Path.refl,) Path.refl Path.refl λ b o k. tt) d19
-          d21 : Typed.Typed 𝓤 H A 𝓣 E G8 b15 Δ0 at21
-          d21 = Typed.s-seq 𝓤 H A W 𝓣 E G8 G9 b3 b14 Δ0 (Typed.give s7) at20 (Relend.t-sl-relend 𝓤 H A W E InflightAction.row 𝓣 G8 2 11 1 4 ref4 ref1
+          d21 : Typed.Typed 𝓤 H A 𝓣 E G9 b15 Δ0 at21
+          d21 = Typed.s-seq 𝓤 H A W 𝓣 E G9 G10 b3 b14 Δ0 (Typed.give s8) at20 (Relend.t-sl-relend 𝓤 H A W E InflightAction.row 𝓣 G9 2 12 1 4 ref4 ref1
               life1 0 (λ x. x) (Reads.as-is 𝓤 H A (Mut.mslice InflightAction.row ref4 1)) (Reads.room-gone 𝓤 H A ref1) Path.refl tt Path.refl
               Path.refl Path.refl λ b o. tt) d20
-          d22 : Typed.Typed 𝓤 H A 𝓣 E G7 b15 Δ0 at22
-          d22 = Typed.g-pre 𝓤 H A W 𝓣 E G7 G8 b15 Δ0 (λ Ψ. Ψ) at21 (Lifetime.g-begin 𝓤 H A W E G7 4 (tt, ((tt, tt), (tt, (tt, (tt, (tt, (tt, (tt, (tt,
-              (tt, (tt, (tt, (tt, (tt, (tt, tt)))))))))),),),),),)) d21
-          d23 : Typed.Typed 𝓤 H A 𝓣 E G6 b16 Δ0 at23
-          d23 = Typed.s-seq 𝓤 H A W 𝓣 E G6 G7 b2 b15 Δ0 (Typed.ask s5) at22 (Relend.t-sl-aggregate 𝓤 H A W E RelayCircuit.row 𝓣 (Relend.asMut
-              RelayCircuit.row) G6 9 10 3 ref0 ref0 (λ x. x) (Scalar.oFld 1 ((Syntax.field 1) ∷ List.[]) (Syntax.tyInt Syntax.w64) 8 λ v. Shared.lenV
+          d22 : Typed.Typed 𝓤 H A 𝓣 E G8 b15 Δ0 at22
+          d22 = Typed.g-pre 𝓤 H A W 𝓣 E G8 G9 b15 Δ0 (λ Ψ. Ψ) at21 (Lifetime.g-begin 𝓤 H A W E G8 4 (tt, ((tt, tt), (tt, (tt, (tt, (tt, (tt, (tt, (tt,
+              (tt, (tt, (tt, (tt, (tt, (tt, (tt, tt)))))))))),),),),),),)) d21
+          d23 : Typed.Typed 𝓤 H A 𝓣 E G7 b16 Δ0 at23
+          d23 = Typed.s-seq 𝓤 H A W 𝓣 E G7 G8 b2 b15 Δ0 (Typed.ask s6) at22 (Relend.t-sl-aggregate 𝓤 H A W E RelayCircuit.row 𝓣 (Relend.asMut
+              RelayCircuit.row) G7 10 11 3 ref0 ref0 (λ x. x) (Scalar.oFld 1 ((Syntax.field 1) ∷ List.[]) (Syntax.tyInt Syntax.w64) 8 λ v. Shared.lenV
               (v .0)) (Reads.as-is 𝓤 H A (Relend.msptr RelayCircuit.row ref0 3)) (Reads.room-gone 𝓤 H A (Syntax.tyStruct (38 ∷ 91 ∷ 93 ∷ List.[])
               (Syntax.tcons ref0 (Syntax.tcons (Syntax.tyInt Syntax.w64) Syntax.tnil)))) (Relend.reads-owed-len 𝓤 H A W RelayCircuit.row ref3 0 3
               life0 8 Path.refl, Path.refl,) Path.refl Path.refl λ b o k. tt) d22
-          d24 : Typed.Typed 𝓤 H A 𝓣 E G5 b17 Δ0 at24
-          d24 = Typed.s-seq 𝓤 H A W 𝓣 E G5 G6 b1 b16 Δ0 (Typed.give s4) at23 (Relend.t-sl-relend 𝓤 H A W E RelayCircuit.row 𝓣 G5 1 9 0 3 ref3 ref0
+          d24 : Typed.Typed 𝓤 H A 𝓣 E G6 b17 Δ0 at24
+          d24 = Typed.s-seq 𝓤 H A W 𝓣 E G6 G7 b1 b16 Δ0 (Typed.give s5) at23 (Relend.t-sl-relend 𝓤 H A W E RelayCircuit.row 𝓣 G6 1 10 0 3 ref3 ref0
               life0 0 (λ x. x) (Reads.as-is 𝓤 H A (Mut.mslice RelayCircuit.row ref3 0)) (Reads.room-gone 𝓤 H A ref0) Path.refl tt Path.refl Path.refl
               Path.refl λ b o. tt) d23
-          d25 : Typed.Typed 𝓤 H A 𝓣 E G4 b17 Δ0 at25
-          d25 = Typed.g-pre 𝓤 H A W 𝓣 E G4 G5 b17 Δ0 (λ Ψ. Ψ) at24 (Lifetime.g-begin 𝓤 H A W E G4 3 (tt, (tt, (tt, (tt, (tt, (tt, (tt, (tt, (tt, (tt,
-              (tt, (tt, (tt, (tt, (tt, tt)))))))))),),),),),)) d24
-          d26 : Typed.Typed 𝓤 H A 𝓣 E G3 b17 Δ0 at26
-          d26 = Typed.g-pre 𝓤 H A W 𝓣 E G3 G4 b17 Δ0 (Typed.pass T3 T4 s2) at25 (Scalar.g-room 𝓤 H A W E G3 4 Laws'.mir (Local.room-whole 𝓤 H A W
-              (Declared'.row OpaqueRelayRuntime.the-type) Laws'.mir Path.refl)) d25
-          d27 : Typed.Typed 𝓤 H A 𝓣 E G2 b18 Δ0 at27
-          d27 = Typed.s-seq 𝓤 H A W 𝓣 E G2 G3 b0 b17 Δ0 (Typed.both s1) at26 (Plain.t-call-plain 𝓤 H A W 𝓣 0 ps·0 r·0 (claims· .0) (claims· .1)
-              "hnsr_circuit::revocation::started" (known .0) E (λ pos β. β) G2 (record { pos = 4; st = List.[]; d = 0; at = λ x. x }, tt) 7 List.[]
-              (Call.sub-id 𝓤 H A W (G2 .slots)) ((Yields.yields-copy 𝓤 H A W (λ ρ. Unit) (Declared'.row OpaqueRelayRuntime.the-type) Path.refl
-              (Copies.cStruct OpaqueRelayRuntime.the-type Laws'.the-laws Laws'.the-copy .copy 𝓤 H A W) (Rows.whole (Declared'.row
-              OpaqueRelayRuntime.the-type)) (λ x. x) (λ x. x) (λ ρ told. Local.mem-whole 𝓤 H A W (Declared'.row OpaqueRelayRuntime.the-type) ρ) λ ρ
-              told. Local.whole-mem 𝓤 H A W (Declared'.row OpaqueRelayRuntime.the-type) ρ, Path.refl,), tt,) (Reads.room-gone 𝓤 H A Laws'''.mir) tt
-              Path.refl) d26
-          d28 : Typed.Typed 𝓤 H A 𝓣 E G0 b18 Δ0 at28
-          d28 = Typed.g-pre 𝓤 H A W 𝓣 E G0 G2 b18 Δ0 (Typed.give s0) at27 (Know.g-sl-known 𝓤 H A W (Referent.fInt Syntax.w32) E G0 3 2 ref5 life2 0 (λ
-              x. x) record { fits = Dec.lit< tt } (Reads.as-is 𝓤 H A (Mut.mslice (Referent.rtF (Referent.fInt Syntax.w32)) ref5 2)) Path.refl tt) d27
+          d25 : Typed.Typed 𝓤 H A 𝓣 E G5 b17 Δ0 at25
+          d25 = Typed.g-pre 𝓤 H A W 𝓣 E G5 G6 b17 Δ0 (λ Ψ. Ψ) at24 (Lifetime.g-begin 𝓤 H A W E G5 3 (tt, (tt, (tt, (tt, (tt, (tt, (tt, (tt, (tt, (tt,
+              (tt, (tt, (tt, (tt, (tt, (tt, tt)))))))))),),),),),),)) d24
+          d26 : Typed.Typed 𝓤 H A 𝓣 E G4 b17 Δ0 at26
+          d26 = Typed.g-pre 𝓤 H A W 𝓣 E G4 G5 b17 Δ0 (Typed.pass T4 T5 s3) at25 (Scalar.g-room 𝓤 H A W E G4 5 Laws'.mir (Local.room-whole 𝓤 H A W
+              (Declared'.row Places.the-type) Laws'.mir Path.refl)) d25
+          d27 : Typed.Typed 𝓤 H A 𝓣 E G3 b17 Δ0 at27
+          d27 = Typed.g-pre 𝓤 H A W 𝓣 E G3 G4 b17 Δ0 (Typed.pass T3 T4 s2) at26 (Scalar.g-room 𝓤 H A W E G3 4 Laws''.mir (Local.room-whole 𝓤 H A W
+              (Declared'.row OpaqueRelayRuntime.the-type) Laws''.mir Path.refl)) d26
+          d28 : Typed.Typed 𝓤 H A 𝓣 E G2 b18 Δ0 at28
+          d28 = Typed.s-seq 𝓤 H A W 𝓣 E G2 G3 b0 b17 Δ0 (Typed.both s1) at27 (Plain.t-call-plain 𝓤 H A W 𝓣 0 ps·0 r·0 (claims· .0) (claims· .1)
+              "hnsr_circuit::revocation::started" (known .0) E (λ pos β. β) G2 (record { pos = 4; st = List.[]; d = 0; at = λ x. x }, (record { pos =
+              5; st = List.[]; d = 0; at = λ x. x }, tt),) 8 List.[] (Call.sub-id 𝓤 H A W (G2 .slots)) ((Yields.yields-copy 𝓤 H A W (λ ρ. Unit)
+              (Declared'.row OpaqueRelayRuntime.the-type) Path.refl (Copies.cStruct OpaqueRelayRuntime.the-type Laws''.the-laws Laws''.the-copy .copy
+              𝓤 H A W) (Rows.whole (Declared'.row OpaqueRelayRuntime.the-type)) (λ x. x) (λ x. x) (λ ρ told. Local.mem-whole 𝓤 H A W (Declared'.row
+              OpaqueRelayRuntime.the-type) ρ) λ ρ told. Local.whole-mem 𝓤 H A W (Declared'.row OpaqueRelayRuntime.the-type) ρ, Path.refl,),
+              ((Yields.yields-copy 𝓤 H A W (λ ρ. Unit) (Declared'.row Places.the-type) Path.refl (Copies.cStruct Places.the-type Laws'.the-laws
+              Laws'.the-copy .copy 𝓤 H A W) (Rows.whole (Declared'.row Places.the-type)) (λ x. x) (λ x. x) (λ ρ told. Local.mem-whole 𝓤 H A W
+              (Declared'.row Places.the-type) ρ) λ ρ told. Local.whole-mem 𝓤 H A W (Declared'.row Places.the-type) ρ, Path.refl,), tt,),)
+              (Reads.room-gone 𝓤 H A Laws''''.mir) tt Path.refl) d27
+          d29 : Typed.Typed 𝓤 H A 𝓣 E G0 b18 Δ0 at29
+          d29 = Typed.g-pre 𝓤 H A W 𝓣 E G0 G2 b18 Δ0 (Typed.give s0) at28 (Know.g-sl-known 𝓤 H A W (Referent.fInt Syntax.w32) E G0 3 2 ref5 life2 0 (λ
+              x. x) record { fits = Dec.lit< tt } (Reads.as-is 𝓤 H A (Mut.mslice (Referent.rtF (Referent.fInt Syntax.w32)) ref5 2)) Path.refl tt) d28
           pub typed : Typed.Typed 𝓤 H A 𝓣 E (Function.Γin 3 ps r xs m κs qs) b18 (Function.Δret 3 ps r xs m κs qs) Φ
-          typed = d28
+          typed = d29
       module _ (κs : Lifetimes.Lfts 3) where
         pub record Args : Type 0 where
           pub circuits : Kinds.Den { n = 3 } κs (MutSlice.pMutS RelayCircuit.row 0 tt)
           pub inflight : Kinds.Den { n = 3 } κs (MutSlice.pMutS InflightAction.row 1 tt)
           pub out : Kinds.Den { n = 3 } κs (MutSlice.pMutS (Referent.rtF (Referent.fInt Syntax.w32)) 2 tt)
           pub runtime : Kinds.Den { n = 3 } κs (Value.pVal record { ty = Declared'.row OpaqueRelayRuntime.the-type; one = Path.refl; val =
-              Laws'''''.val OpaqueRelayRuntime.the-type Laws'.the-laws; tells = Laws'''''.tells OpaqueRelayRuntime.the-type Laws'.the-laws; still =
-              Laws'''''.still OpaqueRelayRuntime.the-type Laws'.the-copy Exit.yes; row = Rows.whole (Declared'.row OpaqueRelayRuntime.the-type); rd =
-              λ x. x; mk = λ x. x; } λ M 𝓤 H A W. record { copies = Laws'''''.copy OpaqueRelayRuntime.the-type Laws'.the-copy 𝓤 H A W; lawful =
-              Laws'''''.lawful OpaqueRelayRuntime.the-type Laws'.the-laws 𝓤 H A W; makes = Laws'''''.makes OpaqueRelayRuntime.the-type Laws'.the-plain
-              𝓤 H A; in-mem = Local.mem-whole 𝓤 H A W (Declared'.row OpaqueRelayRuntime.the-type); of-mem = Local.whole-mem 𝓤 H A W (Declared'.row
-              OpaqueRelayRuntime.the-type); })
-          pub notice : Kinds.Den { n = 3 } κs (Value.pVal record { ty = Declared.row Notice.the-type; one = Path.refl; val = Laws''''.val
-              Notice.the-type Laws.the-laws; tells = Laws''''.tells Notice.the-type Laws.the-laws; still = Laws''''.still Notice.the-type
+              Laws''''''.val OpaqueRelayRuntime.the-type Laws''.the-laws; tells = Laws''''''.tells OpaqueRelayRuntime.the-type Laws''.the-laws; still
+              = Laws''''''.still OpaqueRelayRuntime.the-type Laws''.the-copy Exit.yes; row = Rows.whole (Declared'.row OpaqueRelayRuntime.the-type);
+              rd = λ x. x; mk = λ x. x; } λ M 𝓤 H A W. record { copies = Laws''''''.copy OpaqueRelayRuntime.the-type Laws''.the-copy 𝓤 H A W; lawful =
+              Laws''''''.lawful OpaqueRelayRuntime.the-type Laws''.the-laws 𝓤 H A W; makes = Laws''''''.makes OpaqueRelayRuntime.the-type
+              Laws''.the-plain 𝓤 H A; in-mem = Local.mem-whole 𝓤 H A W (Declared'.row OpaqueRelayRuntime.the-type); of-mem = Local.whole-mem 𝓤 H A W
+              (Declared'.row OpaqueRelayRuntime.the-type); })
+          pub places : Kinds.Den { n = 3 } κs (Value.pVal record { ty = Declared'.row Places.the-type; one = Path.refl; val = Laws''''''.val
+              Places.the-type Laws'.the-laws; tells = Laws''''''.tells Places.the-type Laws'.the-laws; still = Laws''''''.still Places.the-type
+              Laws'.the-copy Exit.yes; row = Rows.whole (Declared'.row Places.the-type); rd = λ x. x; mk = λ x. x; } λ M 𝓤 H A W. record { copies =
+              Laws''''''.copy Places.the-type Laws'.the-copy 𝓤 H A W; lawful = Laws''''''.lawful Places.the-type Laws'.the-laws 𝓤 H A W; makes =
+              Laws''''''.makes Places.the-type Laws'.the-plain 𝓤 H A; in-mem = Local.mem-whole 𝓤 H A W (Declared'.row Places.the-type); of-mem =
+              Local.whole-mem 𝓤 H A W (Declared'.row Places.the-type); })
+          pub notice : Kinds.Den { n = 3 } κs (Value.pVal record { ty = Declared.row Notice.the-type; one = Path.refl; val = Laws'''''.val
+              Notice.the-type Laws.the-laws; tells = Laws'''''.tells Notice.the-type Laws.the-laws; still = Laws'''''.still Notice.the-type
               Laws.the-copy Exit.yes; row = Rows.whole (Declared.row Notice.the-type); rd = λ x. x; mk = λ x. x; } λ M 𝓤 H A W. record { copies =
-              Laws''''.copy Notice.the-type Laws.the-copy 𝓤 H A W; lawful = Laws''''.lawful Notice.the-type Laws.the-laws 𝓤 H A W tt; makes =
-              Laws''''.makes Notice.the-type Laws.the-plain 𝓤 H A; in-mem = Local.mem-whole 𝓤 H A W (Declared.row Notice.the-type); of-mem =
+              Laws'''''.copy Notice.the-type Laws.the-copy 𝓤 H A W; lawful = Laws'''''.lawful Notice.the-type Laws.the-laws 𝓤 H A W tt; makes =
+              Laws'''''.makes Notice.the-type Laws.the-plain 𝓤 H A; in-mem = Local.mem-whole 𝓤 H A W (Declared.row Notice.the-type); of-mem =
               Local.whole-mem 𝓤 H A W (Declared.row Notice.the-type); })
           pub id : Kinds.Den { n = 3 } κs (Num.pNum Syntax.w64)
         abbrev pub dens : (a : Args) → Kinds.Dens κs ps
-        dens = λ a. (a .circuits, (a .inflight, (a .out, (a .runtime, (a .notice, (a .id, tt))))),)
+        dens = λ a. (a .circuits, (a .inflight, (a .out, (a .runtime, (a .places, (a .notice, (a .id, tt)))))),)
         module _ (args· : Args) where
           pub record Ranges : Type 0 where
             pub id : Val.Fits Syntax.w64 (args· .id)
@@ -776,198 +819,200 @@ module _ (claims· : Claims) where
       m2 = λ before given. s1 .next (m1 (before .before) (before .slice-known .given)) given
       module _ (before· : After-slice-known) where
         abbrev pub After-started·own : Type 0
-        After-started·own = Called.Called ps·0 r·0 (claims· .1) T2 (record { pos = 4; st = List.[]; d = 0; at = λ x. x }, tt,) (m1 (before· .before)
-            (before· .slice-known .given))
+        After-started·own = Called.Called ps·0 r·0 (claims· .1) T2 (record { pos = 4; st = List.[]; d = 0; at = λ x. x }, (record { pos = 5; st =
+            List.[]; d = 0; at = λ x. x }, tt),) (m1 (before· .before) (before· .slice-known .given))
       pub record After-started : Type 0 where
         pub before : After-slice-known
         pub started : After-started·own before
       abbrev pub After-started·gave : (c : After-started) → s1 .gives (m1 (c .before .before) (c .before .slice-known .given))
-      After-started·gave = λ c. Called.given ps·0 r·0 (claims· .1) T2 (record { pos = 4; st = List.[]; d = 0; at = λ x. x }, tt,) (m1 (c .before
-          .before) (c .before .slice-known .given)) (c .started)
+      After-started·gave = λ c. Called.given ps·0 r·0 (claims· .1) T2 (record { pos = 4; st = List.[]; d = 0; at = λ x. x }, (record { pos = 5; st =
+          List.[]; d = 0; at = λ x. x }, tt),) (m1 (c .before .before) (c .before .slice-known .given)) (c .started)
       abbrev pub m3 : (before : After-slice-known) → (given : s1 .gives (m1 (before .before) (before .slice-known .given))) → Typed.Mo T4
       m3 = λ before given. s2 (m2 before given)
-      abbrev pub m4 : (before : After-started) → (given : s4 .gives (m3 (before .before) (After-started·gave before))) → Typed.Mo T6
-      m4 = λ before given. s4 .next (m3 (before .before) (After-started·gave before)) given
-      abbrev pub m5 : (before : After-started) → (given : s4 .gives (m3 (before .before) (After-started·gave before))) → Typed.Mo T7
-      m5 = λ before given. s5 .next (m4 before given)
+      abbrev pub m4 : (before : After-slice-known) → (given : s1 .gives (m1 (before .before) (before .slice-known .given))) → Typed.Mo T5
+      m4 = λ before given. s3 (m3 before given)
+      abbrev pub m5 : (before : After-started) → (given : s5 .gives (m4 (before .before) (After-started·gave before))) → Typed.Mo T7
+      m5 = λ before given. s5 .next (m4 (before .before) (After-started·gave before)) given
+      abbrev pub m6 : (before : After-started) → (given : s5 .gives (m4 (before .before) (After-started·gave before))) → Typed.Mo T8
+      m6 = λ before given. s6 .next (m5 before given)
       module _ (before· : After-started) where
         pub record After-revoke-circuit-arg·own : Type 0 where
-          pub given : s4 .gives (m3 (before· .before) (After-started·gave before·))
+          pub given : s5 .gives (m4 (before· .before) (After-started·gave before·))
       pub record After-revoke-circuit-arg : Type 0 where
         pub before : After-started
         pub revoke-circuit-arg : After-revoke-circuit-arg·own before
-      abbrev pub m6 : (before : After-revoke-circuit-arg) → (given : s7 .gives (m5 (before .before) (before .revoke-circuit-arg .given))) → Typed.Mo
-          T9
-      m6 = λ before given. s7 .next (m5 (before .before) (before .revoke-circuit-arg .given)) given
-      abbrev pub m7 : (before : After-revoke-circuit-arg) → (given : s7 .gives (m5 (before .before) (before .revoke-circuit-arg .given))) → Typed.Mo
+      abbrev pub m7 : (before : After-revoke-circuit-arg) → (given : s8 .gives (m6 (before .before) (before .revoke-circuit-arg .given))) → Typed.Mo
           T10
-      m7 = λ before given. s8 .next (m6 before given)
+      m7 = λ before given. s8 .next (m6 (before .before) (before .revoke-circuit-arg .given)) given
+      abbrev pub m8 : (before : After-revoke-circuit-arg) → (given : s8 .gives (m6 (before .before) (before .revoke-circuit-arg .given))) → Typed.Mo
+          T11
+      m8 = λ before given. s9 .next (m7 before given)
       module _ (before· : After-revoke-circuit-arg) where
         pub record After-revoke-circuit-arg2·own : Type 0 where
-          pub given : s7 .gives (m5 (before· .before) (before· .revoke-circuit-arg .given))
+          pub given : s8 .gives (m6 (before· .before) (before· .revoke-circuit-arg .given))
       pub record After-revoke-circuit-arg2 : Type 0 where
         pub before : After-revoke-circuit-arg
         pub revoke-circuit-arg2 : After-revoke-circuit-arg2·own before
-      abbrev pub m8 : (before : After-revoke-circuit-arg2) → (given : s10 .gives (m7 (before .before) (before .revoke-circuit-arg2 .given))) →
-          Typed.Mo T12
-      m8 = λ before given. s10 .next (m7 (before .before) (before .revoke-circuit-arg2 .given)) given
-      abbrev pub m9 : (before : After-revoke-circuit-arg2) → (given : s10 .gives (m7 (before .before) (before .revoke-circuit-arg2 .given))) →
+      abbrev pub m9 : (before : After-revoke-circuit-arg2) → (given : s11 .gives (m8 (before .before) (before .revoke-circuit-arg2 .given))) →
           Typed.Mo T13
-      m9 = λ before given. s11 .next (m8 before given)
+      m9 = λ before given. s11 .next (m8 (before .before) (before .revoke-circuit-arg2 .given)) given
+      abbrev pub m10 : (before : After-revoke-circuit-arg2) → (given : s11 .gives (m8 (before .before) (before .revoke-circuit-arg2 .given))) →
+          Typed.Mo T14
+      m10 = λ before given. s12 .next (m9 before given)
       module _ (before· : After-revoke-circuit-arg2) where
         pub record After-revoke-circuit-arg3·own : Type 0 where
-          pub given : s10 .gives (m7 (before· .before) (before· .revoke-circuit-arg2 .given))
+          pub given : s11 .gives (m8 (before· .before) (before· .revoke-circuit-arg2 .given))
       pub record After-revoke-circuit-arg3 : Type 0 where
         pub before : After-revoke-circuit-arg2
         pub revoke-circuit-arg3 : After-revoke-circuit-arg3·own before
       abbrev pub Need-revoke-circuit-requires : Type 0
-      Need-revoke-circuit-requires = (c : After-revoke-circuit-arg3) → s12 .asks (m9 (c .before) (c .revoke-circuit-arg3 .given))
-      abbrev pub m10 : (before : After-revoke-circuit-arg3) → (given : s12 .gives (m9 (before .before) (before .revoke-circuit-arg3 .given))) →
-          Typed.Mo T14
-      m10 = λ before given. s12 .next (m9 (before .before) (before .revoke-circuit-arg3 .given)) given
+      Need-revoke-circuit-requires = (c : After-revoke-circuit-arg3) → s13 .asks (m10 (c .before) (c .revoke-circuit-arg3 .given))
+      abbrev pub m11 : (before : After-revoke-circuit-arg3) → (given : s13 .gives (m10 (before .before) (before .revoke-circuit-arg3 .given))) →
+          Typed.Mo T15
+      m11 = λ before given. s13 .next (m10 (before .before) (before .revoke-circuit-arg3 .given)) given
       module _ (before· : After-revoke-circuit-arg3) where
         abbrev pub After-revoke-circuit·own : Type 0
-        After-revoke-circuit·own = Called.Called ps·1 r·1 (claims· .3) T13 (record { pos = 10; ty = Syntax.tyRef Syntax.erased Syntax.mut
-            RelayCircuit.to; ref = λ x. x; }, (record { pos = 12; ty = Syntax.tyRef Syntax.erased Syntax.mut InflightAction.to; ref = λ x. x; },
-            (record { pos = 14; ty = Syntax.tyRef Syntax.erased Syntax.mut (Syntax.tyInt Syntax.w32); ref = λ x. x; }, (record { pos = 7; st =
-            List.[]; d = 0; at = λ x. x }, (record { pos = 5; st = List.[]; d = 0; at = λ x. x }, (Num.vAt 6 λ x. x, tt)),),),),) (m9 (before·
+        After-revoke-circuit·own = Called.Called ps·1 r·1 (claims· .3) T14 (record { pos = 11; ty = Syntax.tyRef Syntax.erased Syntax.mut
+            RelayCircuit.to; ref = λ x. x; }, (record { pos = 13; ty = Syntax.tyRef Syntax.erased Syntax.mut InflightAction.to; ref = λ x. x; },
+            (record { pos = 15; ty = Syntax.tyRef Syntax.erased Syntax.mut (Syntax.tyInt Syntax.w32); ref = λ x. x; }, (record { pos = 8; st =
+            List.[]; d = 0; at = λ x. x }, (record { pos = 6; st = List.[]; d = 0; at = λ x. x }, (Num.vAt 7 λ x. x, tt)),),),),) (m10 (before·
             .before) (before· .revoke-circuit-arg3 .given))
       pub record After-revoke-circuit : Type 0 where
         pub before : After-revoke-circuit-arg3
         pub revoke-circuit : After-revoke-circuit·own before
-      abbrev pub After-revoke-circuit·gave : (c : After-revoke-circuit) → s12 .gives (m9 (c .before .before) (c .before .revoke-circuit-arg3 .given))
-      After-revoke-circuit·gave = λ c. Called.given ps·1 r·1 (claims· .3) T13 (record { pos = 10; ty = Syntax.tyRef Syntax.erased Syntax.mut
-          RelayCircuit.to; ref = λ x. x; }, (record { pos = 12; ty = Syntax.tyRef Syntax.erased Syntax.mut InflightAction.to; ref = λ x. x; }, (record
-          { pos = 14; ty = Syntax.tyRef Syntax.erased Syntax.mut (Syntax.tyInt Syntax.w32); ref = λ x. x; }, (record { pos = 7; st = List.[]; d = 0;
-          at = λ x. x }, (record { pos = 5; st = List.[]; d = 0; at = λ x. x }, (Num.vAt 6 λ x. x, tt)),),),),) (m9 (c .before .before) (c .before
+      abbrev pub After-revoke-circuit·gave : (c : After-revoke-circuit) → s13 .gives (m10 (c .before .before) (c .before .revoke-circuit-arg3 .given))
+      After-revoke-circuit·gave = λ c. Called.given ps·1 r·1 (claims· .3) T14 (record { pos = 11; ty = Syntax.tyRef Syntax.erased Syntax.mut
+          RelayCircuit.to; ref = λ x. x; }, (record { pos = 13; ty = Syntax.tyRef Syntax.erased Syntax.mut InflightAction.to; ref = λ x. x; }, (record
+          { pos = 15; ty = Syntax.tyRef Syntax.erased Syntax.mut (Syntax.tyInt Syntax.w32); ref = λ x. x; }, (record { pos = 8; st = List.[]; d = 0;
+          at = λ x. x }, (record { pos = 6; st = List.[]; d = 0; at = λ x. x }, (Num.vAt 7 λ x. x, tt)),),),),) (m10 (c .before .before) (c .before
           .revoke-circuit-arg3 .given)) (c .revoke-circuit)
-      abbrev pub m11 : (before : After-revoke-circuit-arg3) → (given : s12 .gives (m9 (before .before) (before .revoke-circuit-arg3 .given))) →
-          Typed.Mo T15
-      m11 = λ before given. s13 (m10 before given)
-      abbrev pub m12 : (before : After-revoke-circuit-arg3) → (given : s12 .gives (m9 (before .before) (before .revoke-circuit-arg3 .given))) →
+      abbrev pub m12 : (before : After-revoke-circuit-arg3) → (given : s13 .gives (m10 (before .before) (before .revoke-circuit-arg3 .given))) →
           Typed.Mo T16
       m12 = λ before given. s14 (m11 before given)
-      abbrev pub m13 : (before : After-revoke-circuit) → (given : s16 .gives (m12 (before .before) (After-revoke-circuit·gave before))) → Typed.Mo T18
-      m13 = λ before given. s16 .next (m12 (before .before) (After-revoke-circuit·gave before)) given
+      abbrev pub m13 : (before : After-revoke-circuit-arg3) → (given : s13 .gives (m10 (before .before) (before .revoke-circuit-arg3 .given))) →
+          Typed.Mo T17
+      m13 = λ before given. s15 (m12 before given)
+      abbrev pub m14 : (before : After-revoke-circuit) → (given : s17 .gives (m13 (before .before) (After-revoke-circuit·gave before))) → Typed.Mo T19
+      m14 = λ before given. s17 .next (m13 (before .before) (After-revoke-circuit·gave before)) given
       module _ (before· : After-revoke-circuit) where
         pub record After-circuits·own : Type 0 where
-          pub given : s16 .gives (m12 (before· .before) (After-revoke-circuit·gave before·))
+          pub given : s17 .gives (m13 (before· .before) (After-revoke-circuit·gave before·))
       pub record After-circuits : Type 0 where
         pub before : After-revoke-circuit
         pub circuits : After-circuits·own before
-      abbrev pub m14 : (before : After-circuits) → (given : s19 .gives (m13 (before .before) (before .circuits .given))) → Typed.Mo T21
-      m14 = λ before given. s19 .next (m13 (before .before) (before .circuits .given)) given
+      abbrev pub m15 : (before : After-circuits) → (given : s20 .gives (m14 (before .before) (before .circuits .given))) → Typed.Mo T22
+      m15 = λ before given. s20 .next (m14 (before .before) (before .circuits .given)) given
       module _ (before· : After-circuits) where
         pub record After-inflight·own : Type 0 where
-          pub given : s19 .gives (m13 (before· .before) (before· .circuits .given))
+          pub given : s20 .gives (m14 (before· .before) (before· .circuits .given))
       pub record After-inflight : Type 0 where
         pub before : After-circuits
         pub inflight : After-inflight·own before
-      abbrev pub m15 : (before : After-inflight) → (given : s22 .gives (m14 (before .before) (before .inflight .given))) → Typed.Mo T24
-      m15 = λ before given. s22 .next (m14 (before .before) (before .inflight .given)) given
+      abbrev pub m16 : (before : After-inflight) → (given : s23 .gives (m15 (before .before) (before .inflight .given))) → Typed.Mo T25
+      m16 = λ before given. s23 .next (m15 (before .before) (before .inflight .given)) given
       module _ (before· : After-inflight) where
         pub record After-out·own : Type 0 where
-          pub given : s22 .gives (m14 (before· .before) (before· .inflight .given))
+          pub given : s23 .gives (m15 (before· .before) (before· .inflight .given))
       pub record After-out : Type 0 where
         pub before : After-inflight
         pub out : After-out·own before
-      abbrev pub m16 : (before : After-out) → (given : s23 .gives (m15 (before .before) (before .out .given))) → Typed.Mo T25
-      m16 = λ before given. s23 .next (m15 (before .before) (before .out .given)) given
+      abbrev pub m17 : (before : After-out) → (given : s24 .gives (m16 (before .before) (before .out .given))) → Typed.Mo T26
+      m17 = λ before given. s24 .next (m16 (before .before) (before .out .given)) given
       module _ (before· : After-out) where
         pub record After-slice-known2·own : Type 0 where
-          pub given : s23 .gives (m15 (before· .before) (before· .out .given))
+          pub given : s24 .gives (m16 (before· .before) (before· .out .given))
       pub record After-slice-known2 : Type 0 where
         pub before : After-out
         pub slice-known2 : After-slice-known2·own before
       abbrev pub Need-finished-requires : Type 0
-      Need-finished-requires = (c : After-slice-known2) → s25 .asks (m16 (c .before) (c .slice-known2 .given))
-      abbrev pub m17 : (before : After-slice-known2) → (given : s25 .gives (m16 (before .before) (before .slice-known2 .given))) → Typed.Mo T27
-      m17 = λ before given. s25 .next (m16 (before .before) (before .slice-known2 .given)) given
+      Need-finished-requires = (c : After-slice-known2) → s26 .asks (m17 (c .before) (c .slice-known2 .given))
+      abbrev pub m18 : (before : After-slice-known2) → (given : s26 .gives (m17 (before .before) (before .slice-known2 .given))) → Typed.Mo T28
+      m18 = λ before given. s26 .next (m17 (before .before) (before .slice-known2 .given)) given
       module _ (before· : After-slice-known2) where
         abbrev pub After-finished·own : Type 0
-        After-finished·own = Called.Called ps·2 r·2 (claims· .5) T25 (record { pos = 8; st = List.[]; d = 0; at = λ x. x }, tt,) (m16 (before·
+        After-finished·own = Called.Called ps·2 r·2 (claims· .5) T26 (record { pos = 9; st = List.[]; d = 0; at = λ x. x }, tt,) (m17 (before·
             .before) (before· .slice-known2 .given))
       pub record After-finished : Type 0 where
         pub before : After-slice-known2
         pub finished : After-finished·own before
-      abbrev pub After-finished·gave : (c : After-finished) → s25 .gives (m16 (c .before .before) (c .before .slice-known2 .given))
-      After-finished·gave = λ c. Called.given ps·2 r·2 (claims· .5) T25 (record { pos = 8; st = List.[]; d = 0; at = λ x. x }, tt,) (m16 (c .before
+      abbrev pub After-finished·gave : (c : After-finished) → s26 .gives (m17 (c .before .before) (c .before .slice-known2 .given))
+      After-finished·gave = λ c. Called.given ps·2 r·2 (claims· .5) T26 (record { pos = 9; st = List.[]; d = 0; at = λ x. x }, tt,) (m17 (c .before
           .before) (c .before .slice-known2 .given)) (c .finished)
-      abbrev pub m18 : (before : After-slice-known2) → (given : s25 .gives (m16 (before .before) (before .slice-known2 .given))) → Typed.Mo T28
-      m18 = λ before given. s26 (m17 before given)
-      abbrev pub m19 : (before : After-slice-known2) → (given : s25 .gives (m16 (before .before) (before .slice-known2 .given))) → Typed.Mo T29
+      abbrev pub m19 : (before : After-slice-known2) → (given : s26 .gives (m17 (before .before) (before .slice-known2 .given))) → Typed.Mo T29
       m19 = λ before given. s27 (m18 before given)
+      abbrev pub m20 : (before : After-slice-known2) → (given : s26 .gives (m17 (before .before) (before .slice-known2 .given))) → Typed.Mo T30
+      m20 = λ before given. s28 (m19 before given)
       abbrev pub Need-same-length : Type 0
-      Need-same-length = (c : After-finished) → MutSlice.SameLen (Row.get 1 (T29 .locals) (m19 (c .before) (After-finished·gave c))) (dens (c .before
+      Need-same-length = (c : After-finished) → MutSlice.SameLen (Row.get 1 (T30 .locals) (m20 (c .before) (After-finished·gave c))) (dens (c .before
           .before .before .before .before .before .before .before .before .before .before .κs) (c .before .before .before .before .before .before
           .before .before .before .before .before .args) .0)
       abbrev pub Need-same-length-2 : Type 0
-      Need-same-length-2 = (c : After-finished) → MutSlice.SameLen (Row.get 2 (T29 .locals) (m19 (c .before) (After-finished·gave c))) (dens (c
+      Need-same-length-2 = (c : After-finished) → MutSlice.SameLen (Row.get 2 (T30 .locals) (m20 (c .before) (After-finished·gave c))) (dens (c
           .before .before .before .before .before .before .before .before .before .before .before .κs) (c .before .before .before .before .before
           .before .before .before .before .before .before .args) .1 .0)
       abbrev pub Need-same-length-3 : Type 0
-      Need-same-length-3 = (c : After-finished) → MutSlice.SameLen (Row.get 3 (T29 .locals) (m19 (c .before) (After-finished·gave c))) (dens (c
+      Need-same-length-3 = (c : After-finished) → MutSlice.SameLen (Row.get 3 (T30 .locals) (m20 (c .before) (After-finished·gave c))) (dens (c
           .before .before .before .before .before .before .before .before .before .before .before .κs) (c .before .before .before .before .before
           .before .before .before .before .before .before .args) .1 .1 .0)
       abbrev pub Need-returns : Type 0
       Need-returns = (c : After-finished) → Post· (c .before .before .before .before .before .before .before .before .before .before .before .κs)
           (dens (c .before .before .before .before .before .before .before .before .before .before .before .κs) (c .before .before .before .before
           .before .before .before .before .before .before .before .args)) (Function.resV r (c .before .before .before .before .before .before .before
-          .before .before .before .before .κs) (m19 (c .before) (After-finished·gave c) .0)) (Clauses.atExit (Kinds.endedOf 3 ps r) (c .before .before
+          .before .before .before .before .κs) (m20 (c .before) (After-finished·gave c) .0)) (Clauses.atExit (Kinds.endedOf 3 ps r) (c .before .before
           .before .before .before .before .before .before .before .before .before .κs) (dens (c .before .before .before .before .before .before
           .before .before .before .before .before .κs) (c .before .before .before .before .before .before .before .before .before .before .before
           .args)) (Enter.lastsP (c .before .before .before .before .before .before .before .before .before .before .before .κs) 1 ps xs (dens (c
           .before .before .before .before .before .before .before .before .before .before .before .κs) (c .before .before .before .before .before
-          .before .before .before .before .before .before .args)) (m19 (c .before) (After-finished·gave c) .1)))
+          .before .before .before .before .before .before .args)) (m20 (c .before) (After-finished·gave c) .1)))
       module _ (started-requires : Need-started-requires) (revoke-circuit-requires : Need-revoke-circuit-requires) (finished-requires :
           Need-finished-requires) (same-length : Need-same-length) (same-length-2 : Need-same-length-2) (same-length-3 : Need-same-length-3) (returns
           : Need-returns) where
         lay3 : (c : After-finished) → at2 (W0 (c .before .before .before .before .before .before .before .before .before .before .before .κs) (c
-            .before .before .before .before .before .before .before .before .before .before .before .args)) (m17 (c .before) (After-finished·gave c))
-        lay3 = λ c. ((MutSlice.fix-len (Row.get 1 (T29 .locals) (m19 (c .before) (After-finished·gave c)) .ptr) (Row.get 1 (T29 .locals) (m19 (c
-            .before) (After-finished·gave c)) .name) (Row.get 1 (T29 .locals) (m19 (c .before) (After-finished·gave c)) .now) (dens (c .before .before
+            .before .before .before .before .before .before .before .before .before .before .before .args)) (m18 (c .before) (After-finished·gave c))
+        lay3 = λ c. ((MutSlice.fix-len (Row.get 1 (T30 .locals) (m20 (c .before) (After-finished·gave c)) .ptr) (Row.get 1 (T30 .locals) (m20 (c
+            .before) (After-finished·gave c)) .name) (Row.get 1 (T30 .locals) (m20 (c .before) (After-finished·gave c)) .now) (dens (c .before .before
             .before .before .before .before .before .before .before .before .before .κs) (c .before .before .before .before .before .before .before
             .before .before .before .before .args) .0 .now) (same-length record { before = c .before; finished = c .finished }), (MutSlice.fix-len
-            (Row.get 2 (T29 .locals) (m19 (c .before) (After-finished·gave c)) .ptr) (Row.get 2 (T29 .locals) (m19 (c .before) (After-finished·gave
-            c)) .name) (Row.get 2 (T29 .locals) (m19 (c .before) (After-finished·gave c)) .now) (dens (c .before .before .before .before .before
+            (Row.get 2 (T30 .locals) (m20 (c .before) (After-finished·gave c)) .ptr) (Row.get 2 (T30 .locals) (m20 (c .before) (After-finished·gave
+            c)) .name) (Row.get 2 (T30 .locals) (m20 (c .before) (After-finished·gave c)) .now) (dens (c .before .before .before .before .before
             .before .before .before .before .before .before .κs) (c .before .before .before .before .before .before .before .before .before .before
-            .before .args) .1 .0 .now) (same-length-2 record { before = c .before; finished = c .finished }), (MutSlice.fix-len (Row.get 3 (T29
-            .locals) (m19 (c .before) (After-finished·gave c)) .ptr) (Row.get 3 (T29 .locals) (m19 (c .before) (After-finished·gave c)) .name)
-            (Row.get 3 (T29 .locals) (m19 (c .before) (After-finished·gave c)) .now) (dens (c .before .before .before .before .before .before .before
+            .before .args) .1 .0 .now) (same-length-2 record { before = c .before; finished = c .finished }), (MutSlice.fix-len (Row.get 3 (T30
+            .locals) (m20 (c .before) (After-finished·gave c)) .ptr) (Row.get 3 (T30 .locals) (m20 (c .before) (After-finished·gave c)) .name)
+            (Row.get 3 (T30 .locals) (m20 (c .before) (After-finished·gave c)) .now) (dens (c .before .before .before .before .before .before .before
             .before .before .before .before .κs) (c .before .before .before .before .before .before .before .before .before .before .before .args) .1
-            .1 .0 .now) (same-length-3 record { before = c .before; finished = c .finished }), (tt, (tt, (tt, tt))),),),), returns record { before = c
-            .before; finished = c .finished },)
+            .1 .0 .now) (same-length-3 record { before = c .before; finished = c .finished }), (tt, (tt, (tt, (tt, tt)))),),),), returns record {
+            before = c .before; finished = c .finished },)
         lay2 : (c : After-revoke-circuit) → at15 (W0 (c .before .before .before .before .before .before .κs) (c .before .before .before .before
-            .before .before .args)) (m10 (c .before) (After-revoke-circuit·gave c))
+            .before .before .args)) (m11 (c .before) (After-revoke-circuit·gave c))
         lay2 = λ c. (Path.refl, λ g. (Path.refl, λ g'. (Path.refl, λ g''. λ g'3. (finished-requires record { before = record { before = record {
             before = record { before = record { before = c .before; revoke-circuit = c .revoke-circuit; }; circuits = record { given = g }; };
             inflight = record { given = g' }; }; out = record { given = g'' }; }; slice-known2 = record { given = g'3 }; }, λ g'4. lay3 record {
             before = record { before = record { before = record { before = record { before = record { before = c .before; revoke-circuit = c
             .revoke-circuit; }; circuits = record { given = g }; }; inflight = record { given = g' }; }; out = record { given = g'' }; }; slice-known2
-            = record { given = g'3 }; }; finished = Called.called ps·2 r·2 (claims· .5) T25 (record { pos = 8; st = List.[]; d = 0; at = λ x. x },
-            tt,) (m16 record { before = record { before = record { before = record { before = c .before; revoke-circuit = c .revoke-circuit; };
+            = record { given = g'3 }; }; finished = Called.called ps·2 r·2 (claims· .5) T26 (record { pos = 9; st = List.[]; d = 0; at = λ x. x },
+            tt,) (m17 record { before = record { before = record { before = record { before = c .before; revoke-circuit = c .revoke-circuit; };
             circuits = record { given = g }; }; inflight = record { given = g' }; }; out = record { given = g'' }; } g'3) g'4; },),),),)
-        lay1 : (c : After-started) → at26 (W0 (c .before .before .κs) (c .before .before .args)) (m2 (c .before) (After-started·gave c))
+        lay1 : (c : After-started) → at27 (W0 (c .before .before .κs) (c .before .before .args)) (m2 (c .before) (After-started·gave c))
         lay1 = λ c. λ g. (Path.refl, λ g'. (Path.refl, λ g''. (Path.refl, (revoke-circuit-requires record { before = record { before = record { before
             = record { before = c .before; started = c .started }; revoke-circuit-arg = record { given = g }; }; revoke-circuit-arg2 = record { given
             = g' }; }; revoke-circuit-arg3 = record { given = g'' }; }, λ g'3. lay2 record { before = record { before = record { before = record {
             before = record { before = c .before; started = c .started }; revoke-circuit-arg = record { given = g }; }; revoke-circuit-arg2 = record {
-            given = g' }; }; revoke-circuit-arg3 = record { given = g'' }; }; revoke-circuit = Called.called ps·1 r·1 (claims· .3) T13 (record { pos =
-            10; ty = Syntax.tyRef Syntax.erased Syntax.mut RelayCircuit.to; ref = λ x. x; }, (record { pos = 12; ty = Syntax.tyRef Syntax.erased
-            Syntax.mut InflightAction.to; ref = λ x. x; }, (record { pos = 14; ty = Syntax.tyRef Syntax.erased Syntax.mut (Syntax.tyInt Syntax.w32);
-            ref = λ x. x; }, (record { pos = 7; st = List.[]; d = 0; at = λ x. x }, (record { pos = 5; st = List.[]; d = 0; at = λ x. x }, (Num.vAt 6
-            λ x. x, tt),),),),),) (m9 record { before = record { before = record { before = c .before; started = c .started }; revoke-circuit-arg =
+            given = g' }; }; revoke-circuit-arg3 = record { given = g'' }; }; revoke-circuit = Called.called ps·1 r·1 (claims· .3) T14 (record { pos =
+            11; ty = Syntax.tyRef Syntax.erased Syntax.mut RelayCircuit.to; ref = λ x. x; }, (record { pos = 13; ty = Syntax.tyRef Syntax.erased
+            Syntax.mut InflightAction.to; ref = λ x. x; }, (record { pos = 15; ty = Syntax.tyRef Syntax.erased Syntax.mut (Syntax.tyInt Syntax.w32);
+            ref = λ x. x; }, (record { pos = 8; st = List.[]; d = 0; at = λ x. x }, (record { pos = 6; st = List.[]; d = 0; at = λ x. x }, (Num.vAt 7
+            λ x. x, tt),),),),),) (m10 record { before = record { before = record { before = c .before; started = c .started }; revoke-circuit-arg =
             record { given = g }; }; revoke-circuit-arg2 = record { given = g' }; } g'') g'3; },),),),)
-        pub laid : (c : Start) → at28 (W0 (c .κs) (c .args)) (m0 (c .κs) (c .args))
+        pub laid : (c : Start) → at29 (W0 (c .κs) (c .args)) (m0 (c .κs) (c .args))
         laid = λ c. λ g. (started-requires record { before = c; slice-known = record { given = g } }, λ g'. lay1 record { before = record { before =
             c; slice-known = record { given = g } }; started = Called.called ps·0 r·0 (claims· .1) T2 (record { pos = 4; st = List.[]; d = 0; at = λ
-            x. x }, tt,) (m1 c g) g'; },)
+            x. x }, (record { pos = 5; st = List.[]; d = 0; at = λ x. x }, tt),) (m1 c g) g'; },)
         module _ (κs : Lifetimes.Lfts 3) (qs : Lifetimes.Shares 3) where
           pub asked : (a : Kinds.Dens κs ps) → (good : Kinds.GoodsP κs ps a) → (pre : Pre· κs a) → (bs : List.List Nat.ℕ) → Φ (Any.wantQ 3 ps r xs m
               κs qs a (Post· κs a)) (Function.init 3 ps r xs m κs qs a)
           asked = λ a good pre bs. laid record { κs = κs; args = record { circuits = a .0; inflight = a .1 .0; out = a .1 .1 .0; runtime = a .1 .1 .1
-              .0; notice = a .1 .1 .1 .1 .0; id = a .1 .1 .1 .1 .1 .0; }; good = good; fits = record { id = record { fits = good .1 .1 .1 .1 .1 .0 .1
-              } }; pre = pre; }
+              .0; places = a .1 .1 .1 .1 .0; notice = a .1 .1 .1 .1 .1 .0; id = a .1 .1 .1 .1 .1 .1 .0; }; good = good; fits = record { id = record {
+              fits = good .1 .1 .1 .1 .1 .1 .0 .1 } }; pre = pre; }
         module _ { M : Type 1 } (𝓤 : URA.URA M) (H : Wp.Heap 𝓤) (A : Atoms.Atoms 𝓤) (W : Kit.Given 𝓤 H A) (𝓣 : Wp.Tables 𝓤 H) (known0 : Plain.Known 𝓤
             H A W 𝓣 0 ps·0 r·0 (claims· .0) (claims· .1) "hnsr_circuit::revocation::started") (known1 : Plain.Known 𝓤 H A W 𝓣 3 ps·1 r·1 (claims· .2)
             (claims· .3) "hnsr_circuit::revocation::revoke_circuit") (known2 : Plain.Known 𝓤 H A W 𝓣 0 ps·2 r·2 (claims· .4) (claims· .5)

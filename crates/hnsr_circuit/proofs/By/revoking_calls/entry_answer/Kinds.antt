@@ -5,32 +5,39 @@ use Rattle.hnsr_circuit.proofs.answer.HnsrAnswer
 use Rattle.hnsr_circuit.proofs.answer.HnsrAnswer.Laws
 use Rattle.hnsr_circuit.proofs.config.OpaqueRelayConfig
 use Rattle.hnsr_circuit.proofs.config.OpaqueRelayConfig.Laws as Laws'
+use Rattle.hnsr_circuit.proofs.places.Places
+use Rattle.hnsr_circuit.proofs.places.Places.Laws as Laws''
 use borrow.Fn.Kinds
 use borrow.Kind.ShrSlice
 use borrow.Kind.Value
 use borrow.Rule.Local
 use borrow.Table.Rows
 use denote.Enum.Declared
-use denote.Enum.Laws as Laws''
+use denote.Enum.Laws as Laws'''
 use denote.Exit
 use denote.Struct.Declared as Declared'
-use denote.Struct.Laws as Laws'''
+use denote.Struct.Laws as Laws''''
 use mathlib.Core.List
 use mathlib.Core.Path
 use mir.Syntax
 use mathlib.Core.List.{_∷_}
 
 abbrev pub ps : List.List (Kinds.PK 2)
-ps = (ShrSlice.pShrS RelayPending.row 0 tt) ∷ (ShrSlice.pShrS RelayCircuit.row 1 tt) ∷ (Kinds.pNum Syntax.w64) ∷ (Kinds.pNum Syntax.w64) ∷ (Value.pVal
-    record { ty = Declared'.row OpaqueRelayConfig.the-type; one = Path.refl; val = Laws'''.val OpaqueRelayConfig.the-type Laws'.the-laws; tells =
-    Laws'''.tells OpaqueRelayConfig.the-type Laws'.the-laws; still = Laws'''.still OpaqueRelayConfig.the-type Laws'.the-copy Exit.yes; row =
-    Rows.whole (Declared'.row OpaqueRelayConfig.the-type); rd = λ x. x; mk = λ x. x; } λ M 𝓤 H A W. record { copies = Laws'''.copy
-    OpaqueRelayConfig.the-type Laws'.the-copy 𝓤 H A W; lawful = Laws'''.lawful OpaqueRelayConfig.the-type Laws'.the-laws 𝓤 H A W; makes =
-    Laws'''.makes OpaqueRelayConfig.the-type Laws'.the-plain 𝓤 H A; in-mem = Local.mem-whole 𝓤 H A W (Declared'.row OpaqueRelayConfig.the-type);
-    of-mem = Local.whole-mem 𝓤 H A W (Declared'.row OpaqueRelayConfig.the-type); }) ∷ List.[]
+ps = (ShrSlice.pShrS RelayPending.row 0 tt) ∷ (ShrSlice.pShrS RelayCircuit.row 1 tt) ∷ (Value.pVal record { ty = Declared'.row Places.the-type; one =
+    Path.refl; val = Laws''''.val Places.the-type Laws''.the-laws; tells = Laws''''.tells Places.the-type Laws''.the-laws; still = Laws''''.still
+    Places.the-type Laws''.the-copy Exit.yes; row = Rows.whole (Declared'.row Places.the-type); rd = λ x. x; mk = λ x. x; } λ M 𝓤 H A W. record {
+    copies = Laws''''.copy Places.the-type Laws''.the-copy 𝓤 H A W; lawful = Laws''''.lawful Places.the-type Laws''.the-laws 𝓤 H A W; makes =
+    Laws''''.makes Places.the-type Laws''.the-plain 𝓤 H A; in-mem = Local.mem-whole 𝓤 H A W (Declared'.row Places.the-type); of-mem = Local.whole-mem
+    𝓤 H A W (Declared'.row Places.the-type); }) ∷ (Kinds.pNum Syntax.w64) ∷ (Kinds.pNum Syntax.w64) ∷ (Value.pVal record { ty = Declared'.row
+    OpaqueRelayConfig.the-type; one = Path.refl; val = Laws''''.val OpaqueRelayConfig.the-type Laws'.the-laws; tells = Laws''''.tells
+    OpaqueRelayConfig.the-type Laws'.the-laws; still = Laws''''.still OpaqueRelayConfig.the-type Laws'.the-copy Exit.yes; row = Rows.whole
+    (Declared'.row OpaqueRelayConfig.the-type); rd = λ x. x; mk = λ x. x; } λ M 𝓤 H A W. record { copies = Laws''''.copy OpaqueRelayConfig.the-type
+    Laws'.the-copy 𝓤 H A W; lawful = Laws''''.lawful OpaqueRelayConfig.the-type Laws'.the-laws 𝓤 H A W; makes = Laws''''.makes
+    OpaqueRelayConfig.the-type Laws'.the-plain 𝓤 H A; in-mem = Local.mem-whole 𝓤 H A W (Declared'.row OpaqueRelayConfig.the-type); of-mem =
+    Local.whole-mem 𝓤 H A W (Declared'.row OpaqueRelayConfig.the-type); }) ∷ List.[]
 abbrev pub r : Kinds.RK 2
-r = Value.rVal record { ty = Declared.row HnsrAnswer.the-type; one = Path.refl; val = Laws''.val HnsrAnswer.the-type Laws.the-laws; tells =
-    Laws''.tells HnsrAnswer.the-type Laws.the-laws; still = Laws''.still HnsrAnswer.the-type Laws.the-copy Exit.yes; row = Rows.whole (Declared.row
-    HnsrAnswer.the-type); rd = λ x. x; mk = λ x. x; } λ M 𝓤 H A W. record { copies = Laws''.copy HnsrAnswer.the-type Laws.the-copy 𝓤 H A W; lawful =
-    Laws''.lawful HnsrAnswer.the-type Laws.the-laws 𝓤 H A W tt; makes = Laws''.makes HnsrAnswer.the-type Laws.the-plain 𝓤 H A; in-mem =
+r = Value.rVal record { ty = Declared.row HnsrAnswer.the-type; one = Path.refl; val = Laws'''.val HnsrAnswer.the-type Laws.the-laws; tells =
+    Laws'''.tells HnsrAnswer.the-type Laws.the-laws; still = Laws'''.still HnsrAnswer.the-type Laws.the-copy Exit.yes; row = Rows.whole (Declared.row
+    HnsrAnswer.the-type); rd = λ x. x; mk = λ x. x; } λ M 𝓤 H A W. record { copies = Laws'''.copy HnsrAnswer.the-type Laws.the-copy 𝓤 H A W; lawful =
+    Laws'''.lawful HnsrAnswer.the-type Laws.the-laws 𝓤 H A W tt; makes = Laws'''.makes HnsrAnswer.the-type Laws.the-plain 𝓤 H A; in-mem =
     Local.mem-whole 𝓤 H A W (Declared.row HnsrAnswer.the-type); of-mem = Local.whole-mem 𝓤 H A W (Declared.row HnsrAnswer.the-type); }

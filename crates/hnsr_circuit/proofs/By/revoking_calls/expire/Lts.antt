@@ -10,14 +10,16 @@ use Rattle.hnsr_circuit.proofs.answer.HnsrAnswer
 use Rattle.hnsr_circuit.proofs.answer.HnsrAnswer.Laws as Laws'
 use Rattle.hnsr_circuit.proofs.config.OpaqueRelayConfig
 use Rattle.hnsr_circuit.proofs.config.OpaqueRelayConfig.Laws as Laws''
+use Rattle.hnsr_circuit.proofs.places.Places
+use Rattle.hnsr_circuit.proofs.places.Places.Laws as Laws'''
 use Rattle.hnsr_circuit.proofs.records.Question
-use Rattle.hnsr_circuit.proofs.records.Question.Laws as Laws'''
+use Rattle.hnsr_circuit.proofs.records.Question.Laws as Laws''''
 use Rattle.hnsr_circuit.proofs.revocation.Revoking
-use Rattle.hnsr_circuit.proofs.revocation.Revoking.Laws as Laws''''
+use Rattle.hnsr_circuit.proofs.revocation.Revoking.Laws as Laws'''''
 use Rattle.hnsr_circuit.proofs.runtime.OpaqueRelayRuntime
-use Rattle.hnsr_circuit.proofs.runtime.OpaqueRelayRuntime.Laws as Laws'''''
+use Rattle.hnsr_circuit.proofs.runtime.OpaqueRelayRuntime.Laws as Laws''''''
 use Rattle.hnsr_circuit.proofs.runtime.Relayed
-use Rattle.hnsr_circuit.proofs.runtime.Relayed.Laws as Laws''''''
+use Rattle.hnsr_circuit.proofs.runtime.Relayed.Laws as Laws'''''''
 use borrow.Author.Called
 use borrow.Enum.Make
 use borrow.Fn.Any
@@ -58,11 +60,11 @@ use borrow.Table.Rows
 use borrow.Table.Typed
 use contract.Lifetimes
 use denote.Enum.Declared
-use denote.Enum.Laws as Laws'''''''
+use denote.Enum.Laws as Laws''''''''
 use denote.Exit
 use denote.Struct.At
 use denote.Struct.Declared as Declared'
-use denote.Struct.Laws as Laws''''''''
+use denote.Struct.Laws as Laws'''''''''
 use denote.Triple.Clauses
 use denote.Triple.Statement
 use ghost.Atoms
@@ -106,21 +108,27 @@ ref11 = Syntax.tyRef (Syntax.named 4) Syntax.mut (Syntax.tyInt Syntax.w32)
 abbrev pub ps : List.List (Kinds.PK 5)
 ps = (MutSlice.pMutS RelayPending.row 0 tt) ∷ (MutSlice.pMutS RelayCircuit.row 1 tt) ∷ (MutSlice.pMutS ReservationUsage.row 2 tt) ∷ (MutSlice.pMutS
     InflightAction.row 3 tt) ∷ (MutSlice.pMutS (Referent.rtF (Referent.fInt Syntax.w32)) 4 tt) ∷ (Value.pVal record { ty = Declared'.row
-    OpaqueRelayRuntime.the-type; one = Path.refl; val = Laws''''''''.val OpaqueRelayRuntime.the-type Laws'''''.the-laws; tells = Laws''''''''.tells
-    OpaqueRelayRuntime.the-type Laws'''''.the-laws; still = Laws''''''''.still OpaqueRelayRuntime.the-type Laws'''''.the-copy Exit.yes; row =
-    Rows.whole (Declared'.row OpaqueRelayRuntime.the-type); rd = λ x. x; mk = λ x. x; } λ M 𝓤 H A W. record { copies = Laws''''''''.copy
-    OpaqueRelayRuntime.the-type Laws'''''.the-copy 𝓤 H A W; lawful = Laws''''''''.lawful OpaqueRelayRuntime.the-type Laws'''''.the-laws 𝓤 H A W; makes
-    = Laws''''''''.makes OpaqueRelayRuntime.the-type Laws'''''.the-plain 𝓤 H A; in-mem = Local.mem-whole 𝓤 H A W (Declared'.row
-    OpaqueRelayRuntime.the-type); of-mem = Local.whole-mem 𝓤 H A W (Declared'.row OpaqueRelayRuntime.the-type); }) ∷ (Num.pNum Syntax.w64) ∷ List.[]
+    OpaqueRelayRuntime.the-type; one = Path.refl; val = Laws'''''''''.val OpaqueRelayRuntime.the-type Laws''''''.the-laws; tells = Laws'''''''''.tells
+    OpaqueRelayRuntime.the-type Laws''''''.the-laws; still = Laws'''''''''.still OpaqueRelayRuntime.the-type Laws''''''.the-copy Exit.yes; row =
+    Rows.whole (Declared'.row OpaqueRelayRuntime.the-type); rd = λ x. x; mk = λ x. x; } λ M 𝓤 H A W. record { copies = Laws'''''''''.copy
+    OpaqueRelayRuntime.the-type Laws''''''.the-copy 𝓤 H A W; lawful = Laws'''''''''.lawful OpaqueRelayRuntime.the-type Laws''''''.the-laws 𝓤 H A W;
+    makes = Laws'''''''''.makes OpaqueRelayRuntime.the-type Laws''''''.the-plain 𝓤 H A; in-mem = Local.mem-whole 𝓤 H A W (Declared'.row
+    OpaqueRelayRuntime.the-type); of-mem = Local.whole-mem 𝓤 H A W (Declared'.row OpaqueRelayRuntime.the-type); }) ∷ (Value.pVal record { ty =
+    Declared'.row Places.the-type; one = Path.refl; val = Laws'''''''''.val Places.the-type Laws'''.the-laws; tells = Laws'''''''''.tells
+    Places.the-type Laws'''.the-laws; still = Laws'''''''''.still Places.the-type Laws'''.the-copy Exit.yes; row = Rows.whole (Declared'.row
+    Places.the-type); rd = λ x. x; mk = λ x. x; } λ M 𝓤 H A W. record { copies = Laws'''''''''.copy Places.the-type Laws'''.the-copy 𝓤 H A W; lawful =
+    Laws'''''''''.lawful Places.the-type Laws'''.the-laws 𝓤 H A W; makes = Laws'''''''''.makes Places.the-type Laws'''.the-plain 𝓤 H A; in-mem =
+    Local.mem-whole 𝓤 H A W (Declared'.row Places.the-type); of-mem = Local.whole-mem 𝓤 H A W (Declared'.row Places.the-type); }) ∷ (Num.pNum
+    Syntax.w64) ∷ List.[]
 abbrev pub r : Kinds.RK 5
-r = Value.rVal record { ty = Declared'.row Relayed.the-type; one = Path.refl; val = Laws''''''''.val Relayed.the-type Laws''''''.the-laws; tells =
-    Laws''''''''.tells Relayed.the-type Laws''''''.the-laws; still = Laws''''''''.still Relayed.the-type Laws''''''.the-copy Exit.yes; row =
-    Rows.whole (Declared'.row Relayed.the-type); rd = λ x. x; mk = λ x. x; } λ M 𝓤 H A W. record { copies = Laws''''''''.copy Relayed.the-type
-    Laws''''''.the-copy 𝓤 H A W; lawful = Laws''''''''.lawful Relayed.the-type Laws''''''.the-laws 𝓤 H A W; makes = Laws''''''''.makes
-    Relayed.the-type Laws''''''.the-plain 𝓤 H A; in-mem = Local.mem-whole 𝓤 H A W (Declared'.row Relayed.the-type); of-mem = Local.whole-mem 𝓤 H A W
+r = Value.rVal record { ty = Declared'.row Relayed.the-type; one = Path.refl; val = Laws'''''''''.val Relayed.the-type Laws'''''''.the-laws; tells =
+    Laws'''''''''.tells Relayed.the-type Laws'''''''.the-laws; still = Laws'''''''''.still Relayed.the-type Laws'''''''.the-copy Exit.yes; row =
+    Rows.whole (Declared'.row Relayed.the-type); rd = λ x. x; mk = λ x. x; } λ M 𝓤 H A W. record { copies = Laws'''''''''.copy Relayed.the-type
+    Laws'''''''.the-copy 𝓤 H A W; lawful = Laws'''''''''.lawful Relayed.the-type Laws'''''''.the-laws 𝓤 H A W; makes = Laws'''''''''.makes
+    Relayed.the-type Laws'''''''.the-plain 𝓤 H A; in-mem = Local.mem-whole 𝓤 H A W (Declared'.row Relayed.the-type); of-mem = Local.whole-mem 𝓤 H A W
     (Declared'.row Relayed.the-type); }
 abbrev pub xs : List.List Syntax.Ty
-xs = Laws''.mir ∷ Laws'.mir ∷ Laws'.mir ∷ Laws'.mir ∷ Laws'''.mir ∷ Laws''''.mir ∷ Laws'''''.mir ∷ ref0 ∷ (Syntax.tyStruct (38 ∷ 91 ∷ 93 ∷ List.[])
+xs = Laws''.mir ∷ Laws'.mir ∷ Laws'.mir ∷ Laws'.mir ∷ Laws''''.mir ∷ Laws'''''.mir ∷ Laws''''''.mir ∷ ref0 ∷ (Syntax.tyStruct (38 ∷ 91 ∷ 93 ∷ List.[])
     (Syntax.tcons ref0 (Syntax.tcons (Syntax.tyInt Syntax.w64) Syntax.tnil))) ∷ ref1 ∷ (Syntax.tyStruct (38 ∷ 91 ∷ 93 ∷ List.[]) (Syntax.tcons ref1
     (Syntax.tcons (Syntax.tyInt Syntax.w64) Syntax.tnil))) ∷ (Syntax.tyInt Syntax.w64) ∷ (Syntax.tyInt Syntax.w64) ∷ Syntax.tyBool ∷ Laws.mir ∷
     Laws.mir ∷ Syntax.tyUnit ∷ ref2 ∷ (Syntax.tyStruct (38 ∷ 91 ∷ 93 ∷ List.[]) (Syntax.tcons ref2 (Syntax.tcons (Syntax.tyInt Syntax.w64)
@@ -131,145 +139,170 @@ xs = Laws''.mir ∷ Laws'.mir ∷ Laws'.mir ∷ Laws'.mir ∷ Laws'''.mir ∷ La
 abbrev pub m : Nat.ℕ
 m = 7
 abbrev pub ps·0 : List.List (Kinds.PK 2)
-ps·0 = (ShrSlice.pShrS RelayPending.row 0 tt) ∷ (ShrSlice.pShrS RelayCircuit.row 1 tt) ∷ (Num.pNum Syntax.w64) ∷ (Num.pNum Syntax.w64) ∷ (Value.pVal
-    record { ty = Declared'.row OpaqueRelayConfig.the-type; one = Path.refl; val = Laws''''''''.val OpaqueRelayConfig.the-type Laws''.the-laws; tells
-    = Laws''''''''.tells OpaqueRelayConfig.the-type Laws''.the-laws; still = Laws''''''''.still OpaqueRelayConfig.the-type Laws''.the-copy Exit.yes;
-    row = Rows.whole (Declared'.row OpaqueRelayConfig.the-type); rd = λ x. x; mk = λ x. x; } λ M 𝓤 H A W. record { copies = Laws''''''''.copy
-    OpaqueRelayConfig.the-type Laws''.the-copy 𝓤 H A W; lawful = Laws''''''''.lawful OpaqueRelayConfig.the-type Laws''.the-laws 𝓤 H A W; makes =
-    Laws''''''''.makes OpaqueRelayConfig.the-type Laws''.the-plain 𝓤 H A; in-mem = Local.mem-whole 𝓤 H A W (Declared'.row OpaqueRelayConfig.the-type);
-    of-mem = Local.whole-mem 𝓤 H A W (Declared'.row OpaqueRelayConfig.the-type); }) ∷ List.[]
+ps·0 = (ShrSlice.pShrS RelayPending.row 0 tt) ∷ (ShrSlice.pShrS RelayCircuit.row 1 tt) ∷ (Value.pVal record { ty = Declared'.row Places.the-type; one
+    = Path.refl; val = Laws'''''''''.val Places.the-type Laws'''.the-laws; tells = Laws'''''''''.tells Places.the-type Laws'''.the-laws; still =
+    Laws'''''''''.still Places.the-type Laws'''.the-copy Exit.yes; row = Rows.whole (Declared'.row Places.the-type); rd = λ x. x; mk = λ x. x; } λ M 𝓤
+    H A W. record { copies = Laws'''''''''.copy Places.the-type Laws'''.the-copy 𝓤 H A W; lawful = Laws'''''''''.lawful Places.the-type
+    Laws'''.the-laws 𝓤 H A W; makes = Laws'''''''''.makes Places.the-type Laws'''.the-plain 𝓤 H A; in-mem = Local.mem-whole 𝓤 H A W (Declared'.row
+    Places.the-type); of-mem = Local.whole-mem 𝓤 H A W (Declared'.row Places.the-type); }) ∷ (Num.pNum Syntax.w64) ∷ (Num.pNum Syntax.w64) ∷
+    (Value.pVal record { ty = Declared'.row OpaqueRelayConfig.the-type; one = Path.refl; val = Laws'''''''''.val OpaqueRelayConfig.the-type
+    Laws''.the-laws; tells = Laws'''''''''.tells OpaqueRelayConfig.the-type Laws''.the-laws; still = Laws'''''''''.still OpaqueRelayConfig.the-type
+    Laws''.the-copy Exit.yes; row = Rows.whole (Declared'.row OpaqueRelayConfig.the-type); rd = λ x. x; mk = λ x. x; } λ M 𝓤 H A W. record { copies =
+    Laws'''''''''.copy OpaqueRelayConfig.the-type Laws''.the-copy 𝓤 H A W; lawful = Laws'''''''''.lawful OpaqueRelayConfig.the-type Laws''.the-laws 𝓤
+    H A W; makes = Laws'''''''''.makes OpaqueRelayConfig.the-type Laws''.the-plain 𝓤 H A; in-mem = Local.mem-whole 𝓤 H A W (Declared'.row
+    OpaqueRelayConfig.the-type); of-mem = Local.whole-mem 𝓤 H A W (Declared'.row OpaqueRelayConfig.the-type); }) ∷ List.[]
 abbrev pub r·0 : Kinds.RK 2
-r·0 = Value.rVal record { ty = Declared.row HnsrAnswer.the-type; one = Path.refl; val = Laws'''''''.val HnsrAnswer.the-type Laws'.the-laws; tells =
-    Laws'''''''.tells HnsrAnswer.the-type Laws'.the-laws; still = Laws'''''''.still HnsrAnswer.the-type Laws'.the-copy Exit.yes; row = Rows.whole
-    (Declared.row HnsrAnswer.the-type); rd = λ x. x; mk = λ x. x; } λ M 𝓤 H A W. record { copies = Laws'''''''.copy HnsrAnswer.the-type Laws'.the-copy
-    𝓤 H A W; lawful = Laws'''''''.lawful HnsrAnswer.the-type Laws'.the-laws 𝓤 H A W tt; makes = Laws'''''''.makes HnsrAnswer.the-type Laws'.the-plain
-    𝓤 H A; in-mem = Local.mem-whole 𝓤 H A W (Declared.row HnsrAnswer.the-type); of-mem = Local.whole-mem 𝓤 H A W (Declared.row HnsrAnswer.the-type); }
+r·0 = Value.rVal record { ty = Declared.row HnsrAnswer.the-type; one = Path.refl; val = Laws''''''''.val HnsrAnswer.the-type Laws'.the-laws; tells =
+    Laws''''''''.tells HnsrAnswer.the-type Laws'.the-laws; still = Laws''''''''.still HnsrAnswer.the-type Laws'.the-copy Exit.yes; row = Rows.whole
+    (Declared.row HnsrAnswer.the-type); rd = λ x. x; mk = λ x. x; } λ M 𝓤 H A W. record { copies = Laws''''''''.copy HnsrAnswer.the-type
+    Laws'.the-copy 𝓤 H A W; lawful = Laws''''''''.lawful HnsrAnswer.the-type Laws'.the-laws 𝓤 H A W tt; makes = Laws''''''''.makes HnsrAnswer.the-type
+    Laws'.the-plain 𝓤 H A; in-mem = Local.mem-whole 𝓤 H A W (Declared.row HnsrAnswer.the-type); of-mem = Local.whole-mem 𝓤 H A W (Declared.row
+    HnsrAnswer.the-type); }
 abbrev pub ps·1 : List.List (Kinds.PK 0)
 ps·1 = (Num.pNum Syntax.w64) ∷ (Num.pNum Syntax.w64) ∷ List.[]
 abbrev pub r·1 : Kinds.RK 0
-r·1 = Value.rVal record { ty = Declared.row HnsrAnswer.the-type; one = Path.refl; val = Laws'''''''.val HnsrAnswer.the-type Laws'.the-laws; tells =
-    Laws'''''''.tells HnsrAnswer.the-type Laws'.the-laws; still = Laws'''''''.still HnsrAnswer.the-type Laws'.the-copy Exit.yes; row = Rows.whole
-    (Declared.row HnsrAnswer.the-type); rd = λ x. x; mk = λ x. x; } λ M 𝓤 H A W. record { copies = Laws'''''''.copy HnsrAnswer.the-type Laws'.the-copy
-    𝓤 H A W; lawful = Laws'''''''.lawful HnsrAnswer.the-type Laws'.the-laws 𝓤 H A W tt; makes = Laws'''''''.makes HnsrAnswer.the-type Laws'.the-plain
-    𝓤 H A; in-mem = Local.mem-whole 𝓤 H A W (Declared.row HnsrAnswer.the-type); of-mem = Local.whole-mem 𝓤 H A W (Declared.row HnsrAnswer.the-type); }
+r·1 = Value.rVal record { ty = Declared.row HnsrAnswer.the-type; one = Path.refl; val = Laws''''''''.val HnsrAnswer.the-type Laws'.the-laws; tells =
+    Laws''''''''.tells HnsrAnswer.the-type Laws'.the-laws; still = Laws''''''''.still HnsrAnswer.the-type Laws'.the-copy Exit.yes; row = Rows.whole
+    (Declared.row HnsrAnswer.the-type); rd = λ x. x; mk = λ x. x; } λ M 𝓤 H A W. record { copies = Laws''''''''.copy HnsrAnswer.the-type
+    Laws'.the-copy 𝓤 H A W; lawful = Laws''''''''.lawful HnsrAnswer.the-type Laws'.the-laws 𝓤 H A W tt; makes = Laws''''''''.makes HnsrAnswer.the-type
+    Laws'.the-plain 𝓤 H A; in-mem = Local.mem-whole 𝓤 H A W (Declared.row HnsrAnswer.the-type); of-mem = Local.whole-mem 𝓤 H A W (Declared.row
+    HnsrAnswer.the-type); }
 abbrev pub ps·2 : List.List (Kinds.PK 0)
-ps·2 = (Value.pVal record { ty = Declared.row HnsrAnswer.the-type; one = Path.refl; val = Laws'''''''.val HnsrAnswer.the-type Laws'.the-laws; tells =
-    Laws'''''''.tells HnsrAnswer.the-type Laws'.the-laws; still = Laws'''''''.still HnsrAnswer.the-type Laws'.the-copy Exit.yes; row = Rows.whole
-    (Declared.row HnsrAnswer.the-type); rd = λ x. x; mk = λ x. x; } λ M 𝓤 H A W. record { copies = Laws'''''''.copy HnsrAnswer.the-type Laws'.the-copy
-    𝓤 H A W; lawful = Laws'''''''.lawful HnsrAnswer.the-type Laws'.the-laws 𝓤 H A W tt; makes = Laws'''''''.makes HnsrAnswer.the-type Laws'.the-plain
-    𝓤 H A; in-mem = Local.mem-whole 𝓤 H A W (Declared.row HnsrAnswer.the-type); of-mem = Local.whole-mem 𝓤 H A W (Declared.row HnsrAnswer.the-type);
-    }) ∷ (Value.pVal record { ty = Declared.row HnsrAnswer.the-type; one = Path.refl; val = Laws'''''''.val HnsrAnswer.the-type Laws'.the-laws; tells
-    = Laws'''''''.tells HnsrAnswer.the-type Laws'.the-laws; still = Laws'''''''.still HnsrAnswer.the-type Laws'.the-copy Exit.yes; row = Rows.whole
-    (Declared.row HnsrAnswer.the-type); rd = λ x. x; mk = λ x. x; } λ M 𝓤 H A W. record { copies = Laws'''''''.copy HnsrAnswer.the-type Laws'.the-copy
-    𝓤 H A W; lawful = Laws'''''''.lawful HnsrAnswer.the-type Laws'.the-laws 𝓤 H A W tt; makes = Laws'''''''.makes HnsrAnswer.the-type Laws'.the-plain
-    𝓤 H A; in-mem = Local.mem-whole 𝓤 H A W (Declared.row HnsrAnswer.the-type); of-mem = Local.whole-mem 𝓤 H A W (Declared.row HnsrAnswer.the-type);
-    }) ∷ List.[]
+ps·2 = (Value.pVal record { ty = Declared.row HnsrAnswer.the-type; one = Path.refl; val = Laws''''''''.val HnsrAnswer.the-type Laws'.the-laws; tells =
+    Laws''''''''.tells HnsrAnswer.the-type Laws'.the-laws; still = Laws''''''''.still HnsrAnswer.the-type Laws'.the-copy Exit.yes; row = Rows.whole
+    (Declared.row HnsrAnswer.the-type); rd = λ x. x; mk = λ x. x; } λ M 𝓤 H A W. record { copies = Laws''''''''.copy HnsrAnswer.the-type
+    Laws'.the-copy 𝓤 H A W; lawful = Laws''''''''.lawful HnsrAnswer.the-type Laws'.the-laws 𝓤 H A W tt; makes = Laws''''''''.makes HnsrAnswer.the-type
+    Laws'.the-plain 𝓤 H A; in-mem = Local.mem-whole 𝓤 H A W (Declared.row HnsrAnswer.the-type); of-mem = Local.whole-mem 𝓤 H A W (Declared.row
+    HnsrAnswer.the-type); }) ∷ (Value.pVal record { ty = Declared.row HnsrAnswer.the-type; one = Path.refl; val = Laws''''''''.val HnsrAnswer.the-type
+    Laws'.the-laws; tells = Laws''''''''.tells HnsrAnswer.the-type Laws'.the-laws; still = Laws''''''''.still HnsrAnswer.the-type Laws'.the-copy
+    Exit.yes; row = Rows.whole (Declared.row HnsrAnswer.the-type); rd = λ x. x; mk = λ x. x; } λ M 𝓤 H A W. record { copies = Laws''''''''.copy
+    HnsrAnswer.the-type Laws'.the-copy 𝓤 H A W; lawful = Laws''''''''.lawful HnsrAnswer.the-type Laws'.the-laws 𝓤 H A W tt; makes = Laws''''''''.makes
+    HnsrAnswer.the-type Laws'.the-plain 𝓤 H A; in-mem = Local.mem-whole 𝓤 H A W (Declared.row HnsrAnswer.the-type); of-mem = Local.whole-mem 𝓤 H A W
+    (Declared.row HnsrAnswer.the-type); }) ∷ List.[]
 abbrev pub r·2 : Kinds.RK 0
-r·2 = Value.rVal record { ty = Declared.row HnsrAnswer.the-type; one = Path.refl; val = Laws'''''''.val HnsrAnswer.the-type Laws'.the-laws; tells =
-    Laws'''''''.tells HnsrAnswer.the-type Laws'.the-laws; still = Laws'''''''.still HnsrAnswer.the-type Laws'.the-copy Exit.yes; row = Rows.whole
-    (Declared.row HnsrAnswer.the-type); rd = λ x. x; mk = λ x. x; } λ M 𝓤 H A W. record { copies = Laws'''''''.copy HnsrAnswer.the-type Laws'.the-copy
-    𝓤 H A W; lawful = Laws'''''''.lawful HnsrAnswer.the-type Laws'.the-laws 𝓤 H A W tt; makes = Laws'''''''.makes HnsrAnswer.the-type Laws'.the-plain
-    𝓤 H A; in-mem = Local.mem-whole 𝓤 H A W (Declared.row HnsrAnswer.the-type); of-mem = Local.whole-mem 𝓤 H A W (Declared.row HnsrAnswer.the-type); }
+r·2 = Value.rVal record { ty = Declared.row HnsrAnswer.the-type; one = Path.refl; val = Laws''''''''.val HnsrAnswer.the-type Laws'.the-laws; tells =
+    Laws''''''''.tells HnsrAnswer.the-type Laws'.the-laws; still = Laws''''''''.still HnsrAnswer.the-type Laws'.the-copy Exit.yes; row = Rows.whole
+    (Declared.row HnsrAnswer.the-type); rd = λ x. x; mk = λ x. x; } λ M 𝓤 H A W. record { copies = Laws''''''''.copy HnsrAnswer.the-type
+    Laws'.the-copy 𝓤 H A W; lawful = Laws''''''''.lawful HnsrAnswer.the-type Laws'.the-laws 𝓤 H A W tt; makes = Laws''''''''.makes HnsrAnswer.the-type
+    Laws'.the-plain 𝓤 H A; in-mem = Local.mem-whole 𝓤 H A W (Declared.row HnsrAnswer.the-type); of-mem = Local.whole-mem 𝓤 H A W (Declared.row
+    HnsrAnswer.the-type); }
 abbrev pub ps·3 : List.List (Kinds.PK 0)
-ps·3 = (Value.pVal record { ty = Declared.row HnsrAnswer.the-type; one = Path.refl; val = Laws'''''''.val HnsrAnswer.the-type Laws'.the-laws; tells =
-    Laws'''''''.tells HnsrAnswer.the-type Laws'.the-laws; still = Laws'''''''.still HnsrAnswer.the-type Laws'.the-copy Exit.yes; row = Rows.whole
-    (Declared.row HnsrAnswer.the-type); rd = λ x. x; mk = λ x. x; } λ M 𝓤 H A W. record { copies = Laws'''''''.copy HnsrAnswer.the-type Laws'.the-copy
-    𝓤 H A W; lawful = Laws'''''''.lawful HnsrAnswer.the-type Laws'.the-laws 𝓤 H A W tt; makes = Laws'''''''.makes HnsrAnswer.the-type Laws'.the-plain
-    𝓤 H A; in-mem = Local.mem-whole 𝓤 H A W (Declared.row HnsrAnswer.the-type); of-mem = Local.whole-mem 𝓤 H A W (Declared.row HnsrAnswer.the-type);
-    }) ∷ List.[]
+ps·3 = (Value.pVal record { ty = Declared.row HnsrAnswer.the-type; one = Path.refl; val = Laws''''''''.val HnsrAnswer.the-type Laws'.the-laws; tells =
+    Laws''''''''.tells HnsrAnswer.the-type Laws'.the-laws; still = Laws''''''''.still HnsrAnswer.the-type Laws'.the-copy Exit.yes; row = Rows.whole
+    (Declared.row HnsrAnswer.the-type); rd = λ x. x; mk = λ x. x; } λ M 𝓤 H A W. record { copies = Laws''''''''.copy HnsrAnswer.the-type
+    Laws'.the-copy 𝓤 H A W; lawful = Laws''''''''.lawful HnsrAnswer.the-type Laws'.the-laws 𝓤 H A W tt; makes = Laws''''''''.makes HnsrAnswer.the-type
+    Laws'.the-plain 𝓤 H A; in-mem = Local.mem-whole 𝓤 H A W (Declared.row HnsrAnswer.the-type); of-mem = Local.whole-mem 𝓤 H A W (Declared.row
+    HnsrAnswer.the-type); }) ∷ List.[]
 abbrev pub r·3 : Kinds.RK 0
 r·3 = Bool.rBool
 abbrev pub ps·4 : List.List (Kinds.PK 0)
 ps·4 = (Num.pNum Syntax.w64) ∷ List.[]
 abbrev pub r·4 : Kinds.RK 0
-r·4 = Value.rVal record { ty = Declared'.row Question.the-type; one = Path.refl; val = Laws''''''''.val Question.the-type Laws'''.the-laws; tells =
-    Laws''''''''.tells Question.the-type Laws'''.the-laws; still = Laws''''''''.still Question.the-type Laws'''.the-copy Exit.yes; row = Rows.whole
-    (Declared'.row Question.the-type); rd = λ x. x; mk = λ x. x; } λ M 𝓤 H A W. record { copies = Laws''''''''.copy Question.the-type Laws'''.the-copy
-    𝓤 H A W; lawful = Laws''''''''.lawful Question.the-type Laws'''.the-laws 𝓤 H A W; makes = Laws''''''''.makes Question.the-type Laws'''.the-plain 𝓤
-    H A; in-mem = Local.mem-whole 𝓤 H A W (Declared'.row Question.the-type); of-mem = Local.whole-mem 𝓤 H A W (Declared'.row Question.the-type); }
+r·4 = Value.rVal record { ty = Declared'.row Question.the-type; one = Path.refl; val = Laws'''''''''.val Question.the-type Laws''''.the-laws; tells =
+    Laws'''''''''.tells Question.the-type Laws''''.the-laws; still = Laws'''''''''.still Question.the-type Laws''''.the-copy Exit.yes; row =
+    Rows.whole (Declared'.row Question.the-type); rd = λ x. x; mk = λ x. x; } λ M 𝓤 H A W. record { copies = Laws'''''''''.copy Question.the-type
+    Laws''''.the-copy 𝓤 H A W; lawful = Laws'''''''''.lawful Question.the-type Laws''''.the-laws 𝓤 H A W; makes = Laws'''''''''.makes
+    Question.the-type Laws''''.the-plain 𝓤 H A; in-mem = Local.mem-whole 𝓤 H A W (Declared'.row Question.the-type); of-mem = Local.whole-mem 𝓤 H A W
+    (Declared'.row Question.the-type); }
 abbrev pub ps·5 : List.List (Kinds.PK 0)
-ps·5 = (Value.pVal record { ty = Declared'.row Question.the-type; one = Path.refl; val = Laws''''''''.val Question.the-type Laws'''.the-laws; tells =
-    Laws''''''''.tells Question.the-type Laws'''.the-laws; still = Laws''''''''.still Question.the-type Laws'''.the-copy Exit.yes; row = Rows.whole
-    (Declared'.row Question.the-type); rd = λ x. x; mk = λ x. x; } λ M 𝓤 H A W. record { copies = Laws''''''''.copy Question.the-type Laws'''.the-copy
-    𝓤 H A W; lawful = Laws''''''''.lawful Question.the-type Laws'''.the-laws 𝓤 H A W; makes = Laws''''''''.makes Question.the-type Laws'''.the-plain 𝓤
-    H A; in-mem = Local.mem-whole 𝓤 H A W (Declared'.row Question.the-type); of-mem = Local.whole-mem 𝓤 H A W (Declared'.row Question.the-type); }) ∷
-    (Value.pVal record { ty = Declared.row Notice.the-type; one = Path.refl; val = Laws'''''''.val Notice.the-type Laws.the-laws; tells =
-    Laws'''''''.tells Notice.the-type Laws.the-laws; still = Laws'''''''.still Notice.the-type Laws.the-copy Exit.yes; row = Rows.whole (Declared.row
-    Notice.the-type); rd = λ x. x; mk = λ x. x; } λ M 𝓤 H A W. record { copies = Laws'''''''.copy Notice.the-type Laws.the-copy 𝓤 H A W; lawful =
-    Laws'''''''.lawful Notice.the-type Laws.the-laws 𝓤 H A W tt; makes = Laws'''''''.makes Notice.the-type Laws.the-plain 𝓤 H A; in-mem =
-    Local.mem-whole 𝓤 H A W (Declared.row Notice.the-type); of-mem = Local.whole-mem 𝓤 H A W (Declared.row Notice.the-type); }) ∷ (Value.pVal record {
-    ty = Declared.row Notice.the-type; one = Path.refl; val = Laws'''''''.val Notice.the-type Laws.the-laws; tells = Laws'''''''.tells Notice.the-type
-    Laws.the-laws; still = Laws'''''''.still Notice.the-type Laws.the-copy Exit.yes; row = Rows.whole (Declared.row Notice.the-type); rd = λ x. x; mk
-    = λ x. x; } λ M 𝓤 H A W. record { copies = Laws'''''''.copy Notice.the-type Laws.the-copy 𝓤 H A W; lawful = Laws'''''''.lawful Notice.the-type
-    Laws.the-laws 𝓤 H A W tt; makes = Laws'''''''.makes Notice.the-type Laws.the-plain 𝓤 H A; in-mem = Local.mem-whole 𝓤 H A W (Declared.row
-    Notice.the-type); of-mem = Local.whole-mem 𝓤 H A W (Declared.row Notice.the-type); }) ∷ List.[]
+ps·5 = (Value.pVal record { ty = Declared'.row Question.the-type; one = Path.refl; val = Laws'''''''''.val Question.the-type Laws''''.the-laws; tells
+    = Laws'''''''''.tells Question.the-type Laws''''.the-laws; still = Laws'''''''''.still Question.the-type Laws''''.the-copy Exit.yes; row =
+    Rows.whole (Declared'.row Question.the-type); rd = λ x. x; mk = λ x. x; } λ M 𝓤 H A W. record { copies = Laws'''''''''.copy Question.the-type
+    Laws''''.the-copy 𝓤 H A W; lawful = Laws'''''''''.lawful Question.the-type Laws''''.the-laws 𝓤 H A W; makes = Laws'''''''''.makes
+    Question.the-type Laws''''.the-plain 𝓤 H A; in-mem = Local.mem-whole 𝓤 H A W (Declared'.row Question.the-type); of-mem = Local.whole-mem 𝓤 H A W
+    (Declared'.row Question.the-type); }) ∷ (Value.pVal record { ty = Declared.row Notice.the-type; one = Path.refl; val = Laws''''''''.val
+    Notice.the-type Laws.the-laws; tells = Laws''''''''.tells Notice.the-type Laws.the-laws; still = Laws''''''''.still Notice.the-type Laws.the-copy
+    Exit.yes; row = Rows.whole (Declared.row Notice.the-type); rd = λ x. x; mk = λ x. x; } λ M 𝓤 H A W. record { copies = Laws''''''''.copy
+    Notice.the-type Laws.the-copy 𝓤 H A W; lawful = Laws''''''''.lawful Notice.the-type Laws.the-laws 𝓤 H A W tt; makes = Laws''''''''.makes
+    Notice.the-type Laws.the-plain 𝓤 H A; in-mem = Local.mem-whole 𝓤 H A W (Declared.row Notice.the-type); of-mem = Local.whole-mem 𝓤 H A W
+    (Declared.row Notice.the-type); }) ∷ (Value.pVal record { ty = Declared.row Notice.the-type; one = Path.refl; val = Laws''''''''.val
+    Notice.the-type Laws.the-laws; tells = Laws''''''''.tells Notice.the-type Laws.the-laws; still = Laws''''''''.still Notice.the-type Laws.the-copy
+    Exit.yes; row = Rows.whole (Declared.row Notice.the-type); rd = λ x. x; mk = λ x. x; } λ M 𝓤 H A W. record { copies = Laws''''''''.copy
+    Notice.the-type Laws.the-copy 𝓤 H A W; lawful = Laws''''''''.lawful Notice.the-type Laws.the-laws 𝓤 H A W tt; makes = Laws''''''''.makes
+    Notice.the-type Laws.the-plain 𝓤 H A; in-mem = Local.mem-whole 𝓤 H A W (Declared.row Notice.the-type); of-mem = Local.whole-mem 𝓤 H A W
+    (Declared.row Notice.the-type); }) ∷ List.[]
 abbrev pub r·5 : Kinds.RK 0
-r·5 = Value.rVal record { ty = Declared'.row Revoking.the-type; one = Path.refl; val = Laws''''''''.val Revoking.the-type Laws''''.the-laws; tells =
-    Laws''''''''.tells Revoking.the-type Laws''''.the-laws; still = Laws''''''''.still Revoking.the-type Laws''''.the-copy Exit.yes; row = Rows.whole
-    (Declared'.row Revoking.the-type); rd = λ x. x; mk = λ x. x; } λ M 𝓤 H A W. record { copies = Laws''''''''.copy Revoking.the-type
-    Laws''''.the-copy 𝓤 H A W; lawful = Laws''''''''.lawful Revoking.the-type Laws''''.the-laws 𝓤 H A W; makes = Laws''''''''.makes Revoking.the-type
-    Laws''''.the-plain 𝓤 H A; in-mem = Local.mem-whole 𝓤 H A W (Declared'.row Revoking.the-type); of-mem = Local.whole-mem 𝓤 H A W (Declared'.row
-    Revoking.the-type); }
+r·5 = Value.rVal record { ty = Declared'.row Revoking.the-type; one = Path.refl; val = Laws'''''''''.val Revoking.the-type Laws'''''.the-laws; tells =
+    Laws'''''''''.tells Revoking.the-type Laws'''''.the-laws; still = Laws'''''''''.still Revoking.the-type Laws'''''.the-copy Exit.yes; row =
+    Rows.whole (Declared'.row Revoking.the-type); rd = λ x. x; mk = λ x. x; } λ M 𝓤 H A W. record { copies = Laws'''''''''.copy Revoking.the-type
+    Laws'''''.the-copy 𝓤 H A W; lawful = Laws'''''''''.lawful Revoking.the-type Laws'''''.the-laws 𝓤 H A W; makes = Laws'''''''''.makes
+    Revoking.the-type Laws'''''.the-plain 𝓤 H A; in-mem = Local.mem-whole 𝓤 H A W (Declared'.row Revoking.the-type); of-mem = Local.whole-mem 𝓤 H A W
+    (Declared'.row Revoking.the-type); }
 abbrev pub ps·6 : List.List (Kinds.PK 0)
-ps·6 = (Value.pVal record { ty = Declared'.row OpaqueRelayRuntime.the-type; one = Path.refl; val = Laws''''''''.val OpaqueRelayRuntime.the-type
-    Laws'''''.the-laws; tells = Laws''''''''.tells OpaqueRelayRuntime.the-type Laws'''''.the-laws; still = Laws''''''''.still
-    OpaqueRelayRuntime.the-type Laws'''''.the-copy Exit.yes; row = Rows.whole (Declared'.row OpaqueRelayRuntime.the-type); rd = λ x. x; mk = λ x. x; }
-    λ M 𝓤 H A W. record { copies = Laws''''''''.copy OpaqueRelayRuntime.the-type Laws'''''.the-copy 𝓤 H A W; lawful = Laws''''''''.lawful
-    OpaqueRelayRuntime.the-type Laws'''''.the-laws 𝓤 H A W; makes = Laws''''''''.makes OpaqueRelayRuntime.the-type Laws'''''.the-plain 𝓤 H A; in-mem =
-    Local.mem-whole 𝓤 H A W (Declared'.row OpaqueRelayRuntime.the-type); of-mem = Local.whole-mem 𝓤 H A W (Declared'.row OpaqueRelayRuntime.the-type);
-    }) ∷ (Num.pNum Syntax.w64) ∷ List.[]
+ps·6 = (Value.pVal record { ty = Declared'.row OpaqueRelayRuntime.the-type; one = Path.refl; val = Laws'''''''''.val OpaqueRelayRuntime.the-type
+    Laws''''''.the-laws; tells = Laws'''''''''.tells OpaqueRelayRuntime.the-type Laws''''''.the-laws; still = Laws'''''''''.still
+    OpaqueRelayRuntime.the-type Laws''''''.the-copy Exit.yes; row = Rows.whole (Declared'.row OpaqueRelayRuntime.the-type); rd = λ x. x; mk = λ x. x;
+    } λ M 𝓤 H A W. record { copies = Laws'''''''''.copy OpaqueRelayRuntime.the-type Laws''''''.the-copy 𝓤 H A W; lawful = Laws'''''''''.lawful
+    OpaqueRelayRuntime.the-type Laws''''''.the-laws 𝓤 H A W; makes = Laws'''''''''.makes OpaqueRelayRuntime.the-type Laws''''''.the-plain 𝓤 H A;
+    in-mem = Local.mem-whole 𝓤 H A W (Declared'.row OpaqueRelayRuntime.the-type); of-mem = Local.whole-mem 𝓤 H A W (Declared'.row
+    OpaqueRelayRuntime.the-type); }) ∷ (Num.pNum Syntax.w64) ∷ List.[]
 abbrev pub r·6 : Kinds.RK 0
-r·6 = Value.rVal record { ty = Declared'.row OpaqueRelayRuntime.the-type; one = Path.refl; val = Laws''''''''.val OpaqueRelayRuntime.the-type
-    Laws'''''.the-laws; tells = Laws''''''''.tells OpaqueRelayRuntime.the-type Laws'''''.the-laws; still = Laws''''''''.still
-    OpaqueRelayRuntime.the-type Laws'''''.the-copy Exit.yes; row = Rows.whole (Declared'.row OpaqueRelayRuntime.the-type); rd = λ x. x; mk = λ x. x; }
-    λ M 𝓤 H A W. record { copies = Laws''''''''.copy OpaqueRelayRuntime.the-type Laws'''''.the-copy 𝓤 H A W; lawful = Laws''''''''.lawful
-    OpaqueRelayRuntime.the-type Laws'''''.the-laws 𝓤 H A W; makes = Laws''''''''.makes OpaqueRelayRuntime.the-type Laws'''''.the-plain 𝓤 H A; in-mem =
-    Local.mem-whole 𝓤 H A W (Declared'.row OpaqueRelayRuntime.the-type); of-mem = Local.whole-mem 𝓤 H A W (Declared'.row OpaqueRelayRuntime.the-type);
-    }
+r·6 = Value.rVal record { ty = Declared'.row OpaqueRelayRuntime.the-type; one = Path.refl; val = Laws'''''''''.val OpaqueRelayRuntime.the-type
+    Laws''''''.the-laws; tells = Laws'''''''''.tells OpaqueRelayRuntime.the-type Laws''''''.the-laws; still = Laws'''''''''.still
+    OpaqueRelayRuntime.the-type Laws''''''.the-copy Exit.yes; row = Rows.whole (Declared'.row OpaqueRelayRuntime.the-type); rd = λ x. x; mk = λ x. x;
+    } λ M 𝓤 H A W. record { copies = Laws'''''''''.copy OpaqueRelayRuntime.the-type Laws''''''.the-copy 𝓤 H A W; lawful = Laws'''''''''.lawful
+    OpaqueRelayRuntime.the-type Laws''''''.the-laws 𝓤 H A W; makes = Laws'''''''''.makes OpaqueRelayRuntime.the-type Laws''''''.the-plain 𝓤 H A;
+    in-mem = Local.mem-whole 𝓤 H A W (Declared'.row OpaqueRelayRuntime.the-type); of-mem = Local.whole-mem 𝓤 H A W (Declared'.row
+    OpaqueRelayRuntime.the-type); }
 abbrev pub ps·7 : List.List (Kinds.PK 1)
-ps·7 = (MutSlice.pMutS ReservationUsage.row 0 tt) ∷ Bool.pBool ∷ (Num.pNum Syntax.w64) ∷ List.[]
+ps·7 = (MutSlice.pMutS ReservationUsage.row 0 tt) ∷ (Value.pVal record { ty = Declared'.row Places.the-type; one = Path.refl; val = Laws'''''''''.val
+    Places.the-type Laws'''.the-laws; tells = Laws'''''''''.tells Places.the-type Laws'''.the-laws; still = Laws'''''''''.still Places.the-type
+    Laws'''.the-copy Exit.yes; row = Rows.whole (Declared'.row Places.the-type); rd = λ x. x; mk = λ x. x; } λ M 𝓤 H A W. record { copies =
+    Laws'''''''''.copy Places.the-type Laws'''.the-copy 𝓤 H A W; lawful = Laws'''''''''.lawful Places.the-type Laws'''.the-laws 𝓤 H A W; makes =
+    Laws'''''''''.makes Places.the-type Laws'''.the-plain 𝓤 H A; in-mem = Local.mem-whole 𝓤 H A W (Declared'.row Places.the-type); of-mem =
+    Local.whole-mem 𝓤 H A W (Declared'.row Places.the-type); }) ∷ Bool.pBool ∷ (Num.pNum Syntax.w64) ∷ List.[]
 abbrev pub r·7 : Kinds.RK 1
 r·7 = Unit.rUnit
 abbrev pub ps·8 : List.List (Kinds.PK 4)
 ps·8 = (MutSlice.pMutS RelayPending.row 0 tt) ∷ (MutSlice.pMutS RelayCircuit.row 1 tt) ∷ (MutSlice.pMutS InflightAction.row 2 tt) ∷ (MutSlice.pMutS
     (Referent.rtF (Referent.fInt Syntax.w32)) 3 tt) ∷ (Value.pVal record { ty = Declared'.row OpaqueRelayRuntime.the-type; one = Path.refl; val =
-    Laws''''''''.val OpaqueRelayRuntime.the-type Laws'''''.the-laws; tells = Laws''''''''.tells OpaqueRelayRuntime.the-type Laws'''''.the-laws; still
-    = Laws''''''''.still OpaqueRelayRuntime.the-type Laws'''''.the-copy Exit.yes; row = Rows.whole (Declared'.row OpaqueRelayRuntime.the-type); rd = λ
-    x. x; mk = λ x. x; } λ M 𝓤 H A W. record { copies = Laws''''''''.copy OpaqueRelayRuntime.the-type Laws'''''.the-copy 𝓤 H A W; lawful =
-    Laws''''''''.lawful OpaqueRelayRuntime.the-type Laws'''''.the-laws 𝓤 H A W; makes = Laws''''''''.makes OpaqueRelayRuntime.the-type
-    Laws'''''.the-plain 𝓤 H A; in-mem = Local.mem-whole 𝓤 H A W (Declared'.row OpaqueRelayRuntime.the-type); of-mem = Local.whole-mem 𝓤 H A W
-    (Declared'.row OpaqueRelayRuntime.the-type); }) ∷ (Value.pVal record { ty = Declared'.row Revoking.the-type; one = Path.refl; val =
-    Laws''''''''.val Revoking.the-type Laws''''.the-laws; tells = Laws''''''''.tells Revoking.the-type Laws''''.the-laws; still = Laws''''''''.still
-    Revoking.the-type Laws''''.the-copy Exit.yes; row = Rows.whole (Declared'.row Revoking.the-type); rd = λ x. x; mk = λ x. x; } λ M 𝓤 H A W. record
-    { copies = Laws''''''''.copy Revoking.the-type Laws''''.the-copy 𝓤 H A W; lawful = Laws''''''''.lawful Revoking.the-type Laws''''.the-laws 𝓤 H A
-    W; makes = Laws''''''''.makes Revoking.the-type Laws''''.the-plain 𝓤 H A; in-mem = Local.mem-whole 𝓤 H A W (Declared'.row Revoking.the-type);
-    of-mem = Local.whole-mem 𝓤 H A W (Declared'.row Revoking.the-type); }) ∷ List.[]
+    Laws'''''''''.val OpaqueRelayRuntime.the-type Laws''''''.the-laws; tells = Laws'''''''''.tells OpaqueRelayRuntime.the-type Laws''''''.the-laws;
+    still = Laws'''''''''.still OpaqueRelayRuntime.the-type Laws''''''.the-copy Exit.yes; row = Rows.whole (Declared'.row
+    OpaqueRelayRuntime.the-type); rd = λ x. x; mk = λ x. x; } λ M 𝓤 H A W. record { copies = Laws'''''''''.copy OpaqueRelayRuntime.the-type
+    Laws''''''.the-copy 𝓤 H A W; lawful = Laws'''''''''.lawful OpaqueRelayRuntime.the-type Laws''''''.the-laws 𝓤 H A W; makes = Laws'''''''''.makes
+    OpaqueRelayRuntime.the-type Laws''''''.the-plain 𝓤 H A; in-mem = Local.mem-whole 𝓤 H A W (Declared'.row OpaqueRelayRuntime.the-type); of-mem =
+    Local.whole-mem 𝓤 H A W (Declared'.row OpaqueRelayRuntime.the-type); }) ∷ (Value.pVal record { ty = Declared'.row Places.the-type; one =
+    Path.refl; val = Laws'''''''''.val Places.the-type Laws'''.the-laws; tells = Laws'''''''''.tells Places.the-type Laws'''.the-laws; still =
+    Laws'''''''''.still Places.the-type Laws'''.the-copy Exit.yes; row = Rows.whole (Declared'.row Places.the-type); rd = λ x. x; mk = λ x. x; } λ M 𝓤
+    H A W. record { copies = Laws'''''''''.copy Places.the-type Laws'''.the-copy 𝓤 H A W; lawful = Laws'''''''''.lawful Places.the-type
+    Laws'''.the-laws 𝓤 H A W; makes = Laws'''''''''.makes Places.the-type Laws'''.the-plain 𝓤 H A; in-mem = Local.mem-whole 𝓤 H A W (Declared'.row
+    Places.the-type); of-mem = Local.whole-mem 𝓤 H A W (Declared'.row Places.the-type); }) ∷ (Value.pVal record { ty = Declared'.row
+    Revoking.the-type; one = Path.refl; val = Laws'''''''''.val Revoking.the-type Laws'''''.the-laws; tells = Laws'''''''''.tells Revoking.the-type
+    Laws'''''.the-laws; still = Laws'''''''''.still Revoking.the-type Laws'''''.the-copy Exit.yes; row = Rows.whole (Declared'.row Revoking.the-type);
+    rd = λ x. x; mk = λ x. x; } λ M 𝓤 H A W. record { copies = Laws'''''''''.copy Revoking.the-type Laws'''''.the-copy 𝓤 H A W; lawful =
+    Laws'''''''''.lawful Revoking.the-type Laws'''''.the-laws 𝓤 H A W; makes = Laws'''''''''.makes Revoking.the-type Laws'''''.the-plain 𝓤 H A; in-mem
+    = Local.mem-whole 𝓤 H A W (Declared'.row Revoking.the-type); of-mem = Local.whole-mem 𝓤 H A W (Declared'.row Revoking.the-type); }) ∷ List.[]
 abbrev pub r·8 : Kinds.RK 4
-r·8 = Value.rVal record { ty = Declared'.row Relayed.the-type; one = Path.refl; val = Laws''''''''.val Relayed.the-type Laws''''''.the-laws; tells =
-    Laws''''''''.tells Relayed.the-type Laws''''''.the-laws; still = Laws''''''''.still Relayed.the-type Laws''''''.the-copy Exit.yes; row =
-    Rows.whole (Declared'.row Relayed.the-type); rd = λ x. x; mk = λ x. x; } λ M 𝓤 H A W. record { copies = Laws''''''''.copy Relayed.the-type
-    Laws''''''.the-copy 𝓤 H A W; lawful = Laws''''''''.lawful Relayed.the-type Laws''''''.the-laws 𝓤 H A W; makes = Laws''''''''.makes
-    Relayed.the-type Laws''''''.the-plain 𝓤 H A; in-mem = Local.mem-whole 𝓤 H A W (Declared'.row Relayed.the-type); of-mem = Local.whole-mem 𝓤 H A W
+r·8 = Value.rVal record { ty = Declared'.row Relayed.the-type; one = Path.refl; val = Laws'''''''''.val Relayed.the-type Laws'''''''.the-laws; tells =
+    Laws'''''''''.tells Relayed.the-type Laws'''''''.the-laws; still = Laws'''''''''.still Relayed.the-type Laws'''''''.the-copy Exit.yes; row =
+    Rows.whole (Declared'.row Relayed.the-type); rd = λ x. x; mk = λ x. x; } λ M 𝓤 H A W. record { copies = Laws'''''''''.copy Relayed.the-type
+    Laws'''''''.the-copy 𝓤 H A W; lawful = Laws'''''''''.lawful Relayed.the-type Laws'''''''.the-laws 𝓤 H A W; makes = Laws'''''''''.makes
+    Relayed.the-type Laws'''''''.the-plain 𝓤 H A; in-mem = Local.mem-whole 𝓤 H A W (Declared'.row Relayed.the-type); of-mem = Local.whole-mem 𝓤 H A W
     (Declared'.row Relayed.the-type); }
 abbrev pub ps·9 : List.List (Kinds.PK 0)
-ps·9 = (Value.pVal record { ty = Declared'.row OpaqueRelayRuntime.the-type; one = Path.refl; val = Laws''''''''.val OpaqueRelayRuntime.the-type
-    Laws'''''.the-laws; tells = Laws''''''''.tells OpaqueRelayRuntime.the-type Laws'''''.the-laws; still = Laws''''''''.still
-    OpaqueRelayRuntime.the-type Laws'''''.the-copy Exit.yes; row = Rows.whole (Declared'.row OpaqueRelayRuntime.the-type); rd = λ x. x; mk = λ x. x; }
-    λ M 𝓤 H A W. record { copies = Laws''''''''.copy OpaqueRelayRuntime.the-type Laws'''''.the-copy 𝓤 H A W; lawful = Laws''''''''.lawful
-    OpaqueRelayRuntime.the-type Laws'''''.the-laws 𝓤 H A W; makes = Laws''''''''.makes OpaqueRelayRuntime.the-type Laws'''''.the-plain 𝓤 H A; in-mem =
-    Local.mem-whole 𝓤 H A W (Declared'.row OpaqueRelayRuntime.the-type); of-mem = Local.whole-mem 𝓤 H A W (Declared'.row OpaqueRelayRuntime.the-type);
-    }) ∷ (Value.pVal record { ty = Declared.row HnsrAnswer.the-type; one = Path.refl; val = Laws'''''''.val HnsrAnswer.the-type Laws'.the-laws; tells
-    = Laws'''''''.tells HnsrAnswer.the-type Laws'.the-laws; still = Laws'''''''.still HnsrAnswer.the-type Laws'.the-copy Exit.yes; row = Rows.whole
-    (Declared.row HnsrAnswer.the-type); rd = λ x. x; mk = λ x. x; } λ M 𝓤 H A W. record { copies = Laws'''''''.copy HnsrAnswer.the-type Laws'.the-copy
-    𝓤 H A W; lawful = Laws'''''''.lawful HnsrAnswer.the-type Laws'.the-laws 𝓤 H A W tt; makes = Laws'''''''.makes HnsrAnswer.the-type Laws'.the-plain
-    𝓤 H A; in-mem = Local.mem-whole 𝓤 H A W (Declared.row HnsrAnswer.the-type); of-mem = Local.whole-mem 𝓤 H A W (Declared.row HnsrAnswer.the-type);
-    }) ∷ List.[]
+ps·9 = (Value.pVal record { ty = Declared'.row OpaqueRelayRuntime.the-type; one = Path.refl; val = Laws'''''''''.val OpaqueRelayRuntime.the-type
+    Laws''''''.the-laws; tells = Laws'''''''''.tells OpaqueRelayRuntime.the-type Laws''''''.the-laws; still = Laws'''''''''.still
+    OpaqueRelayRuntime.the-type Laws''''''.the-copy Exit.yes; row = Rows.whole (Declared'.row OpaqueRelayRuntime.the-type); rd = λ x. x; mk = λ x. x;
+    } λ M 𝓤 H A W. record { copies = Laws'''''''''.copy OpaqueRelayRuntime.the-type Laws''''''.the-copy 𝓤 H A W; lawful = Laws'''''''''.lawful
+    OpaqueRelayRuntime.the-type Laws''''''.the-laws 𝓤 H A W; makes = Laws'''''''''.makes OpaqueRelayRuntime.the-type Laws''''''.the-plain 𝓤 H A;
+    in-mem = Local.mem-whole 𝓤 H A W (Declared'.row OpaqueRelayRuntime.the-type); of-mem = Local.whole-mem 𝓤 H A W (Declared'.row
+    OpaqueRelayRuntime.the-type); }) ∷ (Value.pVal record { ty = Declared'.row Places.the-type; one = Path.refl; val = Laws'''''''''.val
+    Places.the-type Laws'''.the-laws; tells = Laws'''''''''.tells Places.the-type Laws'''.the-laws; still = Laws'''''''''.still Places.the-type
+    Laws'''.the-copy Exit.yes; row = Rows.whole (Declared'.row Places.the-type); rd = λ x. x; mk = λ x. x; } λ M 𝓤 H A W. record { copies =
+    Laws'''''''''.copy Places.the-type Laws'''.the-copy 𝓤 H A W; lawful = Laws'''''''''.lawful Places.the-type Laws'''.the-laws 𝓤 H A W; makes =
+    Laws'''''''''.makes Places.the-type Laws'''.the-plain 𝓤 H A; in-mem = Local.mem-whole 𝓤 H A W (Declared'.row Places.the-type); of-mem =
+    Local.whole-mem 𝓤 H A W (Declared'.row Places.the-type); }) ∷ (Value.pVal record { ty = Declared.row HnsrAnswer.the-type; one = Path.refl; val =
+    Laws''''''''.val HnsrAnswer.the-type Laws'.the-laws; tells = Laws''''''''.tells HnsrAnswer.the-type Laws'.the-laws; still = Laws''''''''.still
+    HnsrAnswer.the-type Laws'.the-copy Exit.yes; row = Rows.whole (Declared.row HnsrAnswer.the-type); rd = λ x. x; mk = λ x. x; } λ M 𝓤 H A W. record
+    { copies = Laws''''''''.copy HnsrAnswer.the-type Laws'.the-copy 𝓤 H A W; lawful = Laws''''''''.lawful HnsrAnswer.the-type Laws'.the-laws 𝓤 H A W
+    tt; makes = Laws''''''''.makes HnsrAnswer.the-type Laws'.the-plain 𝓤 H A; in-mem = Local.mem-whole 𝓤 H A W (Declared.row HnsrAnswer.the-type);
+    of-mem = Local.whole-mem 𝓤 H A W (Declared.row HnsrAnswer.the-type); }) ∷ List.[]
 abbrev pub r·9 : Kinds.RK 0
-r·9 = Value.rVal record { ty = Declared'.row Relayed.the-type; one = Path.refl; val = Laws''''''''.val Relayed.the-type Laws''''''.the-laws; tells =
-    Laws''''''''.tells Relayed.the-type Laws''''''.the-laws; still = Laws''''''''.still Relayed.the-type Laws''''''.the-copy Exit.yes; row =
-    Rows.whole (Declared'.row Relayed.the-type); rd = λ x. x; mk = λ x. x; } λ M 𝓤 H A W. record { copies = Laws''''''''.copy Relayed.the-type
-    Laws''''''.the-copy 𝓤 H A W; lawful = Laws''''''''.lawful Relayed.the-type Laws''''''.the-laws 𝓤 H A W; makes = Laws''''''''.makes
-    Relayed.the-type Laws''''''.the-plain 𝓤 H A; in-mem = Local.mem-whole 𝓤 H A W (Declared'.row Relayed.the-type); of-mem = Local.whole-mem 𝓤 H A W
+r·9 = Value.rVal record { ty = Declared'.row Relayed.the-type; one = Path.refl; val = Laws'''''''''.val Relayed.the-type Laws'''''''.the-laws; tells =
+    Laws'''''''''.tells Relayed.the-type Laws'''''''.the-laws; still = Laws'''''''''.still Relayed.the-type Laws'''''''.the-copy Exit.yes; row =
+    Rows.whole (Declared'.row Relayed.the-type); rd = λ x. x; mk = λ x. x; } λ M 𝓤 H A W. record { copies = Laws'''''''''.copy Relayed.the-type
+    Laws'''''''.the-copy 𝓤 H A W; lawful = Laws'''''''''.lawful Relayed.the-type Laws'''''''.the-laws 𝓤 H A W; makes = Laws'''''''''.makes
+    Relayed.the-type Laws'''''''.the-plain 𝓤 H A; in-mem = Local.mem-whole 𝓤 H A W (Declared'.row Relayed.the-type); of-mem = Local.whole-mem 𝓤 H A W
     (Declared'.row Relayed.the-type); }
 abbrev pub hs : List.List Syntax.Home
 hs = Syntax.valueLocal ∷ Syntax.valueLocal ∷ Syntax.valueLocal ∷ Syntax.valueLocal ∷ Syntax.valueLocal ∷ Syntax.valueLocal ∷ Syntax.valueLocal ∷
@@ -277,79 +310,79 @@ hs = Syntax.valueLocal ∷ Syntax.valueLocal ∷ Syntax.valueLocal ∷ Syntax.va
     Syntax.valueLocal ∷ Syntax.valueLocal ∷ Syntax.valueLocal ∷ Syntax.valueLocal ∷ Syntax.valueLocal ∷ Syntax.valueLocal ∷ Syntax.valueLocal ∷
     Syntax.valueLocal ∷ Syntax.valueLocal ∷ Syntax.valueLocal ∷ Syntax.valueLocal ∷ Syntax.valueLocal ∷ Syntax.valueLocal ∷ Syntax.valueLocal ∷
     Syntax.valueLocal ∷ Syntax.valueLocal ∷ Syntax.valueLocal ∷ Syntax.valueLocal ∷ Syntax.valueLocal ∷ Syntax.valueLocal ∷ Syntax.valueLocal ∷
-    List.[]
+    Syntax.valueLocal ∷ List.[]
 abbrev b0 : Syntax.Body
-b0 = Syntax.assign (Syntax.place 8 List.[]) (Syntax.rvOpd (Syntax.copy (Syntax.place 6 ((Syntax.field 4) ∷ List.[]))))
+b0 = Syntax.assign (Syntax.place 9 List.[]) (Syntax.rvOpd (Syntax.copy (Syntax.place 6 ((Syntax.field 4) ∷ List.[]))))
 abbrev b1 : Syntax.Body
-b1 = Syntax.assign (Syntax.place 15 List.[]) (Syntax.addrOf (Syntax.place 1 ((Syntax.field 0) ∷ (Syntax.deref RelayPending.ty) ∷ List.[])))
+b1 = Syntax.assign (Syntax.place 16 List.[]) (Syntax.addrOf (Syntax.place 1 ((Syntax.field 0) ∷ (Syntax.deref RelayPending.ty) ∷ List.[])))
 abbrev b2 : Syntax.Body
-b2 = Syntax.assign (Syntax.place 16 List.[]) (Syntax.aggregate ((Syntax.copy (Syntax.place 15 List.[])) ∷ (Syntax.copy (Syntax.place 1 ((Syntax.field
+b2 = Syntax.assign (Syntax.place 17 List.[]) (Syntax.aggregate ((Syntax.copy (Syntax.place 16 List.[])) ∷ (Syntax.copy (Syntax.place 1 ((Syntax.field
     1) ∷ List.[]))) ∷ List.[]))
 abbrev b3 : Syntax.Body
-b3 = Syntax.assign (Syntax.place 17 List.[]) (Syntax.addrOf (Syntax.place 2 ((Syntax.field 0) ∷ (Syntax.deref RelayCircuit.ty) ∷ List.[])))
+b3 = Syntax.assign (Syntax.place 18 List.[]) (Syntax.addrOf (Syntax.place 2 ((Syntax.field 0) ∷ (Syntax.deref RelayCircuit.ty) ∷ List.[])))
 abbrev b4 : Syntax.Body
-b4 = Syntax.assign (Syntax.place 18 List.[]) (Syntax.aggregate ((Syntax.copy (Syntax.place 17 List.[])) ∷ (Syntax.copy (Syntax.place 2 ((Syntax.field
+b4 = Syntax.assign (Syntax.place 19 List.[]) (Syntax.aggregate ((Syntax.copy (Syntax.place 18 List.[])) ∷ (Syntax.copy (Syntax.place 2 ((Syntax.field
     1) ∷ List.[]))) ∷ List.[]))
 abbrev b5 : Syntax.Body
-b5 = Syntax.assign (Syntax.place 19 List.[]) (Syntax.rvOpd (Syntax.copy (Syntax.place 4 ((Syntax.field 1) ∷ List.[]))))
+b5 = Syntax.assign (Syntax.place 20 List.[]) (Syntax.rvOpd (Syntax.copy (Syntax.place 4 ((Syntax.field 1) ∷ List.[]))))
 abbrev b6 : Syntax.Body
-b6 = Syntax.assign (Syntax.place 20 List.[]) (Syntax.rvOpd (Syntax.copy (Syntax.place 5 ((Syntax.field 1) ∷ List.[]))))
+b6 = Syntax.assign (Syntax.place 21 List.[]) (Syntax.rvOpd (Syntax.copy (Syntax.place 5 ((Syntax.field 1) ∷ List.[]))))
 abbrev b7 : Syntax.Body
-b7 = Syntax.call "hnsr_circuit::revoking_calls::entry_answer" ((Syntax.copy (Syntax.place 16 List.[])) ∷ (Syntax.copy (Syntax.place 18 List.[])) ∷
-    (Syntax.copy (Syntax.place 19 List.[])) ∷ (Syntax.copy (Syntax.place 20 List.[])) ∷ (Syntax.copy (Syntax.place 8 List.[])) ∷ List.[])
-    (Syntax.place 9 List.[])
+b7 = Syntax.call "hnsr_circuit::revoking_calls::entry_answer" ((Syntax.copy (Syntax.place 17 List.[])) ∷ (Syntax.copy (Syntax.place 19 List.[])) ∷
+    (Syntax.copy (Syntax.place 7 List.[])) ∷ (Syntax.copy (Syntax.place 20 List.[])) ∷ (Syntax.copy (Syntax.place 21 List.[])) ∷ (Syntax.copy
+    (Syntax.place 9 List.[])) ∷ List.[]) (Syntax.place 10 List.[])
 abbrev b8 : Syntax.Body
-b8 = Syntax.call "hnsr_circuit::entry::clock_answer" ((Syntax.copy (Syntax.place 6 ((Syntax.field 3) ∷ List.[]))) ∷ (Syntax.copy (Syntax.place 7
-    List.[])) ∷ List.[]) (Syntax.place 10 List.[])
+b8 = Syntax.call "hnsr_circuit::entry::clock_answer" ((Syntax.copy (Syntax.place 6 ((Syntax.field 3) ∷ List.[]))) ∷ (Syntax.copy (Syntax.place 8
+    List.[])) ∷ List.[]) (Syntax.place 11 List.[])
 abbrev b9 : Syntax.Body
-b9 = Syntax.call "hnsr_circuit::answer::first_refusal" ((Syntax.copy (Syntax.place 9 List.[])) ∷ (Syntax.copy (Syntax.place 10 List.[])) ∷ List.[])
-    (Syntax.place 11 List.[])
+b9 = Syntax.call "hnsr_circuit::answer::first_refusal" ((Syntax.copy (Syntax.place 10 List.[])) ∷ (Syntax.copy (Syntax.place 11 List.[])) ∷ List.[])
+    (Syntax.place 12 List.[])
 abbrev b10 : Syntax.Body
-b10 = Syntax.call "hnsr_circuit::answer::is_taken" ((Syntax.copy (Syntax.place 11 List.[])) ∷ List.[]) (Syntax.place 21 List.[])
+b10 = Syntax.call "hnsr_circuit::answer::is_taken" ((Syntax.copy (Syntax.place 12 List.[])) ∷ List.[]) (Syntax.place 22 List.[])
 abbrev b11 : Syntax.Body
-b11 = Syntax.call "hnsr_circuit::question::over" ((Syntax.copy (Syntax.place 7 List.[])) ∷ List.[]) (Syntax.place 12 List.[])
+b11 = Syntax.call "hnsr_circuit::question::over" ((Syntax.copy (Syntax.place 8 List.[])) ∷ List.[]) (Syntax.place 13 List.[])
 abbrev b12 : Syntax.Body
-b12 = Syntax.assign (Syntax.place 22 List.[]) (Syntax.aggregate ((Syntax.int Syntax.w8 2) ∷ List.[]))
+b12 = Syntax.assign (Syntax.place 23 List.[]) (Syntax.aggregate ((Syntax.int Syntax.w8 2) ∷ List.[]))
 abbrev b13 : Syntax.Body
-b13 = Syntax.assign (Syntax.place 23 List.[]) (Syntax.aggregate ((Syntax.int Syntax.w8 3) ∷ List.[]))
+b13 = Syntax.assign (Syntax.place 24 List.[]) (Syntax.aggregate ((Syntax.int Syntax.w8 3) ∷ List.[]))
 abbrev b14 : Syntax.Body
-b14 = Syntax.call "hnsr_circuit::revoking_calls::revoking" ((Syntax.copy (Syntax.place 12 List.[])) ∷ (Syntax.copy (Syntax.place 22 List.[])) ∷
-    (Syntax.copy (Syntax.place 23 List.[])) ∷ List.[]) (Syntax.place 13 List.[])
+b14 = Syntax.call "hnsr_circuit::revoking_calls::revoking" ((Syntax.copy (Syntax.place 13 List.[])) ∷ (Syntax.copy (Syntax.place 23 List.[])) ∷
+    (Syntax.copy (Syntax.place 24 List.[])) ∷ List.[]) (Syntax.place 14 List.[])
 abbrev b15 : Syntax.Body
-b15 = Syntax.call "hnsr_circuit::header::with_clock" ((Syntax.copy (Syntax.place 6 List.[])) ∷ (Syntax.copy (Syntax.place 7 List.[])) ∷ List.[])
-    (Syntax.place 14 List.[])
+b15 = Syntax.call "hnsr_circuit::header::with_clock" ((Syntax.copy (Syntax.place 6 List.[])) ∷ (Syntax.copy (Syntax.place 8 List.[])) ∷ List.[])
+    (Syntax.place 15 List.[])
 abbrev b16 : Syntax.Body
-b16 = Syntax.assign (Syntax.place 25 List.[]) (Syntax.addrOf (Syntax.place 3 ((Syntax.field 0) ∷ (Syntax.deref ReservationUsage.ty) ∷ List.[])))
+b16 = Syntax.assign (Syntax.place 26 List.[]) (Syntax.addrOf (Syntax.place 3 ((Syntax.field 0) ∷ (Syntax.deref ReservationUsage.ty) ∷ List.[])))
 abbrev b17 : Syntax.Body
-b17 = Syntax.assign (Syntax.place 26 List.[]) (Syntax.aggregate ((Syntax.copy (Syntax.place 25 List.[])) ∷ (Syntax.copy (Syntax.place 3 ((Syntax.field
+b17 = Syntax.assign (Syntax.place 27 List.[]) (Syntax.aggregate ((Syntax.copy (Syntax.place 26 List.[])) ∷ (Syntax.copy (Syntax.place 3 ((Syntax.field
     1) ∷ List.[]))) ∷ List.[]))
 abbrev b18 : Syntax.Body
-b18 = Syntax.call "hnsr_circuit::lookup::drop_lapsed" ((Syntax.copy (Syntax.place 26 List.[])) ∷ Syntax.opdTrue ∷ (Syntax.copy (Syntax.place 7
-    List.[])) ∷ List.[]) (Syntax.place 24 List.[])
+b18 = Syntax.call "hnsr_circuit::lookup::drop_lapsed" ((Syntax.copy (Syntax.place 27 List.[])) ∷ (Syntax.copy (Syntax.place 7 List.[])) ∷
+    Syntax.opdTrue ∷ (Syntax.copy (Syntax.place 8 List.[])) ∷ List.[]) (Syntax.place 25 List.[])
 abbrev b19 : Syntax.Body
-b19 = Syntax.assign (Syntax.place 27 List.[]) (Syntax.addrOf (Syntax.place 1 ((Syntax.field 0) ∷ (Syntax.deref RelayPending.ty) ∷ List.[])))
+b19 = Syntax.assign (Syntax.place 28 List.[]) (Syntax.addrOf (Syntax.place 1 ((Syntax.field 0) ∷ (Syntax.deref RelayPending.ty) ∷ List.[])))
 abbrev b20 : Syntax.Body
-b20 = Syntax.assign (Syntax.place 28 List.[]) (Syntax.aggregate ((Syntax.copy (Syntax.place 27 List.[])) ∷ (Syntax.copy (Syntax.place 1 ((Syntax.field
+b20 = Syntax.assign (Syntax.place 29 List.[]) (Syntax.aggregate ((Syntax.copy (Syntax.place 28 List.[])) ∷ (Syntax.copy (Syntax.place 1 ((Syntax.field
     1) ∷ List.[]))) ∷ List.[]))
 abbrev b21 : Syntax.Body
-b21 = Syntax.assign (Syntax.place 29 List.[]) (Syntax.addrOf (Syntax.place 2 ((Syntax.field 0) ∷ (Syntax.deref RelayCircuit.ty) ∷ List.[])))
+b21 = Syntax.assign (Syntax.place 30 List.[]) (Syntax.addrOf (Syntax.place 2 ((Syntax.field 0) ∷ (Syntax.deref RelayCircuit.ty) ∷ List.[])))
 abbrev b22 : Syntax.Body
-b22 = Syntax.assign (Syntax.place 30 List.[]) (Syntax.aggregate ((Syntax.copy (Syntax.place 29 List.[])) ∷ (Syntax.copy (Syntax.place 2 ((Syntax.field
+b22 = Syntax.assign (Syntax.place 31 List.[]) (Syntax.aggregate ((Syntax.copy (Syntax.place 30 List.[])) ∷ (Syntax.copy (Syntax.place 2 ((Syntax.field
     1) ∷ List.[]))) ∷ List.[]))
 abbrev b23 : Syntax.Body
-b23 = Syntax.assign (Syntax.place 31 List.[]) (Syntax.addrOf (Syntax.place 4 ((Syntax.field 0) ∷ (Syntax.deref InflightAction.ty) ∷ List.[])))
+b23 = Syntax.assign (Syntax.place 32 List.[]) (Syntax.addrOf (Syntax.place 4 ((Syntax.field 0) ∷ (Syntax.deref InflightAction.ty) ∷ List.[])))
 abbrev b24 : Syntax.Body
-b24 = Syntax.assign (Syntax.place 32 List.[]) (Syntax.aggregate ((Syntax.copy (Syntax.place 31 List.[])) ∷ (Syntax.copy (Syntax.place 4 ((Syntax.field
+b24 = Syntax.assign (Syntax.place 33 List.[]) (Syntax.aggregate ((Syntax.copy (Syntax.place 32 List.[])) ∷ (Syntax.copy (Syntax.place 4 ((Syntax.field
     1) ∷ List.[]))) ∷ List.[]))
 abbrev b25 : Syntax.Body
-b25 = Syntax.assign (Syntax.place 33 List.[]) (Syntax.addrOf (Syntax.place 5 ((Syntax.field 0) ∷ (Syntax.deref (Syntax.tyInt Syntax.w32)) ∷ List.[])))
+b25 = Syntax.assign (Syntax.place 34 List.[]) (Syntax.addrOf (Syntax.place 5 ((Syntax.field 0) ∷ (Syntax.deref (Syntax.tyInt Syntax.w32)) ∷ List.[])))
 abbrev b26 : Syntax.Body
-b26 = Syntax.assign (Syntax.place 34 List.[]) (Syntax.aggregate ((Syntax.copy (Syntax.place 33 List.[])) ∷ (Syntax.copy (Syntax.place 5 ((Syntax.field
+b26 = Syntax.assign (Syntax.place 35 List.[]) (Syntax.aggregate ((Syntax.copy (Syntax.place 34 List.[])) ∷ (Syntax.copy (Syntax.place 5 ((Syntax.field
     1) ∷ List.[]))) ∷ List.[]))
 abbrev b27 : Syntax.Body
-b27 = Syntax.call "hnsr_circuit::revocation::revoke_all" ((Syntax.copy (Syntax.place 28 List.[])) ∷ (Syntax.copy (Syntax.place 30 List.[])) ∷
-    (Syntax.copy (Syntax.place 32 List.[])) ∷ (Syntax.copy (Syntax.place 34 List.[])) ∷ (Syntax.copy (Syntax.place 14 List.[])) ∷ (Syntax.copy
-    (Syntax.place 13 List.[])) ∷ List.[]) (Syntax.place 0 List.[])
+b27 = Syntax.call "hnsr_circuit::revocation::revoke_all" ((Syntax.copy (Syntax.place 29 List.[])) ∷ (Syntax.copy (Syntax.place 31 List.[])) ∷
+    (Syntax.copy (Syntax.place 33 List.[])) ∷ (Syntax.copy (Syntax.place 35 List.[])) ∷ (Syntax.copy (Syntax.place 15 List.[])) ∷ (Syntax.copy
+    (Syntax.place 7 List.[])) ∷ (Syntax.copy (Syntax.place 14 List.[])) ∷ List.[]) (Syntax.place 0 List.[])
 abbrev b28 : Syntax.Body
 b28 = Syntax.return
 abbrev b29 : Syntax.Body
@@ -389,10 +422,10 @@ b45 = Syntax.seq b11 b44
 abbrev b46 : Syntax.Body
 b46 = Syntax.skip
 abbrev b47 : Syntax.Body
-b47 = Syntax.cond (Syntax.copy (Syntax.place 21 List.[])) b45 b46
+b47 = Syntax.cond (Syntax.copy (Syntax.place 22 List.[])) b45 b46
 abbrev b48 : Syntax.Body
-b48 = Syntax.call "hnsr_circuit::revoking_calls::refused" ((Syntax.copy (Syntax.place 6 List.[])) ∷ (Syntax.copy (Syntax.place 11 List.[])) ∷ List.[])
-    (Syntax.place 0 List.[])
+b48 = Syntax.call "hnsr_circuit::revoking_calls::refused" ((Syntax.copy (Syntax.place 6 List.[])) ∷ (Syntax.copy (Syntax.place 7 List.[])) ∷
+    (Syntax.copy (Syntax.place 12 List.[])) ∷ List.[]) (Syntax.place 0 List.[])
 abbrev b49 : Syntax.Body
 b49 = Syntax.return
 abbrev b50 : Syntax.Body
@@ -428,7 +461,7 @@ Claims = Kinds.In 2 ps·0 × Kinds.Out 2 ps·0 r·0 × Kinds.In 0 ps·1 × Kinds
     Kinds.Out 0 ps·3 r·3 × Kinds.In 0 ps·4 × Kinds.Out 0 ps·4 r·4 × Kinds.In 0 ps·5 × Kinds.Out 0 ps·5 r·5 × Kinds.In 0 ps·6 × Kinds.Out 0 ps·6 r·6 ×
     Kinds.In 1 ps·7 × Kinds.Out 1 ps·7 r·7 × Kinds.In 4 ps·8 × Kinds.Out 4 ps·8 r·8 × Kinds.In 0 ps·9 × Kinds.Out 0 ps·9 r·9
 abbrev e0 : Row.Entry
-e0 = (0, Rows.any-gone Laws''''''.mir)
+e0 = (0, Rows.any-gone Laws'''''''.mir)
 abbrev e1 : Row.Entry
 e1 = (1, Mut.mslice RelayPending.row ref7 0)
 abbrev e2 : Row.Entry
@@ -442,271 +475,279 @@ e5 = (5, Mut.mslice (Referent.rtF (Referent.fInt Syntax.w32)) ref11 4)
 abbrev e6 : Row.Entry
 e6 = (6, Rows.whole (Declared'.row OpaqueRelayRuntime.the-type))
 abbrev e7 : Row.Entry
-e7 = (7, Rows.sc-here (Row.sInt Syntax.w64))
+e7 = (7, Rows.whole (Declared'.row Places.the-type))
 abbrev e8 : Row.Entry
-e8 = (8, Rows.any-gone Laws''.mir)
+e8 = (8, Rows.sc-here (Row.sInt Syntax.w64))
 abbrev e9 : Row.Entry
-e9 = (9, Rows.any-gone Laws'.mir)
+e9 = (9, Rows.any-gone Laws''.mir)
 abbrev e10 : Row.Entry
 e10 = (10, Rows.any-gone Laws'.mir)
 abbrev e11 : Row.Entry
 e11 = (11, Rows.any-gone Laws'.mir)
 abbrev e12 : Row.Entry
-e12 = (12, Rows.any-gone Laws'''.mir)
+e12 = (12, Rows.any-gone Laws'.mir)
 abbrev e13 : Row.Entry
 e13 = (13, Rows.any-gone Laws''''.mir)
 abbrev e14 : Row.Entry
 e14 = (14, Rows.any-gone Laws'''''.mir)
 abbrev e15 : Row.Entry
-e15 = (15, Rows.any-gone ref0)
+e15 = (15, Rows.any-gone Laws''''''.mir)
 abbrev e16 : Row.Entry
-e16 = (16, Rows.any-gone (Syntax.tyStruct (38 ∷ 91 ∷ 93 ∷ List.[]) (Syntax.tcons ref0 (Syntax.tcons (Syntax.tyInt Syntax.w64) Syntax.tnil))))
+e16 = (16, Rows.any-gone ref0)
 abbrev e17 : Row.Entry
-e17 = (17, Rows.any-gone ref1)
+e17 = (17, Rows.any-gone (Syntax.tyStruct (38 ∷ 91 ∷ 93 ∷ List.[]) (Syntax.tcons ref0 (Syntax.tcons (Syntax.tyInt Syntax.w64) Syntax.tnil))))
 abbrev e18 : Row.Entry
-e18 = (18, Rows.any-gone (Syntax.tyStruct (38 ∷ 91 ∷ 93 ∷ List.[]) (Syntax.tcons ref1 (Syntax.tcons (Syntax.tyInt Syntax.w64) Syntax.tnil))))
+e18 = (18, Rows.any-gone ref1)
 abbrev e19 : Row.Entry
-e19 = (19, Rows.any-gone (Syntax.tyInt Syntax.w64))
+e19 = (19, Rows.any-gone (Syntax.tyStruct (38 ∷ 91 ∷ 93 ∷ List.[]) (Syntax.tcons ref1 (Syntax.tcons (Syntax.tyInt Syntax.w64) Syntax.tnil))))
 abbrev e20 : Row.Entry
 e20 = (20, Rows.any-gone (Syntax.tyInt Syntax.w64))
 abbrev e21 : Row.Entry
-e21 = (21, Rows.any-gone Syntax.tyBool)
+e21 = (21, Rows.any-gone (Syntax.tyInt Syntax.w64))
 abbrev e22 : Row.Entry
-e22 = (22, Rows.any-gone Laws.mir)
+e22 = (22, Rows.any-gone Syntax.tyBool)
 abbrev e23 : Row.Entry
 e23 = (23, Rows.any-gone Laws.mir)
 abbrev e24 : Row.Entry
-e24 = (24, Rows.any-gone Syntax.tyUnit)
+e24 = (24, Rows.any-gone Laws.mir)
 abbrev e25 : Row.Entry
-e25 = (25, Rows.any-gone ref2)
+e25 = (25, Rows.any-gone Syntax.tyUnit)
 abbrev e26 : Row.Entry
-e26 = (26, Rows.any-gone (Syntax.tyStruct (38 ∷ 91 ∷ 93 ∷ List.[]) (Syntax.tcons ref2 (Syntax.tcons (Syntax.tyInt Syntax.w64) Syntax.tnil))))
+e26 = (26, Rows.any-gone ref2)
 abbrev e27 : Row.Entry
-e27 = (27, Rows.any-gone ref3)
+e27 = (27, Rows.any-gone (Syntax.tyStruct (38 ∷ 91 ∷ 93 ∷ List.[]) (Syntax.tcons ref2 (Syntax.tcons (Syntax.tyInt Syntax.w64) Syntax.tnil))))
 abbrev e28 : Row.Entry
-e28 = (28, Rows.any-gone (Syntax.tyStruct (38 ∷ 91 ∷ 93 ∷ List.[]) (Syntax.tcons ref3 (Syntax.tcons (Syntax.tyInt Syntax.w64) Syntax.tnil))))
+e28 = (28, Rows.any-gone ref3)
 abbrev e29 : Row.Entry
-e29 = (29, Rows.any-gone ref4)
+e29 = (29, Rows.any-gone (Syntax.tyStruct (38 ∷ 91 ∷ 93 ∷ List.[]) (Syntax.tcons ref3 (Syntax.tcons (Syntax.tyInt Syntax.w64) Syntax.tnil))))
 abbrev e30 : Row.Entry
-e30 = (30, Rows.any-gone (Syntax.tyStruct (38 ∷ 91 ∷ 93 ∷ List.[]) (Syntax.tcons ref4 (Syntax.tcons (Syntax.tyInt Syntax.w64) Syntax.tnil))))
+e30 = (30, Rows.any-gone ref4)
 abbrev e31 : Row.Entry
-e31 = (31, Rows.any-gone ref5)
+e31 = (31, Rows.any-gone (Syntax.tyStruct (38 ∷ 91 ∷ 93 ∷ List.[]) (Syntax.tcons ref4 (Syntax.tcons (Syntax.tyInt Syntax.w64) Syntax.tnil))))
 abbrev e32 : Row.Entry
-e32 = (32, Rows.any-gone (Syntax.tyStruct (38 ∷ 91 ∷ 93 ∷ List.[]) (Syntax.tcons ref5 (Syntax.tcons (Syntax.tyInt Syntax.w64) Syntax.tnil))))
+e32 = (32, Rows.any-gone ref5)
 abbrev e33 : Row.Entry
-e33 = (33, Rows.any-gone ref6)
+e33 = (33, Rows.any-gone (Syntax.tyStruct (38 ∷ 91 ∷ 93 ∷ List.[]) (Syntax.tcons ref5 (Syntax.tcons (Syntax.tyInt Syntax.w64) Syntax.tnil))))
 abbrev e34 : Row.Entry
-e34 = (34, Rows.any-gone (Syntax.tyStruct (38 ∷ 91 ∷ 93 ∷ List.[]) (Syntax.tcons ref6 (Syntax.tcons (Syntax.tyInt Syntax.w64) Syntax.tnil))))
+e34 = (34, Rows.any-gone ref6)
+abbrev e35 : Row.Entry
+e35 = (35, Rows.any-gone (Syntax.tyStruct (38 ∷ 91 ∷ 93 ∷ List.[]) (Syntax.tcons ref6 (Syntax.tcons (Syntax.tyInt Syntax.w64) Syntax.tnil))))
 abbrev e0·1 : Row.Entry
 e0·1 = (0, Rows.whole (Declared'.row Relayed.the-type))
 abbrev e6·1 : Row.Entry
-e6·1 = (6, Rows.any-gone Laws'''''.mir)
+e6·1 = (6, Rows.any-gone Laws''''''.mir)
 abbrev e7·1 : Row.Entry
-e7·1 = (7, Rows.any-gone (Syntax.tyInt Syntax.w64))
+e7·1 = (7, Rows.any-gone Laws'''.mir)
 abbrev e8·1 : Row.Entry
-e8·1 = (8, Rows.whole (Declared'.row OpaqueRelayConfig.the-type))
+e8·1 = (8, Rows.any-gone (Syntax.tyInt Syntax.w64))
+abbrev e9·1 : Row.Entry
+e9·1 = (9, Rows.whole (Declared'.row OpaqueRelayConfig.the-type))
 abbrev e1·1 : Row.Entry
 e1·1 = (1, Reshare.mslice-owedS RelayPending.row ref7 0 5 Row.off)
-abbrev e15·1 : Row.Entry
-e15·1 = (15, Relend.ssptr RelayPending.row ref0 5)
 abbrev e16·1 : Row.Entry
-e16·1 = (16, Rows.sslice RelayPending.row ref0 5)
+e16·1 = (16, Relend.ssptr RelayPending.row ref0 5)
+abbrev e17·1 : Row.Entry
+e17·1 = (17, Rows.sslice RelayPending.row ref0 5)
 abbrev e2·1 : Row.Entry
 e2·1 = (2, Reshare.mslice-owedS RelayCircuit.row ref8 1 6 Row.off)
-abbrev e17·1 : Row.Entry
-e17·1 = (17, Relend.ssptr RelayCircuit.row ref1 6)
 abbrev e18·1 : Row.Entry
-e18·1 = (18, Rows.sslice RelayCircuit.row ref1 6)
+e18·1 = (18, Relend.ssptr RelayCircuit.row ref1 6)
 abbrev e19·1 : Row.Entry
-e19·1 = (19, Rows.sc-here (Row.sInt Syntax.w64))
+e19·1 = (19, Rows.sslice RelayCircuit.row ref1 6)
 abbrev e20·1 : Row.Entry
 e20·1 = (20, Rows.sc-here (Row.sInt Syntax.w64))
-abbrev e9·1 : Row.Entry
-e9·1 = (9, Rows.whole (Declared.row HnsrAnswer.the-type))
+abbrev e21·1 : Row.Entry
+e21·1 = (21, Rows.sc-here (Row.sInt Syntax.w64))
 abbrev e10·1 : Row.Entry
 e10·1 = (10, Rows.whole (Declared.row HnsrAnswer.the-type))
 abbrev e11·1 : Row.Entry
 e11·1 = (11, Rows.whole (Declared.row HnsrAnswer.the-type))
-abbrev e21·1 : Row.Entry
-e21·1 = (21, Rows.sc-here Row.sBool)
 abbrev e12·1 : Row.Entry
-e12·1 = (12, Rows.whole (Declared'.row Question.the-type))
+e12·1 = (12, Rows.whole (Declared.row HnsrAnswer.the-type))
 abbrev e22·1 : Row.Entry
-e22·1 = (22, Rows.whole (Declared.row Notice.the-type))
+e22·1 = (22, Rows.sc-here Row.sBool)
+abbrev e13·1 : Row.Entry
+e13·1 = (13, Rows.whole (Declared'.row Question.the-type))
 abbrev e23·1 : Row.Entry
 e23·1 = (23, Rows.whole (Declared.row Notice.the-type))
-abbrev e13·1 : Row.Entry
-e13·1 = (13, Rows.whole (Declared'.row Revoking.the-type))
+abbrev e24·1 : Row.Entry
+e24·1 = (24, Rows.whole (Declared.row Notice.the-type))
 abbrev e14·1 : Row.Entry
-e14·1 = (14, Rows.whole (Declared'.row OpaqueRelayRuntime.the-type))
+e14·1 = (14, Rows.whole (Declared'.row Revoking.the-type))
+abbrev e15·1 : Row.Entry
+e15·1 = (15, Rows.whole (Declared'.row OpaqueRelayRuntime.the-type))
 abbrev e3·1 : Row.Entry
 e3·1 = (3, Relend.mslice-owed ReservationUsage.row ref9 2 7 Row.off)
-abbrev e25·1 : Row.Entry
-e25·1 = (25, Relend.msptr ReservationUsage.row ref2 7)
 abbrev e26·1 : Row.Entry
-e26·1 = (26, Mut.mslice ReservationUsage.row ref2 7)
-abbrev e24·1 : Row.Entry
-e24·1 = (24, Rows.sc-here Row.sUnit)
-abbrev e26·2 : Row.Entry
-e26·2 = (26, Mut.msleft ReservationUsage.row ref2)
+e26·1 = (26, Relend.msptr ReservationUsage.row ref2 7)
+abbrev e27·1 : Row.Entry
+e27·1 = (27, Mut.mslice ReservationUsage.row ref2 7)
+abbrev e25·1 : Row.Entry
+e25·1 = (25, Rows.sc-here Row.sUnit)
+abbrev e27·2 : Row.Entry
+e27·2 = (27, Mut.msleft ReservationUsage.row ref2)
 abbrev e1·2 : Row.Entry
 e1·2 = (1, Relend.mslice-owed RelayPending.row ref7 0 8 Row.off)
-abbrev e27·1 : Row.Entry
-e27·1 = (27, Relend.msptr RelayPending.row ref3 8)
 abbrev e28·1 : Row.Entry
-e28·1 = (28, Mut.mslice RelayPending.row ref3 8)
+e28·1 = (28, Relend.msptr RelayPending.row ref3 8)
+abbrev e29·1 : Row.Entry
+e29·1 = (29, Mut.mslice RelayPending.row ref3 8)
 abbrev e2·2 : Row.Entry
 e2·2 = (2, Relend.mslice-owed RelayCircuit.row ref8 1 9 Row.off)
-abbrev e29·1 : Row.Entry
-e29·1 = (29, Relend.msptr RelayCircuit.row ref4 9)
 abbrev e30·1 : Row.Entry
-e30·1 = (30, Mut.mslice RelayCircuit.row ref4 9)
+e30·1 = (30, Relend.msptr RelayCircuit.row ref4 9)
+abbrev e31·1 : Row.Entry
+e31·1 = (31, Mut.mslice RelayCircuit.row ref4 9)
 abbrev e4·1 : Row.Entry
 e4·1 = (4, Relend.mslice-owed InflightAction.row ref10 3 10 Row.off)
-abbrev e31·1 : Row.Entry
-e31·1 = (31, Relend.msptr InflightAction.row ref5 10)
 abbrev e32·1 : Row.Entry
-e32·1 = (32, Mut.mslice InflightAction.row ref5 10)
+e32·1 = (32, Relend.msptr InflightAction.row ref5 10)
+abbrev e33·1 : Row.Entry
+e33·1 = (33, Mut.mslice InflightAction.row ref5 10)
 abbrev e5·1 : Row.Entry
 e5·1 = (5, Relend.mslice-owed (Referent.rtF (Referent.fInt Syntax.w32)) ref11 4 11 Row.off)
-abbrev e33·1 : Row.Entry
-e33·1 = (33, Relend.msptr (Referent.rtF (Referent.fInt Syntax.w32)) ref6 11)
 abbrev e34·1 : Row.Entry
-e34·1 = (34, Mut.mslice (Referent.rtF (Referent.fInt Syntax.w32)) ref6 11)
-abbrev e28·2 : Row.Entry
-e28·2 = (28, Mut.msleft RelayPending.row ref3)
-abbrev e30·2 : Row.Entry
-e30·2 = (30, Mut.msleft RelayCircuit.row ref4)
-abbrev e32·2 : Row.Entry
-e32·2 = (32, Mut.msleft InflightAction.row ref5)
-abbrev e34·2 : Row.Entry
-e34·2 = (34, Mut.msleft (Referent.rtF (Referent.fInt Syntax.w32)) ref6)
+e34·1 = (34, Relend.msptr (Referent.rtF (Referent.fInt Syntax.w32)) ref6 11)
+abbrev e35·1 : Row.Entry
+e35·1 = (35, Mut.mslice (Referent.rtF (Referent.fInt Syntax.w32)) ref6 11)
+abbrev e29·2 : Row.Entry
+e29·2 = (29, Mut.msleft RelayPending.row ref3)
+abbrev e31·2 : Row.Entry
+e31·2 = (31, Mut.msleft RelayCircuit.row ref4)
+abbrev e33·2 : Row.Entry
+e33·2 = (33, Mut.msleft InflightAction.row ref5)
+abbrev e35·2 : Row.Entry
+e35·2 = (35, Mut.msleft (Referent.rtF (Referent.fInt Syntax.w32)) ref6)
 abbrev pub t0 : List.List Row.Entry
 t0 = e0 ∷ e1 ∷ e2 ∷ e3 ∷ e4 ∷ e5 ∷ e6 ∷ e7 ∷ e8 ∷ e9 ∷ e10 ∷ e11 ∷ e12 ∷ e13 ∷ e14 ∷ e15 ∷ List.[]
 abbrev pub t1 : List.List Row.Entry
 t1 = e16 ∷ e17 ∷ e18 ∷ e19 ∷ e20 ∷ e21 ∷ e22 ∷ e23 ∷ e24 ∷ e25 ∷ e26 ∷ e27 ∷ e28 ∷ e29 ∷ e30 ∷ e31 ∷ List.[]
 abbrev pub t2 : List.List Row.Entry
-t2 = e32 ∷ e33 ∷ e34 ∷ List.[]
+t2 = e32 ∷ e33 ∷ e34 ∷ e35 ∷ List.[]
 abbrev pub t3 : List.List Row.Entry
-t3 = e0·1 ∷ e1 ∷ e2 ∷ e3 ∷ e4 ∷ e5 ∷ e6·1 ∷ e7·1 ∷ e8 ∷ e9 ∷ e10 ∷ e11 ∷ e12 ∷ e13 ∷ e14 ∷ e15 ∷ List.[]
+t3 = e0·1 ∷ e1 ∷ e2 ∷ e3 ∷ e4 ∷ e5 ∷ e6·1 ∷ e7·1 ∷ e8·1 ∷ e9 ∷ e10 ∷ e11 ∷ e12 ∷ e13 ∷ e14 ∷ e15 ∷ List.[]
 abbrev pub t4 : List.List Row.Entry
-t4 = e0 ∷ e1 ∷ e2 ∷ e3 ∷ e4 ∷ e5 ∷ e6 ∷ e7 ∷ e8·1 ∷ e9 ∷ e10 ∷ e11 ∷ e12 ∷ e13 ∷ e14 ∷ e15 ∷ List.[]
+t4 = e0 ∷ e1 ∷ e2 ∷ e3 ∷ e4 ∷ e5 ∷ e6 ∷ e7 ∷ e8 ∷ e9·1 ∷ e10 ∷ e11 ∷ e12 ∷ e13 ∷ e14 ∷ e15 ∷ List.[]
 abbrev pub t5 : List.List Row.Entry
-t5 = e0 ∷ e1·1 ∷ e2 ∷ e3 ∷ e4 ∷ e5 ∷ e6 ∷ e7 ∷ e8·1 ∷ e9 ∷ e10 ∷ e11 ∷ e12 ∷ e13 ∷ e14 ∷ e15·1 ∷ List.[]
+t5 = e0 ∷ e1·1 ∷ e2 ∷ e3 ∷ e4 ∷ e5 ∷ e6 ∷ e7 ∷ e8 ∷ e9·1 ∷ e10 ∷ e11 ∷ e12 ∷ e13 ∷ e14 ∷ e15 ∷ List.[]
 abbrev pub t6 : List.List Row.Entry
-t6 = e0 ∷ e1·1 ∷ e2 ∷ e3 ∷ e4 ∷ e5 ∷ e6 ∷ e7 ∷ e8·1 ∷ e9 ∷ e10 ∷ e11 ∷ e12 ∷ e13 ∷ e14 ∷ e15 ∷ List.[]
+t6 = e16·1 ∷ e17 ∷ e18 ∷ e19 ∷ e20 ∷ e21 ∷ e22 ∷ e23 ∷ e24 ∷ e25 ∷ e26 ∷ e27 ∷ e28 ∷ e29 ∷ e30 ∷ e31 ∷ List.[]
 abbrev pub t7 : List.List Row.Entry
-t7 = e16·1 ∷ e17 ∷ e18 ∷ e19 ∷ e20 ∷ e21 ∷ e22 ∷ e23 ∷ e24 ∷ e25 ∷ e26 ∷ e27 ∷ e28 ∷ e29 ∷ e30 ∷ e31 ∷ List.[]
+t7 = e16 ∷ e17·1 ∷ e18 ∷ e19 ∷ e20 ∷ e21 ∷ e22 ∷ e23 ∷ e24 ∷ e25 ∷ e26 ∷ e27 ∷ e28 ∷ e29 ∷ e30 ∷ e31 ∷ List.[]
 abbrev pub t8 : List.List Row.Entry
-t8 = e0 ∷ e1·1 ∷ e2·1 ∷ e3 ∷ e4 ∷ e5 ∷ e6 ∷ e7 ∷ e8·1 ∷ e9 ∷ e10 ∷ e11 ∷ e12 ∷ e13 ∷ e14 ∷ e15 ∷ List.[]
+t8 = e0 ∷ e1·1 ∷ e2·1 ∷ e3 ∷ e4 ∷ e5 ∷ e6 ∷ e7 ∷ e8 ∷ e9·1 ∷ e10 ∷ e11 ∷ e12 ∷ e13 ∷ e14 ∷ e15 ∷ List.[]
 abbrev pub t9 : List.List Row.Entry
-t9 = e16·1 ∷ e17·1 ∷ e18 ∷ e19 ∷ e20 ∷ e21 ∷ e22 ∷ e23 ∷ e24 ∷ e25 ∷ e26 ∷ e27 ∷ e28 ∷ e29 ∷ e30 ∷ e31 ∷ List.[]
+t9 = e16 ∷ e17·1 ∷ e18·1 ∷ e19 ∷ e20 ∷ e21 ∷ e22 ∷ e23 ∷ e24 ∷ e25 ∷ e26 ∷ e27 ∷ e28 ∷ e29 ∷ e30 ∷ e31 ∷ List.[]
 abbrev pub t10 : List.List Row.Entry
-t10 = e16·1 ∷ e17 ∷ e18·1 ∷ e19 ∷ e20 ∷ e21 ∷ e22 ∷ e23 ∷ e24 ∷ e25 ∷ e26 ∷ e27 ∷ e28 ∷ e29 ∷ e30 ∷ e31 ∷ List.[]
+t10 = e16 ∷ e17·1 ∷ e18 ∷ e19·1 ∷ e20 ∷ e21 ∷ e22 ∷ e23 ∷ e24 ∷ e25 ∷ e26 ∷ e27 ∷ e28 ∷ e29 ∷ e30 ∷ e31 ∷ List.[]
 abbrev pub t11 : List.List Row.Entry
-t11 = e16·1 ∷ e17 ∷ e18·1 ∷ e19·1 ∷ e20 ∷ e21 ∷ e22 ∷ e23 ∷ e24 ∷ e25 ∷ e26 ∷ e27 ∷ e28 ∷ e29 ∷ e30 ∷ e31 ∷ List.[]
+t11 = e16 ∷ e17·1 ∷ e18 ∷ e19·1 ∷ e20·1 ∷ e21 ∷ e22 ∷ e23 ∷ e24 ∷ e25 ∷ e26 ∷ e27 ∷ e28 ∷ e29 ∷ e30 ∷ e31 ∷ List.[]
 abbrev pub t12 : List.List Row.Entry
-t12 = e16·1 ∷ e17 ∷ e18·1 ∷ e19·1 ∷ e20·1 ∷ e21 ∷ e22 ∷ e23 ∷ e24 ∷ e25 ∷ e26 ∷ e27 ∷ e28 ∷ e29 ∷ e30 ∷ e31 ∷ List.[]
+t12 = e16 ∷ e17·1 ∷ e18 ∷ e19·1 ∷ e20·1 ∷ e21·1 ∷ e22 ∷ e23 ∷ e24 ∷ e25 ∷ e26 ∷ e27 ∷ e28 ∷ e29 ∷ e30 ∷ e31 ∷ List.[]
 abbrev pub t13 : List.List Row.Entry
-t13 = e0 ∷ e1·1 ∷ e2·1 ∷ e3 ∷ e4 ∷ e5 ∷ e6 ∷ e7 ∷ e8·1 ∷ e9·1 ∷ e10 ∷ e11 ∷ e12 ∷ e13 ∷ e14 ∷ e15 ∷ List.[]
+t13 = e0 ∷ e1·1 ∷ e2·1 ∷ e3 ∷ e4 ∷ e5 ∷ e6 ∷ e7 ∷ e8 ∷ e9·1 ∷ e10·1 ∷ e11 ∷ e12 ∷ e13 ∷ e14 ∷ e15 ∷ List.[]
 abbrev pub t14 : List.List Row.Entry
-t14 = e16 ∷ e17 ∷ e18·1 ∷ e19·1 ∷ e20·1 ∷ e21 ∷ e22 ∷ e23 ∷ e24 ∷ e25 ∷ e26 ∷ e27 ∷ e28 ∷ e29 ∷ e30 ∷ e31 ∷ List.[]
+t14 = e16 ∷ e17 ∷ e18 ∷ e19·1 ∷ e20·1 ∷ e21·1 ∷ e22 ∷ e23 ∷ e24 ∷ e25 ∷ e26 ∷ e27 ∷ e28 ∷ e29 ∷ e30 ∷ e31 ∷ List.[]
 abbrev pub t15 : List.List Row.Entry
-t15 = e16 ∷ e17 ∷ e18 ∷ e19·1 ∷ e20·1 ∷ e21 ∷ e22 ∷ e23 ∷ e24 ∷ e25 ∷ e26 ∷ e27 ∷ e28 ∷ e29 ∷ e30 ∷ e31 ∷ List.[]
+t15 = e16 ∷ e17 ∷ e18 ∷ e19 ∷ e20·1 ∷ e21·1 ∷ e22 ∷ e23 ∷ e24 ∷ e25 ∷ e26 ∷ e27 ∷ e28 ∷ e29 ∷ e30 ∷ e31 ∷ List.[]
 abbrev pub t16 : List.List Row.Entry
-t16 = e0 ∷ e1·1 ∷ e2·1 ∷ e3 ∷ e4 ∷ e5 ∷ e6 ∷ e7 ∷ e8 ∷ e9·1 ∷ e10 ∷ e11 ∷ e12 ∷ e13 ∷ e14 ∷ e15 ∷ List.[]
+t16 = e0 ∷ e1·1 ∷ e2·1 ∷ e3 ∷ e4 ∷ e5 ∷ e6 ∷ e7 ∷ e8 ∷ e9 ∷ e10·1 ∷ e11 ∷ e12 ∷ e13 ∷ e14 ∷ e15 ∷ List.[]
 abbrev pub t17 : List.List Row.Entry
-t17 = e16 ∷ e17 ∷ e18 ∷ e19 ∷ e20·1 ∷ e21 ∷ e22 ∷ e23 ∷ e24 ∷ e25 ∷ e26 ∷ e27 ∷ e28 ∷ e29 ∷ e30 ∷ e31 ∷ List.[]
+t17 = e16 ∷ e17 ∷ e18 ∷ e19 ∷ e20 ∷ e21·1 ∷ e22 ∷ e23 ∷ e24 ∷ e25 ∷ e26 ∷ e27 ∷ e28 ∷ e29 ∷ e30 ∷ e31 ∷ List.[]
 abbrev pub t18 : List.List Row.Entry
-t18 = e0 ∷ e1 ∷ e2·1 ∷ e3 ∷ e4 ∷ e5 ∷ e6 ∷ e7 ∷ e8 ∷ e9·1 ∷ e10 ∷ e11 ∷ e12 ∷ e13 ∷ e14 ∷ e15 ∷ List.[]
+t18 = e0 ∷ e1 ∷ e2·1 ∷ e3 ∷ e4 ∷ e5 ∷ e6 ∷ e7 ∷ e8 ∷ e9 ∷ e10·1 ∷ e11 ∷ e12 ∷ e13 ∷ e14 ∷ e15 ∷ List.[]
 abbrev pub t19 : List.List Row.Entry
-t19 = e0 ∷ e1 ∷ e2 ∷ e3 ∷ e4 ∷ e5 ∷ e6 ∷ e7 ∷ e8 ∷ e9·1 ∷ e10 ∷ e11 ∷ e12 ∷ e13 ∷ e14 ∷ e15 ∷ List.[]
+t19 = e0 ∷ e1 ∷ e2 ∷ e3 ∷ e4 ∷ e5 ∷ e6 ∷ e7 ∷ e8 ∷ e9 ∷ e10·1 ∷ e11 ∷ e12 ∷ e13 ∷ e14 ∷ e15 ∷ List.[]
 abbrev pub t20 : List.List Row.Entry
-t20 = e0 ∷ e1 ∷ e2 ∷ e3 ∷ e4 ∷ e5 ∷ e6 ∷ e7 ∷ e8 ∷ e9·1 ∷ e10·1 ∷ e11 ∷ e12 ∷ e13 ∷ e14 ∷ e15 ∷ List.[]
+t20 = e0 ∷ e1 ∷ e2 ∷ e3 ∷ e4 ∷ e5 ∷ e6 ∷ e7 ∷ e8 ∷ e9 ∷ e10·1 ∷ e11·1 ∷ e12 ∷ e13 ∷ e14 ∷ e15 ∷ List.[]
 abbrev pub t21 : List.List Row.Entry
-t21 = e0 ∷ e1 ∷ e2 ∷ e3 ∷ e4 ∷ e5 ∷ e6 ∷ e7 ∷ e8 ∷ e9·1 ∷ e10·1 ∷ e11·1 ∷ e12 ∷ e13 ∷ e14 ∷ e15 ∷ List.[]
+t21 = e0 ∷ e1 ∷ e2 ∷ e3 ∷ e4 ∷ e5 ∷ e6 ∷ e7 ∷ e8 ∷ e9 ∷ e10·1 ∷ e11·1 ∷ e12·1 ∷ e13 ∷ e14 ∷ e15 ∷ List.[]
 abbrev pub t22 : List.List Row.Entry
-t22 = e0 ∷ e1 ∷ e2 ∷ e3 ∷ e4 ∷ e5 ∷ e6 ∷ e7 ∷ e8 ∷ e9 ∷ e10·1 ∷ e11·1 ∷ e12 ∷ e13 ∷ e14 ∷ e15 ∷ List.[]
+t22 = e0 ∷ e1 ∷ e2 ∷ e3 ∷ e4 ∷ e5 ∷ e6 ∷ e7 ∷ e8 ∷ e9 ∷ e10 ∷ e11·1 ∷ e12·1 ∷ e13 ∷ e14 ∷ e15 ∷ List.[]
 abbrev pub t23 : List.List Row.Entry
-t23 = e0 ∷ e1 ∷ e2 ∷ e3 ∷ e4 ∷ e5 ∷ e6 ∷ e7 ∷ e8 ∷ e9 ∷ e10 ∷ e11·1 ∷ e12 ∷ e13 ∷ e14 ∷ e15 ∷ List.[]
+t23 = e0 ∷ e1 ∷ e2 ∷ e3 ∷ e4 ∷ e5 ∷ e6 ∷ e7 ∷ e8 ∷ e9 ∷ e10 ∷ e11 ∷ e12·1 ∷ e13 ∷ e14 ∷ e15 ∷ List.[]
 abbrev pub t24 : List.List Row.Entry
-t24 = e16 ∷ e17 ∷ e18 ∷ e19 ∷ e20 ∷ e21·1 ∷ e22 ∷ e23 ∷ e24 ∷ e25 ∷ e26 ∷ e27 ∷ e28 ∷ e29 ∷ e30 ∷ e31 ∷ List.[]
+t24 = e16 ∷ e17 ∷ e18 ∷ e19 ∷ e20 ∷ e21 ∷ e22·1 ∷ e23 ∷ e24 ∷ e25 ∷ e26 ∷ e27 ∷ e28 ∷ e29 ∷ e30 ∷ e31 ∷ List.[]
 abbrev pub t25 : List.List Row.Entry
-t25 = e0 ∷ e1 ∷ e2 ∷ e3 ∷ e4 ∷ e5 ∷ e6 ∷ e7 ∷ e8 ∷ e9 ∷ e10 ∷ e11 ∷ e12·1 ∷ e13 ∷ e14 ∷ e15 ∷ List.[]
+t25 = e0 ∷ e1 ∷ e2 ∷ e3 ∷ e4 ∷ e5 ∷ e6 ∷ e7 ∷ e8 ∷ e9 ∷ e10 ∷ e11 ∷ e12 ∷ e13·1 ∷ e14 ∷ e15 ∷ List.[]
 abbrev pub t26 : List.List Row.Entry
-t26 = e16 ∷ e17 ∷ e18 ∷ e19 ∷ e20 ∷ e21 ∷ e22·1 ∷ e23 ∷ e24 ∷ e25 ∷ e26 ∷ e27 ∷ e28 ∷ e29 ∷ e30 ∷ e31 ∷ List.[]
+t26 = e16 ∷ e17 ∷ e18 ∷ e19 ∷ e20 ∷ e21 ∷ e22 ∷ e23·1 ∷ e24 ∷ e25 ∷ e26 ∷ e27 ∷ e28 ∷ e29 ∷ e30 ∷ e31 ∷ List.[]
 abbrev pub t27 : List.List Row.Entry
-t27 = e16 ∷ e17 ∷ e18 ∷ e19 ∷ e20 ∷ e21 ∷ e22·1 ∷ e23·1 ∷ e24 ∷ e25 ∷ e26 ∷ e27 ∷ e28 ∷ e29 ∷ e30 ∷ e31 ∷ List.[]
+t27 = e16 ∷ e17 ∷ e18 ∷ e19 ∷ e20 ∷ e21 ∷ e22 ∷ e23·1 ∷ e24·1 ∷ e25 ∷ e26 ∷ e27 ∷ e28 ∷ e29 ∷ e30 ∷ e31 ∷ List.[]
 abbrev pub t28 : List.List Row.Entry
-t28 = e0 ∷ e1 ∷ e2 ∷ e3 ∷ e4 ∷ e5 ∷ e6 ∷ e7 ∷ e8 ∷ e9 ∷ e10 ∷ e11 ∷ e12·1 ∷ e13·1 ∷ e14 ∷ e15 ∷ List.[]
+t28 = e0 ∷ e1 ∷ e2 ∷ e3 ∷ e4 ∷ e5 ∷ e6 ∷ e7 ∷ e8 ∷ e9 ∷ e10 ∷ e11 ∷ e12 ∷ e13·1 ∷ e14·1 ∷ e15 ∷ List.[]
 abbrev pub t29 : List.List Row.Entry
-t29 = e0 ∷ e1 ∷ e2 ∷ e3 ∷ e4 ∷ e5 ∷ e6 ∷ e7 ∷ e8 ∷ e9 ∷ e10 ∷ e11 ∷ e12 ∷ e13·1 ∷ e14 ∷ e15 ∷ List.[]
+t29 = e0 ∷ e1 ∷ e2 ∷ e3 ∷ e4 ∷ e5 ∷ e6 ∷ e7 ∷ e8 ∷ e9 ∷ e10 ∷ e11 ∷ e12 ∷ e13 ∷ e14·1 ∷ e15 ∷ List.[]
 abbrev pub t30 : List.List Row.Entry
-t30 = e16 ∷ e17 ∷ e18 ∷ e19 ∷ e20 ∷ e21 ∷ e22 ∷ e23·1 ∷ e24 ∷ e25 ∷ e26 ∷ e27 ∷ e28 ∷ e29 ∷ e30 ∷ e31 ∷ List.[]
+t30 = e16 ∷ e17 ∷ e18 ∷ e19 ∷ e20 ∷ e21 ∷ e22 ∷ e23 ∷ e24·1 ∷ e25 ∷ e26 ∷ e27 ∷ e28 ∷ e29 ∷ e30 ∷ e31 ∷ List.[]
 abbrev pub t31 : List.List Row.Entry
-t31 = e0 ∷ e1 ∷ e2 ∷ e3 ∷ e4 ∷ e5 ∷ e6 ∷ e7 ∷ e8 ∷ e9 ∷ e10 ∷ e11 ∷ e12 ∷ e13·1 ∷ e14·1 ∷ e15 ∷ List.[]
+t31 = e0 ∷ e1 ∷ e2 ∷ e3 ∷ e4 ∷ e5 ∷ e6 ∷ e7 ∷ e8 ∷ e9 ∷ e10 ∷ e11 ∷ e12 ∷ e13 ∷ e14·1 ∷ e15·1 ∷ List.[]
 abbrev pub t32 : List.List Row.Entry
-t32 = e0 ∷ e1 ∷ e2 ∷ e3 ∷ e4 ∷ e5 ∷ e6·1 ∷ e7 ∷ e8 ∷ e9 ∷ e10 ∷ e11 ∷ e12 ∷ e13·1 ∷ e14·1 ∷ e15 ∷ List.[]
+t32 = e0 ∷ e1 ∷ e2 ∷ e3 ∷ e4 ∷ e5 ∷ e6·1 ∷ e7 ∷ e8 ∷ e9 ∷ e10 ∷ e11 ∷ e12 ∷ e13 ∷ e14·1 ∷ e15·1 ∷ List.[]
 abbrev pub t33 : List.List Row.Entry
-t33 = e0 ∷ e1 ∷ e2 ∷ e3·1 ∷ e4 ∷ e5 ∷ e6·1 ∷ e7 ∷ e8 ∷ e9 ∷ e10 ∷ e11 ∷ e12 ∷ e13·1 ∷ e14·1 ∷ e15 ∷ List.[]
+t33 = e0 ∷ e1 ∷ e2 ∷ e3·1 ∷ e4 ∷ e5 ∷ e6·1 ∷ e7 ∷ e8 ∷ e9 ∷ e10 ∷ e11 ∷ e12 ∷ e13 ∷ e14·1 ∷ e15·1 ∷ List.[]
 abbrev pub t34 : List.List Row.Entry
-t34 = e16 ∷ e17 ∷ e18 ∷ e19 ∷ e20 ∷ e21 ∷ e22 ∷ e23 ∷ e24 ∷ e25·1 ∷ e26 ∷ e27 ∷ e28 ∷ e29 ∷ e30 ∷ e31 ∷ List.[]
+t34 = e16 ∷ e17 ∷ e18 ∷ e19 ∷ e20 ∷ e21 ∷ e22 ∷ e23 ∷ e24 ∷ e25 ∷ e26·1 ∷ e27 ∷ e28 ∷ e29 ∷ e30 ∷ e31 ∷ List.[]
 abbrev pub t35 : List.List Row.Entry
-t35 = e16 ∷ e17 ∷ e18 ∷ e19 ∷ e20 ∷ e21 ∷ e22 ∷ e23 ∷ e24 ∷ e25 ∷ e26·1 ∷ e27 ∷ e28 ∷ e29 ∷ e30 ∷ e31 ∷ List.[]
+t35 = e16 ∷ e17 ∷ e18 ∷ e19 ∷ e20 ∷ e21 ∷ e22 ∷ e23 ∷ e24 ∷ e25 ∷ e26 ∷ e27·1 ∷ e28 ∷ e29 ∷ e30 ∷ e31 ∷ List.[]
 abbrev pub t36 : List.List Row.Entry
-t36 = e16 ∷ e17 ∷ e18 ∷ e19 ∷ e20 ∷ e21 ∷ e22 ∷ e23 ∷ e24·1 ∷ e25 ∷ e26·2 ∷ e27 ∷ e28 ∷ e29 ∷ e30 ∷ e31 ∷ List.[]
+t36 = e16 ∷ e17 ∷ e18 ∷ e19 ∷ e20 ∷ e21 ∷ e22 ∷ e23 ∷ e24 ∷ e25·1 ∷ e26 ∷ e27·2 ∷ e28 ∷ e29 ∷ e30 ∷ e31 ∷ List.[]
 abbrev pub t37 : List.List Row.Entry
-t37 = e16 ∷ e17 ∷ e18 ∷ e19 ∷ e20 ∷ e21 ∷ e22 ∷ e23 ∷ e24 ∷ e25 ∷ e26·2 ∷ e27 ∷ e28 ∷ e29 ∷ e30 ∷ e31 ∷ List.[]
+t37 = e16 ∷ e17 ∷ e18 ∷ e19 ∷ e20 ∷ e21 ∷ e22 ∷ e23 ∷ e24 ∷ e25 ∷ e26 ∷ e27·2 ∷ e28 ∷ e29 ∷ e30 ∷ e31 ∷ List.[]
 abbrev pub t38 : List.List Row.Entry
-t38 = e0 ∷ e1·2 ∷ e2 ∷ e3 ∷ e4 ∷ e5 ∷ e6·1 ∷ e7 ∷ e8 ∷ e9 ∷ e10 ∷ e11 ∷ e12 ∷ e13·1 ∷ e14·1 ∷ e15 ∷ List.[]
+t38 = e0 ∷ e1·2 ∷ e2 ∷ e3 ∷ e4 ∷ e5 ∷ e6·1 ∷ e7 ∷ e8 ∷ e9 ∷ e10 ∷ e11 ∷ e12 ∷ e13 ∷ e14·1 ∷ e15·1 ∷ List.[]
 abbrev pub t39 : List.List Row.Entry
-t39 = e16 ∷ e17 ∷ e18 ∷ e19 ∷ e20 ∷ e21 ∷ e22 ∷ e23 ∷ e24 ∷ e25 ∷ e26 ∷ e27·1 ∷ e28 ∷ e29 ∷ e30 ∷ e31 ∷ List.[]
+t39 = e16 ∷ e17 ∷ e18 ∷ e19 ∷ e20 ∷ e21 ∷ e22 ∷ e23 ∷ e24 ∷ e25 ∷ e26 ∷ e27 ∷ e28·1 ∷ e29 ∷ e30 ∷ e31 ∷ List.[]
 abbrev pub t40 : List.List Row.Entry
-t40 = e16 ∷ e17 ∷ e18 ∷ e19 ∷ e20 ∷ e21 ∷ e22 ∷ e23 ∷ e24 ∷ e25 ∷ e26 ∷ e27 ∷ e28·1 ∷ e29 ∷ e30 ∷ e31 ∷ List.[]
+t40 = e16 ∷ e17 ∷ e18 ∷ e19 ∷ e20 ∷ e21 ∷ e22 ∷ e23 ∷ e24 ∷ e25 ∷ e26 ∷ e27 ∷ e28 ∷ e29·1 ∷ e30 ∷ e31 ∷ List.[]
 abbrev pub t41 : List.List Row.Entry
-t41 = e0 ∷ e1·2 ∷ e2·2 ∷ e3 ∷ e4 ∷ e5 ∷ e6·1 ∷ e7 ∷ e8 ∷ e9 ∷ e10 ∷ e11 ∷ e12 ∷ e13·1 ∷ e14·1 ∷ e15 ∷ List.[]
+t41 = e0 ∷ e1·2 ∷ e2·2 ∷ e3 ∷ e4 ∷ e5 ∷ e6·1 ∷ e7 ∷ e8 ∷ e9 ∷ e10 ∷ e11 ∷ e12 ∷ e13 ∷ e14·1 ∷ e15·1 ∷ List.[]
 abbrev pub t42 : List.List Row.Entry
-t42 = e16 ∷ e17 ∷ e18 ∷ e19 ∷ e20 ∷ e21 ∷ e22 ∷ e23 ∷ e24 ∷ e25 ∷ e26 ∷ e27 ∷ e28·1 ∷ e29·1 ∷ e30 ∷ e31 ∷ List.[]
+t42 = e16 ∷ e17 ∷ e18 ∷ e19 ∷ e20 ∷ e21 ∷ e22 ∷ e23 ∷ e24 ∷ e25 ∷ e26 ∷ e27 ∷ e28 ∷ e29·1 ∷ e30·1 ∷ e31 ∷ List.[]
 abbrev pub t43 : List.List Row.Entry
-t43 = e16 ∷ e17 ∷ e18 ∷ e19 ∷ e20 ∷ e21 ∷ e22 ∷ e23 ∷ e24 ∷ e25 ∷ e26 ∷ e27 ∷ e28·1 ∷ e29 ∷ e30·1 ∷ e31 ∷ List.[]
+t43 = e16 ∷ e17 ∷ e18 ∷ e19 ∷ e20 ∷ e21 ∷ e22 ∷ e23 ∷ e24 ∷ e25 ∷ e26 ∷ e27 ∷ e28 ∷ e29·1 ∷ e30 ∷ e31·1 ∷ List.[]
 abbrev pub t44 : List.List Row.Entry
-t44 = e0 ∷ e1·2 ∷ e2·2 ∷ e3 ∷ e4·1 ∷ e5 ∷ e6·1 ∷ e7 ∷ e8 ∷ e9 ∷ e10 ∷ e11 ∷ e12 ∷ e13·1 ∷ e14·1 ∷ e15 ∷ List.[]
+t44 = e0 ∷ e1·2 ∷ e2·2 ∷ e3 ∷ e4·1 ∷ e5 ∷ e6·1 ∷ e7 ∷ e8 ∷ e9 ∷ e10 ∷ e11 ∷ e12 ∷ e13 ∷ e14·1 ∷ e15·1 ∷ List.[]
 abbrev pub t45 : List.List Row.Entry
-t45 = e16 ∷ e17 ∷ e18 ∷ e19 ∷ e20 ∷ e21 ∷ e22 ∷ e23 ∷ e24 ∷ e25 ∷ e26 ∷ e27 ∷ e28·1 ∷ e29 ∷ e30·1 ∷ e31·1 ∷ List.[]
+t45 = e32·1 ∷ e33 ∷ e34 ∷ e35 ∷ List.[]
 abbrev pub t46 : List.List Row.Entry
-t46 = e32·1 ∷ e33 ∷ e34 ∷ List.[]
+t46 = e32 ∷ e33·1 ∷ e34 ∷ e35 ∷ List.[]
 abbrev pub t47 : List.List Row.Entry
-t47 = e0 ∷ e1·2 ∷ e2·2 ∷ e3 ∷ e4·1 ∷ e5·1 ∷ e6·1 ∷ e7 ∷ e8 ∷ e9 ∷ e10 ∷ e11 ∷ e12 ∷ e13·1 ∷ e14·1 ∷ e15 ∷ List.[]
+t47 = e0 ∷ e1·2 ∷ e2·2 ∷ e3 ∷ e4·1 ∷ e5·1 ∷ e6·1 ∷ e7 ∷ e8 ∷ e9 ∷ e10 ∷ e11 ∷ e12 ∷ e13 ∷ e14·1 ∷ e15·1 ∷ List.[]
 abbrev pub t48 : List.List Row.Entry
-t48 = e32·1 ∷ e33·1 ∷ e34 ∷ List.[]
+t48 = e32 ∷ e33·1 ∷ e34·1 ∷ e35 ∷ List.[]
 abbrev pub t49 : List.List Row.Entry
-t49 = e32·1 ∷ e33 ∷ e34·1 ∷ List.[]
+t49 = e32 ∷ e33·1 ∷ e34 ∷ e35·1 ∷ List.[]
 abbrev pub t50 : List.List Row.Entry
-t50 = e0·1 ∷ e1·2 ∷ e2·2 ∷ e3 ∷ e4·1 ∷ e5·1 ∷ e6·1 ∷ e7 ∷ e8 ∷ e9 ∷ e10 ∷ e11 ∷ e12 ∷ e13·1 ∷ e14·1 ∷ e15 ∷ List.[]
+t50 = e0·1 ∷ e1·2 ∷ e2·2 ∷ e3 ∷ e4·1 ∷ e5·1 ∷ e6·1 ∷ e7 ∷ e8 ∷ e9 ∷ e10 ∷ e11 ∷ e12 ∷ e13 ∷ e14·1 ∷ e15·1 ∷ List.[]
 abbrev pub t51 : List.List Row.Entry
-t51 = e16 ∷ e17 ∷ e18 ∷ e19 ∷ e20 ∷ e21 ∷ e22 ∷ e23 ∷ e24 ∷ e25 ∷ e26 ∷ e27 ∷ e28·2 ∷ e29 ∷ e30·2 ∷ e31 ∷ List.[]
+t51 = e16 ∷ e17 ∷ e18 ∷ e19 ∷ e20 ∷ e21 ∷ e22 ∷ e23 ∷ e24 ∷ e25 ∷ e26 ∷ e27 ∷ e28 ∷ e29·2 ∷ e30 ∷ e31·2 ∷ List.[]
 abbrev pub t52 : List.List Row.Entry
-t52 = e32·2 ∷ e33 ∷ e34·2 ∷ List.[]
+t52 = e32 ∷ e33·2 ∷ e34 ∷ e35·2 ∷ List.[]
 abbrev pub t53 : List.List Row.Entry
-t53 = e0·1 ∷ e1·2 ∷ e2·2 ∷ e3 ∷ e4·1 ∷ e5·1 ∷ e6·1 ∷ e7 ∷ e8 ∷ e9 ∷ e10 ∷ e11 ∷ e12 ∷ e13 ∷ e14·1 ∷ e15 ∷ List.[]
+t53 = e0·1 ∷ e1·2 ∷ e2·2 ∷ e3 ∷ e4·1 ∷ e5·1 ∷ e6·1 ∷ e7·1 ∷ e8 ∷ e9 ∷ e10 ∷ e11 ∷ e12 ∷ e13 ∷ e14·1 ∷ e15·1 ∷ List.[]
 abbrev pub t54 : List.List Row.Entry
-t54 = e0·1 ∷ e1·2 ∷ e2·2 ∷ e3 ∷ e4·1 ∷ e5·1 ∷ e6·1 ∷ e7 ∷ e8 ∷ e9 ∷ e10 ∷ e11 ∷ e12 ∷ e13 ∷ e14 ∷ e15 ∷ List.[]
+t54 = e0·1 ∷ e1·2 ∷ e2·2 ∷ e3 ∷ e4·1 ∷ e5·1 ∷ e6·1 ∷ e7·1 ∷ e8 ∷ e9 ∷ e10 ∷ e11 ∷ e12 ∷ e13 ∷ e14 ∷ e15·1 ∷ List.[]
 abbrev pub t55 : List.List Row.Entry
-t55 = e0·1 ∷ e1 ∷ e2·2 ∷ e3 ∷ e4·1 ∷ e5·1 ∷ e6·1 ∷ e7 ∷ e8 ∷ e9 ∷ e10 ∷ e11 ∷ e12 ∷ e13 ∷ e14 ∷ e15 ∷ List.[]
+t55 = e0·1 ∷ e1·2 ∷ e2·2 ∷ e3 ∷ e4·1 ∷ e5·1 ∷ e6·1 ∷ e7·1 ∷ e8 ∷ e9 ∷ e10 ∷ e11 ∷ e12 ∷ e13 ∷ e14 ∷ e15 ∷ List.[]
 abbrev pub t56 : List.List Row.Entry
-t56 = e16 ∷ e17 ∷ e18 ∷ e19 ∷ e20 ∷ e21 ∷ e22 ∷ e23 ∷ e24 ∷ e25 ∷ e26 ∷ e27 ∷ e28 ∷ e29 ∷ e30·2 ∷ e31 ∷ List.[]
+t56 = e0·1 ∷ e1 ∷ e2·2 ∷ e3 ∷ e4·1 ∷ e5·1 ∷ e6·1 ∷ e7·1 ∷ e8 ∷ e9 ∷ e10 ∷ e11 ∷ e12 ∷ e13 ∷ e14 ∷ e15 ∷ List.[]
 abbrev pub t57 : List.List Row.Entry
-t57 = e0·1 ∷ e1 ∷ e2 ∷ e3 ∷ e4·1 ∷ e5·1 ∷ e6·1 ∷ e7 ∷ e8 ∷ e9 ∷ e10 ∷ e11 ∷ e12 ∷ e13 ∷ e14 ∷ e15 ∷ List.[]
+t57 = e16 ∷ e17 ∷ e18 ∷ e19 ∷ e20 ∷ e21 ∷ e22 ∷ e23 ∷ e24 ∷ e25 ∷ e26 ∷ e27 ∷ e28 ∷ e29 ∷ e30 ∷ e31·2 ∷ List.[]
 abbrev pub t58 : List.List Row.Entry
-t58 = e0·1 ∷ e1 ∷ e2 ∷ e3 ∷ e4 ∷ e5·1 ∷ e6·1 ∷ e7 ∷ e8 ∷ e9 ∷ e10 ∷ e11 ∷ e12 ∷ e13 ∷ e14 ∷ e15 ∷ List.[]
+t58 = e0·1 ∷ e1 ∷ e2 ∷ e3 ∷ e4·1 ∷ e5·1 ∷ e6·1 ∷ e7·1 ∷ e8 ∷ e9 ∷ e10 ∷ e11 ∷ e12 ∷ e13 ∷ e14 ∷ e15 ∷ List.[]
 abbrev pub t59 : List.List Row.Entry
-t59 = e32 ∷ e33 ∷ e34·2 ∷ List.[]
+t59 = e0·1 ∷ e1 ∷ e2 ∷ e3 ∷ e4 ∷ e5·1 ∷ e6·1 ∷ e7·1 ∷ e8 ∷ e9 ∷ e10 ∷ e11 ∷ e12 ∷ e13 ∷ e14 ∷ e15 ∷ List.[]
 abbrev pub t60 : List.List Row.Entry
-t60 = e0·1 ∷ e1 ∷ e2 ∷ e3 ∷ e4 ∷ e5 ∷ e6·1 ∷ e7 ∷ e8 ∷ e9 ∷ e10 ∷ e11 ∷ e12 ∷ e13 ∷ e14 ∷ e15 ∷ List.[]
+t60 = e32 ∷ e33 ∷ e34 ∷ e35·2 ∷ List.[]
 abbrev pub t61 : List.List Row.Entry
-t61 = e0·1 ∷ e1 ∷ e2 ∷ e3 ∷ e4 ∷ e5 ∷ e6 ∷ e7 ∷ e8 ∷ e9 ∷ e10 ∷ e11·1 ∷ e12 ∷ e13 ∷ e14 ∷ e15 ∷ List.[]
+t61 = e0·1 ∷ e1 ∷ e2 ∷ e3 ∷ e4 ∷ e5 ∷ e6·1 ∷ e7·1 ∷ e8 ∷ e9 ∷ e10 ∷ e11 ∷ e12 ∷ e13 ∷ e14 ∷ e15 ∷ List.[]
 abbrev pub t62 : List.List Row.Entry
-t62 = e0·1 ∷ e1 ∷ e2 ∷ e3 ∷ e4 ∷ e5 ∷ e6·1 ∷ e7 ∷ e8 ∷ e9 ∷ e10 ∷ e11·1 ∷ e12 ∷ e13 ∷ e14 ∷ e15 ∷ List.[]
+t62 = e0·1 ∷ e1 ∷ e2 ∷ e3 ∷ e4 ∷ e5 ∷ e6 ∷ e7 ∷ e8 ∷ e9 ∷ e10 ∷ e11 ∷ e12·1 ∷ e13 ∷ e14 ∷ e15 ∷ List.[]
+abbrev pub t63 : List.List Row.Entry
+t63 = e0·1 ∷ e1 ∷ e2 ∷ e3 ∷ e4 ∷ e5 ∷ e6·1 ∷ e7 ∷ e8 ∷ e9 ∷ e10 ∷ e11 ∷ e12·1 ∷ e13 ∷ e14 ∷ e15 ∷ List.[]
+abbrev pub t64 : List.List Row.Entry
+t64 = e0·1 ∷ e1 ∷ e2 ∷ e3 ∷ e4 ∷ e5 ∷ e6·1 ∷ e7·1 ∷ e8 ∷ e9 ∷ e10 ∷ e11 ∷ e12·1 ∷ e13 ∷ e14 ∷ e15 ∷ List.[]
 abbrev pub T0 : Row.Cx
 T0 = record { locals = List._++_ t0 (List._++_ t1 t2); slots = List.[] }
 abbrev pub T1 : Row.Cx
@@ -716,9 +757,9 @@ T2 = record { locals = List._++_ t0 (List._++_ t1 t2); slots = List.[] }
 abbrev pub T3 : Row.Cx
 T3 = record { locals = List._++_ t4 (List._++_ t1 t2); slots = List.[] }
 abbrev pub T5 : Row.Cx
-T5 = record { locals = List._++_ t5 (List._++_ t1 t2); slots = List.[] }
+T5 = record { locals = List._++_ t5 (List._++_ t6 t2); slots = List.[] }
 abbrev pub T6 : Row.Cx
-T6 = record { locals = List._++_ t6 (List._++_ t7 t2); slots = List.[] }
+T6 = record { locals = List._++_ t5 (List._++_ t7 t2); slots = List.[] }
 abbrev pub T8 : Row.Cx
 T8 = record { locals = List._++_ t8 (List._++_ t9 t2); slots = List.[] }
 abbrev pub T9 : Row.Cx
@@ -796,7 +837,7 @@ T53 = record { locals = List._++_ t41 (List._++_ t42 t2); slots = List.[] }
 abbrev pub T54 : Row.Cx
 T54 = record { locals = List._++_ t41 (List._++_ t43 t2); slots = List.[] }
 abbrev pub T56 : Row.Cx
-T56 = record { locals = List._++_ t44 (List._++_ t45 t2); slots = List.[] }
+T56 = record { locals = List._++_ t44 (List._++_ t43 t45); slots = List.[] }
 abbrev pub T57 : Row.Cx
 T57 = record { locals = List._++_ t44 (List._++_ t43 t46); slots = List.[] }
 abbrev pub T59 : Row.Cx
@@ -809,28 +850,32 @@ abbrev pub T62 : Row.Cx
 T62 = record { locals = List._++_ t53 (List._++_ t51 t52); slots = List.[] }
 abbrev pub T63 : Row.Cx
 T63 = record { locals = List._++_ t54 (List._++_ t51 t52); slots = List.[] }
-abbrev pub T65 : Row.Cx
-T65 = record { locals = List._++_ t55 (List._++_ t56 t52); slots = List.[] }
-abbrev pub T68 : Row.Cx
-T68 = record { locals = List._++_ t57 (List._++_ t1 t52); slots = List.[] }
-abbrev pub T71 : Row.Cx
-T71 = record { locals = List._++_ t58 (List._++_ t1 t59); slots = List.[] }
-abbrev pub T74 : Row.Cx
-T74 = record { locals = List._++_ t60 (List._++_ t1 t2); slots = List.[] }
+abbrev pub T64 : Row.Cx
+T64 = record { locals = List._++_ t55 (List._++_ t51 t52); slots = List.[] }
+abbrev pub T66 : Row.Cx
+T66 = record { locals = List._++_ t56 (List._++_ t57 t52); slots = List.[] }
+abbrev pub T69 : Row.Cx
+T69 = record { locals = List._++_ t58 (List._++_ t1 t52); slots = List.[] }
+abbrev pub T72 : Row.Cx
+T72 = record { locals = List._++_ t59 (List._++_ t1 t60); slots = List.[] }
 abbrev pub T75 : Row.Cx
-T75 = record { locals = List._++_ t60 (List._++_ t1 t2); slots = List.[] }
-abbrev pub T77 : Row.Cx
-T77 = record { locals = List._++_ t3 (List._++_ t1 t2); slots = List.[] }
+T75 = record { locals = List._++_ t61 (List._++_ t1 t2); slots = List.[] }
+abbrev pub T76 : Row.Cx
+T76 = record { locals = List._++_ t61 (List._++_ t1 t2); slots = List.[] }
 abbrev pub T78 : Row.Cx
-T78 = record { locals = List._++_ t23 (List._++_ t1 t2); slots = List.[] }
+T78 = record { locals = List._++_ t3 (List._++_ t1 t2); slots = List.[] }
 abbrev pub T79 : Row.Cx
-T79 = record { locals = List._++_ t61 (List._++_ t1 t2); slots = List.[] }
+T79 = record { locals = List._++_ t23 (List._++_ t1 t2); slots = List.[] }
 abbrev pub T80 : Row.Cx
 T80 = record { locals = List._++_ t62 (List._++_ t1 t2); slots = List.[] }
 abbrev pub T81 : Row.Cx
-T81 = record { locals = List._++_ t60 (List._++_ t1 t2); slots = List.[] }
+T81 = record { locals = List._++_ t63 (List._++_ t1 t2); slots = List.[] }
 abbrev pub T82 : Row.Cx
-T82 = record { locals = List._++_ t3 (List._++_ t1 t2); slots = List.[] }
+T82 = record { locals = List._++_ t64 (List._++_ t1 t2); slots = List.[] }
+abbrev pub T83 : Row.Cx
+T83 = record { locals = List._++_ t61 (List._++_ t1 t2); slots = List.[] }
+abbrev pub T84 : Row.Cx
+T84 = record { locals = List._++_ t3 (List._++_ t1 t2); slots = List.[] }
 abbrev pub O0 : Typed.Outs
 O0 = record { next = Option.none; exits = List.[]; returns = Option.some T1 }
 abbrev pub O1 : Typed.Outs
@@ -839,145 +884,151 @@ module _ (claims· : Claims) where
   abbrev s0 : (bs : List.List Nat.ℕ) → Typed.Gives T0 T2
   s0 = λ bs. Know.k-sl-known (Referent.fInt Syntax.w32) T0 5 4 ref11 Row.off 0 λ x. x
   abbrev s1 : (bs : List.List Nat.ℕ) → Typed.Both T2 T3
-  s1 = λ bs. WayStmt.k-way-copy-out T2 (Row.out 6 (T2 .locals)) (λ u. Row.drop 6 (T2 .locals) u) 8 (Rows.whole (Declared'.row
+  s1 = λ bs. WayStmt.k-way-copy-out T2 (Row.out 6 (T2 .locals)) (λ u. Row.drop 6 (T2 .locals) u) 9 (Rows.whole (Declared'.row
       OpaqueRelayConfig.the-type)) (λ u. At.getAt (OpaqueRelayRuntime.the-type .parts) 4 (OpaqueRelayRuntime.struct .as-values (u .1 .1 .1 .1 .1 .1
       .0))) (λ T′. record { locals = Row.setRow 6 (6, Rows.whole (Declared'.row OpaqueRelayRuntime.the-type)) T′; slots = List.[]; }) (λ u T′ m′.
       Row.set 6 (6, Rows.whole (Declared'.row OpaqueRelayRuntime.the-type)) (u .1 .1 .1 .1 .1 .1 .0) T′ m′) (λ u. Unit) λ u. Unit
   abbrev s3 : (bs : List.List Nat.ℕ) → Typed.Gives T3 T5
-  s3 = λ bs. Reshare.k-sl-reshare RelayPending.row T3 1 15 0 5 ref7 ref0 Row.off λ x. x
+  s3 = λ bs. Reshare.k-sl-reshare RelayPending.row T3 1 16 0 5 ref7 ref0 Row.off λ x. x
   abbrev s4 : (bs : List.List Nat.ℕ) → Typed.Asks T5 T6
-  s4 = λ bs. Relend.k-sl-aggregate RelayPending.row (Relend.asShr RelayPending.row) T5 15 16 5 ref0 ref0 (λ x. x) (Scalar.oFld 1 ((Syntax.field 1) ∷
+  s4 = λ bs. Relend.k-sl-aggregate RelayPending.row (Relend.asShr RelayPending.row) T5 16 17 5 ref0 ref0 (λ x. x) (Scalar.oFld 1 ((Syntax.field 1) ∷
       List.[]) (Syntax.tyInt Syntax.w64) 8 λ v. Shared.lenV (v .0))
   abbrev s6 : (bs : List.List Nat.ℕ) → Typed.Gives T6 T8
-  s6 = λ bs. Reshare.k-sl-reshare RelayCircuit.row T6 2 17 1 6 ref8 ref1 Row.off λ x. x
+  s6 = λ bs. Reshare.k-sl-reshare RelayCircuit.row T6 2 18 1 6 ref8 ref1 Row.off λ x. x
   abbrev s7 : (bs : List.List Nat.ℕ) → Typed.Asks T8 T9
-  s7 = λ bs. Relend.k-sl-aggregate RelayCircuit.row (Relend.asShr RelayCircuit.row) T8 17 18 6 ref1 ref1 (λ x. x) (Scalar.oFld 2 ((Syntax.field 1) ∷
+  s7 = λ bs. Relend.k-sl-aggregate RelayCircuit.row (Relend.asShr RelayCircuit.row) T8 18 19 6 ref1 ref1 (λ x. x) (Scalar.oFld 2 ((Syntax.field 1) ∷
       List.[]) (Syntax.tyInt Syntax.w64) 8 λ v. Shared.lenV (v .0))
   abbrev s8 : (bs : List.List Nat.ℕ) → Typed.Mo T9 → Typed.Mo T10
-  s8 = λ bs. Scalar.n-use T9 (Scalar.oFld 4 ((Syntax.field 1) ∷ List.[]) (Syntax.tyInt Syntax.w64) 8 Shared.lenV) 19 (Rows.sc-here (Row.sInt
+  s8 = λ bs. Scalar.n-use T9 (Scalar.oFld 4 ((Syntax.field 1) ∷ List.[]) (Syntax.tyInt Syntax.w64) 8 Shared.lenV) 20 (Rows.sc-here (Row.sInt
       Syntax.w64)) (Row.sInt Syntax.w64 .of)
   abbrev s9 : (bs : List.List Nat.ℕ) → Typed.Mo T10 → Typed.Mo T11
-  s9 = λ bs. Scalar.n-use T10 (Scalar.oFld 5 ((Syntax.field 1) ∷ List.[]) (Syntax.tyInt Syntax.w64) 8 Shared.lenV) 20 (Rows.sc-here (Row.sInt
+  s9 = λ bs. Scalar.n-use T10 (Scalar.oFld 5 ((Syntax.field 1) ∷ List.[]) (Syntax.tyInt Syntax.w64) 8 Shared.lenV) 21 (Rows.sc-here (Row.sInt
       Syntax.w64)) (Row.sInt Syntax.w64 .of)
   abbrev s10 : (bs : List.List Nat.ℕ) → Typed.Both T11 T12
-  s10 = λ bs. Call.callB ps·0 r·0 (claims· .0) (claims· .1) T11 (record { pos = 16; ty = Syntax.tyRef Syntax.erased Syntax.imm RelayPending.to; ref =
-      λ x. x; }, (record { pos = 18; ty = Syntax.tyRef Syntax.erased Syntax.imm RelayCircuit.to; ref = λ x. x; }, (Num.vAt 19 λ x. x, (Num.vAt 20 λ x.
-      x, (record { pos = 8; st = List.[]; d = 0; at = λ x. x }, tt)),),),) 9 (5 ∷ 6 ∷ List.[]) Laws'.mir
+  s10 = λ bs. Call.callB ps·0 r·0 (claims· .0) (claims· .1) T11 (record { pos = 17; ty = Syntax.tyRef Syntax.erased Syntax.imm RelayPending.to; ref =
+      λ x. x; }, (record { pos = 19; ty = Syntax.tyRef Syntax.erased Syntax.imm RelayCircuit.to; ref = λ x. x; }, (record { pos = 7; st = List.[]; d =
+      0; at = λ x. x }, (Num.vAt 20 λ x. x, (Num.vAt 21 λ x. x, (record { pos = 9; st = List.[]; d = 0; at = λ x. x }, tt)),),),),) 10 (5 ∷ 6 ∷
+      List.[]) Laws'.mir
   abbrev s11 : (bs : List.List Nat.ℕ) → Typed.Mo T12 → Typed.Mo T13
-  s11 = λ bs. Scalar.n-room T12 16 (Syntax.tyStruct (38 ∷ 91 ∷ 93 ∷ List.[]) (Syntax.tcons ref0 (Syntax.tcons (Syntax.tyInt Syntax.w64) Syntax.tnil)))
+  s11 = λ bs. Scalar.n-room T12 17 (Syntax.tyStruct (38 ∷ 91 ∷ 93 ∷ List.[]) (Syntax.tcons ref0 (Syntax.tcons (Syntax.tyInt Syntax.w64) Syntax.tnil)))
   abbrev s12 : (bs : List.List Nat.ℕ) → Typed.Mo T13 → Typed.Mo T14
-  s12 = λ bs. Scalar.n-room T13 18 (Syntax.tyStruct (38 ∷ 91 ∷ 93 ∷ List.[]) (Syntax.tcons ref1 (Syntax.tcons (Syntax.tyInt Syntax.w64) Syntax.tnil)))
+  s12 = λ bs. Scalar.n-room T13 19 (Syntax.tyStruct (38 ∷ 91 ∷ 93 ∷ List.[]) (Syntax.tcons ref1 (Syntax.tcons (Syntax.tyInt Syntax.w64) Syntax.tnil)))
   abbrev s13 : (bs : List.List Nat.ℕ) → Typed.Mo T14 → Typed.Mo T15
-  s13 = λ bs. Scalar.n-room T14 8 Laws''.mir
+  s13 = λ bs. Scalar.n-room T14 9 Laws''.mir
   abbrev s14 : (bs : List.List Nat.ℕ) → Typed.Mo T15 → Typed.Mo T16
-  s14 = λ bs. Scalar.n-room T15 19 (Syntax.tyInt Syntax.w64)
+  s14 = λ bs. Scalar.n-room T15 20 (Syntax.tyInt Syntax.w64)
   abbrev s15 : (bs : List.List Nat.ℕ) → Typed.Mo T16 → Typed.Mo T17
-  s15 = λ bs. Scalar.n-room T16 20 (Syntax.tyInt Syntax.w64)
+  s15 = λ bs. Scalar.n-room T16 21 (Syntax.tyInt Syntax.w64)
   abbrev s17 : (bs : List.List Nat.ℕ) → Typed.Mo T17 → Typed.Mo T19
   s17 = λ bs. Reshare.n-back-sl-shr RelayPending.row T17 1 0 5 ref7 Row.off λ x. x
   abbrev s20 : (bs : List.List Nat.ℕ) → Typed.Mo T19 → Typed.Mo T22
   s20 = λ bs. Reshare.n-back-sl-shr RelayCircuit.row T19 2 1 6 ref8 Row.off λ x. x
   abbrev s22 : (bs : List.List Nat.ℕ) → Typed.Both T22 T24
   s22 = λ bs. Call.callB ps·1 r·1 (claims· .2) (claims· .3) T22 (Num.vFld 6 ((Syntax.field 3) ∷ List.[]) 32 λ x. OpaqueRelayRuntime.struct .as-values
-      x .1 .1 .1 .0, (Num.vAt 7 λ x. x, tt),) 10 List.[] Laws'.mir
+      x .1 .1 .1 .0, (Num.vAt 8 λ x. x, tt),) 11 List.[] Laws'.mir
   abbrev s23 : (bs : List.List Nat.ℕ) → Typed.Both T24 T25
-  s23 = λ bs. Call.callB ps·2 r·2 (claims· .4) (claims· .5) T24 (record { pos = 9; st = List.[]; d = 0; at = λ x. x }, (record { pos = 10; st =
-      List.[]; d = 0; at = λ x. x }, tt),) 11 List.[] Laws'.mir
+  s23 = λ bs. Call.callB ps·2 r·2 (claims· .4) (claims· .5) T24 (record { pos = 10; st = List.[]; d = 0; at = λ x. x }, (record { pos = 11; st =
+      List.[]; d = 0; at = λ x. x }, tt),) 12 List.[] Laws'.mir
   abbrev s24 : (bs : List.List Nat.ℕ) → Typed.Mo T25 → Typed.Mo T26
-  s24 = λ bs. Scalar.n-room T25 9 Laws'.mir
+  s24 = λ bs. Scalar.n-room T25 10 Laws'.mir
   abbrev s25 : (bs : List.List Nat.ℕ) → Typed.Mo T26 → Typed.Mo T27
-  s25 = λ bs. Scalar.n-room T26 10 Laws'.mir
+  s25 = λ bs. Scalar.n-room T26 11 Laws'.mir
   abbrev s26 : (bs : List.List Nat.ℕ) → Typed.Both T27 T28
-  s26 = λ bs. Call.callB ps·3 r·3 (claims· .6) (claims· .7) T27 (record { pos = 11; st = List.[]; d = 0; at = λ x. x }, tt,) 21 List.[] Syntax.tyBool
+  s26 = λ bs. Call.callB ps·3 r·3 (claims· .6) (claims· .7) T27 (record { pos = 12; st = List.[]; d = 0; at = λ x. x }, tt,) 22 List.[] Syntax.tyBool
   abbrev s27 : (bs : List.List Nat.ℕ) → Typed.Mo T28 → Typed.Mo T30
-  s27 = λ bs. Scalar.n-room T28 11 Laws'.mir
+  s27 = λ bs. Scalar.n-room T28 12 Laws'.mir
   abbrev s28 : (bs : List.List Nat.ℕ) → Typed.Mo T30 → Typed.Mo T31
-  s28 = λ bs. Scalar.n-room T30 21 Syntax.tyBool
+  s28 = λ bs. Scalar.n-room T30 22 Syntax.tyBool
   abbrev s29 : (bs : List.List Nat.ℕ) → Typed.Both T31 T32
-  s29 = λ bs. Call.callB ps·4 r·4 (claims· .8) (claims· .9) T31 (Num.vAt 7 λ x. x, tt) 12 List.[] Laws'''.mir
+  s29 = λ bs. Call.callB ps·4 r·4 (claims· .8) (claims· .9) T31 (Num.vAt 8 λ x. x, tt) 13 List.[] Laws''''.mir
   abbrev s30 : (bs : List.List Nat.ℕ) → Typed.Mo T32 → Typed.Mo T33
-  s30 = λ bs. Make.n-enum-make Notice.the-type T32 22 λ m. Notice.enum .make (Logic.inr (Logic.inr (Logic.inl tt)))
+  s30 = λ bs. Make.n-enum-make Notice.the-type T32 23 λ m. Notice.enum .make (Logic.inr (Logic.inr (Logic.inl tt)))
   abbrev s31 : (bs : List.List Nat.ℕ) → Typed.Mo T33 → Typed.Mo T34
-  s31 = λ bs. Make.n-enum-make Notice.the-type T33 23 λ m. Notice.enum .make (Logic.inr (Logic.inr (Logic.inr (Logic.inl tt))))
+  s31 = λ bs. Make.n-enum-make Notice.the-type T33 24 λ m. Notice.enum .make (Logic.inr (Logic.inr (Logic.inr (Logic.inl tt))))
   abbrev s32 : (bs : List.List Nat.ℕ) → Typed.Both T34 T35
-  s32 = λ bs. Call.callB ps·5 r·5 (claims· .10) (claims· .11) T34 (record { pos = 12; st = List.[]; d = 0; at = λ x. x }, (record { pos = 22; st =
-      List.[]; d = 0; at = λ x. x }, (record { pos = 23; st = List.[]; d = 0; at = λ x. x }, tt),),) 13 List.[] Laws''''.mir
+  s32 = λ bs. Call.callB ps·5 r·5 (claims· .10) (claims· .11) T34 (record { pos = 13; st = List.[]; d = 0; at = λ x. x }, (record { pos = 23; st =
+      List.[]; d = 0; at = λ x. x }, (record { pos = 24; st = List.[]; d = 0; at = λ x. x }, tt),),) 14 List.[] Laws'''''.mir
   abbrev s33 : (bs : List.List Nat.ℕ) → Typed.Mo T35 → Typed.Mo T36
-  s33 = λ bs. Scalar.n-room T35 12 Laws'''.mir
+  s33 = λ bs. Scalar.n-room T35 13 Laws''''.mir
   abbrev s34 : (bs : List.List Nat.ℕ) → Typed.Mo T36 → Typed.Mo T37
-  s34 = λ bs. Scalar.n-room T36 22 Laws.mir
+  s34 = λ bs. Scalar.n-room T36 23 Laws.mir
   abbrev s35 : (bs : List.List Nat.ℕ) → Typed.Mo T37 → Typed.Mo T38
-  s35 = λ bs. Scalar.n-room T37 23 Laws.mir
+  s35 = λ bs. Scalar.n-room T37 24 Laws.mir
   abbrev s36 : (bs : List.List Nat.ℕ) → Typed.Both T38 T39
-  s36 = λ bs. Call.callB ps·6 r·6 (claims· .12) (claims· .13) T38 (record { pos = 6; st = List.[]; d = 0; at = λ x. x }, (Num.vAt 7 λ x. x, tt),) 14
-      List.[] Laws'''''.mir
+  s36 = λ bs. Call.callB ps·6 r·6 (claims· .12) (claims· .13) T38 (record { pos = 6; st = List.[]; d = 0; at = λ x. x }, (Num.vAt 8 λ x. x, tt),) 15
+      List.[] Laws''''''.mir
   abbrev s37 : (bs : List.List Nat.ℕ) → Typed.Mo T39 → Typed.Mo T40
-  s37 = λ bs. Scalar.n-room T39 6 Laws'''''.mir
+  s37 = λ bs. Scalar.n-room T39 6 Laws''''''.mir
   abbrev s39 : (bs : List.List Nat.ℕ) → Typed.Gives T40 T42
-  s39 = λ bs. Relend.k-sl-relend ReservationUsage.row T40 3 25 2 7 ref9 ref2 Row.off λ x. x
+  s39 = λ bs. Relend.k-sl-relend ReservationUsage.row T40 3 26 2 7 ref9 ref2 Row.off λ x. x
   abbrev s40 : (bs : List.List Nat.ℕ) → Typed.Asks T42 T43
-  s40 = λ bs. Relend.k-sl-aggregate ReservationUsage.row (Relend.asMut ReservationUsage.row) T42 25 26 7 ref2 ref2 (λ x. x) (Scalar.oFld 3
+  s40 = λ bs. Relend.k-sl-aggregate ReservationUsage.row (Relend.asMut ReservationUsage.row) T42 26 27 7 ref2 ref2 (λ x. x) (Scalar.oFld 3
       ((Syntax.field 1) ∷ List.[]) (Syntax.tyInt Syntax.w64) 8 λ v. Shared.lenV (v .0))
   abbrev s41 : (bs : List.List Nat.ℕ) → Typed.Both T43 T44
-  s41 = λ bs. Call.callB ps·7 r·7 (claims· .14) (claims· .15) T43 (record { pos = 26; ty = Syntax.tyRef Syntax.erased Syntax.mut ReservationUsage.to;
-      ref = λ x. x; }, (Bool.bLit Bool'.true, (Num.vAt 7 λ x. x, tt)),) 24 (7 ∷ List.[]) Syntax.tyUnit
+  s41 = λ bs. Call.callB ps·7 r·7 (claims· .14) (claims· .15) T43 (record { pos = 27; ty = Syntax.tyRef Syntax.erased Syntax.mut ReservationUsage.to;
+      ref = λ x. x; }, (record { pos = 7; st = List.[]; d = 0; at = λ x. x }, (Bool.bLit Bool'.true, (Num.vAt 8 λ x. x, tt)),),) 25 (7 ∷ List.[])
+      Syntax.tyUnit
   abbrev s42 : (bs : List.List Nat.ℕ) → Typed.Mo T44 → Typed.Mo T45
-  s42 = λ bs. Scalar.n-room T44 24 Syntax.tyUnit
+  s42 = λ bs. Scalar.n-room T44 25 Syntax.tyUnit
   abbrev s44 : (bs : List.List Nat.ℕ) → Typed.Both T45 T47
-  s44 = λ bs. Relend.k-back-sl ReservationUsage.row T45 26 3 2 7 ref9 ref2 Row.off (λ x. x) λ x. x
+  s44 = λ bs. Relend.k-back-sl ReservationUsage.row T45 27 3 2 7 ref9 ref2 Row.off (λ x. x) λ x. x
   abbrev s47 : (bs : List.List Nat.ℕ) → Typed.Gives T47 T50
-  s47 = λ bs. Relend.k-sl-relend RelayPending.row T47 1 27 0 8 ref7 ref3 Row.off λ x. x
+  s47 = λ bs. Relend.k-sl-relend RelayPending.row T47 1 28 0 8 ref7 ref3 Row.off λ x. x
   abbrev s48 : (bs : List.List Nat.ℕ) → Typed.Asks T50 T51
-  s48 = λ bs. Relend.k-sl-aggregate RelayPending.row (Relend.asMut RelayPending.row) T50 27 28 8 ref3 ref3 (λ x. x) (Scalar.oFld 1 ((Syntax.field 1) ∷
+  s48 = λ bs. Relend.k-sl-aggregate RelayPending.row (Relend.asMut RelayPending.row) T50 28 29 8 ref3 ref3 (λ x. x) (Scalar.oFld 1 ((Syntax.field 1) ∷
       List.[]) (Syntax.tyInt Syntax.w64) 8 λ v. Shared.lenV (v .0))
   abbrev s50 : (bs : List.List Nat.ℕ) → Typed.Gives T51 T53
-  s50 = λ bs. Relend.k-sl-relend RelayCircuit.row T51 2 29 1 9 ref8 ref4 Row.off λ x. x
+  s50 = λ bs. Relend.k-sl-relend RelayCircuit.row T51 2 30 1 9 ref8 ref4 Row.off λ x. x
   abbrev s51 : (bs : List.List Nat.ℕ) → Typed.Asks T53 T54
-  s51 = λ bs. Relend.k-sl-aggregate RelayCircuit.row (Relend.asMut RelayCircuit.row) T53 29 30 9 ref4 ref4 (λ x. x) (Scalar.oFld 2 ((Syntax.field 1) ∷
+  s51 = λ bs. Relend.k-sl-aggregate RelayCircuit.row (Relend.asMut RelayCircuit.row) T53 30 31 9 ref4 ref4 (λ x. x) (Scalar.oFld 2 ((Syntax.field 1) ∷
       List.[]) (Syntax.tyInt Syntax.w64) 8 λ v. Shared.lenV (v .0))
   abbrev s53 : (bs : List.List Nat.ℕ) → Typed.Gives T54 T56
-  s53 = λ bs. Relend.k-sl-relend InflightAction.row T54 4 31 3 10 ref10 ref5 Row.off λ x. x
+  s53 = λ bs. Relend.k-sl-relend InflightAction.row T54 4 32 3 10 ref10 ref5 Row.off λ x. x
   abbrev s54 : (bs : List.List Nat.ℕ) → Typed.Asks T56 T57
-  s54 = λ bs. Relend.k-sl-aggregate InflightAction.row (Relend.asMut InflightAction.row) T56 31 32 10 ref5 ref5 (λ x. x) (Scalar.oFld 4 ((Syntax.field
+  s54 = λ bs. Relend.k-sl-aggregate InflightAction.row (Relend.asMut InflightAction.row) T56 32 33 10 ref5 ref5 (λ x. x) (Scalar.oFld 4 ((Syntax.field
       1) ∷ List.[]) (Syntax.tyInt Syntax.w64) 8 λ v. Shared.lenV (v .0))
   abbrev s56 : (bs : List.List Nat.ℕ) → Typed.Gives T57 T59
-  s56 = λ bs. Relend.k-sl-relend (Referent.rtF (Referent.fInt Syntax.w32)) T57 5 33 4 11 ref11 ref6 Row.off λ x. x
+  s56 = λ bs. Relend.k-sl-relend (Referent.rtF (Referent.fInt Syntax.w32)) T57 5 34 4 11 ref11 ref6 Row.off λ x. x
   abbrev s57 : (bs : List.List Nat.ℕ) → Typed.Asks T59 T60
-  s57 = λ bs. Relend.k-sl-aggregate (Referent.rtF (Referent.fInt Syntax.w32)) (Relend.asMut (Referent.rtF (Referent.fInt Syntax.w32))) T59 33 34 11
+  s57 = λ bs. Relend.k-sl-aggregate (Referent.rtF (Referent.fInt Syntax.w32)) (Relend.asMut (Referent.rtF (Referent.fInt Syntax.w32))) T59 34 35 11
       ref6 ref6 (λ x. x) (Scalar.oFld 5 ((Syntax.field 1) ∷ List.[]) (Syntax.tyInt Syntax.w64) 8 λ v. Shared.lenV (v .0))
   abbrev s58 : (bs : List.List Nat.ℕ) → Typed.Both T60 T61
-  s58 = λ bs. Call.callB ps·8 r·8 (claims· .16) (claims· .17) T60 (record { pos = 28; ty = Syntax.tyRef Syntax.erased Syntax.mut RelayPending.to; ref
-      = λ x. x; }, (record { pos = 30; ty = Syntax.tyRef Syntax.erased Syntax.mut RelayCircuit.to; ref = λ x. x; }, (record { pos = 32; ty =
-      Syntax.tyRef Syntax.erased Syntax.mut InflightAction.to; ref = λ x. x; }, (record { pos = 34; ty = Syntax.tyRef Syntax.erased Syntax.mut
-      (Syntax.tyInt Syntax.w32); ref = λ x. x; }, (record { pos = 14; st = List.[]; d = 0; at = λ x. x }, (record { pos = 13; st = List.[]; d = 0; at
-      = λ x. x }, tt),),),),),) 0 (8 ∷ 9 ∷ 10 ∷ 11 ∷ List.[]) Laws''''''.mir
+  s58 = λ bs. Call.callB ps·8 r·8 (claims· .16) (claims· .17) T60 (record { pos = 29; ty = Syntax.tyRef Syntax.erased Syntax.mut RelayPending.to; ref
+      = λ x. x; }, (record { pos = 31; ty = Syntax.tyRef Syntax.erased Syntax.mut RelayCircuit.to; ref = λ x. x; }, (record { pos = 33; ty =
+      Syntax.tyRef Syntax.erased Syntax.mut InflightAction.to; ref = λ x. x; }, (record { pos = 35; ty = Syntax.tyRef Syntax.erased Syntax.mut
+      (Syntax.tyInt Syntax.w32); ref = λ x. x; }, (record { pos = 15; st = List.[]; d = 0; at = λ x. x }, (record { pos = 7; st = List.[]; d = 0; at =
+      λ x. x }, (record { pos = 14; st = List.[]; d = 0; at = λ x. x }, tt),),),),),),) 0 (8 ∷ 9 ∷ 10 ∷ 11 ∷ List.[]) Laws'''''''.mir
   abbrev s59 : (bs : List.List Nat.ℕ) → Typed.Mo T61 → Typed.Mo T62
-  s59 = λ bs. Scalar.n-room T61 13 Laws''''.mir
+  s59 = λ bs. Scalar.n-room T61 7 Laws'''.mir
   abbrev s60 : (bs : List.List Nat.ℕ) → Typed.Mo T62 → Typed.Mo T63
   s60 = λ bs. Scalar.n-room T62 14 Laws'''''.mir
-  abbrev s62 : (bs : List.List Nat.ℕ) → Typed.Both T63 T65
-  s62 = λ bs. Relend.k-back-sl RelayPending.row T63 28 1 0 8 ref7 ref3 Row.off (λ x. x) λ x. x
-  abbrev s65 : (bs : List.List Nat.ℕ) → Typed.Both T65 T68
-  s65 = λ bs. Relend.k-back-sl RelayCircuit.row T65 30 2 1 9 ref8 ref4 Row.off (λ x. x) λ x. x
-  abbrev s68 : (bs : List.List Nat.ℕ) → Typed.Both T68 T71
-  s68 = λ bs. Relend.k-back-sl InflightAction.row T68 32 4 3 10 ref10 ref5 Row.off (λ x. x) λ x. x
-  abbrev s71 : (bs : List.List Nat.ℕ) → Typed.Both T71 T74
-  s71 = λ bs. Relend.k-back-sl (Referent.rtF (Referent.fInt Syntax.w32)) T71 34 5 4 11 ref11 ref6 Row.off (λ x. x) λ x. x
-  abbrev s72 : (bs : List.List Nat.ℕ) → Typed.Gives T74 T75
-  s72 = λ bs. Know.k-sl-known (Referent.fInt Syntax.w32) T74 5 4 ref11 Row.off 0 λ x. x
-  abbrev s74 : (bs : List.List Nat.ℕ) → Typed.Mo T75 → Typed.Mo T77
-  s74 = λ bs. Scalar.n-room T75 7 (Syntax.tyInt Syntax.w64)
-  abbrev s75 : (bs : List.List Nat.ℕ) → Typed.Mo T28 → Typed.Mo T78
-  s75 = λ bs. Scalar.n-room T28 21 Syntax.tyBool
-  abbrev s76 : (bs : List.List Nat.ℕ) → Typed.Both T29 T79
-  s76 = λ bs. Call.callB ps·9 r·9 (claims· .18) (claims· .19) T29 (record { pos = 6; st = List.[]; d = 0; at = λ x. x }, (record { pos = 11; st =
-      List.[]; d = 0; at = λ x. x }, tt),) 0 List.[] Laws''''''.mir
-  abbrev s77 : (bs : List.List Nat.ℕ) → Typed.Mo T79 → Typed.Mo T80
-  s77 = λ bs. Scalar.n-room T79 6 Laws'''''.mir
+  abbrev s61 : (bs : List.List Nat.ℕ) → Typed.Mo T63 → Typed.Mo T64
+  s61 = λ bs. Scalar.n-room T63 15 Laws''''''.mir
+  abbrev s63 : (bs : List.List Nat.ℕ) → Typed.Both T64 T66
+  s63 = λ bs. Relend.k-back-sl RelayPending.row T64 29 1 0 8 ref7 ref3 Row.off (λ x. x) λ x. x
+  abbrev s66 : (bs : List.List Nat.ℕ) → Typed.Both T66 T69
+  s66 = λ bs. Relend.k-back-sl RelayCircuit.row T66 31 2 1 9 ref8 ref4 Row.off (λ x. x) λ x. x
+  abbrev s69 : (bs : List.List Nat.ℕ) → Typed.Both T69 T72
+  s69 = λ bs. Relend.k-back-sl InflightAction.row T69 33 4 3 10 ref10 ref5 Row.off (λ x. x) λ x. x
+  abbrev s72 : (bs : List.List Nat.ℕ) → Typed.Both T72 T75
+  s72 = λ bs. Relend.k-back-sl (Referent.rtF (Referent.fInt Syntax.w32)) T72 35 5 4 11 ref11 ref6 Row.off (λ x. x) λ x. x
+  abbrev s73 : (bs : List.List Nat.ℕ) → Typed.Gives T75 T76
+  s73 = λ bs. Know.k-sl-known (Referent.fInt Syntax.w32) T75 5 4 ref11 Row.off 0 λ x. x
+  abbrev s75 : (bs : List.List Nat.ℕ) → Typed.Mo T76 → Typed.Mo T78
+  s75 = λ bs. Scalar.n-room T76 8 (Syntax.tyInt Syntax.w64)
+  abbrev s76 : (bs : List.List Nat.ℕ) → Typed.Mo T28 → Typed.Mo T79
+  s76 = λ bs. Scalar.n-room T28 22 Syntax.tyBool
+  abbrev s77 : (bs : List.List Nat.ℕ) → Typed.Both T29 T80
+  s77 = λ bs. Call.callB ps·9 r·9 (claims· .18) (claims· .19) T29 (record { pos = 6; st = List.[]; d = 0; at = λ x. x }, (record { pos = 7; st =
+      List.[]; d = 0; at = λ x. x }, (record { pos = 12; st = List.[]; d = 0; at = λ x. x }, tt),),) 0 List.[] Laws'''''''.mir
   abbrev s78 : (bs : List.List Nat.ℕ) → Typed.Mo T80 → Typed.Mo T81
-  s78 = λ bs. Scalar.n-room T80 11 Laws'.mir
+  s78 = λ bs. Scalar.n-room T80 6 Laws''''''.mir
   abbrev s79 : (bs : List.List Nat.ℕ) → Typed.Mo T81 → Typed.Mo T82
-  s79 = λ bs. Scalar.n-room T81 7 (Syntax.tyInt Syntax.w64)
+  s79 = λ bs. Scalar.n-room T81 7 Laws'''.mir
+  abbrev s80 : (bs : List.List Nat.ℕ) → Typed.Mo T82 → Typed.Mo T83
+  s80 = λ bs. Scalar.n-room T82 12 Laws'.mir
+  abbrev s81 : (bs : List.List Nat.ℕ) → Typed.Mo T83 → Typed.Mo T84
+  s81 = λ bs. Scalar.n-room T83 8 (Syntax.tyInt Syntax.w64)
   module _ (Pre· : (κs : Lifetimes.Lfts 5) → Kinds.Dens κs ps → Type 0) (Post· : (κs : Lifetimes.Lfts 5) → (a : Kinds.Dens κs ps) → Kinds.Plain 5 ps r
       κs) where
     module _ (M : Type 1) where
@@ -994,178 +1045,182 @@ module _ (claims· : Claims) where
           "hnsr_circuit::revoking_calls::refused") → Statement.Triple 𝓤 (Wp.WpFn 𝓤 H (𝓣 .C) (𝓣 .Λ) (Function.fnOf 5 ps r xs m hs body))
           (Function.plainOf 𝓤 H A 5 ps r Pre· Post·)
     module _ where
-      abbrev at0 : (bs : List.List Nat.ℕ) → Typed.TF T77 O1
+      abbrev at0 : (bs : List.List Nat.ℕ) → Typed.TF T78 O1
       at0 = λ bs. Typed.atRet O1
-      abbrev at1 : (bs : List.List Nat.ℕ) → Typed.TF T75 O1
-      at1 = λ bs. λ Ψ. Typed.pass T75 T77 (s74 bs) (at0 bs Ψ)
-      abbrev at2 : (bs : List.List Nat.ℕ) → Typed.TF T75 O1
+      abbrev at1 : (bs : List.List Nat.ℕ) → Typed.TF T76 O1
+      at1 = λ bs. λ Ψ. Typed.pass T76 T78 (s75 bs) (at0 bs Ψ)
+      abbrev at2 : (bs : List.List Nat.ℕ) → Typed.TF T76 O1
       at2 = λ bs. λ Ψ. at1 bs Ψ
-      abbrev at3 : (bs : List.List Nat.ℕ) → Typed.TF T74 O1
-      at3 = λ bs. λ Ψ. Typed.give (s72 bs) (at2 bs Ψ)
-      abbrev at4 : (bs : List.List Nat.ℕ) → Typed.TF T71 O1
-      at4 = λ bs. λ Ψ. Typed.both (s71 bs) (at3 bs Ψ)
-      abbrev at5 : (bs : List.List Nat.ℕ) → Typed.TF T71 O1
+      abbrev at3 : (bs : List.List Nat.ℕ) → Typed.TF T75 O1
+      at3 = λ bs. λ Ψ. Typed.give (s73 bs) (at2 bs Ψ)
+      abbrev at4 : (bs : List.List Nat.ℕ) → Typed.TF T72 O1
+      at4 = λ bs. λ Ψ. Typed.both (s72 bs) (at3 bs Ψ)
+      abbrev at5 : (bs : List.List Nat.ℕ) → Typed.TF T72 O1
       at5 = λ bs. λ Ψ. at4 bs Ψ
-      abbrev at6 : (bs : List.List Nat.ℕ) → Typed.TF T71 O1
+      abbrev at6 : (bs : List.List Nat.ℕ) → Typed.TF T72 O1
       at6 = λ bs. λ Ψ. at5 bs Ψ
-      abbrev at7 : (bs : List.List Nat.ℕ) → Typed.TF T68 O1
-      at7 = λ bs. λ Ψ. Typed.both (s68 bs) (at6 bs Ψ)
-      abbrev at8 : (bs : List.List Nat.ℕ) → Typed.TF T68 O1
+      abbrev at7 : (bs : List.List Nat.ℕ) → Typed.TF T69 O1
+      at7 = λ bs. λ Ψ. Typed.both (s69 bs) (at6 bs Ψ)
+      abbrev at8 : (bs : List.List Nat.ℕ) → Typed.TF T69 O1
       at8 = λ bs. λ Ψ. at7 bs Ψ
-      abbrev at9 : (bs : List.List Nat.ℕ) → Typed.TF T68 O1
+      abbrev at9 : (bs : List.List Nat.ℕ) → Typed.TF T69 O1
       at9 = λ bs. λ Ψ. at8 bs Ψ
-      abbrev at10 : (bs : List.List Nat.ℕ) → Typed.TF T65 O1
-      at10 = λ bs. λ Ψ. Typed.both (s65 bs) (at9 bs Ψ)
-      abbrev at11 : (bs : List.List Nat.ℕ) → Typed.TF T65 O1
+      abbrev at10 : (bs : List.List Nat.ℕ) → Typed.TF T66 O1
+      at10 = λ bs. λ Ψ. Typed.both (s66 bs) (at9 bs Ψ)
+      abbrev at11 : (bs : List.List Nat.ℕ) → Typed.TF T66 O1
       at11 = λ bs. λ Ψ. at10 bs Ψ
-      abbrev at12 : (bs : List.List Nat.ℕ) → Typed.TF T65 O1
+      abbrev at12 : (bs : List.List Nat.ℕ) → Typed.TF T66 O1
       at12 = λ bs. λ Ψ. at11 bs Ψ
-      abbrev at13 : (bs : List.List Nat.ℕ) → Typed.TF T63 O1
-      at13 = λ bs. λ Ψ. Typed.both (s62 bs) (at12 bs Ψ)
-      abbrev at14 : (bs : List.List Nat.ℕ) → Typed.TF T63 O1
+      abbrev at13 : (bs : List.List Nat.ℕ) → Typed.TF T64 O1
+      at13 = λ bs. λ Ψ. Typed.both (s63 bs) (at12 bs Ψ)
+      abbrev at14 : (bs : List.List Nat.ℕ) → Typed.TF T64 O1
       at14 = λ bs. λ Ψ. at13 bs Ψ
-      abbrev at15 : (bs : List.List Nat.ℕ) → Typed.TF T62 O1
-      at15 = λ bs. λ Ψ. Typed.pass T62 T63 (s60 bs) (at14 bs Ψ)
-      abbrev at16 : (bs : List.List Nat.ℕ) → Typed.TF T61 O1
-      at16 = λ bs. λ Ψ. Typed.pass T61 T62 (s59 bs) (at15 bs Ψ)
-      abbrev at17 : (bs : List.List Nat.ℕ) → Typed.TF T60 O1
-      at17 = λ bs. λ Ψ. Typed.both (s58 bs) (at16 bs Ψ)
-      abbrev at18 : (bs : List.List Nat.ℕ) → Typed.TF T59 O1
-      at18 = λ bs. λ Ψ. Typed.ask (s57 bs) (at17 bs Ψ)
-      abbrev at19 : (bs : List.List Nat.ℕ) → Typed.TF T57 O1
-      at19 = λ bs. λ Ψ. Typed.give (s56 bs) (at18 bs Ψ)
+      abbrev at15 : (bs : List.List Nat.ℕ) → Typed.TF T63 O1
+      at15 = λ bs. λ Ψ. Typed.pass T63 T64 (s61 bs) (at14 bs Ψ)
+      abbrev at16 : (bs : List.List Nat.ℕ) → Typed.TF T62 O1
+      at16 = λ bs. λ Ψ. Typed.pass T62 T63 (s60 bs) (at15 bs Ψ)
+      abbrev at17 : (bs : List.List Nat.ℕ) → Typed.TF T61 O1
+      at17 = λ bs. λ Ψ. Typed.pass T61 T62 (s59 bs) (at16 bs Ψ)
+      abbrev at18 : (bs : List.List Nat.ℕ) → Typed.TF T60 O1
+      at18 = λ bs. λ Ψ. Typed.both (s58 bs) (at17 bs Ψ)
+      abbrev at19 : (bs : List.List Nat.ℕ) → Typed.TF T59 O1
+      at19 = λ bs. λ Ψ. Typed.ask (s57 bs) (at18 bs Ψ)
       abbrev at20 : (bs : List.List Nat.ℕ) → Typed.TF T57 O1
-      at20 = λ bs. λ Ψ. at19 bs Ψ
-      abbrev at21 : (bs : List.List Nat.ℕ) → Typed.TF T56 O1
-      at21 = λ bs. λ Ψ. Typed.ask (s54 bs) (at20 bs Ψ)
-      abbrev at22 : (bs : List.List Nat.ℕ) → Typed.TF T54 O1
-      at22 = λ bs. λ Ψ. Typed.give (s53 bs) (at21 bs Ψ)
+      at20 = λ bs. λ Ψ. Typed.give (s56 bs) (at19 bs Ψ)
+      abbrev at21 : (bs : List.List Nat.ℕ) → Typed.TF T57 O1
+      at21 = λ bs. λ Ψ. at20 bs Ψ
+      abbrev at22 : (bs : List.List Nat.ℕ) → Typed.TF T56 O1
+      at22 = λ bs. λ Ψ. Typed.ask (s54 bs) (at21 bs Ψ)
       abbrev at23 : (bs : List.List Nat.ℕ) → Typed.TF T54 O1
-      at23 = λ bs. λ Ψ. at22 bs Ψ
-      abbrev at24 : (bs : List.List Nat.ℕ) → Typed.TF T53 O1
-      at24 = λ bs. λ Ψ. Typed.ask (s51 bs) (at23 bs Ψ)
-      abbrev at25 : (bs : List.List Nat.ℕ) → Typed.TF T51 O1
-      at25 = λ bs. λ Ψ. Typed.give (s50 bs) (at24 bs Ψ)
+      at23 = λ bs. λ Ψ. Typed.give (s53 bs) (at22 bs Ψ)
+      abbrev at24 : (bs : List.List Nat.ℕ) → Typed.TF T54 O1
+      at24 = λ bs. λ Ψ. at23 bs Ψ
+      abbrev at25 : (bs : List.List Nat.ℕ) → Typed.TF T53 O1
+      at25 = λ bs. λ Ψ. Typed.ask (s51 bs) (at24 bs Ψ)
       abbrev at26 : (bs : List.List Nat.ℕ) → Typed.TF T51 O1
-      at26 = λ bs. λ Ψ. at25 bs Ψ
-      abbrev at27 : (bs : List.List Nat.ℕ) → Typed.TF T50 O1
-      at27 = λ bs. λ Ψ. Typed.ask (s48 bs) (at26 bs Ψ)
-      abbrev at28 : (bs : List.List Nat.ℕ) → Typed.TF T47 O1
-      at28 = λ bs. λ Ψ. Typed.give (s47 bs) (at27 bs Ψ)
+      at26 = λ bs. λ Ψ. Typed.give (s50 bs) (at25 bs Ψ)
+      abbrev at27 : (bs : List.List Nat.ℕ) → Typed.TF T51 O1
+      at27 = λ bs. λ Ψ. at26 bs Ψ
+      abbrev at28 : (bs : List.List Nat.ℕ) → Typed.TF T50 O1
+      at28 = λ bs. λ Ψ. Typed.ask (s48 bs) (at27 bs Ψ)
       abbrev at29 : (bs : List.List Nat.ℕ) → Typed.TF T47 O1
-      at29 = λ bs. λ Ψ. at28 bs Ψ
+      at29 = λ bs. λ Ψ. Typed.give (s47 bs) (at28 bs Ψ)
       abbrev at30 : (bs : List.List Nat.ℕ) → Typed.TF T47 O1
       at30 = λ bs. λ Ψ. at29 bs Ψ
-      abbrev at31 : (bs : List.List Nat.ℕ) → Typed.TF T45 O1
-      at31 = λ bs. λ Ψ. Typed.both (s44 bs) (at30 bs Ψ)
+      abbrev at31 : (bs : List.List Nat.ℕ) → Typed.TF T47 O1
+      at31 = λ bs. λ Ψ. at30 bs Ψ
       abbrev at32 : (bs : List.List Nat.ℕ) → Typed.TF T45 O1
-      at32 = λ bs. λ Ψ. at31 bs Ψ
-      abbrev at33 : (bs : List.List Nat.ℕ) → Typed.TF T44 O1
-      at33 = λ bs. λ Ψ. Typed.pass T44 T45 (s42 bs) (at32 bs Ψ)
-      abbrev at34 : (bs : List.List Nat.ℕ) → Typed.TF T43 O1
-      at34 = λ bs. λ Ψ. Typed.both (s41 bs) (at33 bs Ψ)
-      abbrev at35 : (bs : List.List Nat.ℕ) → Typed.TF T42 O1
-      at35 = λ bs. λ Ψ. Typed.ask (s40 bs) (at34 bs Ψ)
-      abbrev at36 : (bs : List.List Nat.ℕ) → Typed.TF T40 O1
-      at36 = λ bs. λ Ψ. Typed.give (s39 bs) (at35 bs Ψ)
+      at32 = λ bs. λ Ψ. Typed.both (s44 bs) (at31 bs Ψ)
+      abbrev at33 : (bs : List.List Nat.ℕ) → Typed.TF T45 O1
+      at33 = λ bs. λ Ψ. at32 bs Ψ
+      abbrev at34 : (bs : List.List Nat.ℕ) → Typed.TF T44 O1
+      at34 = λ bs. λ Ψ. Typed.pass T44 T45 (s42 bs) (at33 bs Ψ)
+      abbrev at35 : (bs : List.List Nat.ℕ) → Typed.TF T43 O1
+      at35 = λ bs. λ Ψ. Typed.both (s41 bs) (at34 bs Ψ)
+      abbrev at36 : (bs : List.List Nat.ℕ) → Typed.TF T42 O1
+      at36 = λ bs. λ Ψ. Typed.ask (s40 bs) (at35 bs Ψ)
       abbrev at37 : (bs : List.List Nat.ℕ) → Typed.TF T40 O1
-      at37 = λ bs. λ Ψ. at36 bs Ψ
-      abbrev at38 : (bs : List.List Nat.ℕ) → Typed.TF T39 O1
-      at38 = λ bs. λ Ψ. Typed.pass T39 T40 (s37 bs) (at37 bs Ψ)
-      abbrev at39 : (bs : List.List Nat.ℕ) → Typed.TF T38 O1
-      at39 = λ bs. λ Ψ. Typed.both (s36 bs) (at38 bs Ψ)
-      abbrev at40 : (bs : List.List Nat.ℕ) → Typed.TF T37 O1
-      at40 = λ bs. λ Ψ. Typed.pass T37 T38 (s35 bs) (at39 bs Ψ)
-      abbrev at41 : (bs : List.List Nat.ℕ) → Typed.TF T36 O1
-      at41 = λ bs. λ Ψ. Typed.pass T36 T37 (s34 bs) (at40 bs Ψ)
-      abbrev at42 : (bs : List.List Nat.ℕ) → Typed.TF T35 O1
-      at42 = λ bs. λ Ψ. Typed.pass T35 T36 (s33 bs) (at41 bs Ψ)
-      abbrev at43 : (bs : List.List Nat.ℕ) → Typed.TF T34 O1
-      at43 = λ bs. λ Ψ. Typed.both (s32 bs) (at42 bs Ψ)
-      abbrev at44 : (bs : List.List Nat.ℕ) → Typed.TF T33 O1
-      at44 = λ bs. λ Ψ. Typed.pass T33 T34 (s31 bs) (at43 bs Ψ)
-      abbrev at45 : (bs : List.List Nat.ℕ) → Typed.TF T32 O1
-      at45 = λ bs. λ Ψ. Typed.pass T32 T33 (s30 bs) (at44 bs Ψ)
-      abbrev at46 : (bs : List.List Nat.ℕ) → Typed.TF T31 O1
-      at46 = λ bs. λ Ψ. Typed.both (s29 bs) (at45 bs Ψ)
-      abbrev at47 : (bs : List.List Nat.ℕ) → Typed.TF T30 O1
-      at47 = λ bs. λ Ψ. Typed.pass T30 T31 (s28 bs) (at46 bs Ψ)
-      abbrev at48 : (bs : List.List Nat.ℕ) → Typed.TF T28 O1
-      at48 = λ bs. λ Ψ. Typed.pass T28 T30 (s27 bs) (at47 bs Ψ)
-      abbrev at49 : (bs : List.List Nat.ℕ) → Typed.TF T78 O1
-      at49 = λ bs. Typed.atNext O1
-      abbrev at50 : (bs : List.List Nat.ℕ) → Typed.TF T28 O1
-      at50 = λ bs. λ Ψ. Typed.pass T28 T78 (s75 bs) (at49 bs Ψ)
+      at37 = λ bs. λ Ψ. Typed.give (s39 bs) (at36 bs Ψ)
+      abbrev at38 : (bs : List.List Nat.ℕ) → Typed.TF T40 O1
+      at38 = λ bs. λ Ψ. at37 bs Ψ
+      abbrev at39 : (bs : List.List Nat.ℕ) → Typed.TF T39 O1
+      at39 = λ bs. λ Ψ. Typed.pass T39 T40 (s37 bs) (at38 bs Ψ)
+      abbrev at40 : (bs : List.List Nat.ℕ) → Typed.TF T38 O1
+      at40 = λ bs. λ Ψ. Typed.both (s36 bs) (at39 bs Ψ)
+      abbrev at41 : (bs : List.List Nat.ℕ) → Typed.TF T37 O1
+      at41 = λ bs. λ Ψ. Typed.pass T37 T38 (s35 bs) (at40 bs Ψ)
+      abbrev at42 : (bs : List.List Nat.ℕ) → Typed.TF T36 O1
+      at42 = λ bs. λ Ψ. Typed.pass T36 T37 (s34 bs) (at41 bs Ψ)
+      abbrev at43 : (bs : List.List Nat.ℕ) → Typed.TF T35 O1
+      at43 = λ bs. λ Ψ. Typed.pass T35 T36 (s33 bs) (at42 bs Ψ)
+      abbrev at44 : (bs : List.List Nat.ℕ) → Typed.TF T34 O1
+      at44 = λ bs. λ Ψ. Typed.both (s32 bs) (at43 bs Ψ)
+      abbrev at45 : (bs : List.List Nat.ℕ) → Typed.TF T33 O1
+      at45 = λ bs. λ Ψ. Typed.pass T33 T34 (s31 bs) (at44 bs Ψ)
+      abbrev at46 : (bs : List.List Nat.ℕ) → Typed.TF T32 O1
+      at46 = λ bs. λ Ψ. Typed.pass T32 T33 (s30 bs) (at45 bs Ψ)
+      abbrev at47 : (bs : List.List Nat.ℕ) → Typed.TF T31 O1
+      at47 = λ bs. λ Ψ. Typed.both (s29 bs) (at46 bs Ψ)
+      abbrev at48 : (bs : List.List Nat.ℕ) → Typed.TF T30 O1
+      at48 = λ bs. λ Ψ. Typed.pass T30 T31 (s28 bs) (at47 bs Ψ)
+      abbrev at49 : (bs : List.List Nat.ℕ) → Typed.TF T28 O1
+      at49 = λ bs. λ Ψ. Typed.pass T28 T30 (s27 bs) (at48 bs Ψ)
+      abbrev at50 : (bs : List.List Nat.ℕ) → Typed.TF T79 O1
+      at50 = λ bs. Typed.atNext O1
       abbrev at51 : (bs : List.List Nat.ℕ) → Typed.TF T28 O1
-      at51 = λ bs. Scalar.Φcond T28 O1 21 (λ x. x) (at48 bs) (at50 bs)
-      abbrev at52 : (bs : List.List Nat.ℕ) → Typed.TF T82 O0
-      at52 = λ bs. Typed.atRet O0
-      abbrev at53 : (bs : List.List Nat.ℕ) → Typed.TF T81 O0
-      at53 = λ bs. λ Ψ. Typed.pass T81 T82 (s79 bs) (at52 bs Ψ)
-      abbrev at54 : (bs : List.List Nat.ℕ) → Typed.TF T80 O0
-      at54 = λ bs. λ Ψ. Typed.pass T80 T81 (s78 bs) (at53 bs Ψ)
-      abbrev at55 : (bs : List.List Nat.ℕ) → Typed.TF T79 O0
-      at55 = λ bs. λ Ψ. Typed.pass T79 T80 (s77 bs) (at54 bs Ψ)
-      abbrev at56 : (bs : List.List Nat.ℕ) → Typed.TF T29 O0
-      at56 = λ bs. λ Ψ. Typed.both (s76 bs) (at55 bs Ψ)
-      abbrev at57 : (bs : List.List Nat.ℕ) → Typed.TF T28 O0
-      at57 = λ bs. λ Ψ. at51 bs (Typed.wantNext T29 O0 (at56 bs Ψ) Ψ)
-      abbrev at58 : (bs : List.List Nat.ℕ) → Typed.TF T27 O0
-      at58 = λ bs. λ Ψ. Typed.both (s26 bs) (at57 bs Ψ)
-      abbrev at59 : (bs : List.List Nat.ℕ) → Typed.TF T26 O0
-      at59 = λ bs. λ Ψ. Typed.pass T26 T27 (s25 bs) (at58 bs Ψ)
-      abbrev at60 : (bs : List.List Nat.ℕ) → Typed.TF T25 O0
-      at60 = λ bs. λ Ψ. Typed.pass T25 T26 (s24 bs) (at59 bs Ψ)
-      abbrev at61 : (bs : List.List Nat.ℕ) → Typed.TF T24 O0
-      at61 = λ bs. λ Ψ. Typed.both (s23 bs) (at60 bs Ψ)
-      abbrev at62 : (bs : List.List Nat.ℕ) → Typed.TF T22 O0
-      at62 = λ bs. λ Ψ. Typed.both (s22 bs) (at61 bs Ψ)
-      abbrev at63 : (bs : List.List Nat.ℕ) → Typed.TF T22 O0
-      at63 = λ bs. λ Ψ. at62 bs Ψ
-      abbrev at64 : (bs : List.List Nat.ℕ) → Typed.TF T19 O0
-      at64 = λ bs. λ Ψ. Typed.pass T19 T22 (s20 bs) (at63 bs Ψ)
-      abbrev at65 : (bs : List.List Nat.ℕ) → Typed.TF T19 O0
+      at51 = λ bs. λ Ψ. Typed.pass T28 T79 (s76 bs) (at50 bs Ψ)
+      abbrev at52 : (bs : List.List Nat.ℕ) → Typed.TF T28 O1
+      at52 = λ bs. Scalar.Φcond T28 O1 22 (λ x. x) (at49 bs) (at51 bs)
+      abbrev at53 : (bs : List.List Nat.ℕ) → Typed.TF T84 O0
+      at53 = λ bs. Typed.atRet O0
+      abbrev at54 : (bs : List.List Nat.ℕ) → Typed.TF T83 O0
+      at54 = λ bs. λ Ψ. Typed.pass T83 T84 (s81 bs) (at53 bs Ψ)
+      abbrev at55 : (bs : List.List Nat.ℕ) → Typed.TF T82 O0
+      at55 = λ bs. λ Ψ. Typed.pass T82 T83 (s80 bs) (at54 bs Ψ)
+      abbrev at56 : (bs : List.List Nat.ℕ) → Typed.TF T81 O0
+      at56 = λ bs. λ Ψ. Typed.pass T81 T82 (s79 bs) (at55 bs Ψ)
+      abbrev at57 : (bs : List.List Nat.ℕ) → Typed.TF T80 O0
+      at57 = λ bs. λ Ψ. Typed.pass T80 T81 (s78 bs) (at56 bs Ψ)
+      abbrev at58 : (bs : List.List Nat.ℕ) → Typed.TF T29 O0
+      at58 = λ bs. λ Ψ. Typed.both (s77 bs) (at57 bs Ψ)
+      abbrev at59 : (bs : List.List Nat.ℕ) → Typed.TF T28 O0
+      at59 = λ bs. λ Ψ. at52 bs (Typed.wantNext T29 O0 (at58 bs Ψ) Ψ)
+      abbrev at60 : (bs : List.List Nat.ℕ) → Typed.TF T27 O0
+      at60 = λ bs. λ Ψ. Typed.both (s26 bs) (at59 bs Ψ)
+      abbrev at61 : (bs : List.List Nat.ℕ) → Typed.TF T26 O0
+      at61 = λ bs. λ Ψ. Typed.pass T26 T27 (s25 bs) (at60 bs Ψ)
+      abbrev at62 : (bs : List.List Nat.ℕ) → Typed.TF T25 O0
+      at62 = λ bs. λ Ψ. Typed.pass T25 T26 (s24 bs) (at61 bs Ψ)
+      abbrev at63 : (bs : List.List Nat.ℕ) → Typed.TF T24 O0
+      at63 = λ bs. λ Ψ. Typed.both (s23 bs) (at62 bs Ψ)
+      abbrev at64 : (bs : List.List Nat.ℕ) → Typed.TF T22 O0
+      at64 = λ bs. λ Ψ. Typed.both (s22 bs) (at63 bs Ψ)
+      abbrev at65 : (bs : List.List Nat.ℕ) → Typed.TF T22 O0
       at65 = λ bs. λ Ψ. at64 bs Ψ
       abbrev at66 : (bs : List.List Nat.ℕ) → Typed.TF T19 O0
-      at66 = λ bs. λ Ψ. at65 bs Ψ
-      abbrev at67 : (bs : List.List Nat.ℕ) → Typed.TF T17 O0
-      at67 = λ bs. λ Ψ. Typed.pass T17 T19 (s17 bs) (at66 bs Ψ)
-      abbrev at68 : (bs : List.List Nat.ℕ) → Typed.TF T17 O0
+      at66 = λ bs. λ Ψ. Typed.pass T19 T22 (s20 bs) (at65 bs Ψ)
+      abbrev at67 : (bs : List.List Nat.ℕ) → Typed.TF T19 O0
+      at67 = λ bs. λ Ψ. at66 bs Ψ
+      abbrev at68 : (bs : List.List Nat.ℕ) → Typed.TF T19 O0
       at68 = λ bs. λ Ψ. at67 bs Ψ
-      abbrev at69 : (bs : List.List Nat.ℕ) → Typed.TF T16 O0
-      at69 = λ bs. λ Ψ. Typed.pass T16 T17 (s15 bs) (at68 bs Ψ)
-      abbrev at70 : (bs : List.List Nat.ℕ) → Typed.TF T15 O0
-      at70 = λ bs. λ Ψ. Typed.pass T15 T16 (s14 bs) (at69 bs Ψ)
-      abbrev at71 : (bs : List.List Nat.ℕ) → Typed.TF T14 O0
-      at71 = λ bs. λ Ψ. Typed.pass T14 T15 (s13 bs) (at70 bs Ψ)
-      abbrev at72 : (bs : List.List Nat.ℕ) → Typed.TF T13 O0
-      at72 = λ bs. λ Ψ. Typed.pass T13 T14 (s12 bs) (at71 bs Ψ)
-      abbrev at73 : (bs : List.List Nat.ℕ) → Typed.TF T12 O0
-      at73 = λ bs. λ Ψ. Typed.pass T12 T13 (s11 bs) (at72 bs Ψ)
-      abbrev at74 : (bs : List.List Nat.ℕ) → Typed.TF T11 O0
-      at74 = λ bs. λ Ψ. Typed.both (s10 bs) (at73 bs Ψ)
-      abbrev at75 : (bs : List.List Nat.ℕ) → Typed.TF T10 O0
-      at75 = λ bs. λ Ψ. Typed.pass T10 T11 (s9 bs) (at74 bs Ψ)
-      abbrev at76 : (bs : List.List Nat.ℕ) → Typed.TF T9 O0
-      at76 = λ bs. λ Ψ. Typed.pass T9 T10 (s8 bs) (at75 bs Ψ)
-      abbrev at77 : (bs : List.List Nat.ℕ) → Typed.TF T8 O0
-      at77 = λ bs. λ Ψ. Typed.ask (s7 bs) (at76 bs Ψ)
-      abbrev at78 : (bs : List.List Nat.ℕ) → Typed.TF T6 O0
-      at78 = λ bs. λ Ψ. Typed.give (s6 bs) (at77 bs Ψ)
-      abbrev at79 : (bs : List.List Nat.ℕ) → Typed.TF T6 O0
-      at79 = λ bs. λ Ψ. at78 bs Ψ
-      abbrev at80 : (bs : List.List Nat.ℕ) → Typed.TF T5 O0
-      at80 = λ bs. λ Ψ. Typed.ask (s4 bs) (at79 bs Ψ)
-      abbrev at81 : (bs : List.List Nat.ℕ) → Typed.TF T3 O0
-      at81 = λ bs. λ Ψ. Typed.give (s3 bs) (at80 bs Ψ)
-      abbrev at82 : (bs : List.List Nat.ℕ) → Typed.TF T3 O0
-      at82 = λ bs. λ Ψ. at81 bs Ψ
-      abbrev at83 : (bs : List.List Nat.ℕ) → Typed.TF T2 O0
-      at83 = λ bs. λ Ψ. Typed.both (s1 bs) (at82 bs Ψ)
-      abbrev at84 : (bs : List.List Nat.ℕ) → Typed.TF T0 O0
-      at84 = λ bs. λ Ψ. Typed.give (s0 bs) (at83 bs Ψ)
+      abbrev at69 : (bs : List.List Nat.ℕ) → Typed.TF T17 O0
+      at69 = λ bs. λ Ψ. Typed.pass T17 T19 (s17 bs) (at68 bs Ψ)
+      abbrev at70 : (bs : List.List Nat.ℕ) → Typed.TF T17 O0
+      at70 = λ bs. λ Ψ. at69 bs Ψ
+      abbrev at71 : (bs : List.List Nat.ℕ) → Typed.TF T16 O0
+      at71 = λ bs. λ Ψ. Typed.pass T16 T17 (s15 bs) (at70 bs Ψ)
+      abbrev at72 : (bs : List.List Nat.ℕ) → Typed.TF T15 O0
+      at72 = λ bs. λ Ψ. Typed.pass T15 T16 (s14 bs) (at71 bs Ψ)
+      abbrev at73 : (bs : List.List Nat.ℕ) → Typed.TF T14 O0
+      at73 = λ bs. λ Ψ. Typed.pass T14 T15 (s13 bs) (at72 bs Ψ)
+      abbrev at74 : (bs : List.List Nat.ℕ) → Typed.TF T13 O0
+      at74 = λ bs. λ Ψ. Typed.pass T13 T14 (s12 bs) (at73 bs Ψ)
+      abbrev at75 : (bs : List.List Nat.ℕ) → Typed.TF T12 O0
+      at75 = λ bs. λ Ψ. Typed.pass T12 T13 (s11 bs) (at74 bs Ψ)
+      abbrev at76 : (bs : List.List Nat.ℕ) → Typed.TF T11 O0
+      at76 = λ bs. λ Ψ. Typed.both (s10 bs) (at75 bs Ψ)
+      abbrev at77 : (bs : List.List Nat.ℕ) → Typed.TF T10 O0
+      at77 = λ bs. λ Ψ. Typed.pass T10 T11 (s9 bs) (at76 bs Ψ)
+      abbrev at78 : (bs : List.List Nat.ℕ) → Typed.TF T9 O0
+      at78 = λ bs. λ Ψ. Typed.pass T9 T10 (s8 bs) (at77 bs Ψ)
+      abbrev at79 : (bs : List.List Nat.ℕ) → Typed.TF T8 O0
+      at79 = λ bs. λ Ψ. Typed.ask (s7 bs) (at78 bs Ψ)
+      abbrev at80 : (bs : List.List Nat.ℕ) → Typed.TF T6 O0
+      at80 = λ bs. λ Ψ. Typed.give (s6 bs) (at79 bs Ψ)
+      abbrev at81 : (bs : List.List Nat.ℕ) → Typed.TF T6 O0
+      at81 = λ bs. λ Ψ. at80 bs Ψ
+      abbrev at82 : (bs : List.List Nat.ℕ) → Typed.TF T5 O0
+      at82 = λ bs. λ Ψ. Typed.ask (s4 bs) (at81 bs Ψ)
+      abbrev at83 : (bs : List.List Nat.ℕ) → Typed.TF T3 O0
+      at83 = λ bs. λ Ψ. Typed.give (s3 bs) (at82 bs Ψ)
+      abbrev at84 : (bs : List.List Nat.ℕ) → Typed.TF T3 O0
+      at84 = λ bs. λ Ψ. at83 bs Ψ
+      abbrev at85 : (bs : List.List Nat.ℕ) → Typed.TF T2 O0
+      at85 = λ bs. λ Ψ. Typed.both (s1 bs) (at84 bs Ψ)
+      abbrev at86 : (bs : List.List Nat.ℕ) → Typed.TF T0 O0
+      at86 = λ bs. λ Ψ. Typed.give (s0 bs) (at85 bs Ψ)
       abbrev pub Φ : (bs : List.List Nat.ℕ) → Typed.TF T0 O0
-      Φ = λ bs. at84 bs
+      Φ = λ bs. at86 bs
       module _ { M : Type 1 } (𝓤 : URA.URA M) (H : Wp.Heap 𝓤) (A : Atoms.Atoms 𝓤) (W : Kit.Given 𝓤 H A) (𝓣 : Wp.Tables 𝓤 H) where
         abbrev Knowns : Type 1
         Knowns = Plain.Known 𝓤 H A W 𝓣 2 ps·0 r·0 (claims· .0) (claims· .1) "hnsr_circuit::revoking_calls::entry_answer" × Plain.Known 𝓤 H A W 𝓣 0
@@ -1188,122 +1243,124 @@ module _ (claims· : Claims) where
         abbrev life4 : Row.Life
         life4 = Row.lease (κs .1 .1 .1 .1 .0) (qs .1 .1 .1 .1 .0)
         abbrev g5 : List.List Row.Entry
-        g5 = (0, Rows.any-gone Laws''''''.mir,) ∷ (1, Reshare.mslice-owedS RelayPending.row ref7 0 5 life0,) ∷ (2, Mut.mslice RelayCircuit.row ref8
+        g5 = (0, Rows.any-gone Laws'''''''.mir,) ∷ (1, Reshare.mslice-owedS RelayPending.row ref7 0 5 life0,) ∷ (2, Mut.mslice RelayCircuit.row ref8
             1,) ∷ (3, Mut.mslice ReservationUsage.row ref9 2,) ∷ (4, Mut.mslice InflightAction.row ref10 3,) ∷ (5, Mut.mslice (Referent.rtF
-            (Referent.fInt Syntax.w32)) ref11 4,) ∷ (6, Rows.whole (Declared'.row OpaqueRelayRuntime.the-type)) ∷ (7, Rows.sc-here (Row.sInt
-            Syntax.w64),) ∷ (8, Rows.whole (Declared'.row OpaqueRelayConfig.the-type)) ∷ (9, Rows.any-gone Laws'.mir,) ∷ (10, Rows.any-gone
-            Laws'.mir,) ∷ (11, Rows.any-gone Laws'.mir,) ∷ (12, Rows.any-gone Laws'''.mir,) ∷ (13, Rows.any-gone Laws''''.mir,) ∷ (14, Rows.any-gone
-            Laws'''''.mir,) ∷ (15, Relend.ssptr RelayPending.row ref0 5,) ∷ List.[]
-        abbrev g6 : List.List Row.Entry
-        g6 = (0, Rows.any-gone Laws''''''.mir,) ∷ (1, Reshare.mslice-owedS RelayPending.row ref7 0 5 life0,) ∷ (2, Mut.mslice RelayCircuit.row ref8
-            1,) ∷ (3, Mut.mslice ReservationUsage.row ref9 2,) ∷ (4, Mut.mslice InflightAction.row ref10 3,) ∷ (5, Mut.mslice (Referent.rtF
-            (Referent.fInt Syntax.w32)) ref11 4,) ∷ (6, Rows.whole (Declared'.row OpaqueRelayRuntime.the-type)) ∷ (7, Rows.sc-here (Row.sInt
-            Syntax.w64),) ∷ (8, Rows.whole (Declared'.row OpaqueRelayConfig.the-type)) ∷ (9, Rows.any-gone Laws'.mir,) ∷ (10, Rows.any-gone
-            Laws'.mir,) ∷ (11, Rows.any-gone Laws'.mir,) ∷ (12, Rows.any-gone Laws'''.mir,) ∷ (13, Rows.any-gone Laws''''.mir,) ∷ (14, Rows.any-gone
-            Laws'''''.mir,) ∷ (15, Rows.any-gone ref0,) ∷ List.[]
+            (Referent.fInt Syntax.w32)) ref11 4,) ∷ (6, Rows.whole (Declared'.row OpaqueRelayRuntime.the-type)) ∷ (7, Rows.whole (Declared'.row
+            Places.the-type),) ∷ (8, Rows.sc-here (Row.sInt Syntax.w64)) ∷ (9, Rows.whole (Declared'.row OpaqueRelayConfig.the-type),) ∷ (10,
+            Rows.any-gone Laws'.mir,) ∷ (11, Rows.any-gone Laws'.mir,) ∷ (12, Rows.any-gone Laws'.mir,) ∷ (13, Rows.any-gone Laws''''.mir,) ∷ (14,
+            Rows.any-gone Laws'''''.mir,) ∷ (15, Rows.any-gone Laws''''''.mir,) ∷ List.[]
         abbrev g8 : List.List Row.Entry
-        g8 = (0, Rows.any-gone Laws''''''.mir,) ∷ (1, Reshare.mslice-owedS RelayPending.row ref7 0 5 life0,) ∷ (2, Reshare.mslice-owedS
+        g8 = (0, Rows.any-gone Laws'''''''.mir,) ∷ (1, Reshare.mslice-owedS RelayPending.row ref7 0 5 life0,) ∷ (2, Reshare.mslice-owedS
             RelayCircuit.row ref8 1 6 life1,) ∷ (3, Mut.mslice ReservationUsage.row ref9 2,) ∷ (4, Mut.mslice InflightAction.row ref10 3,) ∷ (5,
             Mut.mslice (Referent.rtF (Referent.fInt Syntax.w32)) ref11 4,) ∷ (6, Rows.whole (Declared'.row OpaqueRelayRuntime.the-type)) ∷ (7,
-            Rows.sc-here (Row.sInt Syntax.w64),) ∷ (8, Rows.whole (Declared'.row OpaqueRelayConfig.the-type)) ∷ (9, Rows.any-gone Laws'.mir,) ∷ (10,
-            Rows.any-gone Laws'.mir,) ∷ (11, Rows.any-gone Laws'.mir,) ∷ (12, Rows.any-gone Laws'''.mir,) ∷ (13, Rows.any-gone Laws''''.mir,) ∷ (14,
-            Rows.any-gone Laws'''''.mir,) ∷ (15, Rows.any-gone ref0,) ∷ List.[]
+            Rows.whole (Declared'.row Places.the-type),) ∷ (8, Rows.sc-here (Row.sInt Syntax.w64)) ∷ (9, Rows.whole (Declared'.row
+            OpaqueRelayConfig.the-type),) ∷ (10, Rows.any-gone Laws'.mir,) ∷ (11, Rows.any-gone Laws'.mir,) ∷ (12, Rows.any-gone Laws'.mir,) ∷ (13,
+            Rows.any-gone Laws''''.mir,) ∷ (14, Rows.any-gone Laws'''''.mir,) ∷ (15, Rows.any-gone Laws''''''.mir,) ∷ List.[]
         abbrev g13 : List.List Row.Entry
-        g13 = (0, Rows.any-gone Laws''''''.mir,) ∷ (1, Reshare.mslice-owedS RelayPending.row ref7 0 5 life0,) ∷ (2, Reshare.mslice-owedS
+        g13 = (0, Rows.any-gone Laws'''''''.mir,) ∷ (1, Reshare.mslice-owedS RelayPending.row ref7 0 5 life0,) ∷ (2, Reshare.mslice-owedS
             RelayCircuit.row ref8 1 6 life1,) ∷ (3, Mut.mslice ReservationUsage.row ref9 2,) ∷ (4, Mut.mslice InflightAction.row ref10 3,) ∷ (5,
             Mut.mslice (Referent.rtF (Referent.fInt Syntax.w32)) ref11 4,) ∷ (6, Rows.whole (Declared'.row OpaqueRelayRuntime.the-type)) ∷ (7,
-            Rows.sc-here (Row.sInt Syntax.w64),) ∷ (8, Rows.whole (Declared'.row OpaqueRelayConfig.the-type)) ∷ (9, Rows.whole (Declared.row
-            HnsrAnswer.the-type),) ∷ (10, Rows.any-gone Laws'.mir,) ∷ (11, Rows.any-gone Laws'.mir,) ∷ (12, Rows.any-gone Laws'''.mir,) ∷ (13,
-            Rows.any-gone Laws''''.mir,) ∷ (14, Rows.any-gone Laws'''''.mir,) ∷ (15, Rows.any-gone ref0,) ∷ List.[]
+            Rows.whole (Declared'.row Places.the-type),) ∷ (8, Rows.sc-here (Row.sInt Syntax.w64)) ∷ (9, Rows.whole (Declared'.row
+            OpaqueRelayConfig.the-type),) ∷ (10, Rows.whole (Declared.row HnsrAnswer.the-type)) ∷ (11, Rows.any-gone Laws'.mir,) ∷ (12, Rows.any-gone
+            Laws'.mir,) ∷ (13, Rows.any-gone Laws''''.mir,) ∷ (14, Rows.any-gone Laws'''''.mir,) ∷ (15, Rows.any-gone Laws''''''.mir,) ∷ List.[]
         abbrev g16 : List.List Row.Entry
-        g16 = (0, Rows.any-gone Laws''''''.mir,) ∷ (1, Reshare.mslice-owedS RelayPending.row ref7 0 5 life0,) ∷ (2, Reshare.mslice-owedS
+        g16 = (0, Rows.any-gone Laws'''''''.mir,) ∷ (1, Reshare.mslice-owedS RelayPending.row ref7 0 5 life0,) ∷ (2, Reshare.mslice-owedS
             RelayCircuit.row ref8 1 6 life1,) ∷ (3, Mut.mslice ReservationUsage.row ref9 2,) ∷ (4, Mut.mslice InflightAction.row ref10 3,) ∷ (5,
             Mut.mslice (Referent.rtF (Referent.fInt Syntax.w32)) ref11 4,) ∷ (6, Rows.whole (Declared'.row OpaqueRelayRuntime.the-type)) ∷ (7,
-            Rows.sc-here (Row.sInt Syntax.w64),) ∷ (8, Rows.any-gone Laws''.mir,) ∷ (9, Rows.whole (Declared.row HnsrAnswer.the-type)) ∷ (10,
-            Rows.any-gone Laws'.mir,) ∷ (11, Rows.any-gone Laws'.mir,) ∷ (12, Rows.any-gone Laws'''.mir,) ∷ (13, Rows.any-gone Laws''''.mir,) ∷ (14,
-            Rows.any-gone Laws'''''.mir,) ∷ (15, Rows.any-gone ref0,) ∷ List.[]
+            Rows.whole (Declared'.row Places.the-type),) ∷ (8, Rows.sc-here (Row.sInt Syntax.w64)) ∷ (9, Rows.any-gone Laws''.mir,) ∷ (10, Rows.whole
+            (Declared.row HnsrAnswer.the-type)) ∷ (11, Rows.any-gone Laws'.mir,) ∷ (12, Rows.any-gone Laws'.mir,) ∷ (13, Rows.any-gone Laws''''.mir,)
+            ∷ (14, Rows.any-gone Laws'''''.mir,) ∷ (15, Rows.any-gone Laws''''''.mir,) ∷ List.[]
         abbrev g18 : List.List Row.Entry
-        g18 = (0, Rows.any-gone Laws''''''.mir,) ∷ (1, Mut.mslice RelayPending.row ref7 0,) ∷ (2, Reshare.mslice-owedS RelayCircuit.row ref8 1 6
+        g18 = (0, Rows.any-gone Laws'''''''.mir,) ∷ (1, Mut.mslice RelayPending.row ref7 0,) ∷ (2, Reshare.mslice-owedS RelayCircuit.row ref8 1 6
             life1,) ∷ (3, Mut.mslice ReservationUsage.row ref9 2,) ∷ (4, Mut.mslice InflightAction.row ref10 3,) ∷ (5, Mut.mslice (Referent.rtF
-            (Referent.fInt Syntax.w32)) ref11 4,) ∷ (6, Rows.whole (Declared'.row OpaqueRelayRuntime.the-type)) ∷ (7, Rows.sc-here (Row.sInt
-            Syntax.w64),) ∷ (8, Rows.any-gone Laws''.mir,) ∷ (9, Rows.whole (Declared.row HnsrAnswer.the-type)) ∷ (10, Rows.any-gone Laws'.mir,) ∷
-            (11, Rows.any-gone Laws'.mir,) ∷ (12, Rows.any-gone Laws'''.mir,) ∷ (13, Rows.any-gone Laws''''.mir,) ∷ (14, Rows.any-gone Laws'''''.mir,)
-            ∷ (15, Rows.any-gone ref0,) ∷ List.[]
+            (Referent.fInt Syntax.w32)) ref11 4,) ∷ (6, Rows.whole (Declared'.row OpaqueRelayRuntime.the-type)) ∷ (7, Rows.whole (Declared'.row
+            Places.the-type),) ∷ (8, Rows.sc-here (Row.sInt Syntax.w64)) ∷ (9, Rows.any-gone Laws''.mir,) ∷ (10, Rows.whole (Declared.row
+            HnsrAnswer.the-type)) ∷ (11, Rows.any-gone Laws'.mir,) ∷ (12, Rows.any-gone Laws'.mir,) ∷ (13, Rows.any-gone Laws''''.mir,) ∷ (14,
+            Rows.any-gone Laws'''''.mir,) ∷ (15, Rows.any-gone Laws''''''.mir,) ∷ List.[]
         abbrev g33 : List.List Row.Entry
-        g33 = (0, Rows.any-gone Laws''''''.mir,) ∷ (1, Mut.mslice RelayPending.row ref7 0,) ∷ (2, Mut.mslice RelayCircuit.row ref8 1,) ∷ (3,
+        g33 = (0, Rows.any-gone Laws'''''''.mir,) ∷ (1, Mut.mslice RelayPending.row ref7 0,) ∷ (2, Mut.mslice RelayCircuit.row ref8 1,) ∷ (3,
             Relend.mslice-owed ReservationUsage.row ref9 2 7 life2,) ∷ (4, Mut.mslice InflightAction.row ref10 3,) ∷ (5, Mut.mslice (Referent.rtF
-            (Referent.fInt Syntax.w32)) ref11 4,) ∷ (6, Rows.any-gone Laws'''''.mir,) ∷ (7, Rows.sc-here (Row.sInt Syntax.w64)) ∷ (8, Rows.any-gone
-            Laws''.mir,) ∷ (9, Rows.any-gone Laws'.mir,) ∷ (10, Rows.any-gone Laws'.mir,) ∷ (11, Rows.any-gone Laws'.mir,) ∷ (12, Rows.any-gone
-            Laws'''.mir,) ∷ (13, Rows.whole (Declared'.row Revoking.the-type)) ∷ (14, Rows.whole (Declared'.row OpaqueRelayRuntime.the-type),) ∷ (15,
-            Rows.any-gone ref0,) ∷ List.[]
+            (Referent.fInt Syntax.w32)) ref11 4,) ∷ (6, Rows.any-gone Laws''''''.mir,) ∷ (7, Rows.whole (Declared'.row Places.the-type)) ∷ (8,
+            Rows.sc-here (Row.sInt Syntax.w64),) ∷ (9, Rows.any-gone Laws''.mir,) ∷ (10, Rows.any-gone Laws'.mir,) ∷ (11, Rows.any-gone Laws'.mir,) ∷
+            (12, Rows.any-gone Laws'.mir,) ∷ (13, Rows.any-gone Laws''''.mir,) ∷ (14, Rows.whole (Declared'.row Revoking.the-type)) ∷ (15, Rows.whole
+            (Declared'.row OpaqueRelayRuntime.the-type),) ∷ List.[]
         abbrev g38 : List.List Row.Entry
-        g38 = (0, Rows.any-gone Laws''''''.mir,) ∷ (1, Relend.mslice-owed RelayPending.row ref7 0 8 life0,) ∷ (2, Mut.mslice RelayCircuit.row ref8 1,)
-            ∷ (3, Mut.mslice ReservationUsage.row ref9 2,) ∷ (4, Mut.mslice InflightAction.row ref10 3,) ∷ (5, Mut.mslice (Referent.rtF (Referent.fInt
-            Syntax.w32)) ref11 4,) ∷ (6, Rows.any-gone Laws'''''.mir,) ∷ (7, Rows.sc-here (Row.sInt Syntax.w64)) ∷ (8, Rows.any-gone Laws''.mir,) ∷
-            (9, Rows.any-gone Laws'.mir,) ∷ (10, Rows.any-gone Laws'.mir,) ∷ (11, Rows.any-gone Laws'.mir,) ∷ (12, Rows.any-gone Laws'''.mir,) ∷ (13,
-            Rows.whole (Declared'.row Revoking.the-type)) ∷ (14, Rows.whole (Declared'.row OpaqueRelayRuntime.the-type),) ∷ (15, Rows.any-gone ref0,)
-            ∷ List.[]
+        g38 = (0, Rows.any-gone Laws'''''''.mir,) ∷ (1, Relend.mslice-owed RelayPending.row ref7 0 8 life0,) ∷ (2, Mut.mslice RelayCircuit.row ref8
+            1,) ∷ (3, Mut.mslice ReservationUsage.row ref9 2,) ∷ (4, Mut.mslice InflightAction.row ref10 3,) ∷ (5, Mut.mslice (Referent.rtF
+            (Referent.fInt Syntax.w32)) ref11 4,) ∷ (6, Rows.any-gone Laws''''''.mir,) ∷ (7, Rows.whole (Declared'.row Places.the-type)) ∷ (8,
+            Rows.sc-here (Row.sInt Syntax.w64),) ∷ (9, Rows.any-gone Laws''.mir,) ∷ (10, Rows.any-gone Laws'.mir,) ∷ (11, Rows.any-gone Laws'.mir,) ∷
+            (12, Rows.any-gone Laws'.mir,) ∷ (13, Rows.any-gone Laws''''.mir,) ∷ (14, Rows.whole (Declared'.row Revoking.the-type)) ∷ (15, Rows.whole
+            (Declared'.row OpaqueRelayRuntime.the-type),) ∷ List.[]
         abbrev g41 : List.List Row.Entry
-        g41 = (0, Rows.any-gone Laws''''''.mir,) ∷ (1, Relend.mslice-owed RelayPending.row ref7 0 8 life0,) ∷ (2, Relend.mslice-owed RelayCircuit.row
+        g41 = (0, Rows.any-gone Laws'''''''.mir,) ∷ (1, Relend.mslice-owed RelayPending.row ref7 0 8 life0,) ∷ (2, Relend.mslice-owed RelayCircuit.row
             ref8 1 9 life1,) ∷ (3, Mut.mslice ReservationUsage.row ref9 2,) ∷ (4, Mut.mslice InflightAction.row ref10 3,) ∷ (5, Mut.mslice
-            (Referent.rtF (Referent.fInt Syntax.w32)) ref11 4,) ∷ (6, Rows.any-gone Laws'''''.mir,) ∷ (7, Rows.sc-here (Row.sInt Syntax.w64)) ∷ (8,
-            Rows.any-gone Laws''.mir,) ∷ (9, Rows.any-gone Laws'.mir,) ∷ (10, Rows.any-gone Laws'.mir,) ∷ (11, Rows.any-gone Laws'.mir,) ∷ (12,
-            Rows.any-gone Laws'''.mir,) ∷ (13, Rows.whole (Declared'.row Revoking.the-type)) ∷ (14, Rows.whole (Declared'.row
-            OpaqueRelayRuntime.the-type),) ∷ (15, Rows.any-gone ref0,) ∷ List.[]
+            (Referent.rtF (Referent.fInt Syntax.w32)) ref11 4,) ∷ (6, Rows.any-gone Laws''''''.mir,) ∷ (7, Rows.whole (Declared'.row Places.the-type))
+            ∷ (8, Rows.sc-here (Row.sInt Syntax.w64),) ∷ (9, Rows.any-gone Laws''.mir,) ∷ (10, Rows.any-gone Laws'.mir,) ∷ (11, Rows.any-gone
+            Laws'.mir,) ∷ (12, Rows.any-gone Laws'.mir,) ∷ (13, Rows.any-gone Laws''''.mir,) ∷ (14, Rows.whole (Declared'.row Revoking.the-type)) ∷
+            (15, Rows.whole (Declared'.row OpaqueRelayRuntime.the-type),) ∷ List.[]
         abbrev g44 : List.List Row.Entry
-        g44 = (0, Rows.any-gone Laws''''''.mir,) ∷ (1, Relend.mslice-owed RelayPending.row ref7 0 8 life0,) ∷ (2, Relend.mslice-owed RelayCircuit.row
+        g44 = (0, Rows.any-gone Laws'''''''.mir,) ∷ (1, Relend.mslice-owed RelayPending.row ref7 0 8 life0,) ∷ (2, Relend.mslice-owed RelayCircuit.row
             ref8 1 9 life1,) ∷ (3, Mut.mslice ReservationUsage.row ref9 2,) ∷ (4, Relend.mslice-owed InflightAction.row ref10 3 10 life3,) ∷ (5,
-            Mut.mslice (Referent.rtF (Referent.fInt Syntax.w32)) ref11 4,) ∷ (6, Rows.any-gone Laws'''''.mir,) ∷ (7, Rows.sc-here (Row.sInt
-            Syntax.w64)) ∷ (8, Rows.any-gone Laws''.mir,) ∷ (9, Rows.any-gone Laws'.mir,) ∷ (10, Rows.any-gone Laws'.mir,) ∷ (11, Rows.any-gone
-            Laws'.mir,) ∷ (12, Rows.any-gone Laws'''.mir,) ∷ (13, Rows.whole (Declared'.row Revoking.the-type)) ∷ (14, Rows.whole (Declared'.row
-            OpaqueRelayRuntime.the-type),) ∷ (15, Rows.any-gone ref0,) ∷ List.[]
+            Mut.mslice (Referent.rtF (Referent.fInt Syntax.w32)) ref11 4,) ∷ (6, Rows.any-gone Laws''''''.mir,) ∷ (7, Rows.whole (Declared'.row
+            Places.the-type)) ∷ (8, Rows.sc-here (Row.sInt Syntax.w64),) ∷ (9, Rows.any-gone Laws''.mir,) ∷ (10, Rows.any-gone Laws'.mir,) ∷ (11,
+            Rows.any-gone Laws'.mir,) ∷ (12, Rows.any-gone Laws'.mir,) ∷ (13, Rows.any-gone Laws''''.mir,) ∷ (14, Rows.whole (Declared'.row
+            Revoking.the-type)) ∷ (15, Rows.whole (Declared'.row OpaqueRelayRuntime.the-type),) ∷ List.[]
         abbrev g47 : List.List Row.Entry
-        g47 = (0, Rows.any-gone Laws''''''.mir,) ∷ (1, Relend.mslice-owed RelayPending.row ref7 0 8 life0,) ∷ (2, Relend.mslice-owed RelayCircuit.row
+        g47 = (0, Rows.any-gone Laws'''''''.mir,) ∷ (1, Relend.mslice-owed RelayPending.row ref7 0 8 life0,) ∷ (2, Relend.mslice-owed RelayCircuit.row
             ref8 1 9 life1,) ∷ (3, Mut.mslice ReservationUsage.row ref9 2,) ∷ (4, Relend.mslice-owed InflightAction.row ref10 3 10 life3,) ∷ (5,
-            Relend.mslice-owed (Referent.rtF (Referent.fInt Syntax.w32)) ref11 4 11 life4,) ∷ (6, Rows.any-gone Laws'''''.mir,) ∷ (7, Rows.sc-here
-            (Row.sInt Syntax.w64)) ∷ (8, Rows.any-gone Laws''.mir,) ∷ (9, Rows.any-gone Laws'.mir,) ∷ (10, Rows.any-gone Laws'.mir,) ∷ (11,
-            Rows.any-gone Laws'.mir,) ∷ (12, Rows.any-gone Laws'''.mir,) ∷ (13, Rows.whole (Declared'.row Revoking.the-type)) ∷ (14, Rows.whole
-            (Declared'.row OpaqueRelayRuntime.the-type),) ∷ (15, Rows.any-gone ref0,) ∷ List.[]
+            Relend.mslice-owed (Referent.rtF (Referent.fInt Syntax.w32)) ref11 4 11 life4,) ∷ (6, Rows.any-gone Laws''''''.mir,) ∷ (7, Rows.whole
+            (Declared'.row Places.the-type)) ∷ (8, Rows.sc-here (Row.sInt Syntax.w64),) ∷ (9, Rows.any-gone Laws''.mir,) ∷ (10, Rows.any-gone
+            Laws'.mir,) ∷ (11, Rows.any-gone Laws'.mir,) ∷ (12, Rows.any-gone Laws'.mir,) ∷ (13, Rows.any-gone Laws''''.mir,) ∷ (14, Rows.whole
+            (Declared'.row Revoking.the-type)) ∷ (15, Rows.whole (Declared'.row OpaqueRelayRuntime.the-type),) ∷ List.[]
         abbrev g50 : List.List Row.Entry
         g50 = (0, Rows.whole (Declared'.row Relayed.the-type)) ∷ (1, Relend.mslice-owed RelayPending.row ref7 0 8 life0,) ∷ (2, Relend.mslice-owed
             RelayCircuit.row ref8 1 9 life1,) ∷ (3, Mut.mslice ReservationUsage.row ref9 2,) ∷ (4, Relend.mslice-owed InflightAction.row ref10 3 10
-            life3,) ∷ (5, Relend.mslice-owed (Referent.rtF (Referent.fInt Syntax.w32)) ref11 4 11 life4,) ∷ (6, Rows.any-gone Laws'''''.mir,) ∷ (7,
-            Rows.sc-here (Row.sInt Syntax.w64)) ∷ (8, Rows.any-gone Laws''.mir,) ∷ (9, Rows.any-gone Laws'.mir,) ∷ (10, Rows.any-gone Laws'.mir,) ∷
-            (11, Rows.any-gone Laws'.mir,) ∷ (12, Rows.any-gone Laws'''.mir,) ∷ (13, Rows.whole (Declared'.row Revoking.the-type)) ∷ (14, Rows.whole
-            (Declared'.row OpaqueRelayRuntime.the-type),) ∷ (15, Rows.any-gone ref0,) ∷ List.[]
+            life3,) ∷ (5, Relend.mslice-owed (Referent.rtF (Referent.fInt Syntax.w32)) ref11 4 11 life4,) ∷ (6, Rows.any-gone Laws''''''.mir,) ∷ (7,
+            Rows.whole (Declared'.row Places.the-type)) ∷ (8, Rows.sc-here (Row.sInt Syntax.w64),) ∷ (9, Rows.any-gone Laws''.mir,) ∷ (10,
+            Rows.any-gone Laws'.mir,) ∷ (11, Rows.any-gone Laws'.mir,) ∷ (12, Rows.any-gone Laws'.mir,) ∷ (13, Rows.any-gone Laws''''.mir,) ∷ (14,
+            Rows.whole (Declared'.row Revoking.the-type)) ∷ (15, Rows.whole (Declared'.row OpaqueRelayRuntime.the-type),) ∷ List.[]
         abbrev g53 : List.List Row.Entry
         g53 = (0, Rows.whole (Declared'.row Relayed.the-type)) ∷ (1, Relend.mslice-owed RelayPending.row ref7 0 8 life0,) ∷ (2, Relend.mslice-owed
             RelayCircuit.row ref8 1 9 life1,) ∷ (3, Mut.mslice ReservationUsage.row ref9 2,) ∷ (4, Relend.mslice-owed InflightAction.row ref10 3 10
-            life3,) ∷ (5, Relend.mslice-owed (Referent.rtF (Referent.fInt Syntax.w32)) ref11 4 11 life4,) ∷ (6, Rows.any-gone Laws'''''.mir,) ∷ (7,
-            Rows.sc-here (Row.sInt Syntax.w64)) ∷ (8, Rows.any-gone Laws''.mir,) ∷ (9, Rows.any-gone Laws'.mir,) ∷ (10, Rows.any-gone Laws'.mir,) ∷
-            (11, Rows.any-gone Laws'.mir,) ∷ (12, Rows.any-gone Laws'''.mir,) ∷ (13, Rows.any-gone Laws''''.mir,) ∷ (14, Rows.whole (Declared'.row
-            OpaqueRelayRuntime.the-type)) ∷ (15, Rows.any-gone ref0,) ∷ List.[]
+            life3,) ∷ (5, Relend.mslice-owed (Referent.rtF (Referent.fInt Syntax.w32)) ref11 4 11 life4,) ∷ (6, Rows.any-gone Laws''''''.mir,) ∷ (7,
+            Rows.any-gone Laws'''.mir,) ∷ (8, Rows.sc-here (Row.sInt Syntax.w64)) ∷ (9, Rows.any-gone Laws''.mir,) ∷ (10, Rows.any-gone Laws'.mir,) ∷
+            (11, Rows.any-gone Laws'.mir,) ∷ (12, Rows.any-gone Laws'.mir,) ∷ (13, Rows.any-gone Laws''''.mir,) ∷ (14, Rows.whole (Declared'.row
+            Revoking.the-type)) ∷ (15, Rows.whole (Declared'.row OpaqueRelayRuntime.the-type),) ∷ List.[]
         abbrev g54 : List.List Row.Entry
         g54 = (0, Rows.whole (Declared'.row Relayed.the-type)) ∷ (1, Relend.mslice-owed RelayPending.row ref7 0 8 life0,) ∷ (2, Relend.mslice-owed
             RelayCircuit.row ref8 1 9 life1,) ∷ (3, Mut.mslice ReservationUsage.row ref9 2,) ∷ (4, Relend.mslice-owed InflightAction.row ref10 3 10
-            life3,) ∷ (5, Relend.mslice-owed (Referent.rtF (Referent.fInt Syntax.w32)) ref11 4 11 life4,) ∷ (6, Rows.any-gone Laws'''''.mir,) ∷ (7,
-            Rows.sc-here (Row.sInt Syntax.w64)) ∷ (8, Rows.any-gone Laws''.mir,) ∷ (9, Rows.any-gone Laws'.mir,) ∷ (10, Rows.any-gone Laws'.mir,) ∷
-            (11, Rows.any-gone Laws'.mir,) ∷ (12, Rows.any-gone Laws'''.mir,) ∷ (13, Rows.any-gone Laws''''.mir,) ∷ (14, Rows.any-gone Laws'''''.mir,)
-            ∷ (15, Rows.any-gone ref0,) ∷ List.[]
+            life3,) ∷ (5, Relend.mslice-owed (Referent.rtF (Referent.fInt Syntax.w32)) ref11 4 11 life4,) ∷ (6, Rows.any-gone Laws''''''.mir,) ∷ (7,
+            Rows.any-gone Laws'''.mir,) ∷ (8, Rows.sc-here (Row.sInt Syntax.w64)) ∷ (9, Rows.any-gone Laws''.mir,) ∷ (10, Rows.any-gone Laws'.mir,) ∷
+            (11, Rows.any-gone Laws'.mir,) ∷ (12, Rows.any-gone Laws'.mir,) ∷ (13, Rows.any-gone Laws''''.mir,) ∷ (14, Rows.any-gone Laws'''''.mir,) ∷
+            (15, Rows.whole (Declared'.row OpaqueRelayRuntime.the-type)) ∷ List.[]
         abbrev g55 : List.List Row.Entry
-        g55 = (0, Rows.whole (Declared'.row Relayed.the-type)) ∷ (1, Mut.mslice RelayPending.row ref7 0,) ∷ (2, Relend.mslice-owed RelayCircuit.row
+        g55 = (0, Rows.whole (Declared'.row Relayed.the-type)) ∷ (1, Relend.mslice-owed RelayPending.row ref7 0 8 life0,) ∷ (2, Relend.mslice-owed
+            RelayCircuit.row ref8 1 9 life1,) ∷ (3, Mut.mslice ReservationUsage.row ref9 2,) ∷ (4, Relend.mslice-owed InflightAction.row ref10 3 10
+            life3,) ∷ (5, Relend.mslice-owed (Referent.rtF (Referent.fInt Syntax.w32)) ref11 4 11 life4,) ∷ (6, Rows.any-gone Laws''''''.mir,) ∷ (7,
+            Rows.any-gone Laws'''.mir,) ∷ (8, Rows.sc-here (Row.sInt Syntax.w64)) ∷ (9, Rows.any-gone Laws''.mir,) ∷ (10, Rows.any-gone Laws'.mir,) ∷
+            (11, Rows.any-gone Laws'.mir,) ∷ (12, Rows.any-gone Laws'.mir,) ∷ (13, Rows.any-gone Laws''''.mir,) ∷ (14, Rows.any-gone Laws'''''.mir,) ∷
+            (15, Rows.any-gone Laws''''''.mir,) ∷ List.[]
+        abbrev g56 : List.List Row.Entry
+        g56 = (0, Rows.whole (Declared'.row Relayed.the-type)) ∷ (1, Mut.mslice RelayPending.row ref7 0,) ∷ (2, Relend.mslice-owed RelayCircuit.row
             ref8 1 9 life1,) ∷ (3, Mut.mslice ReservationUsage.row ref9 2,) ∷ (4, Relend.mslice-owed InflightAction.row ref10 3 10 life3,) ∷ (5,
-            Relend.mslice-owed (Referent.rtF (Referent.fInt Syntax.w32)) ref11 4 11 life4,) ∷ (6, Rows.any-gone Laws'''''.mir,) ∷ (7, Rows.sc-here
-            (Row.sInt Syntax.w64)) ∷ (8, Rows.any-gone Laws''.mir,) ∷ (9, Rows.any-gone Laws'.mir,) ∷ (10, Rows.any-gone Laws'.mir,) ∷ (11,
-            Rows.any-gone Laws'.mir,) ∷ (12, Rows.any-gone Laws'''.mir,) ∷ (13, Rows.any-gone Laws''''.mir,) ∷ (14, Rows.any-gone Laws'''''.mir,) ∷
-            (15, Rows.any-gone ref0,) ∷ List.[]
-        abbrev g57 : List.List Row.Entry
-        g57 = (0, Rows.whole (Declared'.row Relayed.the-type)) ∷ (1, Mut.mslice RelayPending.row ref7 0,) ∷ (2, Mut.mslice RelayCircuit.row ref8 1,) ∷
-            (3, Mut.mslice ReservationUsage.row ref9 2,) ∷ (4, Relend.mslice-owed InflightAction.row ref10 3 10 life3,) ∷ (5, Relend.mslice-owed
-            (Referent.rtF (Referent.fInt Syntax.w32)) ref11 4 11 life4,) ∷ (6, Rows.any-gone Laws'''''.mir,) ∷ (7, Rows.sc-here (Row.sInt Syntax.w64))
-            ∷ (8, Rows.any-gone Laws''.mir,) ∷ (9, Rows.any-gone Laws'.mir,) ∷ (10, Rows.any-gone Laws'.mir,) ∷ (11, Rows.any-gone Laws'.mir,) ∷ (12,
-            Rows.any-gone Laws'''.mir,) ∷ (13, Rows.any-gone Laws''''.mir,) ∷ (14, Rows.any-gone Laws'''''.mir,) ∷ (15, Rows.any-gone ref0,) ∷ List.[]
+            Relend.mslice-owed (Referent.rtF (Referent.fInt Syntax.w32)) ref11 4 11 life4,) ∷ (6, Rows.any-gone Laws''''''.mir,) ∷ (7, Rows.any-gone
+            Laws'''.mir,) ∷ (8, Rows.sc-here (Row.sInt Syntax.w64)) ∷ (9, Rows.any-gone Laws''.mir,) ∷ (10, Rows.any-gone Laws'.mir,) ∷ (11,
+            Rows.any-gone Laws'.mir,) ∷ (12, Rows.any-gone Laws'.mir,) ∷ (13, Rows.any-gone Laws''''.mir,) ∷ (14, Rows.any-gone Laws'''''.mir,) ∷ (15,
+            Rows.any-gone Laws''''''.mir,) ∷ List.[]
         abbrev g58 : List.List Row.Entry
         g58 = (0, Rows.whole (Declared'.row Relayed.the-type)) ∷ (1, Mut.mslice RelayPending.row ref7 0,) ∷ (2, Mut.mslice RelayCircuit.row ref8 1,) ∷
+            (3, Mut.mslice ReservationUsage.row ref9 2,) ∷ (4, Relend.mslice-owed InflightAction.row ref10 3 10 life3,) ∷ (5, Relend.mslice-owed
+            (Referent.rtF (Referent.fInt Syntax.w32)) ref11 4 11 life4,) ∷ (6, Rows.any-gone Laws''''''.mir,) ∷ (7, Rows.any-gone Laws'''.mir,) ∷ (8,
+            Rows.sc-here (Row.sInt Syntax.w64)) ∷ (9, Rows.any-gone Laws''.mir,) ∷ (10, Rows.any-gone Laws'.mir,) ∷ (11, Rows.any-gone Laws'.mir,) ∷
+            (12, Rows.any-gone Laws'.mir,) ∷ (13, Rows.any-gone Laws''''.mir,) ∷ (14, Rows.any-gone Laws'''''.mir,) ∷ (15, Rows.any-gone
+            Laws''''''.mir,) ∷ List.[]
+        abbrev g59 : List.List Row.Entry
+        g59 = (0, Rows.whole (Declared'.row Relayed.the-type)) ∷ (1, Mut.mslice RelayPending.row ref7 0,) ∷ (2, Mut.mslice RelayCircuit.row ref8 1,) ∷
             (3, Mut.mslice ReservationUsage.row ref9 2,) ∷ (4, Mut.mslice InflightAction.row ref10 3,) ∷ (5, Relend.mslice-owed (Referent.rtF
-            (Referent.fInt Syntax.w32)) ref11 4 11 life4,) ∷ (6, Rows.any-gone Laws'''''.mir,) ∷ (7, Rows.sc-here (Row.sInt Syntax.w64)) ∷ (8,
-            Rows.any-gone Laws''.mir,) ∷ (9, Rows.any-gone Laws'.mir,) ∷ (10, Rows.any-gone Laws'.mir,) ∷ (11, Rows.any-gone Laws'.mir,) ∷ (12,
-            Rows.any-gone Laws'''.mir,) ∷ (13, Rows.any-gone Laws''''.mir,) ∷ (14, Rows.any-gone Laws'''''.mir,) ∷ (15, Rows.any-gone ref0,) ∷ List.[]
+            (Referent.fInt Syntax.w32)) ref11 4 11 life4,) ∷ (6, Rows.any-gone Laws''''''.mir,) ∷ (7, Rows.any-gone Laws'''.mir,) ∷ (8, Rows.sc-here
+            (Row.sInt Syntax.w64)) ∷ (9, Rows.any-gone Laws''.mir,) ∷ (10, Rows.any-gone Laws'.mir,) ∷ (11, Rows.any-gone Laws'.mir,) ∷ (12,
+            Rows.any-gone Laws'.mir,) ∷ (13, Rows.any-gone Laws''''.mir,) ∷ (14, Rows.any-gone Laws'''''.mir,) ∷ (15, Rows.any-gone Laws''''''.mir,) ∷
+            List.[]
         abbrev G0 : Row.Cx
         G0 = record { locals = List._++_ t0 (List._++_ t1 t2); slots = life0 ∷ life1 ∷ life2 ∷ life3 ∷ life4 ∷ Row.off ∷ Row.off ∷ Row.off ∷ Row.off ∷
             Row.off ∷ Row.off ∷ Row.off ∷ List.[]; }
@@ -1320,13 +1377,13 @@ module _ (claims· : Claims) where
         G4 = record { locals = List._++_ t4 (List._++_ t1 t2); slots = life0 ∷ life1 ∷ life2 ∷ life3 ∷ life4 ∷ Row.alive ∷ Row.off ∷ Row.off ∷ Row.off
             ∷ Row.off ∷ Row.off ∷ Row.off ∷ List.[]; }
         abbrev G5 : Row.Cx
-        G5 = record { locals = List._++_ g5 (List._++_ t1 t2); slots = Row.off ∷ life1 ∷ life2 ∷ life3 ∷ life4 ∷ Row.alive ∷ Row.off ∷ Row.off ∷
+        G5 = record { locals = List._++_ g5 (List._++_ t6 t2); slots = Row.off ∷ life1 ∷ life2 ∷ life3 ∷ life4 ∷ Row.alive ∷ Row.off ∷ Row.off ∷
             Row.off ∷ Row.off ∷ Row.off ∷ Row.off ∷ List.[]; }
         abbrev G6 : Row.Cx
-        G6 = record { locals = List._++_ g6 (List._++_ t7 t2); slots = Row.off ∷ life1 ∷ life2 ∷ life3 ∷ life4 ∷ Row.alive ∷ Row.off ∷ Row.off ∷
+        G6 = record { locals = List._++_ g5 (List._++_ t7 t2); slots = Row.off ∷ life1 ∷ life2 ∷ life3 ∷ life4 ∷ Row.alive ∷ Row.off ∷ Row.off ∷
             Row.off ∷ Row.off ∷ Row.off ∷ Row.off ∷ List.[]; }
         abbrev G7 : Row.Cx
-        G7 = record { locals = List._++_ g6 (List._++_ t7 t2); slots = Row.off ∷ life1 ∷ life2 ∷ life3 ∷ life4 ∷ Row.alive ∷ Row.alive ∷ Row.off ∷
+        G7 = record { locals = List._++_ g5 (List._++_ t7 t2); slots = Row.off ∷ life1 ∷ life2 ∷ life3 ∷ life4 ∷ Row.alive ∷ Row.alive ∷ Row.off ∷
             Row.off ∷ Row.off ∷ Row.off ∷ Row.off ∷ List.[]; }
         abbrev G8 : Row.Cx
         G8 = record { locals = List._++_ g8 (List._++_ t9 t2); slots = Row.off ∷ Row.off ∷ life2 ∷ life3 ∷ life4 ∷ Row.alive ∷ Row.alive ∷ Row.off ∷
@@ -1473,7 +1530,7 @@ module _ (claims· : Claims) where
         G55 = record { locals = List._++_ g41 (List._++_ t43 t2); slots = Row.off ∷ Row.off ∷ life2 ∷ life3 ∷ life4 ∷ Row.off ∷ Row.off ∷ Row.off ∷
             Row.alive ∷ Row.alive ∷ Row.alive ∷ Row.off ∷ List.[]; }
         abbrev G56 : Row.Cx
-        G56 = record { locals = List._++_ g44 (List._++_ t45 t2); slots = Row.off ∷ Row.off ∷ life2 ∷ Row.off ∷ life4 ∷ Row.off ∷ Row.off ∷ Row.off ∷
+        G56 = record { locals = List._++_ g44 (List._++_ t43 t45); slots = Row.off ∷ Row.off ∷ life2 ∷ Row.off ∷ life4 ∷ Row.off ∷ Row.off ∷ Row.off ∷
             Row.alive ∷ Row.alive ∷ Row.alive ∷ Row.off ∷ List.[]; }
         abbrev G57 : Row.Cx
         G57 = record { locals = List._++_ g44 (List._++_ t43 t46); slots = Row.off ∷ Row.off ∷ life2 ∷ Row.off ∷ life4 ∷ Row.off ∷ Row.off ∷ Row.off ∷
@@ -1497,61 +1554,67 @@ module _ (claims· : Claims) where
         G63 = record { locals = List._++_ g54 (List._++_ t51 t52); slots = Row.off ∷ Row.off ∷ life2 ∷ Row.off ∷ Row.off ∷ Row.off ∷ Row.off ∷ Row.off
             ∷ Row.alive ∷ Row.alive ∷ Row.alive ∷ Row.alive ∷ List.[]; }
         abbrev G64 : Row.Cx
-        G64 = record { locals = List._++_ g54 (List._++_ t51 t52); slots = Row.off ∷ Row.off ∷ life2 ∷ Row.off ∷ Row.off ∷ Row.off ∷ Row.off ∷ Row.off
-            ∷ Row.dead ∷ Row.alive ∷ Row.alive ∷ Row.alive ∷ List.[]; }
+        G64 = record { locals = List._++_ g55 (List._++_ t51 t52); slots = Row.off ∷ Row.off ∷ life2 ∷ Row.off ∷ Row.off ∷ Row.off ∷ Row.off ∷ Row.off
+            ∷ Row.alive ∷ Row.alive ∷ Row.alive ∷ Row.alive ∷ List.[]; }
         abbrev G65 : Row.Cx
-        G65 = record { locals = List._++_ g55 (List._++_ t56 t52); slots = life0 ∷ Row.off ∷ life2 ∷ Row.off ∷ Row.off ∷ Row.off ∷ Row.off ∷ Row.off ∷
-            Row.dead ∷ Row.alive ∷ Row.alive ∷ Row.alive ∷ List.[]; }
+        G65 = record { locals = List._++_ g55 (List._++_ t51 t52); slots = Row.off ∷ Row.off ∷ life2 ∷ Row.off ∷ Row.off ∷ Row.off ∷ Row.off ∷ Row.off
+            ∷ Row.dead ∷ Row.alive ∷ Row.alive ∷ Row.alive ∷ List.[]; }
         abbrev G66 : Row.Cx
-        G66 = record { locals = List._++_ g55 (List._++_ t56 t52); slots = life0 ∷ Row.off ∷ life2 ∷ Row.off ∷ Row.off ∷ Row.off ∷ Row.off ∷ Row.off ∷
-            Row.off ∷ Row.alive ∷ Row.alive ∷ Row.alive ∷ List.[]; }
+        G66 = record { locals = List._++_ g56 (List._++_ t57 t52); slots = life0 ∷ Row.off ∷ life2 ∷ Row.off ∷ Row.off ∷ Row.off ∷ Row.off ∷ Row.off ∷
+            Row.dead ∷ Row.alive ∷ Row.alive ∷ Row.alive ∷ List.[]; }
         abbrev G67 : Row.Cx
-        G67 = record { locals = List._++_ g55 (List._++_ t56 t52); slots = life0 ∷ Row.off ∷ life2 ∷ Row.off ∷ Row.off ∷ Row.off ∷ Row.off ∷ Row.off ∷
-            Row.off ∷ Row.dead ∷ Row.alive ∷ Row.alive ∷ List.[]; }
+        G67 = record { locals = List._++_ g56 (List._++_ t57 t52); slots = life0 ∷ Row.off ∷ life2 ∷ Row.off ∷ Row.off ∷ Row.off ∷ Row.off ∷ Row.off ∷
+            Row.off ∷ Row.alive ∷ Row.alive ∷ Row.alive ∷ List.[]; }
         abbrev G68 : Row.Cx
-        G68 = record { locals = List._++_ g57 (List._++_ t1 t52); slots = life0 ∷ life1 ∷ life2 ∷ Row.off ∷ Row.off ∷ Row.off ∷ Row.off ∷ Row.off ∷
+        G68 = record { locals = List._++_ g56 (List._++_ t57 t52); slots = life0 ∷ Row.off ∷ life2 ∷ Row.off ∷ Row.off ∷ Row.off ∷ Row.off ∷ Row.off ∷
             Row.off ∷ Row.dead ∷ Row.alive ∷ Row.alive ∷ List.[]; }
         abbrev G69 : Row.Cx
-        G69 = record { locals = List._++_ g57 (List._++_ t1 t52); slots = life0 ∷ life1 ∷ life2 ∷ Row.off ∷ Row.off ∷ Row.off ∷ Row.off ∷ Row.off ∷
-            Row.off ∷ Row.off ∷ Row.alive ∷ Row.alive ∷ List.[]; }
+        G69 = record { locals = List._++_ g58 (List._++_ t1 t52); slots = life0 ∷ life1 ∷ life2 ∷ Row.off ∷ Row.off ∷ Row.off ∷ Row.off ∷ Row.off ∷
+            Row.off ∷ Row.dead ∷ Row.alive ∷ Row.alive ∷ List.[]; }
         abbrev G70 : Row.Cx
-        G70 = record { locals = List._++_ g57 (List._++_ t1 t52); slots = life0 ∷ life1 ∷ life2 ∷ Row.off ∷ Row.off ∷ Row.off ∷ Row.off ∷ Row.off ∷
-            Row.off ∷ Row.off ∷ Row.dead ∷ Row.alive ∷ List.[]; }
+        G70 = record { locals = List._++_ g58 (List._++_ t1 t52); slots = life0 ∷ life1 ∷ life2 ∷ Row.off ∷ Row.off ∷ Row.off ∷ Row.off ∷ Row.off ∷
+            Row.off ∷ Row.off ∷ Row.alive ∷ Row.alive ∷ List.[]; }
         abbrev G71 : Row.Cx
-        G71 = record { locals = List._++_ g58 (List._++_ t1 t59); slots = life0 ∷ life1 ∷ life2 ∷ life3 ∷ Row.off ∷ Row.off ∷ Row.off ∷ Row.off ∷
+        G71 = record { locals = List._++_ g58 (List._++_ t1 t52); slots = life0 ∷ life1 ∷ life2 ∷ Row.off ∷ Row.off ∷ Row.off ∷ Row.off ∷ Row.off ∷
             Row.off ∷ Row.off ∷ Row.dead ∷ Row.alive ∷ List.[]; }
         abbrev G72 : Row.Cx
-        G72 = record { locals = List._++_ g58 (List._++_ t1 t59); slots = life0 ∷ life1 ∷ life2 ∷ life3 ∷ Row.off ∷ Row.off ∷ Row.off ∷ Row.off ∷
-            Row.off ∷ Row.off ∷ Row.off ∷ Row.alive ∷ List.[]; }
+        G72 = record { locals = List._++_ g59 (List._++_ t1 t60); slots = life0 ∷ life1 ∷ life2 ∷ life3 ∷ Row.off ∷ Row.off ∷ Row.off ∷ Row.off ∷
+            Row.off ∷ Row.off ∷ Row.dead ∷ Row.alive ∷ List.[]; }
         abbrev G73 : Row.Cx
-        G73 = record { locals = List._++_ g58 (List._++_ t1 t59); slots = life0 ∷ life1 ∷ life2 ∷ life3 ∷ Row.off ∷ Row.off ∷ Row.off ∷ Row.off ∷
-            Row.off ∷ Row.off ∷ Row.off ∷ Row.dead ∷ List.[]; }
+        G73 = record { locals = List._++_ g59 (List._++_ t1 t60); slots = life0 ∷ life1 ∷ life2 ∷ life3 ∷ Row.off ∷ Row.off ∷ Row.off ∷ Row.off ∷
+            Row.off ∷ Row.off ∷ Row.off ∷ Row.alive ∷ List.[]; }
         abbrev G74 : Row.Cx
-        G74 = record { locals = List._++_ t60 (List._++_ t1 t2); slots = life0 ∷ life1 ∷ life2 ∷ life3 ∷ life4 ∷ Row.off ∷ Row.off ∷ Row.off ∷ Row.off
-            ∷ Row.off ∷ Row.off ∷ Row.dead ∷ List.[]; }
+        G74 = record { locals = List._++_ g59 (List._++_ t1 t60); slots = life0 ∷ life1 ∷ life2 ∷ life3 ∷ Row.off ∷ Row.off ∷ Row.off ∷ Row.off ∷
+            Row.off ∷ Row.off ∷ Row.off ∷ Row.dead ∷ List.[]; }
         abbrev G75 : Row.Cx
-        G75 = record { locals = List._++_ t60 (List._++_ t1 t2); slots = life0 ∷ life1 ∷ life2 ∷ life3 ∷ life4 ∷ Row.off ∷ Row.off ∷ Row.off ∷ Row.off
+        G75 = record { locals = List._++_ t61 (List._++_ t1 t2); slots = life0 ∷ life1 ∷ life2 ∷ life3 ∷ life4 ∷ Row.off ∷ Row.off ∷ Row.off ∷ Row.off
             ∷ Row.off ∷ Row.off ∷ Row.dead ∷ List.[]; }
         abbrev G76 : Row.Cx
-        G76 = record { locals = List._++_ t60 (List._++_ t1 t2); slots = life0 ∷ life1 ∷ life2 ∷ life3 ∷ life4 ∷ Row.off ∷ Row.off ∷ Row.off ∷ Row.off
-            ∷ Row.off ∷ Row.off ∷ Row.off ∷ List.[]; }
+        G76 = record { locals = List._++_ t61 (List._++_ t1 t2); slots = life0 ∷ life1 ∷ life2 ∷ life3 ∷ life4 ∷ Row.off ∷ Row.off ∷ Row.off ∷ Row.off
+            ∷ Row.off ∷ Row.off ∷ Row.dead ∷ List.[]; }
         abbrev G77 : Row.Cx
-        G77 = record { locals = List._++_ t3 (List._++_ t1 t2); slots = life0 ∷ life1 ∷ life2 ∷ life3 ∷ life4 ∷ Row.off ∷ Row.off ∷ Row.off ∷ Row.off
+        G77 = record { locals = List._++_ t61 (List._++_ t1 t2); slots = life0 ∷ life1 ∷ life2 ∷ life3 ∷ life4 ∷ Row.off ∷ Row.off ∷ Row.off ∷ Row.off
             ∷ Row.off ∷ Row.off ∷ Row.off ∷ List.[]; }
         abbrev G78 : Row.Cx
-        G78 = record { locals = List._++_ t23 (List._++_ t1 t2); slots = life0 ∷ life1 ∷ life2 ∷ life3 ∷ life4 ∷ Row.off ∷ Row.off ∷ Row.off ∷ Row.off
+        G78 = record { locals = List._++_ t3 (List._++_ t1 t2); slots = life0 ∷ life1 ∷ life2 ∷ life3 ∷ life4 ∷ Row.off ∷ Row.off ∷ Row.off ∷ Row.off
             ∷ Row.off ∷ Row.off ∷ Row.off ∷ List.[]; }
         abbrev G79 : Row.Cx
-        G79 = record { locals = List._++_ t61 (List._++_ t1 t2); slots = life0 ∷ life1 ∷ life2 ∷ life3 ∷ life4 ∷ Row.off ∷ Row.off ∷ Row.off ∷ Row.off
+        G79 = record { locals = List._++_ t23 (List._++_ t1 t2); slots = life0 ∷ life1 ∷ life2 ∷ life3 ∷ life4 ∷ Row.off ∷ Row.off ∷ Row.off ∷ Row.off
             ∷ Row.off ∷ Row.off ∷ Row.off ∷ List.[]; }
         abbrev G80 : Row.Cx
         G80 = record { locals = List._++_ t62 (List._++_ t1 t2); slots = life0 ∷ life1 ∷ life2 ∷ life3 ∷ life4 ∷ Row.off ∷ Row.off ∷ Row.off ∷ Row.off
             ∷ Row.off ∷ Row.off ∷ Row.off ∷ List.[]; }
         abbrev G81 : Row.Cx
-        G81 = record { locals = List._++_ t60 (List._++_ t1 t2); slots = life0 ∷ life1 ∷ life2 ∷ life3 ∷ life4 ∷ Row.off ∷ Row.off ∷ Row.off ∷ Row.off
+        G81 = record { locals = List._++_ t63 (List._++_ t1 t2); slots = life0 ∷ life1 ∷ life2 ∷ life3 ∷ life4 ∷ Row.off ∷ Row.off ∷ Row.off ∷ Row.off
             ∷ Row.off ∷ Row.off ∷ Row.off ∷ List.[]; }
         abbrev G82 : Row.Cx
-        G82 = record { locals = List._++_ t3 (List._++_ t1 t2); slots = life0 ∷ life1 ∷ life2 ∷ life3 ∷ life4 ∷ Row.off ∷ Row.off ∷ Row.off ∷ Row.off
+        G82 = record { locals = List._++_ t64 (List._++_ t1 t2); slots = life0 ∷ life1 ∷ life2 ∷ life3 ∷ life4 ∷ Row.off ∷ Row.off ∷ Row.off ∷ Row.off
+            ∷ Row.off ∷ Row.off ∷ Row.off ∷ List.[]; }
+        abbrev G83 : Row.Cx
+        G83 = record { locals = List._++_ t61 (List._++_ t1 t2); slots = life0 ∷ life1 ∷ life2 ∷ life3 ∷ life4 ∷ Row.off ∷ Row.off ∷ Row.off ∷ Row.off
+            ∷ Row.off ∷ Row.off ∷ Row.off ∷ List.[]; }
+        abbrev G84 : Row.Cx
+        G84 = record { locals = List._++_ t3 (List._++_ t1 t2); slots = life0 ∷ life1 ∷ life2 ∷ life3 ∷ life4 ∷ Row.off ∷ Row.off ∷ Row.off ∷ Row.off
             ∷ Row.off ∷ Row.off ∷ Row.off ∷ List.[]; }
         abbrev Δ0 : Typed.Outs
         Δ0 = record { next = Option.none; exits = List.[]; returns = Option.some G1 }
@@ -1561,372 +1624,391 @@ module _ (claims· : Claims) where
             𝓣) (bs : List.List Nat.ℕ) (bd : Lifetimes.AllOutlive 5 (Kinds.osR r) κs) where
           abbrev E : Wp.Env 𝓤 H
           E = Frame.EnvOf 𝓤 H ((Kinds.tyR r) ∷ (Enter.tysP ps xs)) bs
-          d0 : Typed.Typed 𝓤 H A 𝓣 E G77 b28 Δ1 (at0 bs)
+          d0 : Typed.Typed 𝓤 H A 𝓣 E G78 b28 Δ1 (at0 bs)
           d0 = Typed.t-return 𝓤 H A W 𝓣 E Δ1 tt
-          d1 : Typed.Typed 𝓤 H A 𝓣 E G76 b28 Δ1 (at1 bs)
-          d1 = Typed.g-pre 𝓤 H A W 𝓣 E G76 G77 b28 Δ1 (Typed.pass T75 T77 (s74 bs)) (at0 bs) (Scalar.g-room 𝓤 H A W E G76 7 (Syntax.tyInt Syntax.w64)
+          d1 : Typed.Typed 𝓤 H A 𝓣 E G77 b28 Δ1 (at1 bs)
+          d1 = Typed.g-pre 𝓤 H A W 𝓣 E G77 G78 b28 Δ1 (Typed.pass T76 T78 (s75 bs)) (at0 bs) (Scalar.g-room 𝓤 H A W E G77 8 (Syntax.tyInt Syntax.w64)
               (Scalar.room-sc 𝓤 H A W (Row.sInt Syntax.w64))) d0
-          d2 : Typed.Typed 𝓤 H A 𝓣 E G75 b28 Δ1 (at2 bs)
-          d2 = Typed.g-pre 𝓤 H A W 𝓣 E G75 G76 b28 Δ1 (λ Ψ. Ψ) (at1 bs) (Lifetime.g-forget 𝓤 H A W E G75 11 Row.dead Path.refl) d1
-          d3 : Typed.Typed 𝓤 H A 𝓣 E G74 b28 Δ1 (at3 bs)
-          d3 = Typed.g-pre 𝓤 H A W 𝓣 E G74 G75 b28 Δ1 (Typed.give (s72 bs)) (at2 bs) (Know.g-sl-known 𝓤 H A W (Referent.fInt Syntax.w32) E G74 5 4
+          d2 : Typed.Typed 𝓤 H A 𝓣 E G76 b28 Δ1 (at2 bs)
+          d2 = Typed.g-pre 𝓤 H A W 𝓣 E G76 G77 b28 Δ1 (λ Ψ. Ψ) (at1 bs) (Lifetime.g-forget 𝓤 H A W E G76 11 Row.dead Path.refl) d1
+          d3 : Typed.Typed 𝓤 H A 𝓣 E G75 b28 Δ1 (at3 bs)
+          d3 = Typed.g-pre 𝓤 H A W 𝓣 E G75 G76 b28 Δ1 (Typed.give (s73 bs)) (at2 bs) (Know.g-sl-known 𝓤 H A W (Referent.fInt Syntax.w32) E G75 5 4
               ref11 life4 0 (λ x. x) record { fits = Dec.lit< tt } (Reads'.as-is 𝓤 H A (Mut.mslice (Referent.rtF (Referent.fInt Syntax.w32)) ref11 4))
               Path.refl tt) d2
-          d4 : Typed.Typed 𝓤 H A 𝓣 E G73 b28 Δ1 (at4 bs)
-          d4 = Typed.g-pre 𝓤 H A W 𝓣 E G73 G74 b28 Δ1 (Typed.both (s71 bs)) (at3 bs) (Relend.g-back-sl 𝓤 H A W E (Referent.rtF (Referent.fInt
-              Syntax.w32)) G73 34 5 4 11 ref11 ref6 life4 (λ x. x) (λ x. x) (Reads'.as-is 𝓤 H A (Mut.msleft (Referent.rtF (Referent.fInt Syntax.w32))
+          d4 : Typed.Typed 𝓤 H A 𝓣 E G74 b28 Δ1 (at4 bs)
+          d4 = Typed.g-pre 𝓤 H A W 𝓣 E G74 G75 b28 Δ1 (Typed.both (s72 bs)) (at3 bs) (Relend.g-back-sl 𝓤 H A W E (Referent.rtF (Referent.fInt
+              Syntax.w32)) G74 35 5 4 11 ref11 ref6 life4 (λ x. x) (λ x. x) (Reads'.as-is 𝓤 H A (Mut.msleft (Referent.rtF (Referent.fInt Syntax.w32))
               ref6)) (Reads'.as-is 𝓤 H A (Relend.mslice-owed (Referent.rtF (Referent.fInt Syntax.w32)) ref11 4 11 life4)) Path.refl Path.refl) d3
-          d5 : Typed.Typed 𝓤 H A 𝓣 E G72 b28 Δ1 (at5 bs)
-          d5 = Typed.g-pre 𝓤 H A W 𝓣 E G72 G73 b28 Δ1 (λ Ψ. Ψ) (at4 bs) (Lifetime.g-end 𝓤 H A W E G72 11 Path.refl) d4
-          d6 : Typed.Typed 𝓤 H A 𝓣 E G71 b28 Δ1 (at6 bs)
-          d6 = Typed.g-pre 𝓤 H A W 𝓣 E G71 G72 b28 Δ1 (λ Ψ. Ψ) (at5 bs) (Lifetime.g-forget 𝓤 H A W E G71 10 Row.dead Path.refl) d5
-          d7 : Typed.Typed 𝓤 H A 𝓣 E G70 b28 Δ1 (at7 bs)
-          d7 = Typed.g-pre 𝓤 H A W 𝓣 E G70 G71 b28 Δ1 (Typed.both (s68 bs)) (at6 bs) (Relend.g-back-sl 𝓤 H A W E InflightAction.row G70 32 4 3 10
+          d5 : Typed.Typed 𝓤 H A 𝓣 E G73 b28 Δ1 (at5 bs)
+          d5 = Typed.g-pre 𝓤 H A W 𝓣 E G73 G74 b28 Δ1 (λ Ψ. Ψ) (at4 bs) (Lifetime.g-end 𝓤 H A W E G73 11 Path.refl) d4
+          d6 : Typed.Typed 𝓤 H A 𝓣 E G72 b28 Δ1 (at6 bs)
+          d6 = Typed.g-pre 𝓤 H A W 𝓣 E G72 G73 b28 Δ1 (λ Ψ. Ψ) (at5 bs) (Lifetime.g-forget 𝓤 H A W E G72 10 Row.dead Path.refl) d5
+          d7 : Typed.Typed 𝓤 H A 𝓣 E G71 b28 Δ1 (at7 bs)
+          d7 = Typed.g-pre 𝓤 H A W 𝓣 E G71 G72 b28 Δ1 (Typed.both (s69 bs)) (at6 bs) (Relend.g-back-sl 𝓤 H A W E InflightAction.row G71 33 4 3 10
               ref10 ref5 life3 (λ x. x) (λ x. x) (Reads'.as-is 𝓤 H A (Mut.msleft InflightAction.row ref5)) (Reads'.as-is 𝓤 H A (Relend.mslice-owed
               InflightAction.row ref10 3 10 life3)) Path.refl Path.refl) d6
-          d8 : Typed.Typed 𝓤 H A 𝓣 E G69 b28 Δ1 (at8 bs)
-          d8 = Typed.g-pre 𝓤 H A W 𝓣 E G69 G70 b28 Δ1 (λ Ψ. Ψ) (at7 bs) (Lifetime.g-end 𝓤 H A W E G69 10 Path.refl) d7
-          d9 : Typed.Typed 𝓤 H A 𝓣 E G68 b28 Δ1 (at9 bs)
-          d9 = Typed.g-pre 𝓤 H A W 𝓣 E G68 G69 b28 Δ1 (λ Ψ. Ψ) (at8 bs) (Lifetime.g-forget 𝓤 H A W E G68 9 Row.dead Path.refl) d8
-          d10 : Typed.Typed 𝓤 H A 𝓣 E G67 b28 Δ1 (at10 bs)
-          d10 = Typed.g-pre 𝓤 H A W 𝓣 E G67 G68 b28 Δ1 (Typed.both (s65 bs)) (at9 bs) (Relend.g-back-sl 𝓤 H A W E RelayCircuit.row G67 30 2 1 9 ref8
+          d8 : Typed.Typed 𝓤 H A 𝓣 E G70 b28 Δ1 (at8 bs)
+          d8 = Typed.g-pre 𝓤 H A W 𝓣 E G70 G71 b28 Δ1 (λ Ψ. Ψ) (at7 bs) (Lifetime.g-end 𝓤 H A W E G70 10 Path.refl) d7
+          d9 : Typed.Typed 𝓤 H A 𝓣 E G69 b28 Δ1 (at9 bs)
+          d9 = Typed.g-pre 𝓤 H A W 𝓣 E G69 G70 b28 Δ1 (λ Ψ. Ψ) (at8 bs) (Lifetime.g-forget 𝓤 H A W E G69 9 Row.dead Path.refl) d8
+          d10 : Typed.Typed 𝓤 H A 𝓣 E G68 b28 Δ1 (at10 bs)
+          d10 = Typed.g-pre 𝓤 H A W 𝓣 E G68 G69 b28 Δ1 (Typed.both (s66 bs)) (at9 bs) (Relend.g-back-sl 𝓤 H A W E RelayCircuit.row G68 31 2 1 9 ref8
               ref4 life1 (λ x. x) (λ x. x) (Reads'.as-is 𝓤 H A (Mut.msleft RelayCircuit.row ref4)) (Reads'.as-is 𝓤 H A (Relend.mslice-owed
               RelayCircuit.row ref8 1 9 life1)) Path.refl Path.refl) d9
-          d11 : Typed.Typed 𝓤 H A 𝓣 E G66 b28 Δ1 (at11 bs)
-          d11 = Typed.g-pre 𝓤 H A W 𝓣 E G66 G67 b28 Δ1 (λ Ψ. Ψ) (at10 bs) (Lifetime.g-end 𝓤 H A W E G66 9 Path.refl) d10
-          d12 : Typed.Typed 𝓤 H A 𝓣 E G65 b28 Δ1 (at12 bs)
-          d12 = Typed.g-pre 𝓤 H A W 𝓣 E G65 G66 b28 Δ1 (λ Ψ. Ψ) (at11 bs) (Lifetime.g-forget 𝓤 H A W E G65 8 Row.dead Path.refl) d11
-          d13 : Typed.Typed 𝓤 H A 𝓣 E G64 b28 Δ1 (at13 bs)
-          d13 = Typed.g-pre 𝓤 H A W 𝓣 E G64 G65 b28 Δ1 (Typed.both (s62 bs)) (at12 bs) (Relend.g-back-sl 𝓤 H A W E RelayPending.row G64 28 1 0 8 ref7
+          d11 : Typed.Typed 𝓤 H A 𝓣 E G67 b28 Δ1 (at11 bs)
+          d11 = Typed.g-pre 𝓤 H A W 𝓣 E G67 G68 b28 Δ1 (λ Ψ. Ψ) (at10 bs) (Lifetime.g-end 𝓤 H A W E G67 9 Path.refl) d10
+          d12 : Typed.Typed 𝓤 H A 𝓣 E G66 b28 Δ1 (at12 bs)
+          d12 = Typed.g-pre 𝓤 H A W 𝓣 E G66 G67 b28 Δ1 (λ Ψ. Ψ) (at11 bs) (Lifetime.g-forget 𝓤 H A W E G66 8 Row.dead Path.refl) d11
+          d13 : Typed.Typed 𝓤 H A 𝓣 E G65 b28 Δ1 (at13 bs)
+          d13 = Typed.g-pre 𝓤 H A W 𝓣 E G65 G66 b28 Δ1 (Typed.both (s63 bs)) (at12 bs) (Relend.g-back-sl 𝓤 H A W E RelayPending.row G65 29 1 0 8 ref7
               ref3 life0 (λ x. x) (λ x. x) (Reads'.as-is 𝓤 H A (Mut.msleft RelayPending.row ref3)) (Reads'.as-is 𝓤 H A (Relend.mslice-owed
               RelayPending.row ref7 0 8 life0)) Path.refl Path.refl) d12
-          d14 : Typed.Typed 𝓤 H A 𝓣 E G63 b28 Δ1 (at14 bs)
-          d14 = Typed.g-pre 𝓤 H A W 𝓣 E G63 G64 b28 Δ1 (λ Ψ. Ψ) (at13 bs) (Lifetime.g-end 𝓤 H A W E G63 8 Path.refl) d13
-          d15 : Typed.Typed 𝓤 H A 𝓣 E G62 b28 Δ1 (at15 bs)
-          d15 = Typed.g-pre 𝓤 H A W 𝓣 E G62 G63 b28 Δ1 (Typed.pass T62 T63 (s60 bs)) (at14 bs) (Scalar.g-room 𝓤 H A W E G62 14 Laws'''''.mir
-              (Local.room-whole 𝓤 H A W (Declared'.row OpaqueRelayRuntime.the-type) Laws'''''.mir Path.refl)) d14
-          d16 : Typed.Typed 𝓤 H A 𝓣 E G61 b28 Δ1 (at16 bs)
-          d16 = Typed.g-pre 𝓤 H A W 𝓣 E G61 G62 b28 Δ1 (Typed.pass T61 T62 (s59 bs)) (at15 bs) (Scalar.g-room 𝓤 H A W E G61 13 Laws''''.mir
-              (Local.room-whole 𝓤 H A W (Declared'.row Revoking.the-type) Laws''''.mir Path.refl)) d15
-          d17 : Typed.Typed 𝓤 H A 𝓣 E G60 b29 Δ1 (at17 bs)
-          d17 = Typed.s-seq 𝓤 H A W 𝓣 E G60 G61 b27 b28 Δ1 (Typed.both (s58 bs)) (at16 bs) (Plain.t-call-plain 𝓤 H A W 𝓣 4 ps·8 r·8 (claims· .16)
-              (claims· .17) "hnsr_circuit::revocation::revoke_all" (known .8) E (λ pos β. β) G60 (record { pos = 28; ty = Syntax.tyRef Syntax.erased
-              Syntax.mut RelayPending.to; ref = λ x. x; }, (record { pos = 30; ty = Syntax.tyRef Syntax.erased Syntax.mut RelayCircuit.to; ref = λ x.
-              x; }, (record { pos = 32; ty = Syntax.tyRef Syntax.erased Syntax.mut InflightAction.to; ref = λ x. x; }, (record { pos = 34; ty =
-              Syntax.tyRef Syntax.erased Syntax.mut (Syntax.tyInt Syntax.w32); ref = λ x. x; }, (record { pos = 14; st = List.[]; d = 0; at = λ x. x
-              }, (record { pos = 13; st = List.[]; d = 0; at = λ x. x }, tt),),),),),) 0 (8 ∷ 9 ∷ 10 ∷ 11 ∷ List.[]) (Call.sub-id 𝓤 H A W (G60
-              .slots)) (Reads'.as-is 𝓤 H A (Mut.mslice RelayPending.row ref3 8), Mut.reads-mslice 𝓤 H A W RelayPending.row ref3 8, Path.refl,
-              (Reads'.as-is 𝓤 H A (Mut.mslice RelayCircuit.row ref4 9), Mut.reads-mslice 𝓤 H A W RelayCircuit.row ref4 9, Path.refl, (Reads'.as-is 𝓤 H
-              A (Mut.mslice InflightAction.row ref5 10), Mut.reads-mslice 𝓤 H A W InflightAction.row ref5 10, Path.refl, (Reads'.as-is 𝓤 H A
-              (Mut.mslice (Referent.rtF (Referent.fInt Syntax.w32)) ref6 11), Mut.reads-mslice 𝓤 H A W (Referent.rtF (Referent.fInt Syntax.w32)) ref6
-              11, Path.refl, ((Yields.yields-copy 𝓤 H A W (λ ρ. Unit) (Declared'.row OpaqueRelayRuntime.the-type) Path.refl (Copies.cStruct
-              OpaqueRelayRuntime.the-type Laws'''''.the-laws Laws'''''.the-copy .copy 𝓤 H A W) (Rows.whole (Declared'.row
-              OpaqueRelayRuntime.the-type)) (λ x. x) (λ x. x) (λ ρ told. Local.mem-whole 𝓤 H A W (Declared'.row OpaqueRelayRuntime.the-type) ρ) λ ρ
-              told. Local.whole-mem 𝓤 H A W (Declared'.row OpaqueRelayRuntime.the-type) ρ, Path.refl,), ((Yields.yields-copy 𝓤 H A W (λ ρ. Unit)
-              (Declared'.row Revoking.the-type) Path.refl (Copies.cStruct Revoking.the-type Laws''''.the-laws Laws''''.the-copy .copy 𝓤 H A W)
-              (Rows.whole (Declared'.row Revoking.the-type)) (λ x. x) (λ x. x) (λ ρ told. Local.mem-whole 𝓤 H A W (Declared'.row Revoking.the-type) ρ)
-              λ ρ told. Local.whole-mem 𝓤 H A W (Declared'.row Revoking.the-type) ρ, Path.refl,), tt,),),),),),) (Reads'.room-gone 𝓤 H A
-              Laws''''''.mir) (tt, (tt, (tt, (tt, tt)))) Path.refl) d16
-          d18 : Typed.Typed 𝓤 H A 𝓣 E G59 b30 Δ1 (at18 bs)
-          d18 = Typed.s-seq 𝓤 H A W 𝓣 E G59 G60 b26 b29 Δ1 (Typed.ask (s57 bs)) (at17 bs) (Relend.t-sl-aggregate 𝓤 H A W E (Referent.rtF
-              (Referent.fInt Syntax.w32)) 𝓣 (Relend.asMut (Referent.rtF (Referent.fInt Syntax.w32))) G59 33 34 11 ref6 ref6 (λ x. x) (Scalar.oFld 5
+          d14 : Typed.Typed 𝓤 H A 𝓣 E G64 b28 Δ1 (at14 bs)
+          d14 = Typed.g-pre 𝓤 H A W 𝓣 E G64 G65 b28 Δ1 (λ Ψ. Ψ) (at13 bs) (Lifetime.g-end 𝓤 H A W E G64 8 Path.refl) d13
+          d15 : Typed.Typed 𝓤 H A 𝓣 E G63 b28 Δ1 (at15 bs)
+          d15 = Typed.g-pre 𝓤 H A W 𝓣 E G63 G64 b28 Δ1 (Typed.pass T63 T64 (s61 bs)) (at14 bs) (Scalar.g-room 𝓤 H A W E G63 15 Laws''''''.mir
+              (Local.room-whole 𝓤 H A W (Declared'.row OpaqueRelayRuntime.the-type) Laws''''''.mir Path.refl)) d14
+          d16 : Typed.Typed 𝓤 H A 𝓣 E G62 b28 Δ1 (at16 bs)
+          d16 = Typed.g-pre 𝓤 H A W 𝓣 E G62 G63 b28 Δ1 (Typed.pass T62 T63 (s60 bs)) (at15 bs) (Scalar.g-room 𝓤 H A W E G62 14 Laws'''''.mir
+              (Local.room-whole 𝓤 H A W (Declared'.row Revoking.the-type) Laws'''''.mir Path.refl)) d15
+          d17 : Typed.Typed 𝓤 H A 𝓣 E G61 b28 Δ1 (at17 bs)
+          d17 = Typed.g-pre 𝓤 H A W 𝓣 E G61 G62 b28 Δ1 (Typed.pass T61 T62 (s59 bs)) (at16 bs) (Scalar.g-room 𝓤 H A W E G61 7 Laws'''.mir
+              (Local.room-whole 𝓤 H A W (Declared'.row Places.the-type) Laws'''.mir Path.refl)) d16
+          d18 : Typed.Typed 𝓤 H A 𝓣 E G60 b29 Δ1 (at18 bs)
+          d18 = Typed.s-seq 𝓤 H A W 𝓣 E G60 G61 b27 b28 Δ1 (Typed.both (s58 bs)) (at17 bs) (Plain.t-call-plain 𝓤 H A W 𝓣 4 ps·8 r·8 (claims· .16)
+              (claims· .17) "hnsr_circuit::revocation::revoke_all" (known .8) E (λ pos β. β) G60 (record { pos = 29; ty = Syntax.tyRef Syntax.erased
+              Syntax.mut RelayPending.to; ref = λ x. x; }, (record { pos = 31; ty = Syntax.tyRef Syntax.erased Syntax.mut RelayCircuit.to; ref = λ x.
+              x; }, (record { pos = 33; ty = Syntax.tyRef Syntax.erased Syntax.mut InflightAction.to; ref = λ x. x; }, (record { pos = 35; ty =
+              Syntax.tyRef Syntax.erased Syntax.mut (Syntax.tyInt Syntax.w32); ref = λ x. x; }, (record { pos = 15; st = List.[]; d = 0; at = λ x. x
+              }, (record { pos = 7; st = List.[]; d = 0; at = λ x. x }, (record { pos = 14; st = List.[]; d = 0; at = λ x. x }, tt),),),),),),) 0 (8 ∷
+              9 ∷ 10 ∷ 11 ∷ List.[]) (Call.sub-id 𝓤 H A W (G60 .slots)) (Reads'.as-is 𝓤 H A (Mut.mslice RelayPending.row ref3 8), Mut.reads-mslice 𝓤 H
+              A W RelayPending.row ref3 8, Path.refl, (Reads'.as-is 𝓤 H A (Mut.mslice RelayCircuit.row ref4 9), Mut.reads-mslice 𝓤 H A W
+              RelayCircuit.row ref4 9, Path.refl, (Reads'.as-is 𝓤 H A (Mut.mslice InflightAction.row ref5 10), Mut.reads-mslice 𝓤 H A W
+              InflightAction.row ref5 10, Path.refl, (Reads'.as-is 𝓤 H A (Mut.mslice (Referent.rtF (Referent.fInt Syntax.w32)) ref6 11),
+              Mut.reads-mslice 𝓤 H A W (Referent.rtF (Referent.fInt Syntax.w32)) ref6 11, Path.refl, ((Yields.yields-copy 𝓤 H A W (λ ρ. Unit)
+              (Declared'.row OpaqueRelayRuntime.the-type) Path.refl (Copies.cStruct OpaqueRelayRuntime.the-type Laws''''''.the-laws
+              Laws''''''.the-copy .copy 𝓤 H A W) (Rows.whole (Declared'.row OpaqueRelayRuntime.the-type)) (λ x. x) (λ x. x) (λ ρ told. Local.mem-whole
+              𝓤 H A W (Declared'.row OpaqueRelayRuntime.the-type) ρ) λ ρ told. Local.whole-mem 𝓤 H A W (Declared'.row OpaqueRelayRuntime.the-type) ρ,
+              Path.refl,), ((Yields.yields-copy 𝓤 H A W (λ ρ. Unit) (Declared'.row Places.the-type) Path.refl (Copies.cStruct Places.the-type
+              Laws'''.the-laws Laws'''.the-copy .copy 𝓤 H A W) (Rows.whole (Declared'.row Places.the-type)) (λ x. x) (λ x. x) (λ ρ told.
+              Local.mem-whole 𝓤 H A W (Declared'.row Places.the-type) ρ) λ ρ told. Local.whole-mem 𝓤 H A W (Declared'.row Places.the-type) ρ,
+              Path.refl,), ((Yields.yields-copy 𝓤 H A W (λ ρ. Unit) (Declared'.row Revoking.the-type) Path.refl (Copies.cStruct Revoking.the-type
+              Laws'''''.the-laws Laws'''''.the-copy .copy 𝓤 H A W) (Rows.whole (Declared'.row Revoking.the-type)) (λ x. x) (λ x. x) (λ ρ told.
+              Local.mem-whole 𝓤 H A W (Declared'.row Revoking.the-type) ρ) λ ρ told. Local.whole-mem 𝓤 H A W (Declared'.row Revoking.the-type) ρ,
+              Path.refl,), tt,),),),),),),) (Reads'.room-gone 𝓤 H A Laws'''''''.mir) (tt, (tt, (tt, (tt, tt)))) Path.refl) d17
+          d19 : Typed.Typed 𝓤 H A 𝓣 E G59 b30 Δ1 (at19 bs)
+          d19 = Typed.s-seq 𝓤 H A W 𝓣 E G59 G60 b26 b29 Δ1 (Typed.ask (s57 bs)) (at18 bs) (Relend.t-sl-aggregate 𝓤 H A W E (Referent.rtF
+              (Referent.fInt Syntax.w32)) 𝓣 (Relend.asMut (Referent.rtF (Referent.fInt Syntax.w32))) G59 34 35 11 ref6 ref6 (λ x. x) (Scalar.oFld 5
               ((Syntax.field 1) ∷ List.[]) (Syntax.tyInt Syntax.w64) 8 λ v. Shared.lenV (v .0)) (Reads'.as-is 𝓤 H A (Relend.msptr (Referent.rtF
               (Referent.fInt Syntax.w32)) ref6 11)) (Reads'.room-gone 𝓤 H A (Syntax.tyStruct (38 ∷ 91 ∷ 93 ∷ List.[]) (Syntax.tcons ref6 (Syntax.tcons
               (Syntax.tyInt Syntax.w64) Syntax.tnil)))) (Relend.reads-owed-len 𝓤 H A W (Referent.rtF (Referent.fInt Syntax.w32)) ref11 4 11 life4 8
-              Path.refl, Path.refl,) Path.refl Path.refl λ b o k. tt) d17
-          d19 : Typed.Typed 𝓤 H A 𝓣 E G58 b31 Δ1 (at19 bs)
-          d19 = Typed.s-seq 𝓤 H A W 𝓣 E G58 G59 b25 b30 Δ1 (Typed.give (s56 bs)) (at18 bs) (Relend.t-sl-relend 𝓤 H A W E (Referent.rtF (Referent.fInt
-              Syntax.w32)) 𝓣 G58 5 33 4 11 ref11 ref6 life4 0 (λ x. x) (Reads'.as-is 𝓤 H A (Mut.mslice (Referent.rtF (Referent.fInt Syntax.w32)) ref11
-              4)) (Reads'.room-gone 𝓤 H A ref6) Path.refl tt Path.refl Path.refl Path.refl λ b o. tt) d18
-          d20 : Typed.Typed 𝓤 H A 𝓣 E G57 b31 Δ1 (at20 bs)
-          d20 = Typed.g-pre 𝓤 H A W 𝓣 E G57 G58 b31 Δ1 (λ Ψ. Ψ) (at19 bs) (Lifetime.g-begin 𝓤 H A W E G57 11 (tt, ((tt, tt), ((tt, tt), (tt, ((tt,
+              Path.refl, Path.refl,) Path.refl Path.refl λ b o k. tt) d18
+          d20 : Typed.Typed 𝓤 H A 𝓣 E G58 b31 Δ1 (at20 bs)
+          d20 = Typed.s-seq 𝓤 H A W 𝓣 E G58 G59 b25 b30 Δ1 (Typed.give (s56 bs)) (at19 bs) (Relend.t-sl-relend 𝓤 H A W E (Referent.rtF (Referent.fInt
+              Syntax.w32)) 𝓣 G58 5 34 4 11 ref11 ref6 life4 0 (λ x. x) (Reads'.as-is 𝓤 H A (Mut.mslice (Referent.rtF (Referent.fInt Syntax.w32)) ref11
+              4)) (Reads'.room-gone 𝓤 H A ref6) Path.refl tt Path.refl Path.refl Path.refl λ b o. tt) d19
+          d21 : Typed.Typed 𝓤 H A 𝓣 E G57 b31 Δ1 (at21 bs)
+          d21 = Typed.g-pre 𝓤 H A W 𝓣 E G57 G58 b31 Δ1 (λ Ψ. Ψ) (at20 bs) (Lifetime.g-begin 𝓤 H A W E G57 11 (tt, ((tt, tt), ((tt, tt), (tt, ((tt,
               tt), (tt, (tt, (tt, (tt, (tt, (tt, (tt, (tt, (tt, (tt, (tt, (tt, (tt, (tt, (tt, (tt, (tt, (tt, (tt, (tt, (tt, (tt, (tt, (tt, (tt, (tt,
-              (tt, (tt, (tt, (tt, tt)),),),),),),),),),),),),),),),),),),),),),),),),),),),),),),),),),)) d19
-          d21 : Typed.Typed 𝓤 H A 𝓣 E G56 b32 Δ1 (at21 bs)
-          d21 = Typed.s-seq 𝓤 H A W 𝓣 E G56 G57 b24 b31 Δ1 (Typed.ask (s54 bs)) (at20 bs) (Relend.t-sl-aggregate 𝓤 H A W E InflightAction.row 𝓣
-              (Relend.asMut InflightAction.row) G56 31 32 10 ref5 ref5 (λ x. x) (Scalar.oFld 4 ((Syntax.field 1) ∷ List.[]) (Syntax.tyInt Syntax.w64)
+              (tt, (tt, (tt, (tt, (tt, tt)),),),),),),),),),),),),),),),),),),),),),),),),),),),),),),),),),),)) d20
+          d22 : Typed.Typed 𝓤 H A 𝓣 E G56 b32 Δ1 (at22 bs)
+          d22 = Typed.s-seq 𝓤 H A W 𝓣 E G56 G57 b24 b31 Δ1 (Typed.ask (s54 bs)) (at21 bs) (Relend.t-sl-aggregate 𝓤 H A W E InflightAction.row 𝓣
+              (Relend.asMut InflightAction.row) G56 32 33 10 ref5 ref5 (λ x. x) (Scalar.oFld 4 ((Syntax.field 1) ∷ List.[]) (Syntax.tyInt Syntax.w64)
               8 λ v. Shared.lenV (v .0)) (Reads'.as-is 𝓤 H A (Relend.msptr InflightAction.row ref5 10)) (Reads'.room-gone 𝓤 H A (Syntax.tyStruct (38 ∷
               91 ∷ 93 ∷ List.[]) (Syntax.tcons ref5 (Syntax.tcons (Syntax.tyInt Syntax.w64) Syntax.tnil)))) (Relend.reads-owed-len 𝓤 H A W
-              InflightAction.row ref10 3 10 life3 8 Path.refl, Path.refl,) Path.refl Path.refl λ b o k. tt) d20
-          d22 : Typed.Typed 𝓤 H A 𝓣 E G55 b33 Δ1 (at22 bs)
-          d22 = Typed.s-seq 𝓤 H A W 𝓣 E G55 G56 b23 b32 Δ1 (Typed.give (s53 bs)) (at21 bs) (Relend.t-sl-relend 𝓤 H A W E InflightAction.row 𝓣 G55 4 31
+              InflightAction.row ref10 3 10 life3 8 Path.refl, Path.refl,) Path.refl Path.refl λ b o k. tt) d21
+          d23 : Typed.Typed 𝓤 H A 𝓣 E G55 b33 Δ1 (at23 bs)
+          d23 = Typed.s-seq 𝓤 H A W 𝓣 E G55 G56 b23 b32 Δ1 (Typed.give (s53 bs)) (at22 bs) (Relend.t-sl-relend 𝓤 H A W E InflightAction.row 𝓣 G55 4 32
               3 10 ref10 ref5 life3 0 (λ x. x) (Reads'.as-is 𝓤 H A (Mut.mslice InflightAction.row ref10 3)) (Reads'.room-gone 𝓤 H A ref5) Path.refl tt
-              Path.refl Path.refl Path.refl λ b o. tt) d21
-          d23 : Typed.Typed 𝓤 H A 𝓣 E G54 b33 Δ1 (at23 bs)
-          d23 = Typed.g-pre 𝓤 H A W 𝓣 E G54 G55 b33 Δ1 (λ Ψ. Ψ) (at22 bs) (Lifetime.g-begin 𝓤 H A W E G54 10 (tt, ((tt, tt), ((tt, tt), (tt, (tt, (tt,
+              Path.refl Path.refl Path.refl λ b o. tt) d22
+          d24 : Typed.Typed 𝓤 H A 𝓣 E G54 b33 Δ1 (at24 bs)
+          d24 = Typed.g-pre 𝓤 H A W 𝓣 E G54 G55 b33 Δ1 (λ Ψ. Ψ) (at23 bs) (Lifetime.g-begin 𝓤 H A W E G54 10 (tt, ((tt, tt), ((tt, tt), (tt, (tt, (tt,
               (tt, (tt, (tt, (tt, (tt, (tt, (tt, (tt, (tt, (tt, (tt, (tt, (tt, (tt, (tt, (tt, (tt, (tt, (tt, (tt, (tt, (tt, (tt, (tt, (tt, (tt, (tt,
-              (tt, (tt, tt)),),),),),),),),),),),),),),),),),),),),),),),),),),),),),),),),),)) d22
-          d24 : Typed.Typed 𝓤 H A 𝓣 E G53 b34 Δ1 (at24 bs)
-          d24 = Typed.s-seq 𝓤 H A W 𝓣 E G53 G54 b22 b33 Δ1 (Typed.ask (s51 bs)) (at23 bs) (Relend.t-sl-aggregate 𝓤 H A W E RelayCircuit.row 𝓣
-              (Relend.asMut RelayCircuit.row) G53 29 30 9 ref4 ref4 (λ x. x) (Scalar.oFld 2 ((Syntax.field 1) ∷ List.[]) (Syntax.tyInt Syntax.w64) 8 λ
+              (tt, (tt, (tt, tt)),),),),),),),),),),),),),),),),),),),),),),),),),),),),),),),),),),)) d23
+          d25 : Typed.Typed 𝓤 H A 𝓣 E G53 b34 Δ1 (at25 bs)
+          d25 = Typed.s-seq 𝓤 H A W 𝓣 E G53 G54 b22 b33 Δ1 (Typed.ask (s51 bs)) (at24 bs) (Relend.t-sl-aggregate 𝓤 H A W E RelayCircuit.row 𝓣
+              (Relend.asMut RelayCircuit.row) G53 30 31 9 ref4 ref4 (λ x. x) (Scalar.oFld 2 ((Syntax.field 1) ∷ List.[]) (Syntax.tyInt Syntax.w64) 8 λ
               v. Shared.lenV (v .0)) (Reads'.as-is 𝓤 H A (Relend.msptr RelayCircuit.row ref4 9)) (Reads'.room-gone 𝓤 H A (Syntax.tyStruct (38 ∷ 91 ∷
               93 ∷ List.[]) (Syntax.tcons ref4 (Syntax.tcons (Syntax.tyInt Syntax.w64) Syntax.tnil)))) (Relend.reads-owed-len 𝓤 H A W RelayCircuit.row
-              ref8 1 9 life1 8 Path.refl, Path.refl,) Path.refl Path.refl λ b o k. tt) d23
-          d25 : Typed.Typed 𝓤 H A 𝓣 E G52 b35 Δ1 (at25 bs)
-          d25 = Typed.s-seq 𝓤 H A W 𝓣 E G52 G53 b21 b34 Δ1 (Typed.give (s50 bs)) (at24 bs) (Relend.t-sl-relend 𝓤 H A W E RelayCircuit.row 𝓣 G52 2 29 1
+              ref8 1 9 life1 8 Path.refl, Path.refl,) Path.refl Path.refl λ b o k. tt) d24
+          d26 : Typed.Typed 𝓤 H A 𝓣 E G52 b35 Δ1 (at26 bs)
+          d26 = Typed.s-seq 𝓤 H A W 𝓣 E G52 G53 b21 b34 Δ1 (Typed.give (s50 bs)) (at25 bs) (Relend.t-sl-relend 𝓤 H A W E RelayCircuit.row 𝓣 G52 2 30 1
               9 ref8 ref4 life1 0 (λ x. x) (Reads'.as-is 𝓤 H A (Mut.mslice RelayCircuit.row ref8 1)) (Reads'.room-gone 𝓤 H A ref4) Path.refl tt
-              Path.refl Path.refl Path.refl λ b o. tt) d24
-          d26 : Typed.Typed 𝓤 H A 𝓣 E G51 b35 Δ1 (at26 bs)
-          d26 = Typed.g-pre 𝓤 H A W 𝓣 E G51 G52 b35 Δ1 (λ Ψ. Ψ) (at25 bs) (Lifetime.g-begin 𝓤 H A W E G51 9 (tt, ((tt, tt), (tt, (tt, (tt, (tt, (tt,
+              Path.refl Path.refl Path.refl λ b o. tt) d25
+          d27 : Typed.Typed 𝓤 H A 𝓣 E G51 b35 Δ1 (at27 bs)
+          d27 = Typed.g-pre 𝓤 H A W 𝓣 E G51 G52 b35 Δ1 (λ Ψ. Ψ) (at26 bs) (Lifetime.g-begin 𝓤 H A W E G51 9 (tt, ((tt, tt), (tt, (tt, (tt, (tt, (tt,
               (tt, (tt, (tt, (tt, (tt, (tt, (tt, (tt, (tt, (tt, (tt, (tt, (tt, (tt, (tt, (tt, (tt, (tt, (tt, (tt, (tt, (tt, (tt, (tt, (tt, (tt, (tt,
-              (tt, tt)),),),),),),),),),),),),),),),),),),),),),),),),),),),),),),),),),)) d25
-          d27 : Typed.Typed 𝓤 H A 𝓣 E G50 b36 Δ1 (at27 bs)
-          d27 = Typed.s-seq 𝓤 H A W 𝓣 E G50 G51 b20 b35 Δ1 (Typed.ask (s48 bs)) (at26 bs) (Relend.t-sl-aggregate 𝓤 H A W E RelayPending.row 𝓣
-              (Relend.asMut RelayPending.row) G50 27 28 8 ref3 ref3 (λ x. x) (Scalar.oFld 1 ((Syntax.field 1) ∷ List.[]) (Syntax.tyInt Syntax.w64) 8 λ
+              (tt, (tt, tt)),),),),),),),),),),),),),),),),),),),),),),),),),),),),),),),),),),)) d26
+          d28 : Typed.Typed 𝓤 H A 𝓣 E G50 b36 Δ1 (at28 bs)
+          d28 = Typed.s-seq 𝓤 H A W 𝓣 E G50 G51 b20 b35 Δ1 (Typed.ask (s48 bs)) (at27 bs) (Relend.t-sl-aggregate 𝓤 H A W E RelayPending.row 𝓣
+              (Relend.asMut RelayPending.row) G50 28 29 8 ref3 ref3 (λ x. x) (Scalar.oFld 1 ((Syntax.field 1) ∷ List.[]) (Syntax.tyInt Syntax.w64) 8 λ
               v. Shared.lenV (v .0)) (Reads'.as-is 𝓤 H A (Relend.msptr RelayPending.row ref3 8)) (Reads'.room-gone 𝓤 H A (Syntax.tyStruct (38 ∷ 91 ∷
               93 ∷ List.[]) (Syntax.tcons ref3 (Syntax.tcons (Syntax.tyInt Syntax.w64) Syntax.tnil)))) (Relend.reads-owed-len 𝓤 H A W RelayPending.row
-              ref7 0 8 life0 8 Path.refl, Path.refl,) Path.refl Path.refl λ b o k. tt) d26
-          d28 : Typed.Typed 𝓤 H A 𝓣 E G49 b37 Δ1 (at28 bs)
-          d28 = Typed.s-seq 𝓤 H A W 𝓣 E G49 G50 b19 b36 Δ1 (Typed.give (s47 bs)) (at27 bs) (Relend.t-sl-relend 𝓤 H A W E RelayPending.row 𝓣 G49 1 27 0
+              ref7 0 8 life0 8 Path.refl, Path.refl,) Path.refl Path.refl λ b o k. tt) d27
+          d29 : Typed.Typed 𝓤 H A 𝓣 E G49 b37 Δ1 (at29 bs)
+          d29 = Typed.s-seq 𝓤 H A W 𝓣 E G49 G50 b19 b36 Δ1 (Typed.give (s47 bs)) (at28 bs) (Relend.t-sl-relend 𝓤 H A W E RelayPending.row 𝓣 G49 1 28 0
               8 ref7 ref3 life0 0 (λ x. x) (Reads'.as-is 𝓤 H A (Mut.mslice RelayPending.row ref7 0)) (Reads'.room-gone 𝓤 H A ref3) Path.refl tt
-              Path.refl Path.refl Path.refl λ b o. tt) d27
-          d29 : Typed.Typed 𝓤 H A 𝓣 E G48 b37 Δ1 (at29 bs)
-          d29 = Typed.g-pre 𝓤 H A W 𝓣 E G48 G49 b37 Δ1 (λ Ψ. Ψ) (at28 bs) (Lifetime.g-begin 𝓤 H A W E G48 8 (tt, (tt, (tt, (tt, (tt, (tt, (tt, (tt,
+              Path.refl Path.refl Path.refl λ b o. tt) d28
+          d30 : Typed.Typed 𝓤 H A 𝓣 E G48 b37 Δ1 (at30 bs)
+          d30 = Typed.g-pre 𝓤 H A W 𝓣 E G48 G49 b37 Δ1 (λ Ψ. Ψ) (at29 bs) (Lifetime.g-begin 𝓤 H A W E G48 8 (tt, (tt, (tt, (tt, (tt, (tt, (tt, (tt,
               (tt, (tt, (tt, (tt, (tt, (tt, (tt, (tt, (tt, (tt, (tt, (tt, (tt, (tt, (tt, (tt, (tt, (tt, (tt, (tt, (tt, (tt, (tt, (tt, (tt, (tt, (tt,
-              tt)),),),),),),),),),),),),),),),),),),),),),),),),),),),),),),),),),)) d28
-          d30 : Typed.Typed 𝓤 H A 𝓣 E G47 b37 Δ1 (at30 bs)
-          d30 = Typed.g-pre 𝓤 H A W 𝓣 E G47 G48 b37 Δ1 (λ Ψ. Ψ) (at29 bs) (Lifetime.g-forget 𝓤 H A W E G47 7 Row.dead Path.refl) d29
-          d31 : Typed.Typed 𝓤 H A 𝓣 E G46 b37 Δ1 (at31 bs)
-          d31 = Typed.g-pre 𝓤 H A W 𝓣 E G46 G47 b37 Δ1 (Typed.both (s44 bs)) (at30 bs) (Relend.g-back-sl 𝓤 H A W E ReservationUsage.row G46 26 3 2 7
+              (tt, tt)),),),),),),),),),),),),),),),),),),),),),),),),),),),),),),),),),),)) d29
+          d31 : Typed.Typed 𝓤 H A 𝓣 E G47 b37 Δ1 (at31 bs)
+          d31 = Typed.g-pre 𝓤 H A W 𝓣 E G47 G48 b37 Δ1 (λ Ψ. Ψ) (at30 bs) (Lifetime.g-forget 𝓤 H A W E G47 7 Row.dead Path.refl) d30
+          d32 : Typed.Typed 𝓤 H A 𝓣 E G46 b37 Δ1 (at32 bs)
+          d32 = Typed.g-pre 𝓤 H A W 𝓣 E G46 G47 b37 Δ1 (Typed.both (s44 bs)) (at31 bs) (Relend.g-back-sl 𝓤 H A W E ReservationUsage.row G46 27 3 2 7
               ref9 ref2 life2 (λ x. x) (λ x. x) (Reads'.as-is 𝓤 H A (Mut.msleft ReservationUsage.row ref2)) (Reads'.as-is 𝓤 H A (Relend.mslice-owed
-              ReservationUsage.row ref9 2 7 life2)) Path.refl Path.refl) d30
-          d32 : Typed.Typed 𝓤 H A 𝓣 E G45 b37 Δ1 (at32 bs)
-          d32 = Typed.g-pre 𝓤 H A W 𝓣 E G45 G46 b37 Δ1 (λ Ψ. Ψ) (at31 bs) (Lifetime.g-end 𝓤 H A W E G45 7 Path.refl) d31
-          d33 : Typed.Typed 𝓤 H A 𝓣 E G44 b37 Δ1 (at33 bs)
-          d33 = Typed.g-pre 𝓤 H A W 𝓣 E G44 G45 b37 Δ1 (Typed.pass T44 T45 (s42 bs)) (at32 bs) (Scalar.g-room 𝓤 H A W E G44 24 Syntax.tyUnit
-              (Scalar.room-sc 𝓤 H A W Row.sUnit)) d32
-          d34 : Typed.Typed 𝓤 H A 𝓣 E G43 b38 Δ1 (at34 bs)
-          d34 = Typed.s-seq 𝓤 H A W 𝓣 E G43 G44 b18 b37 Δ1 (Typed.both (s41 bs)) (at33 bs) (Plain.t-call-plain 𝓤 H A W 𝓣 1 ps·7 r·7 (claims· .14)
-              (claims· .15) "hnsr_circuit::lookup::drop_lapsed" (known .7) E (λ pos β. β) G43 (record { pos = 26; ty = Syntax.tyRef Syntax.erased
-              Syntax.mut ReservationUsage.to; ref = λ x. x; }, (Bool.bLit Bool'.true, (Num.vAt 7 λ x. x, tt)),) 24 (7 ∷ List.[]) (Call.sub-id 𝓤 H A W
-              (G43 .slots)) (Reads'.as-is 𝓤 H A (Mut.mslice ReservationUsage.row ref2 7), Mut.reads-mslice 𝓤 H A W ReservationUsage.row ref2 7,
-              Path.refl, (tt, ((Scalar.reads-sc 𝓤 H A W (Row.sInt Syntax.w64), Path.refl), tt)),) (Reads'.room-gone 𝓤 H A Syntax.tyUnit) (tt, tt)
-              Path.refl) d33
-          d35 : Typed.Typed 𝓤 H A 𝓣 E G42 b39 Δ1 (at35 bs)
-          d35 = Typed.s-seq 𝓤 H A W 𝓣 E G42 G43 b17 b38 Δ1 (Typed.ask (s40 bs)) (at34 bs) (Relend.t-sl-aggregate 𝓤 H A W E ReservationUsage.row 𝓣
-              (Relend.asMut ReservationUsage.row) G42 25 26 7 ref2 ref2 (λ x. x) (Scalar.oFld 3 ((Syntax.field 1) ∷ List.[]) (Syntax.tyInt Syntax.w64)
+              ReservationUsage.row ref9 2 7 life2)) Path.refl Path.refl) d31
+          d33 : Typed.Typed 𝓤 H A 𝓣 E G45 b37 Δ1 (at33 bs)
+          d33 = Typed.g-pre 𝓤 H A W 𝓣 E G45 G46 b37 Δ1 (λ Ψ. Ψ) (at32 bs) (Lifetime.g-end 𝓤 H A W E G45 7 Path.refl) d32
+          d34 : Typed.Typed 𝓤 H A 𝓣 E G44 b37 Δ1 (at34 bs)
+          d34 = Typed.g-pre 𝓤 H A W 𝓣 E G44 G45 b37 Δ1 (Typed.pass T44 T45 (s42 bs)) (at33 bs) (Scalar.g-room 𝓤 H A W E G44 25 Syntax.tyUnit
+              (Scalar.room-sc 𝓤 H A W Row.sUnit)) d33
+          d35 : Typed.Typed 𝓤 H A 𝓣 E G43 b38 Δ1 (at35 bs)
+          d35 = Typed.s-seq 𝓤 H A W 𝓣 E G43 G44 b18 b37 Δ1 (Typed.both (s41 bs)) (at34 bs) (Plain.t-call-plain 𝓤 H A W 𝓣 1 ps·7 r·7 (claims· .14)
+              (claims· .15) "hnsr_circuit::lookup::drop_lapsed" (known .7) E (λ pos β. β) G43 (record { pos = 27; ty = Syntax.tyRef Syntax.erased
+              Syntax.mut ReservationUsage.to; ref = λ x. x; }, (record { pos = 7; st = List.[]; d = 0; at = λ x. x }, (Bool.bLit Bool'.true, (Num.vAt
+              8 λ x. x, tt)),),) 25 (7 ∷ List.[]) (Call.sub-id 𝓤 H A W (G43 .slots)) (Reads'.as-is 𝓤 H A (Mut.mslice ReservationUsage.row ref2 7),
+              Mut.reads-mslice 𝓤 H A W ReservationUsage.row ref2 7, Path.refl, ((Yields.yields-copy 𝓤 H A W (λ ρ. Unit) (Declared'.row
+              Places.the-type) Path.refl (Copies.cStruct Places.the-type Laws'''.the-laws Laws'''.the-copy .copy 𝓤 H A W) (Rows.whole (Declared'.row
+              Places.the-type)) (λ x. x) (λ x. x) (λ ρ told. Local.mem-whole 𝓤 H A W (Declared'.row Places.the-type) ρ) λ ρ told. Local.whole-mem 𝓤 H
+              A W (Declared'.row Places.the-type) ρ, Path.refl,), (tt, ((Scalar.reads-sc 𝓤 H A W (Row.sInt Syntax.w64), Path.refl), tt)),),)
+              (Reads'.room-gone 𝓤 H A Syntax.tyUnit) (tt, tt) Path.refl) d34
+          d36 : Typed.Typed 𝓤 H A 𝓣 E G42 b39 Δ1 (at36 bs)
+          d36 = Typed.s-seq 𝓤 H A W 𝓣 E G42 G43 b17 b38 Δ1 (Typed.ask (s40 bs)) (at35 bs) (Relend.t-sl-aggregate 𝓤 H A W E ReservationUsage.row 𝓣
+              (Relend.asMut ReservationUsage.row) G42 26 27 7 ref2 ref2 (λ x. x) (Scalar.oFld 3 ((Syntax.field 1) ∷ List.[]) (Syntax.tyInt Syntax.w64)
               8 λ v. Shared.lenV (v .0)) (Reads'.as-is 𝓤 H A (Relend.msptr ReservationUsage.row ref2 7)) (Reads'.room-gone 𝓤 H A (Syntax.tyStruct (38
               ∷ 91 ∷ 93 ∷ List.[]) (Syntax.tcons ref2 (Syntax.tcons (Syntax.tyInt Syntax.w64) Syntax.tnil)))) (Relend.reads-owed-len 𝓤 H A W
-              ReservationUsage.row ref9 2 7 life2 8 Path.refl, Path.refl,) Path.refl Path.refl λ b o k. tt) d34
-          d36 : Typed.Typed 𝓤 H A 𝓣 E G41 b40 Δ1 (at36 bs)
-          d36 = Typed.s-seq 𝓤 H A W 𝓣 E G41 G42 b16 b39 Δ1 (Typed.give (s39 bs)) (at35 bs) (Relend.t-sl-relend 𝓤 H A W E ReservationUsage.row 𝓣 G41 3
-              25 2 7 ref9 ref2 life2 0 (λ x. x) (Reads'.as-is 𝓤 H A (Mut.mslice ReservationUsage.row ref9 2)) (Reads'.room-gone 𝓤 H A ref2) Path.refl
-              tt Path.refl Path.refl Path.refl λ b o. tt) d35
-          d37 : Typed.Typed 𝓤 H A 𝓣 E G40 b40 Δ1 (at37 bs)
-          d37 = Typed.g-pre 𝓤 H A W 𝓣 E G40 G41 b40 Δ1 (λ Ψ. Ψ) (at36 bs) (Lifetime.g-begin 𝓤 H A W E G40 7 (tt, (tt, (tt, (tt, (tt, (tt, (tt, (tt,
+              ReservationUsage.row ref9 2 7 life2 8 Path.refl, Path.refl,) Path.refl Path.refl λ b o k. tt) d35
+          d37 : Typed.Typed 𝓤 H A 𝓣 E G41 b40 Δ1 (at37 bs)
+          d37 = Typed.s-seq 𝓤 H A W 𝓣 E G41 G42 b16 b39 Δ1 (Typed.give (s39 bs)) (at36 bs) (Relend.t-sl-relend 𝓤 H A W E ReservationUsage.row 𝓣 G41 3
+              26 2 7 ref9 ref2 life2 0 (λ x. x) (Reads'.as-is 𝓤 H A (Mut.mslice ReservationUsage.row ref9 2)) (Reads'.room-gone 𝓤 H A ref2) Path.refl
+              tt Path.refl Path.refl Path.refl λ b o. tt) d36
+          d38 : Typed.Typed 𝓤 H A 𝓣 E G40 b40 Δ1 (at38 bs)
+          d38 = Typed.g-pre 𝓤 H A W 𝓣 E G40 G41 b40 Δ1 (λ Ψ. Ψ) (at37 bs) (Lifetime.g-begin 𝓤 H A W E G40 7 (tt, (tt, (tt, (tt, (tt, (tt, (tt, (tt,
               (tt, (tt, (tt, (tt, (tt, (tt, (tt, (tt, (tt, (tt, (tt, (tt, (tt, (tt, (tt, (tt, (tt, (tt, (tt, (tt, (tt, (tt, (tt, (tt, (tt, (tt, (tt,
-              tt)),),),),),),),),),),),),),),),),),),),),),),),),),),),),),),),),),)) d36
-          d38 : Typed.Typed 𝓤 H A 𝓣 E G39 b40 Δ1 (at38 bs)
-          d38 = Typed.g-pre 𝓤 H A W 𝓣 E G39 G40 b40 Δ1 (Typed.pass T39 T40 (s37 bs)) (at37 bs) (Scalar.g-room 𝓤 H A W E G39 6 Laws'''''.mir
-              (Local.room-whole 𝓤 H A W (Declared'.row OpaqueRelayRuntime.the-type) Laws'''''.mir Path.refl)) d37
-          d39 : Typed.Typed 𝓤 H A 𝓣 E G38 b41 Δ1 (at39 bs)
-          d39 = Typed.s-seq 𝓤 H A W 𝓣 E G38 G39 b15 b40 Δ1 (Typed.both (s36 bs)) (at38 bs) (Plain.t-call-plain 𝓤 H A W 𝓣 0 ps·6 r·6 (claims· .12)
+              (tt, tt)),),),),),),),),),),),),),),),),),),),),),),),),),),),),),),),),),),)) d37
+          d39 : Typed.Typed 𝓤 H A 𝓣 E G39 b40 Δ1 (at39 bs)
+          d39 = Typed.g-pre 𝓤 H A W 𝓣 E G39 G40 b40 Δ1 (Typed.pass T39 T40 (s37 bs)) (at38 bs) (Scalar.g-room 𝓤 H A W E G39 6 Laws''''''.mir
+              (Local.room-whole 𝓤 H A W (Declared'.row OpaqueRelayRuntime.the-type) Laws''''''.mir Path.refl)) d38
+          d40 : Typed.Typed 𝓤 H A 𝓣 E G38 b41 Δ1 (at40 bs)
+          d40 = Typed.s-seq 𝓤 H A W 𝓣 E G38 G39 b15 b40 Δ1 (Typed.both (s36 bs)) (at39 bs) (Plain.t-call-plain 𝓤 H A W 𝓣 0 ps·6 r·6 (claims· .12)
               (claims· .13) "hnsr_circuit::header::with_clock" (known .6) E (λ pos β. β) G38 (record { pos = 6; st = List.[]; d = 0; at = λ x. x },
-              (Num.vAt 7 λ x. x, tt)) 14 List.[] (Call.sub-id 𝓤 H A W (G38 .slots)) ((Yields.yields-copy 𝓤 H A W (λ ρ. Unit) (Declared'.row
-              OpaqueRelayRuntime.the-type) Path.refl (Copies.cStruct OpaqueRelayRuntime.the-type Laws'''''.the-laws Laws'''''.the-copy .copy 𝓤 H A W)
-              (Rows.whole (Declared'.row OpaqueRelayRuntime.the-type)) (λ x. x) (λ x. x) (λ ρ told. Local.mem-whole 𝓤 H A W (Declared'.row
+              (Num.vAt 8 λ x. x, tt)) 15 List.[] (Call.sub-id 𝓤 H A W (G38 .slots)) ((Yields.yields-copy 𝓤 H A W (λ ρ. Unit) (Declared'.row
+              OpaqueRelayRuntime.the-type) Path.refl (Copies.cStruct OpaqueRelayRuntime.the-type Laws''''''.the-laws Laws''''''.the-copy .copy 𝓤 H A
+              W) (Rows.whole (Declared'.row OpaqueRelayRuntime.the-type)) (λ x. x) (λ x. x) (λ ρ told. Local.mem-whole 𝓤 H A W (Declared'.row
               OpaqueRelayRuntime.the-type) ρ) λ ρ told. Local.whole-mem 𝓤 H A W (Declared'.row OpaqueRelayRuntime.the-type) ρ, Path.refl,),
-              ((Scalar.reads-sc 𝓤 H A W (Row.sInt Syntax.w64), Path.refl), tt),) (Reads'.room-gone 𝓤 H A Laws'''''.mir) tt Path.refl) d38
-          d40 : Typed.Typed 𝓤 H A 𝓣 E G37 b41 Δ1 (at40 bs)
-          d40 = Typed.g-pre 𝓤 H A W 𝓣 E G37 G38 b41 Δ1 (Typed.pass T37 T38 (s35 bs)) (at39 bs) (Scalar.g-room 𝓤 H A W E G37 23 Laws.mir
-              (Local.room-whole 𝓤 H A W (Declared.row Notice.the-type) Laws.mir Path.refl)) d39
-          d41 : Typed.Typed 𝓤 H A 𝓣 E G36 b41 Δ1 (at41 bs)
-          d41 = Typed.g-pre 𝓤 H A W 𝓣 E G36 G37 b41 Δ1 (Typed.pass T36 T37 (s34 bs)) (at40 bs) (Scalar.g-room 𝓤 H A W E G36 22 Laws.mir
+              ((Scalar.reads-sc 𝓤 H A W (Row.sInt Syntax.w64), Path.refl), tt),) (Reads'.room-gone 𝓤 H A Laws''''''.mir) tt Path.refl) d39
+          d41 : Typed.Typed 𝓤 H A 𝓣 E G37 b41 Δ1 (at41 bs)
+          d41 = Typed.g-pre 𝓤 H A W 𝓣 E G37 G38 b41 Δ1 (Typed.pass T37 T38 (s35 bs)) (at40 bs) (Scalar.g-room 𝓤 H A W E G37 24 Laws.mir
               (Local.room-whole 𝓤 H A W (Declared.row Notice.the-type) Laws.mir Path.refl)) d40
-          d42 : Typed.Typed 𝓤 H A 𝓣 E G35 b41 Δ1 (at42 bs)
-          d42 = Typed.g-pre 𝓤 H A W 𝓣 E G35 G36 b41 Δ1 (Typed.pass T35 T36 (s33 bs)) (at41 bs) (Scalar.g-room 𝓤 H A W E G35 12 Laws'''.mir
-              (Local.room-whole 𝓤 H A W (Declared'.row Question.the-type) Laws'''.mir Path.refl)) d41
-          d43 : Typed.Typed 𝓤 H A 𝓣 E G34 b42 Δ1 (at43 bs)
-          d43 = Typed.s-seq 𝓤 H A W 𝓣 E G34 G35 b14 b41 Δ1 (Typed.both (s32 bs)) (at42 bs) (Plain.t-call-plain 𝓤 H A W 𝓣 0 ps·5 r·5 (claims· .10)
-              (claims· .11) "hnsr_circuit::revoking_calls::revoking" (known .5) E (λ pos β. β) G34 (record { pos = 12; st = List.[]; d = 0; at = λ x.
-              x }, (record { pos = 22; st = List.[]; d = 0; at = λ x. x }, (record { pos = 23; st = List.[]; d = 0; at = λ x. x }, tt),),) 13 List.[]
+          d42 : Typed.Typed 𝓤 H A 𝓣 E G36 b41 Δ1 (at42 bs)
+          d42 = Typed.g-pre 𝓤 H A W 𝓣 E G36 G37 b41 Δ1 (Typed.pass T36 T37 (s34 bs)) (at41 bs) (Scalar.g-room 𝓤 H A W E G36 23 Laws.mir
+              (Local.room-whole 𝓤 H A W (Declared.row Notice.the-type) Laws.mir Path.refl)) d41
+          d43 : Typed.Typed 𝓤 H A 𝓣 E G35 b41 Δ1 (at43 bs)
+          d43 = Typed.g-pre 𝓤 H A W 𝓣 E G35 G36 b41 Δ1 (Typed.pass T35 T36 (s33 bs)) (at42 bs) (Scalar.g-room 𝓤 H A W E G35 13 Laws''''.mir
+              (Local.room-whole 𝓤 H A W (Declared'.row Question.the-type) Laws''''.mir Path.refl)) d42
+          d44 : Typed.Typed 𝓤 H A 𝓣 E G34 b42 Δ1 (at44 bs)
+          d44 = Typed.s-seq 𝓤 H A W 𝓣 E G34 G35 b14 b41 Δ1 (Typed.both (s32 bs)) (at43 bs) (Plain.t-call-plain 𝓤 H A W 𝓣 0 ps·5 r·5 (claims· .10)
+              (claims· .11) "hnsr_circuit::revoking_calls::revoking" (known .5) E (λ pos β. β) G34 (record { pos = 13; st = List.[]; d = 0; at = λ x.
+              x }, (record { pos = 23; st = List.[]; d = 0; at = λ x. x }, (record { pos = 24; st = List.[]; d = 0; at = λ x. x }, tt),),) 14 List.[]
               (Call.sub-id 𝓤 H A W (G34 .slots)) ((Yields.yields-copy 𝓤 H A W (λ ρ. Unit) (Declared'.row Question.the-type) Path.refl (Copies.cStruct
-              Question.the-type Laws'''.the-laws Laws'''.the-copy .copy 𝓤 H A W) (Rows.whole (Declared'.row Question.the-type)) (λ x. x) (λ x. x) (λ ρ
-              told. Local.mem-whole 𝓤 H A W (Declared'.row Question.the-type) ρ) λ ρ told. Local.whole-mem 𝓤 H A W (Declared'.row Question.the-type)
+              Question.the-type Laws''''.the-laws Laws''''.the-copy .copy 𝓤 H A W) (Rows.whole (Declared'.row Question.the-type)) (λ x. x) (λ x. x) (λ
+              ρ told. Local.mem-whole 𝓤 H A W (Declared'.row Question.the-type) ρ) λ ρ told. Local.whole-mem 𝓤 H A W (Declared'.row Question.the-type)
               ρ, Path.refl,), ((Yields.yields-copy 𝓤 H A W (λ ρ. Unit) (Declared.row Notice.the-type) Path.refl (Copies.cEnum Notice.the-type
               Laws.the-laws Laws.the-copy .copy 𝓤 H A W) (Rows.whole (Declared.row Notice.the-type)) (λ x. x) (λ x. x) (λ ρ told. Local.mem-whole 𝓤 H
               A W (Declared.row Notice.the-type) ρ) λ ρ told. Local.whole-mem 𝓤 H A W (Declared.row Notice.the-type) ρ, Path.refl,),
               ((Yields.yields-copy 𝓤 H A W (λ ρ. Unit) (Declared.row Notice.the-type) Path.refl (Copies.cEnum Notice.the-type Laws.the-laws
               Laws.the-copy .copy 𝓤 H A W) (Rows.whole (Declared.row Notice.the-type)) (λ x. x) (λ x. x) (λ ρ told. Local.mem-whole 𝓤 H A W
               (Declared.row Notice.the-type) ρ) λ ρ told. Local.whole-mem 𝓤 H A W (Declared.row Notice.the-type) ρ, Path.refl,), tt,),),)
-              (Reads'.room-gone 𝓤 H A Laws''''.mir) tt Path.refl) d42
-          d44 : Typed.Typed 𝓤 H A 𝓣 E G33 b43 Δ1 (at44 bs)
-          d44 = Typed.s-seq 𝓤 H A W 𝓣 E G33 G34 b13 b42 Δ1 (Typed.pass T33 T34 (s31 bs)) (at43 bs) (Make.t-enum-make-wt 𝓤 H A W E 𝓣 Notice.the-type
-              Laws.the-laws Laws.the-plain tt G33 23 ((Scalar.oInt Syntax.w8 3) ∷ List.[]) (λ m. Notice.enum .make (Logic.inr (Logic.inr (Logic.inr
+              (Reads'.room-gone 𝓤 H A Laws'''''.mir) tt Path.refl) d43
+          d45 : Typed.Typed 𝓤 H A 𝓣 E G33 b43 Δ1 (at45 bs)
+          d45 = Typed.s-seq 𝓤 H A W 𝓣 E G33 G34 b13 b42 Δ1 (Typed.pass T33 T34 (s31 bs)) (at44 bs) (Make.t-enum-make-wt 𝓤 H A W E 𝓣 Notice.the-type
+              Laws.the-laws Laws.the-plain tt G33 24 ((Scalar.oInt Syntax.w8 3) ∷ List.[]) (λ m. Notice.enum .make (Logic.inr (Logic.inr (Logic.inr
               (Logic.inl tt))))) (Reads'.room-gone 𝓤 H A Laws.mir) (tt, tt) Path.refl (λ m wa. Make.made-val Notice.the-type Laws.the-laws List.[]
               (Notice.enum .make (Logic.inr (Logic.inr (Logic.inr (Logic.inl tt))))) tt (wa .1)) λ m wa. Make.made-is Notice.the-type Laws.the-laws
-              List.[] (Notice.enum .make (Logic.inr (Logic.inr (Logic.inr (Logic.inl tt))))) tt (wa .1)) d43
-          d45 : Typed.Typed 𝓤 H A 𝓣 E G32 b44 Δ1 (at45 bs)
-          d45 = Typed.s-seq 𝓤 H A W 𝓣 E G32 G33 b12 b43 Δ1 (Typed.pass T32 T33 (s30 bs)) (at44 bs) (Make.t-enum-make-wt 𝓤 H A W E 𝓣 Notice.the-type
-              Laws.the-laws Laws.the-plain tt G32 22 ((Scalar.oInt Syntax.w8 2) ∷ List.[]) (λ m. Notice.enum .make (Logic.inr (Logic.inr (Logic.inl
+              List.[] (Notice.enum .make (Logic.inr (Logic.inr (Logic.inr (Logic.inl tt))))) tt (wa .1)) d44
+          d46 : Typed.Typed 𝓤 H A 𝓣 E G32 b44 Δ1 (at46 bs)
+          d46 = Typed.s-seq 𝓤 H A W 𝓣 E G32 G33 b12 b43 Δ1 (Typed.pass T32 T33 (s30 bs)) (at45 bs) (Make.t-enum-make-wt 𝓤 H A W E 𝓣 Notice.the-type
+              Laws.the-laws Laws.the-plain tt G32 23 ((Scalar.oInt Syntax.w8 2) ∷ List.[]) (λ m. Notice.enum .make (Logic.inr (Logic.inr (Logic.inl
               tt)))) (Reads'.room-gone 𝓤 H A Laws.mir) (tt, tt) Path.refl (λ m wa. Make.made-val Notice.the-type Laws.the-laws List.[] (Notice.enum
               .make (Logic.inr (Logic.inr (Logic.inl tt)))) tt (wa .1)) λ m wa. Make.made-is Notice.the-type Laws.the-laws List.[] (Notice.enum .make
-              (Logic.inr (Logic.inr (Logic.inl tt)))) tt (wa .1)) d44
-          d46 : Typed.Typed 𝓤 H A 𝓣 E G31 b45 Δ1 (at46 bs)
-          d46 = Typed.s-seq 𝓤 H A W 𝓣 E G31 G32 b11 b44 Δ1 (Typed.both (s29 bs)) (at45 bs) (Plain.t-call-plain 𝓤 H A W 𝓣 0 ps·4 r·4 (claims· .8)
-              (claims· .9) "hnsr_circuit::question::over" (known .4) E (λ pos β. β) G31 (Num.vAt 7 λ x. x, tt) 12 List.[] (Call.sub-id 𝓤 H A W (G31
-              .slots)) ((Scalar.reads-sc 𝓤 H A W (Row.sInt Syntax.w64), Path.refl), tt) (Reads'.room-gone 𝓤 H A Laws'''.mir) tt Path.refl) d45
-          d47 : Typed.Typed 𝓤 H A 𝓣 E G30 b45 Δ1 (at47 bs)
-          d47 = Typed.g-pre 𝓤 H A W 𝓣 E G30 G31 b45 Δ1 (Typed.pass T30 T31 (s28 bs)) (at46 bs) (Scalar.g-room 𝓤 H A W E G30 21 Syntax.tyBool
-              (Scalar.room-sc 𝓤 H A W Row.sBool)) d46
-          d48 : Typed.Typed 𝓤 H A 𝓣 E G28 b45 Δ1 (at48 bs)
-          d48 = Typed.g-pre 𝓤 H A W 𝓣 E G28 G30 b45 Δ1 (Typed.pass T28 T30 (s27 bs)) (at47 bs) (Scalar.g-room 𝓤 H A W E G28 11 Laws'.mir
-              (Local.room-whole 𝓤 H A W (Declared.row HnsrAnswer.the-type) Laws'.mir Path.refl)) d47
-          d49 : Typed.Typed 𝓤 H A 𝓣 E G78 b46 Δ1 (at49 bs)
-          d49 = Typed.t-skip 𝓤 H A W 𝓣 E Δ1 tt
-          d50 : Typed.Typed 𝓤 H A 𝓣 E G28 b46 Δ1 (at50 bs)
-          d50 = Typed.g-pre 𝓤 H A W 𝓣 E G28 G78 b46 Δ1 (Typed.pass T28 T78 (s75 bs)) (at49 bs) (Scalar.g-room 𝓤 H A W E G28 21 Syntax.tyBool
-              (Scalar.room-sc 𝓤 H A W Row.sBool)) d49
-          d51 : Typed.Typed 𝓤 H A 𝓣 E G28 b47 Δ1 (at51 bs)
-          d51 = Scalar.t-cond 𝓤 H A W E 𝓣 G28 21 (λ x. x) b45 b46 Δ1 (at48 bs) (at50 bs) (Scalar.reads-sc 𝓤 H A W Row.sBool) Path.refl d48 d50
-          d52 : Typed.Typed 𝓤 H A 𝓣 E G82 b49 Δ0 (at52 bs)
-          d52 = Typed.t-return 𝓤 H A W 𝓣 E Δ0 tt
-          d53 : Typed.Typed 𝓤 H A 𝓣 E G81 b49 Δ0 (at53 bs)
-          d53 = Typed.g-pre 𝓤 H A W 𝓣 E G81 G82 b49 Δ0 (Typed.pass T81 T82 (s79 bs)) (at52 bs) (Scalar.g-room 𝓤 H A W E G81 7 (Syntax.tyInt
-              Syntax.w64) (Scalar.room-sc 𝓤 H A W (Row.sInt Syntax.w64))) d52
-          d54 : Typed.Typed 𝓤 H A 𝓣 E G80 b49 Δ0 (at54 bs)
-          d54 = Typed.g-pre 𝓤 H A W 𝓣 E G80 G81 b49 Δ0 (Typed.pass T80 T81 (s78 bs)) (at53 bs) (Scalar.g-room 𝓤 H A W E G80 11 Laws'.mir
-              (Local.room-whole 𝓤 H A W (Declared.row HnsrAnswer.the-type) Laws'.mir Path.refl)) d53
-          d55 : Typed.Typed 𝓤 H A 𝓣 E G79 b49 Δ0 (at55 bs)
-          d55 = Typed.g-pre 𝓤 H A W 𝓣 E G79 G80 b49 Δ0 (Typed.pass T79 T80 (s77 bs)) (at54 bs) (Scalar.g-room 𝓤 H A W E G79 6 Laws'''''.mir
-              (Local.room-whole 𝓤 H A W (Declared'.row OpaqueRelayRuntime.the-type) Laws'''''.mir Path.refl)) d54
-          d56 : Typed.Typed 𝓤 H A 𝓣 E G29 b50 Δ0 (at56 bs)
-          d56 = Typed.s-seq 𝓤 H A W 𝓣 E G29 G79 b48 b49 Δ0 (Typed.both (s76 bs)) (at55 bs) (Plain.t-call-plain 𝓤 H A W 𝓣 0 ps·9 r·9 (claims· .18)
+              (Logic.inr (Logic.inr (Logic.inl tt)))) tt (wa .1)) d45
+          d47 : Typed.Typed 𝓤 H A 𝓣 E G31 b45 Δ1 (at47 bs)
+          d47 = Typed.s-seq 𝓤 H A W 𝓣 E G31 G32 b11 b44 Δ1 (Typed.both (s29 bs)) (at46 bs) (Plain.t-call-plain 𝓤 H A W 𝓣 0 ps·4 r·4 (claims· .8)
+              (claims· .9) "hnsr_circuit::question::over" (known .4) E (λ pos β. β) G31 (Num.vAt 8 λ x. x, tt) 13 List.[] (Call.sub-id 𝓤 H A W (G31
+              .slots)) ((Scalar.reads-sc 𝓤 H A W (Row.sInt Syntax.w64), Path.refl), tt) (Reads'.room-gone 𝓤 H A Laws''''.mir) tt Path.refl) d46
+          d48 : Typed.Typed 𝓤 H A 𝓣 E G30 b45 Δ1 (at48 bs)
+          d48 = Typed.g-pre 𝓤 H A W 𝓣 E G30 G31 b45 Δ1 (Typed.pass T30 T31 (s28 bs)) (at47 bs) (Scalar.g-room 𝓤 H A W E G30 22 Syntax.tyBool
+              (Scalar.room-sc 𝓤 H A W Row.sBool)) d47
+          d49 : Typed.Typed 𝓤 H A 𝓣 E G28 b45 Δ1 (at49 bs)
+          d49 = Typed.g-pre 𝓤 H A W 𝓣 E G28 G30 b45 Δ1 (Typed.pass T28 T30 (s27 bs)) (at48 bs) (Scalar.g-room 𝓤 H A W E G28 12 Laws'.mir
+              (Local.room-whole 𝓤 H A W (Declared.row HnsrAnswer.the-type) Laws'.mir Path.refl)) d48
+          d50 : Typed.Typed 𝓤 H A 𝓣 E G79 b46 Δ1 (at50 bs)
+          d50 = Typed.t-skip 𝓤 H A W 𝓣 E Δ1 tt
+          d51 : Typed.Typed 𝓤 H A 𝓣 E G28 b46 Δ1 (at51 bs)
+          d51 = Typed.g-pre 𝓤 H A W 𝓣 E G28 G79 b46 Δ1 (Typed.pass T28 T79 (s76 bs)) (at50 bs) (Scalar.g-room 𝓤 H A W E G28 22 Syntax.tyBool
+              (Scalar.room-sc 𝓤 H A W Row.sBool)) d50
+          d52 : Typed.Typed 𝓤 H A 𝓣 E G28 b47 Δ1 (at52 bs)
+          d52 = Scalar.t-cond 𝓤 H A W E 𝓣 G28 22 (λ x. x) b45 b46 Δ1 (at49 bs) (at51 bs) (Scalar.reads-sc 𝓤 H A W Row.sBool) Path.refl d49 d51
+          d53 : Typed.Typed 𝓤 H A 𝓣 E G84 b49 Δ0 (at53 bs)
+          d53 = Typed.t-return 𝓤 H A W 𝓣 E Δ0 tt
+          d54 : Typed.Typed 𝓤 H A 𝓣 E G83 b49 Δ0 (at54 bs)
+          d54 = Typed.g-pre 𝓤 H A W 𝓣 E G83 G84 b49 Δ0 (Typed.pass T83 T84 (s81 bs)) (at53 bs) (Scalar.g-room 𝓤 H A W E G83 8 (Syntax.tyInt
+              Syntax.w64) (Scalar.room-sc 𝓤 H A W (Row.sInt Syntax.w64))) d53
+          d55 : Typed.Typed 𝓤 H A 𝓣 E G82 b49 Δ0 (at55 bs)
+          d55 = Typed.g-pre 𝓤 H A W 𝓣 E G82 G83 b49 Δ0 (Typed.pass T82 T83 (s80 bs)) (at54 bs) (Scalar.g-room 𝓤 H A W E G82 12 Laws'.mir
+              (Local.room-whole 𝓤 H A W (Declared.row HnsrAnswer.the-type) Laws'.mir Path.refl)) d54
+          d56 : Typed.Typed 𝓤 H A 𝓣 E G81 b49 Δ0 (at56 bs)
+          d56 = Typed.g-pre 𝓤 H A W 𝓣 E G81 G82 b49 Δ0 (Typed.pass T81 T82 (s79 bs)) (at55 bs) (Scalar.g-room 𝓤 H A W E G81 7 Laws'''.mir
+              (Local.room-whole 𝓤 H A W (Declared'.row Places.the-type) Laws'''.mir Path.refl)) d55
+          d57 : Typed.Typed 𝓤 H A 𝓣 E G80 b49 Δ0 (at57 bs)
+          d57 = Typed.g-pre 𝓤 H A W 𝓣 E G80 G81 b49 Δ0 (Typed.pass T80 T81 (s78 bs)) (at56 bs) (Scalar.g-room 𝓤 H A W E G80 6 Laws''''''.mir
+              (Local.room-whole 𝓤 H A W (Declared'.row OpaqueRelayRuntime.the-type) Laws''''''.mir Path.refl)) d56
+          d58 : Typed.Typed 𝓤 H A 𝓣 E G29 b50 Δ0 (at58 bs)
+          d58 = Typed.s-seq 𝓤 H A W 𝓣 E G29 G80 b48 b49 Δ0 (Typed.both (s77 bs)) (at57 bs) (Plain.t-call-plain 𝓤 H A W 𝓣 0 ps·9 r·9 (claims· .18)
               (claims· .19) "hnsr_circuit::revoking_calls::refused" (known .9) E (λ pos β. β) G29 (record { pos = 6; st = List.[]; d = 0; at = λ x. x
-              }, (record { pos = 11; st = List.[]; d = 0; at = λ x. x }, tt),) 0 List.[] (Call.sub-id 𝓤 H A W (G29 .slots)) ((Yields.yields-copy 𝓤 H A
-              W (λ ρ. Unit) (Declared'.row OpaqueRelayRuntime.the-type) Path.refl (Copies.cStruct OpaqueRelayRuntime.the-type Laws'''''.the-laws
-              Laws'''''.the-copy .copy 𝓤 H A W) (Rows.whole (Declared'.row OpaqueRelayRuntime.the-type)) (λ x. x) (λ x. x) (λ ρ told. Local.mem-whole
-              𝓤 H A W (Declared'.row OpaqueRelayRuntime.the-type) ρ) λ ρ told. Local.whole-mem 𝓤 H A W (Declared'.row OpaqueRelayRuntime.the-type) ρ,
-              Path.refl,), ((Yields.yields-copy 𝓤 H A W (λ ρ. Unit) (Declared.row HnsrAnswer.the-type) Path.refl (Copies.cEnum HnsrAnswer.the-type
-              Laws'.the-laws Laws'.the-copy .copy 𝓤 H A W) (Rows.whole (Declared.row HnsrAnswer.the-type)) (λ x. x) (λ x. x) (λ ρ told.
-              Local.mem-whole 𝓤 H A W (Declared.row HnsrAnswer.the-type) ρ) λ ρ told. Local.whole-mem 𝓤 H A W (Declared.row HnsrAnswer.the-type) ρ,
-              Path.refl,), tt,),) (Reads'.room-gone 𝓤 H A Laws''''''.mir) tt Path.refl) d55
-          d57 : Typed.Typed 𝓤 H A 𝓣 E G28 b51 Δ0 (at57 bs)
-          d57 = Typed.t-seq 𝓤 H A W 𝓣 E G28 G29 b47 b50 Δ0 (at51 bs) (at56 bs) d51 d56
-          d58 : Typed.Typed 𝓤 H A 𝓣 E G27 b52 Δ0 (at58 bs)
-          d58 = Typed.s-seq 𝓤 H A W 𝓣 E G27 G28 b10 b51 Δ0 (Typed.both (s26 bs)) (at57 bs) (Plain.t-call-plain 𝓤 H A W 𝓣 0 ps·3 r·3 (claims· .6)
-              (claims· .7) "hnsr_circuit::answer::is_taken" (known .3) E (λ pos β. β) G27 (record { pos = 11; st = List.[]; d = 0; at = λ x. x }, tt)
-              21 List.[] (Call.sub-id 𝓤 H A W (G27 .slots)) ((Yields.yields-copy 𝓤 H A W (λ ρ. Unit) (Declared.row HnsrAnswer.the-type) Path.refl
+              }, (record { pos = 7; st = List.[]; d = 0; at = λ x. x }, (record { pos = 12; st = List.[]; d = 0; at = λ x. x }, tt),),) 0 List.[]
+              (Call.sub-id 𝓤 H A W (G29 .slots)) ((Yields.yields-copy 𝓤 H A W (λ ρ. Unit) (Declared'.row OpaqueRelayRuntime.the-type) Path.refl
+              (Copies.cStruct OpaqueRelayRuntime.the-type Laws''''''.the-laws Laws''''''.the-copy .copy 𝓤 H A W) (Rows.whole (Declared'.row
+              OpaqueRelayRuntime.the-type)) (λ x. x) (λ x. x) (λ ρ told. Local.mem-whole 𝓤 H A W (Declared'.row OpaqueRelayRuntime.the-type) ρ) λ ρ
+              told. Local.whole-mem 𝓤 H A W (Declared'.row OpaqueRelayRuntime.the-type) ρ, Path.refl,), ((Yields.yields-copy 𝓤 H A W (λ ρ. Unit)
+              (Declared'.row Places.the-type) Path.refl (Copies.cStruct Places.the-type Laws'''.the-laws Laws'''.the-copy .copy 𝓤 H A W) (Rows.whole
+              (Declared'.row Places.the-type)) (λ x. x) (λ x. x) (λ ρ told. Local.mem-whole 𝓤 H A W (Declared'.row Places.the-type) ρ) λ ρ told.
+              Local.whole-mem 𝓤 H A W (Declared'.row Places.the-type) ρ, Path.refl,), ((Yields.yields-copy 𝓤 H A W (λ ρ. Unit) (Declared.row
+              HnsrAnswer.the-type) Path.refl (Copies.cEnum HnsrAnswer.the-type Laws'.the-laws Laws'.the-copy .copy 𝓤 H A W) (Rows.whole (Declared.row
+              HnsrAnswer.the-type)) (λ x. x) (λ x. x) (λ ρ told. Local.mem-whole 𝓤 H A W (Declared.row HnsrAnswer.the-type) ρ) λ ρ told.
+              Local.whole-mem 𝓤 H A W (Declared.row HnsrAnswer.the-type) ρ, Path.refl,), tt,),),) (Reads'.room-gone 𝓤 H A Laws'''''''.mir) tt
+              Path.refl) d57
+          d59 : Typed.Typed 𝓤 H A 𝓣 E G28 b51 Δ0 (at59 bs)
+          d59 = Typed.t-seq 𝓤 H A W 𝓣 E G28 G29 b47 b50 Δ0 (at52 bs) (at58 bs) d52 d58
+          d60 : Typed.Typed 𝓤 H A 𝓣 E G27 b52 Δ0 (at60 bs)
+          d60 = Typed.s-seq 𝓤 H A W 𝓣 E G27 G28 b10 b51 Δ0 (Typed.both (s26 bs)) (at59 bs) (Plain.t-call-plain 𝓤 H A W 𝓣 0 ps·3 r·3 (claims· .6)
+              (claims· .7) "hnsr_circuit::answer::is_taken" (known .3) E (λ pos β. β) G27 (record { pos = 12; st = List.[]; d = 0; at = λ x. x }, tt)
+              22 List.[] (Call.sub-id 𝓤 H A W (G27 .slots)) ((Yields.yields-copy 𝓤 H A W (λ ρ. Unit) (Declared.row HnsrAnswer.the-type) Path.refl
               (Copies.cEnum HnsrAnswer.the-type Laws'.the-laws Laws'.the-copy .copy 𝓤 H A W) (Rows.whole (Declared.row HnsrAnswer.the-type)) (λ x. x)
               (λ x. x) (λ ρ told. Local.mem-whole 𝓤 H A W (Declared.row HnsrAnswer.the-type) ρ) λ ρ told. Local.whole-mem 𝓤 H A W (Declared.row
-              HnsrAnswer.the-type) ρ, Path.refl,), tt,) (Reads'.room-gone 𝓤 H A Syntax.tyBool) tt Path.refl) d57
-          d59 : Typed.Typed 𝓤 H A 𝓣 E G26 b52 Δ0 (at59 bs)
-          d59 = Typed.g-pre 𝓤 H A W 𝓣 E G26 G27 b52 Δ0 (Typed.pass T26 T27 (s25 bs)) (at58 bs) (Scalar.g-room 𝓤 H A W E G26 10 Laws'.mir
-              (Local.room-whole 𝓤 H A W (Declared.row HnsrAnswer.the-type) Laws'.mir Path.refl)) d58
-          d60 : Typed.Typed 𝓤 H A 𝓣 E G25 b52 Δ0 (at60 bs)
-          d60 = Typed.g-pre 𝓤 H A W 𝓣 E G25 G26 b52 Δ0 (Typed.pass T25 T26 (s24 bs)) (at59 bs) (Scalar.g-room 𝓤 H A W E G25 9 Laws'.mir
-              (Local.room-whole 𝓤 H A W (Declared.row HnsrAnswer.the-type) Laws'.mir Path.refl)) d59
-          d61 : Typed.Typed 𝓤 H A 𝓣 E G24 b53 Δ0 (at61 bs)
-          d61 = Typed.s-seq 𝓤 H A W 𝓣 E G24 G25 b9 b52 Δ0 (Typed.both (s23 bs)) (at60 bs) (Plain.t-call-plain 𝓤 H A W 𝓣 0 ps·2 r·2 (claims· .4)
-              (claims· .5) "hnsr_circuit::answer::first_refusal" (known .2) E (λ pos β. β) G24 (record { pos = 9; st = List.[]; d = 0; at = λ x. x },
-              (record { pos = 10; st = List.[]; d = 0; at = λ x. x }, tt),) 11 List.[] (Call.sub-id 𝓤 H A W (G24 .slots)) ((Yields.yields-copy 𝓤 H A W
+              HnsrAnswer.the-type) ρ, Path.refl,), tt,) (Reads'.room-gone 𝓤 H A Syntax.tyBool) tt Path.refl) d59
+          d61 : Typed.Typed 𝓤 H A 𝓣 E G26 b52 Δ0 (at61 bs)
+          d61 = Typed.g-pre 𝓤 H A W 𝓣 E G26 G27 b52 Δ0 (Typed.pass T26 T27 (s25 bs)) (at60 bs) (Scalar.g-room 𝓤 H A W E G26 11 Laws'.mir
+              (Local.room-whole 𝓤 H A W (Declared.row HnsrAnswer.the-type) Laws'.mir Path.refl)) d60
+          d62 : Typed.Typed 𝓤 H A 𝓣 E G25 b52 Δ0 (at62 bs)
+          d62 = Typed.g-pre 𝓤 H A W 𝓣 E G25 G26 b52 Δ0 (Typed.pass T25 T26 (s24 bs)) (at61 bs) (Scalar.g-room 𝓤 H A W E G25 10 Laws'.mir
+              (Local.room-whole 𝓤 H A W (Declared.row HnsrAnswer.the-type) Laws'.mir Path.refl)) d61
+          d63 : Typed.Typed 𝓤 H A 𝓣 E G24 b53 Δ0 (at63 bs)
+          d63 = Typed.s-seq 𝓤 H A W 𝓣 E G24 G25 b9 b52 Δ0 (Typed.both (s23 bs)) (at62 bs) (Plain.t-call-plain 𝓤 H A W 𝓣 0 ps·2 r·2 (claims· .4)
+              (claims· .5) "hnsr_circuit::answer::first_refusal" (known .2) E (λ pos β. β) G24 (record { pos = 10; st = List.[]; d = 0; at = λ x. x },
+              (record { pos = 11; st = List.[]; d = 0; at = λ x. x }, tt),) 12 List.[] (Call.sub-id 𝓤 H A W (G24 .slots)) ((Yields.yields-copy 𝓤 H A W
               (λ ρ. Unit) (Declared.row HnsrAnswer.the-type) Path.refl (Copies.cEnum HnsrAnswer.the-type Laws'.the-laws Laws'.the-copy .copy 𝓤 H A W)
               (Rows.whole (Declared.row HnsrAnswer.the-type)) (λ x. x) (λ x. x) (λ ρ told. Local.mem-whole 𝓤 H A W (Declared.row HnsrAnswer.the-type)
               ρ) λ ρ told. Local.whole-mem 𝓤 H A W (Declared.row HnsrAnswer.the-type) ρ, Path.refl,), ((Yields.yields-copy 𝓤 H A W (λ ρ. Unit)
               (Declared.row HnsrAnswer.the-type) Path.refl (Copies.cEnum HnsrAnswer.the-type Laws'.the-laws Laws'.the-copy .copy 𝓤 H A W) (Rows.whole
               (Declared.row HnsrAnswer.the-type)) (λ x. x) (λ x. x) (λ ρ told. Local.mem-whole 𝓤 H A W (Declared.row HnsrAnswer.the-type) ρ) λ ρ told.
-              Local.whole-mem 𝓤 H A W (Declared.row HnsrAnswer.the-type) ρ, Path.refl,), tt,),) (Reads'.room-gone 𝓤 H A Laws'.mir) tt Path.refl) d60
-          d62 : Typed.Typed 𝓤 H A 𝓣 E G23 b54 Δ0 (at62 bs)
-          d62 = Typed.s-seq 𝓤 H A W 𝓣 E G23 G24 b8 b53 Δ0 (Typed.both (s22 bs)) (at61 bs) (Plain.t-call-plain 𝓤 H A W 𝓣 0 ps·1 r·1 (claims· .2)
+              Local.whole-mem 𝓤 H A W (Declared.row HnsrAnswer.the-type) ρ, Path.refl,), tt,),) (Reads'.room-gone 𝓤 H A Laws'.mir) tt Path.refl) d62
+          d64 : Typed.Typed 𝓤 H A 𝓣 E G23 b54 Δ0 (at64 bs)
+          d64 = Typed.s-seq 𝓤 H A W 𝓣 E G23 G24 b8 b53 Δ0 (Typed.both (s22 bs)) (at63 bs) (Plain.t-call-plain 𝓤 H A W 𝓣 0 ps·1 r·1 (claims· .2)
               (claims· .3) "hnsr_circuit::entry::clock_answer" (known .1) E (λ pos β. β) G23 (Num.vFld 6 ((Syntax.field 3) ∷ List.[]) 32 λ x.
-              OpaqueRelayRuntime.struct .as-values x .1 .1 .1 .0, (Num.vAt 7 λ x. x, tt),) 10 List.[] (Call.sub-id 𝓤 H A W (G23 .slots))
-              ((Reads.reads-field 𝓤 H A W OpaqueRelayRuntime.the-type Laws'''''.the-laws 3 (Syntax.tyInt Syntax.w64) 32 Path.refl, Path.refl,),
-              ((Scalar.reads-sc 𝓤 H A W (Row.sInt Syntax.w64), Path.refl), tt),) (Reads'.room-gone 𝓤 H A Laws'.mir) tt Path.refl) d61
-          d63 : Typed.Typed 𝓤 H A 𝓣 E G22 b54 Δ0 (at63 bs)
-          d63 = Typed.g-pre 𝓤 H A W 𝓣 E G22 G23 b54 Δ0 (λ Ψ. Ψ) (at62 bs) (Lifetime.g-forget 𝓤 H A W E G22 6 Row.dead Path.refl) d62
-          d64 : Typed.Typed 𝓤 H A 𝓣 E G21 b54 Δ0 (at64 bs)
-          d64 = Typed.g-pre 𝓤 H A W 𝓣 E G21 G22 b54 Δ0 (Typed.pass T19 T22 (s20 bs)) (at63 bs) (Reshare.g-back-sl-shr 𝓤 H A W E RelayCircuit.row G21 2
-              1 6 ref8 life1 (λ x. x) (Reads'.as-is 𝓤 H A (Reshare.mslice-owedS RelayCircuit.row ref8 1 6 life1)) Path.refl Path.refl) d63
-          d65 : Typed.Typed 𝓤 H A 𝓣 E G20 b54 Δ0 (at65 bs)
-          d65 = Typed.g-pre 𝓤 H A W 𝓣 E G20 G21 b54 Δ0 (λ Ψ. Ψ) (at64 bs) (Lifetime.g-end 𝓤 H A W E G20 6 Path.refl) d64
-          d66 : Typed.Typed 𝓤 H A 𝓣 E G19 b54 Δ0 (at66 bs)
-          d66 = Typed.g-pre 𝓤 H A W 𝓣 E G19 G20 b54 Δ0 (λ Ψ. Ψ) (at65 bs) (Lifetime.g-forget 𝓤 H A W E G19 5 Row.dead Path.refl) d65
-          d67 : Typed.Typed 𝓤 H A 𝓣 E G18 b54 Δ0 (at67 bs)
-          d67 = Typed.g-pre 𝓤 H A W 𝓣 E G18 G19 b54 Δ0 (Typed.pass T17 T19 (s17 bs)) (at66 bs) (Reshare.g-back-sl-shr 𝓤 H A W E RelayPending.row G18 1
-              0 5 ref7 life0 (λ x. x) (Reads'.as-is 𝓤 H A (Reshare.mslice-owedS RelayPending.row ref7 0 5 life0)) Path.refl Path.refl) d66
-          d68 : Typed.Typed 𝓤 H A 𝓣 E G17 b54 Δ0 (at68 bs)
-          d68 = Typed.g-pre 𝓤 H A W 𝓣 E G17 G18 b54 Δ0 (λ Ψ. Ψ) (at67 bs) (Lifetime.g-end 𝓤 H A W E G17 5 Path.refl) d67
-          d69 : Typed.Typed 𝓤 H A 𝓣 E G16 b54 Δ0 (at69 bs)
-          d69 = Typed.g-pre 𝓤 H A W 𝓣 E G16 G17 b54 Δ0 (Typed.pass T16 T17 (s15 bs)) (at68 bs) (Scalar.g-room 𝓤 H A W E G16 20 (Syntax.tyInt
-              Syntax.w64) (Scalar.room-sc 𝓤 H A W (Row.sInt Syntax.w64))) d68
-          d70 : Typed.Typed 𝓤 H A 𝓣 E G15 b54 Δ0 (at70 bs)
-          d70 = Typed.g-pre 𝓤 H A W 𝓣 E G15 G16 b54 Δ0 (Typed.pass T15 T16 (s14 bs)) (at69 bs) (Scalar.g-room 𝓤 H A W E G15 19 (Syntax.tyInt
-              Syntax.w64) (Scalar.room-sc 𝓤 H A W (Row.sInt Syntax.w64))) d69
-          d71 : Typed.Typed 𝓤 H A 𝓣 E G14 b54 Δ0 (at71 bs)
-          d71 = Typed.g-pre 𝓤 H A W 𝓣 E G14 G15 b54 Δ0 (Typed.pass T14 T15 (s13 bs)) (at70 bs) (Scalar.g-room 𝓤 H A W E G14 8 Laws''.mir
-              (Local.room-whole 𝓤 H A W (Declared'.row OpaqueRelayConfig.the-type) Laws''.mir Path.refl)) d70
-          d72 : Typed.Typed 𝓤 H A 𝓣 E G13 b54 Δ0 (at72 bs)
-          d72 = Typed.g-pre 𝓤 H A W 𝓣 E G13 G14 b54 Δ0 (Typed.pass T13 T14 (s12 bs)) (at71 bs) (Scalar.g-room 𝓤 H A W E G13 18 (Syntax.tyStruct (38 ∷
+              OpaqueRelayRuntime.struct .as-values x .1 .1 .1 .0, (Num.vAt 8 λ x. x, tt),) 11 List.[] (Call.sub-id 𝓤 H A W (G23 .slots))
+              ((Reads.reads-field 𝓤 H A W OpaqueRelayRuntime.the-type Laws''''''.the-laws 3 (Syntax.tyInt Syntax.w64) 32 Path.refl, Path.refl,),
+              ((Scalar.reads-sc 𝓤 H A W (Row.sInt Syntax.w64), Path.refl), tt),) (Reads'.room-gone 𝓤 H A Laws'.mir) tt Path.refl) d63
+          d65 : Typed.Typed 𝓤 H A 𝓣 E G22 b54 Δ0 (at65 bs)
+          d65 = Typed.g-pre 𝓤 H A W 𝓣 E G22 G23 b54 Δ0 (λ Ψ. Ψ) (at64 bs) (Lifetime.g-forget 𝓤 H A W E G22 6 Row.dead Path.refl) d64
+          d66 : Typed.Typed 𝓤 H A 𝓣 E G21 b54 Δ0 (at66 bs)
+          d66 = Typed.g-pre 𝓤 H A W 𝓣 E G21 G22 b54 Δ0 (Typed.pass T19 T22 (s20 bs)) (at65 bs) (Reshare.g-back-sl-shr 𝓤 H A W E RelayCircuit.row G21 2
+              1 6 ref8 life1 (λ x. x) (Reads'.as-is 𝓤 H A (Reshare.mslice-owedS RelayCircuit.row ref8 1 6 life1)) Path.refl Path.refl) d65
+          d67 : Typed.Typed 𝓤 H A 𝓣 E G20 b54 Δ0 (at67 bs)
+          d67 = Typed.g-pre 𝓤 H A W 𝓣 E G20 G21 b54 Δ0 (λ Ψ. Ψ) (at66 bs) (Lifetime.g-end 𝓤 H A W E G20 6 Path.refl) d66
+          d68 : Typed.Typed 𝓤 H A 𝓣 E G19 b54 Δ0 (at68 bs)
+          d68 = Typed.g-pre 𝓤 H A W 𝓣 E G19 G20 b54 Δ0 (λ Ψ. Ψ) (at67 bs) (Lifetime.g-forget 𝓤 H A W E G19 5 Row.dead Path.refl) d67
+          d69 : Typed.Typed 𝓤 H A 𝓣 E G18 b54 Δ0 (at69 bs)
+          d69 = Typed.g-pre 𝓤 H A W 𝓣 E G18 G19 b54 Δ0 (Typed.pass T17 T19 (s17 bs)) (at68 bs) (Reshare.g-back-sl-shr 𝓤 H A W E RelayPending.row G18 1
+              0 5 ref7 life0 (λ x. x) (Reads'.as-is 𝓤 H A (Reshare.mslice-owedS RelayPending.row ref7 0 5 life0)) Path.refl Path.refl) d68
+          d70 : Typed.Typed 𝓤 H A 𝓣 E G17 b54 Δ0 (at70 bs)
+          d70 = Typed.g-pre 𝓤 H A W 𝓣 E G17 G18 b54 Δ0 (λ Ψ. Ψ) (at69 bs) (Lifetime.g-end 𝓤 H A W E G17 5 Path.refl) d69
+          d71 : Typed.Typed 𝓤 H A 𝓣 E G16 b54 Δ0 (at71 bs)
+          d71 = Typed.g-pre 𝓤 H A W 𝓣 E G16 G17 b54 Δ0 (Typed.pass T16 T17 (s15 bs)) (at70 bs) (Scalar.g-room 𝓤 H A W E G16 21 (Syntax.tyInt
+              Syntax.w64) (Scalar.room-sc 𝓤 H A W (Row.sInt Syntax.w64))) d70
+          d72 : Typed.Typed 𝓤 H A 𝓣 E G15 b54 Δ0 (at72 bs)
+          d72 = Typed.g-pre 𝓤 H A W 𝓣 E G15 G16 b54 Δ0 (Typed.pass T15 T16 (s14 bs)) (at71 bs) (Scalar.g-room 𝓤 H A W E G15 20 (Syntax.tyInt
+              Syntax.w64) (Scalar.room-sc 𝓤 H A W (Row.sInt Syntax.w64))) d71
+          d73 : Typed.Typed 𝓤 H A 𝓣 E G14 b54 Δ0 (at73 bs)
+          d73 = Typed.g-pre 𝓤 H A W 𝓣 E G14 G15 b54 Δ0 (Typed.pass T14 T15 (s13 bs)) (at72 bs) (Scalar.g-room 𝓤 H A W E G14 9 Laws''.mir
+              (Local.room-whole 𝓤 H A W (Declared'.row OpaqueRelayConfig.the-type) Laws''.mir Path.refl)) d72
+          d74 : Typed.Typed 𝓤 H A 𝓣 E G13 b54 Δ0 (at74 bs)
+          d74 = Typed.g-pre 𝓤 H A W 𝓣 E G13 G14 b54 Δ0 (Typed.pass T13 T14 (s12 bs)) (at73 bs) (Scalar.g-room 𝓤 H A W E G13 19 (Syntax.tyStruct (38 ∷
               91 ∷ 93 ∷ List.[]) (Syntax.tcons ref1 (Syntax.tcons (Syntax.tyInt Syntax.w64) Syntax.tnil))) (Shared.room-sslice 𝓤 H A W
-              RelayCircuit.row ref1 6)) d71
-          d73 : Typed.Typed 𝓤 H A 𝓣 E G12 b54 Δ0 (at73 bs)
-          d73 = Typed.g-pre 𝓤 H A W 𝓣 E G12 G13 b54 Δ0 (Typed.pass T12 T13 (s11 bs)) (at72 bs) (Scalar.g-room 𝓤 H A W E G12 16 (Syntax.tyStruct (38 ∷
+              RelayCircuit.row ref1 6)) d73
+          d75 : Typed.Typed 𝓤 H A 𝓣 E G12 b54 Δ0 (at75 bs)
+          d75 = Typed.g-pre 𝓤 H A W 𝓣 E G12 G13 b54 Δ0 (Typed.pass T12 T13 (s11 bs)) (at74 bs) (Scalar.g-room 𝓤 H A W E G12 17 (Syntax.tyStruct (38 ∷
               91 ∷ 93 ∷ List.[]) (Syntax.tcons ref0 (Syntax.tcons (Syntax.tyInt Syntax.w64) Syntax.tnil))) (Shared.room-sslice 𝓤 H A W
-              RelayPending.row ref0 5)) d72
-          d74 : Typed.Typed 𝓤 H A 𝓣 E G11 b55 Δ0 (at74 bs)
-          d74 = Typed.s-seq 𝓤 H A W 𝓣 E G11 G12 b7 b54 Δ0 (Typed.both (s10 bs)) (at73 bs) (Plain.t-call-plain 𝓤 H A W 𝓣 2 ps·0 r·0 (claims· .0)
-              (claims· .1) "hnsr_circuit::revoking_calls::entry_answer" (known .0) E (λ pos β. β) G11 (record { pos = 16; ty = Syntax.tyRef
-              Syntax.erased Syntax.imm RelayPending.to; ref = λ x. x; }, (record { pos = 18; ty = Syntax.tyRef Syntax.erased Syntax.imm
-              RelayCircuit.to; ref = λ x. x; }, (Num.vAt 19 λ x. x, (Num.vAt 20 λ x. x, (record { pos = 8; st = List.[]; d = 0; at = λ x. x },
-              tt),),),),) 9 (5 ∷ 6 ∷ List.[]) (Call.sub-id 𝓤 H A W (G11 .slots)) (ShrSlice.spares-sslice 𝓤 H A W RelayPending.row ref0 5,
-              Shared.reads-sslice 𝓤 H A W RelayPending.row ref0 5, Path.refl, (ShrSlice.spares-sslice 𝓤 H A W RelayCircuit.row ref1 6,
-              Shared.reads-sslice 𝓤 H A W RelayCircuit.row ref1 6, Path.refl, ((Scalar.reads-sc 𝓤 H A W (Row.sInt Syntax.w64), Path.refl),
-              ((Scalar.reads-sc 𝓤 H A W (Row.sInt Syntax.w64), Path.refl), ((Yields.yields-copy 𝓤 H A W (λ ρ. Unit) (Declared'.row
-              OpaqueRelayConfig.the-type) Path.refl (Copies.cStruct OpaqueRelayConfig.the-type Laws''.the-laws Laws''.the-copy .copy 𝓤 H A W)
-              (Rows.whole (Declared'.row OpaqueRelayConfig.the-type)) (λ x. x) (λ x. x) (λ ρ told. Local.mem-whole 𝓤 H A W (Declared'.row
-              OpaqueRelayConfig.the-type) ρ) λ ρ told. Local.whole-mem 𝓤 H A W (Declared'.row OpaqueRelayConfig.the-type) ρ, Path.refl,), tt,),),),),)
-              (Reads'.room-gone 𝓤 H A Laws'.mir) (tt, (tt, tt)) Path.refl) d73
-          d75 : Typed.Typed 𝓤 H A 𝓣 E G10 b56 Δ0 (at75 bs)
-          d75 = Typed.s-seq 𝓤 H A W 𝓣 E G10 G11 b6 b55 Δ0 (Typed.pass T10 T11 (s9 bs)) (at74 bs) (Scalar.t-use 𝓤 H A W E 𝓣 G10 (Scalar.oFld 5
-              ((Syntax.field 1) ∷ List.[]) (Syntax.tyInt Syntax.w64) 8 Shared.lenV) 20 (Rows.sc-here (Row.sInt Syntax.w64)) (Syntax.tyInt Syntax.w64)
+              RelayPending.row ref0 5)) d74
+          d76 : Typed.Typed 𝓤 H A 𝓣 E G11 b55 Δ0 (at76 bs)
+          d76 = Typed.s-seq 𝓤 H A W 𝓣 E G11 G12 b7 b54 Δ0 (Typed.both (s10 bs)) (at75 bs) (Plain.t-call-plain 𝓤 H A W 𝓣 2 ps·0 r·0 (claims· .0)
+              (claims· .1) "hnsr_circuit::revoking_calls::entry_answer" (known .0) E (λ pos β. β) G11 (record { pos = 17; ty = Syntax.tyRef
+              Syntax.erased Syntax.imm RelayPending.to; ref = λ x. x; }, (record { pos = 19; ty = Syntax.tyRef Syntax.erased Syntax.imm
+              RelayCircuit.to; ref = λ x. x; }, (record { pos = 7; st = List.[]; d = 0; at = λ x. x }, (Num.vAt 20 λ x. x, (Num.vAt 21 λ x. x, (record
+              { pos = 9; st = List.[]; d = 0; at = λ x. x }, tt),),),),),) 10 (5 ∷ 6 ∷ List.[]) (Call.sub-id 𝓤 H A W (G11 .slots))
+              (ShrSlice.spares-sslice 𝓤 H A W RelayPending.row ref0 5, Shared.reads-sslice 𝓤 H A W RelayPending.row ref0 5, Path.refl,
+              (ShrSlice.spares-sslice 𝓤 H A W RelayCircuit.row ref1 6, Shared.reads-sslice 𝓤 H A W RelayCircuit.row ref1 6, Path.refl,
+              ((Yields.yields-copy 𝓤 H A W (λ ρ. Unit) (Declared'.row Places.the-type) Path.refl (Copies.cStruct Places.the-type Laws'''.the-laws
+              Laws'''.the-copy .copy 𝓤 H A W) (Rows.whole (Declared'.row Places.the-type)) (λ x. x) (λ x. x) (λ ρ told. Local.mem-whole 𝓤 H A W
+              (Declared'.row Places.the-type) ρ) λ ρ told. Local.whole-mem 𝓤 H A W (Declared'.row Places.the-type) ρ, Path.refl,), ((Scalar.reads-sc 𝓤
+              H A W (Row.sInt Syntax.w64), Path.refl), ((Scalar.reads-sc 𝓤 H A W (Row.sInt Syntax.w64), Path.refl), ((Yields.yields-copy 𝓤 H A W (λ ρ.
+              Unit) (Declared'.row OpaqueRelayConfig.the-type) Path.refl (Copies.cStruct OpaqueRelayConfig.the-type Laws''.the-laws Laws''.the-copy
+              .copy 𝓤 H A W) (Rows.whole (Declared'.row OpaqueRelayConfig.the-type)) (λ x. x) (λ x. x) (λ ρ told. Local.mem-whole 𝓤 H A W
+              (Declared'.row OpaqueRelayConfig.the-type) ρ) λ ρ told. Local.whole-mem 𝓤 H A W (Declared'.row OpaqueRelayConfig.the-type) ρ,
+              Path.refl,), tt,),),),),),) (Reads'.room-gone 𝓤 H A Laws'.mir) (tt, (tt, tt)) Path.refl) d75
+          d77 : Typed.Typed 𝓤 H A 𝓣 E G10 b56 Δ0 (at77 bs)
+          d77 = Typed.s-seq 𝓤 H A W 𝓣 E G10 G11 b6 b55 Δ0 (Typed.pass T10 T11 (s9 bs)) (at76 bs) (Scalar.t-use 𝓤 H A W E 𝓣 G10 (Scalar.oFld 5
+              ((Syntax.field 1) ∷ List.[]) (Syntax.tyInt Syntax.w64) 8 Shared.lenV) 21 (Rows.sc-here (Row.sInt Syntax.w64)) (Syntax.tyInt Syntax.w64)
               (Row.valS (Row.sInt Syntax.w64)) (Row.sInt Syntax.w64 .of) (Mut.reads-mslice-len 𝓤 H A W (Referent.rtF (Referent.fInt Syntax.w32)) ref11
               4 8 Path.refl, Path.refl,) (Reads'.room-gone 𝓤 H A (Syntax.tyInt Syntax.w64)) (Scalar.holds-sc 𝓤 H A W (Row.sInt Syntax.w64)) Path.refl
-              (λ u. Path.refl) λ u. tt) d74
-          d76 : Typed.Typed 𝓤 H A 𝓣 E G9 b57 Δ0 (at76 bs)
-          d76 = Typed.s-seq 𝓤 H A W 𝓣 E G9 G10 b5 b56 Δ0 (Typed.pass T9 T10 (s8 bs)) (at75 bs) (Scalar.t-use 𝓤 H A W E 𝓣 G9 (Scalar.oFld 4
-              ((Syntax.field 1) ∷ List.[]) (Syntax.tyInt Syntax.w64) 8 Shared.lenV) 19 (Rows.sc-here (Row.sInt Syntax.w64)) (Syntax.tyInt Syntax.w64)
+              (λ u. Path.refl) λ u. tt) d76
+          d78 : Typed.Typed 𝓤 H A 𝓣 E G9 b57 Δ0 (at78 bs)
+          d78 = Typed.s-seq 𝓤 H A W 𝓣 E G9 G10 b5 b56 Δ0 (Typed.pass T9 T10 (s8 bs)) (at77 bs) (Scalar.t-use 𝓤 H A W E 𝓣 G9 (Scalar.oFld 4
+              ((Syntax.field 1) ∷ List.[]) (Syntax.tyInt Syntax.w64) 8 Shared.lenV) 20 (Rows.sc-here (Row.sInt Syntax.w64)) (Syntax.tyInt Syntax.w64)
               (Row.valS (Row.sInt Syntax.w64)) (Row.sInt Syntax.w64 .of) (Mut.reads-mslice-len 𝓤 H A W InflightAction.row ref10 3 8 Path.refl,
               Path.refl,) (Reads'.room-gone 𝓤 H A (Syntax.tyInt Syntax.w64)) (Scalar.holds-sc 𝓤 H A W (Row.sInt Syntax.w64)) Path.refl (λ u.
-              Path.refl) λ u. tt) d75
-          d77 : Typed.Typed 𝓤 H A 𝓣 E G8 b58 Δ0 (at77 bs)
-          d77 = Typed.s-seq 𝓤 H A W 𝓣 E G8 G9 b4 b57 Δ0 (Typed.ask (s7 bs)) (at76 bs) (Relend.t-sl-aggregate 𝓤 H A W E RelayCircuit.row 𝓣
-              (Relend.asShr RelayCircuit.row) G8 17 18 6 ref1 ref1 (λ x. x) (Scalar.oFld 2 ((Syntax.field 1) ∷ List.[]) (Syntax.tyInt Syntax.w64) 8 λ
+              Path.refl) λ u. tt) d77
+          d79 : Typed.Typed 𝓤 H A 𝓣 E G8 b58 Δ0 (at79 bs)
+          d79 = Typed.s-seq 𝓤 H A W 𝓣 E G8 G9 b4 b57 Δ0 (Typed.ask (s7 bs)) (at78 bs) (Relend.t-sl-aggregate 𝓤 H A W E RelayCircuit.row 𝓣
+              (Relend.asShr RelayCircuit.row) G8 18 19 6 ref1 ref1 (λ x. x) (Scalar.oFld 2 ((Syntax.field 1) ∷ List.[]) (Syntax.tyInt Syntax.w64) 8 λ
               v. Shared.lenV (v .0)) (Reads'.as-is 𝓤 H A (Relend.ssptr RelayCircuit.row ref1 6)) (Reads'.room-gone 𝓤 H A (Syntax.tyStruct (38 ∷ 91 ∷
               93 ∷ List.[]) (Syntax.tcons ref1 (Syntax.tcons (Syntax.tyInt Syntax.w64) Syntax.tnil)))) (Reshare.reads-owedS-len 𝓤 H A W
-              RelayCircuit.row ref8 1 6 life1 8 Path.refl, Path.refl,) Path.refl Path.refl λ b o k. tt) d76
-          d78 : Typed.Typed 𝓤 H A 𝓣 E G7 b59 Δ0 (at78 bs)
-          d78 = Typed.s-seq 𝓤 H A W 𝓣 E G7 G8 b3 b58 Δ0 (Typed.give (s6 bs)) (at77 bs) (Reshare.t-sl-reshare 𝓤 H A W E RelayCircuit.row 𝓣 G7 2 17 1 6
+              RelayCircuit.row ref8 1 6 life1 8 Path.refl, Path.refl,) Path.refl Path.refl λ b o k. tt) d78
+          d80 : Typed.Typed 𝓤 H A 𝓣 E G7 b59 Δ0 (at80 bs)
+          d80 = Typed.s-seq 𝓤 H A W 𝓣 E G7 G8 b3 b58 Δ0 (Typed.give (s6 bs)) (at79 bs) (Reshare.t-sl-reshare 𝓤 H A W E RelayCircuit.row 𝓣 G7 2 18 1 6
               ref8 ref1 life1 0 (λ x. x) (Reads'.as-is 𝓤 H A (Mut.mslice RelayCircuit.row ref8 1)) (Reads'.room-gone 𝓤 H A ref1) Path.refl tt
-              Path.refl Path.refl Path.refl λ b o. tt) d77
-          d79 : Typed.Typed 𝓤 H A 𝓣 E G6 b59 Δ0 (at79 bs)
-          d79 = Typed.g-pre 𝓤 H A W 𝓣 E G6 G7 b59 Δ0 (λ Ψ. Ψ) (at78 bs) (Lifetime.g-begin 𝓤 H A W E G6 6 (tt, ((tt, tt), (tt, (tt, (tt, (tt, (tt, (tt,
+              Path.refl Path.refl Path.refl λ b o. tt) d79
+          d81 : Typed.Typed 𝓤 H A 𝓣 E G6 b59 Δ0 (at81 bs)
+          d81 = Typed.g-pre 𝓤 H A W 𝓣 E G6 G7 b59 Δ0 (λ Ψ. Ψ) (at80 bs) (Lifetime.g-begin 𝓤 H A W E G6 6 (tt, ((tt, tt), (tt, (tt, (tt, (tt, (tt, (tt,
               (tt, (tt, (tt, (tt, (tt, (tt, (tt, (tt, (tt, (tt, (tt, (tt, (tt, (tt, (tt, (tt, (tt, (tt, (tt, (tt, (tt, (tt, (tt, (tt, (tt, (tt, (tt,
-              tt)),),),),),),),),),),),),),),),),),),),),),),),),),),),),),),),),),)) d78
-          d80 : Typed.Typed 𝓤 H A 𝓣 E G5 b60 Δ0 (at80 bs)
-          d80 = Typed.s-seq 𝓤 H A W 𝓣 E G5 G6 b2 b59 Δ0 (Typed.ask (s4 bs)) (at79 bs) (Relend.t-sl-aggregate 𝓤 H A W E RelayPending.row 𝓣
-              (Relend.asShr RelayPending.row) G5 15 16 5 ref0 ref0 (λ x. x) (Scalar.oFld 1 ((Syntax.field 1) ∷ List.[]) (Syntax.tyInt Syntax.w64) 8 λ
+              (tt, tt)),),),),),),),),),),),),),),),),),),),),),),),),),),),),),),),),),),)) d80
+          d82 : Typed.Typed 𝓤 H A 𝓣 E G5 b60 Δ0 (at82 bs)
+          d82 = Typed.s-seq 𝓤 H A W 𝓣 E G5 G6 b2 b59 Δ0 (Typed.ask (s4 bs)) (at81 bs) (Relend.t-sl-aggregate 𝓤 H A W E RelayPending.row 𝓣
+              (Relend.asShr RelayPending.row) G5 16 17 5 ref0 ref0 (λ x. x) (Scalar.oFld 1 ((Syntax.field 1) ∷ List.[]) (Syntax.tyInt Syntax.w64) 8 λ
               v. Shared.lenV (v .0)) (Reads'.as-is 𝓤 H A (Relend.ssptr RelayPending.row ref0 5)) (Reads'.room-gone 𝓤 H A (Syntax.tyStruct (38 ∷ 91 ∷
               93 ∷ List.[]) (Syntax.tcons ref0 (Syntax.tcons (Syntax.tyInt Syntax.w64) Syntax.tnil)))) (Reshare.reads-owedS-len 𝓤 H A W
-              RelayPending.row ref7 0 5 life0 8 Path.refl, Path.refl,) Path.refl Path.refl λ b o k. tt) d79
-          d81 : Typed.Typed 𝓤 H A 𝓣 E G4 b61 Δ0 (at81 bs)
-          d81 = Typed.s-seq 𝓤 H A W 𝓣 E G4 G5 b1 b60 Δ0 (Typed.give (s3 bs)) (at80 bs) (Reshare.t-sl-reshare 𝓤 H A W E RelayPending.row 𝓣 G4 1 15 0 5
+              RelayPending.row ref7 0 5 life0 8 Path.refl, Path.refl,) Path.refl Path.refl λ b o k. tt) d81
+          d83 : Typed.Typed 𝓤 H A 𝓣 E G4 b61 Δ0 (at83 bs)
+          d83 = Typed.s-seq 𝓤 H A W 𝓣 E G4 G5 b1 b60 Δ0 (Typed.give (s3 bs)) (at82 bs) (Reshare.t-sl-reshare 𝓤 H A W E RelayPending.row 𝓣 G4 1 16 0 5
               ref7 ref0 life0 0 (λ x. x) (Reads'.as-is 𝓤 H A (Mut.mslice RelayPending.row ref7 0)) (Reads'.room-gone 𝓤 H A ref0) Path.refl tt
-              Path.refl Path.refl Path.refl λ b o. tt) d80
-          d82 : Typed.Typed 𝓤 H A 𝓣 E G3 b61 Δ0 (at82 bs)
-          d82 = Typed.g-pre 𝓤 H A W 𝓣 E G3 G4 b61 Δ0 (λ Ψ. Ψ) (at81 bs) (Lifetime.g-begin 𝓤 H A W E G3 5 (tt, (tt, (tt, (tt, (tt, (tt, (tt, (tt, (tt,
-              (tt, (tt, (tt, (tt, (tt, (tt, (tt, (tt, (tt, (tt, (tt, (tt, (tt, (tt, (tt, (tt, (tt, (tt, (tt, (tt, (tt, (tt, (tt, (tt, (tt, (tt,
-              tt)),),),),),),),),),),),),),),),),),),),),),),),),),),),),),),),),),)) d81
-          d83 : Typed.Typed 𝓤 H A 𝓣 E G2 b62 Δ0 (at83 bs)
-          d83 = Typed.s-seq 𝓤 H A W 𝓣 E G2 G3 b0 b61 Δ0 (Typed.both (s1 bs)) (at82 bs) (WayStmt.t-way-copy-out 𝓤 H A W E 𝓣 (Declared'.row
+              Path.refl Path.refl Path.refl λ b o. tt) d82
+          d84 : Typed.Typed 𝓤 H A 𝓣 E G3 b61 Δ0 (at84 bs)
+          d84 = Typed.g-pre 𝓤 H A W 𝓣 E G3 G4 b61 Δ0 (λ Ψ. Ψ) (at83 bs) (Lifetime.g-begin 𝓤 H A W E G3 5 (tt, (tt, (tt, (tt, (tt, (tt, (tt, (tt, (tt,
+              (tt, (tt, (tt, (tt, (tt, (tt, (tt, (tt, (tt, (tt, (tt, (tt, (tt, (tt, (tt, (tt, (tt, (tt, (tt, (tt, (tt, (tt, (tt, (tt, (tt, (tt, (tt,
+              tt)),),),),),),),),),),),),),),),),),),),),),),),),),),),),),),),),),),)) d83
+          d85 : Typed.Typed 𝓤 H A 𝓣 E G2 b62 Δ0 (at85 bs)
+          d85 = Typed.s-seq 𝓤 H A W 𝓣 E G2 G3 b0 b61 Δ0 (Typed.both (s1 bs)) (at84 bs) (WayStmt.t-way-copy-out 𝓤 H A W E 𝓣 (Declared'.row
               OpaqueRelayConfig.the-type) Path.refl (Copies.cStruct OpaqueRelayConfig.the-type Laws''.the-laws Laws''.the-copy .copy 𝓤 H A W) (λ ρ.
-              Unit) G2 (Row.out 6 (G2 .locals)) (λ u. Row.drop 6 (G2 .locals) u) (G2 .slots) 6 (λ t. (Syntax.field 4) ∷ t) Laws''.mir Laws''.mir 8
+              Unit) G2 (Row.out 6 (G2 .locals)) (λ u. Row.drop 6 (G2 .locals) u) (G2 .slots) 6 (λ t. (Syntax.field 4) ∷ t) Laws''.mir Laws''.mir 9
               (Rows.whole (Declared'.row OpaqueRelayConfig.the-type)) (λ x. x) (λ u. At.getAt (OpaqueRelayRuntime.the-type .parts) 4
               (OpaqueRelayRuntime.struct .as-values (u .1 .1 .1 .1 .1 .1 .0))) (λ u. (Row.hd 0 (Row.tl (Row.tl (Row.tl (Row.tl (Row.tl (Row.tl
               bs)))))), Nat._+_ 0 40,)) (λ T′. record { locals = Row.setRow 6 (6, Rows.whole (Declared'.row OpaqueRelayRuntime.the-type)) T′; slots =
               G2 .slots; }) (λ u T′ m′. Row.set 6 (6, Rows.whole (Declared'.row OpaqueRelayRuntime.the-type)) (u .1 .1 .1 .1 .1 .1 .0) T′ m′) (λ u.
               Unit) (λ x. Unit) (Own.told-none 𝓤 H A (G2 .slots)) (DerefMove.learns-nothing 𝓤 H A (Declared'.row OpaqueRelayConfig.the-type)) (λ ρ
               told u asked. Way'.w-partˢ 𝓤 H A W E (Declared'.row OpaqueRelayRuntime.the-type) (Declared'.row OpaqueRelayConfig.the-type)
-              Laws'''''.mir Laws''.mir 4 40 (u .1 .1 .1 .1 .1 .1 .0) (At.getAt (OpaqueRelayRuntime.the-type .parts) 4 (OpaqueRelayRuntime.struct
+              Laws''''''.mir Laws''.mir 4 40 (u .1 .1 .1 .1 .1 .1 .0) (At.getAt (OpaqueRelayRuntime.the-type .parts) 4 (OpaqueRelayRuntime.struct
               .as-values (u .1 .1 .1 .1 .1 .1 .0))) (Row.hd 0 (Row.tl (Row.tl (Row.tl (Row.tl (Row.tl (Row.tl bs)))))), 0) (Way.w-look 𝓤 H A W E
               (Way.w-local 𝓤 H A W E G2 ρ u (G2 .slots) 6 (Declared'.row OpaqueRelayRuntime.the-type) (Rows.whole (Declared'.row
               OpaqueRelayRuntime.the-type)) (λ x. x) (λ x. x) (u .1 .1 .1 .1 .1 .1 .0) (Local.mem-whole 𝓤 H A W (Declared'.row
@@ -1936,17 +2018,17 @@ module _ (claims· : Claims) where
               OpaqueRelayConfig.the-type 40 (u .1 .1 .1 .1 .1 .1 .0) (u .1 .1 .1 .1 .1 .1 .0) (At.getAt (OpaqueRelayRuntime.the-type .parts) 4
               (OpaqueRelayRuntime.struct .as-values (u .1 .1 .1 .1 .1 .1 .0))) (At.getAt (OpaqueRelayRuntime.the-type .parts) 4
               (OpaqueRelayRuntime.struct .as-values (u .1 .1 .1 .1 .1 .1 .0))) (Row.hd 0 (Row.tl (Row.tl (Row.tl (Row.tl (Row.tl (Row.tl bs)))))), 0)
-              (Behind.look-at 𝓤 H A W q OpaqueRelayRuntime.the-type Laws'''''.the-laws 4 40 Path.refl Path.refl (Row.hd 0 (Row.tl (Row.tl (Row.tl
+              (Behind.look-at 𝓤 H A W q OpaqueRelayRuntime.the-type Laws''''''.the-laws 4 40 Path.refl Path.refl (Row.hd 0 (Row.tl (Row.tl (Row.tl
               (Row.tl (Row.tl (Row.tl bs)))))), 0) (u .1 .1 .1 .1 .1 .1 .0) (OpaqueRelayRuntime.struct .as-values (u .1 .1 .1 .1 .1 .1 .0))
               Path.refl)) (Reads'.room-gone 𝓤 H A Laws''.mir) (Yields.makes-mem 𝓤 H A W (λ ρ. Unit) (Declared'.row OpaqueRelayConfig.the-type)
               Path.refl (Rows.whole (Declared'.row OpaqueRelayConfig.the-type)) (λ x. x) λ ρ told. Local.whole-mem 𝓤 H A W (Declared'.row
-              OpaqueRelayConfig.the-type) ρ) Path.refl Path.refl Path.refl) d82
-          d84 : Typed.Typed 𝓤 H A 𝓣 E G0 b62 Δ0 (at84 bs)
-          d84 = Typed.g-pre 𝓤 H A W 𝓣 E G0 G2 b62 Δ0 (Typed.give (s0 bs)) (at83 bs) (Know.g-sl-known 𝓤 H A W (Referent.fInt Syntax.w32) E G0 5 4 ref11
+              OpaqueRelayConfig.the-type) ρ) Path.refl Path.refl Path.refl) d84
+          d86 : Typed.Typed 𝓤 H A 𝓣 E G0 b62 Δ0 (at86 bs)
+          d86 = Typed.g-pre 𝓤 H A W 𝓣 E G0 G2 b62 Δ0 (Typed.give (s0 bs)) (at85 bs) (Know.g-sl-known 𝓤 H A W (Referent.fInt Syntax.w32) E G0 5 4 ref11
               life4 0 (λ x. x) record { fits = Dec.lit< tt } (Reads'.as-is 𝓤 H A (Mut.mslice (Referent.rtF (Referent.fInt Syntax.w32)) ref11 4))
-              Path.refl tt) d83
+              Path.refl tt) d85
           pub typed : Typed.Typed 𝓤 H A 𝓣 E (Function.Γin 5 ps r xs m κs qs) b62 (Function.Δret 5 ps r xs m κs qs) (Φ bs)
-          typed = d84
+          typed = d86
       module _ (κs : Lifetimes.Lfts 5) where
         pub record Args : Type 0 where
           pub pending : Kinds.Den { n = 5 } κs (MutSlice.pMutS RelayPending.row 0 tt)
@@ -1955,15 +2037,21 @@ module _ (claims· : Claims) where
           pub inflight : Kinds.Den { n = 5 } κs (MutSlice.pMutS InflightAction.row 3 tt)
           pub out : Kinds.Den { n = 5 } κs (MutSlice.pMutS (Referent.rtF (Referent.fInt Syntax.w32)) 4 tt)
           pub runtime : Kinds.Den { n = 5 } κs (Value.pVal record { ty = Declared'.row OpaqueRelayRuntime.the-type; one = Path.refl; val =
-              Laws''''''''.val OpaqueRelayRuntime.the-type Laws'''''.the-laws; tells = Laws''''''''.tells OpaqueRelayRuntime.the-type
-              Laws'''''.the-laws; still = Laws''''''''.still OpaqueRelayRuntime.the-type Laws'''''.the-copy Exit.yes; row = Rows.whole (Declared'.row
-              OpaqueRelayRuntime.the-type); rd = λ x. x; mk = λ x. x; } λ M 𝓤 H A W. record { copies = Laws''''''''.copy OpaqueRelayRuntime.the-type
-              Laws'''''.the-copy 𝓤 H A W; lawful = Laws''''''''.lawful OpaqueRelayRuntime.the-type Laws'''''.the-laws 𝓤 H A W; makes =
-              Laws''''''''.makes OpaqueRelayRuntime.the-type Laws'''''.the-plain 𝓤 H A; in-mem = Local.mem-whole 𝓤 H A W (Declared'.row
-              OpaqueRelayRuntime.the-type); of-mem = Local.whole-mem 𝓤 H A W (Declared'.row OpaqueRelayRuntime.the-type); })
+              Laws'''''''''.val OpaqueRelayRuntime.the-type Laws''''''.the-laws; tells = Laws'''''''''.tells OpaqueRelayRuntime.the-type
+              Laws''''''.the-laws; still = Laws'''''''''.still OpaqueRelayRuntime.the-type Laws''''''.the-copy Exit.yes; row = Rows.whole
+              (Declared'.row OpaqueRelayRuntime.the-type); rd = λ x. x; mk = λ x. x; } λ M 𝓤 H A W. record { copies = Laws'''''''''.copy
+              OpaqueRelayRuntime.the-type Laws''''''.the-copy 𝓤 H A W; lawful = Laws'''''''''.lawful OpaqueRelayRuntime.the-type Laws''''''.the-laws 𝓤
+              H A W; makes = Laws'''''''''.makes OpaqueRelayRuntime.the-type Laws''''''.the-plain 𝓤 H A; in-mem = Local.mem-whole 𝓤 H A W
+              (Declared'.row OpaqueRelayRuntime.the-type); of-mem = Local.whole-mem 𝓤 H A W (Declared'.row OpaqueRelayRuntime.the-type); })
+          pub places : Kinds.Den { n = 5 } κs (Value.pVal record { ty = Declared'.row Places.the-type; one = Path.refl; val = Laws'''''''''.val
+              Places.the-type Laws'''.the-laws; tells = Laws'''''''''.tells Places.the-type Laws'''.the-laws; still = Laws'''''''''.still
+              Places.the-type Laws'''.the-copy Exit.yes; row = Rows.whole (Declared'.row Places.the-type); rd = λ x. x; mk = λ x. x; } λ M 𝓤 H A W.
+              record { copies = Laws'''''''''.copy Places.the-type Laws'''.the-copy 𝓤 H A W; lawful = Laws'''''''''.lawful Places.the-type
+              Laws'''.the-laws 𝓤 H A W; makes = Laws'''''''''.makes Places.the-type Laws'''.the-plain 𝓤 H A; in-mem = Local.mem-whole 𝓤 H A W
+              (Declared'.row Places.the-type); of-mem = Local.whole-mem 𝓤 H A W (Declared'.row Places.the-type); })
           pub time : Kinds.Den { n = 5 } κs (Num.pNum Syntax.w64)
         abbrev pub dens : (a : Args) → Kinds.Dens κs ps
-        dens = λ a. (a .pending, (a .circuits, (a .ledger, (a .inflight, (a .out, (a .runtime, (a .time, tt)))))),)
+        dens = λ a. (a .pending, (a .circuits, (a .ledger, (a .inflight, (a .out, (a .runtime, (a .places, (a .time, tt)))))),),)
         module _ (args· : Args) where
           pub record Ranges : Type 0 where
             pub time : Val.Fits Syntax.w64 (args· .time)
@@ -2034,19 +2122,19 @@ module _ (claims· : Claims) where
       m9 = λ before given. s10 (before .before .before .before .before .blocks) .next (m8 (before .before) (before .entry-answer-arg2 .given)) given
       module _ (before· : After-entry-answer-arg2) where
         abbrev pub After-entry-answer·own : Type 0
-        After-entry-answer·own = Called.Called ps·0 r·0 (claims· .1) T11 (record { pos = 16; ty = Syntax.tyRef Syntax.erased Syntax.imm
-            RelayPending.to; ref = λ x. x; }, (record { pos = 18; ty = Syntax.tyRef Syntax.erased Syntax.imm RelayCircuit.to; ref = λ x. x; },
-            (Num.vAt 19 λ x. x, (Num.vAt 20 λ x. x, (record { pos = 8; st = List.[]; d = 0; at = λ x. x }, tt)),),),) (m8 (before· .before) (before·
-            .entry-answer-arg2 .given))
+        After-entry-answer·own = Called.Called ps·0 r·0 (claims· .1) T11 (record { pos = 17; ty = Syntax.tyRef Syntax.erased Syntax.imm
+            RelayPending.to; ref = λ x. x; }, (record { pos = 19; ty = Syntax.tyRef Syntax.erased Syntax.imm RelayCircuit.to; ref = λ x. x; }, (record
+            { pos = 7; st = List.[]; d = 0; at = λ x. x }, (Num.vAt 20 λ x. x, (Num.vAt 21 λ x. x, (record { pos = 9; st = List.[]; d = 0; at = λ x. x
+            }, tt)),),),),) (m8 (before· .before) (before· .entry-answer-arg2 .given))
       pub record After-entry-answer : Type 0 where
         pub before : After-entry-answer-arg2
         pub entry-answer : After-entry-answer·own before
       abbrev pub After-entry-answer·gave : (c : After-entry-answer) → s10 (c .before .before .before .before .before .blocks) .gives (m8 (c .before
           .before) (c .before .entry-answer-arg2 .given))
-      After-entry-answer·gave = λ c. Called.given ps·0 r·0 (claims· .1) T11 (record { pos = 16; ty = Syntax.tyRef Syntax.erased Syntax.imm
-          RelayPending.to; ref = λ x. x; }, (record { pos = 18; ty = Syntax.tyRef Syntax.erased Syntax.imm RelayCircuit.to; ref = λ x. x; }, (Num.vAt
-          19 λ x. x, (Num.vAt 20 λ x. x, (record { pos = 8; st = List.[]; d = 0; at = λ x. x }, tt)),),),) (m8 (c .before .before) (c .before
-          .entry-answer-arg2 .given)) (c .entry-answer)
+      After-entry-answer·gave = λ c. Called.given ps·0 r·0 (claims· .1) T11 (record { pos = 17; ty = Syntax.tyRef Syntax.erased Syntax.imm
+          RelayPending.to; ref = λ x. x; }, (record { pos = 19; ty = Syntax.tyRef Syntax.erased Syntax.imm RelayCircuit.to; ref = λ x. x; }, (record {
+          pos = 7; st = List.[]; d = 0; at = λ x. x }, (Num.vAt 20 λ x. x, (Num.vAt 21 λ x. x, (record { pos = 9; st = List.[]; d = 0; at = λ x. x },
+          tt)),),),),) (m8 (c .before .before) (c .before .entry-answer-arg2 .given)) (c .entry-answer)
       abbrev pub m10 : (before : After-entry-answer-arg2) → (given : s10 (before .before .before .before .before .blocks) .gives (m8 (before .before)
           (before .entry-answer-arg2 .given))) → Typed.Mo T13
       m10 = λ before given. s11 (before .before .before .before .before .blocks) (m9 before given)
@@ -2078,14 +2166,14 @@ module _ (claims· : Claims) where
       module _ (before· : After-entry-answer) where
         abbrev pub After-clock-answer·own : Type 0
         After-clock-answer·own = Called.Called ps·1 r·1 (claims· .3) T22 (Num.vFld 6 ((Syntax.field 3) ∷ List.[]) 32 λ x. OpaqueRelayRuntime.struct
-            .as-values x .1 .1 .1 .0, (Num.vAt 7 λ x. x, tt),) (m16 (before· .before) (After-entry-answer·gave before·))
+            .as-values x .1 .1 .1 .0, (Num.vAt 8 λ x. x, tt),) (m16 (before· .before) (After-entry-answer·gave before·))
       pub record After-clock-answer : Type 0 where
         pub before : After-entry-answer
         pub clock-answer : After-clock-answer·own before
       abbrev pub After-clock-answer·gave : (c : After-clock-answer) → s22 (c .before .before .before .before .before .before .blocks) .gives (m16 (c
           .before .before) (After-entry-answer·gave (c .before)))
       After-clock-answer·gave = λ c. Called.given ps·1 r·1 (claims· .3) T22 (Num.vFld 6 ((Syntax.field 3) ∷ List.[]) 32 λ x. OpaqueRelayRuntime.struct
-          .as-values x .1 .1 .1 .0, (Num.vAt 7 λ x. x, tt),) (m16 (c .before .before) (After-entry-answer·gave (c .before))) (c .clock-answer)
+          .as-values x .1 .1 .1 .0, (Num.vAt 8 λ x. x, tt),) (m16 (c .before .before) (After-entry-answer·gave (c .before))) (c .clock-answer)
       abbrev pub Need-first-refusal-requires : Type 0
       Need-first-refusal-requires = (c : After-clock-answer) → s23 (c .before .before .before .before .before .before .blocks) .asks (m17 (c .before)
           (After-clock-answer·gave c))
@@ -2095,15 +2183,15 @@ module _ (claims· : Claims) where
           before)) given
       module _ (before· : After-clock-answer) where
         abbrev pub After-first-refusal·own : Type 0
-        After-first-refusal·own = Called.Called ps·2 r·2 (claims· .5) T24 (record { pos = 9; st = List.[]; d = 0; at = λ x. x }, (record { pos = 10;
+        After-first-refusal·own = Called.Called ps·2 r·2 (claims· .5) T24 (record { pos = 10; st = List.[]; d = 0; at = λ x. x }, (record { pos = 11;
             st = List.[]; d = 0; at = λ x. x }, tt),) (m17 (before· .before) (After-clock-answer·gave before·))
       pub record After-first-refusal : Type 0 where
         pub before : After-clock-answer
         pub first-refusal : After-first-refusal·own before
       abbrev pub After-first-refusal·gave : (c : After-first-refusal) → s23 (c .before .before .before .before .before .before .before .blocks) .gives
           (m17 (c .before .before) (After-clock-answer·gave (c .before)))
-      After-first-refusal·gave = λ c. Called.given ps·2 r·2 (claims· .5) T24 (record { pos = 9; st = List.[]; d = 0; at = λ x. x }, (record { pos =
-          10; st = List.[]; d = 0; at = λ x. x }, tt),) (m17 (c .before .before) (After-clock-answer·gave (c .before))) (c .first-refusal)
+      After-first-refusal·gave = λ c. Called.given ps·2 r·2 (claims· .5) T24 (record { pos = 10; st = List.[]; d = 0; at = λ x. x }, (record { pos =
+          11; st = List.[]; d = 0; at = λ x. x }, tt),) (m17 (c .before .before) (After-clock-answer·gave (c .before))) (c .first-refusal)
       abbrev pub m19 : (before : After-clock-answer) → (given : s23 (before .before .before .before .before .before .before .blocks) .gives (m17
           (before .before) (After-clock-answer·gave before))) → Typed.Mo T26
       m19 = λ before given. s24 (before .before .before .before .before .before .before .blocks) (m18 before given)
@@ -2119,18 +2207,18 @@ module _ (claims· : Claims) where
           (After-first-refusal·gave before)) given
       module _ (before· : After-first-refusal) where
         abbrev pub After-is-taken·own : Type 0
-        After-is-taken·own = Called.Called ps·3 r·3 (claims· .7) T27 (record { pos = 11; st = List.[]; d = 0; at = λ x. x }, tt,) (m20 (before·
+        After-is-taken·own = Called.Called ps·3 r·3 (claims· .7) T27 (record { pos = 12; st = List.[]; d = 0; at = λ x. x }, tt,) (m20 (before·
             .before) (After-first-refusal·gave before·))
       pub record After-is-taken : Type 0 where
         pub before : After-first-refusal
         pub is-taken : After-is-taken·own before
       abbrev pub After-is-taken·gave : (c : After-is-taken) → s26 (c .before .before .before .before .before .before .before .before .blocks) .gives
           (m20 (c .before .before) (After-first-refusal·gave (c .before)))
-      After-is-taken·gave = λ c. Called.given ps·3 r·3 (claims· .7) T27 (record { pos = 11; st = List.[]; d = 0; at = λ x. x }, tt,) (m20 (c .before
+      After-is-taken·gave = λ c. Called.given ps·3 r·3 (claims· .7) T27 (record { pos = 12; st = List.[]; d = 0; at = λ x. x }, tt,) (m20 (c .before
           .before) (After-first-refusal·gave (c .before))) (c .is-taken)
       abbrev W1 : (before : After-first-refusal) → (given : s26 (before .before .before .before .before .before .before .before .blocks) .gives (m20
           (before .before) (After-first-refusal·gave before))) → Typed.Want O1
-      W1 = λ before given. Typed.wantNext T29 O0 (at56 (before .before .before .before .before .before .before .before .blocks) (W0 (before .before
+      W1 = λ before given. Typed.wantNext T29 O0 (at58 (before .before .before .before .before .before .before .before .blocks) (W0 (before .before
           .before .before .before .before .before .before .κs) (before .before .before .before .before .before .before .before .args) (before .before
           .before .before .before .before .before .before .blocks))) (W0 (before .before .before .before .before .before .before .before .κs) (before
           .before .before .before .before .before .before .before .args) (before .before .before .before .before .before .before .before .blocks))
@@ -2141,7 +2229,7 @@ module _ (claims· : Claims) where
       m23 = λ before. s28 (before .before .before .before .before .before .before .before .before .blocks) (m22 before)
       module _ (before· : After-is-taken) where
         pub record Then1·own : Type 0 where
-          pub taken : Path._≡_ (Row.get 21 (T28 .locals) (m21 (before· .before) (After-is-taken·gave before·))) Bool'.true
+          pub taken : Path._≡_ (Row.get 22 (T28 .locals) (m21 (before· .before) (After-is-taken·gave before·))) Bool'.true
       pub record Then1 : Type 0 where
         pub before : After-is-taken
         pub if1 : Then1·own before
@@ -2154,13 +2242,13 @@ module _ (claims· : Claims) where
           given
       module _ (before· : Then1) where
         abbrev pub After-over·own : Type 0
-        After-over·own = Called.Called ps·4 r·4 (claims· .9) T31 (Num.vAt 7 λ x. x, tt) (m23 (before· .before))
+        After-over·own = Called.Called ps·4 r·4 (claims· .9) T31 (Num.vAt 8 λ x. x, tt) (m23 (before· .before))
       pub record After-over : Type 0 where
         pub before : Then1
         pub over : After-over·own before
       abbrev pub After-over·gave : (c : After-over) → s29 (c .before .before .before .before .before .before .before .before .before .before .blocks)
           .gives (m23 (c .before .before))
-      After-over·gave = λ c. Called.given ps·4 r·4 (claims· .9) T31 (Num.vAt 7 λ x. x, tt) (m23 (c .before .before)) (c .over)
+      After-over·gave = λ c. Called.given ps·4 r·4 (claims· .9) T31 (Num.vAt 8 λ x. x, tt) (m23 (c .before .before)) (c .over)
       abbrev pub m25 : (before : Then1) → (given : s29 (before .before .before .before .before .before .before .before .before .before .blocks) .gives
           (m23 (before .before))) → Typed.Mo T33
       m25 = λ before given. s30 (before .before .before .before .before .before .before .before .before .before .blocks) (m24 before given)
@@ -2176,16 +2264,16 @@ module _ (claims· : Claims) where
           .before) (After-over·gave before)) given
       module _ (before· : After-over) where
         abbrev pub After-revoking·own : Type 0
-        After-revoking·own = Called.Called ps·5 r·5 (claims· .11) T34 (record { pos = 12; st = List.[]; d = 0; at = λ x. x }, (record { pos = 22; st =
-            List.[]; d = 0; at = λ x. x }, (record { pos = 23; st = List.[]; d = 0; at = λ x. x }, tt),),) (m26 (before· .before) (After-over·gave
+        After-revoking·own = Called.Called ps·5 r·5 (claims· .11) T34 (record { pos = 13; st = List.[]; d = 0; at = λ x. x }, (record { pos = 23; st =
+            List.[]; d = 0; at = λ x. x }, (record { pos = 24; st = List.[]; d = 0; at = λ x. x }, tt),),) (m26 (before· .before) (After-over·gave
             before·))
       pub record After-revoking : Type 0 where
         pub before : After-over
         pub revoking : After-revoking·own before
       abbrev pub After-revoking·gave : (c : After-revoking) → s32 (c .before .before .before .before .before .before .before .before .before .before
           .before .blocks) .gives (m26 (c .before .before) (After-over·gave (c .before)))
-      After-revoking·gave = λ c. Called.given ps·5 r·5 (claims· .11) T34 (record { pos = 12; st = List.[]; d = 0; at = λ x. x }, (record { pos = 22;
-          st = List.[]; d = 0; at = λ x. x }, (record { pos = 23; st = List.[]; d = 0; at = λ x. x }, tt),),) (m26 (c .before .before)
+      After-revoking·gave = λ c. Called.given ps·5 r·5 (claims· .11) T34 (record { pos = 13; st = List.[]; d = 0; at = λ x. x }, (record { pos = 23;
+          st = List.[]; d = 0; at = λ x. x }, (record { pos = 24; st = List.[]; d = 0; at = λ x. x }, tt),),) (m26 (c .before .before)
           (After-over·gave (c .before))) (c .revoking)
       abbrev pub m28 : (before : After-over) → (given : s32 (before .before .before .before .before .before .before .before .before .before .before
           .blocks) .gives (m26 (before .before) (After-over·gave before))) → Typed.Mo T36
@@ -2205,14 +2293,14 @@ module _ (claims· : Claims) where
           (before .before) (After-revoking·gave before)) given
       module _ (before· : After-revoking) where
         abbrev pub After-with-clock·own : Type 0
-        After-with-clock·own = Called.Called ps·6 r·6 (claims· .13) T38 (record { pos = 6; st = List.[]; d = 0; at = λ x. x }, (Num.vAt 7 λ x. x,
+        After-with-clock·own = Called.Called ps·6 r·6 (claims· .13) T38 (record { pos = 6; st = List.[]; d = 0; at = λ x. x }, (Num.vAt 8 λ x. x,
             tt),) (m30 (before· .before) (After-revoking·gave before·))
       pub record After-with-clock : Type 0 where
         pub before : After-revoking
         pub with-clock : After-with-clock·own before
       abbrev pub After-with-clock·gave : (c : After-with-clock) → s36 (c .before .before .before .before .before .before .before .before .before
           .before .before .before .blocks) .gives (m30 (c .before .before) (After-revoking·gave (c .before)))
-      After-with-clock·gave = λ c. Called.given ps·6 r·6 (claims· .13) T38 (record { pos = 6; st = List.[]; d = 0; at = λ x. x }, (Num.vAt 7 λ x. x,
+      After-with-clock·gave = λ c. Called.given ps·6 r·6 (claims· .13) T38 (record { pos = 6; st = List.[]; d = 0; at = λ x. x }, (Num.vAt 8 λ x. x,
           tt),) (m30 (c .before .before) (After-revoking·gave (c .before))) (c .with-clock)
       abbrev pub m32 : (before : After-revoking) → (given : s36 (before .before .before .before .before .before .before .before .before .before
           .before .before .blocks) .gives (m30 (before .before) (After-revoking·gave before))) → Typed.Mo T40
@@ -2242,17 +2330,17 @@ module _ (claims· : Claims) where
           .blocks) .next (m34 (before .before) (before .drop-lapsed-arg .given)) given
       module _ (before· : After-drop-lapsed-arg) where
         abbrev pub After-drop-lapsed·own : Type 0
-        After-drop-lapsed·own = Called.Called ps·7 r·7 (claims· .15) T43 (record { pos = 26; ty = Syntax.tyRef Syntax.erased Syntax.mut
-            ReservationUsage.to; ref = λ x. x; }, (Bool.bLit Bool'.true, (Num.vAt 7 λ x. x, tt)),) (m34 (before· .before) (before· .drop-lapsed-arg
-            .given))
+        After-drop-lapsed·own = Called.Called ps·7 r·7 (claims· .15) T43 (record { pos = 27; ty = Syntax.tyRef Syntax.erased Syntax.mut
+            ReservationUsage.to; ref = λ x. x; }, (record { pos = 7; st = List.[]; d = 0; at = λ x. x }, (Bool.bLit Bool'.true, (Num.vAt 8 λ x. x,
+            tt)),),) (m34 (before· .before) (before· .drop-lapsed-arg .given))
       pub record After-drop-lapsed : Type 0 where
         pub before : After-drop-lapsed-arg
         pub drop-lapsed : After-drop-lapsed·own before
       abbrev pub After-drop-lapsed·gave : (c : After-drop-lapsed) → s41 (c .before .before .before .before .before .before .before .before .before
           .before .before .before .before .before .blocks) .gives (m34 (c .before .before) (c .before .drop-lapsed-arg .given))
-      After-drop-lapsed·gave = λ c. Called.given ps·7 r·7 (claims· .15) T43 (record { pos = 26; ty = Syntax.tyRef Syntax.erased Syntax.mut
-          ReservationUsage.to; ref = λ x. x; }, (Bool.bLit Bool'.true, (Num.vAt 7 λ x. x, tt)),) (m34 (c .before .before) (c .before .drop-lapsed-arg
-          .given)) (c .drop-lapsed)
+      After-drop-lapsed·gave = λ c. Called.given ps·7 r·7 (claims· .15) T43 (record { pos = 27; ty = Syntax.tyRef Syntax.erased Syntax.mut
+          ReservationUsage.to; ref = λ x. x; }, (record { pos = 7; st = List.[]; d = 0; at = λ x. x }, (Bool.bLit Bool'.true, (Num.vAt 8 λ x. x,
+          tt)),),) (m34 (c .before .before) (c .before .drop-lapsed-arg .given)) (c .drop-lapsed)
       abbrev pub m36 : (before : After-drop-lapsed-arg) → (given : s41 (before .before .before .before .before .before .before .before .before .before
           .before .before .before .before .blocks) .gives (m34 (before .before) (before .drop-lapsed-arg .given))) → Typed.Mo T45
       m36 = λ before given. s42 (before .before .before .before .before .before .before .before .before .before .before .before .before .before
@@ -2344,22 +2432,24 @@ module _ (claims· : Claims) where
           .before .before .before .before .before .before .blocks) .next (m45 (before .before) (before .revoke-all-arg4 .given)) given
       module _ (before· : After-revoke-all-arg4) where
         abbrev pub After-revoke-all·own : Type 0
-        After-revoke-all·own = Called.Called ps·8 r·8 (claims· .17) T60 (record { pos = 28; ty = Syntax.tyRef Syntax.erased Syntax.mut
-            RelayPending.to; ref = λ x. x; }, (record { pos = 30; ty = Syntax.tyRef Syntax.erased Syntax.mut RelayCircuit.to; ref = λ x. x; }, (record
-            { pos = 32; ty = Syntax.tyRef Syntax.erased Syntax.mut InflightAction.to; ref = λ x. x; }, (record { pos = 34; ty = Syntax.tyRef
-            Syntax.erased Syntax.mut (Syntax.tyInt Syntax.w32); ref = λ x. x; }, (record { pos = 14; st = List.[]; d = 0; at = λ x. x }, (record { pos
-            = 13; st = List.[]; d = 0; at = λ x. x }, tt),),),),),) (m45 (before· .before) (before· .revoke-all-arg4 .given))
+        After-revoke-all·own = Called.Called ps·8 r·8 (claims· .17) T60 (record { pos = 29; ty = Syntax.tyRef Syntax.erased Syntax.mut
+            RelayPending.to; ref = λ x. x; }, (record { pos = 31; ty = Syntax.tyRef Syntax.erased Syntax.mut RelayCircuit.to; ref = λ x. x; }, (record
+            { pos = 33; ty = Syntax.tyRef Syntax.erased Syntax.mut InflightAction.to; ref = λ x. x; }, (record { pos = 35; ty = Syntax.tyRef
+            Syntax.erased Syntax.mut (Syntax.tyInt Syntax.w32); ref = λ x. x; }, (record { pos = 15; st = List.[]; d = 0; at = λ x. x }, (record { pos
+            = 7; st = List.[]; d = 0; at = λ x. x }, (record { pos = 14; st = List.[]; d = 0; at = λ x. x }, tt),),),),),),) (m45 (before· .before)
+            (before· .revoke-all-arg4 .given))
       pub record After-revoke-all : Type 0 where
         pub before : After-revoke-all-arg4
         pub revoke-all : After-revoke-all·own before
       abbrev pub After-revoke-all·gave : (c : After-revoke-all) → s58 (c .before .before .before .before .before .before .before .before .before
           .before .before .before .before .before .before .before .before .before .before .before .blocks) .gives (m45 (c .before .before) (c .before
           .revoke-all-arg4 .given))
-      After-revoke-all·gave = λ c. Called.given ps·8 r·8 (claims· .17) T60 (record { pos = 28; ty = Syntax.tyRef Syntax.erased Syntax.mut
-          RelayPending.to; ref = λ x. x; }, (record { pos = 30; ty = Syntax.tyRef Syntax.erased Syntax.mut RelayCircuit.to; ref = λ x. x; }, (record {
-          pos = 32; ty = Syntax.tyRef Syntax.erased Syntax.mut InflightAction.to; ref = λ x. x; }, (record { pos = 34; ty = Syntax.tyRef Syntax.erased
-          Syntax.mut (Syntax.tyInt Syntax.w32); ref = λ x. x; }, (record { pos = 14; st = List.[]; d = 0; at = λ x. x }, (record { pos = 13; st =
-          List.[]; d = 0; at = λ x. x }, tt),),),),),) (m45 (c .before .before) (c .before .revoke-all-arg4 .given)) (c .revoke-all)
+      After-revoke-all·gave = λ c. Called.given ps·8 r·8 (claims· .17) T60 (record { pos = 29; ty = Syntax.tyRef Syntax.erased Syntax.mut
+          RelayPending.to; ref = λ x. x; }, (record { pos = 31; ty = Syntax.tyRef Syntax.erased Syntax.mut RelayCircuit.to; ref = λ x. x; }, (record {
+          pos = 33; ty = Syntax.tyRef Syntax.erased Syntax.mut InflightAction.to; ref = λ x. x; }, (record { pos = 35; ty = Syntax.tyRef Syntax.erased
+          Syntax.mut (Syntax.tyInt Syntax.w32); ref = λ x. x; }, (record { pos = 15; st = List.[]; d = 0; at = λ x. x }, (record { pos = 7; st =
+          List.[]; d = 0; at = λ x. x }, (record { pos = 14; st = List.[]; d = 0; at = λ x. x }, tt),),),),),),) (m45 (c .before .before) (c .before
+          .revoke-all-arg4 .given)) (c .revoke-all)
       abbrev pub m47 : (before : After-revoke-all-arg4) → (given : s58 (before .before .before .before .before .before .before .before .before .before
           .before .before .before .before .before .before .before .before .before .before .blocks) .gives (m45 (before .before) (before
           .revoke-all-arg4 .given))) → Typed.Mo T62
@@ -2370,102 +2460,107 @@ module _ (claims· : Claims) where
           .revoke-all-arg4 .given))) → Typed.Mo T63
       m48 = λ before given. s60 (before .before .before .before .before .before .before .before .before .before .before .before .before .before
           .before .before .before .before .before .before .blocks) (m47 before given)
-      abbrev pub m49 : (before : After-revoke-all) → (given : s62 (before .before .before .before .before .before .before .before .before .before
-          .before .before .before .before .before .before .before .before .before .before .before .blocks) .gives (m48 (before .before)
-          (After-revoke-all·gave before))) → Typed.Mo T65
-      m49 = λ before given. s62 (before .before .before .before .before .before .before .before .before .before .before .before .before .before
-          .before .before .before .before .before .before .before .blocks) .next (m48 (before .before) (After-revoke-all·gave before)) given
+      abbrev pub m49 : (before : After-revoke-all-arg4) → (given : s58 (before .before .before .before .before .before .before .before .before .before
+          .before .before .before .before .before .before .before .before .before .before .blocks) .gives (m45 (before .before) (before
+          .revoke-all-arg4 .given))) → Typed.Mo T64
+      m49 = λ before given. s61 (before .before .before .before .before .before .before .before .before .before .before .before .before .before
+          .before .before .before .before .before .before .blocks) (m48 before given)
+      abbrev pub m50 : (before : After-revoke-all) → (given : s63 (before .before .before .before .before .before .before .before .before .before
+          .before .before .before .before .before .before .before .before .before .before .before .blocks) .gives (m49 (before .before)
+          (After-revoke-all·gave before))) → Typed.Mo T66
+      m50 = λ before given. s63 (before .before .before .before .before .before .before .before .before .before .before .before .before .before
+          .before .before .before .before .before .before .before .blocks) .next (m49 (before .before) (After-revoke-all·gave before)) given
       module _ (before· : After-revoke-all) where
         pub record After-pending·own : Type 0 where
-          pub given : s62 (before· .before .before .before .before .before .before .before .before .before .before .before .before .before .before
-              .before .before .before .before .before .before .blocks) .gives (m48 (before· .before) (After-revoke-all·gave before·))
+          pub given : s63 (before· .before .before .before .before .before .before .before .before .before .before .before .before .before .before
+              .before .before .before .before .before .before .blocks) .gives (m49 (before· .before) (After-revoke-all·gave before·))
       pub record After-pending : Type 0 where
         pub before : After-revoke-all
         pub pending : After-pending·own before
-      abbrev pub m50 : (before : After-pending) → (given : s65 (before .before .before .before .before .before .before .before .before .before .before
-          .before .before .before .before .before .before .before .before .before .before .before .blocks) .gives (m49 (before .before) (before
-          .pending .given))) → Typed.Mo T68
-      m50 = λ before given. s65 (before .before .before .before .before .before .before .before .before .before .before .before .before .before
-          .before .before .before .before .before .before .before .before .blocks) .next (m49 (before .before) (before .pending .given)) given
+      abbrev pub m51 : (before : After-pending) → (given : s66 (before .before .before .before .before .before .before .before .before .before .before
+          .before .before .before .before .before .before .before .before .before .before .before .blocks) .gives (m50 (before .before) (before
+          .pending .given))) → Typed.Mo T69
+      m51 = λ before given. s66 (before .before .before .before .before .before .before .before .before .before .before .before .before .before
+          .before .before .before .before .before .before .before .before .blocks) .next (m50 (before .before) (before .pending .given)) given
       module _ (before· : After-pending) where
         pub record After-circuits·own : Type 0 where
-          pub given : s65 (before· .before .before .before .before .before .before .before .before .before .before .before .before .before .before
-              .before .before .before .before .before .before .before .blocks) .gives (m49 (before· .before) (before· .pending .given))
+          pub given : s66 (before· .before .before .before .before .before .before .before .before .before .before .before .before .before .before
+              .before .before .before .before .before .before .before .blocks) .gives (m50 (before· .before) (before· .pending .given))
       pub record After-circuits : Type 0 where
         pub before : After-pending
         pub circuits : After-circuits·own before
-      abbrev pub m51 : (before : After-circuits) → (given : s68 (before .before .before .before .before .before .before .before .before .before
-          .before .before .before .before .before .before .before .before .before .before .before .before .before .blocks) .gives (m50 (before
-          .before) (before .circuits .given))) → Typed.Mo T71
-      m51 = λ before given. s68 (before .before .before .before .before .before .before .before .before .before .before .before .before .before
-          .before .before .before .before .before .before .before .before .before .blocks) .next (m50 (before .before) (before .circuits .given))
+      abbrev pub m52 : (before : After-circuits) → (given : s69 (before .before .before .before .before .before .before .before .before .before
+          .before .before .before .before .before .before .before .before .before .before .before .before .before .blocks) .gives (m51 (before
+          .before) (before .circuits .given))) → Typed.Mo T72
+      m52 = λ before given. s69 (before .before .before .before .before .before .before .before .before .before .before .before .before .before
+          .before .before .before .before .before .before .before .before .before .blocks) .next (m51 (before .before) (before .circuits .given))
           given
       module _ (before· : After-circuits) where
         pub record After-inflight·own : Type 0 where
-          pub given : s68 (before· .before .before .before .before .before .before .before .before .before .before .before .before .before .before
-              .before .before .before .before .before .before .before .before .blocks) .gives (m50 (before· .before) (before· .circuits .given))
+          pub given : s69 (before· .before .before .before .before .before .before .before .before .before .before .before .before .before .before
+              .before .before .before .before .before .before .before .before .blocks) .gives (m51 (before· .before) (before· .circuits .given))
       pub record After-inflight : Type 0 where
         pub before : After-circuits
         pub inflight : After-inflight·own before
-      abbrev pub m52 : (before : After-inflight) → (given : s71 (before .before .before .before .before .before .before .before .before .before
-          .before .before .before .before .before .before .before .before .before .before .before .before .before .before .blocks) .gives (m51 (before
-          .before) (before .inflight .given))) → Typed.Mo T74
-      m52 = λ before given. s71 (before .before .before .before .before .before .before .before .before .before .before .before .before .before
-          .before .before .before .before .before .before .before .before .before .before .blocks) .next (m51 (before .before) (before .inflight
+      abbrev pub m53 : (before : After-inflight) → (given : s72 (before .before .before .before .before .before .before .before .before .before
+          .before .before .before .before .before .before .before .before .before .before .before .before .before .before .blocks) .gives (m52 (before
+          .before) (before .inflight .given))) → Typed.Mo T75
+      m53 = λ before given. s72 (before .before .before .before .before .before .before .before .before .before .before .before .before .before
+          .before .before .before .before .before .before .before .before .before .before .blocks) .next (m52 (before .before) (before .inflight
           .given)) given
       module _ (before· : After-inflight) where
         pub record After-out·own : Type 0 where
-          pub given : s71 (before· .before .before .before .before .before .before .before .before .before .before .before .before .before .before
-              .before .before .before .before .before .before .before .before .before .blocks) .gives (m51 (before· .before) (before· .inflight
+          pub given : s72 (before· .before .before .before .before .before .before .before .before .before .before .before .before .before .before
+              .before .before .before .before .before .before .before .before .before .blocks) .gives (m52 (before· .before) (before· .inflight
               .given))
       pub record After-out : Type 0 where
         pub before : After-inflight
         pub out : After-out·own before
-      abbrev pub m53 : (before : After-out) → (given : s72 (before .before .before .before .before .before .before .before .before .before .before
-          .before .before .before .before .before .before .before .before .before .before .before .before .before .before .blocks) .gives (m52 (before
-          .before) (before .out .given))) → Typed.Mo T75
-      m53 = λ before given. s72 (before .before .before .before .before .before .before .before .before .before .before .before .before .before
-          .before .before .before .before .before .before .before .before .before .before .before .blocks) .next (m52 (before .before) (before .out
+      abbrev pub m54 : (before : After-out) → (given : s73 (before .before .before .before .before .before .before .before .before .before .before
+          .before .before .before .before .before .before .before .before .before .before .before .before .before .before .blocks) .gives (m53 (before
+          .before) (before .out .given))) → Typed.Mo T76
+      m54 = λ before given. s73 (before .before .before .before .before .before .before .before .before .before .before .before .before .before
+          .before .before .before .before .before .before .before .before .before .before .before .blocks) .next (m53 (before .before) (before .out
           .given)) given
-      abbrev pub m54 : (before : After-out) → (given : s72 (before .before .before .before .before .before .before .before .before .before .before
-          .before .before .before .before .before .before .before .before .before .before .before .before .before .before .blocks) .gives (m52 (before
-          .before) (before .out .given))) → Typed.Mo T77
-      m54 = λ before given. s74 (before .before .before .before .before .before .before .before .before .before .before .before .before .before
-          .before .before .before .before .before .before .before .before .before .before .before .blocks) (m53 before given)
+      abbrev pub m55 : (before : After-out) → (given : s73 (before .before .before .before .before .before .before .before .before .before .before
+          .before .before .before .before .before .before .before .before .before .before .before .before .before .before .blocks) .gives (m53 (before
+          .before) (before .out .given))) → Typed.Mo T78
+      m55 = λ before given. s75 (before .before .before .before .before .before .before .before .before .before .before .before .before .before
+          .before .before .before .before .before .before .before .before .before .before .before .blocks) (m54 before given)
       module _ (before· : After-out) where
         pub record After-slice-known2·own : Type 0 where
-          pub given : s72 (before· .before .before .before .before .before .before .before .before .before .before .before .before .before .before
-              .before .before .before .before .before .before .before .before .before .before .blocks) .gives (m52 (before· .before) (before· .out
+          pub given : s73 (before· .before .before .before .before .before .before .before .before .before .before .before .before .before .before
+              .before .before .before .before .before .before .before .before .before .before .blocks) .gives (m53 (before· .before) (before· .out
               .given))
       pub record After-slice-known2 : Type 0 where
         pub before : After-out
         pub slice-known2 : After-slice-known2·own before
       abbrev pub Need-same-length : Type 0
-      Need-same-length = (c : After-slice-known2) → MutSlice.SameLen (Row.get 1 (T77 .locals) (m54 (c .before) (c .slice-known2 .given))) (dens (c
+      Need-same-length = (c : After-slice-known2) → MutSlice.SameLen (Row.get 1 (T78 .locals) (m55 (c .before) (c .slice-known2 .given))) (dens (c
           .before .before .before .before .before .before .before .before .before .before .before .before .before .before .before .before .before
           .before .before .before .before .before .before .before .before .κs) (c .before .before .before .before .before .before .before .before
           .before .before .before .before .before .before .before .before .before .before .before .before .before .before .before .before .before
           .args) .0)
       abbrev pub Need-same-length-2 : Type 0
-      Need-same-length-2 = (c : After-slice-known2) → MutSlice.SameLen (Row.get 2 (T77 .locals) (m54 (c .before) (c .slice-known2 .given))) (dens (c
+      Need-same-length-2 = (c : After-slice-known2) → MutSlice.SameLen (Row.get 2 (T78 .locals) (m55 (c .before) (c .slice-known2 .given))) (dens (c
           .before .before .before .before .before .before .before .before .before .before .before .before .before .before .before .before .before
           .before .before .before .before .before .before .before .before .κs) (c .before .before .before .before .before .before .before .before
           .before .before .before .before .before .before .before .before .before .before .before .before .before .before .before .before .before
           .args) .1 .0)
       abbrev pub Need-same-length-3 : Type 0
-      Need-same-length-3 = (c : After-slice-known2) → MutSlice.SameLen (Row.get 3 (T77 .locals) (m54 (c .before) (c .slice-known2 .given))) (dens (c
+      Need-same-length-3 = (c : After-slice-known2) → MutSlice.SameLen (Row.get 3 (T78 .locals) (m55 (c .before) (c .slice-known2 .given))) (dens (c
           .before .before .before .before .before .before .before .before .before .before .before .before .before .before .before .before .before
           .before .before .before .before .before .before .before .before .κs) (c .before .before .before .before .before .before .before .before
           .before .before .before .before .before .before .before .before .before .before .before .before .before .before .before .before .before
           .args) .1 .1 .0)
       abbrev pub Need-same-length-4 : Type 0
-      Need-same-length-4 = (c : After-slice-known2) → MutSlice.SameLen (Row.get 4 (T77 .locals) (m54 (c .before) (c .slice-known2 .given))) (dens (c
+      Need-same-length-4 = (c : After-slice-known2) → MutSlice.SameLen (Row.get 4 (T78 .locals) (m55 (c .before) (c .slice-known2 .given))) (dens (c
           .before .before .before .before .before .before .before .before .before .before .before .before .before .before .before .before .before
           .before .before .before .before .before .before .before .before .κs) (c .before .before .before .before .before .before .before .before
           .before .before .before .before .before .before .before .before .before .before .before .before .before .before .before .before .before
           .args) .1 .1 .1 .0)
       abbrev pub Need-same-length-5 : Type 0
-      Need-same-length-5 = (c : After-slice-known2) → MutSlice.SameLen (Row.get 5 (T77 .locals) (m54 (c .before) (c .slice-known2 .given))) (dens (c
+      Need-same-length-5 = (c : After-slice-known2) → MutSlice.SameLen (Row.get 5 (T78 .locals) (m55 (c .before) (c .slice-known2 .given))) (dens (c
           .before .before .before .before .before .before .before .before .before .before .before .before .before .before .before .before .before
           .before .before .before .before .before .before .before .before .κs) (c .before .before .before .before .before .before .before .before
           .before .before .before .before .before .before .before .before .before .before .before .before .before .before .before .before .before
@@ -2477,7 +2572,7 @@ module _ (claims· : Claims) where
           .before .before .before .before .before .before .before .κs) (c .before .before .before .before .before .before .before .before .before
           .before .before .before .before .before .before .before .before .before .before .before .before .before .before .before .before .args))
           (Function.resV r (c .before .before .before .before .before .before .before .before .before .before .before .before .before .before .before
-          .before .before .before .before .before .before .before .before .before .before .κs) (m54 (c .before) (c .slice-known2 .given) .0))
+          .before .before .before .before .before .before .before .before .before .before .κs) (m55 (c .before) (c .slice-known2 .given) .0))
           (Clauses.atExit (Kinds.endedOf 5 ps r) (c .before .before .before .before .before .before .before .before .before .before .before .before
           .before .before .before .before .before .before .before .before .before .before .before .before .before .κs) (dens (c .before .before
           .before .before .before .before .before .before .before .before .before .before .before .before .before .before .before .before .before
@@ -2487,61 +2582,64 @@ module _ (claims· : Claims) where
           .before .before .before .before .before .before .before .before .before .before .κs) 1 ps xs (dens (c .before .before .before .before
           .before .before .before .before .before .before .before .before .before .before .before .before .before .before .before .before .before
           .before .before .before .before .κs) (c .before .before .before .before .before .before .before .before .before .before .before .before
-          .before .before .before .before .before .before .before .before .before .before .before .before .before .args)) (m54 (c .before) (c
+          .before .before .before .before .before .before .before .before .before .before .before .before .before .args)) (m55 (c .before) (c
           .slice-known2 .given) .1)))
-      abbrev pub m55 : (before : After-is-taken) → Typed.Mo T78
-      m55 = λ before. s75 (before .before .before .before .before .before .before .before .before .blocks) (m21 (before .before) (After-is-taken·gave
+      abbrev pub m56 : (before : After-is-taken) → Typed.Mo T79
+      m56 = λ before. s76 (before .before .before .before .before .before .before .before .before .blocks) (m21 (before .before) (After-is-taken·gave
           before))
       module _ (before· : After-is-taken) where
         pub record Else1·own : Type 0 where
-          pub left : Path._≡_ (Row.get 21 (T28 .locals) (m21 (before· .before) (After-is-taken·gave before·))) Bool'.false
+          pub left : Path._≡_ (Row.get 22 (T28 .locals) (m21 (before· .before) (After-is-taken·gave before·))) Bool'.false
       pub record Else1 : Type 0 where
         pub before : After-is-taken
         pub if1 : Else1·own before
       abbrev pub Need-refused-requires : Type 0
-      Need-refused-requires = (c : Else1) → s76 (c .before .before .before .before .before .before .before .before .before .blocks) .asks (m55 (c
+      Need-refused-requires = (c : Else1) → s77 (c .before .before .before .before .before .before .before .before .before .blocks) .asks (m56 (c
           .before))
-      abbrev pub m56 : (before : Else1) → (given : s76 (before .before .before .before .before .before .before .before .before .before .blocks) .gives
-          (m55 (before .before))) → Typed.Mo T79
-      m56 = λ before given. s76 (before .before .before .before .before .before .before .before .before .before .blocks) .next (m55 (before .before))
+      abbrev pub m57 : (before : Else1) → (given : s77 (before .before .before .before .before .before .before .before .before .before .blocks) .gives
+          (m56 (before .before))) → Typed.Mo T80
+      m57 = λ before given. s77 (before .before .before .before .before .before .before .before .before .before .blocks) .next (m56 (before .before))
           given
       module _ (before· : Else1) where
         abbrev pub After-refused·own : Type 0
-        After-refused·own = Called.Called ps·9 r·9 (claims· .19) T29 (record { pos = 6; st = List.[]; d = 0; at = λ x. x }, (record { pos = 11; st =
-            List.[]; d = 0; at = λ x. x }, tt),) (m55 (before· .before))
+        After-refused·own = Called.Called ps·9 r·9 (claims· .19) T29 (record { pos = 6; st = List.[]; d = 0; at = λ x. x }, (record { pos = 7; st =
+            List.[]; d = 0; at = λ x. x }, (record { pos = 12; st = List.[]; d = 0; at = λ x. x }, tt),),) (m56 (before· .before))
       pub record After-refused : Type 0 where
         pub before : Else1
         pub refused : After-refused·own before
-      abbrev pub After-refused·gave : (c : After-refused) → s76 (c .before .before .before .before .before .before .before .before .before .before
-          .blocks) .gives (m55 (c .before .before))
-      After-refused·gave = λ c. Called.given ps·9 r·9 (claims· .19) T29 (record { pos = 6; st = List.[]; d = 0; at = λ x. x }, (record { pos = 11; st
-          = List.[]; d = 0; at = λ x. x }, tt),) (m55 (c .before .before)) (c .refused)
-      abbrev pub m57 : (before : Else1) → (given : s76 (before .before .before .before .before .before .before .before .before .before .blocks) .gives
-          (m55 (before .before))) → Typed.Mo T80
-      m57 = λ before given. s77 (before .before .before .before .before .before .before .before .before .before .blocks) (m56 before given)
-      abbrev pub m58 : (before : Else1) → (given : s76 (before .before .before .before .before .before .before .before .before .before .blocks) .gives
-          (m55 (before .before))) → Typed.Mo T81
+      abbrev pub After-refused·gave : (c : After-refused) → s77 (c .before .before .before .before .before .before .before .before .before .before
+          .blocks) .gives (m56 (c .before .before))
+      After-refused·gave = λ c. Called.given ps·9 r·9 (claims· .19) T29 (record { pos = 6; st = List.[]; d = 0; at = λ x. x }, (record { pos = 7; st =
+          List.[]; d = 0; at = λ x. x }, (record { pos = 12; st = List.[]; d = 0; at = λ x. x }, tt),),) (m56 (c .before .before)) (c .refused)
+      abbrev pub m58 : (before : Else1) → (given : s77 (before .before .before .before .before .before .before .before .before .before .blocks) .gives
+          (m56 (before .before))) → Typed.Mo T81
       m58 = λ before given. s78 (before .before .before .before .before .before .before .before .before .before .blocks) (m57 before given)
-      abbrev pub m59 : (before : Else1) → (given : s76 (before .before .before .before .before .before .before .before .before .before .blocks) .gives
-          (m55 (before .before))) → Typed.Mo T82
+      abbrev pub m59 : (before : Else1) → (given : s77 (before .before .before .before .before .before .before .before .before .before .blocks) .gives
+          (m56 (before .before))) → Typed.Mo T82
       m59 = λ before given. s79 (before .before .before .before .before .before .before .before .before .before .blocks) (m58 before given)
+      abbrev pub m60 : (before : Else1) → (given : s77 (before .before .before .before .before .before .before .before .before .before .blocks) .gives
+          (m56 (before .before))) → Typed.Mo T83
+      m60 = λ before given. s80 (before .before .before .before .before .before .before .before .before .before .blocks) (m59 before given)
+      abbrev pub m61 : (before : Else1) → (given : s77 (before .before .before .before .before .before .before .before .before .before .blocks) .gives
+          (m56 (before .before))) → Typed.Mo T84
+      m61 = λ before given. s81 (before .before .before .before .before .before .before .before .before .before .blocks) (m60 before given)
       abbrev pub Need-same-length-6 : Type 0
-      Need-same-length-6 = (c : After-refused) → MutSlice.SameLen (Row.get 1 (T82 .locals) (m59 (c .before) (After-refused·gave c))) (dens (c .before
+      Need-same-length-6 = (c : After-refused) → MutSlice.SameLen (Row.get 1 (T84 .locals) (m61 (c .before) (After-refused·gave c))) (dens (c .before
           .before .before .before .before .before .before .before .before .before .κs) (c .before .before .before .before .before .before .before
           .before .before .before .args) .0)
       abbrev pub Need-same-length-7 : Type 0
-      Need-same-length-7 = (c : After-refused) → MutSlice.SameLen (Row.get 2 (T82 .locals) (m59 (c .before) (After-refused·gave c))) (dens (c .before
+      Need-same-length-7 = (c : After-refused) → MutSlice.SameLen (Row.get 2 (T84 .locals) (m61 (c .before) (After-refused·gave c))) (dens (c .before
           .before .before .before .before .before .before .before .before .before .κs) (c .before .before .before .before .before .before .before
           .before .before .before .args) .1 .0)
       abbrev pub Need-returns-2 : Type 0
       Need-returns-2 = (c : After-refused) → Post· (c .before .before .before .before .before .before .before .before .before .before .κs) (dens (c
           .before .before .before .before .before .before .before .before .before .before .κs) (c .before .before .before .before .before .before
           .before .before .before .before .args)) (Function.resV r (c .before .before .before .before .before .before .before .before .before .before
-          .κs) (m59 (c .before) (After-refused·gave c) .0)) (Clauses.atExit (Kinds.endedOf 5 ps r) (c .before .before .before .before .before .before
+          .κs) (m61 (c .before) (After-refused·gave c) .0)) (Clauses.atExit (Kinds.endedOf 5 ps r) (c .before .before .before .before .before .before
           .before .before .before .before .κs) (dens (c .before .before .before .before .before .before .before .before .before .before .κs) (c
           .before .before .before .before .before .before .before .before .before .before .args)) (Enter.lastsP (c .before .before .before .before
           .before .before .before .before .before .before .κs) 1 ps xs (dens (c .before .before .before .before .before .before .before .before
-          .before .before .κs) (c .before .before .before .before .before .before .before .before .before .before .args)) (m59 (c .before)
+          .before .before .κs) (c .before .before .before .before .before .before .before .before .before .before .args)) (m61 (c .before)
           (After-refused·gave c) .1)))
       module _ (entry-answer-requires : Need-entry-answer-requires) (clock-answer-requires : Need-clock-answer-requires) (first-refusal-requires :
           Need-first-refusal-requires) (is-taken-requires : Need-is-taken-requires) (over-requires : Need-over-requires) (revoking-requires :
@@ -2549,35 +2647,35 @@ module _ (claims· : Claims) where
           (revoke-all-requires : Need-revoke-all-requires) (same-length : Need-same-length) (same-length-2 : Need-same-length-2) (same-length-3 :
           Need-same-length-3) (same-length-4 : Need-same-length-4) (same-length-5 : Need-same-length-5) (returns : Need-returns) (refused-requires :
           Need-refused-requires) (same-length-6 : Need-same-length-6) (same-length-7 : Need-same-length-7) (returns-2 : Need-returns-2) where
-        lay11 : (c : After-refused) → at55 (c .before .before .before .before .before .before .before .before .before .before .blocks) (W0 (c .before
+        lay11 : (c : After-refused) → at57 (c .before .before .before .before .before .before .before .before .before .before .blocks) (W0 (c .before
             .before .before .before .before .before .before .before .before .before .κs) (c .before .before .before .before .before .before .before
-            .before .before .before .args) (c .before .before .before .before .before .before .before .before .before .before .blocks)) (m56 (c
+            .before .before .before .args) (c .before .before .before .before .before .before .before .before .before .before .blocks)) (m57 (c
             .before) (After-refused·gave c))
-        lay11 = λ c. ((MutSlice.fix-len (Row.get 1 (T82 .locals) (m59 (c .before) (After-refused·gave c)) .ptr) (Row.get 1 (T82 .locals) (m59 (c
-            .before) (After-refused·gave c)) .name) (Row.get 1 (T82 .locals) (m59 (c .before) (After-refused·gave c)) .now) (dens (c .before .before
+        lay11 = λ c. ((MutSlice.fix-len (Row.get 1 (T84 .locals) (m61 (c .before) (After-refused·gave c)) .ptr) (Row.get 1 (T84 .locals) (m61 (c
+            .before) (After-refused·gave c)) .name) (Row.get 1 (T84 .locals) (m61 (c .before) (After-refused·gave c)) .now) (dens (c .before .before
             .before .before .before .before .before .before .before .before .κs) (c .before .before .before .before .before .before .before .before
-            .before .before .args) .0 .now) (same-length-6 record { before = c .before; refused = c .refused }), (MutSlice.fix-len (Row.get 2 (T82
-            .locals) (m59 (c .before) (After-refused·gave c)) .ptr) (Row.get 2 (T82 .locals) (m59 (c .before) (After-refused·gave c)) .name) (Row.get
-            2 (T82 .locals) (m59 (c .before) (After-refused·gave c)) .now) (dens (c .before .before .before .before .before .before .before .before
+            .before .before .args) .0 .now) (same-length-6 record { before = c .before; refused = c .refused }), (MutSlice.fix-len (Row.get 2 (T84
+            .locals) (m61 (c .before) (After-refused·gave c)) .ptr) (Row.get 2 (T84 .locals) (m61 (c .before) (After-refused·gave c)) .name) (Row.get
+            2 (T84 .locals) (m61 (c .before) (After-refused·gave c)) .now) (dens (c .before .before .before .before .before .before .before .before
             .before .before .κs) (c .before .before .before .before .before .before .before .before .before .before .args) .1 .0 .now) (same-length-7
-            record { before = c .before; refused = c .refused }), (Path.refl, (Path.refl, (Path.refl, (tt, (tt, tt))))),),), returns-2 record { before
-            = c .before; refused = c .refused },)
-        lay10 : (c : Else1) → at56 (c .before .before .before .before .before .before .before .before .before .blocks) (W0 (c .before .before .before
+            record { before = c .before; refused = c .refused }), (Path.refl, (Path.refl, (Path.refl, (tt, (tt, (tt, tt)))))),),), returns-2 record {
+            before = c .before; refused = c .refused },)
+        lay10 : (c : Else1) → at58 (c .before .before .before .before .before .before .before .before .before .blocks) (W0 (c .before .before .before
             .before .before .before .before .before .before .κs) (c .before .before .before .before .before .before .before .before .before .args) (c
-            .before .before .before .before .before .before .before .before .before .blocks)) (m55 (c .before))
+            .before .before .before .before .before .before .before .before .before .blocks)) (m56 (c .before))
         lay10 = λ c. (refused-requires record { before = c .before; if1 = c .if1 }, λ g. lay11 record { before = record { before = c .before; if1 = c
-            .if1 }; refused = Called.called ps·9 r·9 (claims· .19) T29 (record { pos = 6; st = List.[]; d = 0; at = λ x. x }, (record { pos = 11; st =
-            List.[]; d = 0; at = λ x. x }, tt),) (m55 (c .before)) g; },)
-        lay9 : (c : After-revoke-all) → at16 (c .before .before .before .before .before .before .before .before .before .before .before .before
+            .if1 }; refused = Called.called ps·9 r·9 (claims· .19) T29 (record { pos = 6; st = List.[]; d = 0; at = λ x. x }, (record { pos = 7; st =
+            List.[]; d = 0; at = λ x. x }, (record { pos = 12; st = List.[]; d = 0; at = λ x. x }, tt),),) (m56 (c .before)) g; },)
+        lay9 : (c : After-revoke-all) → at17 (c .before .before .before .before .before .before .before .before .before .before .before .before
             .before .before .before .before .before .before .before .before .blocks) (W1 (c .before .before .before .before .before .before .before
             .before .before .before .before .before .before) (After-is-taken·gave (c .before .before .before .before .before .before .before .before
             .before .before .before .before))) (m46 (c .before) (After-revoke-all·gave c))
-        lay9 = λ c. (Path.refl, λ g. (Path.refl, λ g'. (Path.refl, λ g''. (Path.refl, λ g'3. λ g'4. ((MutSlice.fix-len (Row.get 1 (T77 .locals) (m54
+        lay9 = λ c. (Path.refl, λ g. (Path.refl, λ g'. (Path.refl, λ g''. (Path.refl, λ g'3. λ g'4. ((MutSlice.fix-len (Row.get 1 (T78 .locals) (m55
             record { before = record { before = record { before = record { before = record { before = c .before; revoke-all = c .revoke-all }; pending
             = record { given = g }; }; circuits = record { given = g' }; }; inflight = record { given = g'' }; }; out = record { given = g'3 }; } g'4)
-            .ptr) (Row.get 1 (T77 .locals) (m54 record { before = record { before = record { before = record { before = record { before = c .before;
+            .ptr) (Row.get 1 (T78 .locals) (m55 record { before = record { before = record { before = record { before = record { before = c .before;
             revoke-all = c .revoke-all }; pending = record { given = g }; }; circuits = record { given = g' }; }; inflight = record { given = g'' };
-            }; out = record { given = g'3 }; } g'4) .name) (Row.get 1 (T77 .locals) (m54 record { before = record { before = record { before = record
+            }; out = record { given = g'3 }; } g'4) .name) (Row.get 1 (T78 .locals) (m55 record { before = record { before = record { before = record
             { before = record { before = c .before; revoke-all = c .revoke-all }; pending = record { given = g }; }; circuits = record { given = g' };
             }; inflight = record { given = g'' }; }; out = record { given = g'3 }; } g'4) .now) (dens (c .before .before .before .before .before
             .before .before .before .before .before .before .before .before .before .before .before .before .before .before .before .κs) (c .before
@@ -2585,11 +2683,11 @@ module _ (claims· : Claims) where
             .before .before .args) .0 .now) (same-length record { before = record { before = record { before = record { before = record { before =
             record { before = c .before; revoke-all = c .revoke-all; }; pending = record { given = g }; }; circuits = record { given = g' }; };
             inflight = record { given = g'' }; }; out = record { given = g'3 }; }; slice-known2 = record { given = g'4 }; }), (MutSlice.fix-len
-            (Row.get 2 (T77 .locals) (m54 record { before = record { before = record { before = record { before = record { before = c .before;
+            (Row.get 2 (T78 .locals) (m55 record { before = record { before = record { before = record { before = record { before = c .before;
             revoke-all = c .revoke-all }; pending = record { given = g }; }; circuits = record { given = g' }; }; inflight = record { given = g'' };
-            }; out = record { given = g'3 }; } g'4) .ptr) (Row.get 2 (T77 .locals) (m54 record { before = record { before = record { before = record {
+            }; out = record { given = g'3 }; } g'4) .ptr) (Row.get 2 (T78 .locals) (m55 record { before = record { before = record { before = record {
             before = record { before = c .before; revoke-all = c .revoke-all }; pending = record { given = g }; }; circuits = record { given = g' };
-            }; inflight = record { given = g'' }; }; out = record { given = g'3 }; } g'4) .name) (Row.get 2 (T77 .locals) (m54 record { before =
+            }; inflight = record { given = g'' }; }; out = record { given = g'3 }; } g'4) .name) (Row.get 2 (T78 .locals) (m55 record { before =
             record { before = record { before = record { before = record { before = c .before; revoke-all = c .revoke-all }; pending = record { given
             = g }; }; circuits = record { given = g' }; }; inflight = record { given = g'' }; }; out = record { given = g'3 }; } g'4) .now) (dens (c
             .before .before .before .before .before .before .before .before .before .before .before .before .before .before .before .before .before
@@ -2597,24 +2695,24 @@ module _ (claims· : Claims) where
             .before .before .before .before .before .before .before .args) .1 .0 .now) (same-length-2 record { before = record { before = record {
             before = record { before = record { before = record { before = c .before; revoke-all = c .revoke-all; }; pending = record { given = g };
             }; circuits = record { given = g' }; }; inflight = record { given = g'' }; }; out = record { given = g'3 }; }; slice-known2 = record {
-            given = g'4 }; }), (MutSlice.fix-len (Row.get 3 (T77 .locals) (m54 record { before = record { before = record { before = record { before =
+            given = g'4 }; }), (MutSlice.fix-len (Row.get 3 (T78 .locals) (m55 record { before = record { before = record { before = record { before =
             record { before = c .before; revoke-all = c .revoke-all; }; pending = record { given = g }; }; circuits = record { given = g' }; };
-            inflight = record { given = g'' }; }; out = record { given = g'3 }; } g'4) .ptr) (Row.get 3 (T77 .locals) (m54 record { before = record {
+            inflight = record { given = g'' }; }; out = record { given = g'3 }; } g'4) .ptr) (Row.get 3 (T78 .locals) (m55 record { before = record {
             before = record { before = record { before = record { before = c .before; revoke-all = c .revoke-all; }; pending = record { given = g };
-            }; circuits = record { given = g' }; }; inflight = record { given = g'' }; }; out = record { given = g'3 }; } g'4) .name) (Row.get 3 (T77
-            .locals) (m54 record { before = record { before = record { before = record { before = record { before = c .before; revoke-all = c
+            }; circuits = record { given = g' }; }; inflight = record { given = g'' }; }; out = record { given = g'3 }; } g'4) .name) (Row.get 3 (T78
+            .locals) (m55 record { before = record { before = record { before = record { before = record { before = c .before; revoke-all = c
             .revoke-all; }; pending = record { given = g }; }; circuits = record { given = g' }; }; inflight = record { given = g'' }; }; out = record
             { given = g'3 }; } g'4) .now) (dens (c .before .before .before .before .before .before .before .before .before .before .before .before
             .before .before .before .before .before .before .before .before .κs) (c .before .before .before .before .before .before .before .before
             .before .before .before .before .before .before .before .before .before .before .before .before .args) .1 .1 .0 .now) (same-length-3
             record { before = record { before = record { before = record { before = record { before = record { before = c .before; revoke-all = c
             .revoke-all; }; pending = record { given = g }; }; circuits = record { given = g' }; }; inflight = record { given = g'' }; }; out = record
-            { given = g'3 }; }; slice-known2 = record { given = g'4 }; }), (MutSlice.fix-len (Row.get 4 (T77 .locals) (m54 record { before = record {
+            { given = g'3 }; }; slice-known2 = record { given = g'4 }; }), (MutSlice.fix-len (Row.get 4 (T78 .locals) (m55 record { before = record {
             before = record { before = record { before = record { before = c .before; revoke-all = c .revoke-all; }; pending = record { given = g };
-            }; circuits = record { given = g' }; }; inflight = record { given = g'' }; }; out = record { given = g'3 }; } g'4) .ptr) (Row.get 4 (T77
-            .locals) (m54 record { before = record { before = record { before = record { before = record { before = c .before; revoke-all = c
+            }; circuits = record { given = g' }; }; inflight = record { given = g'' }; }; out = record { given = g'3 }; } g'4) .ptr) (Row.get 4 (T78
+            .locals) (m55 record { before = record { before = record { before = record { before = record { before = c .before; revoke-all = c
             .revoke-all; }; pending = record { given = g }; }; circuits = record { given = g' }; }; inflight = record { given = g'' }; }; out = record
-            { given = g'3 }; } g'4) .name) (Row.get 4 (T77 .locals) (m54 record { before = record { before = record { before = record { before =
+            { given = g'3 }; } g'4) .name) (Row.get 4 (T78 .locals) (m55 record { before = record { before = record { before = record { before =
             record { before = c .before; revoke-all = c .revoke-all; }; pending = record { given = g }; }; circuits = record { given = g' }; };
             inflight = record { given = g'' }; }; out = record { given = g'3 }; } g'4) .now) (dens (c .before .before .before .before .before .before
             .before .before .before .before .before .before .before .before .before .before .before .before .before .before .κs) (c .before .before
@@ -2622,11 +2720,11 @@ module _ (claims· : Claims) where
             .before .args) .1 .1 .1 .0 .now) (same-length-4 record { before = record { before = record { before = record { before = record { before =
             record { before = c .before; revoke-all = c .revoke-all; }; pending = record { given = g }; }; circuits = record { given = g' }; };
             inflight = record { given = g'' }; }; out = record { given = g'3 }; }; slice-known2 = record { given = g'4 }; }), (MutSlice.fix-len
-            (Row.get 5 (T77 .locals) (m54 record { before = record { before = record { before = record { before = record { before = c .before;
+            (Row.get 5 (T78 .locals) (m55 record { before = record { before = record { before = record { before = record { before = c .before;
             revoke-all = c .revoke-all; }; pending = record { given = g }; }; circuits = record { given = g' }; }; inflight = record { given = g'' };
-            }; out = record { given = g'3 }; } g'4) .ptr) (Row.get 5 (T77 .locals) (m54 record { before = record { before = record { before = record {
+            }; out = record { given = g'3 }; } g'4) .ptr) (Row.get 5 (T78 .locals) (m55 record { before = record { before = record { before = record {
             before = record { before = c .before; revoke-all = c .revoke-all; }; pending = record { given = g }; }; circuits = record { given = g' };
-            }; inflight = record { given = g'' }; }; out = record { given = g'3 }; } g'4) .name) (Row.get 5 (T77 .locals) (m54 record { before =
+            }; inflight = record { given = g'' }; }; out = record { given = g'3 }; } g'4) .name) (Row.get 5 (T78 .locals) (m55 record { before =
             record { before = record { before = record { before = record { before = c .before; revoke-all = c .revoke-all; }; pending = record { given
             = g }; }; circuits = record { given = g' }; }; inflight = record { given = g'' }; }; out = record { given = g'3 }; } g'4) .now) (dens (c
             .before .before .before .before .before .before .before .before .before .before .before .before .before .before .before .before .before
@@ -2634,10 +2732,10 @@ module _ (claims· : Claims) where
             .before .before .before .before .before .before .before .args) .1 .1 .1 .1 .0 .now) (same-length-5 record { before = record { before =
             record { before = record { before = record { before = record { before = c .before; revoke-all = c .revoke-all; }; pending = record { given
             = g }; }; circuits = record { given = g' }; }; inflight = record { given = g'' }; }; out = record { given = g'3 }; }; slice-known2 =
-            record { given = g'4 }; }), (tt, (tt, tt)),),),),),), returns record { before = record { before = record { before = record { before =
-            record { before = record { before = c .before; revoke-all = c .revoke-all }; pending = record { given = g }; }; circuits = record { given
-            = g' }; }; inflight = record { given = g'' }; }; out = record { given = g'3 }; }; slice-known2 = record { given = g'4 }; },),),),),)
-        lay8 : (c : After-drop-lapsed) → at33 (c .before .before .before .before .before .before .before .before .before .before .before .before
+            record { given = g'4 }; }), (tt, (tt, (tt, tt))),),),),),), returns record { before = record { before = record { before = record { before
+            = record { before = record { before = c .before; revoke-all = c .revoke-all }; pending = record { given = g }; }; circuits = record {
+            given = g' }; }; inflight = record { given = g'' }; }; out = record { given = g'3 }; }; slice-known2 = record { given = g'4 }; },),),),),)
+        lay8 : (c : After-drop-lapsed) → at34 (c .before .before .before .before .before .before .before .before .before .before .before .before
             .before .before .blocks) (W1 (c .before .before .before .before .before .before .before) (After-is-taken·gave (c .before .before .before
             .before .before .before))) (m35 (c .before) (After-drop-lapsed·gave c))
         lay8 = λ c. (Path.refl, λ g. λ g'. (Path.refl, λ g''. (Path.refl, λ g'3. (Path.refl, λ g'4. (Path.refl, (revoke-all-requires record { before =
@@ -2646,75 +2744,75 @@ module _ (claims· : Claims) where
             = record { given = g'3 }; }; revoke-all-arg4 = record { given = g'4 }; }, λ g'5. lay9 record { before = record { before = record { before
             = record { before = record { before = record { before = record { before = c .before; drop-lapsed = c .drop-lapsed; }; ledger = record {
             given = g }; }; revoke-all-arg = record { given = g' }; }; revoke-all-arg2 = record { given = g'' }; }; revoke-all-arg3 = record { given =
-            g'3 }; }; revoke-all-arg4 = record { given = g'4 }; }; revoke-all = Called.called ps·8 r·8 (claims· .17) T60 (record { pos = 28; ty =
-            Syntax.tyRef Syntax.erased Syntax.mut RelayPending.to; ref = λ x. x; }, (record { pos = 30; ty = Syntax.tyRef Syntax.erased Syntax.mut
-            RelayCircuit.to; ref = λ x. x; }, (record { pos = 32; ty = Syntax.tyRef Syntax.erased Syntax.mut InflightAction.to; ref = λ x. x; },
-            (record { pos = 34; ty = Syntax.tyRef Syntax.erased Syntax.mut (Syntax.tyInt Syntax.w32); ref = λ x. x; }, (record { pos = 14; st =
-            List.[]; d = 0; at = λ x. x }, (record { pos = 13; st = List.[]; d = 0; at = λ x. x }, tt),),),),),) (m45 record { before = record {
-            before = record { before = record { before = record { before = c .before; drop-lapsed = c .drop-lapsed; }; ledger = record { given = g };
-            }; revoke-all-arg = record { given = g' }; }; revoke-all-arg2 = record { given = g'' }; }; revoke-all-arg3 = record { given = g'3 }; }
-            g'4) g'5; },),),),),),)
-        lay7 : (c : After-with-clock) → at38 (c .before .before .before .before .before .before .before .before .before .before .before .before
+            g'3 }; }; revoke-all-arg4 = record { given = g'4 }; }; revoke-all = Called.called ps·8 r·8 (claims· .17) T60 (record { pos = 29; ty =
+            Syntax.tyRef Syntax.erased Syntax.mut RelayPending.to; ref = λ x. x; }, (record { pos = 31; ty = Syntax.tyRef Syntax.erased Syntax.mut
+            RelayCircuit.to; ref = λ x. x; }, (record { pos = 33; ty = Syntax.tyRef Syntax.erased Syntax.mut InflightAction.to; ref = λ x. x; },
+            (record { pos = 35; ty = Syntax.tyRef Syntax.erased Syntax.mut (Syntax.tyInt Syntax.w32); ref = λ x. x; }, (record { pos = 15; st =
+            List.[]; d = 0; at = λ x. x }, (record { pos = 7; st = List.[]; d = 0; at = λ x. x }, (record { pos = 14; st = List.[]; d = 0; at = λ x. x
+            }, tt),),),),),),) (m45 record { before = record { before = record { before = record { before = record { before = c .before; drop-lapsed =
+            c .drop-lapsed; }; ledger = record { given = g }; }; revoke-all-arg = record { given = g' }; }; revoke-all-arg2 = record { given = g'' };
+            }; revoke-all-arg3 = record { given = g'3 }; } g'4) g'5; },),),),),),)
+        lay7 : (c : After-with-clock) → at39 (c .before .before .before .before .before .before .before .before .before .before .before .before
             .blocks) (W1 (c .before .before .before .before .before) (After-is-taken·gave (c .before .before .before .before))) (m31 (c .before)
             (After-with-clock·gave c))
         lay7 = λ c. λ g. (Path.refl, (drop-lapsed-requires record { before = record { before = c .before; with-clock = c .with-clock };
             drop-lapsed-arg = record { given = g }; }, λ g'. lay8 record { before = record { before = record { before = c .before; with-clock = c
-            .with-clock }; drop-lapsed-arg = record { given = g }; }; drop-lapsed = Called.called ps·7 r·7 (claims· .15) T43 (record { pos = 26; ty =
-            Syntax.tyRef Syntax.erased Syntax.mut ReservationUsage.to; ref = λ x. x; }, (Bool.bLit Bool'.true, (Num.vAt 7 λ x. x, tt)),) (m34 record {
-            before = c .before; with-clock = c .with-clock } g) g'; },),)
-        lay6 : (c : After-revoking) → at42 (c .before .before .before .before .before .before .before .before .before .before .before .blocks) (W1 (c
+            .with-clock }; drop-lapsed-arg = record { given = g }; }; drop-lapsed = Called.called ps·7 r·7 (claims· .15) T43 (record { pos = 27; ty =
+            Syntax.tyRef Syntax.erased Syntax.mut ReservationUsage.to; ref = λ x. x; }, (record { pos = 7; st = List.[]; d = 0; at = λ x. x },
+            (Bool.bLit Bool'.true, (Num.vAt 8 λ x. x, tt)),),) (m34 record { before = c .before; with-clock = c .with-clock } g) g'; },),)
+        lay6 : (c : After-revoking) → at43 (c .before .before .before .before .before .before .before .before .before .before .before .blocks) (W1 (c
             .before .before .before .before) (After-is-taken·gave (c .before .before .before))) (m27 (c .before) (After-revoking·gave c))
         lay6 = λ c. (with-clock-requires record { before = c .before; revoking = c .revoking }, λ g. lay7 record { before = record { before = c
             .before; revoking = c .revoking }; with-clock = Called.called ps·6 r·6 (claims· .13) T38 (record { pos = 6; st = List.[]; d = 0; at = λ x.
-            x }, (Num.vAt 7 λ x. x, tt),) (m30 (c .before) (After-revoking·gave c)) g; },)
-        lay5 : (c : After-over) → at45 (c .before .before .before .before .before .before .before .before .before .before .blocks) (W1 (c .before
+            x }, (Num.vAt 8 λ x. x, tt),) (m30 (c .before) (After-revoking·gave c)) g; },)
+        lay5 : (c : After-over) → at46 (c .before .before .before .before .before .before .before .before .before .before .blocks) (W1 (c .before
             .before .before) (After-is-taken·gave (c .before .before))) (m24 (c .before) (After-over·gave c))
         lay5 = λ c. (revoking-requires record { before = c .before; over = c .over }, λ g. lay6 record { before = record { before = c .before; over =
-            c .over }; revoking = Called.called ps·5 r·5 (claims· .11) T34 (record { pos = 12; st = List.[]; d = 0; at = λ x. x }, (record { pos = 22;
-            st = List.[]; d = 0; at = λ x. x }, (record { pos = 23; st = List.[]; d = 0; at = λ x. x }, tt),),) (m26 (c .before) (After-over·gave c))
+            c .over }; revoking = Called.called ps·5 r·5 (claims· .11) T34 (record { pos = 13; st = List.[]; d = 0; at = λ x. x }, (record { pos = 23;
+            st = List.[]; d = 0; at = λ x. x }, (record { pos = 24; st = List.[]; d = 0; at = λ x. x }, tt),),) (m26 (c .before) (After-over·gave c))
             g; },)
-        lay4 : (c : After-is-taken) → at57 (c .before .before .before .before .before .before .before .before .blocks) (W0 (c .before .before .before
+        lay4 : (c : After-is-taken) → at59 (c .before .before .before .before .before .before .before .before .blocks) (W0 (c .before .before .before
             .before .before .before .before .before .κs) (c .before .before .before .before .before .before .before .before .args) (c .before .before
             .before .before .before .before .before .before .blocks)) (m21 (c .before) (After-is-taken·gave c))
         lay4 = λ c. (λ taken. (over-requires record { before = record { before = c .before; is-taken = c .is-taken }; if1 = record { taken = taken };
             }, λ g. lay5 record { before = record { before = record { before = c .before; is-taken = c .is-taken }; if1 = record { taken = taken }; };
-            over = Called.called ps·4 r·4 (claims· .9) T31 (Num.vAt 7 λ x. x, tt) (m23 record { before = c .before; is-taken = c .is-taken; }) g; },),
+            over = Called.called ps·4 r·4 (claims· .9) T31 (Num.vAt 8 λ x. x, tt) (m23 record { before = c .before; is-taken = c .is-taken; }) g; },),
             λ left. lay10 record { before = record { before = c .before; is-taken = c .is-taken }; if1 = record { left = left }; },)
-        lay3 : (c : After-first-refusal) → at60 (c .before .before .before .before .before .before .before .blocks) (W0 (c .before .before .before
+        lay3 : (c : After-first-refusal) → at62 (c .before .before .before .before .before .before .before .blocks) (W0 (c .before .before .before
             .before .before .before .before .κs) (c .before .before .before .before .before .before .before .args) (c .before .before .before .before
             .before .before .before .blocks)) (m18 (c .before) (After-first-refusal·gave c))
         lay3 = λ c. (is-taken-requires record { before = c .before; first-refusal = c .first-refusal }, λ g. lay4 record { before = record { before =
-            c .before; first-refusal = c .first-refusal }; is-taken = Called.called ps·3 r·3 (claims· .7) T27 (record { pos = 11; st = List.[]; d = 0;
+            c .before; first-refusal = c .first-refusal }; is-taken = Called.called ps·3 r·3 (claims· .7) T27 (record { pos = 12; st = List.[]; d = 0;
             at = λ x. x }, tt,) (m20 (c .before) (After-first-refusal·gave c)) g; },)
-        lay2 : (c : After-clock-answer) → at61 (c .before .before .before .before .before .before .blocks) (W0 (c .before .before .before .before
+        lay2 : (c : After-clock-answer) → at63 (c .before .before .before .before .before .before .blocks) (W0 (c .before .before .before .before
             .before .before .κs) (c .before .before .before .before .before .before .args) (c .before .before .before .before .before .before
             .blocks)) (m17 (c .before) (After-clock-answer·gave c))
         lay2 = λ c. (first-refusal-requires record { before = c .before; clock-answer = c .clock-answer }, λ g. lay3 record { before = record { before
-            = c .before; clock-answer = c .clock-answer }; first-refusal = Called.called ps·2 r·2 (claims· .5) T24 (record { pos = 9; st = List.[]; d
-            = 0; at = λ x. x }, (record { pos = 10; st = List.[]; d = 0; at = λ x. x }, tt),) (m17 (c .before) (After-clock-answer·gave c)) g; },)
-        lay1 : (c : After-entry-answer) → at73 (c .before .before .before .before .before .blocks) (W0 (c .before .before .before .before .before .κs)
+            = c .before; clock-answer = c .clock-answer }; first-refusal = Called.called ps·2 r·2 (claims· .5) T24 (record { pos = 10; st = List.[]; d
+            = 0; at = λ x. x }, (record { pos = 11; st = List.[]; d = 0; at = λ x. x }, tt),) (m17 (c .before) (After-clock-answer·gave c)) g; },)
+        lay1 : (c : After-entry-answer) → at75 (c .before .before .before .before .before .blocks) (W0 (c .before .before .before .before .before .κs)
             (c .before .before .before .before .before .args) (c .before .before .before .before .before .blocks)) (m9 (c .before)
             (After-entry-answer·gave c))
         lay1 = λ c. (clock-answer-requires record { before = c .before; entry-answer = c .entry-answer }, λ g. lay2 record { before = record { before
             = c .before; entry-answer = c .entry-answer }; clock-answer = Called.called ps·1 r·1 (claims· .3) T22 (Num.vFld 6 ((Syntax.field 3) ∷
-            List.[]) 32 λ x. OpaqueRelayRuntime.struct .as-values x .1 .1 .1 .0, (Num.vAt 7 λ x. x, tt),) (m16 (c .before) (After-entry-answer·gave
+            List.[]) 32 λ x. OpaqueRelayRuntime.struct .as-values x .1 .1 .1 .0, (Num.vAt 8 λ x. x, tt),) (m16 (c .before) (After-entry-answer·gave
             c)) g; },)
-        pub laid : (c : Start) → at84 (c .blocks) (W0 (c .κs) (c .args) (c .blocks)) (m0 (c .κs) (c .args) (c .blocks))
+        pub laid : (c : Start) → at86 (c .blocks) (W0 (c .κs) (c .args) (c .blocks)) (m0 (c .κs) (c .args) (c .blocks))
         laid = λ c. λ g. (tt, λ g'. λ g''. (Path.refl, λ g'3. (Path.refl, (entry-answer-requires record { before = record { before = record { before =
             record { before = c; slice-known = record { given = g } }; config = record { given = g' }; }; entry-answer-arg = record { given = g'' };
             }; entry-answer-arg2 = record { given = g'3 }; }, λ g'4. lay1 record { before = record { before = record { before = record { before =
             record { before = c; slice-known = record { given = g } }; config = record { given = g' }; }; entry-answer-arg = record { given = g'' };
-            }; entry-answer-arg2 = record { given = g'3 }; }; entry-answer = Called.called ps·0 r·0 (claims· .1) T11 (record { pos = 16; ty =
-            Syntax.tyRef Syntax.erased Syntax.imm RelayPending.to; ref = λ x. x; }, (record { pos = 18; ty = Syntax.tyRef Syntax.erased Syntax.imm
-            RelayCircuit.to; ref = λ x. x; }, (Num.vAt 19 λ x. x, (Num.vAt 20 λ x. x, (record { pos = 8; st = List.[]; d = 0; at = λ x. x },
-            tt),),),),) (m8 record { before = record { before = record { before = c; slice-known = record { given = g } }; config = record { given =
-            g' }; }; entry-answer-arg = record { given = g'' }; } g'3) g'4; },),),),)
+            }; entry-answer-arg2 = record { given = g'3 }; }; entry-answer = Called.called ps·0 r·0 (claims· .1) T11 (record { pos = 17; ty =
+            Syntax.tyRef Syntax.erased Syntax.imm RelayPending.to; ref = λ x. x; }, (record { pos = 19; ty = Syntax.tyRef Syntax.erased Syntax.imm
+            RelayCircuit.to; ref = λ x. x; }, (record { pos = 7; st = List.[]; d = 0; at = λ x. x }, (Num.vAt 20 λ x. x, (Num.vAt 21 λ x. x, (record {
+            pos = 9; st = List.[]; d = 0; at = λ x. x }, tt),),),),),) (m8 record { before = record { before = record { before = c; slice-known =
+            record { given = g } }; config = record { given = g' }; }; entry-answer-arg = record { given = g'' }; } g'3) g'4; },),),),)
         module _ (κs : Lifetimes.Lfts 5) (qs : Lifetimes.Shares 5) where
           pub asked : (a : Kinds.Dens κs ps) → (good : Kinds.GoodsP κs ps a) → (pre : Pre· κs a) → (bs : List.List Nat.ℕ) → Φ bs (Any.wantQ 5 ps r xs
               m κs qs a (Post· κs a)) (Function.init 5 ps r xs m κs qs a)
           asked = λ a good pre bs. laid record { κs = κs; args = record { pending = a .0; circuits = a .1 .0; ledger = a .1 .1 .0; inflight = a .1 .1
-              .1 .0; out = a .1 .1 .1 .1 .0; runtime = a .1 .1 .1 .1 .1 .0; time = a .1 .1 .1 .1 .1 .1 .0; }; blocks = bs; good = good; fits = record
-              { time = record { fits = good .1 .1 .1 .1 .1 .1 .0 .1 } }; pre = pre; }
+              .1 .0; out = a .1 .1 .1 .1 .0; runtime = a .1 .1 .1 .1 .1 .0; places = a .1 .1 .1 .1 .1 .1 .0; time = a .1 .1 .1 .1 .1 .1 .1 .0; };
+              blocks = bs; good = good; fits = record { time = record { fits = good .1 .1 .1 .1 .1 .1 .1 .0 .1 } }; pre = pre; }
         module _ { M : Type 1 } (𝓤 : URA.URA M) (H : Wp.Heap 𝓤) (A : Atoms.Atoms 𝓤) (W : Kit.Given 𝓤 H A) (𝓣 : Wp.Tables 𝓤 H) (known0 : Plain.Known 𝓤
             H A W 𝓣 2 ps·0 r·0 (claims· .0) (claims· .1) "hnsr_circuit::revoking_calls::entry_answer") (known1 : Plain.Known 𝓤 H A W 𝓣 0 ps·1 r·1
             (claims· .2) (claims· .3) "hnsr_circuit::entry::clock_answer") (known2 : Plain.Known 𝓤 H A W 𝓣 0 ps·2 r·2 (claims· .4) (claims· .5)

@@ -2,1195 +2,161 @@
 use Rattle.hnsr_circuit.proofs.By.calls.new.Kinds
 use Rattle.hnsr_circuit.proofs.By.calls.new.Lts
 use Rattle.hnsr_circuit.proofs.By.calls.new.Reads
-use Rattle.hnsr_circuit.proofs.By.tables.circuits.clear_circuit.Reads as Reads'
-use Rattle.hnsr_circuit.proofs.By.tables.inflight.clear_action.Reads as Reads''
-use Rattle.hnsr_circuit.proofs.By.tables.ledger.clear_usage.Reads as Reads'''
-use Rattle.hnsr_circuit.proofs.By.tables.pending.clear_pending.Reads as Reads''''
 use Rattle.hnsr_circuit.proofs.answer.is_taken.Met
-use Rattle.hnsr_circuit.proofs.answer.is_taken.Reads as Reads'''''
+use Rattle.hnsr_circuit.proofs.answer.is_taken.Reads as Reads'
 use Rattle.hnsr_circuit.proofs.answer.is_taken.Symbol
 use Rattle.hnsr_circuit.proofs.calls.new.Code
 use Rattle.hnsr_circuit.proofs.calls.new.Key
 use Rattle.hnsr_circuit.proofs.calls.new.Statement
 use Rattle.hnsr_circuit.proofs.calls.new_answer.Met as Met'
-use Rattle.hnsr_circuit.proofs.calls.new_answer.Reads as Reads''''''
+use Rattle.hnsr_circuit.proofs.calls.new_answer.Reads as Reads''
 use Rattle.hnsr_circuit.proofs.calls.new_answer.Symbol as Symbol'
 use Rattle.hnsr_circuit.proofs.entry.too_few.Met as Met''
-use Rattle.hnsr_circuit.proofs.entry.too_few.Reads as Reads'''''''
+use Rattle.hnsr_circuit.proofs.entry.too_few.Reads as Reads'''
 use Rattle.hnsr_circuit.proofs.entry.too_few.Symbol as Symbol''
 use Rattle.hnsr_circuit.proofs.header.new_header.Met as Met'''
-use Rattle.hnsr_circuit.proofs.header.new_header.Reads as Reads''''''''
+use Rattle.hnsr_circuit.proofs.header.new_header.Reads as Reads''''
 use Rattle.hnsr_circuit.proofs.header.new_header.Symbol as Symbol'''
-use Rattle.hnsr_circuit.proofs.question.used.Met as Met''''
-use Rattle.hnsr_circuit.proofs.question.used.Reads as Reads'''''''''
-use Rattle.hnsr_circuit.proofs.question.used.Symbol as Symbol''''
-use Rattle.hnsr_circuit.proofs.revoking_calls.refused.Met as Met'''''
-use Rattle.hnsr_circuit.proofs.revoking_calls.refused.Reads as Reads''''''''''
-use Rattle.hnsr_circuit.proofs.revoking_calls.refused.Symbol as Symbol'''''
-use Rattle.hnsr_circuit.proofs.revoking_calls.taken_with.Met as Met''''''
-use Rattle.hnsr_circuit.proofs.revoking_calls.taken_with.Reads as Reads'''''''''''
-use Rattle.hnsr_circuit.proofs.revoking_calls.taken_with.Symbol as Symbol''''''
-use Rattle.hnsr_circuit.proofs.tables.circuits.clear_circuit.Met as Met'''''''
-use Rattle.hnsr_circuit.proofs.tables.circuits.clear_circuit.Symbol as Symbol'''''''
-use Rattle.hnsr_circuit.proofs.tables.inflight.clear_action.Met as Met''''''''
-use Rattle.hnsr_circuit.proofs.tables.inflight.clear_action.Symbol as Symbol''''''''
-use Rattle.hnsr_circuit.proofs.tables.ledger.clear_usage.Met as Met'''''''''
-use Rattle.hnsr_circuit.proofs.tables.ledger.clear_usage.Symbol as Symbol'''''''''
-use Rattle.hnsr_circuit.proofs.tables.pending.clear_pending.Met as Met''''''''''
-use Rattle.hnsr_circuit.proofs.tables.pending.clear_pending.Symbol as Symbol''''''''''
+use Rattle.hnsr_circuit.proofs.header.no_runtime.Met as Met''''
+use Rattle.hnsr_circuit.proofs.header.no_runtime.Reads as Reads'''''
+use Rattle.hnsr_circuit.proofs.header.no_runtime.Symbol as Symbol''''
+use Rattle.hnsr_circuit.proofs.places.every_place.Met as Met'''''
+use Rattle.hnsr_circuit.proofs.places.every_place.Reads as Reads''''''
+use Rattle.hnsr_circuit.proofs.places.every_place.Symbol as Symbol'''''
+use Rattle.hnsr_circuit.proofs.places.no_place.Met as Met''''''
+use Rattle.hnsr_circuit.proofs.places.no_place.Reads as Reads'''''''
+use Rattle.hnsr_circuit.proofs.places.no_place.Symbol as Symbol''''''
+use Rattle.hnsr_circuit.proofs.revoking_calls.refused.Met as Met'''''''
+use Rattle.hnsr_circuit.proofs.revoking_calls.refused.Reads as Reads''''''''
+use Rattle.hnsr_circuit.proofs.revoking_calls.refused.Symbol as Symbol'''''''
+use Rattle.hnsr_circuit.proofs.revoking_calls.taken_with.Met as Met''''''''
+use Rattle.hnsr_circuit.proofs.revoking_calls.taken_with.Reads as Reads'''''''''
+use Rattle.hnsr_circuit.proofs.revoking_calls.taken_with.Symbol as Symbol''''''''
 use borrow.Fn.Run
 use borrow.Fn.Written
 use contract.Running
 
 abbrev pub Start : Type 0
-Start = Lts.Start (
-  Reads'''''''.Asked,
-  Reads'''''''.Learnt,
-  Reads''''''.Asked,
-  Reads''''''.Learnt,
-  Reads''''''''.Asked,
-  Reads''''''''.Learnt,
-  Reads'''''''''.Asked,
-  Reads'''''''''.Learnt,
-  Reads'''''.Asked,
-  Reads'''''.Learnt,
-  Reads''''.Asked,
-  Reads''''.Learnt,
-  Reads'.Asked,
-  Reads'.Learnt,
-  Reads'''.Asked,
-  Reads'''.Learnt,
-  Reads''.Asked,
-  Reads''.Learnt,
-  Reads'''''''''''.Asked,
-  Reads'''''''''''.Learnt,
-  Reads''''''''''.Asked,
-  Reads''''''''''.Learnt,
-) Reads.Pre Reads.Post
-
+Start = Lts.Start (Reads'''.Asked, Reads'''.Learnt, Reads''.Asked, Reads''.Learnt, Reads''''.Asked, Reads''''.Learnt, Reads'.Asked, Reads'.Learnt,
+    Reads'''''''.Asked, Reads'''''''.Learnt, Reads'''''''''.Asked, Reads'''''''''.Learnt, Reads'''''.Asked, Reads'''''.Learnt, Reads''''''.Asked,
+    Reads''''''.Learnt, Reads''''''''.Asked, Reads''''''''.Learnt,) Reads.Pre Reads.Post
 abbrev pub After-too-few : Type 0
-After-too-few = Lts.After-too-few (
-  Reads'''''''.Asked,
-  Reads'''''''.Learnt,
-  Reads''''''.Asked,
-  Reads''''''.Learnt,
-  Reads''''''''.Asked,
-  Reads''''''''.Learnt,
-  Reads'''''''''.Asked,
-  Reads'''''''''.Learnt,
-  Reads'''''.Asked,
-  Reads'''''.Learnt,
-  Reads''''.Asked,
-  Reads''''.Learnt,
-  Reads'.Asked,
-  Reads'.Learnt,
-  Reads'''.Asked,
-  Reads'''.Learnt,
-  Reads''.Asked,
-  Reads''.Learnt,
-  Reads'''''''''''.Asked,
-  Reads'''''''''''.Learnt,
-  Reads''''''''''.Asked,
-  Reads''''''''''.Learnt,
-) Reads.Pre Reads.Post
-
+After-too-few = Lts.After-too-few (Reads'''.Asked, Reads'''.Learnt, Reads''.Asked, Reads''.Learnt, Reads''''.Asked, Reads''''.Learnt, Reads'.Asked,
+    Reads'.Learnt, Reads'''''''.Asked, Reads'''''''.Learnt, Reads'''''''''.Asked, Reads'''''''''.Learnt, Reads'''''.Asked, Reads'''''.Learnt,
+    Reads''''''.Asked, Reads''''''.Learnt, Reads''''''''.Asked, Reads''''''''.Learnt,) Reads.Pre Reads.Post
 abbrev pub After-new-answer : Type 0
-After-new-answer = Lts.After-new-answer (
-  Reads'''''''.Asked,
-  Reads'''''''.Learnt,
-  Reads''''''.Asked,
-  Reads''''''.Learnt,
-  Reads''''''''.Asked,
-  Reads''''''''.Learnt,
-  Reads'''''''''.Asked,
-  Reads'''''''''.Learnt,
-  Reads'''''.Asked,
-  Reads'''''.Learnt,
-  Reads''''.Asked,
-  Reads''''.Learnt,
-  Reads'.Asked,
-  Reads'.Learnt,
-  Reads'''.Asked,
-  Reads'''.Learnt,
-  Reads''.Asked,
-  Reads''.Learnt,
-  Reads'''''''''''.Asked,
-  Reads'''''''''''.Learnt,
-  Reads''''''''''.Asked,
-  Reads''''''''''.Learnt,
-) Reads.Pre Reads.Post
-
+After-new-answer = Lts.After-new-answer (Reads'''.Asked, Reads'''.Learnt, Reads''.Asked, Reads''.Learnt, Reads''''.Asked, Reads''''.Learnt,
+    Reads'.Asked, Reads'.Learnt, Reads'''''''.Asked, Reads'''''''.Learnt, Reads'''''''''.Asked, Reads'''''''''.Learnt, Reads'''''.Asked,
+    Reads'''''.Learnt, Reads''''''.Asked, Reads''''''.Learnt, Reads''''''''.Asked, Reads''''''''.Learnt,) Reads.Pre Reads.Post
 abbrev pub After-new-header : Type 0
-After-new-header = Lts.After-new-header (
-  Reads'''''''.Asked,
-  Reads'''''''.Learnt,
-  Reads''''''.Asked,
-  Reads''''''.Learnt,
-  Reads''''''''.Asked,
-  Reads''''''''.Learnt,
-  Reads'''''''''.Asked,
-  Reads'''''''''.Learnt,
-  Reads'''''.Asked,
-  Reads'''''.Learnt,
-  Reads''''.Asked,
-  Reads''''.Learnt,
-  Reads'.Asked,
-  Reads'.Learnt,
-  Reads'''.Asked,
-  Reads'''.Learnt,
-  Reads''.Asked,
-  Reads''.Learnt,
-  Reads'''''''''''.Asked,
-  Reads'''''''''''.Learnt,
-  Reads''''''''''.Asked,
-  Reads''''''''''.Learnt,
-) Reads.Pre Reads.Post
-
-abbrev pub After-used : Type 0
-After-used = Lts.After-used (
-  Reads'''''''.Asked,
-  Reads'''''''.Learnt,
-  Reads''''''.Asked,
-  Reads''''''.Learnt,
-  Reads''''''''.Asked,
-  Reads''''''''.Learnt,
-  Reads'''''''''.Asked,
-  Reads'''''''''.Learnt,
-  Reads'''''.Asked,
-  Reads'''''.Learnt,
-  Reads''''.Asked,
-  Reads''''.Learnt,
-  Reads'.Asked,
-  Reads'.Learnt,
-  Reads'''.Asked,
-  Reads'''.Learnt,
-  Reads''.Asked,
-  Reads''.Learnt,
-  Reads'''''''''''.Asked,
-  Reads'''''''''''.Learnt,
-  Reads''''''''''.Asked,
-  Reads''''''''''.Learnt,
-) Reads.Pre Reads.Post
-
+After-new-header = Lts.After-new-header (Reads'''.Asked, Reads'''.Learnt, Reads''.Asked, Reads''.Learnt, Reads''''.Asked, Reads''''.Learnt,
+    Reads'.Asked, Reads'.Learnt, Reads'''''''.Asked, Reads'''''''.Learnt, Reads'''''''''.Asked, Reads'''''''''.Learnt, Reads'''''.Asked,
+    Reads'''''.Learnt, Reads''''''.Asked, Reads''''''.Learnt, Reads''''''''.Asked, Reads''''''''.Learnt,) Reads.Pre Reads.Post
 abbrev pub After-is-taken : Type 0
-After-is-taken = Lts.After-is-taken (
-  Reads'''''''.Asked,
-  Reads'''''''.Learnt,
-  Reads''''''.Asked,
-  Reads''''''.Learnt,
-  Reads''''''''.Asked,
-  Reads''''''''.Learnt,
-  Reads'''''''''.Asked,
-  Reads'''''''''.Learnt,
-  Reads'''''.Asked,
-  Reads'''''.Learnt,
-  Reads''''.Asked,
-  Reads''''.Learnt,
-  Reads'.Asked,
-  Reads'.Learnt,
-  Reads'''.Asked,
-  Reads'''.Learnt,
-  Reads''.Asked,
-  Reads''.Learnt,
-  Reads'''''''''''.Asked,
-  Reads'''''''''''.Learnt,
-  Reads''''''''''.Asked,
-  Reads''''''''''.Learnt,
-) Reads.Pre Reads.Post
-
+After-is-taken = Lts.After-is-taken (Reads'''.Asked, Reads'''.Learnt, Reads''.Asked, Reads''.Learnt, Reads''''.Asked, Reads''''.Learnt, Reads'.Asked,
+    Reads'.Learnt, Reads'''''''.Asked, Reads'''''''.Learnt, Reads'''''''''.Asked, Reads'''''''''.Learnt, Reads'''''.Asked, Reads'''''.Learnt,
+    Reads''''''.Asked, Reads''''''.Learnt, Reads''''''''.Asked, Reads''''''''.Learnt,) Reads.Pre Reads.Post
 abbrev pub Then1 : Type 0
-Then1 = Lts.Then1 (
-  Reads'''''''.Asked,
-  Reads'''''''.Learnt,
-  Reads''''''.Asked,
-  Reads''''''.Learnt,
-  Reads''''''''.Asked,
-  Reads''''''''.Learnt,
-  Reads'''''''''.Asked,
-  Reads'''''''''.Learnt,
-  Reads'''''.Asked,
-  Reads'''''.Learnt,
-  Reads''''.Asked,
-  Reads''''.Learnt,
-  Reads'.Asked,
-  Reads'.Learnt,
-  Reads'''.Asked,
-  Reads'''.Learnt,
-  Reads''.Asked,
-  Reads''.Learnt,
-  Reads'''''''''''.Asked,
-  Reads'''''''''''.Learnt,
-  Reads''''''''''.Asked,
-  Reads''''''''''.Learnt,
-) Reads.Pre Reads.Post
-
-abbrev pub After-clear-pending-arg : Type 0
-After-clear-pending-arg = Lts.After-clear-pending-arg (
-  Reads'''''''.Asked,
-  Reads'''''''.Learnt,
-  Reads''''''.Asked,
-  Reads''''''.Learnt,
-  Reads''''''''.Asked,
-  Reads''''''''.Learnt,
-  Reads'''''''''.Asked,
-  Reads'''''''''.Learnt,
-  Reads'''''.Asked,
-  Reads'''''.Learnt,
-  Reads''''.Asked,
-  Reads''''.Learnt,
-  Reads'.Asked,
-  Reads'.Learnt,
-  Reads'''.Asked,
-  Reads'''.Learnt,
-  Reads''.Asked,
-  Reads''.Learnt,
-  Reads'''''''''''.Asked,
-  Reads'''''''''''.Learnt,
-  Reads''''''''''.Asked,
-  Reads''''''''''.Learnt,
-) Reads.Pre Reads.Post
-
-abbrev pub After-clear-pending : Type 0
-After-clear-pending = Lts.After-clear-pending (
-  Reads'''''''.Asked,
-  Reads'''''''.Learnt,
-  Reads''''''.Asked,
-  Reads''''''.Learnt,
-  Reads''''''''.Asked,
-  Reads''''''''.Learnt,
-  Reads'''''''''.Asked,
-  Reads'''''''''.Learnt,
-  Reads'''''.Asked,
-  Reads'''''.Learnt,
-  Reads''''.Asked,
-  Reads''''.Learnt,
-  Reads'.Asked,
-  Reads'.Learnt,
-  Reads'''.Asked,
-  Reads'''.Learnt,
-  Reads''.Asked,
-  Reads''.Learnt,
-  Reads'''''''''''.Asked,
-  Reads'''''''''''.Learnt,
-  Reads''''''''''.Asked,
-  Reads''''''''''.Learnt,
-) Reads.Pre Reads.Post
-
-abbrev pub After-pending : Type 0
-After-pending = Lts.After-pending (
-  Reads'''''''.Asked,
-  Reads'''''''.Learnt,
-  Reads''''''.Asked,
-  Reads''''''.Learnt,
-  Reads''''''''.Asked,
-  Reads''''''''.Learnt,
-  Reads'''''''''.Asked,
-  Reads'''''''''.Learnt,
-  Reads'''''.Asked,
-  Reads'''''.Learnt,
-  Reads''''.Asked,
-  Reads''''.Learnt,
-  Reads'.Asked,
-  Reads'.Learnt,
-  Reads'''.Asked,
-  Reads'''.Learnt,
-  Reads''.Asked,
-  Reads''.Learnt,
-  Reads'''''''''''.Asked,
-  Reads'''''''''''.Learnt,
-  Reads''''''''''.Asked,
-  Reads''''''''''.Learnt,
-) Reads.Pre Reads.Post
-
-abbrev pub After-clear-circuit-arg : Type 0
-After-clear-circuit-arg = Lts.After-clear-circuit-arg (
-  Reads'''''''.Asked,
-  Reads'''''''.Learnt,
-  Reads''''''.Asked,
-  Reads''''''.Learnt,
-  Reads''''''''.Asked,
-  Reads''''''''.Learnt,
-  Reads'''''''''.Asked,
-  Reads'''''''''.Learnt,
-  Reads'''''.Asked,
-  Reads'''''.Learnt,
-  Reads''''.Asked,
-  Reads''''.Learnt,
-  Reads'.Asked,
-  Reads'.Learnt,
-  Reads'''.Asked,
-  Reads'''.Learnt,
-  Reads''.Asked,
-  Reads''.Learnt,
-  Reads'''''''''''.Asked,
-  Reads'''''''''''.Learnt,
-  Reads''''''''''.Asked,
-  Reads''''''''''.Learnt,
-) Reads.Pre Reads.Post
-
-abbrev pub After-clear-circuit : Type 0
-After-clear-circuit = Lts.After-clear-circuit (
-  Reads'''''''.Asked,
-  Reads'''''''.Learnt,
-  Reads''''''.Asked,
-  Reads''''''.Learnt,
-  Reads''''''''.Asked,
-  Reads''''''''.Learnt,
-  Reads'''''''''.Asked,
-  Reads'''''''''.Learnt,
-  Reads'''''.Asked,
-  Reads'''''.Learnt,
-  Reads''''.Asked,
-  Reads''''.Learnt,
-  Reads'.Asked,
-  Reads'.Learnt,
-  Reads'''.Asked,
-  Reads'''.Learnt,
-  Reads''.Asked,
-  Reads''.Learnt,
-  Reads'''''''''''.Asked,
-  Reads'''''''''''.Learnt,
-  Reads''''''''''.Asked,
-  Reads''''''''''.Learnt,
-) Reads.Pre Reads.Post
-
-abbrev pub After-circuits : Type 0
-After-circuits = Lts.After-circuits (
-  Reads'''''''.Asked,
-  Reads'''''''.Learnt,
-  Reads''''''.Asked,
-  Reads''''''.Learnt,
-  Reads''''''''.Asked,
-  Reads''''''''.Learnt,
-  Reads'''''''''.Asked,
-  Reads'''''''''.Learnt,
-  Reads'''''.Asked,
-  Reads'''''.Learnt,
-  Reads''''.Asked,
-  Reads''''.Learnt,
-  Reads'.Asked,
-  Reads'.Learnt,
-  Reads'''.Asked,
-  Reads'''.Learnt,
-  Reads''.Asked,
-  Reads''.Learnt,
-  Reads'''''''''''.Asked,
-  Reads'''''''''''.Learnt,
-  Reads''''''''''.Asked,
-  Reads''''''''''.Learnt,
-) Reads.Pre Reads.Post
-
-abbrev pub After-clear-usage-arg : Type 0
-After-clear-usage-arg = Lts.After-clear-usage-arg (
-  Reads'''''''.Asked,
-  Reads'''''''.Learnt,
-  Reads''''''.Asked,
-  Reads''''''.Learnt,
-  Reads''''''''.Asked,
-  Reads''''''''.Learnt,
-  Reads'''''''''.Asked,
-  Reads'''''''''.Learnt,
-  Reads'''''.Asked,
-  Reads'''''.Learnt,
-  Reads''''.Asked,
-  Reads''''.Learnt,
-  Reads'.Asked,
-  Reads'.Learnt,
-  Reads'''.Asked,
-  Reads'''.Learnt,
-  Reads''.Asked,
-  Reads''.Learnt,
-  Reads'''''''''''.Asked,
-  Reads'''''''''''.Learnt,
-  Reads''''''''''.Asked,
-  Reads''''''''''.Learnt,
-) Reads.Pre Reads.Post
-
-abbrev pub After-clear-usage : Type 0
-After-clear-usage = Lts.After-clear-usage (
-  Reads'''''''.Asked,
-  Reads'''''''.Learnt,
-  Reads''''''.Asked,
-  Reads''''''.Learnt,
-  Reads''''''''.Asked,
-  Reads''''''''.Learnt,
-  Reads'''''''''.Asked,
-  Reads'''''''''.Learnt,
-  Reads'''''.Asked,
-  Reads'''''.Learnt,
-  Reads''''.Asked,
-  Reads''''.Learnt,
-  Reads'.Asked,
-  Reads'.Learnt,
-  Reads'''.Asked,
-  Reads'''.Learnt,
-  Reads''.Asked,
-  Reads''.Learnt,
-  Reads'''''''''''.Asked,
-  Reads'''''''''''.Learnt,
-  Reads''''''''''.Asked,
-  Reads''''''''''.Learnt,
-) Reads.Pre Reads.Post
-
-abbrev pub After-ledger : Type 0
-After-ledger = Lts.After-ledger (
-  Reads'''''''.Asked,
-  Reads'''''''.Learnt,
-  Reads''''''.Asked,
-  Reads''''''.Learnt,
-  Reads''''''''.Asked,
-  Reads''''''''.Learnt,
-  Reads'''''''''.Asked,
-  Reads'''''''''.Learnt,
-  Reads'''''.Asked,
-  Reads'''''.Learnt,
-  Reads''''.Asked,
-  Reads''''.Learnt,
-  Reads'.Asked,
-  Reads'.Learnt,
-  Reads'''.Asked,
-  Reads'''.Learnt,
-  Reads''.Asked,
-  Reads''.Learnt,
-  Reads'''''''''''.Asked,
-  Reads'''''''''''.Learnt,
-  Reads''''''''''.Asked,
-  Reads''''''''''.Learnt,
-) Reads.Pre Reads.Post
-
-abbrev pub After-clear-action-arg : Type 0
-After-clear-action-arg = Lts.After-clear-action-arg (
-  Reads'''''''.Asked,
-  Reads'''''''.Learnt,
-  Reads''''''.Asked,
-  Reads''''''.Learnt,
-  Reads''''''''.Asked,
-  Reads''''''''.Learnt,
-  Reads'''''''''.Asked,
-  Reads'''''''''.Learnt,
-  Reads'''''.Asked,
-  Reads'''''.Learnt,
-  Reads''''.Asked,
-  Reads''''.Learnt,
-  Reads'.Asked,
-  Reads'.Learnt,
-  Reads'''.Asked,
-  Reads'''.Learnt,
-  Reads''.Asked,
-  Reads''.Learnt,
-  Reads'''''''''''.Asked,
-  Reads'''''''''''.Learnt,
-  Reads''''''''''.Asked,
-  Reads''''''''''.Learnt,
-) Reads.Pre Reads.Post
-
-abbrev pub After-clear-action : Type 0
-After-clear-action = Lts.After-clear-action (
-  Reads'''''''.Asked,
-  Reads'''''''.Learnt,
-  Reads''''''.Asked,
-  Reads''''''.Learnt,
-  Reads''''''''.Asked,
-  Reads''''''''.Learnt,
-  Reads'''''''''.Asked,
-  Reads'''''''''.Learnt,
-  Reads'''''.Asked,
-  Reads'''''.Learnt,
-  Reads''''.Asked,
-  Reads''''.Learnt,
-  Reads'.Asked,
-  Reads'.Learnt,
-  Reads'''.Asked,
-  Reads'''.Learnt,
-  Reads''.Asked,
-  Reads''.Learnt,
-  Reads'''''''''''.Asked,
-  Reads'''''''''''.Learnt,
-  Reads''''''''''.Asked,
-  Reads''''''''''.Learnt,
-) Reads.Pre Reads.Post
-
-abbrev pub After-inflight : Type 0
-After-inflight = Lts.After-inflight (
-  Reads'''''''.Asked,
-  Reads'''''''.Learnt,
-  Reads''''''.Asked,
-  Reads''''''.Learnt,
-  Reads''''''''.Asked,
-  Reads''''''''.Learnt,
-  Reads'''''''''.Asked,
-  Reads'''''''''.Learnt,
-  Reads'''''.Asked,
-  Reads'''''.Learnt,
-  Reads''''.Asked,
-  Reads''''.Learnt,
-  Reads'.Asked,
-  Reads'.Learnt,
-  Reads'''.Asked,
-  Reads'''.Learnt,
-  Reads''.Asked,
-  Reads''.Learnt,
-  Reads'''''''''''.Asked,
-  Reads'''''''''''.Learnt,
-  Reads''''''''''.Asked,
-  Reads''''''''''.Learnt,
-) Reads.Pre Reads.Post
-
+Then1 = Lts.Then1 (Reads'''.Asked, Reads'''.Learnt, Reads''.Asked, Reads''.Learnt, Reads''''.Asked, Reads''''.Learnt, Reads'.Asked, Reads'.Learnt,
+    Reads'''''''.Asked, Reads'''''''.Learnt, Reads'''''''''.Asked, Reads'''''''''.Learnt, Reads'''''.Asked, Reads'''''.Learnt, Reads''''''.Asked,
+    Reads''''''.Learnt, Reads''''''''.Asked, Reads''''''''.Learnt,) Reads.Pre Reads.Post
+abbrev pub After-no-place : Type 0
+After-no-place = Lts.After-no-place (Reads'''.Asked, Reads'''.Learnt, Reads''.Asked, Reads''.Learnt, Reads''''.Asked, Reads''''.Learnt, Reads'.Asked,
+    Reads'.Learnt, Reads'''''''.Asked, Reads'''''''.Learnt, Reads'''''''''.Asked, Reads'''''''''.Learnt, Reads'''''.Asked, Reads'''''.Learnt,
+    Reads''''''.Asked, Reads''''''.Learnt, Reads''''''''.Asked, Reads''''''''.Learnt,) Reads.Pre Reads.Post
 abbrev pub After-taken-with : Type 0
-After-taken-with = Lts.After-taken-with (
-  Reads'''''''.Asked,
-  Reads'''''''.Learnt,
-  Reads''''''.Asked,
-  Reads''''''.Learnt,
-  Reads''''''''.Asked,
-  Reads''''''''.Learnt,
-  Reads'''''''''.Asked,
-  Reads'''''''''.Learnt,
-  Reads'''''.Asked,
-  Reads'''''.Learnt,
-  Reads''''.Asked,
-  Reads''''.Learnt,
-  Reads'.Asked,
-  Reads'.Learnt,
-  Reads'''.Asked,
-  Reads'''.Learnt,
-  Reads''.Asked,
-  Reads''.Learnt,
-  Reads'''''''''''.Asked,
-  Reads'''''''''''.Learnt,
-  Reads''''''''''.Asked,
-  Reads''''''''''.Learnt,
-) Reads.Pre Reads.Post
-
+After-taken-with = Lts.After-taken-with (Reads'''.Asked, Reads'''.Learnt, Reads''.Asked, Reads''.Learnt, Reads''''.Asked, Reads''''.Learnt,
+    Reads'.Asked, Reads'.Learnt, Reads'''''''.Asked, Reads'''''''.Learnt, Reads'''''''''.Asked, Reads'''''''''.Learnt, Reads'''''.Asked,
+    Reads'''''.Learnt, Reads''''''.Asked, Reads''''''.Learnt, Reads''''''''.Asked, Reads''''''''.Learnt,) Reads.Pre Reads.Post
 abbrev pub Else1 : Type 0
-Else1 = Lts.Else1 (
-  Reads'''''''.Asked,
-  Reads'''''''.Learnt,
-  Reads''''''.Asked,
-  Reads''''''.Learnt,
-  Reads''''''''.Asked,
-  Reads''''''''.Learnt,
-  Reads'''''''''.Asked,
-  Reads'''''''''.Learnt,
-  Reads'''''.Asked,
-  Reads'''''.Learnt,
-  Reads''''.Asked,
-  Reads''''.Learnt,
-  Reads'.Asked,
-  Reads'.Learnt,
-  Reads'''.Asked,
-  Reads'''.Learnt,
-  Reads''.Asked,
-  Reads''.Learnt,
-  Reads'''''''''''.Asked,
-  Reads'''''''''''.Learnt,
-  Reads''''''''''.Asked,
-  Reads''''''''''.Learnt,
-) Reads.Pre Reads.Post
-
+Else1 = Lts.Else1 (Reads'''.Asked, Reads'''.Learnt, Reads''.Asked, Reads''.Learnt, Reads''''.Asked, Reads''''.Learnt, Reads'.Asked, Reads'.Learnt,
+    Reads'''''''.Asked, Reads'''''''.Learnt, Reads'''''''''.Asked, Reads'''''''''.Learnt, Reads'''''.Asked, Reads'''''.Learnt, Reads''''''.Asked,
+    Reads''''''.Learnt, Reads''''''''.Asked, Reads''''''''.Learnt,) Reads.Pre Reads.Post
+abbrev pub After-no-runtime : Type 0
+After-no-runtime = Lts.After-no-runtime (Reads'''.Asked, Reads'''.Learnt, Reads''.Asked, Reads''.Learnt, Reads''''.Asked, Reads''''.Learnt,
+    Reads'.Asked, Reads'.Learnt, Reads'''''''.Asked, Reads'''''''.Learnt, Reads'''''''''.Asked, Reads'''''''''.Learnt, Reads'''''.Asked,
+    Reads'''''.Learnt, Reads''''''.Asked, Reads''''''.Learnt, Reads''''''''.Asked, Reads''''''''.Learnt,) Reads.Pre Reads.Post
+abbrev pub After-every-place : Type 0
+After-every-place = Lts.After-every-place (Reads'''.Asked, Reads'''.Learnt, Reads''.Asked, Reads''.Learnt, Reads''''.Asked, Reads''''.Learnt,
+    Reads'.Asked, Reads'.Learnt, Reads'''''''.Asked, Reads'''''''.Learnt, Reads'''''''''.Asked, Reads'''''''''.Learnt, Reads'''''.Asked,
+    Reads'''''.Learnt, Reads''''''.Asked, Reads''''''.Learnt, Reads''''''''.Asked, Reads''''''''.Learnt,) Reads.Pre Reads.Post
 abbrev pub After-refused : Type 0
-After-refused = Lts.After-refused (
-  Reads'''''''.Asked,
-  Reads'''''''.Learnt,
-  Reads''''''.Asked,
-  Reads''''''.Learnt,
-  Reads''''''''.Asked,
-  Reads''''''''.Learnt,
-  Reads'''''''''.Asked,
-  Reads'''''''''.Learnt,
-  Reads'''''.Asked,
-  Reads'''''.Learnt,
-  Reads''''.Asked,
-  Reads''''.Learnt,
-  Reads'.Asked,
-  Reads'.Learnt,
-  Reads'''.Asked,
-  Reads'''.Learnt,
-  Reads''.Asked,
-  Reads''.Learnt,
-  Reads'''''''''''.Asked,
-  Reads'''''''''''.Learnt,
-  Reads''''''''''.Asked,
-  Reads''''''''''.Learnt,
-) Reads.Pre Reads.Post
-
+After-refused = Lts.After-refused (Reads'''.Asked, Reads'''.Learnt, Reads''.Asked, Reads''.Learnt, Reads''''.Asked, Reads''''.Learnt, Reads'.Asked,
+    Reads'.Learnt, Reads'''''''.Asked, Reads'''''''.Learnt, Reads'''''''''.Asked, Reads'''''''''.Learnt, Reads'''''.Asked, Reads'''''.Learnt,
+    Reads''''''.Asked, Reads''''''.Learnt, Reads''''''''.Asked, Reads''''''''.Learnt,) Reads.Pre Reads.Post
 abbrev pub Need-too-few-requires : Type 0
-Need-too-few-requires = Lts.Need-too-few-requires (
-  Reads'''''''.Asked,
-  Reads'''''''.Learnt,
-  Reads''''''.Asked,
-  Reads''''''.Learnt,
-  Reads''''''''.Asked,
-  Reads''''''''.Learnt,
-  Reads'''''''''.Asked,
-  Reads'''''''''.Learnt,
-  Reads'''''.Asked,
-  Reads'''''.Learnt,
-  Reads''''.Asked,
-  Reads''''.Learnt,
-  Reads'.Asked,
-  Reads'.Learnt,
-  Reads'''.Asked,
-  Reads'''.Learnt,
-  Reads''.Asked,
-  Reads''.Learnt,
-  Reads'''''''''''.Asked,
-  Reads'''''''''''.Learnt,
-  Reads''''''''''.Asked,
-  Reads''''''''''.Learnt,
-) Reads.Pre Reads.Post
-
+Need-too-few-requires = Lts.Need-too-few-requires (Reads'''.Asked, Reads'''.Learnt, Reads''.Asked, Reads''.Learnt, Reads''''.Asked, Reads''''.Learnt,
+    Reads'.Asked, Reads'.Learnt, Reads'''''''.Asked, Reads'''''''.Learnt, Reads'''''''''.Asked, Reads'''''''''.Learnt, Reads'''''.Asked,
+    Reads'''''.Learnt, Reads''''''.Asked, Reads''''''.Learnt, Reads''''''''.Asked, Reads''''''''.Learnt,) Reads.Pre Reads.Post
 abbrev pub Need-new-answer-requires : Type 0
-Need-new-answer-requires = Lts.Need-new-answer-requires (
-  Reads'''''''.Asked,
-  Reads'''''''.Learnt,
-  Reads''''''.Asked,
-  Reads''''''.Learnt,
-  Reads''''''''.Asked,
-  Reads''''''''.Learnt,
-  Reads'''''''''.Asked,
-  Reads'''''''''.Learnt,
-  Reads'''''.Asked,
-  Reads'''''.Learnt,
-  Reads''''.Asked,
-  Reads''''.Learnt,
-  Reads'.Asked,
-  Reads'.Learnt,
-  Reads'''.Asked,
-  Reads'''.Learnt,
-  Reads''.Asked,
-  Reads''.Learnt,
-  Reads'''''''''''.Asked,
-  Reads'''''''''''.Learnt,
-  Reads''''''''''.Asked,
-  Reads''''''''''.Learnt,
-) Reads.Pre Reads.Post
-
+Need-new-answer-requires = Lts.Need-new-answer-requires (Reads'''.Asked, Reads'''.Learnt, Reads''.Asked, Reads''.Learnt, Reads''''.Asked,
+    Reads''''.Learnt, Reads'.Asked, Reads'.Learnt, Reads'''''''.Asked, Reads'''''''.Learnt, Reads'''''''''.Asked, Reads'''''''''.Learnt,
+    Reads'''''.Asked, Reads'''''.Learnt, Reads''''''.Asked, Reads''''''.Learnt, Reads''''''''.Asked, Reads''''''''.Learnt,) Reads.Pre Reads.Post
 abbrev pub Need-new-header-requires : Type 0
-Need-new-header-requires = Lts.Need-new-header-requires (
-  Reads'''''''.Asked,
-  Reads'''''''.Learnt,
-  Reads''''''.Asked,
-  Reads''''''.Learnt,
-  Reads''''''''.Asked,
-  Reads''''''''.Learnt,
-  Reads'''''''''.Asked,
-  Reads'''''''''.Learnt,
-  Reads'''''.Asked,
-  Reads'''''.Learnt,
-  Reads''''.Asked,
-  Reads''''.Learnt,
-  Reads'.Asked,
-  Reads'.Learnt,
-  Reads'''.Asked,
-  Reads'''.Learnt,
-  Reads''.Asked,
-  Reads''.Learnt,
-  Reads'''''''''''.Asked,
-  Reads'''''''''''.Learnt,
-  Reads''''''''''.Asked,
-  Reads''''''''''.Learnt,
-) Reads.Pre Reads.Post
-
-abbrev pub Need-used-requires : Type 0
-Need-used-requires = Lts.Need-used-requires (
-  Reads'''''''.Asked,
-  Reads'''''''.Learnt,
-  Reads''''''.Asked,
-  Reads''''''.Learnt,
-  Reads''''''''.Asked,
-  Reads''''''''.Learnt,
-  Reads'''''''''.Asked,
-  Reads'''''''''.Learnt,
-  Reads'''''.Asked,
-  Reads'''''.Learnt,
-  Reads''''.Asked,
-  Reads''''.Learnt,
-  Reads'.Asked,
-  Reads'.Learnt,
-  Reads'''.Asked,
-  Reads'''.Learnt,
-  Reads''.Asked,
-  Reads''.Learnt,
-  Reads'''''''''''.Asked,
-  Reads'''''''''''.Learnt,
-  Reads''''''''''.Asked,
-  Reads''''''''''.Learnt,
-) Reads.Pre Reads.Post
-
+Need-new-header-requires = Lts.Need-new-header-requires (Reads'''.Asked, Reads'''.Learnt, Reads''.Asked, Reads''.Learnt, Reads''''.Asked,
+    Reads''''.Learnt, Reads'.Asked, Reads'.Learnt, Reads'''''''.Asked, Reads'''''''.Learnt, Reads'''''''''.Asked, Reads'''''''''.Learnt,
+    Reads'''''.Asked, Reads'''''.Learnt, Reads''''''.Asked, Reads''''''.Learnt, Reads''''''''.Asked, Reads''''''''.Learnt,) Reads.Pre Reads.Post
 abbrev pub Need-is-taken-requires : Type 0
-Need-is-taken-requires = Lts.Need-is-taken-requires (
-  Reads'''''''.Asked,
-  Reads'''''''.Learnt,
-  Reads''''''.Asked,
-  Reads''''''.Learnt,
-  Reads''''''''.Asked,
-  Reads''''''''.Learnt,
-  Reads'''''''''.Asked,
-  Reads'''''''''.Learnt,
-  Reads'''''.Asked,
-  Reads'''''.Learnt,
-  Reads''''.Asked,
-  Reads''''.Learnt,
-  Reads'.Asked,
-  Reads'.Learnt,
-  Reads'''.Asked,
-  Reads'''.Learnt,
-  Reads''.Asked,
-  Reads''.Learnt,
-  Reads'''''''''''.Asked,
-  Reads'''''''''''.Learnt,
-  Reads''''''''''.Asked,
-  Reads''''''''''.Learnt,
-) Reads.Pre Reads.Post
-
-abbrev pub Need-clear-pending-requires : Type 0
-Need-clear-pending-requires = Lts.Need-clear-pending-requires (
-  Reads'''''''.Asked,
-  Reads'''''''.Learnt,
-  Reads''''''.Asked,
-  Reads''''''.Learnt,
-  Reads''''''''.Asked,
-  Reads''''''''.Learnt,
-  Reads'''''''''.Asked,
-  Reads'''''''''.Learnt,
-  Reads'''''.Asked,
-  Reads'''''.Learnt,
-  Reads''''.Asked,
-  Reads''''.Learnt,
-  Reads'.Asked,
-  Reads'.Learnt,
-  Reads'''.Asked,
-  Reads'''.Learnt,
-  Reads''.Asked,
-  Reads''.Learnt,
-  Reads'''''''''''.Asked,
-  Reads'''''''''''.Learnt,
-  Reads''''''''''.Asked,
-  Reads''''''''''.Learnt,
-) Reads.Pre Reads.Post
-
-abbrev pub Need-clear-circuit-requires : Type 0
-Need-clear-circuit-requires = Lts.Need-clear-circuit-requires (
-  Reads'''''''.Asked,
-  Reads'''''''.Learnt,
-  Reads''''''.Asked,
-  Reads''''''.Learnt,
-  Reads''''''''.Asked,
-  Reads''''''''.Learnt,
-  Reads'''''''''.Asked,
-  Reads'''''''''.Learnt,
-  Reads'''''.Asked,
-  Reads'''''.Learnt,
-  Reads''''.Asked,
-  Reads''''.Learnt,
-  Reads'.Asked,
-  Reads'.Learnt,
-  Reads'''.Asked,
-  Reads'''.Learnt,
-  Reads''.Asked,
-  Reads''.Learnt,
-  Reads'''''''''''.Asked,
-  Reads'''''''''''.Learnt,
-  Reads''''''''''.Asked,
-  Reads''''''''''.Learnt,
-) Reads.Pre Reads.Post
-
-abbrev pub Need-clear-usage-requires : Type 0
-Need-clear-usage-requires = Lts.Need-clear-usage-requires (
-  Reads'''''''.Asked,
-  Reads'''''''.Learnt,
-  Reads''''''.Asked,
-  Reads''''''.Learnt,
-  Reads''''''''.Asked,
-  Reads''''''''.Learnt,
-  Reads'''''''''.Asked,
-  Reads'''''''''.Learnt,
-  Reads'''''.Asked,
-  Reads'''''.Learnt,
-  Reads''''.Asked,
-  Reads''''.Learnt,
-  Reads'.Asked,
-  Reads'.Learnt,
-  Reads'''.Asked,
-  Reads'''.Learnt,
-  Reads''.Asked,
-  Reads''.Learnt,
-  Reads'''''''''''.Asked,
-  Reads'''''''''''.Learnt,
-  Reads''''''''''.Asked,
-  Reads''''''''''.Learnt,
-) Reads.Pre Reads.Post
-
-abbrev pub Need-clear-action-requires : Type 0
-Need-clear-action-requires = Lts.Need-clear-action-requires (
-  Reads'''''''.Asked,
-  Reads'''''''.Learnt,
-  Reads''''''.Asked,
-  Reads''''''.Learnt,
-  Reads''''''''.Asked,
-  Reads''''''''.Learnt,
-  Reads'''''''''.Asked,
-  Reads'''''''''.Learnt,
-  Reads'''''.Asked,
-  Reads'''''.Learnt,
-  Reads''''.Asked,
-  Reads''''.Learnt,
-  Reads'.Asked,
-  Reads'.Learnt,
-  Reads'''.Asked,
-  Reads'''.Learnt,
-  Reads''.Asked,
-  Reads''.Learnt,
-  Reads'''''''''''.Asked,
-  Reads'''''''''''.Learnt,
-  Reads''''''''''.Asked,
-  Reads''''''''''.Learnt,
-) Reads.Pre Reads.Post
-
+Need-is-taken-requires = Lts.Need-is-taken-requires (Reads'''.Asked, Reads'''.Learnt, Reads''.Asked, Reads''.Learnt, Reads''''.Asked,
+    Reads''''.Learnt, Reads'.Asked, Reads'.Learnt, Reads'''''''.Asked, Reads'''''''.Learnt, Reads'''''''''.Asked, Reads'''''''''.Learnt,
+    Reads'''''.Asked, Reads'''''.Learnt, Reads''''''.Asked, Reads''''''.Learnt, Reads''''''''.Asked, Reads''''''''.Learnt,) Reads.Pre Reads.Post
+abbrev pub Need-no-place-requires : Type 0
+Need-no-place-requires = Lts.Need-no-place-requires (Reads'''.Asked, Reads'''.Learnt, Reads''.Asked, Reads''.Learnt, Reads''''.Asked,
+    Reads''''.Learnt, Reads'.Asked, Reads'.Learnt, Reads'''''''.Asked, Reads'''''''.Learnt, Reads'''''''''.Asked, Reads'''''''''.Learnt,
+    Reads'''''.Asked, Reads'''''.Learnt, Reads''''''.Asked, Reads''''''.Learnt, Reads''''''''.Asked, Reads''''''''.Learnt,) Reads.Pre Reads.Post
 abbrev pub Need-taken-with-requires : Type 0
-Need-taken-with-requires = Lts.Need-taken-with-requires (
-  Reads'''''''.Asked,
-  Reads'''''''.Learnt,
-  Reads''''''.Asked,
-  Reads''''''.Learnt,
-  Reads''''''''.Asked,
-  Reads''''''''.Learnt,
-  Reads'''''''''.Asked,
-  Reads'''''''''.Learnt,
-  Reads'''''.Asked,
-  Reads'''''.Learnt,
-  Reads''''.Asked,
-  Reads''''.Learnt,
-  Reads'.Asked,
-  Reads'.Learnt,
-  Reads'''.Asked,
-  Reads'''.Learnt,
-  Reads''.Asked,
-  Reads''.Learnt,
-  Reads'''''''''''.Asked,
-  Reads'''''''''''.Learnt,
-  Reads''''''''''.Asked,
-  Reads''''''''''.Learnt,
-) Reads.Pre Reads.Post
-
-abbrev pub Need-same-length : Type 0
-Need-same-length = Lts.Need-same-length (
-  Reads'''''''.Asked,
-  Reads'''''''.Learnt,
-  Reads''''''.Asked,
-  Reads''''''.Learnt,
-  Reads''''''''.Asked,
-  Reads''''''''.Learnt,
-  Reads'''''''''.Asked,
-  Reads'''''''''.Learnt,
-  Reads'''''.Asked,
-  Reads'''''.Learnt,
-  Reads''''.Asked,
-  Reads''''.Learnt,
-  Reads'.Asked,
-  Reads'.Learnt,
-  Reads'''.Asked,
-  Reads'''.Learnt,
-  Reads''.Asked,
-  Reads''.Learnt,
-  Reads'''''''''''.Asked,
-  Reads'''''''''''.Learnt,
-  Reads''''''''''.Asked,
-  Reads''''''''''.Learnt,
-) Reads.Pre Reads.Post
-
-abbrev pub Need-same-length-2 : Type 0
-Need-same-length-2 = Lts.Need-same-length-2 (
-  Reads'''''''.Asked,
-  Reads'''''''.Learnt,
-  Reads''''''.Asked,
-  Reads''''''.Learnt,
-  Reads''''''''.Asked,
-  Reads''''''''.Learnt,
-  Reads'''''''''.Asked,
-  Reads'''''''''.Learnt,
-  Reads'''''.Asked,
-  Reads'''''.Learnt,
-  Reads''''.Asked,
-  Reads''''.Learnt,
-  Reads'.Asked,
-  Reads'.Learnt,
-  Reads'''.Asked,
-  Reads'''.Learnt,
-  Reads''.Asked,
-  Reads''.Learnt,
-  Reads'''''''''''.Asked,
-  Reads'''''''''''.Learnt,
-  Reads''''''''''.Asked,
-  Reads''''''''''.Learnt,
-) Reads.Pre Reads.Post
-
-abbrev pub Need-same-length-3 : Type 0
-Need-same-length-3 = Lts.Need-same-length-3 (
-  Reads'''''''.Asked,
-  Reads'''''''.Learnt,
-  Reads''''''.Asked,
-  Reads''''''.Learnt,
-  Reads''''''''.Asked,
-  Reads''''''''.Learnt,
-  Reads'''''''''.Asked,
-  Reads'''''''''.Learnt,
-  Reads'''''.Asked,
-  Reads'''''.Learnt,
-  Reads''''.Asked,
-  Reads''''.Learnt,
-  Reads'.Asked,
-  Reads'.Learnt,
-  Reads'''.Asked,
-  Reads'''.Learnt,
-  Reads''.Asked,
-  Reads''.Learnt,
-  Reads'''''''''''.Asked,
-  Reads'''''''''''.Learnt,
-  Reads''''''''''.Asked,
-  Reads''''''''''.Learnt,
-) Reads.Pre Reads.Post
-
-abbrev pub Need-same-length-4 : Type 0
-Need-same-length-4 = Lts.Need-same-length-4 (
-  Reads'''''''.Asked,
-  Reads'''''''.Learnt,
-  Reads''''''.Asked,
-  Reads''''''.Learnt,
-  Reads''''''''.Asked,
-  Reads''''''''.Learnt,
-  Reads'''''''''.Asked,
-  Reads'''''''''.Learnt,
-  Reads'''''.Asked,
-  Reads'''''.Learnt,
-  Reads''''.Asked,
-  Reads''''.Learnt,
-  Reads'.Asked,
-  Reads'.Learnt,
-  Reads'''.Asked,
-  Reads'''.Learnt,
-  Reads''.Asked,
-  Reads''.Learnt,
-  Reads'''''''''''.Asked,
-  Reads'''''''''''.Learnt,
-  Reads''''''''''.Asked,
-  Reads''''''''''.Learnt,
-) Reads.Pre Reads.Post
-
+Need-taken-with-requires = Lts.Need-taken-with-requires (Reads'''.Asked, Reads'''.Learnt, Reads''.Asked, Reads''.Learnt, Reads''''.Asked,
+    Reads''''.Learnt, Reads'.Asked, Reads'.Learnt, Reads'''''''.Asked, Reads'''''''.Learnt, Reads'''''''''.Asked, Reads'''''''''.Learnt,
+    Reads'''''.Asked, Reads'''''.Learnt, Reads''''''.Asked, Reads''''''.Learnt, Reads''''''''.Asked, Reads''''''''.Learnt,) Reads.Pre Reads.Post
 abbrev pub Need-returns : Type 0
-Need-returns = Lts.Need-returns (
-  Reads'''''''.Asked,
-  Reads'''''''.Learnt,
-  Reads''''''.Asked,
-  Reads''''''.Learnt,
-  Reads''''''''.Asked,
-  Reads''''''''.Learnt,
-  Reads'''''''''.Asked,
-  Reads'''''''''.Learnt,
-  Reads'''''.Asked,
-  Reads'''''.Learnt,
-  Reads''''.Asked,
-  Reads''''.Learnt,
-  Reads'.Asked,
-  Reads'.Learnt,
-  Reads'''.Asked,
-  Reads'''.Learnt,
-  Reads''.Asked,
-  Reads''.Learnt,
-  Reads'''''''''''.Asked,
-  Reads'''''''''''.Learnt,
-  Reads''''''''''.Asked,
-  Reads''''''''''.Learnt,
-) Reads.Pre Reads.Post
-
+Need-returns = Lts.Need-returns (Reads'''.Asked, Reads'''.Learnt, Reads''.Asked, Reads''.Learnt, Reads''''.Asked, Reads''''.Learnt, Reads'.Asked,
+    Reads'.Learnt, Reads'''''''.Asked, Reads'''''''.Learnt, Reads'''''''''.Asked, Reads'''''''''.Learnt, Reads'''''.Asked, Reads'''''.Learnt,
+    Reads''''''.Asked, Reads''''''.Learnt, Reads''''''''.Asked, Reads''''''''.Learnt,) Reads.Pre Reads.Post
+abbrev pub Need-no-runtime-requires : Type 0
+Need-no-runtime-requires = Lts.Need-no-runtime-requires (Reads'''.Asked, Reads'''.Learnt, Reads''.Asked, Reads''.Learnt, Reads''''.Asked,
+    Reads''''.Learnt, Reads'.Asked, Reads'.Learnt, Reads'''''''.Asked, Reads'''''''.Learnt, Reads'''''''''.Asked, Reads'''''''''.Learnt,
+    Reads'''''.Asked, Reads'''''.Learnt, Reads''''''.Asked, Reads''''''.Learnt, Reads''''''''.Asked, Reads''''''''.Learnt,) Reads.Pre Reads.Post
+abbrev pub Need-every-place-requires : Type 0
+Need-every-place-requires = Lts.Need-every-place-requires (Reads'''.Asked, Reads'''.Learnt, Reads''.Asked, Reads''.Learnt, Reads''''.Asked,
+    Reads''''.Learnt, Reads'.Asked, Reads'.Learnt, Reads'''''''.Asked, Reads'''''''.Learnt, Reads'''''''''.Asked, Reads'''''''''.Learnt,
+    Reads'''''.Asked, Reads'''''.Learnt, Reads''''''.Asked, Reads''''''.Learnt, Reads''''''''.Asked, Reads''''''''.Learnt,) Reads.Pre Reads.Post
 abbrev pub Need-refused-requires : Type 0
-Need-refused-requires = Lts.Need-refused-requires (
-  Reads'''''''.Asked,
-  Reads'''''''.Learnt,
-  Reads''''''.Asked,
-  Reads''''''.Learnt,
-  Reads''''''''.Asked,
-  Reads''''''''.Learnt,
-  Reads'''''''''.Asked,
-  Reads'''''''''.Learnt,
-  Reads'''''.Asked,
-  Reads'''''.Learnt,
-  Reads''''.Asked,
-  Reads''''.Learnt,
-  Reads'.Asked,
-  Reads'.Learnt,
-  Reads'''.Asked,
-  Reads'''.Learnt,
-  Reads''.Asked,
-  Reads''.Learnt,
-  Reads'''''''''''.Asked,
-  Reads'''''''''''.Learnt,
-  Reads''''''''''.Asked,
-  Reads''''''''''.Learnt,
-) Reads.Pre Reads.Post
-
+Need-refused-requires = Lts.Need-refused-requires (Reads'''.Asked, Reads'''.Learnt, Reads''.Asked, Reads''.Learnt, Reads''''.Asked, Reads''''.Learnt,
+    Reads'.Asked, Reads'.Learnt, Reads'''''''.Asked, Reads'''''''.Learnt, Reads'''''''''.Asked, Reads'''''''''.Learnt, Reads'''''.Asked,
+    Reads'''''.Learnt, Reads''''''.Asked, Reads''''''.Learnt, Reads''''''''.Asked, Reads''''''''.Learnt,) Reads.Pre Reads.Post
 abbrev pub Need-returns-2 : Type 0
-Need-returns-2 = Lts.Need-returns-2 (
-  Reads'''''''.Asked,
-  Reads'''''''.Learnt,
-  Reads''''''.Asked,
-  Reads''''''.Learnt,
-  Reads''''''''.Asked,
-  Reads''''''''.Learnt,
-  Reads'''''''''.Asked,
-  Reads'''''''''.Learnt,
-  Reads'''''.Asked,
-  Reads'''''.Learnt,
-  Reads''''.Asked,
-  Reads''''.Learnt,
-  Reads'.Asked,
-  Reads'.Learnt,
-  Reads'''.Asked,
-  Reads'''.Learnt,
-  Reads''.Asked,
-  Reads''.Learnt,
-  Reads'''''''''''.Asked,
-  Reads'''''''''''.Learnt,
-  Reads''''''''''.Asked,
-  Reads''''''''''.Learnt,
-) Reads.Pre Reads.Post
-
-module _ {M : Type 1} where
+Need-returns-2 = Lts.Need-returns-2 (Reads'''.Asked, Reads'''.Learnt, Reads''.Asked, Reads''.Learnt, Reads''''.Asked, Reads''''.Learnt, Reads'.Asked,
+    Reads'.Learnt, Reads'''''''.Asked, Reads'''''''.Learnt, Reads'''''''''.Asked, Reads'''''''''.Learnt, Reads'''''.Asked, Reads'''''.Learnt,
+    Reads''''''.Asked, Reads''''''.Learnt, Reads''''''''.Asked, Reads''''''''.Learnt,) Reads.Pre Reads.Post
+module _ { M : Type 1 } where
   pub spec : (answer : Need-too-few-requires) → (answer : Need-new-answer-requires) → (answer : Need-new-header-requires) → (answer :
-      Need-used-requires) → (answer : Need-is-taken-requires) → (answer : Need-clear-pending-requires) → (answer : Need-clear-circuit-requires) →
-      (answer : Need-clear-usage-requires) → (answer : Need-clear-action-requires) → (answer : Need-taken-with-requires) → (answer : Need-same-length)
-      → (answer : Need-same-length-2) → (answer : Need-same-length-3) → (answer : Need-same-length-4) → (answer : Need-returns) → (answer :
-      Need-refused-requires) → (answer : Need-returns-2) → Lts.Closed (
-        Reads'''''''.Asked,
-        Reads'''''''.Learnt,
-        Reads''''''.Asked,
-        Reads''''''.Learnt,
-        Reads''''''''.Asked,
-        Reads''''''''.Learnt,
-        Reads'''''''''.Asked,
-        Reads'''''''''.Learnt,
-        Reads'''''.Asked,
-        Reads'''''.Learnt,
-        Reads''''.Asked,
-        Reads''''.Learnt,
-        Reads'.Asked,
-        Reads'.Learnt,
-        Reads'''.Asked,
-        Reads'''.Learnt,
-        Reads''.Asked,
-        Reads''.Learnt,
-        Reads'''''''''''.Asked,
-        Reads'''''''''''.Learnt,
-        Reads''''''''''.Asked,
-        Reads''''''''''.Learnt,
-      ) Reads.Pre Reads.Post M
-  spec = λ answer answer' answer'' answer'3 answer'4 answer'5 answer'6 answer'7 answer'8 answer'9 answer'10 answer'11 answer'12 answer'13 answer'14
-      answer'15 answer'16. Lts.spec (
-        Reads'''''''.Asked,
-        Reads'''''''.Learnt,
-        Reads''''''.Asked,
-        Reads''''''.Learnt,
-        Reads''''''''.Asked,
-        Reads''''''''.Learnt,
-        Reads'''''''''.Asked,
-        Reads'''''''''.Learnt,
-        Reads'''''.Asked,
-        Reads'''''.Learnt,
-        Reads''''.Asked,
-        Reads''''.Learnt,
-        Reads'.Asked,
-        Reads'.Learnt,
-        Reads'''.Asked,
-        Reads'''.Learnt,
-        Reads''.Asked,
-        Reads''.Learnt,
-        Reads'''''''''''.Asked,
-        Reads'''''''''''.Learnt,
-        Reads''''''''''.Asked,
-        Reads''''''''''.Learnt,
-      ) Reads.Pre Reads.Post answer answer' answer'' answer'3 answer'4 answer'5 answer'6 answer'7
-      answer'8 answer'9 answer'10 answer'11 answer'12 answer'13 answer'14 answer'15 answer'16
-
-  pub close : Lts.Closed (
-    Reads'''''''.Asked,
-    Reads'''''''.Learnt,
-    Reads''''''.Asked,
-    Reads''''''.Learnt,
-    Reads''''''''.Asked,
-    Reads''''''''.Learnt,
-    Reads'''''''''.Asked,
-    Reads'''''''''.Learnt,
-    Reads'''''.Asked,
-    Reads'''''.Learnt,
-    Reads''''.Asked,
-    Reads''''.Learnt,
-    Reads'.Asked,
-    Reads'.Learnt,
-    Reads'''.Asked,
-    Reads'''.Learnt,
-    Reads''.Asked,
-    Reads''.Learnt,
-    Reads'''''''''''.Asked,
-    Reads'''''''''''.Learnt,
-    Reads''''''''''.Asked,
-    Reads''''''''''.Learnt,
-  ) Reads.Pre Reads.Post M → Statement.statement M
+      Need-is-taken-requires) → (answer : Need-no-place-requires) → (answer : Need-taken-with-requires) → (answer : Need-returns) → (answer :
+      Need-no-runtime-requires) → (answer : Need-every-place-requires) → (answer : Need-refused-requires) → (answer : Need-returns-2) → Lts.Closed
+      (Reads'''.Asked, Reads'''.Learnt, Reads''.Asked, Reads''.Learnt, Reads''''.Asked, Reads''''.Learnt, Reads'.Asked, Reads'.Learnt,
+      Reads'''''''.Asked, Reads'''''''.Learnt, Reads'''''''''.Asked, Reads'''''''''.Learnt, Reads'''''.Asked, Reads'''''.Learnt, Reads''''''.Asked,
+      Reads''''''.Learnt, Reads''''''''.Asked, Reads''''''''.Learnt,) Reads.Pre Reads.Post M
+  spec = λ answer answer' answer'' answer'3 answer'4 answer'5 answer'6 answer'7 answer'8 answer'9 answer'10. Lts.spec (Reads'''.Asked,
+      Reads'''.Learnt, Reads''.Asked, Reads''.Learnt, Reads''''.Asked, Reads''''.Learnt, Reads'.Asked, Reads'.Learnt, Reads'''''''.Asked,
+      Reads'''''''.Learnt, Reads'''''''''.Asked, Reads'''''''''.Learnt, Reads'''''.Asked, Reads'''''.Learnt, Reads''''''.Asked, Reads''''''.Learnt,
+      Reads''''''''.Asked, Reads''''''''.Learnt,) Reads.Pre Reads.Post answer answer' answer'' answer'3 answer'4 answer'5 answer'6 answer'7 answer'8
+      answer'9 answer'10
+  pub close : Lts.Closed (Reads'''.Asked, Reads'''.Learnt, Reads''.Asked, Reads''.Learnt, Reads''''.Asked, Reads''''.Learnt, Reads'.Asked,
+      Reads'.Learnt, Reads'''''''.Asked, Reads'''''''.Learnt, Reads'''''''''.Asked, Reads'''''''''.Learnt, Reads'''''.Asked, Reads'''''.Learnt,
+      Reads''''''.Asked, Reads''''''.Learnt, Reads''''''''.Asked, Reads''''''''.Learnt,) Reads.Pre Reads.Post M → Statement.statement M
   unfolding Code.routine Running.tablesOf
   close = λ closed 𝓤 H 𝓜 𝓖 𝓡. Written.close 4 Kinds.ps Kinds.r Reads.Ghost Reads.requires Reads.ensures Reads.pre-read Reads.Pinned Reads.Owned
       Reads.post-read record { M = M; 𝓤 = 𝓤; H = H; 𝓜 = 𝓜; 𝓖 = 𝓖; 𝓡 = 𝓡 } Code.env Key.name Code.function (Code.unfolded 𝓤 H 𝓜 𝓡) (λ κs a g. tt) (λ
       κs. Reads.owns κs record { M = M; 𝓤 = 𝓤; H = H; 𝓜 = 𝓜; 𝓖 = 𝓖; 𝓡 = 𝓡 }) (Reads.passes record { M = M; 𝓤 = 𝓤; H = H; 𝓜 = 𝓜; 𝓖 = 𝓖; 𝓡 = 𝓡 }) λ g.
-      closed 𝓤 H (𝓖 .A) (Running.givenOf 𝓤 H 𝓜 𝓖) (Run.Over 𝓤 H 𝓜 𝓖 𝓡 Code.env) (Reads'''''''.known record {
-        M = M;
-        𝓤 = 𝓤;
-        H = H;
-        𝓜 = 𝓜;
-        𝓖 = 𝓖;
-        𝓡 = 𝓡;
-      } Code.env Symbol''.name Symbol''.routine Code.calls-hnsr-circuit·entry·too-few (Met''.met 𝓤 H 𝓜 𝓖 𝓡)) (Reads''''''.known record {
-        M = M;
-        𝓤 = 𝓤;
-        H = H;
-        𝓜 = 𝓜;
-        𝓖 = 𝓖;
-        𝓡 = 𝓡;
-      } Code.env Symbol'.name Symbol'.routine Code.calls-hnsr-circuit·calls·new-answer (Met'.met 𝓤 H 𝓜 𝓖 𝓡))
-      (Reads''''''''.known record { M = M; 𝓤 = 𝓤; H = H; 𝓜 = 𝓜; 𝓖 = 𝓖; 𝓡 = 𝓡 } Code.env Symbol'''.name Symbol'''.routine
-      Code.calls-hnsr-circuit·header·new-header (Met'''.met 𝓤 H 𝓜 𝓖 𝓡)) (Reads'''''''''.known record { M = M; 𝓤 = 𝓤; H = H; 𝓜 = 𝓜; 𝓖 = 𝓖; 𝓡 = 𝓡 }
-      Code.env Symbol''''.name Symbol''''.routine Code.calls-hnsr-circuit·question·used (Met''''.met 𝓤 H 𝓜 𝓖 𝓡)) (Reads'''''.known record {
-        M = M;
-        𝓤 =
-            𝓤;
-        H = H;
-        𝓜 = 𝓜;
-        𝓖 = 𝓖;
-        𝓡 = 𝓡;
-      } Code.env Symbol.name Symbol.routine Code.calls-hnsr-circuit·answer·is-taken (Met.met 𝓤 H 𝓜 𝓖 𝓡))
-      (Reads''''.known record { M = M; 𝓤 = 𝓤; H = H; 𝓜 = 𝓜; 𝓖 = 𝓖; 𝓡 = 𝓡 } Code.env Symbol''''''''''.name Symbol''''''''''.routine
-      Code.calls-hnsr-circuit·tables·pending·clear-pending (Met''''''''''.met 𝓤 H 𝓜 𝓖 𝓡)) (Reads'.known record {
-        M = M;
-        𝓤 = 𝓤;
-        H = H;
-        𝓜 = 𝓜;
-        𝓖 = 𝓖;
-        𝓡
-            = 𝓡;
-      } Code.env Symbol'''''''.name Symbol'''''''.routine Code.calls-hnsr-circuit·tables·circuits·clear-circuit (Met'''''''.met 𝓤 H 𝓜 𝓖 𝓡))
-      (Reads'''.known record { M = M; 𝓤 = 𝓤; H = H; 𝓜 = 𝓜; 𝓖 = 𝓖; 𝓡 = 𝓡 } Code.env Symbol'''''''''.name Symbol'''''''''.routine
-      Code.calls-hnsr-circuit·tables·ledger·clear-usage (Met'''''''''.met 𝓤 H 𝓜 𝓖 𝓡)) (Reads''.known record {
-        M = M;
-        𝓤 = 𝓤;
-        H = H;
-        𝓜 = 𝓜;
-        𝓖 = 𝓖;
-        𝓡 = 𝓡;
-      } Code.env Symbol''''''''.name Symbol''''''''.routine Code.calls-hnsr-circuit·tables·inflight·clear-action (Met''''''''.met 𝓤 H 𝓜 𝓖 𝓡))
-      (Reads'''''''''''.known record { M = M; 𝓤 = 𝓤; H = H; 𝓜 = 𝓜; 𝓖 = 𝓖; 𝓡 = 𝓡 } Code.env Symbol''''''.name Symbol''''''.routine
-      Code.calls-hnsr-circuit·revoking-calls·taken-with (Met''''''.met 𝓤 H 𝓜 𝓖 𝓡)) (Reads''''''''''.known record {
-        M = M;
-        𝓤 = 𝓤;
-        H = H;
-        𝓜 = 𝓜;
-        𝓖 = 𝓖;
-        𝓡 = 𝓡;
-      } Code.env Symbol'''''.name Symbol'''''.routine Code.calls-hnsr-circuit·revoking-calls·refused (Met'''''.met 𝓤 H 𝓜 𝓖 𝓡))
+      closed 𝓤 H (𝓖 .A) (Running.givenOf 𝓤 H 𝓜 𝓖) (Run.Over 𝓤 H 𝓜 𝓖 𝓡 Code.env) (Reads'''.known record { M = M; 𝓤 = 𝓤; H = H; 𝓜 = 𝓜; 𝓖 = 𝓖; 𝓡 = 𝓡 }
+      Code.env Symbol''.name Symbol''.routine Code.calls-hnsr-circuit·entry·too-few (Met''.met 𝓤 H 𝓜 𝓖 𝓡)) (Reads''.known record { M = M; 𝓤 = 𝓤; H =
+      H; 𝓜 = 𝓜; 𝓖 = 𝓖; 𝓡 = 𝓡 } Code.env Symbol'.name Symbol'.routine Code.calls-hnsr-circuit·calls·new-answer (Met'.met 𝓤 H 𝓜 𝓖 𝓡)) (Reads''''.known
+      record { M = M; 𝓤 = 𝓤; H = H; 𝓜 = 𝓜; 𝓖 = 𝓖; 𝓡 = 𝓡 } Code.env Symbol'''.name Symbol'''.routine Code.calls-hnsr-circuit·header·new-header
+      (Met'''.met 𝓤 H 𝓜 𝓖 𝓡)) (Reads'.known record { M = M; 𝓤 = 𝓤; H = H; 𝓜 = 𝓜; 𝓖 = 𝓖; 𝓡 = 𝓡 } Code.env Symbol.name Symbol.routine
+      Code.calls-hnsr-circuit·answer·is-taken (Met.met 𝓤 H 𝓜 𝓖 𝓡)) (Reads'''''''.known record { M = M; 𝓤 = 𝓤; H = H; 𝓜 = 𝓜; 𝓖 = 𝓖; 𝓡 = 𝓡 } Code.env
+      Symbol''''''.name Symbol''''''.routine Code.calls-hnsr-circuit·places·no-place (Met''''''.met 𝓤 H 𝓜 𝓖 𝓡)) (Reads'''''''''.known record { M = M;
+      𝓤 = 𝓤; H = H; 𝓜 = 𝓜; 𝓖 = 𝓖; 𝓡 = 𝓡 } Code.env Symbol''''''''.name Symbol''''''''.routine Code.calls-hnsr-circuit·revoking-calls·taken-with
+      (Met''''''''.met 𝓤 H 𝓜 𝓖 𝓡)) (Reads'''''.known record { M = M; 𝓤 = 𝓤; H = H; 𝓜 = 𝓜; 𝓖 = 𝓖; 𝓡 = 𝓡 } Code.env Symbol''''.name Symbol''''.routine
+      Code.calls-hnsr-circuit·header·no-runtime (Met''''.met 𝓤 H 𝓜 𝓖 𝓡)) (Reads''''''.known record { M = M; 𝓤 = 𝓤; H = H; 𝓜 = 𝓜; 𝓖 = 𝓖; 𝓡 = 𝓡 }
+      Code.env Symbol'''''.name Symbol'''''.routine Code.calls-hnsr-circuit·places·every-place (Met'''''.met 𝓤 H 𝓜 𝓖 𝓡)) (Reads''''''''.known record {
+      M = M; 𝓤 = 𝓤; H = H; 𝓜 = 𝓜; 𝓖 = 𝓖; 𝓡 = 𝓡 } Code.env Symbol'''''''.name Symbol'''''''.routine Code.calls-hnsr-circuit·revoking-calls·refused
+      (Met'''''''.met 𝓤 H 𝓜 𝓖 𝓡))

@@ -25,250 +25,62 @@ use borrow.Fn.Written
 use contract.Running
 
 abbrev pub Start : Type 0
-Start = Lts.Start (
-  Reads''''.Asked,
-  Reads''''.Learnt,
-  Reads''.Asked,
-  Reads''.Learnt,
-  Reads'''''.Asked,
-  Reads'''''.Learnt,
-  Reads'.Asked,
-  Reads'.Learnt,
-  Reads'''.Asked,
-  Reads'''.Learnt,
-) Reads.Pre Reads.Post
-
+Start = Lts.Start (Reads''''.Asked, Reads''''.Learnt, Reads''.Asked, Reads''.Learnt, Reads'''''.Asked, Reads'''''.Learnt, Reads'.Asked, Reads'.Learnt,
+    Reads'''.Asked, Reads'''.Learnt,) Reads.Pre Reads.Post
 abbrev pub After-id : Type 0
-After-id = Lts.After-id (
-  Reads''''.Asked,
-  Reads''''.Learnt,
-  Reads''.Asked,
-  Reads''.Learnt,
-  Reads'''''.Asked,
-  Reads'''''.Learnt,
-  Reads'.Asked,
-  Reads'.Learnt,
-  Reads'''.Asked,
-  Reads'''.Learnt,
-) Reads.Pre Reads.Post
-
+After-id = Lts.After-id (Reads''''.Asked, Reads''''.Learnt, Reads''.Asked, Reads''.Learnt, Reads'''''.Asked, Reads'''''.Learnt, Reads'.Asked,
+    Reads'.Learnt, Reads'''.Asked, Reads'''.Learnt,) Reads.Pre Reads.Post
 abbrev pub After-at-reservation : Type 0
-After-at-reservation = Lts.After-at-reservation (
-  Reads''''.Asked,
-  Reads''''.Learnt,
-  Reads''.Asked,
-  Reads''.Learnt,
-  Reads'''''.Asked,
-  Reads'''''.Learnt,
-  Reads'.Asked,
-  Reads'.Learnt,
-  Reads'''.Asked,
-  Reads'''.Learnt,
-) Reads.Pre Reads.Post
-
+After-at-reservation = Lts.After-at-reservation (Reads''''.Asked, Reads''''.Learnt, Reads''.Asked, Reads''.Learnt, Reads'''''.Asked,
+    Reads'''''.Learnt, Reads'.Asked, Reads'.Learnt, Reads'''.Asked, Reads'''.Learnt,) Reads.Pre Reads.Post
 abbrev pub After-find-usage : Type 0
-After-find-usage = Lts.After-find-usage (
-  Reads''''.Asked,
-  Reads''''.Learnt,
-  Reads''.Asked,
-  Reads''.Learnt,
-  Reads'''''.Asked,
-  Reads'''''.Learnt,
-  Reads'.Asked,
-  Reads'.Learnt,
-  Reads'''.Asked,
-  Reads'''.Learnt,
-) Reads.Pre Reads.Post
-
+After-find-usage = Lts.After-find-usage (Reads''''.Asked, Reads''''.Learnt, Reads''.Asked, Reads''.Learnt, Reads'''''.Asked, Reads'''''.Learnt,
+    Reads'.Asked, Reads'.Learnt, Reads'''.Asked, Reads'''.Learnt,) Reads.Pre Reads.Post
 abbrev pub After-used : Type 0
-After-used = Lts.After-used (
-  Reads''''.Asked,
-  Reads''''.Learnt,
-  Reads''.Asked,
-  Reads''.Learnt,
-  Reads'''''.Asked,
-  Reads'''''.Learnt,
-  Reads'.Asked,
-  Reads'.Learnt,
-  Reads'''.Asked,
-  Reads'''.Learnt,
-) Reads.Pre Reads.Post
-
+After-used = Lts.After-used (Reads''''.Asked, Reads''''.Learnt, Reads''.Asked, Reads''.Learnt, Reads'''''.Asked, Reads'''''.Learnt, Reads'.Asked,
+    Reads'.Learnt, Reads'''.Asked, Reads'''.Learnt,) Reads.Pre Reads.Post
 abbrev pub After-count-usage : Type 0
-After-count-usage = Lts.After-count-usage (
-  Reads''''.Asked,
-  Reads''''.Learnt,
-  Reads''.Asked,
-  Reads''.Learnt,
-  Reads'''''.Asked,
-  Reads'''''.Learnt,
-  Reads'.Asked,
-  Reads'.Learnt,
-  Reads'''.Asked,
-  Reads'''.Learnt,
-) Reads.Pre Reads.Post
-
+After-count-usage = Lts.After-count-usage (Reads''''.Asked, Reads''''.Learnt, Reads''.Asked, Reads''.Learnt, Reads'''''.Asked, Reads'''''.Learnt,
+    Reads'.Asked, Reads'.Learnt, Reads'''.Asked, Reads'''.Learnt,) Reads.Pre Reads.Post
 abbrev pub After-ledger-room : Type 0
-After-ledger-room = Lts.After-ledger-room (
-  Reads''''.Asked,
-  Reads''''.Learnt,
-  Reads''.Asked,
-  Reads''.Learnt,
-  Reads'''''.Asked,
-  Reads'''''.Learnt,
-  Reads'.Asked,
-  Reads'.Learnt,
-  Reads'''.Asked,
-  Reads'''.Learnt,
-) Reads.Pre Reads.Post
-
+After-ledger-room = Lts.After-ledger-room (Reads''''.Asked, Reads''''.Learnt, Reads''.Asked, Reads''.Learnt, Reads'''''.Asked, Reads'''''.Learnt,
+    Reads'.Asked, Reads'.Learnt, Reads'''.Asked, Reads'''.Learnt,) Reads.Pre Reads.Post
 abbrev pub Need-at-reservation-requires : Type 0
-Need-at-reservation-requires = Lts.Need-at-reservation-requires (
-  Reads''''.Asked,
-  Reads''''.Learnt,
-  Reads''.Asked,
-  Reads''.Learnt,
-  Reads'''''.Asked,
-  Reads'''''.Learnt,
-  Reads'.Asked,
-  Reads'.Learnt,
-  Reads'''.Asked,
-  Reads'''.Learnt,
-) Reads.Pre Reads.Post
-
+Need-at-reservation-requires = Lts.Need-at-reservation-requires (Reads''''.Asked, Reads''''.Learnt, Reads''.Asked, Reads''.Learnt, Reads'''''.Asked,
+    Reads'''''.Learnt, Reads'.Asked, Reads'.Learnt, Reads'''.Asked, Reads'''.Learnt,) Reads.Pre Reads.Post
 abbrev pub Need-find-usage-requires : Type 0
-Need-find-usage-requires = Lts.Need-find-usage-requires (
-  Reads''''.Asked,
-  Reads''''.Learnt,
-  Reads''.Asked,
-  Reads''.Learnt,
-  Reads'''''.Asked,
-  Reads'''''.Learnt,
-  Reads'.Asked,
-  Reads'.Learnt,
-  Reads'''.Asked,
-  Reads'''.Learnt,
-) Reads.Pre Reads.Post
-
+Need-find-usage-requires = Lts.Need-find-usage-requires (Reads''''.Asked, Reads''''.Learnt, Reads''.Asked, Reads''.Learnt, Reads'''''.Asked,
+    Reads'''''.Learnt, Reads'.Asked, Reads'.Learnt, Reads'''.Asked, Reads'''.Learnt,) Reads.Pre Reads.Post
 abbrev pub Need-used-requires : Type 0
-Need-used-requires = Lts.Need-used-requires (
-  Reads''''.Asked,
-  Reads''''.Learnt,
-  Reads''.Asked,
-  Reads''.Learnt,
-  Reads'''''.Asked,
-  Reads'''''.Learnt,
-  Reads'.Asked,
-  Reads'.Learnt,
-  Reads'''.Asked,
-  Reads'''.Learnt,
-) Reads.Pre Reads.Post
-
+Need-used-requires = Lts.Need-used-requires (Reads''''.Asked, Reads''''.Learnt, Reads''.Asked, Reads''.Learnt, Reads'''''.Asked, Reads'''''.Learnt,
+    Reads'.Asked, Reads'.Learnt, Reads'''.Asked, Reads'''.Learnt,) Reads.Pre Reads.Post
 abbrev pub Need-count-usage-requires : Type 0
-Need-count-usage-requires = Lts.Need-count-usage-requires (
-  Reads''''.Asked,
-  Reads''''.Learnt,
-  Reads''.Asked,
-  Reads''.Learnt,
-  Reads'''''.Asked,
-  Reads'''''.Learnt,
-  Reads'.Asked,
-  Reads'.Learnt,
-  Reads'''.Asked,
-  Reads'''.Learnt,
-) Reads.Pre Reads.Post
-
+Need-count-usage-requires = Lts.Need-count-usage-requires (Reads''''.Asked, Reads''''.Learnt, Reads''.Asked, Reads''.Learnt, Reads'''''.Asked,
+    Reads'''''.Learnt, Reads'.Asked, Reads'.Learnt, Reads'''.Asked, Reads'''.Learnt,) Reads.Pre Reads.Post
 abbrev pub Need-ledger-room-requires : Type 0
-Need-ledger-room-requires = Lts.Need-ledger-room-requires (
-  Reads''''.Asked,
-  Reads''''.Learnt,
-  Reads''.Asked,
-  Reads''.Learnt,
-  Reads'''''.Asked,
-  Reads'''''.Learnt,
-  Reads'.Asked,
-  Reads'.Learnt,
-  Reads'''.Asked,
-  Reads'''.Learnt,
-) Reads.Pre Reads.Post
-
+Need-ledger-room-requires = Lts.Need-ledger-room-requires (Reads''''.Asked, Reads''''.Learnt, Reads''.Asked, Reads''.Learnt, Reads'''''.Asked,
+    Reads'''''.Learnt, Reads'.Asked, Reads'.Learnt, Reads'''.Asked, Reads'''.Learnt,) Reads.Pre Reads.Post
 abbrev pub Need-returns : Type 0
-Need-returns = Lts.Need-returns (
-  Reads''''.Asked,
-  Reads''''.Learnt,
-  Reads''.Asked,
-  Reads''.Learnt,
-  Reads'''''.Asked,
-  Reads'''''.Learnt,
-  Reads'.Asked,
-  Reads'.Learnt,
-  Reads'''.Asked,
-  Reads'''.Learnt,
-) Reads.Pre Reads.Post
-
-module _ {M : Type 1} where
+Need-returns = Lts.Need-returns (Reads''''.Asked, Reads''''.Learnt, Reads''.Asked, Reads''.Learnt, Reads'''''.Asked, Reads'''''.Learnt, Reads'.Asked,
+    Reads'.Learnt, Reads'''.Asked, Reads'''.Learnt,) Reads.Pre Reads.Post
+module _ { M : Type 1 } where
   pub spec : (answer : Need-at-reservation-requires) → (answer : Need-find-usage-requires) → (answer : Need-used-requires) → (answer :
-      Need-count-usage-requires) → (answer : Need-ledger-room-requires) → (answer : Need-returns) → Lts.Closed (
-        Reads''''.Asked,
-        Reads''''.Learnt,
-        Reads''.Asked,
-        Reads''.Learnt,
-        Reads'''''.Asked,
-        Reads'''''.Learnt,
-        Reads'.Asked,
-        Reads'.Learnt,
-        Reads'''.Asked,
-        Reads'''.Learnt,
-      ) Reads.Pre
+      Need-count-usage-requires) → (answer : Need-ledger-room-requires) → (answer : Need-returns) → Lts.Closed (Reads''''.Asked, Reads''''.Learnt,
+      Reads''.Asked, Reads''.Learnt, Reads'''''.Asked, Reads'''''.Learnt, Reads'.Asked, Reads'.Learnt, Reads'''.Asked, Reads'''.Learnt,) Reads.Pre
       Reads.Post M
-  spec = λ answer answer' answer'' answer'3 answer'4 answer'5. Lts.spec (
-    Reads''''.Asked,
-    Reads''''.Learnt,
-    Reads''.Asked,
-    Reads''.Learnt,
-    Reads'''''.Asked,
-    Reads'''''.Learnt,
-    Reads'.Asked,
-    Reads'.Learnt,
-    Reads'''.Asked,
-    Reads'''.Learnt,
-  ) Reads.Pre Reads.Post answer answer' answer''
+  spec = λ answer answer' answer'' answer'3 answer'4 answer'5. Lts.spec (Reads''''.Asked, Reads''''.Learnt, Reads''.Asked, Reads''.Learnt,
+      Reads'''''.Asked, Reads'''''.Learnt, Reads'.Asked, Reads'.Learnt, Reads'''.Asked, Reads'''.Learnt,) Reads.Pre Reads.Post answer answer' answer''
       answer'3 answer'4 answer'5
-
-  pub close : Lts.Closed (
-    Reads''''.Asked,
-    Reads''''.Learnt,
-    Reads''.Asked,
-    Reads''.Learnt,
-    Reads'''''.Asked,
-    Reads'''''.Learnt,
-    Reads'.Asked,
-    Reads'.Learnt,
-    Reads'''.Asked,
-    Reads'''.Learnt,
-  ) Reads.Pre Reads.Post M → Statement.statement M
+  pub close : Lts.Closed (Reads''''.Asked, Reads''''.Learnt, Reads''.Asked, Reads''.Learnt, Reads'''''.Asked, Reads'''''.Learnt, Reads'.Asked,
+      Reads'.Learnt, Reads'''.Asked, Reads'''.Learnt,) Reads.Pre Reads.Post M → Statement.statement M
   unfolding Code.routine Running.tablesOf
   close = λ closed 𝓤 H 𝓜 𝓖 𝓡. Written.close 1 Kinds.ps Kinds.r Reads.Ghost Reads.requires Reads.ensures Reads.pre-read Reads.Pinned Reads.Owned
       Reads.post-read record { M = M; 𝓤 = 𝓤; H = H; 𝓜 = 𝓜; 𝓖 = 𝓖; 𝓡 = 𝓡 } Code.env Key.name Code.function (Code.unfolded 𝓤 H 𝓜 𝓡) (λ κs a g. tt) (λ
       κs. Reads.owns κs record { M = M; 𝓤 = 𝓤; H = H; 𝓜 = 𝓜; 𝓖 = 𝓖; 𝓡 = 𝓡 }) (Reads.passes record { M = M; 𝓤 = 𝓤; H = H; 𝓜 = 𝓜; 𝓖 = 𝓖; 𝓡 = 𝓡 }) λ g.
       closed 𝓤 H (𝓖 .A) (Running.givenOf 𝓤 H 𝓜 𝓖) (Run.Over 𝓤 H 𝓜 𝓖 𝓡 Code.env) (Reads''''.known record { M = M; 𝓤 = 𝓤; H = H; 𝓜 = 𝓜; 𝓖 = 𝓖; 𝓡 = 𝓡 }
-      Code.env Symbol'.name Symbol'.routine Code.calls-hnsr-circuit·question·at-reservation (Met'.met 𝓤 H 𝓜 𝓖 𝓡)) (Reads''.known record {
-        M = M;
-        𝓤 =
-            𝓤;
-        H = H;
-        𝓜 = 𝓜;
-        𝓖 = 𝓖;
-        𝓡 = 𝓡;
-      } Code.env Symbol''''.name Symbol''''.routine Code.calls-hnsr-circuit·tables·ledger·find-usage (Met''''.met 𝓤 H 𝓜
+      Code.env Symbol'.name Symbol'.routine Code.calls-hnsr-circuit·question·at-reservation (Met'.met 𝓤 H 𝓜 𝓖 𝓡)) (Reads''.known record { M = M; 𝓤 =
+      𝓤; H = H; 𝓜 = 𝓜; 𝓖 = 𝓖; 𝓡 = 𝓡 } Code.env Symbol''''.name Symbol''''.routine Code.calls-hnsr-circuit·tables·ledger·find-usage (Met''''.met 𝓤 H 𝓜
       𝓖 𝓡)) (Reads'''''.known record { M = M; 𝓤 = 𝓤; H = H; 𝓜 = 𝓜; 𝓖 = 𝓖; 𝓡 = 𝓡 } Code.env Symbol''.name Symbol''.routine
       Code.calls-hnsr-circuit·question·used (Met''.met 𝓤 H 𝓜 𝓖 𝓡)) (Reads'.known record { M = M; 𝓤 = 𝓤; H = H; 𝓜 = 𝓜; 𝓖 = 𝓖; 𝓡 = 𝓡 } Code.env
-      Symbol'''.name Symbol'''.routine Code.calls-hnsr-circuit·tables·ledger·count-usage (Met'''.met 𝓤 H 𝓜 𝓖 𝓡)) (Reads'''.known record {
-        M = M;
-        𝓤 =
-            𝓤;
-        H = H;
-        𝓜 = 𝓜;
-        𝓖 = 𝓖;
-        𝓡 = 𝓡;
-      } Code.env Symbol.name Symbol.routine Code.calls-hnsr-circuit·open·ledger-room (Met.met 𝓤 H 𝓜 𝓖 𝓡))
+      Symbol'''.name Symbol'''.routine Code.calls-hnsr-circuit·tables·ledger·count-usage (Met'''.met 𝓤 H 𝓜 𝓖 𝓡)) (Reads'''.known record { M = M; 𝓤 =
+      𝓤; H = H; 𝓜 = 𝓜; 𝓖 = 𝓖; 𝓡 = 𝓡 } Code.env Symbol.name Symbol.routine Code.calls-hnsr-circuit·open·ledger-room (Met.met 𝓤 H 𝓜 𝓖 𝓡))

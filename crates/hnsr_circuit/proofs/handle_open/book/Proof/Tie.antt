@@ -16,500 +16,145 @@ use Rattle.hnsr_circuit.proofs.open.booked_place.Symbol as Symbol'
 use Rattle.hnsr_circuit.proofs.open.booked_usage.Met as Met''
 use Rattle.hnsr_circuit.proofs.open.booked_usage.Reads as Reads'''''
 use Rattle.hnsr_circuit.proofs.open.booked_usage.Symbol as Symbol''
-use Rattle.hnsr_circuit.proofs.question.at_reservation.Met as Met'''
-use Rattle.hnsr_circuit.proofs.question.at_reservation.Reads as Reads''''''
-use Rattle.hnsr_circuit.proofs.question.at_reservation.Symbol as Symbol'''
-use Rattle.hnsr_circuit.proofs.question.unused.Met as Met''''
-use Rattle.hnsr_circuit.proofs.question.unused.Reads as Reads'''''''
-use Rattle.hnsr_circuit.proofs.question.unused.Symbol as Symbol''''
-use Rattle.hnsr_circuit.proofs.tables.ledger.find_usage.Met as Met'''''
-use Rattle.hnsr_circuit.proofs.tables.ledger.find_usage.Symbol as Symbol'''''
-use Rattle.hnsr_circuit.proofs.tables.ledger.set_usage.Met as Met''''''
-use Rattle.hnsr_circuit.proofs.tables.ledger.set_usage.Symbol as Symbol''''''
+use Rattle.hnsr_circuit.proofs.places.raised.Met as Met'''
+use Rattle.hnsr_circuit.proofs.places.raised.Reads as Reads''''''
+use Rattle.hnsr_circuit.proofs.places.raised.Symbol as Symbol'''
+use Rattle.hnsr_circuit.proofs.question.at_reservation.Met as Met''''
+use Rattle.hnsr_circuit.proofs.question.at_reservation.Reads as Reads'''''''
+use Rattle.hnsr_circuit.proofs.question.at_reservation.Symbol as Symbol''''
+use Rattle.hnsr_circuit.proofs.question.unused.Met as Met'''''
+use Rattle.hnsr_circuit.proofs.question.unused.Reads as Reads''''''''
+use Rattle.hnsr_circuit.proofs.question.unused.Symbol as Symbol'''''
+use Rattle.hnsr_circuit.proofs.tables.ledger.find_usage.Met as Met''''''
+use Rattle.hnsr_circuit.proofs.tables.ledger.find_usage.Symbol as Symbol''''''
+use Rattle.hnsr_circuit.proofs.tables.ledger.set_usage.Met as Met'''''''
+use Rattle.hnsr_circuit.proofs.tables.ledger.set_usage.Symbol as Symbol'''''''
 use borrow.Fn.Run
 use borrow.Fn.Written
 use contract.Running
 
 abbrev pub Start : Type 0
-Start = Lts.Start (
-  Reads''''''.Asked,
-  Reads''''''.Learnt,
-  Reads'.Asked,
-  Reads'.Learnt,
-  Reads'''''''.Asked,
-  Reads'''''''.Learnt,
-  Reads''.Asked,
-  Reads''.Learnt,
-  Reads'''''.Asked,
-  Reads'''''.Learnt,
-  Reads''''.Asked,
-  Reads''''.Learnt,
-  Reads'''.Asked,
-  Reads'''.Learnt,
-) Reads.Pre Reads.Post
-
+Start = Lts.Start (Reads'''''''.Asked, Reads'''''''.Learnt, Reads'.Asked, Reads'.Learnt, Reads''''''''.Asked, Reads''''''''.Learnt, Reads''.Asked,
+    Reads''.Learnt, Reads'''''.Asked, Reads'''''.Learnt, Reads''''.Asked, Reads''''.Learnt, Reads'''.Asked, Reads'''.Learnt, Reads''''''.Asked,
+    Reads''''''.Learnt,) Reads.Pre Reads.Post
 abbrev pub After-id : Type 0
-After-id = Lts.After-id (
-  Reads''''''.Asked,
-  Reads''''''.Learnt,
-  Reads'.Asked,
-  Reads'.Learnt,
-  Reads'''''''.Asked,
-  Reads'''''''.Learnt,
-  Reads''.Asked,
-  Reads''.Learnt,
-  Reads'''''.Asked,
-  Reads'''''.Learnt,
-  Reads''''.Asked,
-  Reads''''.Learnt,
-  Reads'''.Asked,
-  Reads'''.Learnt,
-) Reads.Pre Reads.Post
-
+After-id = Lts.After-id (Reads'''''''.Asked, Reads'''''''.Learnt, Reads'.Asked, Reads'.Learnt, Reads''''''''.Asked, Reads''''''''.Learnt,
+    Reads''.Asked, Reads''.Learnt, Reads'''''.Asked, Reads'''''.Learnt, Reads''''.Asked, Reads''''.Learnt, Reads'''.Asked, Reads'''.Learnt,
+    Reads''''''.Asked, Reads''''''.Learnt,) Reads.Pre Reads.Post
 abbrev pub After-at-reservation : Type 0
-After-at-reservation = Lts.After-at-reservation (
-  Reads''''''.Asked,
-  Reads''''''.Learnt,
-  Reads'.Asked,
-  Reads'.Learnt,
-  Reads'''''''.Asked,
-  Reads'''''''.Learnt,
-  Reads''.Asked,
-  Reads''.Learnt,
-  Reads'''''.Asked,
-  Reads'''''.Learnt,
-  Reads''''.Asked,
-  Reads''''.Learnt,
-  Reads'''.Asked,
-  Reads'''.Learnt,
-) Reads.Pre Reads.Post
-
+After-at-reservation = Lts.After-at-reservation (Reads'''''''.Asked, Reads'''''''.Learnt, Reads'.Asked, Reads'.Learnt, Reads''''''''.Asked,
+    Reads''''''''.Learnt, Reads''.Asked, Reads''.Learnt, Reads'''''.Asked, Reads'''''.Learnt, Reads''''.Asked, Reads''''.Learnt, Reads'''.Asked,
+    Reads'''.Learnt, Reads''''''.Asked, Reads''''''.Learnt,) Reads.Pre Reads.Post
 abbrev pub After-look-up-usage-arg : Type 0
-After-look-up-usage-arg = Lts.After-look-up-usage-arg (
-  Reads''''''.Asked,
-  Reads''''''.Learnt,
-  Reads'.Asked,
-  Reads'.Learnt,
-  Reads'''''''.Asked,
-  Reads'''''''.Learnt,
-  Reads''.Asked,
-  Reads''.Learnt,
-  Reads'''''.Asked,
-  Reads'''''.Learnt,
-  Reads''''.Asked,
-  Reads''''.Learnt,
-  Reads'''.Asked,
-  Reads'''.Learnt,
-) Reads.Pre Reads.Post
-
+After-look-up-usage-arg = Lts.After-look-up-usage-arg (Reads'''''''.Asked, Reads'''''''.Learnt, Reads'.Asked, Reads'.Learnt, Reads''''''''.Asked,
+    Reads''''''''.Learnt, Reads''.Asked, Reads''.Learnt, Reads'''''.Asked, Reads'''''.Learnt, Reads''''.Asked, Reads''''.Learnt, Reads'''.Asked,
+    Reads'''.Learnt, Reads''''''.Asked, Reads''''''.Learnt,) Reads.Pre Reads.Post
 abbrev pub After-look-up-usage : Type 0
-After-look-up-usage = Lts.After-look-up-usage (
-  Reads''''''.Asked,
-  Reads''''''.Learnt,
-  Reads'.Asked,
-  Reads'.Learnt,
-  Reads'''''''.Asked,
-  Reads'''''''.Learnt,
-  Reads''.Asked,
-  Reads''.Learnt,
-  Reads'''''.Asked,
-  Reads'''''.Learnt,
-  Reads''''.Asked,
-  Reads''''.Learnt,
-  Reads'''.Asked,
-  Reads'''.Learnt,
-) Reads.Pre Reads.Post
-
+After-look-up-usage = Lts.After-look-up-usage (Reads'''''''.Asked, Reads'''''''.Learnt, Reads'.Asked, Reads'.Learnt, Reads''''''''.Asked,
+    Reads''''''''.Learnt, Reads''.Asked, Reads''.Learnt, Reads'''''.Asked, Reads'''''.Learnt, Reads''''.Asked, Reads''''.Learnt, Reads'''.Asked,
+    Reads'''.Learnt, Reads''''''.Asked, Reads''''''.Learnt,) Reads.Pre Reads.Post
 abbrev pub After-unused : Type 0
-After-unused = Lts.After-unused (
-  Reads''''''.Asked,
-  Reads''''''.Learnt,
-  Reads'.Asked,
-  Reads'.Learnt,
-  Reads'''''''.Asked,
-  Reads'''''''.Learnt,
-  Reads''.Asked,
-  Reads''.Learnt,
-  Reads'''''.Asked,
-  Reads'''''.Learnt,
-  Reads''''.Asked,
-  Reads''''.Learnt,
-  Reads'''.Asked,
-  Reads'''.Learnt,
-) Reads.Pre
-    Reads.Post
-
+After-unused = Lts.After-unused (Reads'''''''.Asked, Reads'''''''.Learnt, Reads'.Asked, Reads'.Learnt, Reads''''''''.Asked, Reads''''''''.Learnt,
+    Reads''.Asked, Reads''.Learnt, Reads'''''.Asked, Reads'''''.Learnt, Reads''''.Asked, Reads''''.Learnt, Reads'''.Asked, Reads'''.Learnt,
+    Reads''''''.Asked, Reads''''''.Learnt,) Reads.Pre Reads.Post
 abbrev pub After-find-usage-arg : Type 0
-After-find-usage-arg = Lts.After-find-usage-arg (
-  Reads''''''.Asked,
-  Reads''''''.Learnt,
-  Reads'.Asked,
-  Reads'.Learnt,
-  Reads'''''''.Asked,
-  Reads'''''''.Learnt,
-  Reads''.Asked,
-  Reads''.Learnt,
-  Reads'''''.Asked,
-  Reads'''''.Learnt,
-  Reads''''.Asked,
-  Reads''''.Learnt,
-  Reads'''.Asked,
-  Reads'''.Learnt,
-) Reads.Pre Reads.Post
-
+After-find-usage-arg = Lts.After-find-usage-arg (Reads'''''''.Asked, Reads'''''''.Learnt, Reads'.Asked, Reads'.Learnt, Reads''''''''.Asked,
+    Reads''''''''.Learnt, Reads''.Asked, Reads''.Learnt, Reads'''''.Asked, Reads'''''.Learnt, Reads''''.Asked, Reads''''.Learnt, Reads'''.Asked,
+    Reads'''.Learnt, Reads''''''.Asked, Reads''''''.Learnt,) Reads.Pre Reads.Post
 abbrev pub After-find-usage : Type 0
-After-find-usage = Lts.After-find-usage (
-  Reads''''''.Asked,
-  Reads''''''.Learnt,
-  Reads'.Asked,
-  Reads'.Learnt,
-  Reads'''''''.Asked,
-  Reads'''''''.Learnt,
-  Reads''.Asked,
-  Reads''.Learnt,
-  Reads'''''.Asked,
-  Reads'''''.Learnt,
-  Reads''''.Asked,
-  Reads''''.Learnt,
-  Reads'''.Asked,
-  Reads'''.Learnt,
-) Reads.Pre
-    Reads.Post
-
+After-find-usage = Lts.After-find-usage (Reads'''''''.Asked, Reads'''''''.Learnt, Reads'.Asked, Reads'.Learnt, Reads''''''''.Asked,
+    Reads''''''''.Learnt, Reads''.Asked, Reads''.Learnt, Reads'''''.Asked, Reads'''''.Learnt, Reads''''.Asked, Reads''''.Learnt, Reads'''.Asked,
+    Reads'''.Learnt, Reads''''''.Asked, Reads''''''.Learnt,) Reads.Pre Reads.Post
 abbrev pub After-booked-usage : Type 0
-After-booked-usage = Lts.After-booked-usage (
-  Reads''''''.Asked,
-  Reads''''''.Learnt,
-  Reads'.Asked,
-  Reads'.Learnt,
-  Reads'''''''.Asked,
-  Reads'''''''.Learnt,
-  Reads''.Asked,
-  Reads''.Learnt,
-  Reads'''''.Asked,
-  Reads'''''.Learnt,
-  Reads''''.Asked,
-  Reads''''.Learnt,
-  Reads'''.Asked,
-  Reads'''.Learnt,
-) Reads.Pre Reads.Post
-
+After-booked-usage = Lts.After-booked-usage (Reads'''''''.Asked, Reads'''''''.Learnt, Reads'.Asked, Reads'.Learnt, Reads''''''''.Asked,
+    Reads''''''''.Learnt, Reads''.Asked, Reads''.Learnt, Reads'''''.Asked, Reads'''''.Learnt, Reads''''.Asked, Reads''''.Learnt, Reads'''.Asked,
+    Reads'''.Learnt, Reads''''''.Asked, Reads''''''.Learnt,) Reads.Pre Reads.Post
 abbrev pub After-booked-place : Type 0
-After-booked-place = Lts.After-booked-place (
-  Reads''''''.Asked,
-  Reads''''''.Learnt,
-  Reads'.Asked,
-  Reads'.Learnt,
-  Reads'''''''.Asked,
-  Reads'''''''.Learnt,
-  Reads''.Asked,
-  Reads''.Learnt,
-  Reads'''''.Asked,
-  Reads'''''.Learnt,
-  Reads''''.Asked,
-  Reads''''.Learnt,
-  Reads'''.Asked,
-  Reads'''.Learnt,
-) Reads.Pre Reads.Post
-
+After-booked-place = Lts.After-booked-place (Reads'''''''.Asked, Reads'''''''.Learnt, Reads'.Asked, Reads'.Learnt, Reads''''''''.Asked,
+    Reads''''''''.Learnt, Reads''.Asked, Reads''.Learnt, Reads'''''.Asked, Reads'''''.Learnt, Reads''''.Asked, Reads''''.Learnt, Reads'''.Asked,
+    Reads'''.Learnt, Reads''''''.Asked, Reads''''''.Learnt,) Reads.Pre Reads.Post
 abbrev pub After-set-usage-arg : Type 0
-After-set-usage-arg = Lts.After-set-usage-arg (
-  Reads''''''.Asked,
-  Reads''''''.Learnt,
-  Reads'.Asked,
-  Reads'.Learnt,
-  Reads'''''''.Asked,
-  Reads'''''''.Learnt,
-  Reads''.Asked,
-  Reads''.Learnt,
-  Reads'''''.Asked,
-  Reads'''''.Learnt,
-  Reads''''.Asked,
-  Reads''''.Learnt,
-  Reads'''.Asked,
-  Reads'''.Learnt,
-) Reads.Pre Reads.Post
-
+After-set-usage-arg = Lts.After-set-usage-arg (Reads'''''''.Asked, Reads'''''''.Learnt, Reads'.Asked, Reads'.Learnt, Reads''''''''.Asked,
+    Reads''''''''.Learnt, Reads''.Asked, Reads''.Learnt, Reads'''''.Asked, Reads'''''.Learnt, Reads''''.Asked, Reads''''.Learnt, Reads'''.Asked,
+    Reads'''.Learnt, Reads''''''.Asked, Reads''''''.Learnt,) Reads.Pre Reads.Post
 abbrev pub After-set-usage : Type 0
-After-set-usage = Lts.After-set-usage (
-  Reads''''''.Asked,
-  Reads''''''.Learnt,
-  Reads'.Asked,
-  Reads'.Learnt,
-  Reads'''''''.Asked,
-  Reads'''''''.Learnt,
-  Reads''.Asked,
-  Reads''.Learnt,
-  Reads'''''.Asked,
-  Reads'''''.Learnt,
-  Reads''''.Asked,
-  Reads''''.Learnt,
-  Reads'''.Asked,
-  Reads'''.Learnt,
-) Reads.Pre
-    Reads.Post
-
+After-set-usage = Lts.After-set-usage (Reads'''''''.Asked, Reads'''''''.Learnt, Reads'.Asked, Reads'.Learnt, Reads''''''''.Asked,
+    Reads''''''''.Learnt, Reads''.Asked, Reads''.Learnt, Reads'''''.Asked, Reads'''''.Learnt, Reads''''.Asked, Reads''''.Learnt, Reads'''.Asked,
+    Reads'''.Learnt, Reads''''''.Asked, Reads''''''.Learnt,) Reads.Pre Reads.Post
 abbrev pub After-ledger : Type 0
-After-ledger = Lts.After-ledger (
-  Reads''''''.Asked,
-  Reads''''''.Learnt,
-  Reads'.Asked,
-  Reads'.Learnt,
-  Reads'''''''.Asked,
-  Reads'''''''.Learnt,
-  Reads''.Asked,
-  Reads''.Learnt,
-  Reads'''''.Asked,
-  Reads'''''.Learnt,
-  Reads''''.Asked,
-  Reads''''.Learnt,
-  Reads'''.Asked,
-  Reads'''.Learnt,
-) Reads.Pre
-    Reads.Post
-
+After-ledger = Lts.After-ledger (Reads'''''''.Asked, Reads'''''''.Learnt, Reads'.Asked, Reads'.Learnt, Reads''''''''.Asked, Reads''''''''.Learnt,
+    Reads''.Asked, Reads''.Learnt, Reads'''''.Asked, Reads'''''.Learnt, Reads''''.Asked, Reads''''.Learnt, Reads'''.Asked, Reads'''.Learnt,
+    Reads''''''.Asked, Reads''''''.Learnt,) Reads.Pre Reads.Post
+abbrev pub After-raised : Type 0
+After-raised = Lts.After-raised (Reads'''''''.Asked, Reads'''''''.Learnt, Reads'.Asked, Reads'.Learnt, Reads''''''''.Asked, Reads''''''''.Learnt,
+    Reads''.Asked, Reads''.Learnt, Reads'''''.Asked, Reads'''''.Learnt, Reads''''.Asked, Reads''''.Learnt, Reads'''.Asked, Reads'''.Learnt,
+    Reads''''''.Asked, Reads''''''.Learnt,) Reads.Pre Reads.Post
 abbrev pub Need-at-reservation-requires : Type 0
-Need-at-reservation-requires = Lts.Need-at-reservation-requires (
-  Reads''''''.Asked,
-  Reads''''''.Learnt,
-  Reads'.Asked,
-  Reads'.Learnt,
-  Reads'''''''.Asked,
-  Reads'''''''.Learnt,
-  Reads''.Asked,
-  Reads''.Learnt,
-  Reads'''''.Asked,
-  Reads'''''.Learnt,
-  Reads''''.Asked,
-  Reads''''.Learnt,
-  Reads'''.Asked,
-  Reads'''.Learnt,
-) Reads.Pre Reads.Post
-
+Need-at-reservation-requires = Lts.Need-at-reservation-requires (Reads'''''''.Asked, Reads'''''''.Learnt, Reads'.Asked, Reads'.Learnt,
+    Reads''''''''.Asked, Reads''''''''.Learnt, Reads''.Asked, Reads''.Learnt, Reads'''''.Asked, Reads'''''.Learnt, Reads''''.Asked, Reads''''.Learnt,
+    Reads'''.Asked, Reads'''.Learnt, Reads''''''.Asked, Reads''''''.Learnt,) Reads.Pre Reads.Post
 abbrev pub Need-look-up-usage-requires : Type 0
-Need-look-up-usage-requires = Lts.Need-look-up-usage-requires (
-  Reads''''''.Asked,
-  Reads''''''.Learnt,
-  Reads'.Asked,
-  Reads'.Learnt,
-  Reads'''''''.Asked,
-  Reads'''''''.Learnt,
-  Reads''.Asked,
-  Reads''.Learnt,
-  Reads'''''.Asked,
-  Reads'''''.Learnt,
-  Reads''''.Asked,
-  Reads''''.Learnt,
-  Reads'''.Asked,
-  Reads'''.Learnt,
-) Reads.Pre Reads.Post
-
+Need-look-up-usage-requires = Lts.Need-look-up-usage-requires (Reads'''''''.Asked, Reads'''''''.Learnt, Reads'.Asked, Reads'.Learnt,
+    Reads''''''''.Asked, Reads''''''''.Learnt, Reads''.Asked, Reads''.Learnt, Reads'''''.Asked, Reads'''''.Learnt, Reads''''.Asked, Reads''''.Learnt,
+    Reads'''.Asked, Reads'''.Learnt, Reads''''''.Asked, Reads''''''.Learnt,) Reads.Pre Reads.Post
 abbrev pub Need-unused-requires : Type 0
-Need-unused-requires = Lts.Need-unused-requires (
-  Reads''''''.Asked,
-  Reads''''''.Learnt,
-  Reads'.Asked,
-  Reads'.Learnt,
-  Reads'''''''.Asked,
-  Reads'''''''.Learnt,
-  Reads''.Asked,
-  Reads''.Learnt,
-  Reads'''''.Asked,
-  Reads'''''.Learnt,
-  Reads''''.Asked,
-  Reads''''.Learnt,
-  Reads'''.Asked,
-  Reads'''.Learnt,
-) Reads.Pre Reads.Post
-
+Need-unused-requires = Lts.Need-unused-requires (Reads'''''''.Asked, Reads'''''''.Learnt, Reads'.Asked, Reads'.Learnt, Reads''''''''.Asked,
+    Reads''''''''.Learnt, Reads''.Asked, Reads''.Learnt, Reads'''''.Asked, Reads'''''.Learnt, Reads''''.Asked, Reads''''.Learnt, Reads'''.Asked,
+    Reads'''.Learnt, Reads''''''.Asked, Reads''''''.Learnt,) Reads.Pre Reads.Post
 abbrev pub Need-find-usage-requires : Type 0
-Need-find-usage-requires = Lts.Need-find-usage-requires (
-  Reads''''''.Asked,
-  Reads''''''.Learnt,
-  Reads'.Asked,
-  Reads'.Learnt,
-  Reads'''''''.Asked,
-  Reads'''''''.Learnt,
-  Reads''.Asked,
-  Reads''.Learnt,
-  Reads'''''.Asked,
-  Reads'''''.Learnt,
-  Reads''''.Asked,
-  Reads''''.Learnt,
-  Reads'''.Asked,
-  Reads'''.Learnt,
-) Reads.Pre Reads.Post
-
+Need-find-usage-requires = Lts.Need-find-usage-requires (Reads'''''''.Asked, Reads'''''''.Learnt, Reads'.Asked, Reads'.Learnt, Reads''''''''.Asked,
+    Reads''''''''.Learnt, Reads''.Asked, Reads''.Learnt, Reads'''''.Asked, Reads'''''.Learnt, Reads''''.Asked, Reads''''.Learnt, Reads'''.Asked,
+    Reads'''.Learnt, Reads''''''.Asked, Reads''''''.Learnt,) Reads.Pre Reads.Post
 abbrev pub Need-booked-usage-requires : Type 0
-Need-booked-usage-requires = Lts.Need-booked-usage-requires (
-  Reads''''''.Asked,
-  Reads''''''.Learnt,
-  Reads'.Asked,
-  Reads'.Learnt,
-  Reads'''''''.Asked,
-  Reads'''''''.Learnt,
-  Reads''.Asked,
-  Reads''.Learnt,
-  Reads'''''.Asked,
-  Reads'''''.Learnt,
-  Reads''''.Asked,
-  Reads''''.Learnt,
-  Reads'''.Asked,
-  Reads'''.Learnt,
-) Reads.Pre Reads.Post
-
+Need-booked-usage-requires = Lts.Need-booked-usage-requires (Reads'''''''.Asked, Reads'''''''.Learnt, Reads'.Asked, Reads'.Learnt,
+    Reads''''''''.Asked, Reads''''''''.Learnt, Reads''.Asked, Reads''.Learnt, Reads'''''.Asked, Reads'''''.Learnt, Reads''''.Asked, Reads''''.Learnt,
+    Reads'''.Asked, Reads'''.Learnt, Reads''''''.Asked, Reads''''''.Learnt,) Reads.Pre Reads.Post
 abbrev pub Need-booked-place-requires : Type 0
-Need-booked-place-requires = Lts.Need-booked-place-requires (
-  Reads''''''.Asked,
-  Reads''''''.Learnt,
-  Reads'.Asked,
-  Reads'.Learnt,
-  Reads'''''''.Asked,
-  Reads'''''''.Learnt,
-  Reads''.Asked,
-  Reads''.Learnt,
-  Reads'''''.Asked,
-  Reads'''''.Learnt,
-  Reads''''.Asked,
-  Reads''''.Learnt,
-  Reads'''.Asked,
-  Reads'''.Learnt,
-) Reads.Pre Reads.Post
-
+Need-booked-place-requires = Lts.Need-booked-place-requires (Reads'''''''.Asked, Reads'''''''.Learnt, Reads'.Asked, Reads'.Learnt,
+    Reads''''''''.Asked, Reads''''''''.Learnt, Reads''.Asked, Reads''.Learnt, Reads'''''.Asked, Reads'''''.Learnt, Reads''''.Asked, Reads''''.Learnt,
+    Reads'''.Asked, Reads'''.Learnt, Reads''''''.Asked, Reads''''''.Learnt,) Reads.Pre Reads.Post
 abbrev pub Need-set-usage-requires : Type 0
-Need-set-usage-requires = Lts.Need-set-usage-requires (
-  Reads''''''.Asked,
-  Reads''''''.Learnt,
-  Reads'.Asked,
-  Reads'.Learnt,
-  Reads'''''''.Asked,
-  Reads'''''''.Learnt,
-  Reads''.Asked,
-  Reads''.Learnt,
-  Reads'''''.Asked,
-  Reads'''''.Learnt,
-  Reads''''.Asked,
-  Reads''''.Learnt,
-  Reads'''.Asked,
-  Reads'''.Learnt,
-) Reads.Pre Reads.Post
-
+Need-set-usage-requires = Lts.Need-set-usage-requires (Reads'''''''.Asked, Reads'''''''.Learnt, Reads'.Asked, Reads'.Learnt, Reads''''''''.Asked,
+    Reads''''''''.Learnt, Reads''.Asked, Reads''.Learnt, Reads'''''.Asked, Reads'''''.Learnt, Reads''''.Asked, Reads''''.Learnt, Reads'''.Asked,
+    Reads'''.Learnt, Reads''''''.Asked, Reads''''''.Learnt,) Reads.Pre Reads.Post
+abbrev pub Need-raised-requires : Type 0
+Need-raised-requires = Lts.Need-raised-requires (Reads'''''''.Asked, Reads'''''''.Learnt, Reads'.Asked, Reads'.Learnt, Reads''''''''.Asked,
+    Reads''''''''.Learnt, Reads''.Asked, Reads''.Learnt, Reads'''''.Asked, Reads'''''.Learnt, Reads''''.Asked, Reads''''.Learnt, Reads'''.Asked,
+    Reads'''.Learnt, Reads''''''.Asked, Reads''''''.Learnt,) Reads.Pre Reads.Post
 abbrev pub Need-same-length : Type 0
-Need-same-length = Lts.Need-same-length (
-  Reads''''''.Asked,
-  Reads''''''.Learnt,
-  Reads'.Asked,
-  Reads'.Learnt,
-  Reads'''''''.Asked,
-  Reads'''''''.Learnt,
-  Reads''.Asked,
-  Reads''.Learnt,
-  Reads'''''.Asked,
-  Reads'''''.Learnt,
-  Reads''''.Asked,
-  Reads''''.Learnt,
-  Reads'''.Asked,
-  Reads'''.Learnt,
-) Reads.Pre
-    Reads.Post
-
+Need-same-length = Lts.Need-same-length (Reads'''''''.Asked, Reads'''''''.Learnt, Reads'.Asked, Reads'.Learnt, Reads''''''''.Asked,
+    Reads''''''''.Learnt, Reads''.Asked, Reads''.Learnt, Reads'''''.Asked, Reads'''''.Learnt, Reads''''.Asked, Reads''''.Learnt, Reads'''.Asked,
+    Reads'''.Learnt, Reads''''''.Asked, Reads''''''.Learnt,) Reads.Pre Reads.Post
 abbrev pub Need-returns : Type 0
-Need-returns = Lts.Need-returns (
-  Reads''''''.Asked,
-  Reads''''''.Learnt,
-  Reads'.Asked,
-  Reads'.Learnt,
-  Reads'''''''.Asked,
-  Reads'''''''.Learnt,
-  Reads''.Asked,
-  Reads''.Learnt,
-  Reads'''''.Asked,
-  Reads'''''.Learnt,
-  Reads''''.Asked,
-  Reads''''.Learnt,
-  Reads'''.Asked,
-  Reads'''.Learnt,
-) Reads.Pre
-    Reads.Post
-
-module _ {M : Type 1} where
+Need-returns = Lts.Need-returns (Reads'''''''.Asked, Reads'''''''.Learnt, Reads'.Asked, Reads'.Learnt, Reads''''''''.Asked, Reads''''''''.Learnt,
+    Reads''.Asked, Reads''.Learnt, Reads'''''.Asked, Reads'''''.Learnt, Reads''''.Asked, Reads''''.Learnt, Reads'''.Asked, Reads'''.Learnt,
+    Reads''''''.Asked, Reads''''''.Learnt,) Reads.Pre Reads.Post
+module _ { M : Type 1 } where
   pub spec : (answer : Need-at-reservation-requires) → (answer : Need-look-up-usage-requires) → (answer : Need-unused-requires) → (answer :
       Need-find-usage-requires) → (answer : Need-booked-usage-requires) → (answer : Need-booked-place-requires) → (answer : Need-set-usage-requires) →
-      (answer : Need-same-length) → (answer : Need-returns) → Lts.Closed (
-        Reads''''''.Asked,
-        Reads''''''.Learnt,
-        Reads'.Asked,
-        Reads'.Learnt,
-        Reads'''''''.Asked,
-        Reads'''''''.Learnt,
-        Reads''.Asked,
-        Reads''.Learnt,
-        Reads'''''.Asked,
-        Reads'''''.Learnt,
-        Reads''''.Asked,
-        Reads''''.Learnt,
-        Reads'''.Asked,
-        Reads'''.Learnt,
-      ) Reads.Pre Reads.Post M
-  spec = λ answer answer' answer'' answer'3 answer'4 answer'5 answer'6 answer'7 answer'8. Lts.spec (
-    Reads''''''.Asked,
-    Reads''''''.Learnt,
-    Reads'.Asked,
-    Reads'.Learnt,
-    Reads'''''''.Asked,
-    Reads'''''''.Learnt,
-    Reads''.Asked,
-    Reads''.Learnt,
-    Reads'''''.Asked,
-    Reads'''''.Learnt,
-    Reads''''.Asked,
-    Reads''''.Learnt,
-    Reads'''.Asked,
-    Reads'''.Learnt,
-  ) Reads.Pre Reads.Post answer answer' answer'' answer'3 answer'4 answer'5
-      answer'6 answer'7 answer'8
-
-  pub close : Lts.Closed (
-    Reads''''''.Asked,
-    Reads''''''.Learnt,
-    Reads'.Asked,
-    Reads'.Learnt,
-    Reads'''''''.Asked,
-    Reads'''''''.Learnt,
-    Reads''.Asked,
-    Reads''.Learnt,
-    Reads'''''.Asked,
-    Reads'''''.Learnt,
-    Reads''''.Asked,
-    Reads''''.Learnt,
-    Reads'''.Asked,
-    Reads'''.Learnt,
-  ) Reads.Pre Reads.Post M
-      → Statement.statement M
+      (answer : Need-raised-requires) → (answer : Need-same-length) → (answer : Need-returns) → Lts.Closed (Reads'''''''.Asked, Reads'''''''.Learnt,
+      Reads'.Asked, Reads'.Learnt, Reads''''''''.Asked, Reads''''''''.Learnt, Reads''.Asked, Reads''.Learnt, Reads'''''.Asked, Reads'''''.Learnt,
+      Reads''''.Asked, Reads''''.Learnt, Reads'''.Asked, Reads'''.Learnt, Reads''''''.Asked, Reads''''''.Learnt,) Reads.Pre Reads.Post M
+  spec = λ answer answer' answer'' answer'3 answer'4 answer'5 answer'6 answer'7 answer'8 answer'9. Lts.spec (Reads'''''''.Asked, Reads'''''''.Learnt,
+      Reads'.Asked, Reads'.Learnt, Reads''''''''.Asked, Reads''''''''.Learnt, Reads''.Asked, Reads''.Learnt, Reads'''''.Asked, Reads'''''.Learnt,
+      Reads''''.Asked, Reads''''.Learnt, Reads'''.Asked, Reads'''.Learnt, Reads''''''.Asked, Reads''''''.Learnt,) Reads.Pre Reads.Post answer answer'
+      answer'' answer'3 answer'4 answer'5 answer'6 answer'7 answer'8 answer'9
+  pub close : Lts.Closed (Reads'''''''.Asked, Reads'''''''.Learnt, Reads'.Asked, Reads'.Learnt, Reads''''''''.Asked, Reads''''''''.Learnt,
+      Reads''.Asked, Reads''.Learnt, Reads'''''.Asked, Reads'''''.Learnt, Reads''''.Asked, Reads''''.Learnt, Reads'''.Asked, Reads'''.Learnt,
+      Reads''''''.Asked, Reads''''''.Learnt,) Reads.Pre Reads.Post M → Statement.statement M
   unfolding Code.routine Running.tablesOf
   close = λ closed 𝓤 H 𝓜 𝓖 𝓡. Written.close 1 Kinds.ps Kinds.r Reads.Ghost Reads.requires Reads.ensures Reads.pre-read Reads.Pinned Reads.Owned
       Reads.post-read record { M = M; 𝓤 = 𝓤; H = H; 𝓜 = 𝓜; 𝓖 = 𝓖; 𝓡 = 𝓡 } Code.env Key.name Code.function (Code.unfolded 𝓤 H 𝓜 𝓡) (λ κs a g. tt) (λ
       κs. Reads.owns κs record { M = M; 𝓤 = 𝓤; H = H; 𝓜 = 𝓜; 𝓖 = 𝓖; 𝓡 = 𝓡 }) (Reads.passes record { M = M; 𝓤 = 𝓤; H = H; 𝓜 = 𝓜; 𝓖 = 𝓖; 𝓡 = 𝓡 }) λ g.
-      closed 𝓤 H (𝓖 .A) (Running.givenOf 𝓤 H 𝓜 𝓖) (Run.Over 𝓤 H 𝓜 𝓖 𝓡 Code.env) (Reads''''''.known record { M = M; 𝓤 = 𝓤; H = H; 𝓜 = 𝓜; 𝓖 = 𝓖; 𝓡 = 𝓡 }
-      Code.env Symbol'''.name Symbol'''.routine Code.calls-hnsr-circuit·question·at-reservation (Met'''.met 𝓤 H 𝓜 𝓖 𝓡)) (Reads'.known record {
-        M = M;
-        𝓤 = 𝓤;
-        H = H;
-        𝓜 = 𝓜;
-        𝓖 = 𝓖;
-        𝓡 = 𝓡;
-      } Code.env Symbol.name Symbol.routine Code.calls-hnsr-circuit·lookup·look-up-usage (Met.met 𝓤 H 𝓜 𝓖 𝓡))
-      (Reads'''''''.known record { M = M; 𝓤 = 𝓤; H = H; 𝓜 = 𝓜; 𝓖 = 𝓖; 𝓡 = 𝓡 } Code.env Symbol''''.name Symbol''''.routine
-      Code.calls-hnsr-circuit·question·unused (Met''''.met 𝓤 H 𝓜 𝓖 𝓡)) (Reads''.known record { M = M; 𝓤 = 𝓤; H = H; 𝓜 = 𝓜; 𝓖 = 𝓖; 𝓡 = 𝓡 } Code.env
-      Symbol'''''.name Symbol'''''.routine Code.calls-hnsr-circuit·tables·ledger·find-usage (Met'''''.met 𝓤 H 𝓜 𝓖 𝓡)) (Reads'''''.known record {
-        M =
-            M;
-        𝓤 = 𝓤;
-        H = H;
-        𝓜 = 𝓜;
-        𝓖 = 𝓖;
-        𝓡 = 𝓡;
-      } Code.env Symbol''.name Symbol''.routine Code.calls-hnsr-circuit·open·booked-usage (Met''.met 𝓤 H 𝓜 𝓖 𝓡))
-      (Reads''''.known record { M = M; 𝓤 = 𝓤; H = H; 𝓜 = 𝓜; 𝓖 = 𝓖; 𝓡 = 𝓡 } Code.env Symbol'.name Symbol'.routine
+      closed 𝓤 H (𝓖 .A) (Running.givenOf 𝓤 H 𝓜 𝓖) (Run.Over 𝓤 H 𝓜 𝓖 𝓡 Code.env) (Reads'''''''.known record { M = M; 𝓤 = 𝓤; H = H; 𝓜 = 𝓜; 𝓖 = 𝓖; 𝓡 = 𝓡
+      } Code.env Symbol''''.name Symbol''''.routine Code.calls-hnsr-circuit·question·at-reservation (Met''''.met 𝓤 H 𝓜 𝓖 𝓡)) (Reads'.known record { M
+      = M; 𝓤 = 𝓤; H = H; 𝓜 = 𝓜; 𝓖 = 𝓖; 𝓡 = 𝓡 } Code.env Symbol.name Symbol.routine Code.calls-hnsr-circuit·lookup·look-up-usage (Met.met 𝓤 H 𝓜 𝓖 𝓡))
+      (Reads''''''''.known record { M = M; 𝓤 = 𝓤; H = H; 𝓜 = 𝓜; 𝓖 = 𝓖; 𝓡 = 𝓡 } Code.env Symbol'''''.name Symbol'''''.routine
+      Code.calls-hnsr-circuit·question·unused (Met'''''.met 𝓤 H 𝓜 𝓖 𝓡)) (Reads''.known record { M = M; 𝓤 = 𝓤; H = H; 𝓜 = 𝓜; 𝓖 = 𝓖; 𝓡 = 𝓡 } Code.env
+      Symbol''''''.name Symbol''''''.routine Code.calls-hnsr-circuit·tables·ledger·find-usage (Met''''''.met 𝓤 H 𝓜 𝓖 𝓡)) (Reads'''''.known record { M
+      = M; 𝓤 = 𝓤; H = H; 𝓜 = 𝓜; 𝓖 = 𝓖; 𝓡 = 𝓡 } Code.env Symbol''.name Symbol''.routine Code.calls-hnsr-circuit·open·booked-usage (Met''.met 𝓤 H 𝓜 𝓖
+      𝓡)) (Reads''''.known record { M = M; 𝓤 = 𝓤; H = H; 𝓜 = 𝓜; 𝓖 = 𝓖; 𝓡 = 𝓡 } Code.env Symbol'.name Symbol'.routine
       Code.calls-hnsr-circuit·open·booked-place (Met'.met 𝓤 H 𝓜 𝓖 𝓡)) (Reads'''.known record { M = M; 𝓤 = 𝓤; H = H; 𝓜 = 𝓜; 𝓖 = 𝓖; 𝓡 = 𝓡 } Code.env
-      Symbol''''''.name Symbol''''''.routine Code.calls-hnsr-circuit·tables·ledger·set-usage (Met''''''.met 𝓤 H 𝓜 𝓖 𝓡))
+      Symbol'''''''.name Symbol'''''''.routine Code.calls-hnsr-circuit·tables·ledger·set-usage (Met'''''''.met 𝓤 H 𝓜 𝓖 𝓡)) (Reads''''''.known record {
+      M = M; 𝓤 = 𝓤; H = H; 𝓜 = 𝓜; 𝓖 = 𝓖; 𝓡 = 𝓡 } Code.env Symbol'''.name Symbol'''.routine Code.calls-hnsr-circuit·places·raised (Met'''.met 𝓤 H 𝓜 𝓖
+      𝓡))

@@ -33,1300 +33,291 @@ use Rattle.hnsr_circuit.proofs.open.open_plan.Symbol as Symbol'''''''
 use Rattle.hnsr_circuit.proofs.open.placed_rows.Met as Met''''''''
 use Rattle.hnsr_circuit.proofs.open.placed_rows.Reads as Reads''''''''''
 use Rattle.hnsr_circuit.proofs.open.placed_rows.Symbol as Symbol''''''''
-use Rattle.hnsr_circuit.proofs.queue.asking.Met as Met'''''''''
-use Rattle.hnsr_circuit.proofs.queue.asking.Reads as Reads'''''''''''
-use Rattle.hnsr_circuit.proofs.queue.asking.Symbol as Symbol'''''''''
-use Rattle.hnsr_circuit.proofs.tables.inflight.scan_actions.Met as Met''''''''''
-use Rattle.hnsr_circuit.proofs.tables.inflight.scan_actions.Symbol as Symbol''''''''''
+use Rattle.hnsr_circuit.proofs.places.with_ledger.Met as Met'''''''''
+use Rattle.hnsr_circuit.proofs.places.with_ledger.Reads as Reads'''''''''''
+use Rattle.hnsr_circuit.proofs.places.with_ledger.Symbol as Symbol'''''''''
+use Rattle.hnsr_circuit.proofs.queue.asking.Met as Met''''''''''
+use Rattle.hnsr_circuit.proofs.queue.asking.Reads as Reads''''''''''''
+use Rattle.hnsr_circuit.proofs.queue.asking.Symbol as Symbol''''''''''
+use Rattle.hnsr_circuit.proofs.tables.inflight.scan_actions.Met as Met'''''''''''
+use Rattle.hnsr_circuit.proofs.tables.inflight.scan_actions.Symbol as Symbol'''''''''''
 use borrow.Fn.Run
 use borrow.Fn.Written
 use contract.Running
 
 abbrev pub Start : Type 0
-Start = Lts.Start (
-  Reads''.Asked,
-  Reads''.Learnt,
-  Reads'''''''''.Asked,
-  Reads'''''''''.Learnt,
-  Reads''''''''.Asked,
-  Reads''''''''.Learnt,
-  Reads'''''''''''.Asked,
-  Reads'''''''''''.Learnt,
-  Reads'''''.Asked,
-  Reads'''''.Learnt,
-  Reads.Asked,
-  Reads.Learnt,
-  Reads''''''''''.Asked,
-  Reads''''''''''.Learnt,
-  Reads''''''.Asked,
-  Reads''''''.Learnt,
-  Reads'''''''.Asked,
-  Reads'''''''.Learnt,
-  Reads'.Asked,
-  Reads'.Learnt,
-  Reads'''.Asked,
-  Reads'''.Learnt,
-) Reads''''.Pre Reads''''.Post
-
+Start = Lts.Start (Reads''.Asked, Reads''.Learnt, Reads'''''''''.Asked, Reads'''''''''.Learnt, Reads''''''''.Asked, Reads''''''''.Learnt,
+    Reads''''''''''''.Asked, Reads''''''''''''.Learnt, Reads'''''.Asked, Reads'''''.Learnt, Reads.Asked, Reads.Learnt, Reads''''''''''.Asked,
+    Reads''''''''''.Learnt, Reads''''''.Asked, Reads''''''.Learnt, Reads'''''''.Asked, Reads'''''''.Learnt, Reads'.Asked, Reads'.Learnt,
+    Reads'''''''''''.Asked, Reads'''''''''''.Learnt, Reads'''.Asked, Reads'''.Learnt,) Reads''''.Pre Reads''''.Post
 abbrev pub After-slice-known : Type 0
-After-slice-known = Lts.After-slice-known (
-  Reads''.Asked,
-  Reads''.Learnt,
-  Reads'''''''''.Asked,
-  Reads'''''''''.Learnt,
-  Reads''''''''.Asked,
-  Reads''''''''.Learnt,
-  Reads'''''''''''.Asked,
-  Reads'''''''''''.Learnt,
-  Reads'''''.Asked,
-  Reads'''''.Learnt,
-  Reads.Asked,
-  Reads.Learnt,
-  Reads''''''''''.Asked,
-  Reads''''''''''.Learnt,
-  Reads''''''.Asked,
-  Reads''''''.Learnt,
-  Reads'''''''.Asked,
-  Reads'''''''.Learnt,
-  Reads'.Asked,
-  Reads'.Learnt,
-  Reads'''.Asked,
-  Reads'''.Learnt,
-) Reads''''.Pre Reads''''.Post
-
+After-slice-known = Lts.After-slice-known (Reads''.Asked, Reads''.Learnt, Reads'''''''''.Asked, Reads'''''''''.Learnt, Reads''''''''.Asked,
+    Reads''''''''.Learnt, Reads''''''''''''.Asked, Reads''''''''''''.Learnt, Reads'''''.Asked, Reads'''''.Learnt, Reads.Asked, Reads.Learnt,
+    Reads''''''''''.Asked, Reads''''''''''.Learnt, Reads''''''.Asked, Reads''''''.Learnt, Reads'''''''.Asked, Reads'''''''.Learnt, Reads'.Asked,
+    Reads'.Learnt, Reads'''''''''''.Asked, Reads'''''''''''.Learnt, Reads'''.Asked, Reads'''.Learnt,) Reads''''.Pre Reads''''.Post
 abbrev pub After-shared-slice-known : Type 0
-After-shared-slice-known = Lts.After-shared-slice-known (
-  Reads''.Asked,
-  Reads''.Learnt,
-  Reads'''''''''.Asked,
-  Reads'''''''''.Learnt,
-  Reads''''''''.Asked,
-  Reads''''''''.Learnt,
-  Reads'''''''''''.Asked,
-  Reads'''''''''''.Learnt,
-  Reads'''''.Asked,
-  Reads'''''.Learnt,
-  Reads.Asked,
-  Reads.Learnt,
-  Reads''''''''''.Asked,
-  Reads''''''''''.Learnt,
-  Reads''''''.Asked,
-  Reads''''''.Learnt,
-  Reads'''''''.Asked,
-  Reads'''''''.Learnt,
-  Reads'.Asked,
-  Reads'.Learnt,
-  Reads'''.Asked,
-  Reads'''.Learnt,
-) Reads''''.Pre Reads''''.Post
-
+After-shared-slice-known = Lts.After-shared-slice-known (Reads''.Asked, Reads''.Learnt, Reads'''''''''.Asked, Reads'''''''''.Learnt,
+    Reads''''''''.Asked, Reads''''''''.Learnt, Reads''''''''''''.Asked, Reads''''''''''''.Learnt, Reads'''''.Asked, Reads'''''.Learnt, Reads.Asked,
+    Reads.Learnt, Reads''''''''''.Asked, Reads''''''''''.Learnt, Reads''''''.Asked, Reads''''''.Learnt, Reads'''''''.Asked, Reads'''''''.Learnt,
+    Reads'.Asked, Reads'.Learnt, Reads'''''''''''.Asked, Reads'''''''''''.Learnt, Reads'''.Asked, Reads'''.Learnt,) Reads''''.Pre Reads''''.Post
 abbrev pub After-config : Type 0
-After-config = Lts.After-config (
-  Reads''.Asked,
-  Reads''.Learnt,
-  Reads'''''''''.Asked,
-  Reads'''''''''.Learnt,
-  Reads''''''''.Asked,
-  Reads''''''''.Learnt,
-  Reads'''''''''''.Asked,
-  Reads'''''''''''.Learnt,
-  Reads'''''.Asked,
-  Reads'''''.Learnt,
-  Reads.Asked,
-  Reads.Learnt,
-  Reads''''''''''.Asked,
-  Reads''''''''''.Learnt,
-  Reads''''''.Asked,
-  Reads''''''.Learnt,
-  Reads'''''''.Asked,
-  Reads'''''''.Learnt,
-  Reads'.Asked,
-  Reads'.Learnt,
-  Reads'''.Asked,
-  Reads'''.Learnt,
-) Reads''''.Pre Reads''''.Post
-
+After-config = Lts.After-config (Reads''.Asked, Reads''.Learnt, Reads'''''''''.Asked, Reads'''''''''.Learnt, Reads''''''''.Asked,
+    Reads''''''''.Learnt, Reads''''''''''''.Asked, Reads''''''''''''.Learnt, Reads'''''.Asked, Reads'''''.Learnt, Reads.Asked, Reads.Learnt,
+    Reads''''''''''.Asked, Reads''''''''''.Learnt, Reads''''''.Asked, Reads''''''.Learnt, Reads'''''''.Asked, Reads'''''''.Learnt, Reads'.Asked,
+    Reads'.Learnt, Reads'''''''''''.Asked, Reads'''''''''''.Learnt, Reads'''.Asked, Reads'''.Learnt,) Reads''''.Pre Reads''''.Post
 abbrev pub After-draw-arg : Type 0
-After-draw-arg = Lts.After-draw-arg (
-  Reads''.Asked,
-  Reads''.Learnt,
-  Reads'''''''''.Asked,
-  Reads'''''''''.Learnt,
-  Reads''''''''.Asked,
-  Reads''''''''.Learnt,
-  Reads'''''''''''.Asked,
-  Reads'''''''''''.Learnt,
-  Reads'''''.Asked,
-  Reads'''''.Learnt,
-  Reads.Asked,
-  Reads.Learnt,
-  Reads''''''''''.Asked,
-  Reads''''''''''.Learnt,
-  Reads''''''.Asked,
-  Reads''''''.Learnt,
-  Reads'''''''.Asked,
-  Reads'''''''.Learnt,
-  Reads'.Asked,
-  Reads'.Learnt,
-  Reads'''.Asked,
-  Reads'''.Learnt,
-) Reads''''.Pre Reads''''.Post
-
+After-draw-arg = Lts.After-draw-arg (Reads''.Asked, Reads''.Learnt, Reads'''''''''.Asked, Reads'''''''''.Learnt, Reads''''''''.Asked,
+    Reads''''''''.Learnt, Reads''''''''''''.Asked, Reads''''''''''''.Learnt, Reads'''''.Asked, Reads'''''.Learnt, Reads.Asked, Reads.Learnt,
+    Reads''''''''''.Asked, Reads''''''''''.Learnt, Reads''''''.Asked, Reads''''''.Learnt, Reads'''''''.Asked, Reads'''''''.Learnt, Reads'.Asked,
+    Reads'.Learnt, Reads'''''''''''.Asked, Reads'''''''''''.Learnt, Reads'''.Asked, Reads'''.Learnt,) Reads''''.Pre Reads''''.Post
 abbrev pub After-draw : Type 0
-After-draw = Lts.After-draw (
-  Reads''.Asked,
-  Reads''.Learnt,
-  Reads'''''''''.Asked,
-  Reads'''''''''.Learnt,
-  Reads''''''''.Asked,
-  Reads''''''''.Learnt,
-  Reads'''''''''''.Asked,
-  Reads'''''''''''.Learnt,
-  Reads'''''.Asked,
-  Reads'''''.Learnt,
-  Reads.Asked,
-  Reads.Learnt,
-  Reads''''''''''.Asked,
-  Reads''''''''''.Learnt,
-  Reads''''''.Asked,
-  Reads''''''.Learnt,
-  Reads'''''''.Asked,
-  Reads'''''''.Learnt,
-  Reads'.Asked,
-  Reads'.Learnt,
-  Reads'''.Asked,
-  Reads'''.Learnt,
-) Reads''''.Pre Reads''''.Post
-
+After-draw = Lts.After-draw (Reads''.Asked, Reads''.Learnt, Reads'''''''''.Asked, Reads'''''''''.Learnt, Reads''''''''.Asked, Reads''''''''.Learnt,
+    Reads''''''''''''.Asked, Reads''''''''''''.Learnt, Reads'''''.Asked, Reads'''''.Learnt, Reads.Asked, Reads.Learnt, Reads''''''''''.Asked,
+    Reads''''''''''.Learnt, Reads''''''.Asked, Reads''''''.Learnt, Reads'''''''.Asked, Reads'''''''.Learnt, Reads'.Asked, Reads'.Learnt,
+    Reads'''''''''''.Asked, Reads'''''''''''.Learnt, Reads'''.Asked, Reads'''.Learnt,) Reads''''.Pre Reads''''.Post
 abbrev pub After-open-plan : Type 0
-After-open-plan = Lts.After-open-plan (
-  Reads''.Asked,
-  Reads''.Learnt,
-  Reads'''''''''.Asked,
-  Reads'''''''''.Learnt,
-  Reads''''''''.Asked,
-  Reads''''''''.Learnt,
-  Reads'''''''''''.Asked,
-  Reads'''''''''''.Learnt,
-  Reads'''''.Asked,
-  Reads'''''.Learnt,
-  Reads.Asked,
-  Reads.Learnt,
-  Reads''''''''''.Asked,
-  Reads''''''''''.Learnt,
-  Reads''''''.Asked,
-  Reads''''''.Learnt,
-  Reads'''''''.Asked,
-  Reads'''''''.Learnt,
-  Reads'.Asked,
-  Reads'.Learnt,
-  Reads'''.Asked,
-  Reads'''.Learnt,
-) Reads''''.Pre Reads''''.Post
-
+After-open-plan = Lts.After-open-plan (Reads''.Asked, Reads''.Learnt, Reads'''''''''.Asked, Reads'''''''''.Learnt, Reads''''''''.Asked,
+    Reads''''''''.Learnt, Reads''''''''''''.Asked, Reads''''''''''''.Learnt, Reads'''''.Asked, Reads'''''.Learnt, Reads.Asked, Reads.Learnt,
+    Reads''''''''''.Asked, Reads''''''''''.Learnt, Reads''''''.Asked, Reads''''''.Learnt, Reads'''''''.Asked, Reads'''''''.Learnt, Reads'.Asked,
+    Reads'.Learnt, Reads'''''''''''.Asked, Reads'''''''''''.Learnt, Reads'''.Asked, Reads'''.Learnt,) Reads''''.Pre Reads''''.Post
 abbrev pub After-ticket : Type 0
-After-ticket = Lts.After-ticket (
-  Reads''.Asked,
-  Reads''.Learnt,
-  Reads'''''''''.Asked,
-  Reads'''''''''.Learnt,
-  Reads''''''''.Asked,
-  Reads''''''''.Learnt,
-  Reads'''''''''''.Asked,
-  Reads'''''''''''.Learnt,
-  Reads'''''.Asked,
-  Reads'''''.Learnt,
-  Reads.Asked,
-  Reads.Learnt,
-  Reads''''''''''.Asked,
-  Reads''''''''''.Learnt,
-  Reads''''''.Asked,
-  Reads''''''.Learnt,
-  Reads'''''''.Asked,
-  Reads'''''''.Learnt,
-  Reads'.Asked,
-  Reads'.Learnt,
-  Reads'''.Asked,
-  Reads'''.Learnt,
-) Reads''''.Pre Reads''''.Post
-
+After-ticket = Lts.After-ticket (Reads''.Asked, Reads''.Learnt, Reads'''''''''.Asked, Reads'''''''''.Learnt, Reads''''''''.Asked,
+    Reads''''''''.Learnt, Reads''''''''''''.Asked, Reads''''''''''''.Learnt, Reads'''''.Asked, Reads'''''.Learnt, Reads.Asked, Reads.Learnt,
+    Reads''''''''''.Asked, Reads''''''''''.Learnt, Reads''''''.Asked, Reads''''''.Learnt, Reads'''''''.Asked, Reads'''''''.Learnt, Reads'.Asked,
+    Reads'.Learnt, Reads'''''''''''.Asked, Reads'''''''''''.Learnt, Reads'''.Asked, Reads'''.Learnt,) Reads''''.Pre Reads''''.Post
 abbrev pub After-incoming-out : Type 0
-After-incoming-out = Lts.After-incoming-out (
-  Reads''.Asked,
-  Reads''.Learnt,
-  Reads'''''''''.Asked,
-  Reads'''''''''.Learnt,
-  Reads''''''''.Asked,
-  Reads''''''''.Learnt,
-  Reads'''''''''''.Asked,
-  Reads'''''''''''.Learnt,
-  Reads'''''.Asked,
-  Reads'''''.Learnt,
-  Reads.Asked,
-  Reads.Learnt,
-  Reads''''''''''.Asked,
-  Reads''''''''''.Learnt,
-  Reads''''''.Asked,
-  Reads''''''.Learnt,
-  Reads'''''''.Asked,
-  Reads'''''''.Learnt,
-  Reads'.Asked,
-  Reads'.Learnt,
-  Reads'''.Asked,
-  Reads'''.Learnt,
-) Reads''''.Pre Reads''''.Post
-
+After-incoming-out = Lts.After-incoming-out (Reads''.Asked, Reads''.Learnt, Reads'''''''''.Asked, Reads'''''''''.Learnt, Reads''''''''.Asked,
+    Reads''''''''.Learnt, Reads''''''''''''.Asked, Reads''''''''''''.Learnt, Reads'''''.Asked, Reads'''''.Learnt, Reads.Asked, Reads.Learnt,
+    Reads''''''''''.Asked, Reads''''''''''.Learnt, Reads''''''.Asked, Reads''''''.Learnt, Reads'''''''.Asked, Reads'''''''.Learnt, Reads'.Asked,
+    Reads'.Learnt, Reads'''''''''''.Asked, Reads'''''''''''.Learnt, Reads'''.Asked, Reads'''.Learnt,) Reads''''.Pre Reads''''.Post
 abbrev pub After-asking : Type 0
-After-asking = Lts.After-asking (
-  Reads''.Asked,
-  Reads''.Learnt,
-  Reads'''''''''.Asked,
-  Reads'''''''''.Learnt,
-  Reads''''''''.Asked,
-  Reads''''''''.Learnt,
-  Reads'''''''''''.Asked,
-  Reads'''''''''''.Learnt,
-  Reads'''''.Asked,
-  Reads'''''.Learnt,
-  Reads.Asked,
-  Reads.Learnt,
-  Reads''''''''''.Asked,
-  Reads''''''''''.Learnt,
-  Reads''''''.Asked,
-  Reads''''''.Learnt,
-  Reads'''''''.Asked,
-  Reads'''''''.Learnt,
-  Reads'.Asked,
-  Reads'.Learnt,
-  Reads'''.Asked,
-  Reads'''.Learnt,
-) Reads''''.Pre Reads''''.Post
-
+After-asking = Lts.After-asking (Reads''.Asked, Reads''.Learnt, Reads'''''''''.Asked, Reads'''''''''.Learnt, Reads''''''''.Asked,
+    Reads''''''''.Learnt, Reads''''''''''''.Asked, Reads''''''''''''.Learnt, Reads'''''.Asked, Reads'''''.Learnt, Reads.Asked, Reads.Learnt,
+    Reads''''''''''.Asked, Reads''''''''''.Learnt, Reads''''''.Asked, Reads''''''.Learnt, Reads'''''''.Asked, Reads'''''''.Learnt, Reads'.Asked,
+    Reads'.Learnt, Reads'''''''''''.Asked, Reads'''''''''''.Learnt, Reads'''.Asked, Reads'''.Learnt,) Reads''''.Pre Reads''''.Post
 abbrev pub After-scan-actions-arg : Type 0
-After-scan-actions-arg = Lts.After-scan-actions-arg (
-  Reads''.Asked,
-  Reads''.Learnt,
-  Reads'''''''''.Asked,
-  Reads'''''''''.Learnt,
-  Reads''''''''.Asked,
-  Reads''''''''.Learnt,
-  Reads'''''''''''.Asked,
-  Reads'''''''''''.Learnt,
-  Reads'''''.Asked,
-  Reads'''''.Learnt,
-  Reads.Asked,
-  Reads.Learnt,
-  Reads''''''''''.Asked,
-  Reads''''''''''.Learnt,
-  Reads''''''.Asked,
-  Reads''''''.Learnt,
-  Reads'''''''.Asked,
-  Reads'''''''.Learnt,
-  Reads'.Asked,
-  Reads'.Learnt,
-  Reads'''.Asked,
-  Reads'''.Learnt,
-) Reads''''.Pre Reads''''.Post
-
+After-scan-actions-arg = Lts.After-scan-actions-arg (Reads''.Asked, Reads''.Learnt, Reads'''''''''.Asked, Reads'''''''''.Learnt, Reads''''''''.Asked,
+    Reads''''''''.Learnt, Reads''''''''''''.Asked, Reads''''''''''''.Learnt, Reads'''''.Asked, Reads'''''.Learnt, Reads.Asked, Reads.Learnt,
+    Reads''''''''''.Asked, Reads''''''''''.Learnt, Reads''''''.Asked, Reads''''''.Learnt, Reads'''''''.Asked, Reads'''''''.Learnt, Reads'.Asked,
+    Reads'.Learnt, Reads'''''''''''.Asked, Reads'''''''''''.Learnt, Reads'''.Asked, Reads'''.Learnt,) Reads''''.Pre Reads''''.Post
 abbrev pub After-scan-actions : Type 0
-After-scan-actions = Lts.After-scan-actions (
-  Reads''.Asked,
-  Reads''.Learnt,
-  Reads'''''''''.Asked,
-  Reads'''''''''.Learnt,
-  Reads''''''''.Asked,
-  Reads''''''''.Learnt,
-  Reads'''''''''''.Asked,
-  Reads'''''''''''.Learnt,
-  Reads'''''.Asked,
-  Reads'''''.Learnt,
-  Reads.Asked,
-  Reads.Learnt,
-  Reads''''''''''.Asked,
-  Reads''''''''''.Learnt,
-  Reads''''''.Asked,
-  Reads''''''.Learnt,
-  Reads'''''''.Asked,
-  Reads'''''''.Learnt,
-  Reads'.Asked,
-  Reads'.Learnt,
-  Reads'''.Asked,
-  Reads'''.Learnt,
-) Reads''''.Pre Reads''''.Post
-
+After-scan-actions = Lts.After-scan-actions (Reads''.Asked, Reads''.Learnt, Reads'''''''''.Asked, Reads'''''''''.Learnt, Reads''''''''.Asked,
+    Reads''''''''.Learnt, Reads''''''''''''.Asked, Reads''''''''''''.Learnt, Reads'''''.Asked, Reads'''''.Learnt, Reads.Asked, Reads.Learnt,
+    Reads''''''''''.Asked, Reads''''''''''.Learnt, Reads''''''.Asked, Reads''''''.Learnt, Reads'''''''.Asked, Reads'''''''.Learnt, Reads'.Asked,
+    Reads'.Learnt, Reads'''''''''''.Asked, Reads'''''''''''.Learnt, Reads'''.Asked, Reads'''.Learnt,) Reads''''.Pre Reads''''.Post
 abbrev pub After-ask-ledger-arg : Type 0
-After-ask-ledger-arg = Lts.After-ask-ledger-arg (
-  Reads''.Asked,
-  Reads''.Learnt,
-  Reads'''''''''.Asked,
-  Reads'''''''''.Learnt,
-  Reads''''''''.Asked,
-  Reads''''''''.Learnt,
-  Reads'''''''''''.Asked,
-  Reads'''''''''''.Learnt,
-  Reads'''''.Asked,
-  Reads'''''.Learnt,
-  Reads.Asked,
-  Reads.Learnt,
-  Reads''''''''''.Asked,
-  Reads''''''''''.Learnt,
-  Reads''''''.Asked,
-  Reads''''''.Learnt,
-  Reads'''''''.Asked,
-  Reads'''''''.Learnt,
-  Reads'.Asked,
-  Reads'.Learnt,
-  Reads'''.Asked,
-  Reads'''.Learnt,
-) Reads''''.Pre Reads''''.Post
-
+After-ask-ledger-arg = Lts.After-ask-ledger-arg (Reads''.Asked, Reads''.Learnt, Reads'''''''''.Asked, Reads'''''''''.Learnt, Reads''''''''.Asked,
+    Reads''''''''.Learnt, Reads''''''''''''.Asked, Reads''''''''''''.Learnt, Reads'''''.Asked, Reads'''''.Learnt, Reads.Asked, Reads.Learnt,
+    Reads''''''''''.Asked, Reads''''''''''.Learnt, Reads''''''.Asked, Reads''''''.Learnt, Reads'''''''.Asked, Reads'''''''.Learnt, Reads'.Asked,
+    Reads'.Learnt, Reads'''''''''''.Asked, Reads'''''''''''.Learnt, Reads'''.Asked, Reads'''.Learnt,) Reads''''.Pre Reads''''.Post
 abbrev pub After-ask-ledger : Type 0
-After-ask-ledger = Lts.After-ask-ledger (
-  Reads''.Asked,
-  Reads''.Learnt,
-  Reads'''''''''.Asked,
-  Reads'''''''''.Learnt,
-  Reads''''''''.Asked,
-  Reads''''''''.Learnt,
-  Reads'''''''''''.Asked,
-  Reads'''''''''''.Learnt,
-  Reads'''''.Asked,
-  Reads'''''.Learnt,
-  Reads.Asked,
-  Reads.Learnt,
-  Reads''''''''''.Asked,
-  Reads''''''''''.Learnt,
-  Reads''''''.Asked,
-  Reads''''''.Learnt,
-  Reads'''''''.Asked,
-  Reads'''''''.Learnt,
-  Reads'.Asked,
-  Reads'.Learnt,
-  Reads'''.Asked,
-  Reads'''.Learnt,
-) Reads''''.Pre Reads''''.Post
-
+After-ask-ledger = Lts.After-ask-ledger (Reads''.Asked, Reads''.Learnt, Reads'''''''''.Asked, Reads'''''''''.Learnt, Reads''''''''.Asked,
+    Reads''''''''.Learnt, Reads''''''''''''.Asked, Reads''''''''''''.Learnt, Reads'''''.Asked, Reads'''''.Learnt, Reads.Asked, Reads.Learnt,
+    Reads''''''''''.Asked, Reads''''''''''.Learnt, Reads''''''.Asked, Reads''''''.Learnt, Reads'''''''.Asked, Reads'''''''.Learnt, Reads'.Asked,
+    Reads'.Learnt, Reads'''''''''''.Asked, Reads'''''''''''.Learnt, Reads'''.Asked, Reads'''.Learnt,) Reads''''.Pre Reads''''.Post
 abbrev pub After-placed-rows : Type 0
-After-placed-rows = Lts.After-placed-rows (
-  Reads''.Asked,
-  Reads''.Learnt,
-  Reads'''''''''.Asked,
-  Reads'''''''''.Learnt,
-  Reads''''''''.Asked,
-  Reads''''''''.Learnt,
-  Reads'''''''''''.Asked,
-  Reads'''''''''''.Learnt,
-  Reads'''''.Asked,
-  Reads'''''.Learnt,
-  Reads.Asked,
-  Reads.Learnt,
-  Reads''''''''''.Asked,
-  Reads''''''''''.Learnt,
-  Reads''''''.Asked,
-  Reads''''''.Learnt,
-  Reads'''''''.Asked,
-  Reads'''''''.Learnt,
-  Reads'.Asked,
-  Reads'.Learnt,
-  Reads'''.Asked,
-  Reads'''.Learnt,
-) Reads''''.Pre Reads''''.Post
-
+After-placed-rows = Lts.After-placed-rows (Reads''.Asked, Reads''.Learnt, Reads'''''''''.Asked, Reads'''''''''.Learnt, Reads''''''''.Asked,
+    Reads''''''''.Learnt, Reads''''''''''''.Asked, Reads''''''''''''.Learnt, Reads'''''.Asked, Reads'''''.Learnt, Reads.Asked, Reads.Learnt,
+    Reads''''''''''.Asked, Reads''''''''''.Learnt, Reads''''''.Asked, Reads''''''.Learnt, Reads'''''''.Asked, Reads'''''''.Learnt, Reads'.Asked,
+    Reads'.Learnt, Reads'''''''''''.Asked, Reads'''''''''''.Learnt, Reads'''.Asked, Reads'''.Learnt,) Reads''''.Pre Reads''''.Post
 abbrev pub After-first-refusal : Type 0
-After-first-refusal = Lts.After-first-refusal (
-  Reads''.Asked,
-  Reads''.Learnt,
-  Reads'''''''''.Asked,
-  Reads'''''''''.Learnt,
-  Reads''''''''.Asked,
-  Reads''''''''.Learnt,
-  Reads'''''''''''.Asked,
-  Reads'''''''''''.Learnt,
-  Reads'''''.Asked,
-  Reads'''''.Learnt,
-  Reads.Asked,
-  Reads.Learnt,
-  Reads''''''''''.Asked,
-  Reads''''''''''.Learnt,
-  Reads''''''.Asked,
-  Reads''''''.Learnt,
-  Reads'''''''.Asked,
-  Reads'''''''.Learnt,
-  Reads'.Asked,
-  Reads'.Learnt,
-  Reads'''.Asked,
-  Reads'''.Learnt,
-) Reads''''.Pre Reads''''.Post
-
+After-first-refusal = Lts.After-first-refusal (Reads''.Asked, Reads''.Learnt, Reads'''''''''.Asked, Reads'''''''''.Learnt, Reads''''''''.Asked,
+    Reads''''''''.Learnt, Reads''''''''''''.Asked, Reads''''''''''''.Learnt, Reads'''''.Asked, Reads'''''.Learnt, Reads.Asked, Reads.Learnt,
+    Reads''''''''''.Asked, Reads''''''''''.Learnt, Reads''''''.Asked, Reads''''''.Learnt, Reads'''''''.Asked, Reads'''''''.Learnt, Reads'.Asked,
+    Reads'.Learnt, Reads'''''''''''.Asked, Reads'''''''''''.Learnt, Reads'''.Asked, Reads'''.Learnt,) Reads''''.Pre Reads''''.Post
 abbrev pub After-is-taken : Type 0
-After-is-taken = Lts.After-is-taken (
-  Reads''.Asked,
-  Reads''.Learnt,
-  Reads'''''''''.Asked,
-  Reads'''''''''.Learnt,
-  Reads''''''''.Asked,
-  Reads''''''''.Learnt,
-  Reads'''''''''''.Asked,
-  Reads'''''''''''.Learnt,
-  Reads'''''.Asked,
-  Reads'''''.Learnt,
-  Reads.Asked,
-  Reads.Learnt,
-  Reads''''''''''.Asked,
-  Reads''''''''''.Learnt,
-  Reads''''''.Asked,
-  Reads''''''.Learnt,
-  Reads'''''''.Asked,
-  Reads'''''''.Learnt,
-  Reads'.Asked,
-  Reads'.Learnt,
-  Reads'''.Asked,
-  Reads'''.Learnt,
-) Reads''''.Pre Reads''''.Post
-
+After-is-taken = Lts.After-is-taken (Reads''.Asked, Reads''.Learnt, Reads'''''''''.Asked, Reads'''''''''.Learnt, Reads''''''''.Asked,
+    Reads''''''''.Learnt, Reads''''''''''''.Asked, Reads''''''''''''.Learnt, Reads'''''.Asked, Reads'''''.Learnt, Reads.Asked, Reads.Learnt,
+    Reads''''''''''.Asked, Reads''''''''''.Learnt, Reads''''''.Asked, Reads''''''.Learnt, Reads'''''''.Asked, Reads'''''''.Learnt, Reads'.Asked,
+    Reads'.Learnt, Reads'''''''''''.Asked, Reads'''''''''''.Learnt, Reads'''.Asked, Reads'''.Learnt,) Reads''''.Pre Reads''''.Post
 abbrev pub After-book-arg : Type 0
-After-book-arg = Lts.After-book-arg (
-  Reads''.Asked,
-  Reads''.Learnt,
-  Reads'''''''''.Asked,
-  Reads'''''''''.Learnt,
-  Reads''''''''.Asked,
-  Reads''''''''.Learnt,
-  Reads'''''''''''.Asked,
-  Reads'''''''''''.Learnt,
-  Reads'''''.Asked,
-  Reads'''''.Learnt,
-  Reads.Asked,
-  Reads.Learnt,
-  Reads''''''''''.Asked,
-  Reads''''''''''.Learnt,
-  Reads''''''.Asked,
-  Reads''''''.Learnt,
-  Reads'''''''.Asked,
-  Reads'''''''.Learnt,
-  Reads'.Asked,
-  Reads'.Learnt,
-  Reads'''.Asked,
-  Reads'''.Learnt,
-) Reads''''.Pre Reads''''.Post
-
+After-book-arg = Lts.After-book-arg (Reads''.Asked, Reads''.Learnt, Reads'''''''''.Asked, Reads'''''''''.Learnt, Reads''''''''.Asked,
+    Reads''''''''.Learnt, Reads''''''''''''.Asked, Reads''''''''''''.Learnt, Reads'''''.Asked, Reads'''''.Learnt, Reads.Asked, Reads.Learnt,
+    Reads''''''''''.Asked, Reads''''''''''.Learnt, Reads''''''.Asked, Reads''''''.Learnt, Reads'''''''.Asked, Reads'''''''.Learnt, Reads'.Asked,
+    Reads'.Learnt, Reads'''''''''''.Asked, Reads'''''''''''.Learnt, Reads'''.Asked, Reads'''.Learnt,) Reads''''.Pre Reads''''.Post
 abbrev pub After-book : Type 0
-After-book = Lts.After-book (
-  Reads''.Asked,
-  Reads''.Learnt,
-  Reads'''''''''.Asked,
-  Reads'''''''''.Learnt,
-  Reads''''''''.Asked,
-  Reads''''''''.Learnt,
-  Reads'''''''''''.Asked,
-  Reads'''''''''''.Learnt,
-  Reads'''''.Asked,
-  Reads'''''.Learnt,
-  Reads.Asked,
-  Reads.Learnt,
-  Reads''''''''''.Asked,
-  Reads''''''''''.Learnt,
-  Reads''''''.Asked,
-  Reads''''''.Learnt,
-  Reads'''''''.Asked,
-  Reads'''''''.Learnt,
-  Reads'.Asked,
-  Reads'.Learnt,
-  Reads'''.Asked,
-  Reads'''.Learnt,
-) Reads''''.Pre Reads''''.Post
-
+After-book = Lts.After-book (Reads''.Asked, Reads''.Learnt, Reads'''''''''.Asked, Reads'''''''''.Learnt, Reads''''''''.Asked, Reads''''''''.Learnt,
+    Reads''''''''''''.Asked, Reads''''''''''''.Learnt, Reads'''''.Asked, Reads'''''.Learnt, Reads.Asked, Reads.Learnt, Reads''''''''''.Asked,
+    Reads''''''''''.Learnt, Reads''''''.Asked, Reads''''''.Learnt, Reads'''''''.Asked, Reads'''''''.Learnt, Reads'.Asked, Reads'.Learnt,
+    Reads'''''''''''.Asked, Reads'''''''''''.Learnt, Reads'''.Asked, Reads'''.Learnt,) Reads''''.Pre Reads''''.Post
 abbrev pub After-ledger : Type 0
-After-ledger = Lts.After-ledger (
-  Reads''.Asked,
-  Reads''.Learnt,
-  Reads'''''''''.Asked,
-  Reads'''''''''.Learnt,
-  Reads''''''''.Asked,
-  Reads''''''''.Learnt,
-  Reads'''''''''''.Asked,
-  Reads'''''''''''.Learnt,
-  Reads'''''.Asked,
-  Reads'''''.Learnt,
-  Reads.Asked,
-  Reads.Learnt,
-  Reads''''''''''.Asked,
-  Reads''''''''''.Learnt,
-  Reads''''''.Asked,
-  Reads''''''.Learnt,
-  Reads'''''''.Asked,
-  Reads'''''''.Learnt,
-  Reads'.Asked,
-  Reads'.Learnt,
-  Reads'''.Asked,
-  Reads'''.Learnt,
-) Reads''''.Pre Reads''''.Post
-
+After-ledger = Lts.After-ledger (Reads''.Asked, Reads''.Learnt, Reads'''''''''.Asked, Reads'''''''''.Learnt, Reads''''''''.Asked,
+    Reads''''''''.Learnt, Reads''''''''''''.Asked, Reads''''''''''''.Learnt, Reads'''''.Asked, Reads'''''.Learnt, Reads.Asked, Reads.Learnt,
+    Reads''''''''''.Asked, Reads''''''''''.Learnt, Reads''''''.Asked, Reads''''''.Learnt, Reads'''''''.Asked, Reads'''''''.Learnt, Reads'.Asked,
+    Reads'.Learnt, Reads'''''''''''.Asked, Reads'''''''''''.Learnt, Reads'''.Asked, Reads'''.Learnt,) Reads''''.Pre Reads''''.Post
+abbrev pub After-with-ledger : Type 0
+After-with-ledger = Lts.After-with-ledger (Reads''.Asked, Reads''.Learnt, Reads'''''''''.Asked, Reads'''''''''.Learnt, Reads''''''''.Asked,
+    Reads''''''''.Learnt, Reads''''''''''''.Asked, Reads''''''''''''.Learnt, Reads'''''.Asked, Reads'''''.Learnt, Reads.Asked, Reads.Learnt,
+    Reads''''''''''.Asked, Reads''''''''''.Learnt, Reads''''''.Asked, Reads''''''.Learnt, Reads'''''''.Asked, Reads'''''''.Learnt, Reads'.Asked,
+    Reads'.Learnt, Reads'''''''''''.Asked, Reads'''''''''''.Learnt, Reads'''.Asked, Reads'''.Learnt,) Reads''''.Pre Reads''''.Post
 abbrev pub After-open-booked-arg : Type 0
-After-open-booked-arg = Lts.After-open-booked-arg (
-  Reads''.Asked,
-  Reads''.Learnt,
-  Reads'''''''''.Asked,
-  Reads'''''''''.Learnt,
-  Reads''''''''.Asked,
-  Reads''''''''.Learnt,
-  Reads'''''''''''.Asked,
-  Reads'''''''''''.Learnt,
-  Reads'''''.Asked,
-  Reads'''''.Learnt,
-  Reads.Asked,
-  Reads.Learnt,
-  Reads''''''''''.Asked,
-  Reads''''''''''.Learnt,
-  Reads''''''.Asked,
-  Reads''''''.Learnt,
-  Reads'''''''.Asked,
-  Reads'''''''.Learnt,
-  Reads'.Asked,
-  Reads'.Learnt,
-  Reads'''.Asked,
-  Reads'''.Learnt,
-) Reads''''.Pre Reads''''.Post
-
+After-open-booked-arg = Lts.After-open-booked-arg (Reads''.Asked, Reads''.Learnt, Reads'''''''''.Asked, Reads'''''''''.Learnt, Reads''''''''.Asked,
+    Reads''''''''.Learnt, Reads''''''''''''.Asked, Reads''''''''''''.Learnt, Reads'''''.Asked, Reads'''''.Learnt, Reads.Asked, Reads.Learnt,
+    Reads''''''''''.Asked, Reads''''''''''.Learnt, Reads''''''.Asked, Reads''''''.Learnt, Reads'''''''.Asked, Reads'''''''.Learnt, Reads'.Asked,
+    Reads'.Learnt, Reads'''''''''''.Asked, Reads'''''''''''.Learnt, Reads'''.Asked, Reads'''.Learnt,) Reads''''.Pre Reads''''.Post
 abbrev pub After-open-booked-arg2 : Type 0
-After-open-booked-arg2 = Lts.After-open-booked-arg2 (
-  Reads''.Asked,
-  Reads''.Learnt,
-  Reads'''''''''.Asked,
-  Reads'''''''''.Learnt,
-  Reads''''''''.Asked,
-  Reads''''''''.Learnt,
-  Reads'''''''''''.Asked,
-  Reads'''''''''''.Learnt,
-  Reads'''''.Asked,
-  Reads'''''.Learnt,
-  Reads.Asked,
-  Reads.Learnt,
-  Reads''''''''''.Asked,
-  Reads''''''''''.Learnt,
-  Reads''''''.Asked,
-  Reads''''''.Learnt,
-  Reads'''''''.Asked,
-  Reads'''''''.Learnt,
-  Reads'.Asked,
-  Reads'.Learnt,
-  Reads'''.Asked,
-  Reads'''.Learnt,
-) Reads''''.Pre Reads''''.Post
-
+After-open-booked-arg2 = Lts.After-open-booked-arg2 (Reads''.Asked, Reads''.Learnt, Reads'''''''''.Asked, Reads'''''''''.Learnt, Reads''''''''.Asked,
+    Reads''''''''.Learnt, Reads''''''''''''.Asked, Reads''''''''''''.Learnt, Reads'''''.Asked, Reads'''''.Learnt, Reads.Asked, Reads.Learnt,
+    Reads''''''''''.Asked, Reads''''''''''.Learnt, Reads''''''.Asked, Reads''''''.Learnt, Reads'''''''.Asked, Reads'''''''.Learnt, Reads'.Asked,
+    Reads'.Learnt, Reads'''''''''''.Asked, Reads'''''''''''.Learnt, Reads'''.Asked, Reads'''.Learnt,) Reads''''.Pre Reads''''.Post
 abbrev pub After-open-booked-arg3 : Type 0
-After-open-booked-arg3 = Lts.After-open-booked-arg3 (
-  Reads''.Asked,
-  Reads''.Learnt,
-  Reads'''''''''.Asked,
-  Reads'''''''''.Learnt,
-  Reads''''''''.Asked,
-  Reads''''''''.Learnt,
-  Reads'''''''''''.Asked,
-  Reads'''''''''''.Learnt,
-  Reads'''''.Asked,
-  Reads'''''.Learnt,
-  Reads.Asked,
-  Reads.Learnt,
-  Reads''''''''''.Asked,
-  Reads''''''''''.Learnt,
-  Reads''''''.Asked,
-  Reads''''''.Learnt,
-  Reads'''''''.Asked,
-  Reads'''''''.Learnt,
-  Reads'.Asked,
-  Reads'.Learnt,
-  Reads'''.Asked,
-  Reads'''.Learnt,
-) Reads''''.Pre Reads''''.Post
-
+After-open-booked-arg3 = Lts.After-open-booked-arg3 (Reads''.Asked, Reads''.Learnt, Reads'''''''''.Asked, Reads'''''''''.Learnt, Reads''''''''.Asked,
+    Reads''''''''.Learnt, Reads''''''''''''.Asked, Reads''''''''''''.Learnt, Reads'''''.Asked, Reads'''''.Learnt, Reads.Asked, Reads.Learnt,
+    Reads''''''''''.Asked, Reads''''''''''.Learnt, Reads''''''.Asked, Reads''''''.Learnt, Reads'''''''.Asked, Reads'''''''.Learnt, Reads'.Asked,
+    Reads'.Learnt, Reads'''''''''''.Asked, Reads'''''''''''.Learnt, Reads'''.Asked, Reads'''.Learnt,) Reads''''.Pre Reads''''.Post
 abbrev pub After-open-booked-arg4 : Type 0
-After-open-booked-arg4 = Lts.After-open-booked-arg4 (
-  Reads''.Asked,
-  Reads''.Learnt,
-  Reads'''''''''.Asked,
-  Reads'''''''''.Learnt,
-  Reads''''''''.Asked,
-  Reads''''''''.Learnt,
-  Reads'''''''''''.Asked,
-  Reads'''''''''''.Learnt,
-  Reads'''''.Asked,
-  Reads'''''.Learnt,
-  Reads.Asked,
-  Reads.Learnt,
-  Reads''''''''''.Asked,
-  Reads''''''''''.Learnt,
-  Reads''''''.Asked,
-  Reads''''''.Learnt,
-  Reads'''''''.Asked,
-  Reads'''''''.Learnt,
-  Reads'.Asked,
-  Reads'.Learnt,
-  Reads'''.Asked,
-  Reads'''.Learnt,
-) Reads''''.Pre Reads''''.Post
-
+After-open-booked-arg4 = Lts.After-open-booked-arg4 (Reads''.Asked, Reads''.Learnt, Reads'''''''''.Asked, Reads'''''''''.Learnt, Reads''''''''.Asked,
+    Reads''''''''.Learnt, Reads''''''''''''.Asked, Reads''''''''''''.Learnt, Reads'''''.Asked, Reads'''''.Learnt, Reads.Asked, Reads.Learnt,
+    Reads''''''''''.Asked, Reads''''''''''.Learnt, Reads''''''.Asked, Reads''''''.Learnt, Reads'''''''.Asked, Reads'''''''.Learnt, Reads'.Asked,
+    Reads'.Learnt, Reads'''''''''''.Asked, Reads'''''''''''.Learnt, Reads'''.Asked, Reads'''.Learnt,) Reads''''.Pre Reads''''.Post
 abbrev pub After-open-booked : Type 0
-After-open-booked = Lts.After-open-booked (
-  Reads''.Asked,
-  Reads''.Learnt,
-  Reads'''''''''.Asked,
-  Reads'''''''''.Learnt,
-  Reads''''''''.Asked,
-  Reads''''''''.Learnt,
-  Reads'''''''''''.Asked,
-  Reads'''''''''''.Learnt,
-  Reads'''''.Asked,
-  Reads'''''.Learnt,
-  Reads.Asked,
-  Reads.Learnt,
-  Reads''''''''''.Asked,
-  Reads''''''''''.Learnt,
-  Reads''''''.Asked,
-  Reads''''''.Learnt,
-  Reads'''''''.Asked,
-  Reads'''''''.Learnt,
-  Reads'.Asked,
-  Reads'.Learnt,
-  Reads'''.Asked,
-  Reads'''.Learnt,
-) Reads''''.Pre Reads''''.Post
-
+After-open-booked = Lts.After-open-booked (Reads''.Asked, Reads''.Learnt, Reads'''''''''.Asked, Reads'''''''''.Learnt, Reads''''''''.Asked,
+    Reads''''''''.Learnt, Reads''''''''''''.Asked, Reads''''''''''''.Learnt, Reads'''''.Asked, Reads'''''.Learnt, Reads.Asked, Reads.Learnt,
+    Reads''''''''''.Asked, Reads''''''''''.Learnt, Reads''''''.Asked, Reads''''''.Learnt, Reads'''''''.Asked, Reads'''''''.Learnt, Reads'.Asked,
+    Reads'.Learnt, Reads'''''''''''.Asked, Reads'''''''''''.Learnt, Reads'''.Asked, Reads'''.Learnt,) Reads''''.Pre Reads''''.Post
 abbrev pub After-pending : Type 0
-After-pending = Lts.After-pending (
-  Reads''.Asked,
-  Reads''.Learnt,
-  Reads'''''''''.Asked,
-  Reads'''''''''.Learnt,
-  Reads''''''''.Asked,
-  Reads''''''''.Learnt,
-  Reads'''''''''''.Asked,
-  Reads'''''''''''.Learnt,
-  Reads'''''.Asked,
-  Reads'''''.Learnt,
-  Reads.Asked,
-  Reads.Learnt,
-  Reads''''''''''.Asked,
-  Reads''''''''''.Learnt,
-  Reads''''''.Asked,
-  Reads''''''.Learnt,
-  Reads'''''''.Asked,
-  Reads'''''''.Learnt,
-  Reads'.Asked,
-  Reads'.Learnt,
-  Reads'''.Asked,
-  Reads'''.Learnt,
-) Reads''''.Pre Reads''''.Post
-
+After-pending = Lts.After-pending (Reads''.Asked, Reads''.Learnt, Reads'''''''''.Asked, Reads'''''''''.Learnt, Reads''''''''.Asked,
+    Reads''''''''.Learnt, Reads''''''''''''.Asked, Reads''''''''''''.Learnt, Reads'''''.Asked, Reads'''''.Learnt, Reads.Asked, Reads.Learnt,
+    Reads''''''''''.Asked, Reads''''''''''.Learnt, Reads''''''.Asked, Reads''''''.Learnt, Reads'''''''.Asked, Reads'''''''.Learnt, Reads'.Asked,
+    Reads'.Learnt, Reads'''''''''''.Asked, Reads'''''''''''.Learnt, Reads'''.Asked, Reads'''.Learnt,) Reads''''.Pre Reads''''.Post
 abbrev pub After-inflight : Type 0
-After-inflight = Lts.After-inflight (
-  Reads''.Asked,
-  Reads''.Learnt,
-  Reads'''''''''.Asked,
-  Reads'''''''''.Learnt,
-  Reads''''''''.Asked,
-  Reads''''''''.Learnt,
-  Reads'''''''''''.Asked,
-  Reads'''''''''''.Learnt,
-  Reads'''''.Asked,
-  Reads'''''.Learnt,
-  Reads.Asked,
-  Reads.Learnt,
-  Reads''''''''''.Asked,
-  Reads''''''''''.Learnt,
-  Reads''''''.Asked,
-  Reads''''''.Learnt,
-  Reads'''''''.Asked,
-  Reads'''''''.Learnt,
-  Reads'.Asked,
-  Reads'.Learnt,
-  Reads'''.Asked,
-  Reads'''.Learnt,
-) Reads''''.Pre Reads''''.Post
-
+After-inflight = Lts.After-inflight (Reads''.Asked, Reads''.Learnt, Reads'''''''''.Asked, Reads'''''''''.Learnt, Reads''''''''.Asked,
+    Reads''''''''.Learnt, Reads''''''''''''.Asked, Reads''''''''''''.Learnt, Reads'''''.Asked, Reads'''''.Learnt, Reads.Asked, Reads.Learnt,
+    Reads''''''''''.Asked, Reads''''''''''.Learnt, Reads''''''.Asked, Reads''''''.Learnt, Reads'''''''.Asked, Reads'''''''.Learnt, Reads'.Asked,
+    Reads'.Learnt, Reads'''''''''''.Asked, Reads'''''''''''.Learnt, Reads'''.Asked, Reads'''.Learnt,) Reads''''.Pre Reads''''.Post
 abbrev pub After-out : Type 0
-After-out = Lts.After-out (
-  Reads''.Asked,
-  Reads''.Learnt,
-  Reads'''''''''.Asked,
-  Reads'''''''''.Learnt,
-  Reads''''''''.Asked,
-  Reads''''''''.Learnt,
-  Reads'''''''''''.Asked,
-  Reads'''''''''''.Learnt,
-  Reads'''''.Asked,
-  Reads'''''.Learnt,
-  Reads.Asked,
-  Reads.Learnt,
-  Reads''''''''''.Asked,
-  Reads''''''''''.Learnt,
-  Reads''''''.Asked,
-  Reads''''''.Learnt,
-  Reads'''''''.Asked,
-  Reads'''''''.Learnt,
-  Reads'.Asked,
-  Reads'.Learnt,
-  Reads'''.Asked,
-  Reads'''.Learnt,
-) Reads''''.Pre Reads''''.Post
-
+After-out = Lts.After-out (Reads''.Asked, Reads''.Learnt, Reads'''''''''.Asked, Reads'''''''''.Learnt, Reads''''''''.Asked, Reads''''''''.Learnt,
+    Reads''''''''''''.Asked, Reads''''''''''''.Learnt, Reads'''''.Asked, Reads'''''.Learnt, Reads.Asked, Reads.Learnt, Reads''''''''''.Asked,
+    Reads''''''''''.Learnt, Reads''''''.Asked, Reads''''''.Learnt, Reads'''''''.Asked, Reads'''''''.Learnt, Reads'.Asked, Reads'.Learnt,
+    Reads'''''''''''.Asked, Reads'''''''''''.Learnt, Reads'''.Asked, Reads'''.Learnt,) Reads''''.Pre Reads''''.Post
 abbrev pub After-slice-known2 : Type 0
-After-slice-known2 = Lts.After-slice-known2 (
-  Reads''.Asked,
-  Reads''.Learnt,
-  Reads'''''''''.Asked,
-  Reads'''''''''.Learnt,
-  Reads''''''''.Asked,
-  Reads''''''''.Learnt,
-  Reads'''''''''''.Asked,
-  Reads'''''''''''.Learnt,
-  Reads'''''.Asked,
-  Reads'''''.Learnt,
-  Reads.Asked,
-  Reads.Learnt,
-  Reads''''''''''.Asked,
-  Reads''''''''''.Learnt,
-  Reads''''''.Asked,
-  Reads''''''.Learnt,
-  Reads'''''''.Asked,
-  Reads'''''''.Learnt,
-  Reads'.Asked,
-  Reads'.Learnt,
-  Reads'''.Asked,
-  Reads'''.Learnt,
-) Reads''''.Pre Reads''''.Post
-
+After-slice-known2 = Lts.After-slice-known2 (Reads''.Asked, Reads''.Learnt, Reads'''''''''.Asked, Reads'''''''''.Learnt, Reads''''''''.Asked,
+    Reads''''''''.Learnt, Reads''''''''''''.Asked, Reads''''''''''''.Learnt, Reads'''''.Asked, Reads'''''.Learnt, Reads.Asked, Reads.Learnt,
+    Reads''''''''''.Asked, Reads''''''''''.Learnt, Reads''''''.Asked, Reads''''''.Learnt, Reads'''''''.Asked, Reads'''''''.Learnt, Reads'.Asked,
+    Reads'.Learnt, Reads'''''''''''.Asked, Reads'''''''''''.Learnt, Reads'''.Asked, Reads'''.Learnt,) Reads''''.Pre Reads''''.Post
 abbrev pub Need-draw-requires : Type 0
-Need-draw-requires = Lts.Need-draw-requires (
-  Reads''.Asked,
-  Reads''.Learnt,
-  Reads'''''''''.Asked,
-  Reads'''''''''.Learnt,
-  Reads''''''''.Asked,
-  Reads''''''''.Learnt,
-  Reads'''''''''''.Asked,
-  Reads'''''''''''.Learnt,
-  Reads'''''.Asked,
-  Reads'''''.Learnt,
-  Reads.Asked,
-  Reads.Learnt,
-  Reads''''''''''.Asked,
-  Reads''''''''''.Learnt,
-  Reads''''''.Asked,
-  Reads''''''.Learnt,
-  Reads'''''''.Asked,
-  Reads'''''''.Learnt,
-  Reads'.Asked,
-  Reads'.Learnt,
-  Reads'''.Asked,
-  Reads'''.Learnt,
-) Reads''''.Pre Reads''''.Post
-
+Need-draw-requires = Lts.Need-draw-requires (Reads''.Asked, Reads''.Learnt, Reads'''''''''.Asked, Reads'''''''''.Learnt, Reads''''''''.Asked,
+    Reads''''''''.Learnt, Reads''''''''''''.Asked, Reads''''''''''''.Learnt, Reads'''''.Asked, Reads'''''.Learnt, Reads.Asked, Reads.Learnt,
+    Reads''''''''''.Asked, Reads''''''''''.Learnt, Reads''''''.Asked, Reads''''''.Learnt, Reads'''''''.Asked, Reads'''''''.Learnt, Reads'.Asked,
+    Reads'.Learnt, Reads'''''''''''.Asked, Reads'''''''''''.Learnt, Reads'''.Asked, Reads'''.Learnt,) Reads''''.Pre Reads''''.Post
 abbrev pub Need-open-plan-requires : Type 0
-Need-open-plan-requires = Lts.Need-open-plan-requires (
-  Reads''.Asked,
-  Reads''.Learnt,
-  Reads'''''''''.Asked,
-  Reads'''''''''.Learnt,
-  Reads''''''''.Asked,
-  Reads''''''''.Learnt,
-  Reads'''''''''''.Asked,
-  Reads'''''''''''.Learnt,
-  Reads'''''.Asked,
-  Reads'''''.Learnt,
-  Reads.Asked,
-  Reads.Learnt,
-  Reads''''''''''.Asked,
-  Reads''''''''''.Learnt,
-  Reads''''''.Asked,
-  Reads''''''.Learnt,
-  Reads'''''''.Asked,
-  Reads'''''''.Learnt,
-  Reads'.Asked,
-  Reads'.Learnt,
-  Reads'''.Asked,
-  Reads'''.Learnt,
-) Reads''''.Pre Reads''''.Post
-
+Need-open-plan-requires = Lts.Need-open-plan-requires (Reads''.Asked, Reads''.Learnt, Reads'''''''''.Asked, Reads'''''''''.Learnt,
+    Reads''''''''.Asked, Reads''''''''.Learnt, Reads''''''''''''.Asked, Reads''''''''''''.Learnt, Reads'''''.Asked, Reads'''''.Learnt, Reads.Asked,
+    Reads.Learnt, Reads''''''''''.Asked, Reads''''''''''.Learnt, Reads''''''.Asked, Reads''''''.Learnt, Reads'''''''.Asked, Reads'''''''.Learnt,
+    Reads'.Asked, Reads'.Learnt, Reads'''''''''''.Asked, Reads'''''''''''.Learnt, Reads'''.Asked, Reads'''.Learnt,) Reads''''.Pre Reads''''.Post
 abbrev pub Need-incoming-out-requires : Type 0
-Need-incoming-out-requires = Lts.Need-incoming-out-requires (
-  Reads''.Asked,
-  Reads''.Learnt,
-  Reads'''''''''.Asked,
-  Reads'''''''''.Learnt,
-  Reads''''''''.Asked,
-  Reads''''''''.Learnt,
-  Reads'''''''''''.Asked,
-  Reads'''''''''''.Learnt,
-  Reads'''''.Asked,
-  Reads'''''.Learnt,
-  Reads.Asked,
-  Reads.Learnt,
-  Reads''''''''''.Asked,
-  Reads''''''''''.Learnt,
-  Reads''''''.Asked,
-  Reads''''''.Learnt,
-  Reads'''''''.Asked,
-  Reads'''''''.Learnt,
-  Reads'.Asked,
-  Reads'.Learnt,
-  Reads'''.Asked,
-  Reads'''.Learnt,
-) Reads''''.Pre Reads''''.Post
-
+Need-incoming-out-requires = Lts.Need-incoming-out-requires (Reads''.Asked, Reads''.Learnt, Reads'''''''''.Asked, Reads'''''''''.Learnt,
+    Reads''''''''.Asked, Reads''''''''.Learnt, Reads''''''''''''.Asked, Reads''''''''''''.Learnt, Reads'''''.Asked, Reads'''''.Learnt, Reads.Asked,
+    Reads.Learnt, Reads''''''''''.Asked, Reads''''''''''.Learnt, Reads''''''.Asked, Reads''''''.Learnt, Reads'''''''.Asked, Reads'''''''.Learnt,
+    Reads'.Asked, Reads'.Learnt, Reads'''''''''''.Asked, Reads'''''''''''.Learnt, Reads'''.Asked, Reads'''.Learnt,) Reads''''.Pre Reads''''.Post
 abbrev pub Need-asking-requires : Type 0
-Need-asking-requires = Lts.Need-asking-requires (
-  Reads''.Asked,
-  Reads''.Learnt,
-  Reads'''''''''.Asked,
-  Reads'''''''''.Learnt,
-  Reads''''''''.Asked,
-  Reads''''''''.Learnt,
-  Reads'''''''''''.Asked,
-  Reads'''''''''''.Learnt,
-  Reads'''''.Asked,
-  Reads'''''.Learnt,
-  Reads.Asked,
-  Reads.Learnt,
-  Reads''''''''''.Asked,
-  Reads''''''''''.Learnt,
-  Reads''''''.Asked,
-  Reads''''''.Learnt,
-  Reads'''''''.Asked,
-  Reads'''''''.Learnt,
-  Reads'.Asked,
-  Reads'.Learnt,
-  Reads'''.Asked,
-  Reads'''.Learnt,
-) Reads''''.Pre Reads''''.Post
-
+Need-asking-requires = Lts.Need-asking-requires (Reads''.Asked, Reads''.Learnt, Reads'''''''''.Asked, Reads'''''''''.Learnt, Reads''''''''.Asked,
+    Reads''''''''.Learnt, Reads''''''''''''.Asked, Reads''''''''''''.Learnt, Reads'''''.Asked, Reads'''''.Learnt, Reads.Asked, Reads.Learnt,
+    Reads''''''''''.Asked, Reads''''''''''.Learnt, Reads''''''.Asked, Reads''''''.Learnt, Reads'''''''.Asked, Reads'''''''.Learnt, Reads'.Asked,
+    Reads'.Learnt, Reads'''''''''''.Asked, Reads'''''''''''.Learnt, Reads'''.Asked, Reads'''.Learnt,) Reads''''.Pre Reads''''.Post
 abbrev pub Need-scan-actions-requires : Type 0
-Need-scan-actions-requires = Lts.Need-scan-actions-requires (
-  Reads''.Asked,
-  Reads''.Learnt,
-  Reads'''''''''.Asked,
-  Reads'''''''''.Learnt,
-  Reads''''''''.Asked,
-  Reads''''''''.Learnt,
-  Reads'''''''''''.Asked,
-  Reads'''''''''''.Learnt,
-  Reads'''''.Asked,
-  Reads'''''.Learnt,
-  Reads.Asked,
-  Reads.Learnt,
-  Reads''''''''''.Asked,
-  Reads''''''''''.Learnt,
-  Reads''''''.Asked,
-  Reads''''''.Learnt,
-  Reads'''''''.Asked,
-  Reads'''''''.Learnt,
-  Reads'.Asked,
-  Reads'.Learnt,
-  Reads'''.Asked,
-  Reads'''.Learnt,
-) Reads''''.Pre Reads''''.Post
-
+Need-scan-actions-requires = Lts.Need-scan-actions-requires (Reads''.Asked, Reads''.Learnt, Reads'''''''''.Asked, Reads'''''''''.Learnt,
+    Reads''''''''.Asked, Reads''''''''.Learnt, Reads''''''''''''.Asked, Reads''''''''''''.Learnt, Reads'''''.Asked, Reads'''''.Learnt, Reads.Asked,
+    Reads.Learnt, Reads''''''''''.Asked, Reads''''''''''.Learnt, Reads''''''.Asked, Reads''''''.Learnt, Reads'''''''.Asked, Reads'''''''.Learnt,
+    Reads'.Asked, Reads'.Learnt, Reads'''''''''''.Asked, Reads'''''''''''.Learnt, Reads'''.Asked, Reads'''.Learnt,) Reads''''.Pre Reads''''.Post
 abbrev pub Need-ask-ledger-requires : Type 0
-Need-ask-ledger-requires = Lts.Need-ask-ledger-requires (
-  Reads''.Asked,
-  Reads''.Learnt,
-  Reads'''''''''.Asked,
-  Reads'''''''''.Learnt,
-  Reads''''''''.Asked,
-  Reads''''''''.Learnt,
-  Reads'''''''''''.Asked,
-  Reads'''''''''''.Learnt,
-  Reads'''''.Asked,
-  Reads'''''.Learnt,
-  Reads.Asked,
-  Reads.Learnt,
-  Reads''''''''''.Asked,
-  Reads''''''''''.Learnt,
-  Reads''''''.Asked,
-  Reads''''''.Learnt,
-  Reads'''''''.Asked,
-  Reads'''''''.Learnt,
-  Reads'.Asked,
-  Reads'.Learnt,
-  Reads'''.Asked,
-  Reads'''.Learnt,
-) Reads''''.Pre Reads''''.Post
-
+Need-ask-ledger-requires = Lts.Need-ask-ledger-requires (Reads''.Asked, Reads''.Learnt, Reads'''''''''.Asked, Reads'''''''''.Learnt,
+    Reads''''''''.Asked, Reads''''''''.Learnt, Reads''''''''''''.Asked, Reads''''''''''''.Learnt, Reads'''''.Asked, Reads'''''.Learnt, Reads.Asked,
+    Reads.Learnt, Reads''''''''''.Asked, Reads''''''''''.Learnt, Reads''''''.Asked, Reads''''''.Learnt, Reads'''''''.Asked, Reads'''''''.Learnt,
+    Reads'.Asked, Reads'.Learnt, Reads'''''''''''.Asked, Reads'''''''''''.Learnt, Reads'''.Asked, Reads'''.Learnt,) Reads''''.Pre Reads''''.Post
 abbrev pub Need-placed-rows-requires : Type 0
-Need-placed-rows-requires = Lts.Need-placed-rows-requires (
-  Reads''.Asked,
-  Reads''.Learnt,
-  Reads'''''''''.Asked,
-  Reads'''''''''.Learnt,
-  Reads''''''''.Asked,
-  Reads''''''''.Learnt,
-  Reads'''''''''''.Asked,
-  Reads'''''''''''.Learnt,
-  Reads'''''.Asked,
-  Reads'''''.Learnt,
-  Reads.Asked,
-  Reads.Learnt,
-  Reads''''''''''.Asked,
-  Reads''''''''''.Learnt,
-  Reads''''''.Asked,
-  Reads''''''.Learnt,
-  Reads'''''''.Asked,
-  Reads'''''''.Learnt,
-  Reads'.Asked,
-  Reads'.Learnt,
-  Reads'''.Asked,
-  Reads'''.Learnt,
-) Reads''''.Pre Reads''''.Post
-
+Need-placed-rows-requires = Lts.Need-placed-rows-requires (Reads''.Asked, Reads''.Learnt, Reads'''''''''.Asked, Reads'''''''''.Learnt,
+    Reads''''''''.Asked, Reads''''''''.Learnt, Reads''''''''''''.Asked, Reads''''''''''''.Learnt, Reads'''''.Asked, Reads'''''.Learnt, Reads.Asked,
+    Reads.Learnt, Reads''''''''''.Asked, Reads''''''''''.Learnt, Reads''''''.Asked, Reads''''''.Learnt, Reads'''''''.Asked, Reads'''''''.Learnt,
+    Reads'.Asked, Reads'.Learnt, Reads'''''''''''.Asked, Reads'''''''''''.Learnt, Reads'''.Asked, Reads'''.Learnt,) Reads''''.Pre Reads''''.Post
 abbrev pub Need-first-refusal-requires : Type 0
-Need-first-refusal-requires = Lts.Need-first-refusal-requires (
-  Reads''.Asked,
-  Reads''.Learnt,
-  Reads'''''''''.Asked,
-  Reads'''''''''.Learnt,
-  Reads''''''''.Asked,
-  Reads''''''''.Learnt,
-  Reads'''''''''''.Asked,
-  Reads'''''''''''.Learnt,
-  Reads'''''.Asked,
-  Reads'''''.Learnt,
-  Reads.Asked,
-  Reads.Learnt,
-  Reads''''''''''.Asked,
-  Reads''''''''''.Learnt,
-  Reads''''''.Asked,
-  Reads''''''.Learnt,
-  Reads'''''''.Asked,
-  Reads'''''''.Learnt,
-  Reads'.Asked,
-  Reads'.Learnt,
-  Reads'''.Asked,
-  Reads'''.Learnt,
-) Reads''''.Pre Reads''''.Post
-
+Need-first-refusal-requires = Lts.Need-first-refusal-requires (Reads''.Asked, Reads''.Learnt, Reads'''''''''.Asked, Reads'''''''''.Learnt,
+    Reads''''''''.Asked, Reads''''''''.Learnt, Reads''''''''''''.Asked, Reads''''''''''''.Learnt, Reads'''''.Asked, Reads'''''.Learnt, Reads.Asked,
+    Reads.Learnt, Reads''''''''''.Asked, Reads''''''''''.Learnt, Reads''''''.Asked, Reads''''''.Learnt, Reads'''''''.Asked, Reads'''''''.Learnt,
+    Reads'.Asked, Reads'.Learnt, Reads'''''''''''.Asked, Reads'''''''''''.Learnt, Reads'''.Asked, Reads'''.Learnt,) Reads''''.Pre Reads''''.Post
 abbrev pub Need-is-taken-requires : Type 0
-Need-is-taken-requires = Lts.Need-is-taken-requires (
-  Reads''.Asked,
-  Reads''.Learnt,
-  Reads'''''''''.Asked,
-  Reads'''''''''.Learnt,
-  Reads''''''''.Asked,
-  Reads''''''''.Learnt,
-  Reads'''''''''''.Asked,
-  Reads'''''''''''.Learnt,
-  Reads'''''.Asked,
-  Reads'''''.Learnt,
-  Reads.Asked,
-  Reads.Learnt,
-  Reads''''''''''.Asked,
-  Reads''''''''''.Learnt,
-  Reads''''''.Asked,
-  Reads''''''.Learnt,
-  Reads'''''''.Asked,
-  Reads'''''''.Learnt,
-  Reads'.Asked,
-  Reads'.Learnt,
-  Reads'''.Asked,
-  Reads'''.Learnt,
-) Reads''''.Pre Reads''''.Post
-
+Need-is-taken-requires = Lts.Need-is-taken-requires (Reads''.Asked, Reads''.Learnt, Reads'''''''''.Asked, Reads'''''''''.Learnt, Reads''''''''.Asked,
+    Reads''''''''.Learnt, Reads''''''''''''.Asked, Reads''''''''''''.Learnt, Reads'''''.Asked, Reads'''''.Learnt, Reads.Asked, Reads.Learnt,
+    Reads''''''''''.Asked, Reads''''''''''.Learnt, Reads''''''.Asked, Reads''''''.Learnt, Reads'''''''.Asked, Reads'''''''.Learnt, Reads'.Asked,
+    Reads'.Learnt, Reads'''''''''''.Asked, Reads'''''''''''.Learnt, Reads'''.Asked, Reads'''.Learnt,) Reads''''.Pre Reads''''.Post
 abbrev pub Need-book-requires : Type 0
-Need-book-requires = Lts.Need-book-requires (
-  Reads''.Asked,
-  Reads''.Learnt,
-  Reads'''''''''.Asked,
-  Reads'''''''''.Learnt,
-  Reads''''''''.Asked,
-  Reads''''''''.Learnt,
-  Reads'''''''''''.Asked,
-  Reads'''''''''''.Learnt,
-  Reads'''''.Asked,
-  Reads'''''.Learnt,
-  Reads.Asked,
-  Reads.Learnt,
-  Reads''''''''''.Asked,
-  Reads''''''''''.Learnt,
-  Reads''''''.Asked,
-  Reads''''''.Learnt,
-  Reads'''''''.Asked,
-  Reads'''''''.Learnt,
-  Reads'.Asked,
-  Reads'.Learnt,
-  Reads'''.Asked,
-  Reads'''.Learnt,
-) Reads''''.Pre Reads''''.Post
-
+Need-book-requires = Lts.Need-book-requires (Reads''.Asked, Reads''.Learnt, Reads'''''''''.Asked, Reads'''''''''.Learnt, Reads''''''''.Asked,
+    Reads''''''''.Learnt, Reads''''''''''''.Asked, Reads''''''''''''.Learnt, Reads'''''.Asked, Reads'''''.Learnt, Reads.Asked, Reads.Learnt,
+    Reads''''''''''.Asked, Reads''''''''''.Learnt, Reads''''''.Asked, Reads''''''.Learnt, Reads'''''''.Asked, Reads'''''''.Learnt, Reads'.Asked,
+    Reads'.Learnt, Reads'''''''''''.Asked, Reads'''''''''''.Learnt, Reads'''.Asked, Reads'''.Learnt,) Reads''''.Pre Reads''''.Post
+abbrev pub Need-with-ledger-requires : Type 0
+Need-with-ledger-requires = Lts.Need-with-ledger-requires (Reads''.Asked, Reads''.Learnt, Reads'''''''''.Asked, Reads'''''''''.Learnt,
+    Reads''''''''.Asked, Reads''''''''.Learnt, Reads''''''''''''.Asked, Reads''''''''''''.Learnt, Reads'''''.Asked, Reads'''''.Learnt, Reads.Asked,
+    Reads.Learnt, Reads''''''''''.Asked, Reads''''''''''.Learnt, Reads''''''.Asked, Reads''''''.Learnt, Reads'''''''.Asked, Reads'''''''.Learnt,
+    Reads'.Asked, Reads'.Learnt, Reads'''''''''''.Asked, Reads'''''''''''.Learnt, Reads'''.Asked, Reads'''.Learnt,) Reads''''.Pre Reads''''.Post
 abbrev pub Need-open-booked-requires : Type 0
-Need-open-booked-requires = Lts.Need-open-booked-requires (
-  Reads''.Asked,
-  Reads''.Learnt,
-  Reads'''''''''.Asked,
-  Reads'''''''''.Learnt,
-  Reads''''''''.Asked,
-  Reads''''''''.Learnt,
-  Reads'''''''''''.Asked,
-  Reads'''''''''''.Learnt,
-  Reads'''''.Asked,
-  Reads'''''.Learnt,
-  Reads.Asked,
-  Reads.Learnt,
-  Reads''''''''''.Asked,
-  Reads''''''''''.Learnt,
-  Reads''''''.Asked,
-  Reads''''''.Learnt,
-  Reads'''''''.Asked,
-  Reads'''''''.Learnt,
-  Reads'.Asked,
-  Reads'.Learnt,
-  Reads'''.Asked,
-  Reads'''.Learnt,
-) Reads''''.Pre Reads''''.Post
-
+Need-open-booked-requires = Lts.Need-open-booked-requires (Reads''.Asked, Reads''.Learnt, Reads'''''''''.Asked, Reads'''''''''.Learnt,
+    Reads''''''''.Asked, Reads''''''''.Learnt, Reads''''''''''''.Asked, Reads''''''''''''.Learnt, Reads'''''.Asked, Reads'''''.Learnt, Reads.Asked,
+    Reads.Learnt, Reads''''''''''.Asked, Reads''''''''''.Learnt, Reads''''''.Asked, Reads''''''.Learnt, Reads'''''''.Asked, Reads'''''''.Learnt,
+    Reads'.Asked, Reads'.Learnt, Reads'''''''''''.Asked, Reads'''''''''''.Learnt, Reads'''.Asked, Reads'''.Learnt,) Reads''''.Pre Reads''''.Post
 abbrev pub Need-same-length : Type 0
-Need-same-length = Lts.Need-same-length (
-  Reads''.Asked,
-  Reads''.Learnt,
-  Reads'''''''''.Asked,
-  Reads'''''''''.Learnt,
-  Reads''''''''.Asked,
-  Reads''''''''.Learnt,
-  Reads'''''''''''.Asked,
-  Reads'''''''''''.Learnt,
-  Reads'''''.Asked,
-  Reads'''''.Learnt,
-  Reads.Asked,
-  Reads.Learnt,
-  Reads''''''''''.Asked,
-  Reads''''''''''.Learnt,
-  Reads''''''.Asked,
-  Reads''''''.Learnt,
-  Reads'''''''.Asked,
-  Reads'''''''.Learnt,
-  Reads'.Asked,
-  Reads'.Learnt,
-  Reads'''.Asked,
-  Reads'''.Learnt,
-) Reads''''.Pre Reads''''.Post
-
+Need-same-length = Lts.Need-same-length (Reads''.Asked, Reads''.Learnt, Reads'''''''''.Asked, Reads'''''''''.Learnt, Reads''''''''.Asked,
+    Reads''''''''.Learnt, Reads''''''''''''.Asked, Reads''''''''''''.Learnt, Reads'''''.Asked, Reads'''''.Learnt, Reads.Asked, Reads.Learnt,
+    Reads''''''''''.Asked, Reads''''''''''.Learnt, Reads''''''.Asked, Reads''''''.Learnt, Reads'''''''.Asked, Reads'''''''.Learnt, Reads'.Asked,
+    Reads'.Learnt, Reads'''''''''''.Asked, Reads'''''''''''.Learnt, Reads'''.Asked, Reads'''.Learnt,) Reads''''.Pre Reads''''.Post
 abbrev pub Need-same-length-2 : Type 0
-Need-same-length-2 = Lts.Need-same-length-2 (
-  Reads''.Asked,
-  Reads''.Learnt,
-  Reads'''''''''.Asked,
-  Reads'''''''''.Learnt,
-  Reads''''''''.Asked,
-  Reads''''''''.Learnt,
-  Reads'''''''''''.Asked,
-  Reads'''''''''''.Learnt,
-  Reads'''''.Asked,
-  Reads'''''.Learnt,
-  Reads.Asked,
-  Reads.Learnt,
-  Reads''''''''''.Asked,
-  Reads''''''''''.Learnt,
-  Reads''''''.Asked,
-  Reads''''''.Learnt,
-  Reads'''''''.Asked,
-  Reads'''''''.Learnt,
-  Reads'.Asked,
-  Reads'.Learnt,
-  Reads'''.Asked,
-  Reads'''.Learnt,
-) Reads''''.Pre Reads''''.Post
-
+Need-same-length-2 = Lts.Need-same-length-2 (Reads''.Asked, Reads''.Learnt, Reads'''''''''.Asked, Reads'''''''''.Learnt, Reads''''''''.Asked,
+    Reads''''''''.Learnt, Reads''''''''''''.Asked, Reads''''''''''''.Learnt, Reads'''''.Asked, Reads'''''.Learnt, Reads.Asked, Reads.Learnt,
+    Reads''''''''''.Asked, Reads''''''''''.Learnt, Reads''''''.Asked, Reads''''''.Learnt, Reads'''''''.Asked, Reads'''''''.Learnt, Reads'.Asked,
+    Reads'.Learnt, Reads'''''''''''.Asked, Reads'''''''''''.Learnt, Reads'''.Asked, Reads'''.Learnt,) Reads''''.Pre Reads''''.Post
 abbrev pub Need-same-length-3 : Type 0
-Need-same-length-3 = Lts.Need-same-length-3 (
-  Reads''.Asked,
-  Reads''.Learnt,
-  Reads'''''''''.Asked,
-  Reads'''''''''.Learnt,
-  Reads''''''''.Asked,
-  Reads''''''''.Learnt,
-  Reads'''''''''''.Asked,
-  Reads'''''''''''.Learnt,
-  Reads'''''.Asked,
-  Reads'''''.Learnt,
-  Reads.Asked,
-  Reads.Learnt,
-  Reads''''''''''.Asked,
-  Reads''''''''''.Learnt,
-  Reads''''''.Asked,
-  Reads''''''.Learnt,
-  Reads'''''''.Asked,
-  Reads'''''''.Learnt,
-  Reads'.Asked,
-  Reads'.Learnt,
-  Reads'''.Asked,
-  Reads'''.Learnt,
-) Reads''''.Pre Reads''''.Post
-
+Need-same-length-3 = Lts.Need-same-length-3 (Reads''.Asked, Reads''.Learnt, Reads'''''''''.Asked, Reads'''''''''.Learnt, Reads''''''''.Asked,
+    Reads''''''''.Learnt, Reads''''''''''''.Asked, Reads''''''''''''.Learnt, Reads'''''.Asked, Reads'''''.Learnt, Reads.Asked, Reads.Learnt,
+    Reads''''''''''.Asked, Reads''''''''''.Learnt, Reads''''''.Asked, Reads''''''.Learnt, Reads'''''''.Asked, Reads'''''''.Learnt, Reads'.Asked,
+    Reads'.Learnt, Reads'''''''''''.Asked, Reads'''''''''''.Learnt, Reads'''.Asked, Reads'''.Learnt,) Reads''''.Pre Reads''''.Post
 abbrev pub Need-same-length-4 : Type 0
-Need-same-length-4 = Lts.Need-same-length-4 (
-  Reads''.Asked,
-  Reads''.Learnt,
-  Reads'''''''''.Asked,
-  Reads'''''''''.Learnt,
-  Reads''''''''.Asked,
-  Reads''''''''.Learnt,
-  Reads'''''''''''.Asked,
-  Reads'''''''''''.Learnt,
-  Reads'''''.Asked,
-  Reads'''''.Learnt,
-  Reads.Asked,
-  Reads.Learnt,
-  Reads''''''''''.Asked,
-  Reads''''''''''.Learnt,
-  Reads''''''.Asked,
-  Reads''''''.Learnt,
-  Reads'''''''.Asked,
-  Reads'''''''.Learnt,
-  Reads'.Asked,
-  Reads'.Learnt,
-  Reads'''.Asked,
-  Reads'''.Learnt,
-) Reads''''.Pre Reads''''.Post
-
+Need-same-length-4 = Lts.Need-same-length-4 (Reads''.Asked, Reads''.Learnt, Reads'''''''''.Asked, Reads'''''''''.Learnt, Reads''''''''.Asked,
+    Reads''''''''.Learnt, Reads''''''''''''.Asked, Reads''''''''''''.Learnt, Reads'''''.Asked, Reads'''''.Learnt, Reads.Asked, Reads.Learnt,
+    Reads''''''''''.Asked, Reads''''''''''.Learnt, Reads''''''.Asked, Reads''''''.Learnt, Reads'''''''.Asked, Reads'''''''.Learnt, Reads'.Asked,
+    Reads'.Learnt, Reads'''''''''''.Asked, Reads'''''''''''.Learnt, Reads'''.Asked, Reads'''.Learnt,) Reads''''.Pre Reads''''.Post
 abbrev pub Need-returns : Type 0
-Need-returns = Lts.Need-returns (
-  Reads''.Asked,
-  Reads''.Learnt,
-  Reads'''''''''.Asked,
-  Reads'''''''''.Learnt,
-  Reads''''''''.Asked,
-  Reads''''''''.Learnt,
-  Reads'''''''''''.Asked,
-  Reads'''''''''''.Learnt,
-  Reads'''''.Asked,
-  Reads'''''.Learnt,
-  Reads.Asked,
-  Reads.Learnt,
-  Reads''''''''''.Asked,
-  Reads''''''''''.Learnt,
-  Reads''''''.Asked,
-  Reads''''''.Learnt,
-  Reads'''''''.Asked,
-  Reads'''''''.Learnt,
-  Reads'.Asked,
-  Reads'.Learnt,
-  Reads'''.Asked,
-  Reads'''.Learnt,
-) Reads''''.Pre Reads''''.Post
-
-module _ {M : Type 1} where
+Need-returns = Lts.Need-returns (Reads''.Asked, Reads''.Learnt, Reads'''''''''.Asked, Reads'''''''''.Learnt, Reads''''''''.Asked,
+    Reads''''''''.Learnt, Reads''''''''''''.Asked, Reads''''''''''''.Learnt, Reads'''''.Asked, Reads'''''.Learnt, Reads.Asked, Reads.Learnt,
+    Reads''''''''''.Asked, Reads''''''''''.Learnt, Reads''''''.Asked, Reads''''''.Learnt, Reads'''''''.Asked, Reads'''''''.Learnt, Reads'.Asked,
+    Reads'.Learnt, Reads'''''''''''.Asked, Reads'''''''''''.Learnt, Reads'''.Asked, Reads'''.Learnt,) Reads''''.Pre Reads''''.Post
+module _ { M : Type 1 } where
   pub spec : (answer : Need-draw-requires) → (answer : Need-open-plan-requires) → (answer : Need-incoming-out-requires) → (answer :
       Need-asking-requires) → (answer : Need-scan-actions-requires) → (answer : Need-ask-ledger-requires) → (answer : Need-placed-rows-requires) →
       (answer : Need-first-refusal-requires) → (answer : Need-is-taken-requires) → (answer : Need-book-requires) → (answer :
-      Need-open-booked-requires) → (answer : Need-same-length) → (answer : Need-same-length-2) → (answer : Need-same-length-3) → (answer :
-      Need-same-length-4) → (answer : Need-returns) → Lts.Closed (
-        Reads''.Asked,
-        Reads''.Learnt,
-        Reads'''''''''.Asked,
-        Reads'''''''''.Learnt,
-        Reads''''''''.Asked,
-        Reads''''''''.Learnt,
-        Reads'''''''''''.Asked,
-        Reads'''''''''''.Learnt,
-        Reads'''''.Asked,
-        Reads'''''.Learnt,
-        Reads.Asked,
-        Reads.Learnt,
-        Reads''''''''''.Asked,
-        Reads''''''''''.Learnt,
-        Reads''''''.Asked,
-        Reads''''''.Learnt,
-        Reads'''''''.Asked,
-        Reads'''''''.Learnt,
-        Reads'.Asked,
-        Reads'.Learnt,
-        Reads'''.Asked,
-        Reads'''.Learnt,
-      ) Reads''''.Pre Reads''''.Post M
+      Need-with-ledger-requires) → (answer : Need-open-booked-requires) → (answer : Need-same-length) → (answer : Need-same-length-2) → (answer :
+      Need-same-length-3) → (answer : Need-same-length-4) → (answer : Need-returns) → Lts.Closed (Reads''.Asked, Reads''.Learnt, Reads'''''''''.Asked,
+      Reads'''''''''.Learnt, Reads''''''''.Asked, Reads''''''''.Learnt, Reads''''''''''''.Asked, Reads''''''''''''.Learnt, Reads'''''.Asked,
+      Reads'''''.Learnt, Reads.Asked, Reads.Learnt, Reads''''''''''.Asked, Reads''''''''''.Learnt, Reads''''''.Asked, Reads''''''.Learnt,
+      Reads'''''''.Asked, Reads'''''''.Learnt, Reads'.Asked, Reads'.Learnt, Reads'''''''''''.Asked, Reads'''''''''''.Learnt, Reads'''.Asked,
+      Reads'''.Learnt,) Reads''''.Pre Reads''''.Post M
   spec = λ answer answer' answer'' answer'3 answer'4 answer'5 answer'6 answer'7 answer'8 answer'9 answer'10 answer'11 answer'12 answer'13 answer'14
-      answer'15. Lts.spec (
-        Reads''.Asked,
-        Reads''.Learnt,
-        Reads'''''''''.Asked,
-        Reads'''''''''.Learnt,
-        Reads''''''''.Asked,
-        Reads''''''''.Learnt,
-        Reads'''''''''''.Asked,
-        Reads'''''''''''.Learnt,
-        Reads'''''.Asked,
-        Reads'''''.Learnt,
-        Reads.Asked,
-        Reads.Learnt,
-        Reads''''''''''.Asked,
-        Reads''''''''''.Learnt,
-        Reads''''''.Asked,
-        Reads''''''.Learnt,
-        Reads'''''''.Asked,
-        Reads'''''''.Learnt,
-        Reads'.Asked,
-        Reads'.Learnt,
-        Reads'''.Asked,
-        Reads'''.Learnt,
-      ) Reads''''.Pre Reads''''.Post answer answer' answer'' answer'3 answer'4 answer'5 answer'6 answer'7 answer'8
-      answer'9 answer'10 answer'11 answer'12 answer'13 answer'14 answer'15
-
-  pub close : Lts.Closed (
-    Reads''.Asked,
-    Reads''.Learnt,
-    Reads'''''''''.Asked,
-    Reads'''''''''.Learnt,
-    Reads''''''''.Asked,
-    Reads''''''''.Learnt,
-    Reads'''''''''''.Asked,
-    Reads'''''''''''.Learnt,
-    Reads'''''.Asked,
-    Reads'''''.Learnt,
-    Reads.Asked,
-    Reads.Learnt,
-    Reads''''''''''.Asked,
-    Reads''''''''''.Learnt,
-    Reads''''''.Asked,
-    Reads''''''.Learnt,
-    Reads'''''''.Asked,
-    Reads'''''''.Learnt,
-    Reads'.Asked,
-    Reads'.Learnt,
-    Reads'''.Asked,
-    Reads'''.Learnt,
-  ) Reads''''.Pre Reads''''.Post M → Statement.statement M
+      answer'15 answer'16. Lts.spec (Reads''.Asked, Reads''.Learnt, Reads'''''''''.Asked, Reads'''''''''.Learnt, Reads''''''''.Asked,
+      Reads''''''''.Learnt, Reads''''''''''''.Asked, Reads''''''''''''.Learnt, Reads'''''.Asked, Reads'''''.Learnt, Reads.Asked, Reads.Learnt,
+      Reads''''''''''.Asked, Reads''''''''''.Learnt, Reads''''''.Asked, Reads''''''.Learnt, Reads'''''''.Asked, Reads'''''''.Learnt, Reads'.Asked,
+      Reads'.Learnt, Reads'''''''''''.Asked, Reads'''''''''''.Learnt, Reads'''.Asked, Reads'''.Learnt,) Reads''''.Pre Reads''''.Post answer answer'
+      answer'' answer'3 answer'4 answer'5 answer'6 answer'7 answer'8 answer'9 answer'10 answer'11 answer'12 answer'13 answer'14 answer'15 answer'16
+  pub close : Lts.Closed (Reads''.Asked, Reads''.Learnt, Reads'''''''''.Asked, Reads'''''''''.Learnt, Reads''''''''.Asked, Reads''''''''.Learnt,
+      Reads''''''''''''.Asked, Reads''''''''''''.Learnt, Reads'''''.Asked, Reads'''''.Learnt, Reads.Asked, Reads.Learnt, Reads''''''''''.Asked,
+      Reads''''''''''.Learnt, Reads''''''.Asked, Reads''''''.Learnt, Reads'''''''.Asked, Reads'''''''.Learnt, Reads'.Asked, Reads'.Learnt,
+      Reads'''''''''''.Asked, Reads'''''''''''.Learnt, Reads'''.Asked, Reads'''.Learnt,) Reads''''.Pre Reads''''.Post M → Statement.statement M
   unfolding Code.routine Running.tablesOf
   close = λ closed 𝓤 H 𝓜 𝓖 𝓡. Written.close 6 Kinds.ps Kinds.r Reads''''.Ghost Reads''''.requires Reads''''.ensures Reads''''.pre-read
       Reads''''.Pinned Reads''''.Owned Reads''''.post-read record { M = M; 𝓤 = 𝓤; H = H; 𝓜 = 𝓜; 𝓖 = 𝓖; 𝓡 = 𝓡 } Code.env Key.name Code.function
       (Code.unfolded 𝓤 H 𝓜 𝓡) (λ κs a g. tt) (λ κs. Reads''''.owns κs record { M = M; 𝓤 = 𝓤; H = H; 𝓜 = 𝓜; 𝓖 = 𝓖; 𝓡 = 𝓡 }) (Reads''''.passes record {
-        M = M;
-        𝓤 = 𝓤;
-        H = H;
-        𝓜 = 𝓜;
-        𝓖 = 𝓖;
-        𝓡 = 𝓡;
-      }) λ g. closed 𝓤 H (𝓖 .A) (Running.givenOf 𝓤 H 𝓜 𝓖) (Run.Over 𝓤 H 𝓜 𝓖 𝓡 Code.env) (Reads''.known record
+      M = M; 𝓤 = 𝓤; H = H; 𝓜 = 𝓜; 𝓖 = 𝓖; 𝓡 = 𝓡 }) λ g. closed 𝓤 H (𝓖 .A) (Running.givenOf 𝓤 H 𝓜 𝓖) (Run.Over 𝓤 H 𝓜 𝓖 𝓡 Code.env) (Reads''.known record
       { M = M; 𝓤 = 𝓤; H = H; 𝓜 = 𝓜; 𝓖 = 𝓖; 𝓡 = 𝓡 } Code.env Symbol''''.name Symbol''''.routine Code.calls-hnsr-circuit·handle-open·draw (Met''''.met 𝓤
       H 𝓜 𝓖 𝓡)) (Reads'''''''''.known record { M = M; 𝓤 = 𝓤; H = H; 𝓜 = 𝓜; 𝓖 = 𝓖; 𝓡 = 𝓡 } Code.env Symbol'''''''.name Symbol'''''''.routine
       Code.calls-hnsr-circuit·open·open-plan (Met'''''''.met 𝓤 H 𝓜 𝓖 𝓡)) (Reads''''''''.known record { M = M; 𝓤 = 𝓤; H = H; 𝓜 = 𝓜; 𝓖 = 𝓖; 𝓡 = 𝓡 }
-      Code.env Symbol''''''.name Symbol''''''.routine Code.calls-hnsr-circuit·open·incoming-out (Met''''''.met 𝓤 H 𝓜 𝓖 𝓡)) (Reads'''''''''''.known
-      record { M = M; 𝓤 = 𝓤; H = H; 𝓜 = 𝓜; 𝓖 = 𝓖; 𝓡 = 𝓡 } Code.env Symbol'''''''''.name Symbol'''''''''.routine Code.calls-hnsr-circuit·queue·asking
-      (Met'''''''''.met 𝓤 H 𝓜 𝓖 𝓡)) (Reads'''''.known record { M = M; 𝓤 = 𝓤; H = H; 𝓜 = 𝓜; 𝓖 = 𝓖; 𝓡 = 𝓡 } Code.env Symbol''''''''''.name
-      Symbol''''''''''.routine Code.calls-hnsr-circuit·tables·inflight·scan-actions (Met''''''''''.met 𝓤 H 𝓜 𝓖 𝓡)) (Reads.known record {
-        M = M;
-        𝓤 = 𝓤;
-        H = H;
-        𝓜 = 𝓜;
-        𝓖 = 𝓖;
-        𝓡 = 𝓡;
-      } Code.env Symbol''.name Symbol''.routine Code.calls-hnsr-circuit·handle-open·ask-ledger (Met''.met 𝓤 H 𝓜 𝓖 𝓡))
+      Code.env Symbol''''''.name Symbol''''''.routine Code.calls-hnsr-circuit·open·incoming-out (Met''''''.met 𝓤 H 𝓜 𝓖 𝓡)) (Reads''''''''''''.known
+      record { M = M; 𝓤 = 𝓤; H = H; 𝓜 = 𝓜; 𝓖 = 𝓖; 𝓡 = 𝓡 } Code.env Symbol''''''''''.name Symbol''''''''''.routine Code.calls-hnsr-circuit·queue·asking
+      (Met''''''''''.met 𝓤 H 𝓜 𝓖 𝓡)) (Reads'''''.known record { M = M; 𝓤 = 𝓤; H = H; 𝓜 = 𝓜; 𝓖 = 𝓖; 𝓡 = 𝓡 } Code.env Symbol'''''''''''.name
+      Symbol'''''''''''.routine Code.calls-hnsr-circuit·tables·inflight·scan-actions (Met'''''''''''.met 𝓤 H 𝓜 𝓖 𝓡)) (Reads.known record { M = M; 𝓤 =
+      𝓤; H = H; 𝓜 = 𝓜; 𝓖 = 𝓖; 𝓡 = 𝓡 } Code.env Symbol''.name Symbol''.routine Code.calls-hnsr-circuit·handle-open·ask-ledger (Met''.met 𝓤 H 𝓜 𝓖 𝓡))
       (Reads''''''''''.known record { M = M; 𝓤 = 𝓤; H = H; 𝓜 = 𝓜; 𝓖 = 𝓖; 𝓡 = 𝓡 } Code.env Symbol''''''''.name Symbol''''''''.routine
       Code.calls-hnsr-circuit·open·placed-rows (Met''''''''.met 𝓤 H 𝓜 𝓖 𝓡)) (Reads''''''.known record { M = M; 𝓤 = 𝓤; H = H; 𝓜 = 𝓜; 𝓖 = 𝓖; 𝓡 = 𝓡 }
-      Code.env Symbol.name Symbol.routine Code.calls-hnsr-circuit·answer·first-refusal (Met.met 𝓤 H 𝓜 𝓖 𝓡)) (Reads'''''''.known record {
-        M = M;
-        𝓤 = 𝓤;
-        H = H;
-        𝓜 = 𝓜;
-        𝓖 = 𝓖;
-        𝓡 = 𝓡;
-      } Code.env Symbol'.name Symbol'.routine Code.calls-hnsr-circuit·answer·is-taken (Met'.met 𝓤 H 𝓜 𝓖 𝓡)) (Reads'.known
+      Code.env Symbol.name Symbol.routine Code.calls-hnsr-circuit·answer·first-refusal (Met.met 𝓤 H 𝓜 𝓖 𝓡)) (Reads'''''''.known record { M = M; 𝓤 = 𝓤;
+      H = H; 𝓜 = 𝓜; 𝓖 = 𝓖; 𝓡 = 𝓡 } Code.env Symbol'.name Symbol'.routine Code.calls-hnsr-circuit·answer·is-taken (Met'.met 𝓤 H 𝓜 𝓖 𝓡)) (Reads'.known
       record { M = M; 𝓤 = 𝓤; H = H; 𝓜 = 𝓜; 𝓖 = 𝓖; 𝓡 = 𝓡 } Code.env Symbol'''.name Symbol'''.routine Code.calls-hnsr-circuit·handle-open·book
-      (Met'''.met 𝓤 H 𝓜 𝓖 𝓡)) (Reads'''.known record { M = M; 𝓤 = 𝓤; H = H; 𝓜 = 𝓜; 𝓖 = 𝓖; 𝓡 = 𝓡 } Code.env Symbol'''''.name Symbol'''''.routine
-      Code.calls-hnsr-circuit·handle-open·open-booked (Met'''''.met 𝓤 H 𝓜 𝓖 𝓡))
+      (Met'''.met 𝓤 H 𝓜 𝓖 𝓡)) (Reads'''''''''''.known record { M = M; 𝓤 = 𝓤; H = H; 𝓜 = 𝓜; 𝓖 = 𝓖; 𝓡 = 𝓡 } Code.env Symbol'''''''''.name
+      Symbol'''''''''.routine Code.calls-hnsr-circuit·places·with-ledger (Met'''''''''.met 𝓤 H 𝓜 𝓖 𝓡)) (Reads'''.known record { M = M; 𝓤 = 𝓤; H = H; 𝓜
+      = 𝓜; 𝓖 = 𝓖; 𝓡 = 𝓡 } Code.env Symbol'''''.name Symbol'''''.routine Code.calls-hnsr-circuit·handle-open·open-booked (Met'''''.met 𝓤 H 𝓜 𝓖 𝓡))

@@ -31,831 +31,188 @@ use borrow.Fn.Written
 use contract.Running
 
 abbrev pub Start : Type 0
-Start = Lts.Start (
-  Reads'''''.Asked,
-  Reads'''''.Learnt,
-  Reads'.Asked,
-  Reads'.Learnt,
-  Reads''''''.Asked,
-  Reads''''''.Learnt,
-  Reads'''''''.Asked,
-  Reads'''''''.Learnt,
-  Reads''''.Asked,
-  Reads''''.Learnt,
-  Reads.Asked,
-  Reads.Learnt,
-  Reads''.Asked,
-  Reads''.Learnt,
-) Reads'''.Pre Reads'''.Post
-
+Start = Lts.Start (Reads'''''.Asked, Reads'''''.Learnt, Reads'.Asked, Reads'.Learnt, Reads''''''.Asked, Reads''''''.Learnt, Reads'''''''.Asked,
+    Reads'''''''.Learnt, Reads''''.Asked, Reads''''.Learnt, Reads.Asked, Reads.Learnt, Reads''.Asked, Reads''.Learnt,) Reads'''.Pre Reads'''.Post
 abbrev pub After-slice-known : Type 0
-After-slice-known = Lts.After-slice-known (
-  Reads'''''.Asked,
-  Reads'''''.Learnt,
-  Reads'.Asked,
-  Reads'.Learnt,
-  Reads''''''.Asked,
-  Reads''''''.Learnt,
-  Reads'''''''.Asked,
-  Reads'''''''.Learnt,
-  Reads''''.Asked,
-  Reads''''.Learnt,
-  Reads.Asked,
-  Reads.Learnt,
-  Reads''.Asked,
-  Reads''.Learnt,
-)
+After-slice-known = Lts.After-slice-known (Reads'''''.Asked, Reads'''''.Learnt, Reads'.Asked, Reads'.Learnt, Reads''''''.Asked, Reads''''''.Learnt,
+    Reads'''''''.Asked, Reads'''''''.Learnt, Reads''''.Asked, Reads''''.Learnt, Reads.Asked, Reads.Learnt, Reads''.Asked, Reads''.Learnt,)
     Reads'''.Pre Reads'''.Post
-
+abbrev pub After-places : Type 0
+After-places = Lts.After-places (Reads'''''.Asked, Reads'''''.Learnt, Reads'.Asked, Reads'.Learnt, Reads''''''.Asked, Reads''''''.Learnt,
+    Reads'''''''.Asked, Reads'''''''.Learnt, Reads''''.Asked, Reads''''.Learnt, Reads.Asked, Reads.Learnt, Reads''.Asked, Reads''.Learnt,)
+    Reads'''.Pre Reads'''.Post
 abbrev pub After-at : Type 0
-After-at = Lts.After-at (
-  Reads'''''.Asked,
-  Reads'''''.Learnt,
-  Reads'.Asked,
-  Reads'.Learnt,
-  Reads''''''.Asked,
-  Reads''''''.Learnt,
-  Reads'''''''.Asked,
-  Reads'''''''.Learnt,
-  Reads''''.Asked,
-  Reads''''.Learnt,
-  Reads.Asked,
-  Reads.Learnt,
-  Reads''.Asked,
-  Reads''.Learnt,
-) Reads'''.Pre Reads'''.Post
-
+After-at = Lts.After-at (Reads'''''.Asked, Reads'''''.Learnt, Reads'.Asked, Reads'.Learnt, Reads''''''.Asked, Reads''''''.Learnt, Reads'''''''.Asked,
+    Reads'''''''.Learnt, Reads''''.Asked, Reads''''.Learnt, Reads.Asked, Reads.Learnt, Reads''.Asked, Reads''.Learnt,) Reads'''.Pre Reads'''.Post
 abbrev pub After-look-up-circuit-arg : Type 0
-After-look-up-circuit-arg = Lts.After-look-up-circuit-arg (
-  Reads'''''.Asked,
-  Reads'''''.Learnt,
-  Reads'.Asked,
-  Reads'.Learnt,
-  Reads''''''.Asked,
-  Reads''''''.Learnt,
-  Reads'''''''.Asked,
-  Reads'''''''.Learnt,
-  Reads''''.Asked,
-  Reads''''.Learnt,
-  Reads.Asked,
-  Reads.Learnt,
-  Reads''.Asked,
-  Reads''.Learnt,
-) Reads'''.Pre Reads'''.Post
-
+After-look-up-circuit-arg = Lts.After-look-up-circuit-arg (Reads'''''.Asked, Reads'''''.Learnt, Reads'.Asked, Reads'.Learnt, Reads''''''.Asked,
+    Reads''''''.Learnt, Reads'''''''.Asked, Reads'''''''.Learnt, Reads''''.Asked, Reads''''.Learnt, Reads.Asked, Reads.Learnt, Reads''.Asked,
+    Reads''.Learnt,) Reads'''.Pre Reads'''.Post
 abbrev pub After-look-up-circuit : Type 0
-After-look-up-circuit = Lts.After-look-up-circuit (
-  Reads'''''.Asked,
-  Reads'''''.Learnt,
-  Reads'.Asked,
-  Reads'.Learnt,
-  Reads''''''.Asked,
-  Reads''''''.Learnt,
-  Reads'''''''.Asked,
-  Reads'''''''.Learnt,
-  Reads''''.Asked,
-  Reads''''.Learnt,
-  Reads.Asked,
-  Reads.Learnt,
-  Reads''.Asked,
-  Reads''.Learnt,
-) Reads'''.Pre Reads'''.Post
-
+After-look-up-circuit = Lts.After-look-up-circuit (Reads'''''.Asked, Reads'''''.Learnt, Reads'.Asked, Reads'.Learnt, Reads''''''.Asked,
+    Reads''''''.Learnt, Reads'''''''.Asked, Reads'''''''.Learnt, Reads''''.Asked, Reads''''.Learnt, Reads.Asked, Reads.Learnt, Reads''.Asked,
+    Reads''.Learnt,) Reads'''.Pre Reads'''.Post
 abbrev pub After-circuit-gone : Type 0
-After-circuit-gone = Lts.After-circuit-gone (
-  Reads'''''.Asked,
-  Reads'''''.Learnt,
-  Reads'.Asked,
-  Reads'.Learnt,
-  Reads''''''.Asked,
-  Reads''''''.Learnt,
-  Reads'''''''.Asked,
-  Reads'''''''.Learnt,
-  Reads''''.Asked,
-  Reads''''.Learnt,
-  Reads.Asked,
-  Reads.Learnt,
-  Reads''.Asked,
-  Reads''.Learnt,
-)
+After-circuit-gone = Lts.After-circuit-gone (Reads'''''.Asked, Reads'''''.Learnt, Reads'.Asked, Reads'.Learnt, Reads''''''.Asked, Reads''''''.Learnt,
+    Reads'''''''.Asked, Reads'''''''.Learnt, Reads''''.Asked, Reads''''.Learnt, Reads.Asked, Reads.Learnt, Reads''.Asked, Reads''.Learnt,)
     Reads'''.Pre Reads'''.Post
-
 abbrev pub After-plan-circuit : Type 0
-After-plan-circuit = Lts.After-plan-circuit (
-  Reads'''''.Asked,
-  Reads'''''.Learnt,
-  Reads'.Asked,
-  Reads'.Learnt,
-  Reads''''''.Asked,
-  Reads''''''.Learnt,
-  Reads'''''''.Asked,
-  Reads'''''''.Learnt,
-  Reads''''.Asked,
-  Reads''''.Learnt,
-  Reads.Asked,
-  Reads.Learnt,
-  Reads''.Asked,
-  Reads''.Learnt,
-)
+After-plan-circuit = Lts.After-plan-circuit (Reads'''''.Asked, Reads'''''.Learnt, Reads'.Asked, Reads'.Learnt, Reads''''''.Asked, Reads''''''.Learnt,
+    Reads'''''''.Asked, Reads'''''''.Learnt, Reads''''.Asked, Reads''''.Learnt, Reads.Asked, Reads.Learnt, Reads''.Asked, Reads''.Learnt,)
     Reads'''.Pre Reads'''.Post
-
 abbrev pub After-after : Type 0
-After-after = Lts.After-after (
-  Reads'''''.Asked,
-  Reads'''''.Learnt,
-  Reads'.Asked,
-  Reads'.Learnt,
-  Reads''''''.Asked,
-  Reads''''''.Learnt,
-  Reads'''''''.Asked,
-  Reads'''''''.Learnt,
-  Reads''''.Asked,
-  Reads''''.Learnt,
-  Reads.Asked,
-  Reads.Learnt,
-  Reads''.Asked,
-  Reads''.Learnt,
-)
+After-after = Lts.After-after (Reads'''''.Asked, Reads'''''.Learnt, Reads'.Asked, Reads'.Learnt, Reads''''''.Asked, Reads''''''.Learnt,
+    Reads'''''''.Asked, Reads'''''''.Learnt, Reads''''.Asked, Reads''''.Learnt, Reads.Asked, Reads.Learnt, Reads''.Asked, Reads''.Learnt,)
     Reads'''.Pre Reads'''.Post
-
 abbrev pub After-first : Type 0
-After-first = Lts.After-first (
-  Reads'''''.Asked,
-  Reads'''''.Learnt,
-  Reads'.Asked,
-  Reads'.Learnt,
-  Reads''''''.Asked,
-  Reads''''''.Learnt,
-  Reads'''''''.Asked,
-  Reads'''''''.Learnt,
-  Reads''''.Asked,
-  Reads''''.Learnt,
-  Reads.Asked,
-  Reads.Learnt,
-  Reads''.Asked,
-  Reads''.Learnt,
-)
+After-first = Lts.After-first (Reads'''''.Asked, Reads'''''.Learnt, Reads'.Asked, Reads'.Learnt, Reads''''''.Asked, Reads''''''.Learnt,
+    Reads'''''''.Asked, Reads'''''''.Learnt, Reads''''.Asked, Reads''''.Learnt, Reads.Asked, Reads.Learnt, Reads''.Asked, Reads''.Learnt,)
     Reads'''.Pre Reads'''.Post
-
 abbrev pub After-second : Type 0
-After-second = Lts.After-second (
-  Reads'''''.Asked,
-  Reads'''''.Learnt,
-  Reads'.Asked,
-  Reads'.Learnt,
-  Reads''''''.Asked,
-  Reads''''''.Learnt,
-  Reads'''''''.Asked,
-  Reads'''''''.Learnt,
-  Reads''''.Asked,
-  Reads''''.Learnt,
-  Reads.Asked,
-  Reads.Learnt,
-  Reads''.Asked,
-  Reads''.Learnt,
-)
+After-second = Lts.After-second (Reads'''''.Asked, Reads'''''.Learnt, Reads'.Asked, Reads'.Learnt, Reads''''''.Asked, Reads''''''.Learnt,
+    Reads'''''''.Asked, Reads'''''''.Learnt, Reads''''.Asked, Reads''''.Learnt, Reads.Asked, Reads.Learnt, Reads''.Asked, Reads''.Learnt,)
     Reads'''.Pre Reads'''.Post
-
 abbrev pub After-set-circuit-arg : Type 0
-After-set-circuit-arg = Lts.After-set-circuit-arg (
-  Reads'''''.Asked,
-  Reads'''''.Learnt,
-  Reads'.Asked,
-  Reads'.Learnt,
-  Reads''''''.Asked,
-  Reads''''''.Learnt,
-  Reads'''''''.Asked,
-  Reads'''''''.Learnt,
-  Reads''''.Asked,
-  Reads''''.Learnt,
-  Reads.Asked,
-  Reads.Learnt,
-  Reads''.Asked,
-  Reads''.Learnt,
-) Reads'''.Pre Reads'''.Post
-
+After-set-circuit-arg = Lts.After-set-circuit-arg (Reads'''''.Asked, Reads'''''.Learnt, Reads'.Asked, Reads'.Learnt, Reads''''''.Asked,
+    Reads''''''.Learnt, Reads'''''''.Asked, Reads'''''''.Learnt, Reads''''.Asked, Reads''''.Learnt, Reads.Asked, Reads.Learnt, Reads''.Asked,
+    Reads''.Learnt,) Reads'''.Pre Reads'''.Post
 abbrev pub After-set-circuit : Type 0
-After-set-circuit = Lts.After-set-circuit (
-  Reads'''''.Asked,
-  Reads'''''.Learnt,
-  Reads'.Asked,
-  Reads'.Learnt,
-  Reads''''''.Asked,
-  Reads''''''.Learnt,
-  Reads'''''''.Asked,
-  Reads'''''''.Learnt,
-  Reads''''.Asked,
-  Reads''''.Learnt,
-  Reads.Asked,
-  Reads.Learnt,
-  Reads''.Asked,
-  Reads''.Learnt,
-)
+After-set-circuit = Lts.After-set-circuit (Reads'''''.Asked, Reads'''''.Learnt, Reads'.Asked, Reads'.Learnt, Reads''''''.Asked, Reads''''''.Learnt,
+    Reads'''''''.Asked, Reads'''''''.Learnt, Reads''''.Asked, Reads''''.Learnt, Reads.Asked, Reads.Learnt, Reads''.Asked, Reads''.Learnt,)
     Reads'''.Pre Reads'''.Post
-
 abbrev pub After-circuits : Type 0
-After-circuits = Lts.After-circuits (
-  Reads'''''.Asked,
-  Reads'''''.Learnt,
-  Reads'.Asked,
-  Reads'.Learnt,
-  Reads''''''.Asked,
-  Reads''''''.Learnt,
-  Reads'''''''.Asked,
-  Reads'''''''.Learnt,
-  Reads''''.Asked,
-  Reads''''.Learnt,
-  Reads.Asked,
-  Reads.Learnt,
-  Reads''.Asked,
-  Reads''.Learnt,
-)
+After-circuits = Lts.After-circuits (Reads'''''.Asked, Reads'''''.Learnt, Reads'.Asked, Reads'.Learnt, Reads''''''.Asked, Reads''''''.Learnt,
+    Reads'''''''.Asked, Reads'''''''.Learnt, Reads''''.Asked, Reads''''.Learnt, Reads.Asked, Reads.Learnt, Reads''.Asked, Reads''.Learnt,)
     Reads'''.Pre Reads'''.Post
-
 abbrev pub After-drop-actions-arg : Type 0
-After-drop-actions-arg = Lts.After-drop-actions-arg (
-  Reads'''''.Asked,
-  Reads'''''.Learnt,
-  Reads'.Asked,
-  Reads'.Learnt,
-  Reads''''''.Asked,
-  Reads''''''.Learnt,
-  Reads'''''''.Asked,
-  Reads'''''''.Learnt,
-  Reads''''.Asked,
-  Reads''''.Learnt,
-  Reads.Asked,
-  Reads.Learnt,
-  Reads''.Asked,
-  Reads''.Learnt,
-) Reads'''.Pre Reads'''.Post
-
+After-drop-actions-arg = Lts.After-drop-actions-arg (Reads'''''.Asked, Reads'''''.Learnt, Reads'.Asked, Reads'.Learnt, Reads''''''.Asked,
+    Reads''''''.Learnt, Reads'''''''.Asked, Reads'''''''.Learnt, Reads''''.Asked, Reads''''.Learnt, Reads.Asked, Reads.Learnt, Reads''.Asked,
+    Reads''.Learnt,) Reads'''.Pre Reads'''.Post
 abbrev pub After-drop-actions : Type 0
-After-drop-actions = Lts.After-drop-actions (
-  Reads'''''.Asked,
-  Reads'''''.Learnt,
-  Reads'.Asked,
-  Reads'.Learnt,
-  Reads''''''.Asked,
-  Reads''''''.Learnt,
-  Reads'''''''.Asked,
-  Reads'''''''.Learnt,
-  Reads''''.Asked,
-  Reads''''.Learnt,
-  Reads.Asked,
-  Reads.Learnt,
-  Reads''.Asked,
-  Reads''.Learnt,
-)
+After-drop-actions = Lts.After-drop-actions (Reads'''''.Asked, Reads'''''.Learnt, Reads'.Asked, Reads'.Learnt, Reads''''''.Asked, Reads''''''.Learnt,
+    Reads'''''''.Asked, Reads'''''''.Learnt, Reads''''.Asked, Reads''''.Learnt, Reads.Asked, Reads.Learnt, Reads''.Asked, Reads''.Learnt,)
     Reads'''.Pre Reads'''.Post
-
 abbrev pub After-inflight : Type 0
-After-inflight = Lts.After-inflight (
-  Reads'''''.Asked,
-  Reads'''''.Learnt,
-  Reads'.Asked,
-  Reads'.Learnt,
-  Reads''''''.Asked,
-  Reads''''''.Learnt,
-  Reads'''''''.Asked,
-  Reads'''''''.Learnt,
-  Reads''''.Asked,
-  Reads''''.Learnt,
-  Reads.Asked,
-  Reads.Learnt,
-  Reads''.Asked,
-  Reads''.Learnt,
-)
+After-inflight = Lts.After-inflight (Reads'''''.Asked, Reads'''''.Learnt, Reads'.Asked, Reads'.Learnt, Reads''''''.Asked, Reads''''''.Learnt,
+    Reads'''''''.Asked, Reads'''''''.Learnt, Reads''''.Asked, Reads''''.Learnt, Reads.Asked, Reads.Learnt, Reads''.Asked, Reads''.Learnt,)
     Reads'''.Pre Reads'''.Post
-
 abbrev pub After-tell-notice-arg : Type 0
-After-tell-notice-arg = Lts.After-tell-notice-arg (
-  Reads'''''.Asked,
-  Reads'''''.Learnt,
-  Reads'.Asked,
-  Reads'.Learnt,
-  Reads''''''.Asked,
-  Reads''''''.Learnt,
-  Reads'''''''.Asked,
-  Reads'''''''.Learnt,
-  Reads''''.Asked,
-  Reads''''.Learnt,
-  Reads.Asked,
-  Reads.Learnt,
-  Reads''.Asked,
-  Reads''.Learnt,
-) Reads'''.Pre Reads'''.Post
-
+After-tell-notice-arg = Lts.After-tell-notice-arg (Reads'''''.Asked, Reads'''''.Learnt, Reads'.Asked, Reads'.Learnt, Reads''''''.Asked,
+    Reads''''''.Learnt, Reads'''''''.Asked, Reads'''''''.Learnt, Reads''''.Asked, Reads''''.Learnt, Reads.Asked, Reads.Learnt, Reads''.Asked,
+    Reads''.Learnt,) Reads'''.Pre Reads'''.Post
 abbrev pub After-tell-notice-arg2 : Type 0
-After-tell-notice-arg2 = Lts.After-tell-notice-arg2 (
-  Reads'''''.Asked,
-  Reads'''''.Learnt,
-  Reads'.Asked,
-  Reads'.Learnt,
-  Reads''''''.Asked,
-  Reads''''''.Learnt,
-  Reads'''''''.Asked,
-  Reads'''''''.Learnt,
-  Reads''''.Asked,
-  Reads''''.Learnt,
-  Reads.Asked,
-  Reads.Learnt,
-  Reads''.Asked,
-  Reads''.Learnt,
-) Reads'''.Pre Reads'''.Post
-
+After-tell-notice-arg2 = Lts.After-tell-notice-arg2 (Reads'''''.Asked, Reads'''''.Learnt, Reads'.Asked, Reads'.Learnt, Reads''''''.Asked,
+    Reads''''''.Learnt, Reads'''''''.Asked, Reads'''''''.Learnt, Reads''''.Asked, Reads''''.Learnt, Reads.Asked, Reads.Learnt, Reads''.Asked,
+    Reads''.Learnt,) Reads'''.Pre Reads'''.Post
 abbrev pub After-tell-notice : Type 0
-After-tell-notice = Lts.After-tell-notice (
-  Reads'''''.Asked,
-  Reads'''''.Learnt,
-  Reads'.Asked,
-  Reads'.Learnt,
-  Reads''''''.Asked,
-  Reads''''''.Learnt,
-  Reads'''''''.Asked,
-  Reads'''''''.Learnt,
-  Reads''''.Asked,
-  Reads''''.Learnt,
-  Reads.Asked,
-  Reads.Learnt,
-  Reads''.Asked,
-  Reads''.Learnt,
-)
+After-tell-notice = Lts.After-tell-notice (Reads'''''.Asked, Reads'''''.Learnt, Reads'.Asked, Reads'.Learnt, Reads''''''.Asked, Reads''''''.Learnt,
+    Reads'''''''.Asked, Reads'''''''.Learnt, Reads''''.Asked, Reads''''.Learnt, Reads.Asked, Reads.Learnt, Reads''.Asked, Reads''.Learnt,)
     Reads'''.Pre Reads'''.Post
-
 abbrev pub After-inflight2 : Type 0
-After-inflight2 = Lts.After-inflight2 (
-  Reads'''''.Asked,
-  Reads'''''.Learnt,
-  Reads'.Asked,
-  Reads'.Learnt,
-  Reads''''''.Asked,
-  Reads''''''.Learnt,
-  Reads'''''''.Asked,
-  Reads'''''''.Learnt,
-  Reads''''.Asked,
-  Reads''''.Learnt,
-  Reads.Asked,
-  Reads.Learnt,
-  Reads''.Asked,
-  Reads''.Learnt,
-)
+After-inflight2 = Lts.After-inflight2 (Reads'''''.Asked, Reads'''''.Learnt, Reads'.Asked, Reads'.Learnt, Reads''''''.Asked, Reads''''''.Learnt,
+    Reads'''''''.Asked, Reads'''''''.Learnt, Reads''''.Asked, Reads''''.Learnt, Reads.Asked, Reads.Learnt, Reads''.Asked, Reads''.Learnt,)
     Reads'''.Pre Reads'''.Post
-
 abbrev pub After-out : Type 0
-After-out = Lts.After-out (
-  Reads'''''.Asked,
-  Reads'''''.Learnt,
-  Reads'.Asked,
-  Reads'.Learnt,
-  Reads''''''.Asked,
-  Reads''''''.Learnt,
-  Reads'''''''.Asked,
-  Reads'''''''.Learnt,
-  Reads''''.Asked,
-  Reads''''.Learnt,
-  Reads.Asked,
-  Reads.Learnt,
-  Reads''.Asked,
-  Reads''.Learnt,
-)
+After-out = Lts.After-out (Reads'''''.Asked, Reads'''''.Learnt, Reads'.Asked, Reads'.Learnt, Reads''''''.Asked, Reads''''''.Learnt,
+    Reads'''''''.Asked, Reads'''''''.Learnt, Reads''''.Asked, Reads''''.Learnt, Reads.Asked, Reads.Learnt, Reads''.Asked, Reads''.Learnt,)
     Reads'''.Pre Reads'''.Post
-
 abbrev pub After-slice-known2 : Type 0
-After-slice-known2 = Lts.After-slice-known2 (
-  Reads'''''.Asked,
-  Reads'''''.Learnt,
-  Reads'.Asked,
-  Reads'.Learnt,
-  Reads''''''.Asked,
-  Reads''''''.Learnt,
-  Reads'''''''.Asked,
-  Reads'''''''.Learnt,
-  Reads''''.Asked,
-  Reads''''.Learnt,
-  Reads.Asked,
-  Reads.Learnt,
-  Reads''.Asked,
-  Reads''.Learnt,
-)
+After-slice-known2 = Lts.After-slice-known2 (Reads'''''.Asked, Reads'''''.Learnt, Reads'.Asked, Reads'.Learnt, Reads''''''.Asked, Reads''''''.Learnt,
+    Reads'''''''.Asked, Reads'''''''.Learnt, Reads''''.Asked, Reads''''.Learnt, Reads.Asked, Reads.Learnt, Reads''.Asked, Reads''.Learnt,)
     Reads'''.Pre Reads'''.Post
-
 abbrev pub After-tell-notice-arg3 : Type 0
-After-tell-notice-arg3 = Lts.After-tell-notice-arg3 (
-  Reads'''''.Asked,
-  Reads'''''.Learnt,
-  Reads'.Asked,
-  Reads'.Learnt,
-  Reads''''''.Asked,
-  Reads''''''.Learnt,
-  Reads'''''''.Asked,
-  Reads'''''''.Learnt,
-  Reads''''.Asked,
-  Reads''''.Learnt,
-  Reads.Asked,
-  Reads.Learnt,
-  Reads''.Asked,
-  Reads''.Learnt,
-) Reads'''.Pre Reads'''.Post
-
+After-tell-notice-arg3 = Lts.After-tell-notice-arg3 (Reads'''''.Asked, Reads'''''.Learnt, Reads'.Asked, Reads'.Learnt, Reads''''''.Asked,
+    Reads''''''.Learnt, Reads'''''''.Asked, Reads'''''''.Learnt, Reads''''.Asked, Reads''''.Learnt, Reads.Asked, Reads.Learnt, Reads''.Asked,
+    Reads''.Learnt,) Reads'''.Pre Reads'''.Post
 abbrev pub After-tell-notice-arg4 : Type 0
-After-tell-notice-arg4 = Lts.After-tell-notice-arg4 (
-  Reads'''''.Asked,
-  Reads'''''.Learnt,
-  Reads'.Asked,
-  Reads'.Learnt,
-  Reads''''''.Asked,
-  Reads''''''.Learnt,
-  Reads'''''''.Asked,
-  Reads'''''''.Learnt,
-  Reads''''.Asked,
-  Reads''''.Learnt,
-  Reads.Asked,
-  Reads.Learnt,
-  Reads''.Asked,
-  Reads''.Learnt,
-) Reads'''.Pre Reads'''.Post
-
+After-tell-notice-arg4 = Lts.After-tell-notice-arg4 (Reads'''''.Asked, Reads'''''.Learnt, Reads'.Asked, Reads'.Learnt, Reads''''''.Asked,
+    Reads''''''.Learnt, Reads'''''''.Asked, Reads'''''''.Learnt, Reads''''.Asked, Reads''''.Learnt, Reads.Asked, Reads.Learnt, Reads''.Asked,
+    Reads''.Learnt,) Reads'''.Pre Reads'''.Post
 abbrev pub After-tell-notice2 : Type 0
-After-tell-notice2 = Lts.After-tell-notice2 (
-  Reads'''''.Asked,
-  Reads'''''.Learnt,
-  Reads'.Asked,
-  Reads'.Learnt,
-  Reads''''''.Asked,
-  Reads''''''.Learnt,
-  Reads'''''''.Asked,
-  Reads'''''''.Learnt,
-  Reads''''.Asked,
-  Reads''''.Learnt,
-  Reads.Asked,
-  Reads.Learnt,
-  Reads''.Asked,
-  Reads''.Learnt,
-)
+After-tell-notice2 = Lts.After-tell-notice2 (Reads'''''.Asked, Reads'''''.Learnt, Reads'.Asked, Reads'.Learnt, Reads''''''.Asked, Reads''''''.Learnt,
+    Reads'''''''.Asked, Reads'''''''.Learnt, Reads''''.Asked, Reads''''.Learnt, Reads.Asked, Reads.Learnt, Reads''.Asked, Reads''.Learnt,)
     Reads'''.Pre Reads'''.Post
-
 abbrev pub After-inflight3 : Type 0
-After-inflight3 = Lts.After-inflight3 (
-  Reads'''''.Asked,
-  Reads'''''.Learnt,
-  Reads'.Asked,
-  Reads'.Learnt,
-  Reads''''''.Asked,
-  Reads''''''.Learnt,
-  Reads'''''''.Asked,
-  Reads'''''''.Learnt,
-  Reads''''.Asked,
-  Reads''''.Learnt,
-  Reads.Asked,
-  Reads.Learnt,
-  Reads''.Asked,
-  Reads''.Learnt,
-)
+After-inflight3 = Lts.After-inflight3 (Reads'''''.Asked, Reads'''''.Learnt, Reads'.Asked, Reads'.Learnt, Reads''''''.Asked, Reads''''''.Learnt,
+    Reads'''''''.Asked, Reads'''''''.Learnt, Reads''''.Asked, Reads''''.Learnt, Reads.Asked, Reads.Learnt, Reads''.Asked, Reads''.Learnt,)
     Reads'''.Pre Reads'''.Post
-
 abbrev pub After-out2 : Type 0
-After-out2 = Lts.After-out2 (
-  Reads'''''.Asked,
-  Reads'''''.Learnt,
-  Reads'.Asked,
-  Reads'.Learnt,
-  Reads''''''.Asked,
-  Reads''''''.Learnt,
-  Reads'''''''.Asked,
-  Reads'''''''.Learnt,
-  Reads''''.Asked,
-  Reads''''.Learnt,
-  Reads.Asked,
-  Reads.Learnt,
-  Reads''.Asked,
-  Reads''.Learnt,
-)
+After-out2 = Lts.After-out2 (Reads'''''.Asked, Reads'''''.Learnt, Reads'.Asked, Reads'.Learnt, Reads''''''.Asked, Reads''''''.Learnt,
+    Reads'''''''.Asked, Reads'''''''.Learnt, Reads''''.Asked, Reads''''.Learnt, Reads.Asked, Reads.Learnt, Reads''.Asked, Reads''.Learnt,)
     Reads'''.Pre Reads'''.Post
-
 abbrev pub After-slice-known3 : Type 0
-After-slice-known3 = Lts.After-slice-known3 (
-  Reads'''''.Asked,
-  Reads'''''.Learnt,
-  Reads'.Asked,
-  Reads'.Learnt,
-  Reads''''''.Asked,
-  Reads''''''.Learnt,
-  Reads'''''''.Asked,
-  Reads'''''''.Learnt,
-  Reads''''.Asked,
-  Reads''''.Learnt,
-  Reads.Asked,
-  Reads.Learnt,
-  Reads''.Asked,
-  Reads''.Learnt,
-)
+After-slice-known3 = Lts.After-slice-known3 (Reads'''''.Asked, Reads'''''.Learnt, Reads'.Asked, Reads'.Learnt, Reads''''''.Asked, Reads''''''.Learnt,
+    Reads'''''''.Asked, Reads'''''''.Learnt, Reads''''.Asked, Reads''''.Learnt, Reads.Asked, Reads.Learnt, Reads''.Asked, Reads''.Learnt,)
     Reads'''.Pre Reads'''.Post
-
 abbrev pub Need-at-requires : Type 0
-Need-at-requires = Lts.Need-at-requires (
-  Reads'''''.Asked,
-  Reads'''''.Learnt,
-  Reads'.Asked,
-  Reads'.Learnt,
-  Reads''''''.Asked,
-  Reads''''''.Learnt,
-  Reads'''''''.Asked,
-  Reads'''''''.Learnt,
-  Reads''''.Asked,
-  Reads''''.Learnt,
-  Reads.Asked,
-  Reads.Learnt,
-  Reads''.Asked,
-  Reads''.Learnt,
-)
+Need-at-requires = Lts.Need-at-requires (Reads'''''.Asked, Reads'''''.Learnt, Reads'.Asked, Reads'.Learnt, Reads''''''.Asked, Reads''''''.Learnt,
+    Reads'''''''.Asked, Reads'''''''.Learnt, Reads''''.Asked, Reads''''.Learnt, Reads.Asked, Reads.Learnt, Reads''.Asked, Reads''.Learnt,)
     Reads'''.Pre Reads'''.Post
-
 abbrev pub Need-look-up-circuit-requires : Type 0
-Need-look-up-circuit-requires = Lts.Need-look-up-circuit-requires (
-  Reads'''''.Asked,
-  Reads'''''.Learnt,
-  Reads'.Asked,
-  Reads'.Learnt,
-  Reads''''''.Asked,
-  Reads''''''.Learnt,
-  Reads'''''''.Asked,
-  Reads'''''''.Learnt,
-  Reads''''.Asked,
-  Reads''''.Learnt,
-  Reads.Asked,
-  Reads.Learnt,
-  Reads''.Asked,
-  Reads''.Learnt,
-) Reads'''.Pre Reads'''.Post
-
+Need-look-up-circuit-requires = Lts.Need-look-up-circuit-requires (Reads'''''.Asked, Reads'''''.Learnt, Reads'.Asked, Reads'.Learnt,
+    Reads''''''.Asked, Reads''''''.Learnt, Reads'''''''.Asked, Reads'''''''.Learnt, Reads''''.Asked, Reads''''.Learnt, Reads.Asked, Reads.Learnt,
+    Reads''.Asked, Reads''.Learnt,) Reads'''.Pre Reads'''.Post
 abbrev pub Need-circuit-gone-requires : Type 0
-Need-circuit-gone-requires = Lts.Need-circuit-gone-requires (
-  Reads'''''.Asked,
-  Reads'''''.Learnt,
-  Reads'.Asked,
-  Reads'.Learnt,
-  Reads''''''.Asked,
-  Reads''''''.Learnt,
-  Reads'''''''.Asked,
-  Reads'''''''.Learnt,
-  Reads''''.Asked,
-  Reads''''.Learnt,
-  Reads.Asked,
-  Reads.Learnt,
-  Reads''.Asked,
-  Reads''.Learnt,
-) Reads'''.Pre Reads'''.Post
-
+Need-circuit-gone-requires = Lts.Need-circuit-gone-requires (Reads'''''.Asked, Reads'''''.Learnt, Reads'.Asked, Reads'.Learnt, Reads''''''.Asked,
+    Reads''''''.Learnt, Reads'''''''.Asked, Reads'''''''.Learnt, Reads''''.Asked, Reads''''.Learnt, Reads.Asked, Reads.Learnt, Reads''.Asked,
+    Reads''.Learnt,) Reads'''.Pre Reads'''.Post
 abbrev pub Need-plan-circuit-requires : Type 0
-Need-plan-circuit-requires = Lts.Need-plan-circuit-requires (
-  Reads'''''.Asked,
-  Reads'''''.Learnt,
-  Reads'.Asked,
-  Reads'.Learnt,
-  Reads''''''.Asked,
-  Reads''''''.Learnt,
-  Reads'''''''.Asked,
-  Reads'''''''.Learnt,
-  Reads''''.Asked,
-  Reads''''.Learnt,
-  Reads.Asked,
-  Reads.Learnt,
-  Reads''.Asked,
-  Reads''.Learnt,
-) Reads'''.Pre Reads'''.Post
-
+Need-plan-circuit-requires = Lts.Need-plan-circuit-requires (Reads'''''.Asked, Reads'''''.Learnt, Reads'.Asked, Reads'.Learnt, Reads''''''.Asked,
+    Reads''''''.Learnt, Reads'''''''.Asked, Reads'''''''.Learnt, Reads''''.Asked, Reads''''.Learnt, Reads.Asked, Reads.Learnt, Reads''.Asked,
+    Reads''.Learnt,) Reads'''.Pre Reads'''.Post
 abbrev pub Need-set-circuit-requires : Type 0
-Need-set-circuit-requires = Lts.Need-set-circuit-requires (
-  Reads'''''.Asked,
-  Reads'''''.Learnt,
-  Reads'.Asked,
-  Reads'.Learnt,
-  Reads''''''.Asked,
-  Reads''''''.Learnt,
-  Reads'''''''.Asked,
-  Reads'''''''.Learnt,
-  Reads''''.Asked,
-  Reads''''.Learnt,
-  Reads.Asked,
-  Reads.Learnt,
-  Reads''.Asked,
-  Reads''.Learnt,
-) Reads'''.Pre Reads'''.Post
-
+Need-set-circuit-requires = Lts.Need-set-circuit-requires (Reads'''''.Asked, Reads'''''.Learnt, Reads'.Asked, Reads'.Learnt, Reads''''''.Asked,
+    Reads''''''.Learnt, Reads'''''''.Asked, Reads'''''''.Learnt, Reads''''.Asked, Reads''''.Learnt, Reads.Asked, Reads.Learnt, Reads''.Asked,
+    Reads''.Learnt,) Reads'''.Pre Reads'''.Post
 abbrev pub Need-drop-actions-requires : Type 0
-Need-drop-actions-requires = Lts.Need-drop-actions-requires (
-  Reads'''''.Asked,
-  Reads'''''.Learnt,
-  Reads'.Asked,
-  Reads'.Learnt,
-  Reads''''''.Asked,
-  Reads''''''.Learnt,
-  Reads'''''''.Asked,
-  Reads'''''''.Learnt,
-  Reads''''.Asked,
-  Reads''''.Learnt,
-  Reads.Asked,
-  Reads.Learnt,
-  Reads''.Asked,
-  Reads''.Learnt,
-) Reads'''.Pre Reads'''.Post
-
+Need-drop-actions-requires = Lts.Need-drop-actions-requires (Reads'''''.Asked, Reads'''''.Learnt, Reads'.Asked, Reads'.Learnt, Reads''''''.Asked,
+    Reads''''''.Learnt, Reads'''''''.Asked, Reads'''''''.Learnt, Reads''''.Asked, Reads''''.Learnt, Reads.Asked, Reads.Learnt, Reads''.Asked,
+    Reads''.Learnt,) Reads'''.Pre Reads'''.Post
 abbrev pub Need-tell-notice-requires : Type 0
-Need-tell-notice-requires = Lts.Need-tell-notice-requires (
-  Reads'''''.Asked,
-  Reads'''''.Learnt,
-  Reads'.Asked,
-  Reads'.Learnt,
-  Reads''''''.Asked,
-  Reads''''''.Learnt,
-  Reads'''''''.Asked,
-  Reads'''''''.Learnt,
-  Reads''''.Asked,
-  Reads''''.Learnt,
-  Reads.Asked,
-  Reads.Learnt,
-  Reads''.Asked,
-  Reads''.Learnt,
-) Reads'''.Pre Reads'''.Post
-
+Need-tell-notice-requires = Lts.Need-tell-notice-requires (Reads'''''.Asked, Reads'''''.Learnt, Reads'.Asked, Reads'.Learnt, Reads''''''.Asked,
+    Reads''''''.Learnt, Reads'''''''.Asked, Reads'''''''.Learnt, Reads''''.Asked, Reads''''.Learnt, Reads.Asked, Reads.Learnt, Reads''.Asked,
+    Reads''.Learnt,) Reads'''.Pre Reads'''.Post
 abbrev pub Need-tell-notice-requires-2 : Type 0
-Need-tell-notice-requires-2 = Lts.Need-tell-notice-requires-2 (
-  Reads'''''.Asked,
-  Reads'''''.Learnt,
-  Reads'.Asked,
-  Reads'.Learnt,
-  Reads''''''.Asked,
-  Reads''''''.Learnt,
-  Reads'''''''.Asked,
-  Reads'''''''.Learnt,
-  Reads''''.Asked,
-  Reads''''.Learnt,
-  Reads.Asked,
-  Reads.Learnt,
-  Reads''.Asked,
-  Reads''.Learnt,
-) Reads'''.Pre Reads'''.Post
-
+Need-tell-notice-requires-2 = Lts.Need-tell-notice-requires-2 (Reads'''''.Asked, Reads'''''.Learnt, Reads'.Asked, Reads'.Learnt, Reads''''''.Asked,
+    Reads''''''.Learnt, Reads'''''''.Asked, Reads'''''''.Learnt, Reads''''.Asked, Reads''''.Learnt, Reads.Asked, Reads.Learnt, Reads''.Asked,
+    Reads''.Learnt,) Reads'''.Pre Reads'''.Post
 abbrev pub Need-same-length : Type 0
-Need-same-length = Lts.Need-same-length (
-  Reads'''''.Asked,
-  Reads'''''.Learnt,
-  Reads'.Asked,
-  Reads'.Learnt,
-  Reads''''''.Asked,
-  Reads''''''.Learnt,
-  Reads'''''''.Asked,
-  Reads'''''''.Learnt,
-  Reads''''.Asked,
-  Reads''''.Learnt,
-  Reads.Asked,
-  Reads.Learnt,
-  Reads''.Asked,
-  Reads''.Learnt,
-)
+Need-same-length = Lts.Need-same-length (Reads'''''.Asked, Reads'''''.Learnt, Reads'.Asked, Reads'.Learnt, Reads''''''.Asked, Reads''''''.Learnt,
+    Reads'''''''.Asked, Reads'''''''.Learnt, Reads''''.Asked, Reads''''.Learnt, Reads.Asked, Reads.Learnt, Reads''.Asked, Reads''.Learnt,)
     Reads'''.Pre Reads'''.Post
-
 abbrev pub Need-same-length-2 : Type 0
-Need-same-length-2 = Lts.Need-same-length-2 (
-  Reads'''''.Asked,
-  Reads'''''.Learnt,
-  Reads'.Asked,
-  Reads'.Learnt,
-  Reads''''''.Asked,
-  Reads''''''.Learnt,
-  Reads'''''''.Asked,
-  Reads'''''''.Learnt,
-  Reads''''.Asked,
-  Reads''''.Learnt,
-  Reads.Asked,
-  Reads.Learnt,
-  Reads''.Asked,
-  Reads''.Learnt,
-)
+Need-same-length-2 = Lts.Need-same-length-2 (Reads'''''.Asked, Reads'''''.Learnt, Reads'.Asked, Reads'.Learnt, Reads''''''.Asked, Reads''''''.Learnt,
+    Reads'''''''.Asked, Reads'''''''.Learnt, Reads''''.Asked, Reads''''.Learnt, Reads.Asked, Reads.Learnt, Reads''.Asked, Reads''.Learnt,)
     Reads'''.Pre Reads'''.Post
-
 abbrev pub Need-same-length-3 : Type 0
-Need-same-length-3 = Lts.Need-same-length-3 (
-  Reads'''''.Asked,
-  Reads'''''.Learnt,
-  Reads'.Asked,
-  Reads'.Learnt,
-  Reads''''''.Asked,
-  Reads''''''.Learnt,
-  Reads'''''''.Asked,
-  Reads'''''''.Learnt,
-  Reads''''.Asked,
-  Reads''''.Learnt,
-  Reads.Asked,
-  Reads.Learnt,
-  Reads''.Asked,
-  Reads''.Learnt,
-)
+Need-same-length-3 = Lts.Need-same-length-3 (Reads'''''.Asked, Reads'''''.Learnt, Reads'.Asked, Reads'.Learnt, Reads''''''.Asked, Reads''''''.Learnt,
+    Reads'''''''.Asked, Reads'''''''.Learnt, Reads''''.Asked, Reads''''.Learnt, Reads.Asked, Reads.Learnt, Reads''.Asked, Reads''.Learnt,)
     Reads'''.Pre Reads'''.Post
-
 abbrev pub Need-returns : Type 0
-Need-returns = Lts.Need-returns (
-  Reads'''''.Asked,
-  Reads'''''.Learnt,
-  Reads'.Asked,
-  Reads'.Learnt,
-  Reads''''''.Asked,
-  Reads''''''.Learnt,
-  Reads'''''''.Asked,
-  Reads'''''''.Learnt,
-  Reads''''.Asked,
-  Reads''''.Learnt,
-  Reads.Asked,
-  Reads.Learnt,
-  Reads''.Asked,
-  Reads''.Learnt,
-)
+Need-returns = Lts.Need-returns (Reads'''''.Asked, Reads'''''.Learnt, Reads'.Asked, Reads'.Learnt, Reads''''''.Asked, Reads''''''.Learnt,
+    Reads'''''''.Asked, Reads'''''''.Learnt, Reads''''.Asked, Reads''''.Learnt, Reads.Asked, Reads.Learnt, Reads''.Asked, Reads''.Learnt,)
     Reads'''.Pre Reads'''.Post
-
-module _ {M : Type 1} where
+module _ { M : Type 1 } where
   pub spec : (answer : Need-at-requires) → (answer : Need-look-up-circuit-requires) → (answer : Need-circuit-gone-requires) → (answer :
       Need-plan-circuit-requires) → (answer : Need-set-circuit-requires) → (answer : Need-drop-actions-requires) → (answer :
       Need-tell-notice-requires) → (answer : Need-tell-notice-requires-2) → (answer : Need-same-length) → (answer : Need-same-length-2) → (answer :
-      Need-same-length-3) → (answer : Need-returns) → Lts.Closed (
-        Reads'''''.Asked,
-        Reads'''''.Learnt,
-        Reads'.Asked,
-        Reads'.Learnt,
-        Reads''''''.Asked,
-        Reads''''''.Learnt,
-        Reads'''''''.Asked,
-        Reads'''''''.Learnt,
-        Reads''''.Asked,
-        Reads''''.Learnt,
-        Reads.Asked,
-        Reads.Learnt,
-        Reads''.Asked,
-        Reads''.Learnt,
-      ) Reads'''.Pre Reads'''.Post M
-  spec = λ answer answer' answer'' answer'3 answer'4 answer'5 answer'6 answer'7 answer'8 answer'9 answer'10 answer'11. Lts.spec (
-    Reads'''''.Asked,
-    Reads'''''.Learnt,
-    Reads'.Asked,
-    Reads'.Learnt,
-    Reads''''''.Asked,
-    Reads''''''.Learnt,
-    Reads'''''''.Asked,
-    Reads'''''''.Learnt,
-    Reads''''.Asked,
-    Reads''''.Learnt,
-    Reads.Asked,
-    Reads.Learnt,
-    Reads''.Asked,
-    Reads''.Learnt,
-  ) Reads'''.Pre Reads'''.Post answer answer' answer'' answer'3
+      Need-same-length-3) → (answer : Need-returns) → Lts.Closed (Reads'''''.Asked, Reads'''''.Learnt, Reads'.Asked, Reads'.Learnt, Reads''''''.Asked,
+      Reads''''''.Learnt, Reads'''''''.Asked, Reads'''''''.Learnt, Reads''''.Asked, Reads''''.Learnt, Reads.Asked, Reads.Learnt, Reads''.Asked,
+      Reads''.Learnt,) Reads'''.Pre Reads'''.Post M
+  spec = λ answer answer' answer'' answer'3 answer'4 answer'5 answer'6 answer'7 answer'8 answer'9 answer'10 answer'11. Lts.spec (Reads'''''.Asked,
+      Reads'''''.Learnt, Reads'.Asked, Reads'.Learnt, Reads''''''.Asked, Reads''''''.Learnt, Reads'''''''.Asked, Reads'''''''.Learnt, Reads''''.Asked,
+      Reads''''.Learnt, Reads.Asked, Reads.Learnt, Reads''.Asked, Reads''.Learnt,) Reads'''.Pre Reads'''.Post answer answer' answer'' answer'3
       answer'4 answer'5 answer'6 answer'7 answer'8 answer'9 answer'10 answer'11
-
-  pub close : Lts.Closed (
-    Reads'''''.Asked,
-    Reads'''''.Learnt,
-    Reads'.Asked,
-    Reads'.Learnt,
-    Reads''''''.Asked,
-    Reads''''''.Learnt,
-    Reads'''''''.Asked,
-    Reads'''''''.Learnt,
-    Reads''''.Asked,
-    Reads''''.Learnt,
-    Reads.Asked,
-    Reads.Learnt,
-    Reads''.Asked,
-    Reads''.Learnt,
-  ) Reads'''.Pre Reads'''.Post M
+  pub close : Lts.Closed (Reads'''''.Asked, Reads'''''.Learnt, Reads'.Asked, Reads'.Learnt, Reads''''''.Asked, Reads''''''.Learnt, Reads'''''''.Asked,
+      Reads'''''''.Learnt, Reads''''.Asked, Reads''''.Learnt, Reads.Asked, Reads.Learnt, Reads''.Asked, Reads''.Learnt,) Reads'''.Pre Reads'''.Post M
       → Statement.statement M
   unfolding Code.routine Running.tablesOf
   close = λ closed 𝓤 H 𝓜 𝓖 𝓡. Written.close 3 Kinds.ps Kinds.r Reads'''.Ghost Reads'''.requires Reads'''.ensures Reads'''.pre-read Reads'''.Pinned
       Reads'''.Owned Reads'''.post-read record { M = M; 𝓤 = 𝓤; H = H; 𝓜 = 𝓜; 𝓖 = 𝓖; 𝓡 = 𝓡 } Code.env Key.name Code.function (Code.unfolded 𝓤 H 𝓜 𝓡) (λ
-      κs a g. tt) (λ κs. Reads'''.owns κs record { M = M; 𝓤 = 𝓤; H = H; 𝓜 = 𝓜; 𝓖 = 𝓖; 𝓡 = 𝓡 }) (Reads'''.passes record {
-        M = M;
-        𝓤 = 𝓤;
-        H = H;
-        𝓜 = 𝓜;
-        𝓖
-            = 𝓖;
-        𝓡 = 𝓡;
-      }) λ g. closed 𝓤 H (𝓖 .A) (Running.givenOf 𝓤 H 𝓜 𝓖) (Run.Over 𝓤 H 𝓜 𝓖 𝓡 Code.env) (Reads'''''.known record {
-        M = M;
-        𝓤 = 𝓤;
-        H = H;
-        𝓜 =
-            𝓜;
-        𝓖 = 𝓖;
-        𝓡 = 𝓡;
-      } Code.env Symbol''.name Symbol''.routine Code.calls-hnsr-circuit·question·at (Met''.met 𝓤 H 𝓜 𝓖 𝓡)) (Reads'.known record {
-        M =
-            M;
-        𝓤 = 𝓤;
-        H = H;
-        𝓜 = 𝓜;
-        𝓖 = 𝓖;
-        𝓡 = 𝓡;
-      } Code.env Symbol'.name Symbol'.routine Code.calls-hnsr-circuit·lookup·look-up-circuit (Met'.met 𝓤 H 𝓜 𝓖
+      κs a g. tt) (λ κs. Reads'''.owns κs record { M = M; 𝓤 = 𝓤; H = H; 𝓜 = 𝓜; 𝓖 = 𝓖; 𝓡 = 𝓡 }) (Reads'''.passes record { M = M; 𝓤 = 𝓤; H = H; 𝓜 = 𝓜; 𝓖
+      = 𝓖; 𝓡 = 𝓡 }) λ g. closed 𝓤 H (𝓖 .A) (Running.givenOf 𝓤 H 𝓜 𝓖) (Run.Over 𝓤 H 𝓜 𝓖 𝓡 Code.env) (Reads'''''.known record { M = M; 𝓤 = 𝓤; H = H; 𝓜 =
+      𝓜; 𝓖 = 𝓖; 𝓡 = 𝓡 } Code.env Symbol''.name Symbol''.routine Code.calls-hnsr-circuit·question·at (Met''.met 𝓤 H 𝓜 𝓖 𝓡)) (Reads'.known record { M =
+      M; 𝓤 = 𝓤; H = H; 𝓜 = 𝓜; 𝓖 = 𝓖; 𝓡 = 𝓡 } Code.env Symbol'.name Symbol'.routine Code.calls-hnsr-circuit·lookup·look-up-circuit (Met'.met 𝓤 H 𝓜 𝓖
       𝓡)) (Reads''''''.known record { M = M; 𝓤 = 𝓤; H = H; 𝓜 = 𝓜; 𝓖 = 𝓖; 𝓡 = 𝓡 } Code.env Symbol''''.name Symbol''''.routine
       Code.calls-hnsr-circuit·revocation·circuit-gone (Met''''.met 𝓤 H 𝓜 𝓖 𝓡)) (Reads'''''''.known record { M = M; 𝓤 = 𝓤; H = H; 𝓜 = 𝓜; 𝓖 = 𝓖; 𝓡 = 𝓡 }
       Code.env Symbol'''''.name Symbol'''''.routine Code.calls-hnsr-circuit·revocation·plan-circuit (Met'''''.met 𝓤 H 𝓜 𝓖 𝓡)) (Reads''''.known record

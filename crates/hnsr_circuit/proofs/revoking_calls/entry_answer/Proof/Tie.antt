@@ -25,244 +25,60 @@ use borrow.Fn.Written
 use contract.Running
 
 abbrev pub Start : Type 0
-Start = Lts.Start (
-  Reads'''.Asked,
-  Reads'''.Learnt,
-  Reads''.Asked,
-  Reads''.Learnt,
-  Reads'.Asked,
-  Reads'.Learnt,
-  Reads'''''.Asked,
-  Reads'''''.Learnt,
-  Reads''''.Asked,
-  Reads''''.Learnt,
-) Reads.Pre Reads.Post
-
+Start = Lts.Start (Reads'''.Asked, Reads'''.Learnt, Reads''.Asked, Reads''.Learnt, Reads'.Asked, Reads'.Learnt, Reads'''''.Asked, Reads'''''.Learnt,
+    Reads''''.Asked, Reads''''.Learnt,) Reads.Pre Reads.Post
 abbrev pub After-used : Type 0
-After-used = Lts.After-used (
-  Reads'''.Asked,
-  Reads'''.Learnt,
-  Reads''.Asked,
-  Reads''.Learnt,
-  Reads'.Asked,
-  Reads'.Learnt,
-  Reads'''''.Asked,
-  Reads'''''.Learnt,
-  Reads''''.Asked,
-  Reads''''.Learnt,
-) Reads.Pre Reads.Post
-
+After-used = Lts.After-used (Reads'''.Asked, Reads'''.Learnt, Reads''.Asked, Reads''.Learnt, Reads'.Asked, Reads'.Learnt, Reads'''''.Asked,
+    Reads'''''.Learnt, Reads''''.Asked, Reads''''.Learnt,) Reads.Pre Reads.Post
 abbrev pub After-count-pending : Type 0
-After-count-pending = Lts.After-count-pending (
-  Reads'''.Asked,
-  Reads'''.Learnt,
-  Reads''.Asked,
-  Reads''.Learnt,
-  Reads'.Asked,
-  Reads'.Learnt,
-  Reads'''''.Asked,
-  Reads'''''.Learnt,
-  Reads''''.Asked,
-  Reads''''.Learnt,
-) Reads.Pre Reads.Post
-
+After-count-pending = Lts.After-count-pending (Reads'''.Asked, Reads'''.Learnt, Reads''.Asked, Reads''.Learnt, Reads'.Asked, Reads'.Learnt,
+    Reads'''''.Asked, Reads'''''.Learnt, Reads''''.Asked, Reads''''.Learnt,) Reads.Pre Reads.Post
 abbrev pub After-count-circuit : Type 0
-After-count-circuit = Lts.After-count-circuit (
-  Reads'''.Asked,
-  Reads'''.Learnt,
-  Reads''.Asked,
-  Reads''.Learnt,
-  Reads'.Asked,
-  Reads'.Learnt,
-  Reads'''''.Asked,
-  Reads'''''.Learnt,
-  Reads''''.Asked,
-  Reads''''.Learnt,
-) Reads.Pre Reads.Post
-
+After-count-circuit = Lts.After-count-circuit (Reads'''.Asked, Reads'''.Learnt, Reads''.Asked, Reads''.Learnt, Reads'.Asked, Reads'.Learnt,
+    Reads'''''.Asked, Reads'''''.Learnt, Reads''''.Asked, Reads''''.Learnt,) Reads.Pre Reads.Post
 abbrev pub After-room-short : Type 0
-After-room-short = Lts.After-room-short (
-  Reads'''.Asked,
-  Reads'''.Learnt,
-  Reads''.Asked,
-  Reads''.Learnt,
-  Reads'.Asked,
-  Reads'.Learnt,
-  Reads'''''.Asked,
-  Reads'''''.Learnt,
-  Reads''''.Asked,
-  Reads''''.Learnt,
-) Reads.Pre Reads.Post
-
+After-room-short = Lts.After-room-short (Reads'''.Asked, Reads'''.Learnt, Reads''.Asked, Reads''.Learnt, Reads'.Asked, Reads'.Learnt,
+    Reads'''''.Asked, Reads'''''.Learnt, Reads''''.Asked, Reads''''.Learnt,) Reads.Pre Reads.Post
 abbrev pub After-room-answer : Type 0
-After-room-answer = Lts.After-room-answer (
-  Reads'''.Asked,
-  Reads'''.Learnt,
-  Reads''.Asked,
-  Reads''.Learnt,
-  Reads'.Asked,
-  Reads'.Learnt,
-  Reads'''''.Asked,
-  Reads'''''.Learnt,
-  Reads''''.Asked,
-  Reads''''.Learnt,
-) Reads.Pre Reads.Post
-
+After-room-answer = Lts.After-room-answer (Reads'''.Asked, Reads'''.Learnt, Reads''.Asked, Reads''.Learnt, Reads'.Asked, Reads'.Learnt,
+    Reads'''''.Asked, Reads'''''.Learnt, Reads''''.Asked, Reads''''.Learnt,) Reads.Pre Reads.Post
 abbrev pub Need-used-requires : Type 0
-Need-used-requires = Lts.Need-used-requires (
-  Reads'''.Asked,
-  Reads'''.Learnt,
-  Reads''.Asked,
-  Reads''.Learnt,
-  Reads'.Asked,
-  Reads'.Learnt,
-  Reads'''''.Asked,
-  Reads'''''.Learnt,
-  Reads''''.Asked,
-  Reads''''.Learnt,
-) Reads.Pre Reads.Post
-
+Need-used-requires = Lts.Need-used-requires (Reads'''.Asked, Reads'''.Learnt, Reads''.Asked, Reads''.Learnt, Reads'.Asked, Reads'.Learnt,
+    Reads'''''.Asked, Reads'''''.Learnt, Reads''''.Asked, Reads''''.Learnt,) Reads.Pre Reads.Post
 abbrev pub Need-count-pending-requires : Type 0
-Need-count-pending-requires = Lts.Need-count-pending-requires (
-  Reads'''.Asked,
-  Reads'''.Learnt,
-  Reads''.Asked,
-  Reads''.Learnt,
-  Reads'.Asked,
-  Reads'.Learnt,
-  Reads'''''.Asked,
-  Reads'''''.Learnt,
-  Reads''''.Asked,
-  Reads''''.Learnt,
-) Reads.Pre Reads.Post
-
+Need-count-pending-requires = Lts.Need-count-pending-requires (Reads'''.Asked, Reads'''.Learnt, Reads''.Asked, Reads''.Learnt, Reads'.Asked,
+    Reads'.Learnt, Reads'''''.Asked, Reads'''''.Learnt, Reads''''.Asked, Reads''''.Learnt,) Reads.Pre Reads.Post
 abbrev pub Need-count-circuit-requires : Type 0
-Need-count-circuit-requires = Lts.Need-count-circuit-requires (
-  Reads'''.Asked,
-  Reads'''.Learnt,
-  Reads''.Asked,
-  Reads''.Learnt,
-  Reads'.Asked,
-  Reads'.Learnt,
-  Reads'''''.Asked,
-  Reads'''''.Learnt,
-  Reads''''.Asked,
-  Reads''''.Learnt,
-) Reads.Pre Reads.Post
-
+Need-count-circuit-requires = Lts.Need-count-circuit-requires (Reads'''.Asked, Reads'''.Learnt, Reads''.Asked, Reads''.Learnt, Reads'.Asked,
+    Reads'.Learnt, Reads'''''.Asked, Reads'''''.Learnt, Reads''''.Asked, Reads''''.Learnt,) Reads.Pre Reads.Post
 abbrev pub Need-room-short-requires : Type 0
-Need-room-short-requires = Lts.Need-room-short-requires (
-  Reads'''.Asked,
-  Reads'''.Learnt,
-  Reads''.Asked,
-  Reads''.Learnt,
-  Reads'.Asked,
-  Reads'.Learnt,
-  Reads'''''.Asked,
-  Reads'''''.Learnt,
-  Reads''''.Asked,
-  Reads''''.Learnt,
-) Reads.Pre Reads.Post
-
+Need-room-short-requires = Lts.Need-room-short-requires (Reads'''.Asked, Reads'''.Learnt, Reads''.Asked, Reads''.Learnt, Reads'.Asked, Reads'.Learnt,
+    Reads'''''.Asked, Reads'''''.Learnt, Reads''''.Asked, Reads''''.Learnt,) Reads.Pre Reads.Post
 abbrev pub Need-room-answer-requires : Type 0
-Need-room-answer-requires = Lts.Need-room-answer-requires (
-  Reads'''.Asked,
-  Reads'''.Learnt,
-  Reads''.Asked,
-  Reads''.Learnt,
-  Reads'.Asked,
-  Reads'.Learnt,
-  Reads'''''.Asked,
-  Reads'''''.Learnt,
-  Reads''''.Asked,
-  Reads''''.Learnt,
-) Reads.Pre Reads.Post
-
+Need-room-answer-requires = Lts.Need-room-answer-requires (Reads'''.Asked, Reads'''.Learnt, Reads''.Asked, Reads''.Learnt, Reads'.Asked,
+    Reads'.Learnt, Reads'''''.Asked, Reads'''''.Learnt, Reads''''.Asked, Reads''''.Learnt,) Reads.Pre Reads.Post
 abbrev pub Need-returns : Type 0
-Need-returns = Lts.Need-returns (
-  Reads'''.Asked,
-  Reads'''.Learnt,
-  Reads''.Asked,
-  Reads''.Learnt,
-  Reads'.Asked,
-  Reads'.Learnt,
-  Reads'''''.Asked,
-  Reads'''''.Learnt,
-  Reads''''.Asked,
-  Reads''''.Learnt,
-) Reads.Pre Reads.Post
-
-module _ {M : Type 1} where
+Need-returns = Lts.Need-returns (Reads'''.Asked, Reads'''.Learnt, Reads''.Asked, Reads''.Learnt, Reads'.Asked, Reads'.Learnt, Reads'''''.Asked,
+    Reads'''''.Learnt, Reads''''.Asked, Reads''''.Learnt,) Reads.Pre Reads.Post
+module _ { M : Type 1 } where
   pub spec : (answer : Need-used-requires) → (answer : Need-count-pending-requires) → (answer : Need-count-circuit-requires) → (answer :
-      Need-room-short-requires) → (answer : Need-room-answer-requires) → (answer : Need-returns) → Lts.Closed (
-        Reads'''.Asked,
-        Reads'''.Learnt,
-        Reads''.Asked,
-        Reads''.Learnt,
-        Reads'.Asked,
-        Reads'.Learnt,
-        Reads'''''.Asked,
-        Reads'''''.Learnt,
-        Reads''''.Asked,
-        Reads''''.Learnt,
-      ) Reads.Pre
+      Need-room-short-requires) → (answer : Need-room-answer-requires) → (answer : Need-returns) → Lts.Closed (Reads'''.Asked, Reads'''.Learnt,
+      Reads''.Asked, Reads''.Learnt, Reads'.Asked, Reads'.Learnt, Reads'''''.Asked, Reads'''''.Learnt, Reads''''.Asked, Reads''''.Learnt,) Reads.Pre
       Reads.Post M
-  spec = λ answer answer' answer'' answer'3 answer'4 answer'5. Lts.spec (
-    Reads'''.Asked,
-    Reads'''.Learnt,
-    Reads''.Asked,
-    Reads''.Learnt,
-    Reads'.Asked,
-    Reads'.Learnt,
-    Reads'''''.Asked,
-    Reads'''''.Learnt,
-    Reads''''.Asked,
-    Reads''''.Learnt,
-  ) Reads.Pre Reads.Post answer answer' answer'' answer'3
+  spec = λ answer answer' answer'' answer'3 answer'4 answer'5. Lts.spec (Reads'''.Asked, Reads'''.Learnt, Reads''.Asked, Reads''.Learnt, Reads'.Asked,
+      Reads'.Learnt, Reads'''''.Asked, Reads'''''.Learnt, Reads''''.Asked, Reads''''.Learnt,) Reads.Pre Reads.Post answer answer' answer'' answer'3
       answer'4 answer'5
-
-  pub close : Lts.Closed (
-    Reads'''.Asked,
-    Reads'''.Learnt,
-    Reads''.Asked,
-    Reads''.Learnt,
-    Reads'.Asked,
-    Reads'.Learnt,
-    Reads'''''.Asked,
-    Reads'''''.Learnt,
-    Reads''''.Asked,
-    Reads''''.Learnt,
-  ) Reads.Pre Reads.Post M → Statement.statement M
+  pub close : Lts.Closed (Reads'''.Asked, Reads'''.Learnt, Reads''.Asked, Reads''.Learnt, Reads'.Asked, Reads'.Learnt, Reads'''''.Asked,
+      Reads'''''.Learnt, Reads''''.Asked, Reads''''.Learnt,) Reads.Pre Reads.Post M → Statement.statement M
   unfolding Code.routine Running.tablesOf
   close = λ closed 𝓤 H 𝓜 𝓖 𝓡. Written.close 2 Kinds.ps Kinds.r Reads.Ghost Reads.requires Reads.ensures Reads.pre-read Reads.Pinned Reads.Owned
       Reads.post-read record { M = M; 𝓤 = 𝓤; H = H; 𝓜 = 𝓜; 𝓖 = 𝓖; 𝓡 = 𝓡 } Code.env Key.name Code.function (Code.unfolded 𝓤 H 𝓜 𝓡) (λ κs a g. tt) (λ
       κs. Reads.owns κs record { M = M; 𝓤 = 𝓤; H = H; 𝓜 = 𝓜; 𝓖 = 𝓖; 𝓡 = 𝓡 }) (Reads.passes record { M = M; 𝓤 = 𝓤; H = H; 𝓜 = 𝓜; 𝓖 = 𝓖; 𝓡 = 𝓡 }) λ g.
       closed 𝓤 H (𝓖 .A) (Running.givenOf 𝓤 H 𝓜 𝓖) (Run.Over 𝓤 H 𝓜 𝓖 𝓡 Code.env) (Reads'''.known record { M = M; 𝓤 = 𝓤; H = H; 𝓜 = 𝓜; 𝓖 = 𝓖; 𝓡 = 𝓡 }
-      Code.env Symbol.name Symbol.routine Code.calls-hnsr-circuit·question·used (Met.met 𝓤 H 𝓜 𝓖 𝓡)) (Reads''.known record {
-        M = M;
-        𝓤 = 𝓤;
-        H = H;
-        𝓜 =
-            𝓜;
-        𝓖 = 𝓖;
-        𝓡 = 𝓡;
-      } Code.env Symbol''''.name Symbol''''.routine Code.calls-hnsr-circuit·tables·pending·count-pending (Met''''.met 𝓤 H 𝓜 𝓖 𝓡))
+      Code.env Symbol.name Symbol.routine Code.calls-hnsr-circuit·question·used (Met.met 𝓤 H 𝓜 𝓖 𝓡)) (Reads''.known record { M = M; 𝓤 = 𝓤; H = H; 𝓜 =
+      𝓜; 𝓖 = 𝓖; 𝓡 = 𝓡 } Code.env Symbol''''.name Symbol''''.routine Code.calls-hnsr-circuit·tables·pending·count-pending (Met''''.met 𝓤 H 𝓜 𝓖 𝓡))
       (Reads'.known record { M = M; 𝓤 = 𝓤; H = H; 𝓜 = 𝓜; 𝓖 = 𝓖; 𝓡 = 𝓡 } Code.env Symbol'''.name Symbol'''.routine
-      Code.calls-hnsr-circuit·tables·circuits·count-circuit (Met'''.met 𝓤 H 𝓜 𝓖 𝓡)) (Reads'''''.known record {
-        M = M;
-        𝓤 = 𝓤;
-        H = H;
-        𝓜 = 𝓜;
-        𝓖 = 𝓖;
-        𝓡 =
-            𝓡;
-      } Code.env Symbol''.name Symbol''.routine Code.calls-hnsr-circuit·revoking-calls·room-short (Met''.met 𝓤 H 𝓜 𝓖 𝓡)) (Reads''''.known record {
-        M
-            = M;
-        𝓤 = 𝓤;
-        H = H;
-        𝓜 = 𝓜;
-        𝓖 = 𝓖;
-        𝓡 = 𝓡;
-      } Code.env Symbol'.name Symbol'.routine Code.calls-hnsr-circuit·revoking-calls·room-answer (Met'.met 𝓤 H
+      Code.calls-hnsr-circuit·tables·circuits·count-circuit (Met'''.met 𝓤 H 𝓜 𝓖 𝓡)) (Reads'''''.known record { M = M; 𝓤 = 𝓤; H = H; 𝓜 = 𝓜; 𝓖 = 𝓖; 𝓡 =
+      𝓡 } Code.env Symbol''.name Symbol''.routine Code.calls-hnsr-circuit·revoking-calls·room-short (Met''.met 𝓤 H 𝓜 𝓖 𝓡)) (Reads''''.known record { M
+      = M; 𝓤 = 𝓤; H = H; 𝓜 = 𝓜; 𝓖 = 𝓖; 𝓡 = 𝓡 } Code.env Symbol'.name Symbol'.routine Code.calls-hnsr-circuit·revoking-calls·room-answer (Met'.met 𝓤 H
       𝓜 𝓖 𝓡))

@@ -1,24 +1,32 @@
--- `circuit_due` meets its contract: what is left, from the earliest so far, gives the earliest of all.
+-- `circuit_due` meets its contract: what is left, from the earliest so far, gives the earliest of all; past the number nothing is due.
 mod Tie
-use mathlib.Core.Path.{_≡_, refl}
-use Prim.Native.Nat.{_-_, _≤_}
-use Rattle.hnsr_circuit.specs.Circuits.{noCircuit, isCircuit}
-use lib.ListN.{length, drop}
-use Rattle.hns_encoding.specs.Loops.{foldFrom, fold-step, fold-done}
-use Rattle.hnsr_circuit.specs.NextDue.{dueTurn, expiryOf, circuitDue}
-use borrow.Author.Needs.{needs}
+use mathlib.Core.Path.{_≡_, refl, ap, _∙_}
+use mathlib.Core.List.{List}
+use Prim.Native.Nat.{ℕ, _-_, _≤_}
 use native.Mathlib.Omega.{arith}
+use lib.ListN.{length, drop}
+use borrow.Author.Needs.{needs}
+use Rattle.hns_encoding.specs.Loops.{foldFrom}
+use Rattle.hnsr_circuit.specs.Circuits.{isCircuit, noCircuit, clearCircuit}
+use Rattle.hnsr_circuit.specs.NextDue.{dueTurn, expiryOf, circuitDue}
+use Rattle.hnsr_circuit.specs.Held.{held}
+use Rattle.hnsr_circuit.specs.Laws.HeldTables.{circuit-due-idle}
+use Rattle.hnsr_circuit.specs.Laws.Held.{held-min, fold-rest, held-fold-step}
+use Rattle.hnsr_circuit.specs.declared.records.RelayCircuit.{RelayCircuit}
 use Rattle.hnsr_circuit.proofs.tables.circuits.circuit_due.Statement.{statement}
 use Rattle.hnsr_circuit.proofs.tables.circuits.circuit_due.Proof.Tie as tie
 
 abbrev Inv-loop : tie.InvT-loop
-Inv-loop circuits earliest₀ i₀ earliest i = (i ≤ length circuits) × (foldFrom (dueTurn isCircuit expiryOf) (drop i circuits) i earliest ≡ circuitDue circuits earliest₀)
+Inv-loop circuits size₀ end₀ earliest₀ i₀ earliest i = (i ≤ end₀) × (end₀ ≤ length circuits) × (foldFrom (dueTurn isCircuit expiryOf) (drop i (held clearCircuit end₀ circuits)) i earliest ≡ (circuitDue (held clearCircuit end₀ circuits) earliest₀))
 
 abbrev μ-loop : tie.MeasureT-loop
-μ-loop circuits earliest₀ i₀ earliest i = length circuits - i
+μ-loop circuits size₀ end₀ earliest₀ i₀ earliest i = length circuits - i
+
+min-usize-requires : tie.Need-min-usize-requires Inv-loop μ-loop
+min-usize-requires c = search needs
 
 loop-holds : tie.Need-loop-holds Inv-loop μ-loop
-loop-holds c = let a = c .args in (search needs, refl)
+loop-holds c = (omega arith, omega arith, refl)
 
 mul-row : tie.Need-mul-row Inv-loop μ-loop
 mul-row c = search needs
@@ -38,17 +46,23 @@ loop-less c = search needs
 loop-again : tie.Need-loop-again Inv-loop μ-loop
 unfolding dueTurn
 loop-again c =
-    let l = c .before .before .before in
-    let a = l .before .args in (
-      search needs,
-      fold-step (dueTurn isCircuit expiryOf) (a .circuits .now) noCircuit (l .loop .i) (l .loop .earliest) (c .circuit-due-turn .result) (circuitDue (a .circuits .now) (a .due)) (omega arith) (c .circuit-due-turn .ensures) (l .loop .inv .1),
+    let a = c .before .before .before .before .before .args in
+    let t = a .circuits .now in
+    let n = c .before .before .before .before .min-usize .result in
+    let l = c .before .before .before .loop in (
+      omega arith,
+      l .inv .1,
+      held-fold-step clearCircuit n t noCircuit (l .i) (omega arith) (omega arith) (dueTurn isCircuit expiryOf) (l .earliest) (c .circuit-due-turn .result) (circuitDue (held clearCircuit n t) (a .due)) (c .circuit-due-turn .ensures) (l .inv .2),
     )
 
 returns : tie.Need-returns Inv-loop μ-loop
 returns c =
-    let l = c .before in
-    let a = l .before .args in
-    fold-done (dueTurn isCircuit expiryOf) (a .circuits .now) (l .loop .i) (l .loop .earliest) (circuitDue (a .circuits .now) (a .due)) (omega arith) (l .loop .inv .1)
+    let a = c .before .before .before .args in
+    let t = a .circuits .now in
+    let n = c .before .before .min-usize .result in
+    let l = c .before .loop in
+    fold-rest clearCircuit (dueTurn isCircuit expiryOf) circuit-due-idle n t (l .i) (l .earliest) (circuitDue (held clearCircuit n t) (a .due)) (λ h. omega arith) (l .inv .2)
+    ∙ ap (λ (s : List RelayCircuit). (circuitDue s (a .due))) (ap (λ (m : ℕ). held clearCircuit m t) (c .before .before .min-usize .ensures) ∙ held-min clearCircuit (a .places .circuits) t)
 
 pub circuit-due-spec : {M : Type 1} → statement M
-circuit-due-spec = tie.close (tie.spec Inv-loop μ-loop loop-holds mul-row shared-slice-copy-out-row circuit-due-turn-requires add-i loop-less loop-again returns)
+circuit-due-spec = tie.close (tie.spec Inv-loop μ-loop min-usize-requires loop-holds mul-row shared-slice-copy-out-row circuit-due-turn-requires add-i loop-less loop-again returns)

@@ -1,30 +1,42 @@
--- `circuit_totals` meets its contract: what is left, from the totals so far, gives the whole totals.
+-- `circuit_totals` meets its contract: what is left, from the totals so far, gives the whole totals; past the number there is nothing to add.
 mod Tie
 use mathlib.Core.Path.{_≡_, ap, _∙_}
-use Prim.Native.Nat.{_-_, _≤_}
-use lib.ListN.{length, drop, getD}
-use Rattle.hns_encoding.specs.Loops.{foldFrom, fold-step, fold-done}
-use Rattle.hnsr_circuit.specs.Circuits.{noCircuit, isCircuit}
-use Rattle.hnsr_circuit.specs.Status.{circuitTotals}
-use Rattle.hnsr_circuit.specs.Laws.Turns.{totalled, totals-fold}
-use Rattle.hns_encoding.specs.Laws.Tests.{cond-le}
-use Rattle.hnsr_circuit.specs.declared.records.CircuitTotals.{CircuitTotals}
-use borrow.Author.Needs.{needs}
+use mathlib.Core.List.{List}
+use Prim.Native.Nat.{ℕ, _-_, _≤_}
 use native.Mathlib.Omega.{arith}
+use lib.ListN.{length, getD, drop}
+use borrow.Author.Needs.{needs}
+use Rattle.hns_encoding.specs.Loops.{foldFrom}
+use Rattle.hns_encoding.specs.Laws.Tests.{cond-le}
+use Rattle.hnsr_circuit.specs.Circuits.{isCircuit, noCircuit, clearCircuit}
+use Rattle.hnsr_circuit.specs.Status.{circuitTotals}
+use Rattle.hnsr_circuit.specs.Held.{held}
+use Rattle.hnsr_circuit.specs.declared.records.CircuitTotals.{CircuitTotals}
+use Rattle.hnsr_circuit.specs.Laws.Turns.{totalled, totals-fold}
+use Rattle.hnsr_circuit.specs.Laws.HeldTables.{totals-rest}
+use Rattle.hnsr_circuit.specs.Laws.Held.{held-min, held-fold-step}
+use Rattle.hns_encoding.specs.Numbers.{top}
+use Rattle.hnsr_circuit.specs.declared.records.RelayCircuit.{RelayCircuit}
 use Rattle.hnsr_circuit.proofs.tables.circuits.circuit_totals.Statement.{statement}
 use Rattle.hnsr_circuit.proofs.tables.circuits.circuit_totals.Proof.Tie as tie
 
 abbrev Inv-loop : tie.InvT-loop
-Inv-loop circuits totals₀ i₀ totals i = (i ≤ length circuits) × (totals .used ≤ i) × (foldFrom (totalled) (drop i circuits) i totals ≡ circuitTotals circuits)
+Inv-loop circuits size₀ end₀ totals₀ i₀ totals i = (i ≤ end₀) × (end₀ ≤ length circuits) × (totals .used ≤ i) × (totals .«queued_bytes» ≤ top 64) × (foldFrom totalled (drop i (held clearCircuit end₀ circuits)) i totals ≡ (circuitTotals (held clearCircuit end₀ circuits)))
 
 abbrev μ-loop : tie.MeasureT-loop
-μ-loop circuits totals₀ i₀ totals i = length circuits - i
+μ-loop circuits size₀ end₀ totals₀ i₀ totals i = length circuits - i
+
+min-usize-requires : tie.Need-min-usize-requires Inv-loop μ-loop
+min-usize-requires c = search needs
 
 no-totals-requires : tie.Need-no-totals-requires Inv-loop μ-loop
 no-totals-requires c = search needs
 
 loop-holds : tie.Need-loop-holds Inv-loop μ-loop
-loop-holds c = let a = c .before .args in (search needs, rw (c .no-totals .ensures) (omega arith), ap (λ (b : CircuitTotals). foldFrom (totalled) (a .circuits .now) 0 b) (c .no-totals .ensures) ∙ totals-fold (a .circuits .now))
+loop-holds c =
+    let a = c .before .before .args in
+    let t = held clearCircuit (c .before .min-usize .result) (a .circuits .now) in
+    (omega arith, omega arith, rw (c .no-totals .ensures) (omega arith), rw (c .no-totals .ensures) (omega arith), ap (λ (b : CircuitTotals). foldFrom totalled t 0 b) (c .no-totals .ensures) ∙ totals-fold t)
 
 mul-row : tie.Need-mul-row Inv-loop μ-loop
 mul-row c = search needs
@@ -43,18 +55,25 @@ loop-less c = search needs
 
 loop-again : tie.Need-loop-again Inv-loop μ-loop
 loop-again c =
-    let l = c .before .before .before in
-    let a = l .before .before .args in (
-      search needs,
-      rw (c .circuit-totalled .ensures) (omega (arith, cond-le (isCircuit (getD (a .circuits .now) (l .loop .i) noCircuit)))),
-      fold-step (totalled) (a .circuits .now) noCircuit (l .loop .i) (l .loop .totals) (c .circuit-totalled .result) (circuitTotals (a .circuits .now)) (omega arith) (c .circuit-totalled .ensures) (l .loop .inv .2),
+    let a = c .before .before .before .before .before .before .args in
+    let t = a .circuits .now in
+    let n = c .before .before .before .before .before .min-usize .result in
+    let l = c .before .before .before .loop in (
+      omega arith,
+      l .inv .1,
+      rw (c .circuit-totalled .ensures) (omega (arith, cond-le (isCircuit (getD t (l .i) noCircuit)))),
+      rw (c .circuit-totalled .ensures) (omega arith),
+      held-fold-step clearCircuit n t noCircuit (l .i) (omega arith) (omega arith) totalled (l .totals) (c .circuit-totalled .result) (circuitTotals (held clearCircuit n t)) (c .circuit-totalled .ensures) (l .inv .4),
     )
 
 returns : tie.Need-returns Inv-loop μ-loop
 returns c =
-    let l = c .before in
-    let a = l .before .before .args in
-    fold-done (totalled) (a .circuits .now) (l .loop .i) (l .loop .totals) (circuitTotals (a .circuits .now)) (omega arith) (l .loop .inv .2)
+    let a = c .before .before .before .before .args in
+    let t = a .circuits .now in
+    let n = c .before .before .before .min-usize .result in
+    let l = c .before .loop in
+    totals-rest n t (l .i) (l .totals) (circuitTotals (held clearCircuit n t)) (l .inv .3) (λ h. omega arith) (l .inv .4)
+    ∙ ap (λ (s : List RelayCircuit). (circuitTotals s)) (ap (λ (m : ℕ). held clearCircuit m t) (c .before .before .before .min-usize .ensures) ∙ held-min clearCircuit (a .places .circuits) t)
 
 pub circuit-totals-spec : {M : Type 1} → statement M
-circuit-totals-spec = tie.close (tie.spec Inv-loop μ-loop no-totals-requires loop-holds mul-row shared-slice-copy-out-row circuit-totalled-requires add-i loop-less loop-again returns)
+circuit-totals-spec = tie.close (tie.spec Inv-loop μ-loop min-usize-requires no-totals-requires loop-holds mul-row shared-slice-copy-out-row circuit-totalled-requires add-i loop-less loop-again returns)

@@ -1,29 +1,40 @@
--- `circuit_work` meets its contract: what is left of the work, from what is counted so far, is the whole work.
+-- `circuit_work` meets its contract: what is left of the work, from what is counted so far, is the whole work; past the number there is none.
 mod Tie
 use mathlib.Core.Path.{_≡_, ap, _∙_}
-use Prim.Native.Nat.{_-_, _≤_}
-use lib.ListN.{length, drop, getD}
-use Rattle.hns_encoding.specs.Loops.{foldFrom, fold-step, fold-done}
-use Rattle.hnsr_circuit.specs.Circuits.{noCircuit}
-use Rattle.hnsr_circuit.specs.Question.{circuitWork}
-use Rattle.hnsr_circuit.specs.Laws.Turns.{WorkAtMost, work-more, work-none, circuitWorked, circuit-most, circuit-work}
-use Rattle.hnsr_circuit.specs.declared.records.Work.{Work}
-use borrow.Author.Needs.{needs}
+use mathlib.Core.List.{List}
+use Prim.Native.Nat.{ℕ, _-_, _≤_}
 use native.Mathlib.Omega.{arith}
+use lib.ListN.{length, getD, drop}
+use borrow.Author.Needs.{needs}
+use Rattle.hns_encoding.specs.Loops.{foldFrom}
+use Rattle.hnsr_circuit.specs.Circuits.{noCircuit, clearCircuit}
+use Rattle.hnsr_circuit.specs.Question.{circuitWork}
+use Rattle.hnsr_circuit.specs.Held.{held}
+use Rattle.hnsr_circuit.specs.declared.records.Work.{Work}
+use Rattle.hnsr_circuit.specs.Laws.Turns.{WorkAtMost, work-more, work-none, circuitWorked, circuit-most, circuit-work}
+use Rattle.hnsr_circuit.specs.Laws.HeldTables.{circuit-idle}
+use Rattle.hnsr_circuit.specs.Laws.Held.{held-min, fold-rest, held-fold-step}
+use Rattle.hnsr_circuit.specs.declared.records.RelayCircuit.{RelayCircuit}
 use Rattle.hnsr_circuit.proofs.tables.circuits.circuit_work.Statement.{statement}
 use Rattle.hnsr_circuit.proofs.tables.circuits.circuit_work.Proof.Tie as tie
 
 abbrev Inv-loop : tie.InvT-loop
-Inv-loop circuits question work₀ i₀ work i = (i ≤ length circuits) × (WorkAtMost i work) × (foldFrom (circuitWorked question) (drop i circuits) i work ≡ circuitWork question circuits)
+Inv-loop circuits question size₀ end₀ work₀ i₀ work i = (i ≤ end₀) × (end₀ ≤ length circuits) × (WorkAtMost i work) × (foldFrom (circuitWorked question) (drop i (held clearCircuit end₀ circuits)) i work ≡ (circuitWork question (held clearCircuit end₀ circuits)))
 
 abbrev μ-loop : tie.MeasureT-loop
-μ-loop circuits question work₀ i₀ work i = length circuits - i
+μ-loop circuits question size₀ end₀ work₀ i₀ work i = length circuits - i
+
+min-usize-requires : tie.Need-min-usize-requires Inv-loop μ-loop
+min-usize-requires c = search needs
 
 no-work-requires : tie.Need-no-work-requires Inv-loop μ-loop
 no-work-requires c = search needs
 
 loop-holds : tie.Need-loop-holds Inv-loop μ-loop
-loop-holds c = let a = c .before .args in (search needs, rw (c .no-work .ensures) (work-none), ap (λ (b : Work). foldFrom (circuitWorked (a .question)) (a .circuits .now) 0 b) (c .no-work .ensures) ∙ circuit-work (a .question) (a .circuits .now))
+loop-holds c =
+    let a = c .before .before .args in
+    let t = held clearCircuit (c .before .min-usize .result) (a .circuits .now) in
+    (omega arith, omega arith, rw (c .no-work .ensures) (work-none), ap (λ (b : Work). foldFrom (circuitWorked (a .question)) t 0 b) (c .no-work .ensures) ∙ circuit-work (a .question) t)
 
 mul-row : tie.Need-mul-row Inv-loop μ-loop
 mul-row c = search needs
@@ -32,9 +43,7 @@ shared-slice-copy-out-row : tie.Need-shared-slice-copy-out-row Inv-loop μ-loop
 shared-slice-copy-out-row c = search needs
 
 circuit-worked-requires : tie.Need-circuit-worked-requires Inv-loop μ-loop
-circuit-worked-requires c = λ κs.
-    let l = c .before .before in
-    work-more (l .loop .i) 18446744073709551614 (l .loop .work) (omega arith) (l .loop .inv .1)
+circuit-worked-requires c = λ κs. work-more (c .before .before .loop .i) 18446744073709551614 (c .before .before .loop .work) (omega arith) (c .before .before .loop .inv .2)
 
 add-i : tie.Need-add-i Inv-loop μ-loop
 add-i c = search needs
@@ -44,18 +53,24 @@ loop-less c = search needs
 
 loop-again : tie.Need-loop-again Inv-loop μ-loop
 loop-again c =
-    let l = c .before .before .before in
-    let a = l .before .before .args in (
-      search needs,
-      rw (c .circuit-worked .ensures) (circuit-most (a .question) (l .loop .i) (l .loop .work) (getD (a .circuits .now) (l .loop .i) noCircuit) 0 (l .loop .inv .1)),
-      fold-step (circuitWorked (a .question)) (a .circuits .now) noCircuit (l .loop .i) (l .loop .work) (c .circuit-worked .result) (circuitWork (a .question) (a .circuits .now)) (omega arith) (c .circuit-worked .ensures) (l .loop .inv .2),
+    let a = c .before .before .before .before .before .before .args in
+    let t = a .circuits .now in
+    let n = c .before .before .before .before .before .min-usize .result in
+    let l = c .before .before .before .loop in (
+      omega arith,
+      l .inv .1,
+      rw (c .circuit-worked .ensures) (circuit-most (a .question) (l .i) (l .work) (getD t (l .i) noCircuit) 0 (l .inv .2)),
+      held-fold-step clearCircuit n t noCircuit (l .i) (omega arith) (omega arith) (circuitWorked (a .question)) (l .work) (c .circuit-worked .result) (circuitWork (a .question) (held clearCircuit n t)) (c .circuit-worked .ensures) (l .inv .3),
     )
 
 returns : tie.Need-returns Inv-loop μ-loop
 returns c =
-    let l = c .before in
-    let a = l .before .before .args in
-    fold-done (circuitWorked (a .question)) (a .circuits .now) (l .loop .i) (l .loop .work) (circuitWork (a .question) (a .circuits .now)) (omega arith) (l .loop .inv .2)
+    let a = c .before .before .before .before .args in
+    let t = a .circuits .now in
+    let n = c .before .before .before .min-usize .result in
+    let l = c .before .loop in
+    fold-rest clearCircuit (circuitWorked (a .question)) (circuit-idle (a .question)) n t (l .i) (l .work) (circuitWork (a .question) (held clearCircuit n t)) (λ h. omega arith) (l .inv .3)
+    ∙ ap (λ (s : List RelayCircuit). (circuitWork (a .question) s)) (ap (λ (m : ℕ). held clearCircuit m t) (c .before .before .before .min-usize .ensures) ∙ held-min clearCircuit (a .places .circuits) t)
 
 pub circuit-work-spec : {M : Type 1} → statement M
-circuit-work-spec = tie.close (tie.spec Inv-loop μ-loop no-work-requires loop-holds mul-row shared-slice-copy-out-row circuit-worked-requires add-i loop-less loop-again returns)
+circuit-work-spec = tie.close (tie.spec Inv-loop μ-loop min-usize-requires no-work-requires loop-holds mul-row shared-slice-copy-out-row circuit-worked-requires add-i loop-less loop-again returns)

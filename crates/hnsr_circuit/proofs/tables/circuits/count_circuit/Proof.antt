@@ -1,28 +1,33 @@
--- `count_circuit` meets its contract: what is counted and what is left to count is the whole count.
+-- `count_circuit` meets its contract: what is left, with what is counted so far, is the whole count; past the number no record is marked.
 mod Tie
 use mathlib.Core.Path.{_≡_, ap, _∙_}
-use Prim.Native.Nat.{_+_, _-_, _≤_}
 use mathlib.Core.Bool.{Bool, cond}
+use Prim.Native.Nat.{ℕ, _+_, _-_, _≤_}
 use native.Mathlib.Nat.{zero-add}
+use native.Mathlib.Omega.{arith}
 use lib.ListN.{length, drop}
+use borrow.Author.Needs.{needs}
 use Rattle.hns_encoding.specs.Sums.{count}
 use Rattle.hns_encoding.specs.Laws.Tests.{cond-le}
-use Rattle.hnsr_circuit.specs.Circuits.{noCircuit}
+use Rattle.hnsr_circuit.specs.Circuits.{noCircuit, clearCircuit}
 use Rattle.hnsr_circuit.specs.Question.{circuitHas}
-use Rattle.hnsr_circuit.specs.Laws.Scans.{count-next, count-done}
-use borrow.Author.Needs.{needs}
-use native.Mathlib.Omega.{arith}
+use Rattle.hnsr_circuit.specs.Held.{held}
+use Rattle.hnsr_circuit.specs.Laws.HeldTables.{circuit-unmarked}
+use Rattle.hnsr_circuit.specs.Laws.Held.{held-min, count-rest, held-count-next}
 use Rattle.hnsr_circuit.proofs.tables.circuits.count_circuit.Statement.{statement}
 use Rattle.hnsr_circuit.proofs.tables.circuits.count_circuit.Proof.Tie as tie
 
 abbrev Inv-loop : tie.InvT-loop
-Inv-loop circuits question counted₀ i₀ counted i = (i ≤ length circuits) × (counted ≤ i) × (counted + count (circuitHas question) (drop i circuits) ≡ count (circuitHas question) circuits)
+Inv-loop circuits question size₀ end₀ counted₀ i₀ counted i = (i ≤ end₀) × (end₀ ≤ length circuits) × (counted ≤ i) × (counted + count (circuitHas question) (drop i (held clearCircuit end₀ circuits)) ≡ count (circuitHas question) (held clearCircuit end₀ circuits))
 
 abbrev μ-loop : tie.MeasureT-loop
-μ-loop circuits question counted₀ i₀ counted i = length circuits - i
+μ-loop circuits question size₀ end₀ counted₀ i₀ counted i = length circuits - i
+
+min-usize-requires : tie.Need-min-usize-requires Inv-loop μ-loop
+min-usize-requires c = search needs
 
 loop-holds : tie.Need-loop-holds Inv-loop μ-loop
-loop-holds c = let a = c .args in (search needs, search needs, zero-add (count (circuitHas (a .question)) (a .circuits .now)))
+loop-holds c = (omega arith, omega arith, omega arith, zero-add (count (circuitHas (c .before .args .question)) (held clearCircuit (c .min-usize .result) (c .before .args .circuits .now))))
 
 mul-row : tie.Need-mul-row Inv-loop μ-loop
 mul-row c = search needs
@@ -44,20 +49,27 @@ loop-less c = search needs
 
 loop-again : tie.Need-loop-again Inv-loop μ-loop
 loop-again c =
-    let h = c .before in
-    let l = h .before .before .before in
-    let a = l .before .args in (
-      search needs,
-      omega (arith, cond-le (h .circuit-has .result)),
-      count-next (circuitHas (a .question)) (a .circuits .now) noCircuit (l .loop .i) (count (circuitHas (a .question)) (a .circuits .now)) (l .loop .counted) (c .one-more .result) (omega arith)
-          (c .one-more .ensures ∙ ap (λ (b : Bool). l .loop .counted + cond b 1 0) (h .circuit-has .ensures)) (l .loop .inv .2),
+    let a = c .before .before .before .before .before .before .args in
+    let t = a .circuits .now in
+    let n = c .before .before .before .before .before .min-usize .result in
+    let l = c .before .before .before .before .loop in
+    let h = c .before .circuit-has in (
+      omega arith,
+      l .inv .1,
+      omega (arith, cond-le (h .result)),
+      held-count-next clearCircuit n t noCircuit (l .i) (omega arith) (omega arith) (circuitHas (a .question)) (count (circuitHas (a .question)) (held clearCircuit n t)) (l .counted) (c .one-more .result)
+          (c .one-more .ensures ∙ ap (λ (b : Bool). l .counted + cond b 1 0) (h .ensures)) (l .inv .3),
     )
 
 returns : tie.Need-returns Inv-loop μ-loop
 returns c =
-    let l = c .before in
-    let a = l .before .args in
-    count-done (circuitHas (a .question)) (a .circuits .now) (l .loop .i) (count (circuitHas (a .question)) (a .circuits .now)) (l .loop .counted) (omega arith) (l .loop .inv .2)
+    let a = c .before .before .before .args in
+    let t = a .circuits .now in
+    let n = c .before .before .min-usize .result in
+    let l = c .before .loop in
+    let seen = ap (λ (m : ℕ). held clearCircuit m t) (c .before .before .min-usize .ensures) ∙ held-min clearCircuit (a .places .circuits) t in
+    count-rest clearCircuit (circuitHas (a .question)) (λ x. circuit-unmarked (a .question) x ∙ c .before .before .before .pre) n t (l .i) (l .counted) (count (circuitHas (a .question)) (held clearCircuit n t)) (λ h. omega arith) (l .inv .3)
+    ∙ ap (count (circuitHas (a .question))) seen
 
 pub count-circuit-spec : {M : Type 1} → statement M
-count-circuit-spec = tie.close (tie.spec Inv-loop μ-loop loop-holds mul-row shared-slice-copy-out-row circuit-has-requires one-more-requires add-i loop-less loop-again returns)
+count-circuit-spec = tie.close (tie.spec Inv-loop μ-loop min-usize-requires loop-holds mul-row shared-slice-copy-out-row circuit-has-requires one-more-requires add-i loop-less loop-again returns)

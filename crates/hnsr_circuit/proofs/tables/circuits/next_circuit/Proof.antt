@@ -1,30 +1,41 @@
--- `next_circuit` meets its contract: what is left of the walk, from the best so far, is the whole walk.
+-- `next_circuit` meets its contract: what is left of the turn, from the best so far, gives the whole; past the number no record is offered.
 mod Tie
-use mathlib.Core.Path.{_≡_, ap}
-use Prim.Native.Nat.{_-_, _≤_}
-use lib.ListN.{length, drop}
-use Rattle.hns_encoding.specs.Loops.{foldFrom, fold-step, fold-done}
-use Rattle.hnsr_circuit.specs.Circuits.{noCircuit, circuitId}
-use Rattle.hnsr_circuit.specs.Table.{next, nextTurn}
-use Rattle.hnsr_circuit.specs.Question.{circuitHas}
-use Rattle.hnsr_circuit.specs.declared.records.Walked.{Walked}
-use borrow.Author.Needs.{needs}
+use mathlib.Core.Path.{_≡_, ap, _∙_}
+use mathlib.Core.List.{List}
+use Prim.Native.Nat.{ℕ, _-_, _≤_}
 use native.Mathlib.Omega.{arith}
+use lib.ListN.{length, drop}
+use borrow.Author.Needs.{needs}
+use Rattle.hns_encoding.specs.Loops.{foldFrom}
+use Rattle.hnsr_circuit.specs.Table.{nextTurn, next}
+use Rattle.hnsr_circuit.specs.Circuits.{noCircuit, clearCircuit, circuitId}
+use Rattle.hnsr_circuit.specs.Question.{circuitHas}
+use Rattle.hnsr_circuit.specs.Held.{held}
+use Rattle.hnsr_circuit.specs.declared.records.Walked.{Walked}
+use Rattle.hnsr_circuit.specs.Laws.HeldTables.{circuit-unmarked}
+use Rattle.hnsr_circuit.specs.Laws.Held.{held-min, fold-rest, held-fold-step, next-idle}
+use Rattle.hnsr_circuit.specs.declared.records.RelayCircuit.{RelayCircuit}
 use Rattle.hnsr_circuit.proofs.tables.circuits.next_circuit.Statement.{statement}
 use Rattle.hnsr_circuit.proofs.tables.circuits.next_circuit.Proof.Tie as tie
 
 abbrev Inv-loop : tie.InvT-loop
-Inv-loop circuits question cursor best₀ i₀ best i = (i ≤ length circuits) × (foldFrom (nextTurn circuitId (circuitHas question) cursor) (drop i circuits) i best ≡ next circuitId (circuitHas question) cursor circuits)
+Inv-loop circuits question cursor size₀ end₀ best₀ i₀ best i = (i ≤ end₀) × (end₀ ≤ length circuits) × (foldFrom (nextTurn circuitId (circuitHas question) cursor) (drop i (held clearCircuit end₀ circuits)) i best ≡ (next circuitId (circuitHas question) cursor (held clearCircuit end₀ circuits)))
 
 abbrev μ-loop : tie.MeasureT-loop
-μ-loop circuits question cursor best₀ i₀ best i = length circuits - i
+μ-loop circuits question cursor size₀ end₀ best₀ i₀ best i = length circuits - i
+
+min-usize-requires : tie.Need-min-usize-requires Inv-loop μ-loop
+min-usize-requires c = search needs
 
 not-yet-requires : tie.Need-not-yet-requires Inv-loop μ-loop
 not-yet-requires c = search needs
 
 loop-holds : tie.Need-loop-holds Inv-loop μ-loop
 unfolding next
-loop-holds c = let a = c .before .args in (search needs, ap (λ (b : Walked). foldFrom (nextTurn circuitId (circuitHas (a .question)) (a .cursor)) (a .circuits .now) 0 b) (c .not-yet .ensures))
+loop-holds c =
+    let a = c .before .before .args in
+    let t = held clearCircuit (c .before .min-usize .result) (a .circuits .now) in
+    (omega arith, omega arith, ap (λ (b : Walked). foldFrom (nextTurn circuitId (circuitHas (a .question)) (a .cursor)) t 0 b) (c .not-yet .ensures))
 
 mul-row : tie.Need-mul-row Inv-loop μ-loop
 mul-row c = search needs
@@ -43,17 +54,23 @@ loop-less c = search needs
 
 loop-again : tie.Need-loop-again Inv-loop μ-loop
 loop-again c =
-    let l = c .before .before .before in
-    let a = l .before .before .args in (
-      search needs,
-      fold-step (nextTurn circuitId (circuitHas (a .question)) (a .cursor)) (a .circuits .now) noCircuit (l .loop .i) (l .loop .best) (c .circuit-turn .result) (next circuitId (circuitHas (a .question)) (a .cursor) (a .circuits .now)) (omega arith) (c .circuit-turn .ensures) (l .loop .inv .1),
+    let a = c .before .before .before .before .before .before .args in
+    let t = a .circuits .now in
+    let n = c .before .before .before .before .before .min-usize .result in
+    let l = c .before .before .before .loop in (
+      omega arith,
+      l .inv .1,
+      held-fold-step clearCircuit n t noCircuit (l .i) (omega arith) (omega arith) (nextTurn circuitId (circuitHas (a .question)) (a .cursor)) (l .best) (c .circuit-turn .result) (next circuitId (circuitHas (a .question)) (a .cursor) (held clearCircuit n t)) (c .circuit-turn .ensures) (l .inv .2),
     )
 
 returns : tie.Need-returns Inv-loop μ-loop
 returns c =
-    let l = c .before in
-    let a = l .before .before .args in
-    fold-done (nextTurn circuitId (circuitHas (a .question)) (a .cursor)) (a .circuits .now) (l .loop .i) (l .loop .best) (next circuitId (circuitHas (a .question)) (a .cursor) (a .circuits .now)) (omega arith) (l .loop .inv .1)
+    let a = c .before .before .before .before .args in
+    let t = a .circuits .now in
+    let n = c .before .before .before .min-usize .result in
+    let l = c .before .loop in
+    fold-rest clearCircuit (nextTurn circuitId (circuitHas (a .question)) (a .cursor)) (next-idle clearCircuit circuitId (circuitHas (a .question)) (λ x. circuit-unmarked (a .question) x ∙ c .before .before .before .before .pre) (a .cursor)) n t (l .i) (l .best) (next circuitId (circuitHas (a .question)) (a .cursor) (held clearCircuit n t)) (λ h. omega arith) (l .inv .2)
+    ∙ ap (λ (s : List RelayCircuit). (next circuitId (circuitHas (a .question)) (a .cursor) s)) (ap (λ (m : ℕ). held clearCircuit m t) (c .before .before .before .min-usize .ensures) ∙ held-min clearCircuit (a .places .circuits) t)
 
 pub next-circuit-spec : {M : Type 1} → statement M
-next-circuit-spec = tie.close (tie.spec Inv-loop μ-loop not-yet-requires loop-holds mul-row shared-slice-copy-out-row circuit-turn-requires add-i loop-less loop-again returns)
+next-circuit-spec = tie.close (tie.spec Inv-loop μ-loop min-usize-requires not-yet-requires loop-holds mul-row shared-slice-copy-out-row circuit-turn-requires add-i loop-less loop-again returns)

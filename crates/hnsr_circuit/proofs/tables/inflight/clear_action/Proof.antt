@@ -1,27 +1,30 @@
--- `clear_action` meets its contract: what is done, with what is left cleared, is the whole table cleared.
+-- `clear_action` meets its contract: what is done, with what is left cleared, is the whole table cleared; past the number there is no mark.
 mod Tie
-use mathlib.Core.Path.{_≡_, refl, _∙_}
+use mathlib.Core.Path.{_≡_, refl, sym, ap, _∙_}
 use mathlib.Core.List.{_++_}
-use Prim.Native.Nat.{_≤_, _-_}
-use lib.ListN.{length, getD, take, drop}
-use Rattle.hns_encoding.specs.Loops.{map-done}
-use Rattle.hnsr_circuit.specs.Table.{cleared, clear}
+use Prim.Native.Nat.{ℕ, _-_, _≤_, min}
+use native.Mathlib.Omega.{arith}
+use lib.ListN.{length, take, drop}
+use borrow.Author.Needs.{needs}
+use Rattle.hnsr_circuit.specs.Table.{clear}
 use Rattle.hnsr_circuit.specs.Inflight.{noAction, clearAction}
 use Rattle.hnsr_circuit.specs.Question.{actionHas}
-use Rattle.hnsr_circuit.specs.Laws.Scans.{clear-step}
-use borrow.Author.Needs.{needs}
-use native.Mathlib.Omega.{arith}
+use Rattle.hnsr_circuit.specs.Held.{held}
+use Rattle.hnsr_circuit.specs.Laws.Held.{held-min, clear-rest, held-clear-step}
 use Rattle.hnsr_circuit.proofs.tables.inflight.clear_action.Statement.{statement}
 use Rattle.hnsr_circuit.proofs.tables.inflight.clear_action.Proof.Tie as tie
 
 abbrev Inv-loop : tie.InvT-loop
-Inv-loop inflight question i₀ inflight′ i = (i ≤ length inflight′) × (length inflight′ ≡ length inflight) × (take i inflight′ ++ clear clearAction (actionHas question) (drop i inflight′) ≡ clear clearAction (actionHas question) inflight)
+Inv-loop inflight question size₀ end₀ i₀ inflight′ i = (i ≤ end₀) × (end₀ ≤ length inflight) × (length inflight′ ≡ length inflight) × (take i (held clearAction end₀ inflight′) ++ clear clearAction (actionHas question) (drop i (held clearAction end₀ inflight′)) ≡ clear clearAction (actionHas question) (held clearAction end₀ inflight))
 
 abbrev μ-loop : tie.MeasureT-loop
-μ-loop inflight question i₀ inflight′ i = length inflight′ - i
+μ-loop inflight question size₀ end₀ i₀ inflight′ i = length inflight - i
+
+min-usize-requires : tie.Need-min-usize-requires Inv-loop μ-loop
+min-usize-requires c = search needs
 
 loop-holds : tie.Need-loop-holds Inv-loop μ-loop
-loop-holds c = search needs
+loop-holds c = (omega arith, omega arith, refl, refl)
 
 mul-row : tie.Need-mul-row Inv-loop μ-loop
 mul-row c = search needs
@@ -43,15 +46,17 @@ loop-less c = let k = c .before .unmark-action .kept .0 in omega arith
 
 loop-again : tie.Need-loop-again Inv-loop μ-loop
 loop-again c =
+    let a = c .before .before .before .before .before .before .before .before .args in
+    let t = a .inflight .now in
+    let n = c .before .before .before .before .before .before .before .min-usize .result in
+    let l = c .before .before .before .before .before .before .loop in
     let s = c .before .unmark-action in
     let h = c .before .before .before .action-has in
-    let l = c .before .before .before .before .before .before in
-    let a = l .before .args in
     let k = s .kept .0 in (
       omega arith,
-      k ∙ l .loop .inv .1,
-      clear-step clearAction (actionHas (a .question)) (l .loop .inflight) noAction (l .loop .i) (h .result) (clearAction (getD (l .loop .inflight) (l .loop .i) noAction)) (s .last .0) (clear clearAction (actionHas (a .question)) (a .inflight .now)) (omega arith)
-          (h .ensures) refl (s .ensures) (l .loop .inv .2),
+      l .inv .1,
+      k ∙ l .inv .2,
+      held-clear-step clearAction n (l .inflight) noAction (l .i) (omega arith) (omega arith) (actionHas (a .question)) (h .result) (s .last .0) (clear clearAction (actionHas (a .question)) (held clearAction n t)) (h .ensures) (s .ensures) (l .inv .3),
     )
 
 same-length : tie.Need-same-length Inv-loop μ-loop
@@ -59,9 +64,13 @@ same-length c = search needs
 
 returns : tie.Need-returns Inv-loop μ-loop
 returns c =
-    let l = c .before in
-    let a = l .before .args in
-    map-done (cleared clearAction (actionHas (a .question))) (l .loop .inflight) (l .loop .i) (clear clearAction (actionHas (a .question)) (a .inflight .now)) (omega arith) (l .loop .inv .2)
+    let a = c .before .before .before .args in
+    let t = a .inflight .now in
+    let n = c .before .before .min-usize .result in
+    let l = c .before .loop in
+    sym (ap (λ (m : ℕ). held clearAction m (l .inflight)) (c .before .before .min-usize .ensures ∙ ap (min (a .places .actions)) (sym (l .inv .2))) ∙ held-min clearAction (a .places .actions) (l .inflight))
+    ∙ clear-rest clearAction (actionHas (a .question)) (λ x. refl) n (l .inflight) (l .i) (clear clearAction (actionHas (a .question)) (held clearAction n t)) (λ h. omega arith) (l .inv .3)
+    ∙ ap (clear clearAction (actionHas (a .question))) (ap (λ (m : ℕ). held clearAction m t) (c .before .before .min-usize .ensures) ∙ held-min clearAction (a .places .actions) t)
 
 pub clear-action-spec : {M : Type 1} → statement M
-clear-action-spec = tie.close (tie.spec Inv-loop μ-loop loop-holds mul-row slice-copy-out-row action-has-requires unmark-action-requires add-i loop-less loop-again same-length returns)
+clear-action-spec = tie.close (tie.spec Inv-loop μ-loop min-usize-requires loop-holds mul-row slice-copy-out-row action-has-requires unmark-action-requires add-i loop-less loop-again same-length returns)

@@ -1,28 +1,33 @@
--- `count_action` meets its contract: what is counted and what is left to count is the whole count.
+-- `count_action` meets its contract: what is left, with what is counted so far, is the whole count; past the number no record is marked.
 mod Tie
 use mathlib.Core.Path.{_≡_, ap, _∙_}
-use Prim.Native.Nat.{_+_, _-_, _≤_}
 use mathlib.Core.Bool.{Bool, cond}
+use Prim.Native.Nat.{ℕ, _+_, _-_, _≤_}
 use native.Mathlib.Nat.{zero-add}
+use native.Mathlib.Omega.{arith}
 use lib.ListN.{length, drop}
+use borrow.Author.Needs.{needs}
 use Rattle.hns_encoding.specs.Sums.{count}
 use Rattle.hns_encoding.specs.Laws.Tests.{cond-le}
-use Rattle.hnsr_circuit.specs.Inflight.{noAction}
+use Rattle.hnsr_circuit.specs.Inflight.{noAction, clearAction}
 use Rattle.hnsr_circuit.specs.Question.{actionHas}
-use Rattle.hnsr_circuit.specs.Laws.Scans.{count-next, count-done}
-use borrow.Author.Needs.{needs}
-use native.Mathlib.Omega.{arith}
+use Rattle.hnsr_circuit.specs.Held.{held}
+use Rattle.hnsr_circuit.specs.Laws.HeldTables.{action-unmarked}
+use Rattle.hnsr_circuit.specs.Laws.Held.{held-min, count-rest, held-count-next}
 use Rattle.hnsr_circuit.proofs.tables.inflight.count_action.Statement.{statement}
 use Rattle.hnsr_circuit.proofs.tables.inflight.count_action.Proof.Tie as tie
 
 abbrev Inv-loop : tie.InvT-loop
-Inv-loop inflight question counted₀ i₀ counted i = (i ≤ length inflight) × (counted ≤ i) × (counted + count (actionHas question) (drop i inflight) ≡ count (actionHas question) inflight)
+Inv-loop inflight question size₀ end₀ counted₀ i₀ counted i = (i ≤ end₀) × (end₀ ≤ length inflight) × (counted ≤ i) × (counted + count (actionHas question) (drop i (held clearAction end₀ inflight)) ≡ count (actionHas question) (held clearAction end₀ inflight))
 
 abbrev μ-loop : tie.MeasureT-loop
-μ-loop inflight question counted₀ i₀ counted i = length inflight - i
+μ-loop inflight question size₀ end₀ counted₀ i₀ counted i = length inflight - i
+
+min-usize-requires : tie.Need-min-usize-requires Inv-loop μ-loop
+min-usize-requires c = search needs
 
 loop-holds : tie.Need-loop-holds Inv-loop μ-loop
-loop-holds c = let a = c .args in (search needs, search needs, zero-add (count (actionHas (a .question)) (a .inflight .now)))
+loop-holds c = (omega arith, omega arith, omega arith, zero-add (count (actionHas (c .before .args .question)) (held clearAction (c .min-usize .result) (c .before .args .inflight .now))))
 
 mul-row : tie.Need-mul-row Inv-loop μ-loop
 mul-row c = search needs
@@ -44,20 +49,27 @@ loop-less c = search needs
 
 loop-again : tie.Need-loop-again Inv-loop μ-loop
 loop-again c =
-    let h = c .before in
-    let l = h .before .before .before in
-    let a = l .before .args in (
-      search needs,
-      omega (arith, cond-le (h .action-has .result)),
-      count-next (actionHas (a .question)) (a .inflight .now) noAction (l .loop .i) (count (actionHas (a .question)) (a .inflight .now)) (l .loop .counted) (c .one-more .result) (omega arith)
-          (c .one-more .ensures ∙ ap (λ (b : Bool). l .loop .counted + cond b 1 0) (h .action-has .ensures)) (l .loop .inv .2),
+    let a = c .before .before .before .before .before .before .args in
+    let t = a .inflight .now in
+    let n = c .before .before .before .before .before .min-usize .result in
+    let l = c .before .before .before .before .loop in
+    let h = c .before .action-has in (
+      omega arith,
+      l .inv .1,
+      omega (arith, cond-le (h .result)),
+      held-count-next clearAction n t noAction (l .i) (omega arith) (omega arith) (actionHas (a .question)) (count (actionHas (a .question)) (held clearAction n t)) (l .counted) (c .one-more .result)
+          (c .one-more .ensures ∙ ap (λ (b : Bool). l .counted + cond b 1 0) (h .ensures)) (l .inv .3),
     )
 
 returns : tie.Need-returns Inv-loop μ-loop
 returns c =
-    let l = c .before in
-    let a = l .before .args in
-    count-done (actionHas (a .question)) (a .inflight .now) (l .loop .i) (count (actionHas (a .question)) (a .inflight .now)) (l .loop .counted) (omega arith) (l .loop .inv .2)
+    let a = c .before .before .before .args in
+    let t = a .inflight .now in
+    let n = c .before .before .min-usize .result in
+    let l = c .before .loop in
+    let seen = ap (λ (m : ℕ). held clearAction m t) (c .before .before .min-usize .ensures) ∙ held-min clearAction (a .places .actions) t in
+    count-rest clearAction (actionHas (a .question)) (λ x. action-unmarked (a .question) x ∙ c .before .before .before .pre) n t (l .i) (l .counted) (count (actionHas (a .question)) (held clearAction n t)) (λ h. omega arith) (l .inv .3)
+    ∙ ap (count (actionHas (a .question))) seen
 
 pub count-action-spec : {M : Type 1} → statement M
-count-action-spec = tie.close (tie.spec Inv-loop μ-loop loop-holds mul-row shared-slice-copy-out-row action-has-requires one-more-requires add-i loop-less loop-again returns)
+count-action-spec = tie.close (tie.spec Inv-loop μ-loop min-usize-requires loop-holds mul-row shared-slice-copy-out-row action-has-requires one-more-requires add-i loop-less loop-again returns)

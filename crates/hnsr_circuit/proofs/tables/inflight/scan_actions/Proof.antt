@@ -1,29 +1,42 @@
--- `scan_actions` meets its contract: what is left of the scan, from what is found so far, is the whole scan.
+-- `scan_actions` meets its contract: what is left of the scan, from what is found so far, is the whole scan; past the number there is a spare place.
 mod Tie
-use mathlib.Core.Path.{_≡_, ap, _∙_}
-use Prim.Native.Nat.{_-_, _≤_}
-use lib.ListN.{length, drop, getD}
-use Rattle.hns_encoding.specs.Loops.{foldFrom, fold-step, fold-done}
-use Rattle.hnsr_circuit.specs.Inflight.{noAction}
-use Rattle.hnsr_circuit.specs.Queue.{actionsScanned}
-use Rattle.hnsr_circuit.specs.Laws.Turns.{TallyAtMost, tally-more, tally-none, tally-most, scanned, scan-fold}
-use Rattle.hnsr_circuit.specs.declared.records.ActionScan.{ActionScan}
-use borrow.Author.Needs.{needs}
+use mathlib.Core.Path.{_≡_, sym, ap, _∙_}
+use Prim.Native.Nat.{ℕ, _-_, _≤_}
 use native.Mathlib.Omega.{arith}
+use lib.ListN.{length, getD, drop}
+use borrow.Author.Needs.{needs}
+use Rattle.hns_encoding.specs.Loops.{foldFrom}
+use Rattle.hnsr_circuit.specs.Inflight.{noAction, clearAction}
+use Rattle.hnsr_circuit.specs.Queue.{actionsScanned}
+use Rattle.hnsr_circuit.specs.Held.{held}
+use Rattle.hnsr_circuit.specs.declared.records.ActionScan.{ActionScan}
+use Rattle.hnsr_circuit.specs.Laws.Turns.{noScan, TallyAtMost, tally-more, tally-none, tally-most, scanned, scan-fold}
+use Rattle.hnsr_circuit.specs.Laws.HeldTables.{scan-rest}
+use Rattle.hnsr_circuit.specs.Laws.Held.{length-held, held-min, held-fold-step}
 use Rattle.hnsr_circuit.proofs.tables.inflight.scan_actions.Statement.{statement}
 use Rattle.hnsr_circuit.proofs.tables.inflight.scan_actions.Proof.Tie as tie
 
 abbrev Inv-loop : tie.InvT-loop
-Inv-loop inflight question scan₀ i₀ scan i = (i ≤ length inflight) × (TallyAtMost i (scan .tally)) × (foldFrom (scanned question) (drop i inflight) i scan ≡ actionsScanned question inflight)
+Inv-loop inflight question size₀ end₀ scan₀ i₀ scan i = (i ≤ end₀) × (end₀ ≤ length inflight) × (TallyAtMost i (scan .tally)) × (foldFrom (scanned question) (drop i (held clearAction end₀ inflight)) i scan ≡ actionsScanned question (held clearAction end₀ inflight))
 
 abbrev μ-loop : tie.MeasureT-loop
-μ-loop inflight question scan₀ i₀ scan i = length inflight - i
+μ-loop inflight question size₀ end₀ scan₀ i₀ scan i = length inflight - i
+
+min-usize-requires : tie.Need-min-usize-requires Inv-loop μ-loop
+min-usize-requires c = search needs
 
 no-scan-requires : tie.Need-no-scan-requires Inv-loop μ-loop
 no-scan-requires c = search needs
 
 loop-holds : tie.Need-loop-holds Inv-loop μ-loop
-loop-holds c = let a = c .before .args in (search needs, rw (c .no-scan .ensures) (tally-none), ap (λ (b : ActionScan). foldFrom (scanned (a .question)) (a .inflight .now) 0 b) (c .no-scan .ensures) ∙ scan-fold (a .question) (a .inflight .now))
+loop-holds c =
+    let a = c .before .before .args in
+    let t = held clearAction (c .before .min-usize .result) (a .inflight .now) in (
+      omega arith,
+      omega arith,
+      rw (c .no-scan .ensures) (tally-none),
+      ap (λ (b : ActionScan). foldFrom (scanned (a .question)) t 0 b) (c .no-scan .ensures ∙ ap noScan (sym (length-held clearAction (c .before .min-usize .result) (a .inflight .now)))) ∙ scan-fold (a .question) t,
+    )
 
 mul-row : tie.Need-mul-row Inv-loop μ-loop
 mul-row c = search needs
@@ -32,9 +45,7 @@ shared-slice-copy-out-row : tie.Need-shared-slice-copy-out-row Inv-loop μ-loop
 shared-slice-copy-out-row c = search needs
 
 action-scanned-requires : tie.Need-action-scanned-requires Inv-loop μ-loop
-action-scanned-requires c = λ κs.
-    let l = c .before .before in
-    tally-more (l .loop .i) 18446744073709551614 (l .loop .scan .tally) (omega arith) (l .loop .inv .1)
+action-scanned-requires c = λ κs. tally-more (c .before .before .loop .i) 18446744073709551614 (c .before .before .loop .scan .tally) (omega arith) (c .before .before .loop .inv .2)
 
 add-i : tie.Need-add-i Inv-loop μ-loop
 add-i c = search needs
@@ -44,18 +55,28 @@ loop-less c = search needs
 
 loop-again : tie.Need-loop-again Inv-loop μ-loop
 loop-again c =
-    let l = c .before .before .before in
-    let a = l .before .before .args in (
-      search needs,
-      rw (c .action-scanned .ensures) (tally-most (a .question) (l .loop .i) (l .loop .scan .tally) (getD (a .inflight .now) (l .loop .i) noAction) (l .loop .i) (l .loop .inv .1)),
-      fold-step (scanned (a .question)) (a .inflight .now) noAction (l .loop .i) (l .loop .scan) (c .action-scanned .result) (actionsScanned (a .question) (a .inflight .now)) (omega arith) (c .action-scanned .ensures) (l .loop .inv .2),
+    let a = c .before .before .before .before .before .before .args in
+    let t = a .inflight .now in
+    let n = c .before .before .before .before .before .min-usize .result in
+    let l = c .before .before .before .loop in (
+      omega arith,
+      l .inv .1,
+      rw (c .action-scanned .ensures) (tally-most (a .question) (l .i) (l .scan .tally) (getD t (l .i) noAction) (l .i) (l .inv .2)),
+      held-fold-step clearAction n t noAction (l .i) (omega arith) (omega arith) (scanned (a .question)) (l .scan) (c .action-scanned .result) (actionsScanned (a .question) (held clearAction n t)) (c .action-scanned .ensures) (l .inv .3),
     )
+
+spared-requires : tie.Need-spared-requires Inv-loop μ-loop
+spared-requires c = search needs
 
 returns : tie.Need-returns Inv-loop μ-loop
 returns c =
-    let l = c .before in
-    let a = l .before .before .args in
-    fold-done (scanned (a .question)) (a .inflight .now) (l .loop .i) (l .loop .scan) (actionsScanned (a .question) (a .inflight .now)) (omega arith) (l .loop .inv .2)
+    let a = c .before .before .before .before .before .args in
+    let t = a .inflight .now in
+    let n = c .before .before .before .before .min-usize .result in
+    let l = c .before .before .loop in
+    c .spared .ensures
+    ∙ scan-rest (a .question) n t (l .i) (l .scan) (actionsScanned (a .question) (held clearAction n t)) (λ h. omega arith) (omega arith) (l .inv .3)
+    ∙ ap (actionsScanned (a .question)) (ap (λ (m : ℕ). held clearAction m t) (c .before .before .before .before .min-usize .ensures) ∙ held-min clearAction (a .places .actions) t)
 
 pub scan-actions-spec : {M : Type 1} → statement M
-scan-actions-spec = tie.close (tie.spec Inv-loop μ-loop no-scan-requires loop-holds mul-row shared-slice-copy-out-row action-scanned-requires add-i loop-less loop-again returns)
+scan-actions-spec = tie.close (tie.spec Inv-loop μ-loop min-usize-requires no-scan-requires loop-holds mul-row shared-slice-copy-out-row action-scanned-requires add-i loop-less loop-again spared-requires returns)

@@ -1,27 +1,30 @@
--- `clear_usage` meets its contract: what is done, with what is left cleared, is the whole table cleared.
+-- `clear_usage` meets its contract: what is done, with what is left cleared, is the whole table cleared; past the number there is no mark.
 mod Tie
-use mathlib.Core.Path.{_≡_, refl, _∙_}
+use mathlib.Core.Path.{_≡_, refl, sym, ap, _∙_}
 use mathlib.Core.List.{_++_}
-use Prim.Native.Nat.{_≤_, _-_}
-use lib.ListN.{length, getD, take, drop}
-use Rattle.hns_encoding.specs.Loops.{map-done}
-use Rattle.hnsr_circuit.specs.Table.{cleared, clear}
+use Prim.Native.Nat.{ℕ, _-_, _≤_, min}
+use native.Mathlib.Omega.{arith}
+use lib.ListN.{length, take, drop}
+use borrow.Author.Needs.{needs}
+use Rattle.hnsr_circuit.specs.Table.{clear}
 use Rattle.hnsr_circuit.specs.Ledger.{noUsage, clearUsage}
 use Rattle.hnsr_circuit.specs.Question.{usageHas}
-use Rattle.hnsr_circuit.specs.Laws.Scans.{clear-step}
-use borrow.Author.Needs.{needs}
-use native.Mathlib.Omega.{arith}
+use Rattle.hnsr_circuit.specs.Held.{held}
+use Rattle.hnsr_circuit.specs.Laws.Held.{held-min, clear-rest, held-clear-step}
 use Rattle.hnsr_circuit.proofs.tables.ledger.clear_usage.Statement.{statement}
 use Rattle.hnsr_circuit.proofs.tables.ledger.clear_usage.Proof.Tie as tie
 
 abbrev Inv-loop : tie.InvT-loop
-Inv-loop ledger question i₀ ledger′ i = (i ≤ length ledger′) × (length ledger′ ≡ length ledger) × (take i ledger′ ++ clear clearUsage (usageHas question) (drop i ledger′) ≡ clear clearUsage (usageHas question) ledger)
+Inv-loop ledger question size₀ end₀ i₀ ledger′ i = (i ≤ end₀) × (end₀ ≤ length ledger) × (length ledger′ ≡ length ledger) × (take i (held clearUsage end₀ ledger′) ++ clear clearUsage (usageHas question) (drop i (held clearUsage end₀ ledger′)) ≡ clear clearUsage (usageHas question) (held clearUsage end₀ ledger))
 
 abbrev μ-loop : tie.MeasureT-loop
-μ-loop ledger question i₀ ledger′ i = length ledger′ - i
+μ-loop ledger question size₀ end₀ i₀ ledger′ i = length ledger - i
+
+min-usize-requires : tie.Need-min-usize-requires Inv-loop μ-loop
+min-usize-requires c = search needs
 
 loop-holds : tie.Need-loop-holds Inv-loop μ-loop
-loop-holds c = search needs
+loop-holds c = (omega arith, omega arith, refl, refl)
 
 mul-row : tie.Need-mul-row Inv-loop μ-loop
 mul-row c = search needs
@@ -43,15 +46,17 @@ loop-less c = let k = c .before .unmark-usage .kept .0 in omega arith
 
 loop-again : tie.Need-loop-again Inv-loop μ-loop
 loop-again c =
+    let a = c .before .before .before .before .before .before .before .before .args in
+    let t = a .ledger .now in
+    let n = c .before .before .before .before .before .before .before .min-usize .result in
+    let l = c .before .before .before .before .before .before .loop in
     let s = c .before .unmark-usage in
     let h = c .before .before .before .usage-has in
-    let l = c .before .before .before .before .before .before in
-    let a = l .before .args in
     let k = s .kept .0 in (
       omega arith,
-      k ∙ l .loop .inv .1,
-      clear-step clearUsage (usageHas (a .question)) (l .loop .ledger) noUsage (l .loop .i) (h .result) (clearUsage (getD (l .loop .ledger) (l .loop .i) noUsage)) (s .last .0) (clear clearUsage (usageHas (a .question)) (a .ledger .now)) (omega arith)
-          (h .ensures) refl (s .ensures) (l .loop .inv .2),
+      l .inv .1,
+      k ∙ l .inv .2,
+      held-clear-step clearUsage n (l .ledger) noUsage (l .i) (omega arith) (omega arith) (usageHas (a .question)) (h .result) (s .last .0) (clear clearUsage (usageHas (a .question)) (held clearUsage n t)) (h .ensures) (s .ensures) (l .inv .3),
     )
 
 same-length : tie.Need-same-length Inv-loop μ-loop
@@ -59,9 +64,13 @@ same-length c = search needs
 
 returns : tie.Need-returns Inv-loop μ-loop
 returns c =
-    let l = c .before in
-    let a = l .before .args in
-    map-done (cleared clearUsage (usageHas (a .question))) (l .loop .ledger) (l .loop .i) (clear clearUsage (usageHas (a .question)) (a .ledger .now)) (omega arith) (l .loop .inv .2)
+    let a = c .before .before .before .args in
+    let t = a .ledger .now in
+    let n = c .before .before .min-usize .result in
+    let l = c .before .loop in
+    sym (ap (λ (m : ℕ). held clearUsage m (l .ledger)) (c .before .before .min-usize .ensures ∙ ap (min (a .places .ledger)) (sym (l .inv .2))) ∙ held-min clearUsage (a .places .ledger) (l .ledger))
+    ∙ clear-rest clearUsage (usageHas (a .question)) (λ x. refl) n (l .ledger) (l .i) (clear clearUsage (usageHas (a .question)) (held clearUsage n t)) (λ h. omega arith) (l .inv .3)
+    ∙ ap (clear clearUsage (usageHas (a .question))) (ap (λ (m : ℕ). held clearUsage m t) (c .before .before .min-usize .ensures) ∙ held-min clearUsage (a .places .ledger) t)
 
 pub clear-usage-spec : {M : Type 1} → statement M
-clear-usage-spec = tie.close (tie.spec Inv-loop μ-loop loop-holds mul-row slice-copy-out-row usage-has-requires unmark-usage-requires add-i loop-less loop-again same-length returns)
+clear-usage-spec = tie.close (tie.spec Inv-loop μ-loop min-usize-requires loop-holds mul-row slice-copy-out-row usage-has-requires unmark-usage-requires add-i loop-less loop-again same-length returns)

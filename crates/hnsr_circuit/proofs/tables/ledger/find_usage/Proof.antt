@@ -1,26 +1,35 @@
--- `find_usage` meets its contract: the first `i` records have not what is asked.
+-- `find_usage` meets its contract: the first `i` records have not what is asked, and past the number no record is marked.
 mod Tie
-use mathlib.Core.Path.{_≡_, sym, _∙_}
-use Prim.Native.Nat.{_+_, _-_, _≤_}
+use mathlib.Core.Path.{_≡_, sym, ap, _∙_}
+use mathlib.Core.Bool.{Bool, cond}
+use Prim.Native.Nat.{ℕ, _+_, _-_, _≤_}
 use native.Mathlib.Nat.{zero-add}
-use lib.ListN.{length, drop}
-use Rattle.hnsr_circuit.specs.Table.{placeOf}
-use Rattle.hnsr_circuit.specs.Ledger.{noUsage}
-use Rattle.hnsr_circuit.specs.Question.{usageHas}
-use Rattle.hnsr_circuit.specs.Laws.Scans.{find-next, find-here, find-none}
-use borrow.Author.Needs.{needs}
 use native.Mathlib.Omega.{arith}
+use lib.ListN.{length, drop}
+use borrow.Author.Needs.{needs}
+use Rattle.hnsr_circuit.specs.Table.{placeOf}
+use Rattle.hnsr_circuit.specs.Ledger.{noUsage, clearUsage}
+use Rattle.hnsr_circuit.specs.Question.{usageHas}
+use Rattle.hnsr_circuit.specs.Held.{held, asksUnused}
+use Rattle.hnsr_circuit.specs.Laws.HeldTables.{usage-unmarked}
+use Rattle.hnsr_circuit.specs.Laws.Held.{held-min, find-rest, held-find-next, held-find-here}
 use Rattle.hnsr_circuit.proofs.tables.ledger.find_usage.Statement.{statement}
 use Rattle.hnsr_circuit.proofs.tables.ledger.find_usage.Proof.Tie as tie
 
 abbrev Inv-loop : tie.InvT-loop
-Inv-loop ledger question i₀ i = (i ≤ length ledger) × (i + placeOf (usageHas question) (drop i ledger) ≡ placeOf (usageHas question) ledger)
+Inv-loop ledger question size₀ end₀ unused₀ i₀ i = (i ≤ end₀) × (end₀ ≤ length ledger) × (i + placeOf (usageHas question) (drop i (held clearUsage end₀ ledger)) ≡ placeOf (usageHas question) (held clearUsage end₀ ledger))
 
 abbrev μ-loop : tie.MeasureT-loop
-μ-loop ledger question i₀ i = length ledger - i
+μ-loop ledger question size₀ end₀ unused₀ i₀ i = length ledger - i
+
+min-usize-requires : tie.Need-min-usize-requires Inv-loop μ-loop
+min-usize-requires c = search needs
+
+asks-unused-requires : tie.Need-asks-unused-requires Inv-loop μ-loop
+asks-unused-requires c = search needs
 
 loop-holds : tie.Need-loop-holds Inv-loop μ-loop
-loop-holds c = let a = c .args in (search needs, zero-add (placeOf (usageHas (a .question)) (a .ledger .now)))
+loop-holds c = (omega arith, omega arith, zero-add (placeOf (usageHas (c .before .before .args .question)) (held clearUsage (c .before .min-usize .result) (c .before .before .args .ledger .now))))
 
 mul-row : tie.Need-mul-row Inv-loop μ-loop
 mul-row c = search needs
@@ -33,9 +42,13 @@ usage-has-requires c = search needs
 
 returns : tie.Need-returns Inv-loop μ-loop
 returns c =
-    let l = c .before .before .before .before in
-    let a = l .before .args in
-    find-here (usageHas (a .question)) (a .ledger .now) noUsage (l .loop .i) (placeOf (usageHas (a .question)) (a .ledger .now)) (omega arith) (sym (c .before .usage-has .ensures) ∙ c .if1 .taken) (l .loop .inv .1)
+    let a = c .before .before .before .before .before .before .before .args in
+    let t = a .ledger .now in
+    let n = c .before .before .before .before .before .before .min-usize .result in
+    let l = c .before .before .before .before .loop in
+    let seen = ap (λ (m : ℕ). held clearUsage m t) (c .before .before .before .before .before .before .min-usize .ensures) ∙ held-min clearUsage (a .places .ledger) t in
+    held-find-here clearUsage n t noUsage (l .i) (omega arith) (omega arith) (usageHas (a .question)) (placeOf (usageHas (a .question)) (held clearUsage n t)) (sym (c .before .usage-has .ensures) ∙ c .if1 .taken) (l .inv .2)
+    ∙ ap (placeOf (usageHas (a .question))) seen
 
 add-i : tie.Need-add-i Inv-loop μ-loop
 add-i c = search needs
@@ -45,15 +58,26 @@ loop-less c = search needs
 
 loop-again : tie.Need-loop-again Inv-loop μ-loop
 loop-again c =
-    let l = c .before .before .before .before in
-    let a = l .before .args in
-    (search needs, find-next (usageHas (a .question)) (a .ledger .now) noUsage (l .loop .i) (placeOf (usageHas (a .question)) (a .ledger .now)) (omega arith) (sym (c .before .usage-has .ensures) ∙ c .if1 .left) (l .loop .inv .1))
+    let a = c .before .before .before .before .before .before .before .args in
+    let t = a .ledger .now in
+    let n = c .before .before .before .before .before .before .min-usize .result in
+    let l = c .before .before .before .before .loop in
+    (omega arith, l .inv .1, held-find-next clearUsage n t noUsage (l .i) (omega arith) (omega arith) (usageHas (a .question)) (placeOf (usageHas (a .question)) (held clearUsage n t)) (sym (c .before .usage-has .ensures) ∙ c .if1 .left) (l .inv .2))
+
+or-else-requires : tie.Need-or-else-requires Inv-loop μ-loop
+or-else-requires c = search needs
 
 returns-2 : tie.Need-returns-2 Inv-loop μ-loop
 returns-2 c =
-    let l = c .before in
-    let a = l .before .args in
-    find-none (usageHas (a .question)) (a .ledger .now) (l .loop .i) (placeOf (usageHas (a .question)) (a .ledger .now)) (omega arith) (l .loop .inv .1)
+    let a = c .before .before .before .before .before .args in
+    let t = a .ledger .now in
+    let n = c .before .before .before .before .min-usize .result in
+    let l = c .before .before .loop in
+    let seen = ap (λ (m : ℕ). held clearUsage m t) (c .before .before .before .before .min-usize .ensures) ∙ held-min clearUsage (a .places .ledger) t in
+    c .or-else .ensures
+    ∙ ap (λ (b : Bool). cond b (l .i) (length t)) (c .before .before .before .asks-unused .ensures)
+    ∙ find-rest clearUsage (usageHas (a .question)) (asksUnused (a .question .ask)) (usage-unmarked (a .question)) n t (l .i) (placeOf (usageHas (a .question)) (held clearUsage n t)) (λ h. omega arith) (omega arith) (l .inv .2)
+    ∙ ap (placeOf (usageHas (a .question))) seen
 
 pub find-usage-spec : {M : Type 1} → statement M
-find-usage-spec = tie.close (tie.spec Inv-loop μ-loop loop-holds mul-row shared-slice-copy-out-row usage-has-requires returns add-i loop-less loop-again returns-2)
+find-usage-spec = tie.close (tie.spec Inv-loop μ-loop min-usize-requires asks-unused-requires loop-holds mul-row shared-slice-copy-out-row usage-has-requires returns add-i loop-less loop-again or-else-requires returns-2)

@@ -1,28 +1,33 @@
--- `count_pending` meets its contract: what is counted and what is left to count is the whole count.
+-- `count_pending` meets its contract: what is left, with what is counted so far, is the whole count; past the number no record is marked.
 mod Tie
 use mathlib.Core.Path.{_≡_, ap, _∙_}
-use Prim.Native.Nat.{_+_, _-_, _≤_}
 use mathlib.Core.Bool.{Bool, cond}
+use Prim.Native.Nat.{ℕ, _+_, _-_, _≤_}
 use native.Mathlib.Nat.{zero-add}
+use native.Mathlib.Omega.{arith}
 use lib.ListN.{length, drop}
+use borrow.Author.Needs.{needs}
 use Rattle.hns_encoding.specs.Sums.{count}
 use Rattle.hns_encoding.specs.Laws.Tests.{cond-le}
-use Rattle.hnsr_circuit.specs.Pending.{noPending}
+use Rattle.hnsr_circuit.specs.Pending.{noPending, clearPending}
 use Rattle.hnsr_circuit.specs.Question.{pendingHas}
-use Rattle.hnsr_circuit.specs.Laws.Scans.{count-next, count-done}
-use borrow.Author.Needs.{needs}
-use native.Mathlib.Omega.{arith}
+use Rattle.hnsr_circuit.specs.Held.{held}
+use Rattle.hnsr_circuit.specs.Laws.HeldTables.{pending-unmarked}
+use Rattle.hnsr_circuit.specs.Laws.Held.{held-min, count-rest, held-count-next}
 use Rattle.hnsr_circuit.proofs.tables.pending.count_pending.Statement.{statement}
 use Rattle.hnsr_circuit.proofs.tables.pending.count_pending.Proof.Tie as tie
 
 abbrev Inv-loop : tie.InvT-loop
-Inv-loop pending question counted₀ i₀ counted i = (i ≤ length pending) × (counted ≤ i) × (counted + count (pendingHas question) (drop i pending) ≡ count (pendingHas question) pending)
+Inv-loop pending question size₀ end₀ counted₀ i₀ counted i = (i ≤ end₀) × (end₀ ≤ length pending) × (counted ≤ i) × (counted + count (pendingHas question) (drop i (held clearPending end₀ pending)) ≡ count (pendingHas question) (held clearPending end₀ pending))
 
 abbrev μ-loop : tie.MeasureT-loop
-μ-loop pending question counted₀ i₀ counted i = length pending - i
+μ-loop pending question size₀ end₀ counted₀ i₀ counted i = length pending - i
+
+min-usize-requires : tie.Need-min-usize-requires Inv-loop μ-loop
+min-usize-requires c = search needs
 
 loop-holds : tie.Need-loop-holds Inv-loop μ-loop
-loop-holds c = let a = c .args in (search needs, search needs, zero-add (count (pendingHas (a .question)) (a .pending .now)))
+loop-holds c = (omega arith, omega arith, omega arith, zero-add (count (pendingHas (c .before .args .question)) (held clearPending (c .min-usize .result) (c .before .args .pending .now))))
 
 mul-row : tie.Need-mul-row Inv-loop μ-loop
 mul-row c = search needs
@@ -44,20 +49,27 @@ loop-less c = search needs
 
 loop-again : tie.Need-loop-again Inv-loop μ-loop
 loop-again c =
-    let h = c .before in
-    let l = h .before .before .before in
-    let a = l .before .args in (
-      search needs,
-      omega (arith, cond-le (h .pending-has .result)),
-      count-next (pendingHas (a .question)) (a .pending .now) noPending (l .loop .i) (count (pendingHas (a .question)) (a .pending .now)) (l .loop .counted) (c .one-more .result) (omega arith)
-          (c .one-more .ensures ∙ ap (λ (b : Bool). l .loop .counted + cond b 1 0) (h .pending-has .ensures)) (l .loop .inv .2),
+    let a = c .before .before .before .before .before .before .args in
+    let t = a .pending .now in
+    let n = c .before .before .before .before .before .min-usize .result in
+    let l = c .before .before .before .before .loop in
+    let h = c .before .pending-has in (
+      omega arith,
+      l .inv .1,
+      omega (arith, cond-le (h .result)),
+      held-count-next clearPending n t noPending (l .i) (omega arith) (omega arith) (pendingHas (a .question)) (count (pendingHas (a .question)) (held clearPending n t)) (l .counted) (c .one-more .result)
+          (c .one-more .ensures ∙ ap (λ (b : Bool). l .counted + cond b 1 0) (h .ensures)) (l .inv .3),
     )
 
 returns : tie.Need-returns Inv-loop μ-loop
 returns c =
-    let l = c .before in
-    let a = l .before .args in
-    count-done (pendingHas (a .question)) (a .pending .now) (l .loop .i) (count (pendingHas (a .question)) (a .pending .now)) (l .loop .counted) (omega arith) (l .loop .inv .2)
+    let a = c .before .before .before .args in
+    let t = a .pending .now in
+    let n = c .before .before .min-usize .result in
+    let l = c .before .loop in
+    let seen = ap (λ (m : ℕ). held clearPending m t) (c .before .before .min-usize .ensures) ∙ held-min clearPending (a .places .pending) t in
+    count-rest clearPending (pendingHas (a .question)) (λ x. pending-unmarked (a .question) x ∙ c .before .before .before .pre) n t (l .i) (l .counted) (count (pendingHas (a .question)) (held clearPending n t)) (λ h. omega arith) (l .inv .3)
+    ∙ ap (count (pendingHas (a .question))) seen
 
 pub count-pending-spec : {M : Type 1} → statement M
-count-pending-spec = tie.close (tie.spec Inv-loop μ-loop loop-holds mul-row shared-slice-copy-out-row pending-has-requires one-more-requires add-i loop-less loop-again returns)
+count-pending-spec = tie.close (tie.spec Inv-loop μ-loop min-usize-requires loop-holds mul-row shared-slice-copy-out-row pending-has-requires one-more-requires add-i loop-less loop-again returns)

@@ -1,30 +1,41 @@
--- `next_pending` meets its contract: what is left of the walk, from the best so far, is the whole walk.
+-- `next_pending` meets its contract: what is left of the turn, from the best so far, gives the whole; past the number no record is offered.
 mod Tie
-use mathlib.Core.Path.{_≡_, ap}
-use Prim.Native.Nat.{_-_, _≤_}
-use lib.ListN.{length, drop}
-use Rattle.hns_encoding.specs.Loops.{foldFrom, fold-step, fold-done}
-use Rattle.hnsr_circuit.specs.Pending.{noPending, pendingId}
-use Rattle.hnsr_circuit.specs.Table.{next, nextTurn}
-use Rattle.hnsr_circuit.specs.Question.{pendingHas}
-use Rattle.hnsr_circuit.specs.declared.records.Walked.{Walked}
-use borrow.Author.Needs.{needs}
+use mathlib.Core.Path.{_≡_, ap, _∙_}
+use mathlib.Core.List.{List}
+use Prim.Native.Nat.{ℕ, _-_, _≤_}
 use native.Mathlib.Omega.{arith}
+use lib.ListN.{length, drop}
+use borrow.Author.Needs.{needs}
+use Rattle.hns_encoding.specs.Loops.{foldFrom}
+use Rattle.hnsr_circuit.specs.Table.{nextTurn, next}
+use Rattle.hnsr_circuit.specs.Pending.{noPending, clearPending, pendingId}
+use Rattle.hnsr_circuit.specs.Question.{pendingHas}
+use Rattle.hnsr_circuit.specs.Held.{held}
+use Rattle.hnsr_circuit.specs.declared.records.Walked.{Walked}
+use Rattle.hnsr_circuit.specs.Laws.HeldTables.{pending-unmarked}
+use Rattle.hnsr_circuit.specs.Laws.Held.{held-min, fold-rest, held-fold-step, next-idle}
+use Rattle.hnsr_circuit.specs.declared.records.RelayPending.{RelayPending}
 use Rattle.hnsr_circuit.proofs.tables.pending.next_pending.Statement.{statement}
 use Rattle.hnsr_circuit.proofs.tables.pending.next_pending.Proof.Tie as tie
 
 abbrev Inv-loop : tie.InvT-loop
-Inv-loop pending question cursor best₀ i₀ best i = (i ≤ length pending) × (foldFrom (nextTurn pendingId (pendingHas question) cursor) (drop i pending) i best ≡ next pendingId (pendingHas question) cursor pending)
+Inv-loop pending question cursor size₀ end₀ best₀ i₀ best i = (i ≤ end₀) × (end₀ ≤ length pending) × (foldFrom (nextTurn pendingId (pendingHas question) cursor) (drop i (held clearPending end₀ pending)) i best ≡ (next pendingId (pendingHas question) cursor (held clearPending end₀ pending)))
 
 abbrev μ-loop : tie.MeasureT-loop
-μ-loop pending question cursor best₀ i₀ best i = length pending - i
+μ-loop pending question cursor size₀ end₀ best₀ i₀ best i = length pending - i
+
+min-usize-requires : tie.Need-min-usize-requires Inv-loop μ-loop
+min-usize-requires c = search needs
 
 not-yet-requires : tie.Need-not-yet-requires Inv-loop μ-loop
 not-yet-requires c = search needs
 
 loop-holds : tie.Need-loop-holds Inv-loop μ-loop
 unfolding next
-loop-holds c = let a = c .before .args in (search needs, ap (λ (b : Walked). foldFrom (nextTurn pendingId (pendingHas (a .question)) (a .cursor)) (a .pending .now) 0 b) (c .not-yet .ensures))
+loop-holds c =
+    let a = c .before .before .args in
+    let t = held clearPending (c .before .min-usize .result) (a .pending .now) in
+    (omega arith, omega arith, ap (λ (b : Walked). foldFrom (nextTurn pendingId (pendingHas (a .question)) (a .cursor)) t 0 b) (c .not-yet .ensures))
 
 mul-row : tie.Need-mul-row Inv-loop μ-loop
 mul-row c = search needs
@@ -43,17 +54,23 @@ loop-less c = search needs
 
 loop-again : tie.Need-loop-again Inv-loop μ-loop
 loop-again c =
-    let l = c .before .before .before in
-    let a = l .before .before .args in (
-      search needs,
-      fold-step (nextTurn pendingId (pendingHas (a .question)) (a .cursor)) (a .pending .now) noPending (l .loop .i) (l .loop .best) (c .pending-turn .result) (next pendingId (pendingHas (a .question)) (a .cursor) (a .pending .now)) (omega arith) (c .pending-turn .ensures) (l .loop .inv .1),
+    let a = c .before .before .before .before .before .before .args in
+    let t = a .pending .now in
+    let n = c .before .before .before .before .before .min-usize .result in
+    let l = c .before .before .before .loop in (
+      omega arith,
+      l .inv .1,
+      held-fold-step clearPending n t noPending (l .i) (omega arith) (omega arith) (nextTurn pendingId (pendingHas (a .question)) (a .cursor)) (l .best) (c .pending-turn .result) (next pendingId (pendingHas (a .question)) (a .cursor) (held clearPending n t)) (c .pending-turn .ensures) (l .inv .2),
     )
 
 returns : tie.Need-returns Inv-loop μ-loop
 returns c =
-    let l = c .before in
-    let a = l .before .before .args in
-    fold-done (nextTurn pendingId (pendingHas (a .question)) (a .cursor)) (a .pending .now) (l .loop .i) (l .loop .best) (next pendingId (pendingHas (a .question)) (a .cursor) (a .pending .now)) (omega arith) (l .loop .inv .1)
+    let a = c .before .before .before .before .args in
+    let t = a .pending .now in
+    let n = c .before .before .before .min-usize .result in
+    let l = c .before .loop in
+    fold-rest clearPending (nextTurn pendingId (pendingHas (a .question)) (a .cursor)) (next-idle clearPending pendingId (pendingHas (a .question)) (λ x. pending-unmarked (a .question) x ∙ c .before .before .before .before .pre) (a .cursor)) n t (l .i) (l .best) (next pendingId (pendingHas (a .question)) (a .cursor) (held clearPending n t)) (λ h. omega arith) (l .inv .2)
+    ∙ ap (λ (s : List RelayPending). (next pendingId (pendingHas (a .question)) (a .cursor) s)) (ap (λ (m : ℕ). held clearPending m t) (c .before .before .before .min-usize .ensures) ∙ held-min clearPending (a .places .pending) t)
 
 pub next-pending-spec : {M : Type 1} → statement M
-next-pending-spec = tie.close (tie.spec Inv-loop μ-loop not-yet-requires loop-holds mul-row shared-slice-copy-out-row pending-turn-requires add-i loop-less loop-again returns)
+next-pending-spec = tie.close (tie.spec Inv-loop μ-loop min-usize-requires not-yet-requires loop-holds mul-row shared-slice-copy-out-row pending-turn-requires add-i loop-less loop-again returns)

@@ -1,24 +1,32 @@
--- `pending_due` meets its contract: what is left, from the earliest so far, gives the earliest of all.
+-- `pending_due` meets its contract: what is left, from the earliest so far, gives the earliest of all; past the number nothing is due.
 mod Tie
-use mathlib.Core.Path.{_≡_, refl}
-use Prim.Native.Nat.{_-_, _≤_}
-use Rattle.hnsr_circuit.specs.Pending.{noPending, isPending}
-use lib.ListN.{length, drop}
-use Rattle.hns_encoding.specs.Loops.{foldFrom, fold-step, fold-done}
-use Rattle.hnsr_circuit.specs.NextDue.{dueTurn, deadlineOf, pendingDue}
-use borrow.Author.Needs.{needs}
+use mathlib.Core.Path.{_≡_, refl, ap, _∙_}
+use mathlib.Core.List.{List}
+use Prim.Native.Nat.{ℕ, _-_, _≤_}
 use native.Mathlib.Omega.{arith}
+use lib.ListN.{length, drop}
+use borrow.Author.Needs.{needs}
+use Rattle.hns_encoding.specs.Loops.{foldFrom}
+use Rattle.hnsr_circuit.specs.Pending.{isPending, noPending, clearPending}
+use Rattle.hnsr_circuit.specs.NextDue.{dueTurn, deadlineOf, pendingDue}
+use Rattle.hnsr_circuit.specs.Held.{held}
+use Rattle.hnsr_circuit.specs.Laws.HeldTables.{pending-due-idle}
+use Rattle.hnsr_circuit.specs.Laws.Held.{held-min, fold-rest, held-fold-step}
+use Rattle.hnsr_circuit.specs.declared.records.RelayPending.{RelayPending}
 use Rattle.hnsr_circuit.proofs.tables.pending.pending_due.Statement.{statement}
 use Rattle.hnsr_circuit.proofs.tables.pending.pending_due.Proof.Tie as tie
 
 abbrev Inv-loop : tie.InvT-loop
-Inv-loop pending earliest₀ i₀ earliest i = (i ≤ length pending) × (foldFrom (dueTurn isPending deadlineOf) (drop i pending) i earliest ≡ pendingDue pending earliest₀)
+Inv-loop pending size₀ end₀ earliest₀ i₀ earliest i = (i ≤ end₀) × (end₀ ≤ length pending) × (foldFrom (dueTurn isPending deadlineOf) (drop i (held clearPending end₀ pending)) i earliest ≡ (pendingDue (held clearPending end₀ pending) earliest₀))
 
 abbrev μ-loop : tie.MeasureT-loop
-μ-loop pending earliest₀ i₀ earliest i = length pending - i
+μ-loop pending size₀ end₀ earliest₀ i₀ earliest i = length pending - i
+
+min-usize-requires : tie.Need-min-usize-requires Inv-loop μ-loop
+min-usize-requires c = search needs
 
 loop-holds : tie.Need-loop-holds Inv-loop μ-loop
-loop-holds c = let a = c .args in (search needs, refl)
+loop-holds c = (omega arith, omega arith, refl)
 
 mul-row : tie.Need-mul-row Inv-loop μ-loop
 mul-row c = search needs
@@ -38,17 +46,23 @@ loop-less c = search needs
 loop-again : tie.Need-loop-again Inv-loop μ-loop
 unfolding dueTurn
 loop-again c =
-    let l = c .before .before .before in
-    let a = l .before .args in (
-      search needs,
-      fold-step (dueTurn isPending deadlineOf) (a .pending .now) noPending (l .loop .i) (l .loop .earliest) (c .pending-due-turn .result) (pendingDue (a .pending .now) (a .due)) (omega arith) (c .pending-due-turn .ensures) (l .loop .inv .1),
+    let a = c .before .before .before .before .before .args in
+    let t = a .pending .now in
+    let n = c .before .before .before .before .min-usize .result in
+    let l = c .before .before .before .loop in (
+      omega arith,
+      l .inv .1,
+      held-fold-step clearPending n t noPending (l .i) (omega arith) (omega arith) (dueTurn isPending deadlineOf) (l .earliest) (c .pending-due-turn .result) (pendingDue (held clearPending n t) (a .due)) (c .pending-due-turn .ensures) (l .inv .2),
     )
 
 returns : tie.Need-returns Inv-loop μ-loop
 returns c =
-    let l = c .before in
-    let a = l .before .args in
-    fold-done (dueTurn isPending deadlineOf) (a .pending .now) (l .loop .i) (l .loop .earliest) (pendingDue (a .pending .now) (a .due)) (omega arith) (l .loop .inv .1)
+    let a = c .before .before .before .args in
+    let t = a .pending .now in
+    let n = c .before .before .min-usize .result in
+    let l = c .before .loop in
+    fold-rest clearPending (dueTurn isPending deadlineOf) pending-due-idle n t (l .i) (l .earliest) (pendingDue (held clearPending n t) (a .due)) (λ h. omega arith) (l .inv .2)
+    ∙ ap (λ (s : List RelayPending). (pendingDue s (a .due))) (ap (λ (m : ℕ). held clearPending m t) (c .before .before .min-usize .ensures) ∙ held-min clearPending (a .places .pending) t)
 
 pub pending-due-spec : {M : Type 1} → statement M
-pending-due-spec = tie.close (tie.spec Inv-loop μ-loop loop-holds mul-row shared-slice-copy-out-row pending-due-turn-requires add-i loop-less loop-again returns)
+pending-due-spec = tie.close (tie.spec Inv-loop μ-loop min-usize-requires loop-holds mul-row shared-slice-copy-out-row pending-due-turn-requires add-i loop-less loop-again returns)

@@ -1,29 +1,40 @@
--- `pending_work` meets its contract: what is left of the work, from what is counted so far, is the whole work.
+-- `pending_work` meets its contract: what is left of the work, from what is counted so far, is the whole work; past the number there is none.
 mod Tie
 use mathlib.Core.Path.{_≡_, ap, _∙_}
-use Prim.Native.Nat.{_-_, _≤_}
-use lib.ListN.{length, drop, getD}
-use Rattle.hns_encoding.specs.Loops.{foldFrom, fold-step, fold-done}
-use Rattle.hnsr_circuit.specs.Pending.{noPending}
-use Rattle.hnsr_circuit.specs.Question.{pendingWork}
-use Rattle.hnsr_circuit.specs.Laws.Turns.{WorkAtMost, work-more, work-none, pendingWorked, pending-most, pending-work}
-use Rattle.hnsr_circuit.specs.declared.records.Work.{Work}
-use borrow.Author.Needs.{needs}
+use mathlib.Core.List.{List}
+use Prim.Native.Nat.{ℕ, _-_, _≤_}
 use native.Mathlib.Omega.{arith}
+use lib.ListN.{length, getD, drop}
+use borrow.Author.Needs.{needs}
+use Rattle.hns_encoding.specs.Loops.{foldFrom}
+use Rattle.hnsr_circuit.specs.Pending.{noPending, clearPending}
+use Rattle.hnsr_circuit.specs.Question.{pendingWork}
+use Rattle.hnsr_circuit.specs.Held.{held}
+use Rattle.hnsr_circuit.specs.declared.records.Work.{Work}
+use Rattle.hnsr_circuit.specs.Laws.Turns.{WorkAtMost, work-more, work-none, pendingWorked, pending-most, pending-work}
+use Rattle.hnsr_circuit.specs.Laws.HeldTables.{pending-idle}
+use Rattle.hnsr_circuit.specs.Laws.Held.{held-min, fold-rest, held-fold-step}
+use Rattle.hnsr_circuit.specs.declared.records.RelayPending.{RelayPending}
 use Rattle.hnsr_circuit.proofs.tables.pending.pending_work.Statement.{statement}
 use Rattle.hnsr_circuit.proofs.tables.pending.pending_work.Proof.Tie as tie
 
 abbrev Inv-loop : tie.InvT-loop
-Inv-loop pending question work₀ i₀ work i = (i ≤ length pending) × (WorkAtMost i work) × (foldFrom (pendingWorked question) (drop i pending) i work ≡ pendingWork question pending)
+Inv-loop pending question size₀ end₀ work₀ i₀ work i = (i ≤ end₀) × (end₀ ≤ length pending) × (WorkAtMost i work) × (foldFrom (pendingWorked question) (drop i (held clearPending end₀ pending)) i work ≡ (pendingWork question (held clearPending end₀ pending)))
 
 abbrev μ-loop : tie.MeasureT-loop
-μ-loop pending question work₀ i₀ work i = length pending - i
+μ-loop pending question size₀ end₀ work₀ i₀ work i = length pending - i
+
+min-usize-requires : tie.Need-min-usize-requires Inv-loop μ-loop
+min-usize-requires c = search needs
 
 no-work-requires : tie.Need-no-work-requires Inv-loop μ-loop
 no-work-requires c = search needs
 
 loop-holds : tie.Need-loop-holds Inv-loop μ-loop
-loop-holds c = let a = c .before .args in (search needs, rw (c .no-work .ensures) (work-none), ap (λ (b : Work). foldFrom (pendingWorked (a .question)) (a .pending .now) 0 b) (c .no-work .ensures) ∙ pending-work (a .question) (a .pending .now))
+loop-holds c =
+    let a = c .before .before .args in
+    let t = held clearPending (c .before .min-usize .result) (a .pending .now) in
+    (omega arith, omega arith, rw (c .no-work .ensures) (work-none), ap (λ (b : Work). foldFrom (pendingWorked (a .question)) t 0 b) (c .no-work .ensures) ∙ pending-work (a .question) t)
 
 mul-row : tie.Need-mul-row Inv-loop μ-loop
 mul-row c = search needs
@@ -32,9 +43,7 @@ shared-slice-copy-out-row : tie.Need-shared-slice-copy-out-row Inv-loop μ-loop
 shared-slice-copy-out-row c = search needs
 
 pending-worked-requires : tie.Need-pending-worked-requires Inv-loop μ-loop
-pending-worked-requires c = λ κs.
-    let l = c .before .before in
-    work-more (l .loop .i) 18446744073709551614 (l .loop .work) (omega arith) (l .loop .inv .1)
+pending-worked-requires c = λ κs. work-more (c .before .before .loop .i) 18446744073709551614 (c .before .before .loop .work) (omega arith) (c .before .before .loop .inv .2)
 
 add-i : tie.Need-add-i Inv-loop μ-loop
 add-i c = search needs
@@ -44,18 +53,24 @@ loop-less c = search needs
 
 loop-again : tie.Need-loop-again Inv-loop μ-loop
 loop-again c =
-    let l = c .before .before .before in
-    let a = l .before .before .args in (
-      search needs,
-      rw (c .pending-worked .ensures) (pending-most (a .question) (l .loop .i) (l .loop .work) (getD (a .pending .now) (l .loop .i) noPending) 0 (l .loop .inv .1)),
-      fold-step (pendingWorked (a .question)) (a .pending .now) noPending (l .loop .i) (l .loop .work) (c .pending-worked .result) (pendingWork (a .question) (a .pending .now)) (omega arith) (c .pending-worked .ensures) (l .loop .inv .2),
+    let a = c .before .before .before .before .before .before .args in
+    let t = a .pending .now in
+    let n = c .before .before .before .before .before .min-usize .result in
+    let l = c .before .before .before .loop in (
+      omega arith,
+      l .inv .1,
+      rw (c .pending-worked .ensures) (pending-most (a .question) (l .i) (l .work) (getD t (l .i) noPending) 0 (l .inv .2)),
+      held-fold-step clearPending n t noPending (l .i) (omega arith) (omega arith) (pendingWorked (a .question)) (l .work) (c .pending-worked .result) (pendingWork (a .question) (held clearPending n t)) (c .pending-worked .ensures) (l .inv .3),
     )
 
 returns : tie.Need-returns Inv-loop μ-loop
 returns c =
-    let l = c .before in
-    let a = l .before .before .args in
-    fold-done (pendingWorked (a .question)) (a .pending .now) (l .loop .i) (l .loop .work) (pendingWork (a .question) (a .pending .now)) (omega arith) (l .loop .inv .2)
+    let a = c .before .before .before .before .args in
+    let t = a .pending .now in
+    let n = c .before .before .before .min-usize .result in
+    let l = c .before .loop in
+    fold-rest clearPending (pendingWorked (a .question)) (pending-idle (a .question)) n t (l .i) (l .work) (pendingWork (a .question) (held clearPending n t)) (λ h. omega arith) (l .inv .3)
+    ∙ ap (λ (s : List RelayPending). (pendingWork (a .question) s)) (ap (λ (m : ℕ). held clearPending m t) (c .before .before .before .min-usize .ensures) ∙ held-min clearPending (a .places .pending) t)
 
 pub pending-work-spec : {M : Type 1} → statement M
-pending-work-spec = tie.close (tie.spec Inv-loop μ-loop no-work-requires loop-holds mul-row shared-slice-copy-out-row pending-worked-requires add-i loop-less loop-again returns)
+pending-work-spec = tie.close (tie.spec Inv-loop μ-loop min-usize-requires no-work-requires loop-holds mul-row shared-slice-copy-out-row pending-worked-requires add-i loop-less loop-again returns)

@@ -5,6 +5,9 @@ use Rattle.hnsr_circuit.proofs.By.tables.pending.pending_at.Reads
 use Rattle.hnsr_circuit.proofs.pending.no_pending.Met
 use Rattle.hnsr_circuit.proofs.pending.no_pending.Reads as Reads'
 use Rattle.hnsr_circuit.proofs.pending.no_pending.Symbol
+use Rattle.hnsr_circuit.proofs.places.held_pending.Met as Met'
+use Rattle.hnsr_circuit.proofs.places.held_pending.Reads as Reads''
+use Rattle.hnsr_circuit.proofs.places.held_pending.Symbol as Symbol'
 use Rattle.hnsr_circuit.proofs.tables.pending.pending_at.Code
 use Rattle.hnsr_circuit.proofs.tables.pending.pending_at.Key
 use Rattle.hnsr_circuit.proofs.tables.pending.pending_at.Statement
@@ -13,45 +16,42 @@ use borrow.Fn.Written
 use contract.Running
 
 abbrev pub Start : Type 0
-Start = Lts.Start (Reads'.Asked, Reads'.Learnt) Reads.Pre Reads.Post
-
+Start = Lts.Start (Reads''.Asked, Reads''.Learnt, Reads'.Asked, Reads'.Learnt) Reads.Pre Reads.Post
 abbrev pub Then1 : Type 0
-Then1 = Lts.Then1 (Reads'.Asked, Reads'.Learnt) Reads.Pre Reads.Post
-
-abbrev pub After-result : Type 0
-After-result = Lts.After-result (Reads'.Asked, Reads'.Learnt) Reads.Pre Reads.Post
-
+Then1 = Lts.Then1 (Reads''.Asked, Reads''.Learnt, Reads'.Asked, Reads'.Learnt) Reads.Pre Reads.Post
+abbrev pub After-row : Type 0
+After-row = Lts.After-row (Reads''.Asked, Reads''.Learnt, Reads'.Asked, Reads'.Learnt) Reads.Pre Reads.Post
+abbrev pub After-struct-known : Type 0
+After-struct-known = Lts.After-struct-known (Reads''.Asked, Reads''.Learnt, Reads'.Asked, Reads'.Learnt,) Reads.Pre Reads.Post
+abbrev pub After-held-pending : Type 0
+After-held-pending = Lts.After-held-pending (Reads''.Asked, Reads''.Learnt, Reads'.Asked, Reads'.Learnt,) Reads.Pre Reads.Post
 abbrev pub Else1 : Type 0
-Else1 = Lts.Else1 (Reads'.Asked, Reads'.Learnt) Reads.Pre Reads.Post
-
+Else1 = Lts.Else1 (Reads''.Asked, Reads''.Learnt, Reads'.Asked, Reads'.Learnt) Reads.Pre Reads.Post
 abbrev pub After-no-pending : Type 0
-After-no-pending = Lts.After-no-pending (Reads'.Asked, Reads'.Learnt) Reads.Pre Reads.Post
-
-abbrev pub Need-mul-result : Type 0
-Need-mul-result = Lts.Need-mul-result (Reads'.Asked, Reads'.Learnt) Reads.Pre Reads.Post
-
-abbrev pub Need-shared-slice-copy-out-result : Type 0
-Need-shared-slice-copy-out-result = Lts.Need-shared-slice-copy-out-result (Reads'.Asked, Reads'.Learnt) Reads.Pre Reads.Post
-
+After-no-pending = Lts.After-no-pending (Reads''.Asked, Reads''.Learnt, Reads'.Asked, Reads'.Learnt) Reads.Pre Reads.Post
+abbrev pub Need-mul-row : Type 0
+Need-mul-row = Lts.Need-mul-row (Reads''.Asked, Reads''.Learnt, Reads'.Asked, Reads'.Learnt) Reads.Pre Reads.Post
+abbrev pub Need-shared-slice-copy-out-row : Type 0
+Need-shared-slice-copy-out-row = Lts.Need-shared-slice-copy-out-row (Reads''.Asked, Reads''.Learnt, Reads'.Asked, Reads'.Learnt,) Reads.Pre Reads.Post
+abbrev pub Need-held-pending-requires : Type 0
+Need-held-pending-requires = Lts.Need-held-pending-requires (Reads''.Asked, Reads''.Learnt, Reads'.Asked, Reads'.Learnt,) Reads.Pre Reads.Post
 abbrev pub Need-returns : Type 0
-Need-returns = Lts.Need-returns (Reads'.Asked, Reads'.Learnt) Reads.Pre Reads.Post
-
+Need-returns = Lts.Need-returns (Reads''.Asked, Reads''.Learnt, Reads'.Asked, Reads'.Learnt) Reads.Pre Reads.Post
 abbrev pub Need-no-pending-requires : Type 0
-Need-no-pending-requires = Lts.Need-no-pending-requires (Reads'.Asked, Reads'.Learnt) Reads.Pre Reads.Post
-
+Need-no-pending-requires = Lts.Need-no-pending-requires (Reads''.Asked, Reads''.Learnt, Reads'.Asked, Reads'.Learnt,) Reads.Pre Reads.Post
 abbrev pub Need-returns-2 : Type 0
-Need-returns-2 = Lts.Need-returns-2 (Reads'.Asked, Reads'.Learnt) Reads.Pre Reads.Post
-
-module _ {M : Type 1} where
-  pub spec : (answer : Need-mul-result) → (answer : Need-shared-slice-copy-out-result) → (answer : Need-returns) → (answer : Need-no-pending-requires)
-      → (answer : Need-returns-2) → Lts.Closed (Reads'.Asked, Reads'.Learnt) Reads.Pre Reads.Post M
-  spec = λ answer answer' answer'' answer'3 answer'4. Lts.spec (Reads'.Asked, Reads'.Learnt) Reads.Pre Reads.Post answer answer' answer'' answer'3
-      answer'4
-
-  pub close : Lts.Closed (Reads'.Asked, Reads'.Learnt) Reads.Pre Reads.Post M → Statement.statement M
+Need-returns-2 = Lts.Need-returns-2 (Reads''.Asked, Reads''.Learnt, Reads'.Asked, Reads'.Learnt) Reads.Pre Reads.Post
+module _ { M : Type 1 } where
+  pub spec : (answer : Need-mul-row) → (answer : Need-shared-slice-copy-out-row) → (answer : Need-held-pending-requires) → (answer : Need-returns) →
+      (answer : Need-no-pending-requires) → (answer : Need-returns-2) → Lts.Closed (Reads''.Asked, Reads''.Learnt, Reads'.Asked, Reads'.Learnt)
+      Reads.Pre Reads.Post M
+  spec = λ answer answer' answer'' answer'3 answer'4 answer'5. Lts.spec (Reads''.Asked, Reads''.Learnt, Reads'.Asked, Reads'.Learnt,) Reads.Pre
+      Reads.Post answer answer' answer'' answer'3 answer'4 answer'5
+  pub close : Lts.Closed (Reads''.Asked, Reads''.Learnt, Reads'.Asked, Reads'.Learnt) Reads.Pre Reads.Post M → Statement.statement M
   unfolding Code.routine Running.tablesOf
   close = λ closed 𝓤 H 𝓜 𝓖 𝓡. Written.close 1 Kinds.ps Kinds.r Reads.Ghost Reads.requires Reads.ensures Reads.pre-read Reads.Pinned Reads.Owned
       Reads.post-read record { M = M; 𝓤 = 𝓤; H = H; 𝓜 = 𝓜; 𝓖 = 𝓖; 𝓡 = 𝓡 } Code.env Key.name Code.function (Code.unfolded 𝓤 H 𝓜 𝓡) (λ κs a g. tt) (λ
       κs. Reads.owns κs record { M = M; 𝓤 = 𝓤; H = H; 𝓜 = 𝓜; 𝓖 = 𝓖; 𝓡 = 𝓡 }) (Reads.passes record { M = M; 𝓤 = 𝓤; H = H; 𝓜 = 𝓜; 𝓖 = 𝓖; 𝓡 = 𝓡 }) λ g.
-      closed 𝓤 H (𝓖 .A) (Running.givenOf 𝓤 H 𝓜 𝓖) (Run.Over 𝓤 H 𝓜 𝓖 𝓡 Code.env) (Reads'.known record { M = M; 𝓤 = 𝓤; H = H; 𝓜 = 𝓜; 𝓖 = 𝓖; 𝓡 = 𝓡 }
-      Code.env Symbol.name Symbol.routine Code.calls-hnsr-circuit·pending·no-pending (Met.met 𝓤 H 𝓜 𝓖 𝓡))
+      closed 𝓤 H (𝓖 .A) (Running.givenOf 𝓤 H 𝓜 𝓖) (Run.Over 𝓤 H 𝓜 𝓖 𝓡 Code.env) (Reads''.known record { M = M; 𝓤 = 𝓤; H = H; 𝓜 = 𝓜; 𝓖 = 𝓖; 𝓡 = 𝓡 }
+      Code.env Symbol'.name Symbol'.routine Code.calls-hnsr-circuit·places·held-pending (Met'.met 𝓤 H 𝓜 𝓖 𝓡)) (Reads'.known record { M = M; 𝓤 = 𝓤; H =
+      H; 𝓜 = 𝓜; 𝓖 = 𝓖; 𝓡 = 𝓡 } Code.env Symbol.name Symbol.routine Code.calls-hnsr-circuit·pending·no-pending (Met.met 𝓤 H 𝓜 𝓖 𝓡))

@@ -1,0 +1,44 @@
+-- `raised` meets its contract: a place of the table is below the top.
+use mathlib.Core.Path.{_≡_, sym, _∙_, ap}
+use mathlib.Core.Bool.{Bool, true, false, cond, _&&_}
+use Prim.Native.Nat.{_+_, _<_}
+use native.Mathlib.Omega.{arith}
+use lib.Dec.{leb, ltb}
+use borrow.Author.Needs.{needs}
+use borrow.Author.Tests.{ltb-true}
+use Rattle.hns_encoding.specs.Laws.Tests.{both}
+use Rattle.hnsr_circuit.proofs.places.raised.Statement.{statement}
+use Rattle.hnsr_circuit.proofs.places.raised.Tie as tie
+
+within-requires : tie.Need-within-requires
+within-requires c κs = search needs
+
+both-requires : tie.Need-both-requires
+both-requires c κs = search needs
+
+add-result : tie.Need-add-result
+add-result c =
+    let w = c .before .before in
+    let a = w .before .args in
+    let e = both (w .within .result) (leb (a .number) (a .place)) (sym (c .before .both .ensures) ∙ c .if1 .taken) .0 in
+    let l : a .place < a .size = ltb-true (a .place) (a .size) (both (a .go) (ltb (a .place) (a .size)) (sym (w .within .ensures) ∙ e) .1) in
+    search needs
+
+returns : tie.Need-returns
+returns c =
+    let w = c .before .before in
+    let a = w .before .args in
+    let e : (a .go && ltb (a .place) (a .size) && leb (a .number) (a .place)) ≡ true =
+        ap (λ (b : Bool). b && leb (a .number) (a .place)) (sym (w .within .ensures)) ∙ sym (c .before .both .ensures) ∙ c .if1 .taken in
+    rw e
+
+returns-2 : tie.Need-returns-2
+returns-2 c =
+    let w = c .before .before in
+    let a = w .before .args in
+    let e : (a .go && ltb (a .place) (a .size) && leb (a .number) (a .place)) ≡ false =
+        ap (λ (b : Bool). b && leb (a .number) (a .place)) (sym (w .within .ensures)) ∙ sym (c .before .both .ensures) ∙ c .if1 .left in
+    rw e
+
+pub raised-spec : {M : Type 1} → statement M
+raised-spec = tie.close (tie.spec within-requires both-requires add-result returns returns-2)

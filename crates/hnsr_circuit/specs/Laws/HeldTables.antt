@@ -1,0 +1,280 @@
+-- Laws of the four tables as they are seen: an unused record is its own clearing, what unmarked records answer, turns that do nothing at them, the
+-- end of the scan of the actions, and what is handed back with the numbers that came in.
+use Prim.Native.Nat.{ℕ, suc, _+_, _≤_, _<_, min}
+use native.Mathlib.Nat.{add-suc, add-zero}
+use native.Mathlib.Omega.{arith}
+use mathlib.Core.Path.{_≡_, refl, sym, ap, _∙_}
+use mathlib.Core.Bool.{Bool, true, false, cond, not, _&&_, _||_, or-true, or-false}
+use mathlib.Core.List.{List, [], _∷_, map}
+use lib.Dec.{ltb}
+use lib.ListN.{length, drop, length-drop}
+use borrow.Author.Tests.{lt-ltb, le-ltb}
+use Rattle.hns_encoding.specs.Laws.Tests.{split}
+use Rattle.hns_encoding.specs.Loops.{foldFrom}
+use Rattle.hns_encoding.specs.Sums.{non}
+use Rattle.hns_encoding.specs.Numbers.{top}
+use Rattle.hnsr_circuit.specs.declared.records.Ask.{Ask}
+use Rattle.hnsr_circuit.specs.declared.records.Ask.the-variants.{Unused, Used, At, Named, Of, Under, Over}
+use Rattle.hnsr_circuit.specs.declared.records.Question.{Question}
+use Rattle.hnsr_circuit.specs.declared.records.ActionQuestion.{ActionQuestion}
+use Rattle.hnsr_circuit.specs.declared.records.ActionScan.{ActionScan}
+use Rattle.hnsr_circuit.specs.declared.records.InflightAction.{InflightAction}
+use Rattle.hnsr_circuit.specs.declared.records.RelayPending.{RelayPending}
+use Rattle.hnsr_circuit.specs.declared.records.RelayCircuit.{RelayCircuit}
+use Rattle.hnsr_circuit.specs.declared.records.ReservationUsage.{ReservationUsage}
+use Rattle.hnsr_circuit.specs.declared.records.Work.{Work}
+use Rattle.hnsr_circuit.specs.declared.records.WorkQuestion.{WorkQuestion}
+use Rattle.hnsr_circuit.specs.declared.records.CircuitTotals.{CircuitTotals}
+use Rattle.hnsr_circuit.specs.declared.records.NextDue.{NextDue}
+use Rattle.hnsr_circuit.specs.NextDue.{dueTurn, deadlineOf, expiryOf}
+use Rattle.hnsr_circuit.specs.declared.places.Places.{Places}
+use Rattle.hnsr_circuit.specs.declared.runtime.Relayed.{Relayed}
+use Rattle.hnsr_circuit.specs.declared.runtime.Sending.{Sending}
+use Rattle.hnsr_circuit.specs.declared.config.OpaqueRelayConfig.{OpaqueRelayConfig}
+use Rattle.hnsr_circuit.specs.declared.answer.HnsrRuntimeError.{HnsrRuntimeError}
+use Rattle.hnsr_circuit.specs.Answers.{check}
+use Rattle.hnsr_circuit.specs.Entry.{tooFew}
+use Rattle.hnsr_circuit.specs.Table.{placeOf, any}
+use Rattle.hnsr_circuit.specs.Pending.{isPending, pendingAt, pendingOf, pendingUnder, namedBy, pendingOver, clearPending}
+use Rattle.hnsr_circuit.specs.Circuits.{isCircuit, circuitAt, circuitOf, circuitUnder, circuitOver, queuedIn, clearCircuit}
+use Rattle.hnsr_circuit.specs.Ledger.{isUsage, usageAt, usageOver, clearUsage}
+use Rattle.hnsr_circuit.specs.Inflight.{isAction, actionAt, actionUnder, actionToward, clearAction}
+use Rattle.hnsr_circuit.specs.Question.{pendingAsked, pendingHas, circuitAsked, circuitHas, usageAsked, usageHas, actionAsked, actionHas}
+use Rattle.hnsr_circuit.specs.Queue.{actionsScanned}
+use Rattle.hnsr_circuit.specs.Progress.{scanPlace, handedBack, underway}
+use Rattle.hnsr_circuit.specs.Held.{held, heldPending, heldCircuits, heldLedger, heldActions, handedSeen, underwaySeen, asksUnused}
+use Rattle.hnsr_circuit.specs.Laws.Lookups.{place-found}
+use Rattle.hnsr_circuit.specs.Laws.Held.{length-held, rest-held, place-below, place-upto}
+use Rattle.hnsr_circuit.specs.Laws.Turns.{firstPlace, scanned, scan-unused, pendingWorked, circuitWorked, totalled}
+
+-- ---- an unused record is its own clearing
+pub pending-still : (p : RelayPending) → isPending p ≡ false → clearPending p ≡ p
+unfolding isPending
+pending-still p e = λ j. record {
+  used = sym e j;
+  «circuit_id» = p .«circuit_id»;
+  requester = p .requester;
+  endpoint = p .endpoint;
+  «requester_context» = p .«requester_context»;
+  ticket = p .ticket;
+  «initial_window» = p .«initial_window»;
+  deadline = p .deadline;
+}
+
+pub circuit-still : (c : RelayCircuit) → isCircuit c ≡ false → clearCircuit c ≡ c
+unfolding isCircuit
+circuit-still c e = λ j. record {
+  used = sym e j;
+  «circuit_id» = c .«circuit_id»;
+  requester = c .requester;
+  endpoint = c .endpoint;
+  «reservation_id» = c .«reservation_id»;
+  «expires_at» = c .«expires_at»;
+  «maximum_bytes» = c .«maximum_bytes»;
+  «maximum_total_bytes» = c .«maximum_total_bytes»;
+  «requester_credit» = c .«requester_credit»;
+  «endpoint_credit» = c .«endpoint_credit»;
+  «forwarded_bytes» = c .«forwarded_bytes»;
+  «queued_to_requester» = c .«queued_to_requester»;
+  «queued_to_endpoint» = c .«queued_to_endpoint»;
+}
+
+pub usage-still : (u : ReservationUsage) → isUsage u ≡ false → clearUsage u ≡ u
+unfolding isUsage
+usage-still u e = λ j. record {
+  used = sym e j;
+  «reservation_id» = u .«reservation_id»;
+  bytes = u .bytes;
+  «expires_at» = u .«expires_at»;
+}
+
+pub action-still : (a : InflightAction) → isAction a ≡ false → clearAction a ≡ a
+unfolding isAction
+action-still a e = λ j. record {
+  used = sym e j;
+  generation = a .generation;
+  sequence = a .sequence;
+  «circuit_id» = a .«circuit_id»;
+  destination = a .destination;
+  kind = a .kind;
+  «to_endpoint» = a .«to_endpoint»;
+  bytes = a .bytes;
+}
+
+-- ---- what unmarked records answer
+pending-asked : (ask : Ask) (q : Question) (p : RelayPending) → pendingAsked ask q (clearPending p) ≡ asksUnused ask
+unfolding pendingAsked isPending pendingAt namedBy pendingOf pendingUnder pendingOver
+pending-asked Unused q p = refl
+pending-asked Used q p = refl
+pending-asked At q p = refl
+pending-asked Named q p = refl
+pending-asked Of q p = refl
+pending-asked Under q p = refl
+pending-asked Over q p = refl
+
+pub pending-unmarked : (q : Question) (p : RelayPending) → pendingHas q (clearPending p) ≡ asksUnused (q .ask)
+pending-unmarked q p = pending-asked (q .ask) q p
+
+circuit-asked : (ask : Ask) (q : Question) (c : RelayCircuit) → circuitAsked ask q (clearCircuit c) ≡ asksUnused ask
+unfolding circuitAsked isCircuit circuitAt circuitOf circuitUnder circuitOver
+circuit-asked Unused q c = refl
+circuit-asked Used q c = refl
+circuit-asked At q c = refl
+circuit-asked Named q c = refl
+circuit-asked Of q c = refl
+circuit-asked Under q c = refl
+circuit-asked Over q c = refl
+
+pub circuit-unmarked : (q : Question) (c : RelayCircuit) → circuitHas q (clearCircuit c) ≡ asksUnused (q .ask)
+circuit-unmarked q c = circuit-asked (q .ask) q c
+
+usage-asked : (ask : Ask) (q : Question) (u : ReservationUsage) → usageAsked ask q (clearUsage u) ≡ asksUnused ask
+unfolding usageAsked isUsage usageAt usageOver
+usage-asked Unused q u = refl
+usage-asked Used q u = refl
+usage-asked At q u = refl
+usage-asked Named q u = refl
+usage-asked Of q u = refl
+usage-asked Under q u = refl
+usage-asked Over q u = refl
+
+pub usage-unmarked : (q : Question) (u : ReservationUsage) → usageHas q (clearUsage u) ≡ asksUnused (q .ask)
+usage-unmarked q u = usage-asked (q .ask) q u
+
+action-asked : (ask : Ask) (q : Question) (a : InflightAction) → actionAsked ask q (clearAction a) ≡ asksUnused ask
+unfolding actionAsked isAction actionAt actionUnder actionToward
+action-asked Unused q a = refl
+action-asked Used q a = refl
+action-asked At q a = refl
+action-asked Named q a = refl
+action-asked Of q a = refl
+action-asked Under q a = refl
+action-asked Over q a = refl
+
+pub action-unmarked : (q : Question) (a : InflightAction) → actionHas q (clearAction a) ≡ asksUnused (q .ask)
+action-unmarked q a = action-asked (q .ask) q a
+
+-- ---- turns that do nothing at an unmarked record
+module _ (q : WorkQuestion) where
+  pub pending-idle : (w : Work) (p : RelayPending) (i : ℕ) → pendingWorked q w (clearPending p) i ≡ w
+  unfolding isPending
+  pending-idle w p i = refl
+
+  pub circuit-idle : (w : Work) (c : RelayCircuit) (i : ℕ) → circuitWorked q w (clearCircuit c) i ≡ w
+  unfolding isCircuit
+  circuit-idle w c i = refl
+
+pub pending-due-idle : (d : NextDue) (p : RelayPending) (i : ℕ) → dueTurn isPending deadlineOf d (clearPending p) i ≡ d
+unfolding dueTurn isPending
+pending-due-idle d p i = refl
+
+pub circuit-due-idle : (d : NextDue) (c : RelayCircuit) (i : ℕ) → dueTurn isCircuit expiryOf d (clearCircuit c) i ≡ d
+unfolding dueTurn isCircuit
+circuit-due-idle d c i = refl
+
+-- a sum that has not gone past its top
+totals-idle : (t : CircuitTotals) (c : RelayCircuit) (i : ℕ) → t .«queued_bytes» ≤ top 64 → totalled t (clearCircuit c) i ≡ t
+unfolding isCircuit queuedIn
+totals-idle t c i l = λ j. record { used = add-zero (t .used) j; «queued_bytes» = (let k : min (t .«queued_bytes» + 0) (top 64) ≡ t .«queued_bytes» = omega arith in k) j }
+
+totals-unmarked : (t : List RelayCircuit) (i : ℕ) (b : CircuitTotals) → b .«queued_bytes» ≤ top 64 → foldFrom totalled (map clearCircuit t) i b ≡ b
+unfolding foldFrom
+totals-unmarked [] i b l = refl
+totals-unmarked (x ∷ xs) i b l = ap (λ (c : CircuitTotals). foldFrom totalled (map clearCircuit xs) (suc i) c) (totals-idle b x i l) ∙ totals-unmarked xs (suc i) b l
+
+pub totals-rest : (n : ℕ) (t : List RelayCircuit) (i : ℕ) (b r : CircuitTotals) → b .«queued_bytes» ≤ top 64 → (i < n → length t ≤ i)
+    → foldFrom totalled (drop i (held clearCircuit n t)) i b ≡ r → b ≡ r
+totals-rest n t i b r m l h = sym (totals-unmarked (drop i t) i b m) ∙ (rw (rest-held clearCircuit n t i l) at h)
+
+-- ---- the end of the scan: the first place that is left, if there is one, is a spare one
+abbrev pub scanSpared : ActionScan → (place places : ℕ) → ActionScan
+scanSpared s place places = record {
+  tally = s .tally;
+  found = s .found;
+  place = s .place;
+  spare = s .spare || ltb place places;
+  «spare_place» = firstPlace (s .spare) (ltb place places) place (s .«spare_place»);
+}
+
+stays : (s : ActionScan) (place : ℕ) (b : Bool) → b ≡ false → s ≡ record {
+  tally = s .tally;
+  found = s .found;
+  place = s .place;
+  spare = s .spare || b;
+  «spare_place» = firstPlace (s .spare) b place (s .«spare_place»);
+}
+stays s place b e = λ j. record {
+  tally = s .tally;
+  found = s .found;
+  place = s .place;
+  spare = (sym (or-false (s .spare)) ∙ ap (λ (c : Bool). s .spare || c) (sym e)) j;
+  «spare_place» = (same (s .spare) ∙ ap (λ (c : Bool). firstPlace (s .spare) c place (s .«spare_place»)) (sym e)) j;
+}
+  where
+    same : (c : Bool) → s .«spare_place» ≡ firstPlace c false place (s .«spare_place»)
+    same true = refl
+    same false = refl
+
+abbrev spared : ActionScan → (place : ℕ) → ActionScan
+spared s place = record { tally = s .tally; found = s .found; place = s .place; spare = true; «spare_place» = firstPlace (s .spare) true place (s .«spare_place») }
+
+takes : (s : ActionScan) (place : ℕ) (b : Bool) → b ≡ true → spared s place ≡ record {
+  tally = s .tally;
+  found = s .found;
+  place = s .place;
+  spare = s .spare || b;
+  «spare_place» = firstPlace (s .spare) b place (s .«spare_place»);
+}
+takes s place b e = λ j. record {
+  tally = s .tally;
+  found = s .found;
+  place = s .place;
+  spare = (sym (or-true (s .spare)) ∙ ap (λ (c : Bool). s .spare || c) (sym e)) j;
+  «spare_place» = ap (λ (c : Bool). firstPlace (s .spare) c place (s .«spare_place»)) (sym e) j;
+}
+
+module _ (q : ActionQuestion) where
+  scan-unmarked : (t : List InflightAction) (i : ℕ) (s : ActionScan) (e : ℕ) → e ≡ i + length t → foldFrom (scanned q) (map clearAction t) i s ≡ scanSpared s i e
+  unfolding foldFrom
+  scan-unmarked [] i s e h = stays s i (ltb i e) (le-ltb i e (omega arith))
+  scan-unmarked (x ∷ xs) i s e h =
+      ap (λ (u : ActionScan). foldFrom (scanned q) (map clearAction xs) (suc i) u) (sym (scan-unused q s (clearAction x) i refl (firstPlace (s .spare) true i (s .«spare_place»)) refl))
+      ∙ scan-unmarked xs (suc i) (spared s i) e (omega arith)
+      ∙ takes s i (ltb i e) (lt-ltb i e (omega arith))
+
+  pub scan-rest : (n : ℕ) (t : List InflightAction) (i : ℕ) (s r : ActionScan) → (i < n → length t ≤ i) → i ≤ length t
+      → foldFrom (scanned q) (drop i (held clearAction n t)) i s ≡ r → scanSpared s i (length t) ≡ r
+  scan-rest n t i s r l m h =
+      sym (scan-unmarked (drop i t) i s (length t) (let k = length-drop i t in omega arith))
+      ∙ (rw (rest-held clearAction n t i l) at h)
+
+  -- where an action goes: at the number at most
+  pub scan-upto : (n : Places) (t : List InflightAction) (s : ActionScan) → s ≡ actionsScanned q (heldActions n t) → scanPlace s < length t → scanPlace s ≤ n .actions
+  unfolding actionsScanned actionAt isAction
+  scan-upto n t s e = rw e (split (any (actionAt (q .generation) (q .sequence)) (heldActions n t))
+      (λ f. rw f (λ l. let z = place-below clearAction (actionAt (q .generation) (q .sequence)) (λ a. not-at a) (n .actions) t l in omega arith))
+      (λ f. rw f (λ l. place-upto clearAction (non isAction) (λ a. not-is a) (n .actions) t)))
+    where
+      not-at : (a : InflightAction) → actionAt (q .generation) (q .sequence) (clearAction a) ≡ false
+      not-at a = refl
+
+      not-is : (a : InflightAction) → non isAction (clearAction a) ≡ true
+      not-is a = refl
+
+-- ---- what is handed back with the numbers that came in
+pub places-kept : (r : Relayed) (p : List RelayPending) (c : List RelayCircuit) (l : List ReservationUsage) (t : List InflightAction) (out : List ℕ) (n : Places)
+    → r .places ≡ n → handedSeen r p c l t out ≡ handedBack r (heldPending n p) (heldCircuits n c) (heldLedger n l) (heldActions n t) out
+places-kept r p c l t out n e = ap (λ (m : Places). handedBack r (heldPending m p) (heldCircuits m c) (heldLedger m l) (heldActions m t) out) e
+
+pub sending-kept : (s : Sending) (p : List RelayPending) (c : List RelayCircuit) (l : List ReservationUsage) (t : List InflightAction) (out : List ℕ) (n : Places)
+    → s .places ≡ n → underwaySeen s p c l t out ≡ underway s (heldPending n p) (heldCircuits n c) (heldLedger n l) (heldActions n t) out
+sending-kept s p c l t out n e = ap (λ (m : Places). underway s (heldPending m p) (heldCircuits m c) (heldLedger m l) (heldActions m t) out) e
+
+-- ---- tables are as long as they are seen
+pub few-held : (k : OpaqueRelayConfig) (n : Places) (p : List RelayPending) (c : List RelayCircuit) (t : List InflightAction)
+    → tooFew k (length p) (length c) (length t) ≡ tooFew k (length (heldPending n p)) (length (heldCircuits n c)) (length (heldActions n t))
+few-held k n p c t = sym (λ j. tooFew k (length-held clearPending (n .pending) p j) (length-held clearCircuit (n .circuits) c j) (length-held clearAction (n .actions) t j))
+
+pub entry-held : (b : Bool) (e : HnsrRuntimeError) (k : OpaqueRelayConfig) (x y : ℕ) (n : Places) (t : List InflightAction)
+    → check (b || tooFew k x y (length t)) e ≡ check (b || tooFew k x y (length (heldActions n t))) e
+entry-held b e k x y n t = ap (λ (m : ℕ). check (b || tooFew k x y m) e) (sym (length-held clearAction (n .actions) t))

@@ -1,7 +1,7 @@
 -- What the C functions hand back: the outcome of a call with its answer in numbers.
 use Prim.Native.Nat.{ℕ}
 use mathlib.Core.Path.{_≡_}
-use mathlib.Core.Bool.{Bool, true, false}
+use mathlib.Core.Bool.{Bool, true, false, cond}
 use mathlib.Core.List.{List}
 use Rattle.hnsr_body.specs.declared.error.Cause.{Cause}
 use Rattle.hnsr_circuit.specs.declared.records.RelayPending.{RelayPending}
@@ -14,7 +14,9 @@ use Rattle.hnsr_circuit.specs.declared.runtime.Relayed.{Relayed}
 use Rattle.hnsr_circuit.specs.declared.runtime.StatusTold.{StatusTold}
 use Rattle.hnsr_circuit.specs.declared.runtime.DueTold.{DueTold}
 use Rattle.hnsr_circuit.specs.Answers.{number, causeOf, taken}
+use Rattle.hnsr_circuit.specs.Header.{noHeader}
 use Rattle.hnsr_circuit.specs.World.{World, Outcome}
+use Rattle.hnsr_circuit.specs.Held.{worldSeen}
 use Rattle.hnsr_circuit.specs.Progress.{worldOf, Result}
 use Rattle.lekchnam.specs.declared.relay.RelayReply.{RelayReply}
 use Rattle.lekchnam.specs.declared.relay.StatusReply.{StatusReply}
@@ -30,12 +32,12 @@ pub record Replied : Type 0 where
 
 -- what a call hands back, with its answer in numbers
 abbrev pub replyOf : Relayed → RelayReply
-replyOf r = record { answer = number (r .answer); cause = causeOf (r .answer); words = r .words; runtime = r .runtime }
+replyOf r = record { answer = number (r .answer); cause = causeOf (r .answer); words = r .words; runtime = r .runtime; places = r .places }
 
--- what a C function hands back, with the tables and the output that it leaves
+-- what a C function hands back, with the tables that it leaves, as they are seen, and the output
 abbrev pub replied : RelayReply → List RelayPending → List RelayCircuit → List ReservationUsage → List InflightAction → (out : List ℕ) → Replied
 replied r p c l i out = record {
-  world = worldOf (r .runtime) p c l i;
+  world = worldSeen (r .runtime) (r .places) p c l i;
   answer = r .answer;
   cause = r .cause;
   words = r .words;
@@ -52,12 +54,12 @@ numbered r = record {
   output = r .output;
 }
 
--- what `new` hands back: its answer, the tables that it leaves and, where it is taken, the runtime that it makes
+-- what `new` hands back: its answer, the tables as they are seen, and the runtime that it makes, or zeros and off where it is refused
 pub record MadeReply (r : RelayReply) (p : List RelayPending) (c : List RelayCircuit) (l : List ReservationUsage) (i : List InflightAction) (o : Outcome) : Type 0 where
   pub answer : r .answer ≡ number (o .answer)
   pub cause : r .cause ≡ causeOf (o .answer)
   pub tables : worldOf (o .world .header) p c l i ≡ o .world
-  pub runtime : taken (o .answer) ≡ true → r .runtime ≡ o .world .header
+  pub runtime : r .runtime ≡ cond (taken (o .answer)) (o .world .header) noHeader
   pub words : r .words ≡ 0
 
 abbrev pub statusNumbered : StatusTold → StatusReply

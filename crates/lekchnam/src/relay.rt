@@ -1,5 +1,5 @@
-// The calls of the relay. Tables, output and bytes are lent; the runtime goes in and comes back by value. An answer is document 01's number, 0 where
-// the call is taken, and the cause of a 1. No call asks anything of what it is lent.
+// The calls of the relay. Tables, output and bytes are lent; the runtime and the places in use go in and come back by value. An answer is document
+// 01's number, 0 where the call is taken, and the cause of a 1. No call asks anything of what it is lent.
 ghost use mathlib.Core.Path.{_≡_};
 ghost use mathlib.Core.List.{List};
 ghost use Prim.Native.Nat.{ℕ};
@@ -11,6 +11,7 @@ ghost use Rattle.hnsr_circuit.specs.declared.records.InflightAction.{InflightAc
 ghost use Rattle.hnsr_circuit.specs.declared.runtime.OpaqueRelayRuntime.{OpaqueRelayRuntime};
 ghost use Rattle.hnsr_circuit.specs.Answers.{number};
 ghost use Rattle.hnsr_circuit.specs.Config.{defaultConfig, validateConfig};
+ghost use Rattle.hnsr_circuit.specs.Held.{heldPending, heldCircuits, heldLedger, heldActions, worldSeen};
 ghost use Rattle.hnsr_circuit.specs.Progress.{worldOf, packetOf, outcome};
 ghost use Rattle.hnsr_circuit.specs.Told.{statusTold, dueTold};
 ghost use Rattle.hnsr_circuit.specs.Call.{start, step, callHandle, callAcknowledge, callDisconnect, callRevokeReservation, callExpire, callReplaceEnabled, callObserveTime, callStatus, callNextDue};
@@ -24,6 +25,7 @@ use hnsr_circuit::calls::observe_time;
 use hnsr_circuit::calls::status;
 use hnsr_circuit::config::OpaqueRelayConfig;
 use hnsr_circuit::handle::handle;
+use hnsr_circuit::places::Places;
 use hnsr_circuit::records::InflightAction;
 use hnsr_circuit::records::NextDue;
 use hnsr_circuit::records::RelayCircuit;
@@ -40,13 +42,14 @@ use hnsr_circuit::runtime::OpaqueRelayRuntime;
 use hnsr_circuit::runtime::Relayed;
 use hnsr_circuit::runtime::StatusTold;
 
-// What a call hands back: the answer, how many output words it wrote, and the runtime for the host to keep.
+// What a call hands back: the answer, how many output words it wrote, and what the host keeps: the runtime and the places in use.
 #[repr(C)]
 pub struct RelayReply {
     pub answer: u32,
     pub cause: Cause,
     pub words: usize,
     pub runtime: OpaqueRelayRuntime,
+    pub places: Places,
 }
 
 // A refused one tells zeros.
@@ -71,12 +74,14 @@ fn reply(relayed: Relayed) -> RelayReply
 {
     let answer = relayed.answer;
     let runtime = relayed.runtime;
+    let places = relayed.places;
     let cause = answer.cause();
     RelayReply {
         answer: answer.number(),
         cause,
         words: relayed.words,
         runtime,
+        places,
     }
 }
 
@@ -141,16 +146,16 @@ pub extern "C" fn opaque_relay_validate_config(config: OpaqueRelayConfig) -> u32
 
 #[no_mangle]
 pub extern "C" fn opaque_relay_new(
-    pending: &mut [RelayPending],
-    circuits: &mut [RelayCircuit],
-    ledger: &mut [ReservationUsage],
-    inflight: &mut [InflightAction],
+    pending: &[RelayPending],
+    circuits: &[RelayCircuit],
+    ledger: &[ReservationUsage],
+    inflight: &[InflightAction],
     session: &[u8; 16],
     generation: u64,
     config: OpaqueRelayConfig,
     time: u64,
 ) -> RelayReply
-    ensures { λ r. ⌜ ((h : OpaqueRelayRuntime) → MadeReply r (now (pending .exit)) (now (circuits .exit)) (now (ledger .exit)) (now (inflight .exit)) (start (worldOf h (now (pending .entry)) (now (circuits .entry)) (now (ledger .entry)) (now (inflight .entry))) (record { session = now (session .entry); generation = generation; config = config; now = time }))) ⌝ }
+    ensures { λ r. ⌜ ((h : OpaqueRelayRuntime) → MadeReply r (heldPending (r .places) (now (pending .entry))) (heldCircuits (r .places) (now (circuits .entry))) (heldLedger (r .places) (now (ledger .entry))) (heldActions (r .places) (now (inflight .entry))) (start (worldOf h (now (pending .entry)) (now (circuits .entry)) (now (ledger .entry)) (now (inflight .entry))) (record { session = now (session .entry); generation = generation; config = config; now = time }))) ⌝ }
 {
     let name = *session;
     let made = new(
@@ -174,13 +179,14 @@ pub extern "C" fn opaque_relay_handle(
     inflight: &mut [InflightAction],
     out: &mut [u32],
     runtime: OpaqueRelayRuntime,
+    places: Places,
     packet: RelayPacket,
     source: &[u8],
     body: &[u8],
     endpoint: &[u8],
     random: &[u8],
 ) -> RelayReply
-    ensures { λ r. ⌜ replied r (now (pending .exit)) (now (circuits .exit)) (now (ledger .exit)) (now (inflight .exit)) (now (out .exit)) ≡ numbered (outcome (now (out .entry)) (step (worldOf runtime (now (pending .entry)) (now (circuits .entry)) (now (ledger .entry)) (now (inflight .entry))) (callHandle (packetOf packet (now (source .entry)) (now (body .entry)) (now (endpoint .entry)) (now (random .entry))) (length (now (out .entry)))))) ⌝ }
+    ensures { λ r. ⌜ replied r (now (pending .exit)) (now (circuits .exit)) (now (ledger .exit)) (now (inflight .exit)) (now (out .exit)) ≡ numbered (outcome (now (out .entry)) (step (worldSeen runtime places (now (pending .entry)) (now (circuits .entry)) (now (ledger .entry)) (now (inflight .entry))) (callHandle (packetOf packet (now (source .entry)) (now (body .entry)) (now (endpoint .entry)) (now (random .entry))) (length (now (out .entry)))))) ⌝ }
 {
     let relayed = handle(
         pending,
@@ -189,6 +195,7 @@ pub extern "C" fn opaque_relay_handle(
         inflight,
         out,
         runtime,
+        places,
         packet,
         source,
         body,
@@ -205,11 +212,12 @@ pub extern "C" fn opaque_relay_acknowledge(
     inflight: &mut [InflightAction],
     out: &mut [u32],
     runtime: OpaqueRelayRuntime,
+    places: Places,
     generation: u64,
     sequence: u64,
     delivered: bool,
 ) -> RelayReply
-    ensures { λ r. ⌜ ((l : List ReservationUsage) → replied r (now (pending .exit)) (now (circuits .exit)) l (now (inflight .exit)) (now (out .exit)) ≡ numbered (outcome (now (out .entry)) (step (worldOf runtime (now (pending .entry)) (now (circuits .entry)) l (now (inflight .entry))) (callAcknowledge generation sequence delivered (length (now (out .entry))))))) ⌝ }
+    ensures { λ r. ⌜ ((l : List ReservationUsage) → replied r (now (pending .exit)) (now (circuits .exit)) l (now (inflight .exit)) (now (out .exit)) ≡ numbered (outcome (now (out .entry)) (step (worldSeen runtime places (now (pending .entry)) (now (circuits .entry)) l (now (inflight .entry))) (callAcknowledge generation sequence delivered (length (now (out .entry))))))) ⌝ }
 {
     let relayed = acknowledge(
         pending,
@@ -217,6 +225,7 @@ pub extern "C" fn opaque_relay_acknowledge(
         inflight,
         out,
         runtime,
+        places,
         generation,
         sequence,
         delivered,
@@ -231,11 +240,12 @@ pub extern "C" fn opaque_relay_disconnect(
     inflight: &mut [InflightAction],
     out: &mut [u32],
     runtime: OpaqueRelayRuntime,
+    places: Places,
     peer: &[u8],
 ) -> RelayReply
-    ensures { λ r. ⌜ ((l : List ReservationUsage) → replied r (now (pending .exit)) (now (circuits .exit)) l (now (inflight .exit)) (now (out .exit)) ≡ numbered (outcome (now (out .entry)) (step (worldOf runtime (now (pending .entry)) (now (circuits .entry)) l (now (inflight .entry))) (callDisconnect (now (peer .entry)) (length (now (out .entry))))))) ⌝ }
+    ensures { λ r. ⌜ ((l : List ReservationUsage) → replied r (now (pending .exit)) (now (circuits .exit)) l (now (inflight .exit)) (now (out .exit)) ≡ numbered (outcome (now (out .entry)) (step (worldSeen runtime places (now (pending .entry)) (now (circuits .entry)) l (now (inflight .entry))) (callDisconnect (now (peer .entry)) (length (now (out .entry))))))) ⌝ }
 {
-    let relayed = disconnect(pending, circuits, inflight, out, runtime, peer);
+    let relayed = disconnect(pending, circuits, inflight, out, runtime, places, peer);
     reply(relayed)
 }
 
@@ -247,11 +257,12 @@ pub extern "C" fn opaque_relay_revoke_reservation(
     inflight: &mut [InflightAction],
     out: &mut [u32],
     runtime: OpaqueRelayRuntime,
+    places: Places,
     id: ReservationId,
 ) -> RelayReply
-    ensures { λ r. ⌜ replied r (now (pending .exit)) (now (circuits .exit)) (now (ledger .exit)) (now (inflight .exit)) (now (out .exit)) ≡ numbered (outcome (now (out .entry)) (step (worldOf runtime (now (pending .entry)) (now (circuits .entry)) (now (ledger .entry)) (now (inflight .entry))) (callRevokeReservation id (length (now (out .entry)))))) ⌝ }
+    ensures { λ r. ⌜ replied r (now (pending .exit)) (now (circuits .exit)) (now (ledger .exit)) (now (inflight .exit)) (now (out .exit)) ≡ numbered (outcome (now (out .entry)) (step (worldSeen runtime places (now (pending .entry)) (now (circuits .entry)) (now (ledger .entry)) (now (inflight .entry))) (callRevokeReservation id (length (now (out .entry)))))) ⌝ }
 {
-    let relayed = revoke_reservation(pending, circuits, ledger, inflight, out, runtime, id);
+    let relayed = revoke_reservation(pending, circuits, ledger, inflight, out, runtime, places, id);
     reply(relayed)
 }
 
@@ -263,11 +274,12 @@ pub extern "C" fn opaque_relay_expire(
     inflight: &mut [InflightAction],
     out: &mut [u32],
     runtime: OpaqueRelayRuntime,
+    places: Places,
     time: u64,
 ) -> RelayReply
-    ensures { λ r. ⌜ replied r (now (pending .exit)) (now (circuits .exit)) (now (ledger .exit)) (now (inflight .exit)) (now (out .exit)) ≡ numbered (outcome (now (out .entry)) (step (worldOf runtime (now (pending .entry)) (now (circuits .entry)) (now (ledger .entry)) (now (inflight .entry))) (callExpire time (length (now (out .entry)))))) ⌝ }
+    ensures { λ r. ⌜ replied r (now (pending .exit)) (now (circuits .exit)) (now (ledger .exit)) (now (inflight .exit)) (now (out .exit)) ≡ numbered (outcome (now (out .entry)) (step (worldSeen runtime places (now (pending .entry)) (now (circuits .entry)) (now (ledger .entry)) (now (inflight .entry))) (callExpire time (length (now (out .entry)))))) ⌝ }
 {
-    let relayed = expire(pending, circuits, ledger, inflight, out, runtime, time);
+    let relayed = expire(pending, circuits, ledger, inflight, out, runtime, places, time);
     reply(relayed)
 }
 
@@ -278,10 +290,11 @@ pub extern "C" fn opaque_relay_replace_enabled(
     inflight: &mut [InflightAction],
     out: &mut [u32],
     runtime: OpaqueRelayRuntime,
+    places: Places,
     expected_generation: u64,
     enabled: bool,
 ) -> RelayReply
-    ensures { λ r. ⌜ ((l : List ReservationUsage) → replied r (now (pending .exit)) (now (circuits .exit)) l (now (inflight .exit)) (now (out .exit)) ≡ numbered (outcome (now (out .entry)) (step (worldOf runtime (now (pending .entry)) (now (circuits .entry)) l (now (inflight .entry))) (callReplaceEnabled «expected_generation» enabled (length (now (out .entry))))))) ⌝ }
+    ensures { λ r. ⌜ ((l : List ReservationUsage) → replied r (now (pending .exit)) (now (circuits .exit)) l (now (inflight .exit)) (now (out .exit)) ≡ numbered (outcome (now (out .entry)) (step (worldSeen runtime places (now (pending .entry)) (now (circuits .entry)) l (now (inflight .entry))) (callReplaceEnabled «expected_generation» enabled (length (now (out .entry))))))) ⌝ }
 {
     let relayed = replace_enabled(
         pending,
@@ -289,6 +302,7 @@ pub extern "C" fn opaque_relay_replace_enabled(
         inflight,
         out,
         runtime,
+        places,
         expected_generation,
         enabled,
     );
@@ -296,10 +310,14 @@ pub extern "C" fn opaque_relay_replace_enabled(
 }
 
 #[no_mangle]
-pub extern "C" fn opaque_relay_observe_time(runtime: OpaqueRelayRuntime, time: u64) -> RelayReply
-    ensures { λ r. ⌜ ((p : List RelayPending) (c : List RelayCircuit) (l : List ReservationUsage) (i : List InflightAction) (out : List ℕ) → replied r p c l i out ≡ numbered (outcome out (step (worldOf runtime p c l i) (callObserveTime time)))) ⌝ }
+pub extern "C" fn opaque_relay_observe_time(
+    runtime: OpaqueRelayRuntime,
+    places: Places,
+    time: u64,
+) -> RelayReply
+    ensures { λ r. ⌜ ((p : List RelayPending) (c : List RelayCircuit) (l : List ReservationUsage) (i : List InflightAction) (out : List ℕ) → replied r p c l i out ≡ numbered (outcome out (step (worldSeen runtime places p c l i) (callObserveTime time)))) ⌝ }
 {
-    let relayed = observe_time(runtime, time);
+    let relayed = observe_time(runtime, places, time);
     reply(relayed)
 }
 
@@ -309,10 +327,11 @@ pub extern "C" fn opaque_relay_status(
     circuits: &[RelayCircuit],
     inflight: &[InflightAction],
     runtime: OpaqueRelayRuntime,
+    places: Places,
 ) -> StatusReply
-    ensures { λ r. ⌜ ((l : List ReservationUsage) → r ≡ statusNumbered (statusTold (step (worldOf runtime (now (pending .entry)) (now (circuits .entry)) l (now (inflight .entry))) callStatus))) ⌝ }
+    ensures { λ r. ⌜ ((l : List ReservationUsage) → r ≡ statusNumbered (statusTold (step (worldSeen runtime places (now (pending .entry)) (now (circuits .entry)) l (now (inflight .entry))) callStatus))) ⌝ }
 {
-    let told = status(pending, circuits, inflight, runtime);
+    let told = status(pending, circuits, inflight, runtime, places);
     status_reply(told)
 }
 
@@ -322,9 +341,10 @@ pub extern "C" fn opaque_relay_next_due(
     circuits: &[RelayCircuit],
     inflight: &[InflightAction],
     runtime: OpaqueRelayRuntime,
+    places: Places,
 ) -> DueReply
-    ensures { λ r. ⌜ ((l : List ReservationUsage) → r ≡ dueNumbered (dueTold (step (worldOf runtime (now (pending .entry)) (now (circuits .entry)) l (now (inflight .entry))) callNextDue))) ⌝ }
+    ensures { λ r. ⌜ ((l : List ReservationUsage) → r ≡ dueNumbered (dueTold (step (worldSeen runtime places (now (pending .entry)) (now (circuits .entry)) l (now (inflight .entry))) callNextDue))) ⌝ }
 {
-    let told = next_due(pending, circuits, inflight, runtime);
+    let told = next_due(pending, circuits, inflight, runtime, places);
     due_reply(told)
 }

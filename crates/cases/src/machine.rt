@@ -21,7 +21,6 @@ use hnsr_circuit::records::RelayCircuit;
 use hnsr_circuit::records::RelayPacket;
 use hnsr_circuit::records::RelayPending;
 use hnsr_circuit::records::ReservationUsage;
-use hnsr_circuit::runtime::OpaqueRelayRuntime;
 use hnsr_circuit::runtime::Relayed;
 use libc::STDOUT_FILENO;
 
@@ -43,13 +42,15 @@ pub(crate) fn deliver(
     ledger: &mut [ReservationUsage],
     inflight: &mut [InflightAction],
     out: &mut [u32],
-    runtime: OpaqueRelayRuntime,
+    kept: Relayed,
     sent: RelayPacket,
     peer: u8,
     body: &[u8],
 ) -> Relayed {
     let source = [peer];
     let none = [0u8; 1];
+    let runtime = kept.runtime;
+    let places = kept.places;
     handle(
         pending,
         circuits,
@@ -57,6 +58,7 @@ pub(crate) fn deliver(
         inflight,
         out,
         runtime,
+        places,
         sent,
         &source,
         body,
@@ -67,16 +69,15 @@ pub(crate) fn deliver(
 
 // A new relay.
 pub(crate) fn begin(
-    pending: &mut [RelayPending],
-    circuits: &mut [RelayCircuit],
-    ledger: &mut [ReservationUsage],
-    inflight: &mut [InflightAction],
+    pending: &[RelayPending],
+    circuits: &[RelayCircuit],
+    ledger: &[ReservationUsage],
+    inflight: &[InflightAction],
     queue: usize,
-) -> OpaqueRelayRuntime {
+) -> Relayed {
     let config = configured(queue);
     let session = [1u8; 16];
-    let made = new(pending, circuits, ledger, inflight, session, 1, config, 100);
-    made.runtime
+    new(pending, circuits, ledger, inflight, session, 1, config, 100)
 }
 
 pub(crate) fn open_circuit(
@@ -85,13 +86,15 @@ pub(crate) fn open_circuit(
     ledger: &mut [ReservationUsage],
     inflight: &mut [InflightAction],
     out: &mut [u32],
-    runtime: OpaqueRelayRuntime,
+    kept: Relayed,
 ) -> Relayed {
     let sent = open_packet();
     let body = open_body();
     let source = [REQUESTER];
     let endpoint = [ENDPOINT];
     let random = [0, 0, 0, 0, 0, 0, 0, 7u8];
+    let runtime = kept.runtime;
+    let places = kept.places;
     handle(
         pending,
         circuits,
@@ -99,6 +102,7 @@ pub(crate) fn open_circuit(
         inflight,
         out,
         runtime,
+        places,
         sent,
         &source,
         &body,
@@ -113,7 +117,7 @@ pub(crate) fn accept_circuit(
     ledger: &mut [ReservationUsage],
     inflight: &mut [InflightAction],
     out: &mut [u32],
-    runtime: OpaqueRelayRuntime,
+    kept: Relayed,
     time: u64,
 ) -> Relayed {
     let sent = packet(ACCEPT, time);
@@ -124,7 +128,7 @@ pub(crate) fn accept_circuit(
         ledger,
         inflight,
         out,
-        runtime,
+        kept,
         sent,
         ENDPOINT,
         &body,
@@ -138,12 +142,11 @@ pub(crate) fn open_and_accept(
     ledger: &mut [ReservationUsage],
     inflight: &mut [InflightAction],
     out: &mut [u32],
-    runtime: OpaqueRelayRuntime,
+    kept: Relayed,
     accept_at: u64,
 ) -> Relayed {
-    let opened = open_circuit(pending, circuits, ledger, inflight, out, runtime);
-    let waiting = opened.runtime;
-    accept_circuit(pending, circuits, ledger, inflight, out, waiting, accept_at)
+    let opened = open_circuit(pending, circuits, ledger, inflight, out, kept);
+    accept_circuit(pending, circuits, ledger, inflight, out, opened, accept_at)
 }
 
 pub(crate) fn prepare(
@@ -173,7 +176,7 @@ pub(crate) fn send_packets(
     ledger: &mut [ReservationUsage],
     inflight: &mut [InflightAction],
     out: &mut [u32],
-    runtime: OpaqueRelayRuntime,
+    kept: Relayed,
     first: &[u8],
     second: &[u8],
     script: Script,
@@ -185,13 +188,12 @@ pub(crate) fn send_packets(
         ledger,
         inflight,
         out,
-        runtime,
+        kept,
         sent,
         script.peer,
         first,
     );
     let answered = once.answer;
-    let after = once.runtime;
     if script.packets == 1 {
         return answer_number(answered);
     }
@@ -201,7 +203,7 @@ pub(crate) fn send_packets(
         ledger,
         inflight,
         out,
-        after,
+        once,
         sent,
         second,
         script.delivered,
@@ -219,7 +221,6 @@ pub(crate) fn run_case(
 ) -> u64 {
     let ready = prepare(pending, circuits, ledger, inflight, out, script);
     let accepted = ready.answer;
-    let active = ready.runtime;
     let size = min_usize(script.size, body.len());
     let second = min_usize(script.second, body.len());
     if script.packets == 0 {
@@ -231,7 +232,7 @@ pub(crate) fn run_case(
         ledger,
         inflight,
         out,
-        active,
+        ready,
         &body[..size],
         &body[..second],
         script,
@@ -245,14 +246,15 @@ pub(crate) fn again(
     ledger: &mut [ReservationUsage],
     inflight: &mut [InflightAction],
     out: &mut [u32],
-    runtime: OpaqueRelayRuntime,
+    kept: Relayed,
     sent: RelayPacket,
     body: &[u8],
     delivered: bool,
 ) -> u64 {
     if delivered {
-        let kept = acknowledge(pending, circuits, inflight, out, runtime, 1, 3, true);
-        let after = kept.runtime;
+        let runtime = kept.runtime;
+        let places = kept.places;
+        let after = acknowledge(pending, circuits, inflight, out, runtime, places, 1, 3, true);
         let last = deliver(
             pending,
             circuits,
@@ -273,7 +275,7 @@ pub(crate) fn again(
         ledger,
         inflight,
         out,
-        runtime,
+        kept,
         sent,
         REQUESTER,
         body,

@@ -62,12 +62,15 @@ dataPlan h f u s peer m n = let a = dataRows (h .config) f u (s .tally) peer n i
   scan = s;
 }
 
--- from the tables: the circuit that the packet names, its reservation's ledger record, the actions
-abbrev pub dataPlanned : OpaqueRelayRuntime → List RelayCircuit → List ReservationUsage → List InflightAction → RelayPacket → (source : List ℕ) → (n : ℕ) → DataPlan
-dataPlanned h c l i q source n =
-    let f = circuitFound (at (q .«context_id») 0) c in
+-- on a circuit, from the tables: its reservation's ledger record, the actions
+abbrev pub dataPlannedOn : OpaqueRelayRuntime → CircuitFound → List ReservationUsage → List InflightAction → RelayPacket → (source : List ℕ) → (n : ℕ) → DataPlan
+dataPlannedOn h f l i q source n =
     let m = dataOn q (f .circuit) (peerOf source) n in
     dataPlan h f (usageFound (atReservation (f .circuit .«reservation_id»)) l) (actionsScanned (asking h m) i) (peerOf source) m n
+
+-- on the one that the packet names
+abbrev pub dataPlanned : OpaqueRelayRuntime → List RelayCircuit → List ReservationUsage → List InflightAction → RelayPacket → (source : List ℕ) → (n : ℕ) → DataPlan
+dataPlanned h c l i q source n = dataPlannedOn h (circuitFound (at (q .«context_id») 0) c) l i q source n
 
 -- ---- WINDOW
 abbrev pub windowRows : OpaqueRelayConfig → WindowRead → CircuitFound → InflightTally → HnsrPeerId → HnsrAnswer
@@ -88,11 +91,13 @@ windowPlan k read f s peer m = let a = windowRows k read f (s .tally) peer in re
   scan = s;
 }
 
-abbrev pub windowPlanned : OpaqueRelayRuntime → List RelayCircuit → List InflightAction → RelayPacket → (source body : List ℕ) → WindowPlan
-windowPlanned h c i q source body =
-    let f = circuitFound (at (q .«context_id») 0) c in
+abbrev pub windowPlannedOn : OpaqueRelayRuntime → WindowRead → CircuitFound → List InflightAction → RelayPacket → (source : List ℕ) → WindowPlan
+windowPlannedOn h read f i q source =
     let m = passedOn q (f .circuit) (peerOf source) Control in
-    windowPlan (h .config) (decodeWindow body) f (actionsScanned (asking h m) i) (peerOf source) m
+    windowPlan (h .config) read f (actionsScanned (asking h m) i) (peerOf source) m
+
+abbrev pub windowPlanned : OpaqueRelayRuntime → List RelayCircuit → List InflightAction → RelayPacket → (source body : List ℕ) → WindowPlan
+windowPlanned h c i q source body = windowPlannedOn h (decodeWindow body) (circuitFound (at (q .«context_id») 0) c) i q source
 
 -- ---- CLOSE and ERROR
 abbrev pub closeRows : DetailRead → (matches : ℕ) → CircuitFound → HnsrPeerId → HnsrAnswer
@@ -118,7 +123,10 @@ closePlan h q read matches w f peer = let a = closeRows read matches f peer in r
   message = closeMessage q w f peer;
 }
 
-abbrev pub closePlanned : OpaqueRelayRuntime → List RelayPending → List RelayCircuit → RelayPacket → (source body : List ℕ) → ClosePlan
-closePlanned h p c q source body =
+abbrev pub closePlannedOn : OpaqueRelayRuntime → List RelayPending → List RelayCircuit → RelayPacket → DetailRead → (source : List ℕ) → ClosePlan
+closePlannedOn h p c q read source =
     let naming = named (peerOf source) (q .«context_id») in
-    closePlan h q (decodeDetail body) (count (pendingHas naming) p) (pendingFound naming p) (circuitFound (at (q .«context_id») 0) c) (peerOf source)
+    closePlan h q read (count (pendingHas naming) p) (pendingFound naming p) (circuitFound (at (q .«context_id») 0) c) (peerOf source)
+
+abbrev pub closePlanned : OpaqueRelayRuntime → List RelayPending → List RelayCircuit → RelayPacket → (source body : List ℕ) → ClosePlan
+closePlanned h p c q source body = closePlannedOn h p c q (decodeDetail body) source

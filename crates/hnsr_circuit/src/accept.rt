@@ -1,6 +1,7 @@
 // ACCEPT: its rows, and what it writes, by value.
 ghost use mathlib.Core.Path.{_≡_};
 ghost use Prim.Native.Nat.{_+_};
+ghost use Rattle.hnsr_circuit.specs.Answers.{bodyAnswer, _then_};
 ghost use Rattle.hnsr_circuit.specs.Pending.{clearPending};
 ghost use Rattle.hnsr_circuit.specs.Accept.{requestAnswer, acceptAnswer, circuitFor};
 ghost use Rattle.hnsr_circuit.specs.Laws.Opening.{acceptRows, acceptWork, replacing, acceptPlan};
@@ -86,6 +87,22 @@ pub(crate) fn accept_room(
 {
     let under = saturating_add_usize(waiting, running);
     accept_answer(config, pending, body, circuits, under)
+}
+
+// The rows that go by the packet and its pending record alone: 13, 15, 11 and 1.
+pub(crate) fn accept_entry(
+    found: PendingFound,
+    peer: HnsrPeerId,
+    now: u64,
+    read: AcceptRead,
+) -> HnsrAnswer
+    ensures { λ r. ⌜ r ≡ (requestAnswer (found .found) (found .pending) peer now then bodyAnswer (read .result)) ⌝ }
+{
+    let pending = found.pending;
+    let result = read.result;
+    let request = request_answer(found.found, pending, peer, now);
+    let shaped = body_answer(result);
+    first_refusal(request, shaped)
 }
 
 // All rows of ACCEPT, in order.

@@ -38,9 +38,8 @@ use crate::inflight::action_unmarked;
 use crate::inflight::kind_of;
 use crate::inflight::toward_side;
 use crate::lookup::look_up_action;
-use crate::lookup::look_up_pending;
+use crate::lookup::pending_by_id;
 use crate::places::Places;
-use crate::question::at;
 use crate::queue::asking;
 use crate::queue::send;
 use crate::records::ActionFound;
@@ -60,7 +59,7 @@ use crate::route::CLOSING_WORDS;
 use crate::runtime::OpaqueRelayRuntime;
 use crate::runtime::Relayed;
 use crate::tables::circuits::circuit_at;
-use crate::tables::circuits::find_circuit;
+use crate::tables::circuits::find_circuit_id;
 use crate::tables::circuits::set_circuit;
 use crate::tables::inflight::scan_actions;
 use crate::tables::inflight::set_action;
@@ -193,8 +192,7 @@ pub(crate) fn lower_circuit(
 )
     ensures { λ _. ⌜ heldCircuits places (now (circuits .exit)) ≡ cond go (edit (circuitAt id) (lowered side n) (heldCircuits places (now (circuits .entry)))) (heldCircuits places (now (circuits .entry))) ⌝ }
 {
-    let question = at(id, 0);
-    let place = find_circuit(circuits, places, question);
+    let place = find_circuit_id(circuits, places, id);
     let circuit = circuit_at(circuits, places, place);
     let after = circuit_lowered(circuit, side, n);
     set_circuit(circuits, go, place, after);
@@ -262,8 +260,7 @@ pub(crate) fn fail_incoming(
 ) -> Relayed
     ensures { λ r. ⌜ ((c : List RelayCircuit) (l : List ReservationUsage) → handedSeen r (now (pending .exit)) c l (now (inflight .exit)) (now (out .exit)) ≡ ending (now (out .entry)) (failIncoming (worldSeen runtime places (now (pending .entry)) c l (now (inflight .entry))) id)) ⌝ }
 {
-    let question = at(id, 0);
-    let found = look_up_pending(pending, places, question);
+    let found = pending_by_id(pending, places, id);
     let gone = pending_gone(found);
     let plan = fail_plan(found, runtime);
     let after = plan.runtime;
@@ -338,8 +335,7 @@ pub fn acknowledge(
     ensures { λ r. ⌜ ((l : List ReservationUsage) → handedSeen r (now (pending .exit)) (now (circuits .exit)) l (now (inflight .exit)) (now (out .exit)) ≡ outcome (now (out .entry)) (step (worldSeen runtime places (now (pending .entry)) (now (circuits .entry)) l (now (inflight .entry))) (callAcknowledge generation sequence delivered (length (now (out .entry)))))) ⌝ }
 {
     let config = runtime.config;
-    let question = at(generation, sequence);
-    let found = look_up_action(inflight, places, question);
+    let found = look_up_action(inflight, places, generation, sequence);
     let few = too_few(config, pending.len(), circuits.len(), inflight.len());
     let answer = acknowledge_answer(runtime, few, out.len(), generation, found);
     if is_taken(answer) {

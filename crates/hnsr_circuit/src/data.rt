@@ -1,5 +1,8 @@
 // DATA: its rows, over numbers, tests and records by value.
 ghost use mathlib.Core.Path.{_≡_};
+ghost use Rattle.hnsr_body.specs.Data.{dataChecked};
+ghost use Rattle.hnsr_circuit.specs.Packet.{circuitAnswer};
+ghost use Rattle.hnsr_circuit.specs.Answers.{bodyAnswer, _then_};
 ghost use Rattle.hnsr_circuit.specs.Data.{bytesAnswer, flowAnswer};
 ghost use Rattle.hnsr_circuit.specs.Plans.{dataRows, dataPlan};
 use crate::answer::HnsrAnswer;
@@ -67,6 +70,17 @@ pub(crate) fn flow_answer(
     let after = saturating_add_usize(queued, n);
     let refused = either(credit < n, config.maximum_queue_bytes < after);
     check(refused, HnsrRuntimeError::FlowControl)
+}
+
+// The rows that go by the packet and its circuit alone: 1, 14 and 15.
+pub(crate) fn data_entry(named: CircuitFound, peer: HnsrPeerId, n: usize) -> HnsrAnswer
+    ensures { λ r. ⌜ r ≡ (bodyAnswer (dataChecked n) then circuitAnswer (named .found) (named .circuit) peer) ⌝ }
+{
+    let circuit = named.circuit;
+    let checked = DataBody::check(n);
+    let body = body_answer(checked);
+    let own = circuit_answer(named.found, circuit, peer);
+    first_refusal(body, own)
 }
 
 // The rows in order.

@@ -4,23 +4,21 @@ ghost use mathlib.Core.Bool.{cond, true};
 ghost use mathlib.Core.List.{List};
 ghost use Prim.Native.Nat.{ℕ};
 ghost use lib.ListN.{set};
-ghost use Rattle.hnsr_body.specs.Accept.{openedBytes};
+ghost use Rattle.hnsr_body.specs.Accept.{decodeAccept};
+ghost use Rattle.hnsr_circuit.specs.Lookup.{pendingFound};
 ghost use Rattle.hnsr_circuit.specs.Held.{held, heldPending, heldCircuits, heldActions, worldSeen, handedSeen};
 ghost use Rattle.hnsr_circuit.specs.Table.{put};
 ghost use Rattle.hnsr_circuit.specs.Peer.{peerOf};
 ghost use Rattle.hnsr_circuit.specs.Pending.{clearPending};
 ghost use Rattle.hnsr_circuit.specs.Circuits.{isCircuit, circuitAt, clearCircuit};
-ghost use Rattle.hnsr_circuit.specs.Inflight.{actionUnder, dropped, tallied};
-ghost use Rattle.hnsr_circuit.specs.Question.{pendingWork, circuitWork};
-ghost use Rattle.hnsr_circuit.specs.World.{proceed};
-ghost use Rattle.hnsr_circuit.specs.Queue.{send};
-ghost use Rattle.hnsr_circuit.specs.Progress.{messageOf, packetOf, ending};
+ghost use Rattle.hnsr_circuit.specs.Inflight.{tallied};
+ghost use Rattle.hnsr_circuit.specs.Question.{pendingWork, circuitWork, at};
+ghost use Rattle.hnsr_circuit.specs.Progress.{packetOf, ending};
 ghost use Rattle.hnsr_circuit.specs.Accept.{handleAccept};
 ghost use Rattle.hnsr_circuit.specs.Laws.Opening.{acceptRows, acceptWork, putPlace};
-ghost use Rattle.hnsr_circuit.specs.declared.records.RelayPending.{RelayPending};
-ghost use Rattle.hnsr_circuit.specs.declared.records.RelayCircuit.{RelayCircuit};
 ghost use Rattle.hnsr_circuit.specs.declared.records.ReservationUsage.{ReservationUsage};
 use crate::accept::AcceptPlan;
+use crate::accept::accept_entry;
 use crate::accept::accept_plan;
 use crate::accept::accept_rows;
 use crate::accept::accept_work;
@@ -28,34 +26,34 @@ use crate::accept::circuit_for;
 use crate::accept::found_unmarked;
 use crate::accept::replacing;
 use crate::answer::HnsrAnswer;
+use crate::answer::is_taken;
 use crate::config::OpaqueRelayConfig;
-use crate::lookup::drop_actions;
-use crate::lookup::look_up_pending;
+use crate::lookup::pending_by_id;
 use crate::peer::peer_of;
 use crate::places::Places;
 use crate::places::raised;
 use crate::places::with_circuits;
-use crate::question::at;
 use crate::question::unused;
 use crate::queue::asking;
 use crate::queue::send;
 use crate::records::InflightAction;
-use crate::records::Outgoing;
 use crate::records::PendingFound;
 use crate::records::RelayCircuit;
 use crate::records::RelayPacket;
 use crate::records::RelayPending;
+use crate::revoking_calls::refused;
 use crate::runtime::OpaqueRelayRuntime;
 use crate::runtime::Relayed;
 use crate::tables::circuits::circuit_work;
 use crate::tables::circuits::find_circuit;
+use crate::tables::circuits::find_circuit_id;
 use crate::tables::circuits::set_circuit;
+use crate::tables::inflight::drop_and_scan;
 use crate::tables::inflight::scan_actions;
 use crate::tables::pending::pending_work;
 use crate::tables::pending::set_pending;
 use hnsr_body::accept_body::AcceptBody;
 use hnsr_body::accept_body::AcceptRead;
-use hnsr_body::accept_body::OpenedBody;
 
 // The place that a lookup found, else the lowest unused one.
 pub(crate) fn put_place(place: usize, places: usize, spare: usize) -> usize
@@ -78,8 +76,7 @@ pub(crate) fn put_circuit(
     ensures { λ r. ⌜ held clearCircuit r (now (circuits .exit)) ≡ cond go (put isCircuit (circuitAt id) row (heldCircuits places (now (circuits .entry)))) (heldCircuits places (now (circuits .entry))) ⌝ }
 {
     let size = circuits.len();
-    let same = at(id, 0);
-    let old = find_circuit(circuits, places, same);
+    let old = find_circuit_id(circuits, places, id);
     let free = unused();
     let spare = find_circuit(circuits, places, free);
     let place = put_place(old, size, spare);
@@ -120,41 +117,73 @@ pub(crate) fn accept_answered(
     )
 }
 
-// The pending record goes, its actions are dropped, the circuit starts.
+// The pending record goes and the circuit starts: how many places of the circuits are in use then.
 pub(crate) fn accept_written(
     pending: &mut [RelayPending],
     circuits: &mut [RelayCircuit],
-    inflight: &mut [InflightAction],
     places: Places,
     plan: AcceptPlan,
     unmarked: RelayPending,
     circuit: RelayCircuit,
 ) -> usize
     requires { ⌜ clearPending unmarked ≡ unmarked ⌝ }
-    ensures { λ r. ⌜ (heldPending places (now (pending .exit)) ≡ cond (plan .go) (set (heldPending places (now (pending .entry))) (plan .place) unmarked) (heldPending places (now (pending .entry)))) × (held clearCircuit r (now (circuits .exit)) ≡ cond (plan .go) (put isCircuit (circuitAt (plan .id)) circuit (heldCircuits places (now (circuits .entry)))) (heldCircuits places (now (circuits .entry)))) × (heldActions places (now (inflight .exit)) ≡ cond (plan .go) (dropped (actionUnder (plan .id)) (heldActions places (now (inflight .entry)))) (heldActions places (now (inflight .entry)))) ⌝ }
+    ensures { λ r. ⌜ (heldPending places (now (pending .exit)) ≡ cond (plan .go) (set (heldPending places (now (pending .entry))) (plan .place) unmarked) (heldPending places (now (pending .entry)))) × (held clearCircuit r (now (circuits .exit)) ≡ cond (plan .go) (put isCircuit (circuitAt (plan .id)) circuit (heldCircuits places (now (circuits .entry)))) (heldCircuits places (now (circuits .entry)))) ⌝ }
 {
     set_pending(pending, plan.go, plan.place, unmarked);
-    let number = put_circuit(circuits, places, plan.go, plan.id, circuit);
-    drop_actions(inflight, places, plan.go, plan.id);
-    number
+    put_circuit(circuits, places, plan.go, plan.id, circuit)
 }
 
-// OPENED, the last step.
-pub(crate) fn send_opened(
+// An ACCEPT of a pending record, whose body is read: one pass over the actions for its rows, and one that drops the pending record's.
+pub(crate) fn accept_found(
+    pending: &mut [RelayPending],
+    circuits: &mut [RelayCircuit],
     inflight: &mut [InflightAction],
     out: &mut [u32],
-    before: HnsrAnswer,
     runtime: OpaqueRelayRuntime,
     places: Places,
-    message: Outgoing,
-    opened: OpenedBody,
+    packet: RelayPacket,
+    found: PendingFound,
+    read: AcceptRead,
+    source: &[u8],
 ) -> Relayed
-    ensures { λ r. ⌜ ((p : List RelayPending) (c : List RelayCircuit) (l : List ReservationUsage) → handedSeen r p c l (now (inflight .exit)) (now (out .exit)) ≡ ending (now (out .entry)) (let w = worldSeen runtime places p c l (now (inflight .entry)) in proceed w before (send w (messageOf message (openedBytes opened))))) ⌝ }
+    ensures { λ r. ⌜ ((l : List ReservationUsage) (body e rs : List ℕ) → found ≡ pendingFound (at (packet .«context_id») 0) (heldPending places (now (pending .entry))) → read ≡ decodeAccept body → handedSeen r (now (pending .exit)) (now (circuits .exit)) l (now (inflight .exit)) (now (out .exit)) ≡ ending (now (out .entry)) (handleAccept (worldSeen runtime places (now (pending .entry)) (now (circuits .entry)) l (now (inflight .entry))) (packetOf packet (now (source .entry)) body e rs))) ⌝ }
 {
-    let question = asking(runtime, message);
-    let scan = scan_actions(inflight, places, question);
-    let bytes = opened.to_bytes();
-    send(inflight, out, before, runtime, places, message, scan, &bytes)
+    let config = runtime.config;
+    let answer = accept_answered(
+        pending,
+        circuits,
+        inflight,
+        places,
+        config,
+        packet,
+        found,
+        read,
+        source,
+    );
+    if is_taken(answer) {
+        let plan = accept_plan(answer, runtime, found, read);
+        let row = found_unmarked(found);
+        let circuit = circuit_for(config, found, read);
+        let counted = plan.runtime;
+        let message = plan.message;
+        let opened = plan.opened;
+        let asked = asking(counted, message);
+        let number = accept_written(pending, circuits, places, plan, row, circuit);
+        let after = with_circuits(places, number);
+        let scan = drop_and_scan(inflight, places, plan.id, asked);
+        let bytes = opened.to_bytes();
+        return send(
+            inflight,
+            out,
+            answer,
+            counted,
+            after,
+            message,
+            scan,
+            &bytes,
+        );
+    }
+    refused(runtime, places, answer)
 }
 
 pub(crate) fn handle_accept(
@@ -170,28 +199,23 @@ pub(crate) fn handle_accept(
 ) -> Relayed
     ensures { λ r. ⌜ ((l : List ReservationUsage) (e rs : List ℕ) → handedSeen r (now (pending .exit)) (now (circuits .exit)) l (now (inflight .exit)) (now (out .exit)) ≡ ending (now (out .entry)) (handleAccept (worldSeen runtime places (now (pending .entry)) (now (circuits .entry)) l (now (inflight .entry))) (packetOf packet (now (source .entry)) (now (body .entry)) e rs))) ⌝ }
 {
-    let question = at(packet.context_id, 0);
-    let found = look_up_pending(pending, places, question);
+    let found = pending_by_id(pending, places, packet.context_id);
     let read = AcceptBody::decode(body);
-    let config = runtime.config;
-    let answer = accept_answered(
-        pending,
-        circuits,
-        inflight,
-        places,
-        config,
-        packet,
-        found,
-        read,
-        source,
-    );
-    let plan = accept_plan(answer, runtime, found, read);
-    let row = found_unmarked(found);
-    let circuit = circuit_for(config, found, read);
-    let counted = plan.runtime;
-    let message = plan.message;
-    let opened = plan.opened;
-    let number = accept_written(pending, circuits, inflight, places, plan, row, circuit);
-    let after = with_circuits(places, number);
-    send_opened(inflight, out, answer, counted, after, message, opened)
+    let peer = peer_of(source);
+    let entered = accept_entry(found, peer, packet.now, read);
+    if is_taken(entered) {
+        return accept_found(
+            pending,
+            circuits,
+            inflight,
+            out,
+            runtime,
+            places,
+            packet,
+            found,
+            read,
+            source,
+        );
+    }
+    refused(runtime, places, entered)
 }

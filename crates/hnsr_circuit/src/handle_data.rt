@@ -3,49 +3,52 @@ ghost use mathlib.Core.Path.{_≡_};
 ghost use mathlib.Core.List.{List};
 ghost use Prim.Native.Nat.{ℕ, _<_};
 ghost use lib.ListN.{length};
+ghost use Rattle.hnsr_circuit.specs.Question.{at};
+ghost use Rattle.hnsr_circuit.specs.Lookup.{circuitFound};
+ghost use Rattle.hnsr_circuit.specs.Plans.{dataPlannedOn};
 ghost use Rattle.hnsr_circuit.specs.Held.{heldCircuits, heldLedger, heldActions, worldSeen, handedSeen};
 ghost use Rattle.hnsr_circuit.specs.declared.records.RelayPending.{RelayPending};
 ghost use Rattle.hnsr_circuit.specs.Data.{handleData};
-ghost use Rattle.hnsr_circuit.specs.Plans.{dataPlanned};
 ghost use Rattle.hnsr_circuit.specs.Progress.{packetOf, ending};
+use crate::answer::is_taken;
 use crate::data::DataPlan;
+use crate::data::data_entry;
 use crate::data::data_plan;
-use crate::lookup::look_up_circuit;
+use crate::lookup::circuit_by_id;
 use crate::lookup::look_up_usage;
 use crate::lookup::spend;
 use crate::message::data_on;
 use crate::message::reservation_of;
 use crate::peer::peer_of;
 use crate::places::Places;
-use crate::question::at;
 use crate::question::at_reservation;
 use crate::queue::asking;
 use crate::queue::send;
+use crate::records::CircuitFound;
 use crate::records::InflightAction;
 use crate::records::RelayCircuit;
 use crate::records::RelayPacket;
 use crate::records::ReservationUsage;
+use crate::revoking_calls::refused;
 use crate::runtime::OpaqueRelayRuntime;
 use crate::runtime::Relayed;
 use crate::tables::circuits::charge_circuit;
 use crate::tables::inflight::scan_actions;
 
-// What a DATA of n bytes does: one pass over each table.
+// What a DATA of n bytes does, on the circuit that it names: one pass over each table.
 pub(crate) fn plan_data(
-    circuits: &[RelayCircuit],
     ledger: &[ReservationUsage],
     inflight: &[InflightAction],
     runtime: OpaqueRelayRuntime,
     places: Places,
     packet: RelayPacket,
+    named: CircuitFound,
     source: &[u8],
     n: usize,
 ) -> DataPlan
-    ensures { λ r. ⌜ r ≡ dataPlanned runtime (heldCircuits places (now (circuits .entry))) (heldLedger places (now (ledger .entry))) (heldActions places (now (inflight .entry))) packet (now (source .entry)) n ⌝ }
+    ensures { λ r. ⌜ r ≡ dataPlannedOn runtime named (heldLedger places (now (ledger .entry))) (heldActions places (now (inflight .entry))) packet (now (source .entry)) n ⌝ }
 {
     let peer = peer_of(source);
-    let question = at(packet.context_id, 0);
-    let named = look_up_circuit(circuits, places, question);
     let message = data_on(packet, named, peer, n);
     let asked = asking(runtime, message);
     let scan = scan_actions(inflight, places, asked);
@@ -55,6 +58,36 @@ pub(crate) fn plan_data(
     data_plan(runtime, named, booked, scan, peer, message, n)
 }
 
+// A DATA that its circuit takes.
+pub(crate) fn pass_data(
+    circuits: &mut [RelayCircuit],
+    ledger: &mut [ReservationUsage],
+    inflight: &mut [InflightAction],
+    out: &mut [u32],
+    runtime: OpaqueRelayRuntime,
+    places: Places,
+    packet: RelayPacket,
+    named: CircuitFound,
+    source: &[u8],
+    body: &[u8],
+) -> Relayed
+    requires { ⌜ (named ≡ circuitFound (at (packet .«context_id») 0) (heldCircuits places (now circuits))) × (length (now body) < 65536) ⌝ }
+    ensures { λ r. ⌜ ((p : List RelayPending) (e rs : List ℕ) → handedSeen r p (now (circuits .exit)) (now (ledger .exit)) (now (inflight .exit)) (now (out .exit)) ≡ ending (now (out .entry)) (handleData (worldSeen runtime places p (now (circuits .entry)) (now (ledger .entry)) (now (inflight .entry))) (packetOf packet (now (source .entry)) (now (body .entry)) e rs))) ⌝ }
+{
+    let n = body.len();
+    let bytes = n as u64;
+    let plan = plan_data(ledger, inflight, runtime, places, packet, named, source, n);
+    let answer = plan.answer;
+    let side = plan.side;
+    let counted = plan.runtime;
+    let message = plan.message;
+    let scan = plan.scan;
+    charge_circuit(circuits, plan.go, plan.place, side, n);
+    spend(ledger, places, plan.go, plan.usage_place, bytes);
+    send(inflight, out, answer, counted, places, message, scan, body)
+}
+
+// Its circuit decides first: what that refuses costs no pass over the actions.
 pub(crate) fn handle_data(
     circuits: &mut [RelayCircuit],
     ledger: &mut [ReservationUsage],
@@ -69,15 +102,22 @@ pub(crate) fn handle_data(
     requires { ⌜ length (now body) < 65536 ⌝ }
     ensures { λ r. ⌜ ((p : List RelayPending) (e rs : List ℕ) → handedSeen r p (now (circuits .exit)) (now (ledger .exit)) (now (inflight .exit)) (now (out .exit)) ≡ ending (now (out .entry)) (handleData (worldSeen runtime places p (now (circuits .entry)) (now (ledger .entry)) (now (inflight .entry))) (packetOf packet (now (source .entry)) (now (body .entry)) e rs))) ⌝ }
 {
-    let n = body.len();
-    let bytes = n as u64;
-    let plan = plan_data(circuits, ledger, inflight, runtime, places, packet, source, n);
-    let answer = plan.answer;
-    let side = plan.side;
-    let counted = plan.runtime;
-    let message = plan.message;
-    let scan = plan.scan;
-    charge_circuit(circuits, plan.go, plan.place, side, n);
-    spend(ledger, places, plan.go, plan.usage_place, bytes);
-    send(inflight, out, answer, counted, places, message, scan, body)
+    let named = circuit_by_id(circuits, places, packet.context_id);
+    let peer = peer_of(source);
+    let entered = data_entry(named, peer, body.len());
+    if is_taken(entered) {
+        return pass_data(
+            circuits,
+            ledger,
+            inflight,
+            out,
+            runtime,
+            places,
+            packet,
+            named,
+            source,
+            body,
+        );
+    }
+    refused(runtime, places, entered)
 }

@@ -13,11 +13,10 @@ ghost use Rattle.hnsr_circuit.specs.Queue.{actionsScanned};
 ghost use Rattle.hnsr_circuit.specs.Draw.{undrawn, draws, drawAll};
 ghost use Rattle.hnsr_circuit.specs.Progress.{packetOf, asking, ending};
 ghost use Rattle.hnsr_circuit.specs.Open.{openBooked, openLapsed, handleOpen};
-ghost use Rattle.hnsr_circuit.specs.Laws.Opening.{isTaken, gathering, ledgerAsked, openingOf, incomingOut};
+ghost use Rattle.hnsr_circuit.specs.Laws.Opening.{isTaken, gathering, ledgerAsked, openingOf, incomingOut, openPlan};
 ghost use Rattle.hnsr_circuit.specs.declared.records.RelayCircuit.{RelayCircuit};
 ghost use Rattle.hnsr_circuit.specs.declared.records.RelayPacket.{RelayPacket};
 use crate::answer::HnsrAnswer;
-use crate::answer::first_refusal;
 use crate::answer::is_taken;
 use crate::draw::draw_at;
 use crate::draw::draw_turn;
@@ -41,13 +40,13 @@ use crate::open::open_plan;
 use crate::open::open_rows;
 use crate::open::open_work;
 use crate::open::pending_for;
+use crate::open::placed_entry;
 use crate::open::placed_rows;
 use crate::peer::peer_of;
 use crate::places::Places;
 use crate::places::raised;
 use crate::places::with_ledger;
 use crate::places::with_pending;
-use crate::question::at;
 use crate::question::at_reservation;
 use crate::question::unused;
 use crate::question::used;
@@ -61,15 +60,17 @@ use crate::records::RelayPacket;
 use crate::records::RelayPending;
 use crate::records::RelayTicket;
 use crate::records::ReservationUsage;
+use crate::revoking_calls::refused;
 use crate::runtime::OpaqueRelayRuntime;
 use crate::runtime::Relayed;
 use crate::tables::circuits::circuit_work;
-use crate::tables::circuits::find_circuit;
+use crate::tables::circuits::find_circuit_id;
 use crate::tables::inflight::scan_actions;
 use crate::tables::ledger::count_usage;
 use crate::tables::ledger::find_usage;
 use crate::tables::ledger::set_usage;
 use crate::tables::pending::find_pending;
+use crate::tables::pending::find_pending_id;
 use crate::tables::pending::pending_work;
 use crate::tables::pending::set_pending;
 use hnsr_body::open_body::OpenBody;
@@ -78,9 +79,8 @@ use hnsr_body::open_body::OpenBody;
 pub(crate) fn id_taken(pending: &[RelayPending], circuits: &[RelayCircuit], places: Places, id: u64) -> bool
     ensures { λ r. ⌜ r ≡ isTaken (heldPending places (now (pending .entry))) (heldCircuits places (now (circuits .entry))) id ⌝ }
 {
-    let question = at(id, 0);
-    let waiting = find_pending(pending, places, question);
-    let running = find_circuit(circuits, places, question);
+    let waiting = find_pending_id(pending, places, id);
+    let running = find_circuit_id(circuits, places, id);
     either_found(waiting, pending.len(), running, circuits.len())
 }
 
@@ -113,8 +113,7 @@ pub(crate) fn put_pending(
     ensures { λ r. ⌜ held clearPending r (now (pending .exit)) ≡ cond go (put isPending (pendingAt id) row (heldPending places (now (pending .entry)))) (heldPending places (now (pending .entry))) ⌝ }
 {
     let size = pending.len();
-    let same = at(id, 0);
-    let old = find_pending(pending, places, same);
+    let old = find_pending_id(pending, places, id);
     let free = unused();
     let spare = find_pending(pending, places, free);
     let place = put_place(old, size, spare);
@@ -215,6 +214,33 @@ pub(crate) fn open_booked(
     send(inflight, out, answer, counted, after, message, scan, &bytes)
 }
 
+// The second stage, past the rows that ask nothing of actions and ledger.
+pub(crate) fn open_placed(
+    pending: &mut [RelayPending],
+    ledger: &mut [ReservationUsage],
+    inflight: &mut [InflightAction],
+    out: &mut [u32],
+    runtime: OpaqueRelayRuntime,
+    places: Places,
+    gathered: OpenGathered,
+    drawing: Drawing,
+    plan: OpenPlan,
+) -> Relayed
+    ensures { λ r. ⌜ ((c : List RelayCircuit) (q : RelayPacket) (source body endpoint rs : List ℕ) → gathered ≡ gathering q source body endpoint (heldPending places (now (pending .entry))) (heldCircuits places c) → drawing ≡ drawAll (isTaken (heldPending places (now (pending .entry))) (heldCircuits places c)) undrawn (draws rs) → plan ≡ openPlan (runtime .config) gathered drawing → handedSeen r (now (pending .exit)) c (now (ledger .exit)) (now (inflight .exit)) (now (out .exit)) ≡ ending (now (out .entry)) (openLapsed (worldSeen runtime places (now (pending .entry)) c (now (ledger .entry)) (now (inflight .entry))) (packetOf q source body endpoint rs))) ⌝ }
+{
+    let config = runtime.config;
+    let ticket = plan.ticket;
+    let message = incoming_out(plan);
+    let question = asking(runtime, message);
+    let scan = scan_actions(inflight, places, question);
+    let room = ask_ledger(ledger, places, ticket);
+    let answer = placed_rows(config, gathered, plan, drawing, scan, room);
+    let go = is_taken(answer);
+    let number = book(ledger, places, go, ticket);
+    let after = with_ledger(places, number);
+    open_booked(pending, ledger, inflight, out, answer, runtime, after, plan, scan)
+}
+
 // The second stage: ledger records past their expiry are dropped.
 pub(crate) fn open_lapsed(
     pending: &mut [RelayPending],
@@ -222,30 +248,34 @@ pub(crate) fn open_lapsed(
     ledger: &mut [ReservationUsage],
     inflight: &mut [InflightAction],
     out: &mut [u32],
-    before: HnsrAnswer,
     runtime: OpaqueRelayRuntime,
     places: Places,
     gathered: OpenGathered,
     random: &[u8],
 ) -> Relayed
-    ensures { λ r. ⌜ ((q : RelayPacket) (source body endpoint : List ℕ) → gathered ≡ gathering q source body endpoint (heldPending places (now (pending .entry))) (heldCircuits places (now (circuits .entry))) → handedSeen r (now (pending .exit)) (now (circuits .entry)) (now (ledger .exit)) (now (inflight .exit)) (now (out .exit)) ≡ ending (now (out .entry)) (let w = worldSeen runtime places (now (pending .entry)) (now (circuits .entry)) (now (ledger .entry)) (now (inflight .entry)) in proceed w before (openLapsed w (packetOf q source body endpoint (now (random .entry)))))) ⌝ }
+    ensures { λ r. ⌜ ((q : RelayPacket) (source body endpoint : List ℕ) → gathered ≡ gathering q source body endpoint (heldPending places (now (pending .entry))) (heldCircuits places (now (circuits .entry))) → handedSeen r (now (pending .exit)) (now (circuits .entry)) (now (ledger .exit)) (now (inflight .exit)) (now (out .exit)) ≡ ending (now (out .entry)) (openLapsed (worldSeen runtime places (now (pending .entry)) (now (circuits .entry)) (now (ledger .entry)) (now (inflight .entry))) (packetOf q source body endpoint (now (random .entry))))) ⌝ }
 {
     let config = runtime.config;
     let drawing = draw(pending, circuits, places, random);
     let plan = open_plan(config, gathered, drawing);
-    let ticket = plan.ticket;
-    let message = incoming_out(plan);
-    let question = asking(runtime, message);
-    let scan = scan_actions(inflight, places, question);
-    let room = ask_ledger(ledger, places, ticket);
-    let own = placed_rows(config, gathered, plan, drawing, scan, room);
-    let answer = first_refusal(before, own);
-    let go = is_taken(answer);
-    let number = book(ledger, places, go, ticket);
-    let after = with_ledger(places, number);
-    open_booked(pending, ledger, inflight, out, answer, runtime, after, plan, scan)
+    let entered = placed_entry(config, gathered, plan, drawing);
+    if is_taken(entered) {
+        return open_placed(
+            pending,
+            ledger,
+            inflight,
+            out,
+            runtime,
+            places,
+            gathered,
+            drawing,
+            plan,
+        );
+    }
+    refused(runtime, places, entered)
 }
 
+// What the tables as found refuse costs no pass over ledger and actions.
 pub(crate) fn handle_open(
     pending: &mut [RelayPending],
     circuits: &mut [RelayCircuit],
@@ -265,18 +295,19 @@ pub(crate) fn handle_open(
     let gathered = gather(pending, circuits, places, packet, source, body, endpoint);
     let config = runtime.config;
     let answer = open_rows(config, gathered);
-    let go = is_taken(answer);
-    drop_lapsed(ledger, places, go, packet.now);
-    open_lapsed(
-        pending,
-        circuits,
-        ledger,
-        inflight,
-        out,
-        answer,
-        runtime,
-        places,
-        gathered,
-        random,
-    )
+    if is_taken(answer) {
+        drop_lapsed(ledger, places, true, packet.now);
+        return open_lapsed(
+            pending,
+            circuits,
+            ledger,
+            inflight,
+            out,
+            runtime,
+            places,
+            gathered,
+            random,
+        );
+    }
+    refused(runtime, places, answer)
 }

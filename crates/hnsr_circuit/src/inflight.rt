@@ -1,5 +1,6 @@
 // Outstanding actions: what is asked of one, the kinds, the mark cleared, and the action capacity.
 ghost use mathlib.Core.Path.{_≡_};
+ghost use mathlib.Core.Bool.{cond};
 ghost use Rattle.hnsr_circuit.specs.Inflight.{noAction, kindNumber, kindOf, toEndpoint, towardSide, isAction, actionAt, actionUnder, actionToward, clearAction, capacityLeft, capacityAnswer};
 use crate::answer::HnsrAnswer;
 use crate::answer::HnsrRuntimeError;
@@ -135,6 +136,16 @@ pub(crate) fn action_unmarked(a: InflightAction) -> InflightAction
         to_endpoint: a.to_endpoint,
         bytes: a.bytes,
     }
+}
+
+// What is left of a record that is dropped, or not.
+pub(crate) fn action_left(a: InflightAction, gone: bool) -> InflightAction
+    ensures { λ r. ⌜ r ≡ cond gone (clearAction a) a ⌝ }
+{
+    if gone {
+        return action_unmarked(a);
+    }
+    a
 }
 
 // ---- capacity

@@ -3,6 +3,7 @@ ghost use mathlib.Core.Path.{_≡_};
 ghost use mathlib.Core.Bool.{cond};
 ghost use lib.Dec.{ltb};
 ghost use lib.ListN.{set, getD};
+ghost use Rattle.hnsr_circuit.specs.Question.{at};
 ghost use Rattle.hnsr_circuit.specs.Held.{heldPending, heldCircuits, heldLedger, heldActions};
 ghost use Rattle.hnsr_circuit.specs.Table.{edit};
 ghost use Rattle.hnsr_circuit.specs.Inflight.{actionUnder, dropped};
@@ -26,6 +27,7 @@ use crate::records::ReservationUsage;
 use crate::records::UsageFound;
 use crate::tables::circuits::circuit_at;
 use crate::tables::circuits::find_circuit;
+use crate::tables::circuits::find_circuit_id;
 use crate::tables::circuits::trim_circuits;
 use crate::tables::inflight::action_at;
 use crate::tables::inflight::clear_action;
@@ -37,6 +39,7 @@ use crate::tables::ledger::set_usage;
 use crate::tables::ledger::trim_ledger;
 use crate::tables::ledger::usage_at;
 use crate::tables::pending::find_pending;
+use crate::tables::pending::find_pending_id;
 use crate::tables::pending::pending_at;
 use crate::tables::pending::trim_pending;
 use hnsr_body::values::ReservationId;
@@ -77,6 +80,23 @@ pub(crate) fn look_up_circuit(circuits: &[RelayCircuit], places: Places, questio
     circuit_found(place, circuits.len(), row)
 }
 
+// By id, which every call but one goes by: a lookup reads ids and marks alone.
+pub(crate) fn pending_by_id(pending: &[RelayPending], places: Places, id: u64) -> PendingFound
+    ensures { λ r. ⌜ r ≡ pendingFound (at id 0) (heldPending places (now (pending .entry))) ⌝ }
+{
+    let place = find_pending_id(pending, places, id);
+    let row = pending_at(pending, places, place);
+    pending_found(place, pending.len(), row)
+}
+
+pub(crate) fn circuit_by_id(circuits: &[RelayCircuit], places: Places, id: u64) -> CircuitFound
+    ensures { λ r. ⌜ r ≡ circuitFound (at id 0) (heldCircuits places (now (circuits .entry))) ⌝ }
+{
+    let place = find_circuit_id(circuits, places, id);
+    let row = circuit_at(circuits, places, place);
+    circuit_found(place, circuits.len(), row)
+}
+
 fn usage_found(place: usize, places: usize, usage: ReservationUsage) -> UsageFound
     ensures { λ r. ⌜ (r .found ≡ ltb place places) × (r .place ≡ place) × (r .usage ≡ usage) ⌝ }
 {
@@ -105,10 +125,15 @@ fn action_found(place: usize, places: usize, action: InflightAction) -> ActionFo
     }
 }
 
-pub(crate) fn look_up_action(inflight: &[InflightAction], places: Places, question: Question) -> ActionFound
-    ensures { λ r. ⌜ r ≡ actionFound question (heldActions places (now (inflight .entry))) ⌝ }
+pub(crate) fn look_up_action(
+    inflight: &[InflightAction],
+    places: Places,
+    generation: u64,
+    sequence: u64,
+) -> ActionFound
+    ensures { λ r. ⌜ r ≡ actionFound (at generation sequence) (heldActions places (now (inflight .entry))) ⌝ }
 {
-    let place = find_action(inflight, places, question);
+    let place = find_action(inflight, places, generation, sequence);
     let row = action_at(inflight, places, place);
     action_found(place, inflight.len(), row)
 }

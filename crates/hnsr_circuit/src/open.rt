@@ -5,7 +5,7 @@ ghost use Prim.Native.Nat.{_+_};
 ghost use Rattle.hnsr_circuit.specs.Answers.{_then_};
 ghost use Rattle.hnsr_circuit.specs.Ledger.{freshUsage, usageAnswer};
 ghost use Rattle.hnsr_circuit.specs.Open.{openAnswer, admissionAnswer, endpointAnswer, deadlineAnswer, deadlineFor, pendingFor, incomingFor};
-ghost use Rattle.hnsr_circuit.specs.Laws.Opening.{openWork, openGathering, openRows, openPlan, openingOf, incomingOut, ledgerRoom, placedRows};
+ghost use Rattle.hnsr_circuit.specs.Laws.Opening.{openWork, openGathering, openRows, openPlan, openingOf, incomingOut, ledgerRoom, placedRows, placedEntry};
 use crate::answer::HnsrAnswer;
 use crate::answer::HnsrRuntimeError;
 use crate::answer::body_answer;
@@ -301,6 +301,26 @@ pub(crate) fn ledger_room(place: usize, used: usize, places: usize) -> LedgerRoo
         used,
         places,
     }
+}
+
+// The rows of a placed OPEN that ask nothing of actions and ledger: 4, 10 and 8.
+pub(crate) fn placed_entry(
+    config: OpaqueRelayConfig,
+    gathered: OpenGathered,
+    plan: OpenPlan,
+    drawing: Drawing,
+) -> HnsrAnswer
+    ensures { λ r. ⌜ r ≡ placedEntry config gathered plan drawing ⌝ }
+{
+    let waiting = gathered.waiting;
+    let running = gathered.running;
+    let ticket = plan.ticket;
+    let same = same_peer(plan.endpoint, plan.requester);
+    let named = peer_answer(gathered.size);
+    let endpoint = endpoint_room(config, ticket, same, waiting, running);
+    let drawn = draw_answer(drawing);
+    let rest = first_refusal(endpoint, drawn);
+    first_refusal(named, rest)
 }
 
 // The rows of OPEN once ledger records past their expiry are dropped, in order.

@@ -1,5 +1,7 @@
 // WINDOW: its rows, over tests and records by value.
 ghost use mathlib.Core.Path.{_≡_};
+ghost use Rattle.hnsr_circuit.specs.Packet.{circuitAnswer};
+ghost use Rattle.hnsr_circuit.specs.Answers.{bodyAnswer, _then_};
 ghost use Rattle.hnsr_circuit.specs.Window.{creditAnswer};
 ghost use Rattle.hnsr_circuit.specs.Plans.{windowRows, windowPlan};
 use crate::answer::HnsrAnswer;
@@ -32,6 +34,17 @@ pub(crate) fn credit_answer(circuit: RelayCircuit, side: RelaySide, delta: u32) 
     let credit = credit_of(other, circuit) as u64;
     let after = credit + delta as u64;
     check((MAX_WINDOW as u64) < after, HnsrRuntimeError::FlowControl)
+}
+
+// The rows that go by the packet and its circuit alone: 1, 14 and 15.
+pub(crate) fn window_entry(read: WindowRead, named: CircuitFound, peer: HnsrPeerId) -> HnsrAnswer
+    ensures { λ r. ⌜ r ≡ (bodyAnswer (read .result) then circuitAnswer (named .found) (named .circuit) peer) ⌝ }
+{
+    let circuit = named.circuit;
+    let checked = read.result;
+    let body = body_answer(checked);
+    let own = circuit_answer(named.found, circuit, peer);
+    first_refusal(body, own)
 }
 
 // The rows in order.

@@ -1,5 +1,5 @@
 pub mod accept_answered
+pub mod accept_found
 pub mod accept_written
 pub mod handle_accept
 pub mod put_circuit
-pub mod send_opened

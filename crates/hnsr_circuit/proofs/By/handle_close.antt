@@ -1,3 +1,4 @@
+pub mod close_read
 pub mod handle_close
 pub mod plan_close
 pub mod unmark_circuit

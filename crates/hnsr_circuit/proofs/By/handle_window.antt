@@ -1,3 +1,4 @@
 pub mod handle_window
+pub mod pass_window
 pub mod plan_window
 pub mod raise_circuit

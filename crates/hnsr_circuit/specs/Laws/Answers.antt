@@ -2,14 +2,14 @@
 -- never gives.
 use Prim.Native.Nat.{ℕ}
 use mathlib.Core.Path.{_≡_, refl}
-use mathlib.Core.Bool.{Bool, true, false}
+use mathlib.Core.Bool.{Bool, true, false, true≢false}
 use lib.Dec.{eqb}
 use borrow.Author.Tests.{eqb-false}
 use Rattle.hnsr_circuit.specs.declared.answer.HnsrRuntimeError.{HnsrRuntimeError}
 use Rattle.hnsr_circuit.specs.declared.answer.HnsrRuntimeError.the-variants.{Protocol, InvalidConfig, InvalidSession, InvalidPeer, StaleGeneration, GenerationExhausted, ClockRollback, Randomness, Disabled, Capacity, InvalidAdmission, Deadline, UnknownRequest, UnknownCircuit, WrongPeer, UnexpectedOpcode, FlowControl, ByteLimit, NoQueuedData, UnknownAction, CorruptSnapshot, Short, LedgerFull}
 use Rattle.hnsr_circuit.specs.declared.answer.HnsrAnswer.{HnsrAnswer}
 use Rattle.hnsr_circuit.specs.declared.answer.HnsrAnswer.the-variants.{Taken, Refused}
-use Rattle.hnsr_circuit.specs.Answers.{errorNumber, number, check, _then_}
+use Rattle.hnsr_circuit.specs.Answers.{errorNumber, number, check, _then_, taken}
 
 pub check-taken : (b : Bool) (e : HnsrRuntimeError) → check b e ≡ Taken → b ≡ false
 check-taken true e h = cc
@@ -24,6 +24,19 @@ then-taken (Refused e) b h = (h, cc)
 
 pub taken-then : (a b : HnsrAnswer) → a ≡ Taken → b ≡ Taken → (a then b) ≡ Taken
 taken-then a b h k = rw (h, k)
+
+-- ---- the first refusal is the answer, whatever rows come behind
+pub stop : (a x : HnsrAnswer) → taken a ≡ false → a ≡ (a then x)
+stop Taken x t = absurd (true≢false t)
+stop (Refused e) x t = refl
+
+pub stop-two : (a b x : HnsrAnswer) → taken (a then b) ≡ false → (a then b) ≡ (a then b then x)
+stop-two Taken b x t = stop b x t
+stop-two (Refused e) b x t = refl
+
+pub stop-three : (a b c x : HnsrAnswer) → taken (a then b then c) ≡ false → (a then b then c) ≡ (a then b then c then x)
+stop-three Taken b c x t = stop-two b c x t
+stop-three (Refused e) b c x t = refl
 
 -- ---- numbers that are never given
 pub check-never : (m : ℕ) (b : Bool) (e : HnsrRuntimeError) → eqb 0 m ≡ false → eqb (errorNumber e) m ≡ false → eqb (number (check b e)) m ≡ false

@@ -9,8 +9,12 @@ use lib.ListN.{length, getD, set, length-set}
 use borrow.Author.Tests.{ltb-false}
 use Rattle.hns_encoding.specs.Laws.Tests.{cond-map}
 use Rattle.hnsr_body.specs.declared.data_body.WindowRead.{WindowRead}
-use Rattle.hnsr_body.specs.Data.{decodeWindow}
+use Rattle.hnsr_body.specs.declared.detail_body.DetailRead.{DetailRead}
+use Rattle.hnsr_body.specs.Data.{decodeWindow, dataChecked}
+use Rattle.hnsr_body.specs.Detail.{decodeDetail}
 use Rattle.hnsr_body.specs.Values.{mostWindow}
+use Rattle.hnsr_circuit.specs.declared.runtime.Relayed.{Relayed}
+use Rattle.hnsr_circuit.specs.Laws.Calls.{turned-away}
 use Rattle.hnsr_circuit.specs.declared.peer.HnsrPeerId.{HnsrPeerId}
 use Rattle.hnsr_circuit.specs.declared.config.OpaqueRelayConfig.{OpaqueRelayConfig}
 use Rattle.hnsr_circuit.specs.declared.records.RelayPending.{RelayPending}
@@ -38,19 +42,20 @@ use Rattle.hnsr_circuit.specs.Pending.{noPending, namedBy, clearPending}
 use Rattle.hnsr_circuit.specs.Circuits.{noCircuit, circuitAt, sideOf, otherSide, creditOf, charged, raised, clearCircuit}
 use Rattle.hnsr_circuit.specs.Ledger.{noUsage, usageAt, spent}
 use Rattle.hnsr_circuit.specs.Inflight.{actionUnder, dropped, capacityAnswer}
-use Rattle.hnsr_circuit.specs.Question.{circuitAsked, usageAsked, pendingAsked}
+use Rattle.hnsr_circuit.specs.Question.{at, circuitAsked, usageAsked, pendingAsked}
+use Rattle.hnsr_circuit.specs.Lookup.{circuitFound}
 use Rattle.hnsr_circuit.specs.Header.{withCounters, countBytes, countRevoked}
 use Rattle.hnsr_circuit.specs.World.{proceed}
 use Rattle.hnsr_circuit.specs.Queue.{Message, send, actionsScanned}
 use Rattle.hnsr_circuit.specs.Packet.{sender, circuitAnswer}
-use Rattle.hnsr_circuit.specs.Progress.{Result, worldOf, messageOf, packetOf, asking, ending}
+use Rattle.hnsr_circuit.specs.Progress.{Result, worldOf, messageOf, packetOf, asking, ending, handedBack}
 use Rattle.hnsr_circuit.specs.Data.{withData, dataMessage, dataTaken, dataWith, handleData}
 use Rattle.hnsr_circuit.specs.Window.{creditAnswer, withWindow, windowTaken, windowWith, handleWindow}
 use Rattle.hnsr_circuit.specs.Revocation.{withoutActions, withoutPending, endPending, endCircuit}
 use Rattle.hnsr_circuit.specs.Close.{detailAnswer, translated, closeTaken, closePending, closeCircuit, handleClose}
 use Rattle.hnsr_circuit.specs.Message.{passedOn, closeOn}
 use Rattle.hnsr_circuit.specs.Plans.{dataPlanned, windowRows, windowPlanned, closePlanned}
-use Rattle.hnsr_circuit.specs.Laws.Answers.{check-taken, then-taken}
+use Rattle.hnsr_circuit.specs.Laws.Answers.{check-taken, then-taken, stop, stop-two}
 use Rattle.hnsr_circuit.specs.Laws.Lookups.{pick-at}
 use Rattle.hnsr_circuit.specs.Laws.Edits.{edit-set}
 
@@ -103,6 +108,18 @@ module _ (h : OpaqueRelayRuntime) (c : List RelayCircuit) (l : List ReservationU
       es
       ∙ (λ x. ending out (proceed (worldOf (ep x .runtime) p (circuits x) (ledger x) i) (ep x .answer) (send (worldOf (ep x .runtime) p (circuits x) (ledger x) i) (messageOf (ep x .message) body))))
       ∙ ap (ending out) (passes h (withCounters h (countBytes n (h .counters))) p c (edit (circuitAt id) (charged (d .side) n) c) l (edit (usageAt reservation) (spent n) l) i (messageOf (d .message) body) (d .answer))
+
+-- refused by its body or its circuit
+pub data-refused : (h : OpaqueRelayRuntime) (p : List RelayPending) (c : List RelayCircuit) (l : List ReservationUsage) (i : List InflightAction) (q : RelayPacket) (source body e rs out : List ℕ)
+    (f : CircuitFound) (a : HnsrAnswer) (r : Relayed) → f ≡ circuitFound (at (q .«context_id») 0) c
+    → a ≡ (bodyAnswer (dataChecked (length body)) then circuitAnswer (f .found) (f .circuit) (peerOf source)) → taken a ≡ false
+    → (r .runtime ≡ h) × (r .answer ≡ a) × (r .words ≡ 0) → handedBack r p c l i out ≡ ending out (handleData (worldOf h p c l i) (packetOf q source body e rs))
+unfolding handleData dataWith dataTaken sender circuitAsked
+data-refused h p c l i q source body e rs out f a r ef ea t k =
+    let x = bodyAnswer (dataChecked (length body)) in
+    let y = circuitAnswer (any (circuitAt (q .«context_id»)) c) (pick (circuitAt (q .«context_id»)) noCircuit c) (peerOf source) in
+    let b : a ≡ (x then y) = ea ∙ ap (λ (g : CircuitFound). x then circuitAnswer (g .found) (g .circuit) (peerOf source)) ef in
+    turned-away h p c l i out r a _ _ k t (b ∙ stop-two x y _ (ap taken (sym b) ∙ t))
 
 -- ---- WINDOW
 passes-circuit : (h : OpaqueRelayRuntime) (p : List RelayPending) (c c1 : List RelayCircuit) (l : List ReservationUsage) (i : List InflightAction) (m : Message) (a : HnsrAnswer)
@@ -163,6 +180,17 @@ module _ (h : OpaqueRelayRuntime) (c : List RelayCircuit) (i : List InflightActi
       ∙ (λ x. ending out (proceed (worldOf h p (circuits x) l i) (ep x .answer) (send (worldOf h p (circuits x) l i) (messageOf (ep x .message) body))))
       ∙ ap (ending out) (passes-circuit h p c (edit (circuitAt id) (raised (d .side) (d .delta)) c) l i (messageOf (d .message) body) (d .answer))
 
+pub window-refused : (h : OpaqueRelayRuntime) (p : List RelayPending) (c : List RelayCircuit) (l : List ReservationUsage) (i : List InflightAction) (q : RelayPacket) (source body e rs out : List ℕ)
+    (read : WindowRead) (f : CircuitFound) (a : HnsrAnswer) (r : Relayed) → read ≡ decodeWindow body → f ≡ circuitFound (at (q .«context_id») 0) c
+    → a ≡ (bodyAnswer (read .result) then circuitAnswer (f .found) (f .circuit) (peerOf source)) → taken a ≡ false
+    → (r .runtime ≡ h) × (r .answer ≡ a) × (r .words ≡ 0) → handedBack r p c l i out ≡ ending out (handleWindow (worldOf h p c l i) (packetOf q source body e rs))
+unfolding handleWindow windowWith windowTaken sender circuitAsked
+window-refused h p c l i q source body e rs out read f a r er ef ea t k =
+    let x = bodyAnswer (decodeWindow body .result) in
+    let y = circuitAnswer (any (circuitAt (q .«context_id»)) c) (pick (circuitAt (q .«context_id»)) noCircuit c) (peerOf source) in
+    let b : a ≡ (x then y) = ea ∙ (λ j. bodyAnswer (er j .result) then circuitAnswer (ef j .found) (ef j .circuit) (peerOf source)) in
+    turned-away h p c l i out r a _ _ k t (b ∙ stop-two x y _ (ap taken (sym b) ∙ t))
+
 -- ---- CLOSE and ERROR
 -- one record ends: the pending record where there is one, else the circuit
 passes-end : (h h1 : OpaqueRelayRuntime) (p p1 : List RelayPending) (c c1 : List RelayCircuit) (l : List ReservationUsage) (i : List InflightAction)
@@ -211,3 +239,19 @@ module _ (h : OpaqueRelayRuntime) (p : List RelayPending) (c : List RelayCircuit
       ∙ ap (ending out) (passes-end h h₁ p left c closed l i (ended .«circuit_id») id first other body (any n p) (d .answer))
       ∙ ap (λ (m : Message). ending out (proceed (worldOf h p c l i) (d .answer) (cond (any n p) (send (worldOf h₁ left c l (dropped (actionUnder (ended .«circuit_id»)) i)) m) (send (worldOf h₁ p closed l (dropped (actionUnder id) i)) (messageOf other body)))))
       (cond-map (λ (m : Outgoing). messageOf m body) (samePeer (ended .requester) peer) toEndpoint toRequester)
+
+-- refused by its body, or by its rows
+pub detail-refused : (h : OpaqueRelayRuntime) (p : List RelayPending) (c : List RelayCircuit) (l : List ReservationUsage) (i : List InflightAction) (q : RelayPacket) (source body e rs out : List ℕ)
+    (read : DetailRead) (a : HnsrAnswer) (r : Relayed) → read ≡ decodeDetail body → a ≡ bodyAnswer (read .result) → taken a ≡ false
+    → (r .runtime ≡ h) × (r .answer ≡ a) × (r .words ≡ 0) → handedBack r p c l i out ≡ ending out (handleClose (worldOf h p c l i) (packetOf q source body e rs))
+unfolding handleClose closeTaken detailAnswer
+detail-refused h p c l i q source body e rs out read a r er ea t k =
+    let b = ea ∙ ap (λ (x : DetailRead). bodyAnswer (x .result)) er in
+    turned-away h p c l i out r a _ _ k t (b ∙ stop (bodyAnswer (decodeDetail body .result)) _ (ap taken (sym b) ∙ t))
+
+pub close-refused : (h : OpaqueRelayRuntime) (p : List RelayPending) (c : List RelayCircuit) (l : List ReservationUsage) (i : List InflightAction) (q : RelayPacket) (source body e rs out : List ℕ)
+    (plan : ClosePlan) (r : Relayed) → plan ≡ closePlanned h p c q source body → plan .go ≡ false
+    → (r .runtime ≡ h) × (r .answer ≡ plan .answer) × (r .words ≡ 0) → handedBack r p c l i out ≡ ending out (handleClose (worldOf h p c l i) (packetOf q source body e rs))
+unfolding handleClose closeTaken detailAnswer sender circuitAsked pendingAsked
+close-refused h p c l i q source body e rs out plan r ep t k =
+    turned-away h p c l i out r (plan .answer) _ _ k (ap (λ (x : ClosePlan). taken (x .answer)) ep ∙ sym (ap (λ (x : ClosePlan). x .go) ep) ∙ t) (ap (λ (x : ClosePlan). x .answer) ep)

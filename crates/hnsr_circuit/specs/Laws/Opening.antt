@@ -19,8 +19,10 @@ use Rattle.hnsr_body.specs.Accept.{decodeAccept, acceptFields, openedBytes}
 use Rattle.hnsr_body.specs.declared.open_body.OpenRead.{OpenRead}
 use Rattle.hnsr_body.specs.declared.incoming_body.IncomingBody.{IncomingBody}
 use Rattle.hnsr_body.specs.declared.values.ReservationId.{ReservationId}
-use Rattle.hnsr_body.specs.Open.{decodeOpen}
+use Rattle.hnsr_body.specs.Open.{decodeOpen, openFields}
 use Rattle.hnsr_body.specs.Incoming.{incomingBytes}
+use Rattle.hnsr_circuit.specs.declared.runtime.Relayed.{Relayed}
+use Rattle.hnsr_circuit.specs.Laws.Calls.{turned-away}
 use Rattle.hnsr_circuit.specs.declared.accept.AcceptPlan.{AcceptPlan}
 use Rattle.hnsr_circuit.specs.declared.open.OpenGathered.{OpenGathered}
 use Rattle.hnsr_circuit.specs.declared.open.OpenPlan.{OpenPlan}
@@ -65,8 +67,8 @@ use Rattle.hnsr_circuit.specs.Draw.{undrawn, drawsFrom, draws, drawTurn,
 use Rattle.hnsr_circuit.specs.Packet.{Packet, sender}
 use Rattle.hnsr_circuit.specs.Accept.{requestAnswer, acceptAnswer, circuitFor, withAccept, openedFor, openedMessage, acceptTaken, acceptWith, handleAccept}
 use Rattle.hnsr_circuit.specs.Open.{Opening, opening, openAnswer, admissionAnswer, endpointAnswer, deadlineAnswer, deadlineFor, pendingFor, incomingFor, incomingMessage, withOpen, openAdmitted, openPlaced, openBooked, openGranted, openLapsed, handleOpen}
-use Rattle.hnsr_circuit.specs.Progress.{worldOf, messageOf, packetOf, asking}
-use Rattle.hnsr_circuit.specs.Laws.Answers.{check-taken, then-taken}
+use Rattle.hnsr_circuit.specs.Progress.{worldOf, messageOf, packetOf, asking, handedBack, ending}
+use Rattle.hnsr_circuit.specs.Laws.Answers.{check-taken, then-taken, stop-two, stop-three}
 use Rattle.hnsr_circuit.specs.Laws.Lookups.{pick-at, pick-has, place-any}
 use Rattle.hnsr_circuit.specs.Laws.Edits.{edit-set}
 
@@ -208,6 +210,31 @@ module _ (h : OpaqueRelayRuntime) (p : List RelayPending) (c : List RelayCircuit
       ∙ proceed-on a w (withAccept w (ft .pending) (acceptFields body)) (λ x. send x m)
       ∙ ap (λ (k : HnsrAnswer). proceed w k (send (withAccept w (ft .pending) (acceptFields body)) m)) at′)
 
+-- refused by the packet and its pending record, or by the rows as a whole
+pub accept-entered : (h : OpaqueRelayRuntime) (p : List RelayPending) (c : List RelayCircuit) (l : List ReservationUsage) (i : List InflightAction) (q : RelayPacket) (source body e rs out : List ℕ)
+    (f : PendingFound) (read : AcceptRead) (a : HnsrAnswer) (r : Relayed) → f ≡ pendingFound (at (q .«context_id») 0) p → read ≡ decodeAccept body
+    → a ≡ (requestAnswer (f .found) (f .pending) (peerOf source) (q .now) then bodyAnswer (read .result)) → taken a ≡ false
+    → (r .runtime ≡ h) × (r .answer ≡ a) × (r .words ≡ 0) → handedBack r p c l i out ≡ ending out (handleAccept (worldOf h p c l i) (packetOf q source body e rs))
+unfolding handleAccept acceptWith acceptTaken sender pendingAsked
+accept-entered h p c l i q source body e rs out f read a r ef er ea t k =
+    let x = requestAnswer (any (pendingAt (q .«context_id»)) p) (pick (pendingAt (q .«context_id»)) noPending p) (peerOf source) (q .now) in
+    let y = bodyAnswer (decodeAccept body .result) in
+    let b : a ≡ (x then y) = ea ∙ (λ j. requestAnswer (ef j .found) (ef j .pending) (peerOf source) (q .now) then bodyAnswer (er j .result)) in
+    turned-away h p c l i out r a _ _ k t (b ∙ stop-two x y _ (ap taken (sym b) ∙ t))
+
+pub accept-refused : (h : OpaqueRelayRuntime) (p : List RelayPending) (c : List RelayCircuit) (l : List ReservationUsage) (i : List InflightAction) (q : RelayPacket) (source body e rs out : List ℕ)
+    (f : PendingFound) (read : AcceptRead) (a : HnsrAnswer) (r : Relayed) → f ≡ pendingFound (at (q .«context_id») 0) p → read ≡ decodeAccept body
+    → a ≡ acceptRows (h .config) f (peerOf source) (q .now) read (pendingWork (acceptWork f) p) (circuitWork (acceptWork f) c) (tallied true (q .«context_id») (f .pending .requester) i)
+    → taken a ≡ false → (r .runtime ≡ h) × (r .answer ≡ a) × (r .words ≡ 0)
+    → handedBack r p c l i out ≡ ending out (handleAccept (worldOf h p c l i) (packetOf q source body e rs))
+unfolding handleAccept acceptWith
+accept-refused h p c l i q source body e rs out f read a r ef er ea t k =
+    turned-away h p c l i out r a _ _ k t
+    (ea
+    ∙ (λ j. acceptRows (h .config) (ef j) (peerOf source) (q .now) (er j) (pendingWork (acceptWork (ef j)) p) (circuitWork (acceptWork (ef j)) c) (tallied true (q .«context_id») (ef j .pending .requester) i))
+    ∙ accept-taken h p c l i q source body e rs)
+
+
 -- ---- OPEN: numbers
 pub ltb-less : (now n : ℕ) → now < 18446744073709551616 → ltb (top 64 - now) n ≡ ltb (top 64) (now + n)
 ltb-less now n h = split (ltb (top 64) (now + n))
@@ -337,6 +364,14 @@ ledgerRoom place used places = record { found = ltb place places; used = used; p
 abbrev pub ledgerAsked : ReservationId → List ReservationUsage → LedgerRoom
 ledgerAsked id l = record { found = any (usageAt id) l; used = count isUsage l; places = length l }
 
+-- those that ask nothing of actions and ledger
+abbrev pub placedEntry : OpaqueRelayConfig → OpenGathered → OpenPlan → Drawing → HnsrAnswer
+placedEntry c g o d =
+    peerAnswer (g .size)
+    then endpointAnswer c (o .ticket) (samePeer (o .endpoint) (o .requester)) (g .waiting .«of_other» + g .running .«of_other»)
+    (g .waiting .under + g .running .under)
+    then drawAnswer d
+
 abbrev pub placedRows : OpaqueRelayConfig → OpenGathered → OpenPlan → Drawing → ActionScan → LedgerRoom → HnsrAnswer
 placedRows c g o d s r =
     peerAnswer (g .size)
@@ -449,3 +484,32 @@ module _ (h : OpaqueRelayRuntime) (p : List RelayPending) (c : List RelayCircuit
       (ap (λ (y : World). proceed y a (openLapsed y v)) (cond-map (λ (z : List ReservationUsage). worldOf h p c z i) (taken a) (lapsed (q .now) l) l)
       ∙ proceed-on a w x (λ y. openLapsed y v)
       ∙ ap (λ (b : HnsrAnswer). proceed w b (openLapsed x v)) a′)
+
+  -- refused as found, or once ledger records are dropped
+  pub open-refused : (g : OpenGathered) (a : HnsrAnswer) (r : Relayed) (out : List ℕ) → g ≡ gathering q source body endpoint p c → a ≡ openRows (h .config) g
+      → taken a ≡ false → (r .runtime ≡ h) × (r .answer ≡ a) × (r .words ≡ 0)
+      → handedBack r p c l i out ≡ ending out (handleOpen (worldOf h p c l i) (packetOf q source body endpoint rs))
+  unfolding handleOpen
+  open-refused g a r out eg ea t k =
+      turned-away h p c l i out r a _ _ k t (ea ∙ ap (λ (y : OpenGathered). openRows (h .config) y) eg ∙ open-admitted)
+
+  placed-first : placedEntry (h .config) (gathering q source body endpoint p c) plan drawing
+      ≡ (peerAnswer (length endpoint)
+      then endpointAnswer (h .config) (q .ticket) (samePeer (peerOf endpoint) (peerOf source)) (peerWork (worldOf h p c l i) (peerOf endpoint))
+      (reservationWork (worldOf h p c l i) (openFields body .«reservation_id»))
+      then drawAnswer (drawn (worldOf h p c l i) rs))
+  unfolding peerWork reservationWork pendingWork circuitWork drawn idTaken decodeOpen
+  placed-first = refl
+
+  pub placed-refused : (g : OpenGathered) (d : Drawing) (o : OpenPlan) (a : HnsrAnswer) (r : Relayed) (out : List ℕ) → g ≡ gathering q source body endpoint p c
+      → d ≡ drawAll (isTaken p c) undrawn (draws rs) → o ≡ openPlan (h .config) g d → a ≡ placedEntry (h .config) g o d
+      → taken a ≡ false → (r .runtime ≡ h) × (r .answer ≡ a) × (r .words ≡ 0)
+      → handedBack r p c l i out ≡ ending out (openLapsed (worldOf h p c l i) (packetOf q source body endpoint rs))
+  unfolding openLapsed openGranted openPlaced sender
+  placed-refused g d o a r out eg ed eo ea t k =
+      let x = peerAnswer (length endpoint) in
+      let y = endpointAnswer (h .config) (q .ticket) (samePeer (peerOf endpoint) (peerOf source)) (peerWork (worldOf h p c l i) (peerOf endpoint))
+      (reservationWork (worldOf h p c l i) (openFields body .«reservation_id»)) in
+      let z = drawAnswer (drawn (worldOf h p c l i) rs) in
+      let b : a ≡ (x then y then z) = ea ∙ rw (eo, ed, eg) placed-first in
+      turned-away h p c l i out r a _ _ k t (b ∙ stop-three x y z _ (ap taken (sym b) ∙ t))

@@ -6,7 +6,7 @@ use native.Mathlib.Numerals.{add-one}
 use native.Mathlib.Omega.{arith}
 use mathlib.Core.Path.{_≡_, refl, sym, ap, _∙_}
 use mathlib.Core.Bool.{Bool, true, false, cond, _&&_}
-use mathlib.Core.List.{List, [], _∷_, _++_}
+use mathlib.Core.List.{List, [], _∷_, _++_, map}
 use lib.Dec.{ltb}
 use lib.ListN.{length, take, drop, getD, set, drop-of-length-le}
 use lib.Seq.{drop-cons, set-getD}
@@ -72,3 +72,9 @@ module _ {A B C : Type 0} (f : B → A → ℕ → B) where
 pub any-never : {A : Type 0} (t : List A) → any (λ (x : A). false) t ≡ false
 any-never [] = refl
 any-never (x ∷ xs) = any-never xs
+
+-- ---- what stands at the place of a loop that maps what it has passed
+pub map-here : {A : Type 0} (g : A → A) (t : List A) (d : A) (i : ℕ) → i < length t → getD (take i t ++ map g (drop i t)) i d ≡ g (getD t i d)
+map-here g [] d i l = absurd (not-suc-le-zero l)
+map-here g (x ∷ xs) d zero l = refl
+map-here g (x ∷ xs) d (suc i) l = map-here g xs d i (le-of-suc-le-suc l)

@@ -6,12 +6,13 @@ ghost use lib.ListN.{getD, set};
 ghost use Rattle.hns_encoding.specs.Sums.{count};
 ghost use Rattle.hnsr_circuit.specs.Held.{held, heldCircuits, asksUnused};
 ghost use Rattle.hnsr_circuit.specs.Table.{placeOf, next};
-ghost use Rattle.hnsr_circuit.specs.Circuits.{noCircuit, clearCircuit, circuitId};
+ghost use Rattle.hnsr_circuit.specs.Circuits.{noCircuit, clearCircuit, circuitId, circuitAt};
 ghost use Rattle.hnsr_circuit.specs.Question.{circuitHas, circuitWork};
 ghost use Rattle.hnsr_circuit.specs.NextDue.{circuitDue};
 ghost use Rattle.hnsr_circuit.specs.Status.{circuitTotals};
 ghost use Rattle.hnsr_circuit.specs.Circuits.{charged};
 use crate::circuits::circuit_charged;
+use crate::circuits::circuit_is;
 use crate::circuits::is_circuit;
 use crate::circuits::no_circuit;
 use crate::places::Places;
@@ -54,6 +55,23 @@ pub(crate) fn find_circuit(circuits: &[RelayCircuit], places: Places, question: 
         i += 1;
     }
     or_else(unused, i, size)
+}
+
+// The lowest place whose record has the id, else the number of places.
+pub(crate) fn find_circuit_id(circuits: &[RelayCircuit], places: Places, id: u64) -> usize
+    ensures { λ r. ⌜ r ≡ placeOf (circuitAt id) (heldCircuits places (now (circuits .entry))) ⌝ }
+{
+    let size = circuits.len();
+    let end = min_usize(places.circuits, size);
+    let mut i: usize = 0;
+    while i < end {
+        let row = circuits[i];
+        if circuit_is(row, id) {
+            return i;
+        }
+        i += 1;
+    }
+    size
 }
 
 // Of a question that no unused record answers.

@@ -6,16 +6,17 @@ ghost use lib.ListN.{getD, set};
 ghost use Rattle.hns_encoding.specs.Sums.{count};
 ghost use Rattle.hnsr_circuit.specs.Held.{held, heldActions, asksUnused};
 ghost use Rattle.hnsr_circuit.specs.Table.{clear, placeOf};
-ghost use Rattle.hnsr_circuit.specs.Inflight.{noAction, clearAction};
+ghost use Rattle.hnsr_circuit.specs.Inflight.{noAction, clearAction, actionAt, actionUnder, dropped};
 ghost use Rattle.hnsr_circuit.specs.Question.{actionHas};
 ghost use Rattle.hnsr_circuit.specs.Queue.{actionsScanned};
+use crate::inflight::action_is;
+use crate::inflight::action_left;
+use crate::inflight::action_under;
 use crate::inflight::action_unmarked;
 use crate::inflight::is_action;
 use crate::inflight::no_action;
 use crate::places::Places;
-use crate::places::asks_unused;
 use crate::places::held_action;
-use crate::places::or_else;
 use crate::places::spared;
 use crate::question::action_has;
 use crate::records::ActionQuestion;
@@ -28,22 +29,26 @@ use crate::scan::one_more;
 use crate::scan::within;
 use hns_encoding::numbers::min_usize;
 
-// The lowest place whose record has what is asked, else the number of places.
-pub(crate) fn find_action(inflight: &[InflightAction], places: Places, question: Question) -> usize
-    ensures { λ r. ⌜ r ≡ placeOf (actionHas question) (heldActions places (now (inflight .entry))) ⌝ }
+// The lowest place whose record has the number, else the number of places.
+pub(crate) fn find_action(
+    inflight: &[InflightAction],
+    places: Places,
+    generation: u64,
+    sequence: u64,
+) -> usize
+    ensures { λ r. ⌜ r ≡ placeOf (actionAt generation sequence) (heldActions places (now (inflight .entry))) ⌝ }
 {
     let size = inflight.len();
     let end = min_usize(places.actions, size);
-    let unused = asks_unused(question);
     let mut i: usize = 0;
     while i < end {
         let row = inflight[i];
-        if action_has(row, question) {
+        if action_is(row, generation, sequence) {
             return i;
         }
         i += 1;
     }
-    or_else(unused, i, size)
+    size
 }
 
 // Of a question that no unused record answers.
@@ -124,6 +129,30 @@ pub(crate) fn scan_actions(inflight: &[InflightAction], places: Places, question
     while i < end {
         let row = inflight[i];
         scan = action_scanned(scan, row, question, i);
+        i += 1;
+    }
+    spared(scan, i, size)
+}
+
+// The actions of a circuit dropped, and all that a message asks of what is left, in one pass.
+pub(crate) fn drop_and_scan(
+    inflight: &mut [InflightAction],
+    places: Places,
+    id: u64,
+    question: ActionQuestion,
+) -> ActionScan
+    ensures { λ r. ⌜ (heldActions places (now (inflight .exit)) ≡ dropped (actionUnder id) (heldActions places (now (inflight .entry)))) × (r ≡ actionsScanned question (dropped (actionUnder id) (heldActions places (now (inflight .entry))))) ⌝ }
+{
+    let size = inflight.len();
+    let end = min_usize(places.actions, size);
+    let mut scan = no_scan(size);
+    let mut i: usize = 0;
+    while i < end {
+        let row = inflight[i];
+        let gone = action_under(row, id);
+        let left = action_left(row, gone);
+        unmark_action(inflight, gone, i);
+        scan = action_scanned(scan, left, question, i);
         i += 1;
     }
     spared(scan, i, size)

@@ -6,11 +6,12 @@ ghost use lib.ListN.{getD, set};
 ghost use Rattle.hns_encoding.specs.Sums.{count};
 ghost use Rattle.hnsr_circuit.specs.Held.{held, heldPending, asksUnused};
 ghost use Rattle.hnsr_circuit.specs.Table.{placeOf, next};
-ghost use Rattle.hnsr_circuit.specs.Pending.{noPending, clearPending, pendingId};
+ghost use Rattle.hnsr_circuit.specs.Pending.{noPending, clearPending, pendingId, pendingAt};
 ghost use Rattle.hnsr_circuit.specs.Question.{pendingHas, pendingWork};
 ghost use Rattle.hnsr_circuit.specs.NextDue.{pendingDue};
 use crate::pending::is_pending;
 use crate::pending::no_pending;
+use crate::pending::pending_is;
 use crate::places::Places;
 use crate::places::asks_unused;
 use crate::places::held_pending;
@@ -47,6 +48,23 @@ pub(crate) fn find_pending(pending: &[RelayPending], places: Places, question: Q
         i += 1;
     }
     or_else(unused, i, size)
+}
+
+// The lowest place whose record has the id, else the number of places.
+pub(crate) fn find_pending_id(pending: &[RelayPending], places: Places, id: u64) -> usize
+    ensures { λ r. ⌜ r ≡ placeOf (pendingAt id) (heldPending places (now (pending .entry))) ⌝ }
+{
+    let size = pending.len();
+    let end = min_usize(places.pending, size);
+    let mut i: usize = 0;
+    while i < end {
+        let row = pending[i];
+        if pending_is(row, id) {
+            return i;
+        }
+        i += 1;
+    }
+    size
 }
 
 // Of a question that no unused record answers.

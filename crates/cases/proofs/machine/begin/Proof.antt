@@ -11,20 +11,8 @@ configured-requires c = search needs
 new-requires : tie.Need-new-requires
 new-requires c = search needs
 
-same-length : tie.Need-same-length
-same-length c = search needs
-
-same-length-2 : tie.Need-same-length-2
-same-length-2 c = search needs
-
-same-length-3 : tie.Need-same-length-3
-same-length-3 c = search needs
-
-same-length-4 : tie.Need-same-length-4
-same-length-4 c = search needs
-
 returns : tie.Need-returns
 returns c = search needs
 
 pub begin-spec : {M : Type 1} → statement M
-begin-spec = tie.close (tie.spec configured-requires new-requires same-length same-length-2 same-length-3 same-length-4 returns)
+begin-spec = tie.close (tie.spec configured-requires new-requires returns)

@@ -6,6 +6,7 @@ pub mod circuit_totals
 pub mod circuit_work
 pub mod count_circuit
 pub mod find_circuit
+pub mod find_circuit_id
 pub mod next_circuit
 pub mod set_circuit
 pub mod trim_circuits

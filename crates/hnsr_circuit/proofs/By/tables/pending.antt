@@ -1,5 +1,6 @@
 pub mod count_pending
 pub mod find_pending
+pub mod find_pending_id
 pub mod next_pending
 pub mod pending_at
 pub mod pending_due

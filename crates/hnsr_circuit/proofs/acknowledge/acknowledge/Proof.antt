@@ -4,7 +4,6 @@ use Prim.Native.Nat.{_<_}
 use mathlib.Core.Path.{sym, ap, _∙_}
 use mathlib.Core.Bool.{_||_}
 use lib.ListN.{length}
-use Rattle.hnsr_circuit.specs.declared.records.Question.{Question}
 use lib.Dec.{ltb}
 use Rattle.hnsr_circuit.specs.declared.answer.HnsrRuntimeError.the-variants.{Short}
 use Rattle.hnsr_circuit.specs.declared.records.ActionFound.{ActionFound}
@@ -14,7 +13,6 @@ use Rattle.hnsr_circuit.specs.World.{Outcome}
 use Rattle.hnsr_circuit.specs.Table.{pick}
 use Rattle.hnsr_circuit.specs.Inflight.{noAction, actionAt}
 use Rattle.hnsr_circuit.specs.Question.{actionAsked}
-use Rattle.hnsr_circuit.specs.Lookup.{actionFound}
 use Rattle.hnsr_circuit.specs.Entry.{acknowledgeWords, roomAnswer, tablesShort}
 use Rattle.hnsr_circuit.specs.Progress.{worldOf, ending}
 use Rattle.hnsr_circuit.specs.Acknowledge.{generationAnswer, actionAnswer, acknowledgeTaken, acknowledgeAction, acknowledge}
@@ -29,9 +27,6 @@ use Rattle.hnsr_circuit.proofs.acknowledge.acknowledge.Proof.Tie as tie
 
 bound : (c : tie.Start) → length (c .args .out .now) < 18446744073709551616
 bound c = search needs
-
-at-requires : tie.Need-at-requires
-at-requires c = search needs
 
 look-up-action-requires : tie.Need-look-up-action-requires
 look-up-action-requires c = search needs
@@ -63,12 +58,12 @@ same-length-4 c = search needs
 returns : tie.Need-returns
 unfolding step acknowledge acknowledgeTaken roomAnswer tablesShort actionAsked
 returns c = λ l₀.
-    let s = c .before .before .before .before .before .before .before .before .before .before .before .before .before .before .before .before .before .before .before in
+    let s = c .before .before .before .before .before .before .before .before .before .before .before .before .before .before .before .before .before .before in
     let a = s .args in
     let l = heldLedger (a .places) l₀ in
     let w = worldOf (a .runtime) (heldPending (a .places) (a .pending .now)) (heldCircuits (a .places) (a .circuits .now)) l (heldActions (a .places) (a .inflight .now)) in
     let call = callAcknowledge (a .generation) (a .sequence) (a .delivered) (length (a .out .now)) in
-    let ef = c .before .before .before .before .before .before .before .before .before .before .before .before .before .before .look-up-action .ensures ∙ ap (λ (q : Question). actionFound q (heldActions (a .places) (a .inflight .now))) (c .before .before .before .before .before .before .before .before .before .before .before .before .before .before .before .before .at .ensures) in
+    let ef = c .before .before .before .before .before .before .before .before .before .before .before .before .before .before .look-up-action .ensures in
     let found = ap (λ (f : ActionFound). f .found) ef in
     let action = ap (λ (f : ActionFound). f .action) ef in
     let answer = c .before .before .before .before .before .before .before .before .before .before .before .before .acknowledge-answer .ensures ∙ (λ x. check (ltb (length (a .out .now)) acknowledgeWords || (c .before .before .before .before .before .before .before .before .before .before .before .before .before .too-few .ensures ∙ few-held (a .runtime .config) (a .places) (a .pending .now) (a .circuits .now) (a .inflight .now)) x) Short then generationAnswer (a .runtime .generation) (a .generation) then actionAnswer (found x)) in
@@ -86,12 +81,12 @@ same-length-5 c = search needs
 returns-2 : tie.Need-returns-2
 unfolding step acknowledge acknowledgeTaken roomAnswer tablesShort actionAsked
 returns-2 c = λ l₀.
-    let s = c .before .before .before .before .before .before .before .before .before .before in
+    let s = c .before .before .before .before .before .before .before .before .before in
     let a = s .args in
     let l = heldLedger (a .places) l₀ in
     let w = worldOf (a .runtime) (heldPending (a .places) (a .pending .now)) (heldCircuits (a .places) (a .circuits .now)) l (heldActions (a .places) (a .inflight .now)) in
     let call = callAcknowledge (a .generation) (a .sequence) (a .delivered) (length (a .out .now)) in
-    let ef = c .before .before .before .before .before .look-up-action .ensures ∙ ap (λ (q : Question). actionFound q (heldActions (a .places) (a .inflight .now))) (c .before .before .before .before .before .before .before .at .ensures) in
+    let ef = c .before .before .before .before .before .look-up-action .ensures in
     let found = ap (λ (f : ActionFound). f .found) ef in
     let answer = c .before .before .before .acknowledge-answer .ensures ∙ (λ x. check (ltb (length (a .out .now)) acknowledgeWords || (c .before .before .before .before .too-few .ensures ∙ few-held (a .runtime .config) (a .places) (a .pending .now) (a .circuits .now) (a .inflight .now)) x) Short then generationAnswer (a .runtime .generation) (a .generation) then actionAnswer (found x)) in
     let small = bound s in
@@ -100,4 +95,4 @@ returns-2 c = λ l₀.
     ∙ whole (a .out .now) w call (omega arith) (omega arith)
 
 pub acknowledge-spec : {M : Type 1} → statement M
-acknowledge-spec = tie.close (tie.spec at-requires look-up-action-requires too-few-requires acknowledge-answer-requires is-taken-requires acknowledge-action-requires same-length same-length-2 same-length-3 same-length-4 returns refused-requires same-length-5 returns-2)
+acknowledge-spec = tie.close (tie.spec look-up-action-requires too-few-requires acknowledge-answer-requires is-taken-requires acknowledge-action-requires same-length same-length-2 same-length-3 same-length-4 returns refused-requires same-length-5 returns-2)

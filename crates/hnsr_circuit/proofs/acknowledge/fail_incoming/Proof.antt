@@ -2,12 +2,10 @@
 mod Tie
 use mathlib.Core.Path.{sym, ap, _∙_}
 use lib.ListN.{set}
-use Rattle.hnsr_circuit.specs.declared.records.Question.{Question}
 use Rattle.hnsr_circuit.specs.declared.records.PendingFound.{PendingFound}
 use Rattle.hnsr_circuit.specs.World.{Outcome}
 use Rattle.hnsr_circuit.specs.Pending.{clearPending}
 use Rattle.hnsr_circuit.specs.Question.{pendingAsked}
-use Rattle.hnsr_circuit.specs.Lookup.{pendingFound}
 use Rattle.hnsr_circuit.specs.Progress.{ending}
 use Rattle.hnsr_circuit.specs.Revoking.{errorOut}
 use Rattle.hnsr_circuit.specs.Laws.Acknowledging.{incoming-failed, none-failed}
@@ -19,11 +17,8 @@ use Rattle.hnsr_circuit.specs.Laws.Held.{stored-seen}
 use Rattle.hnsr_circuit.proofs.acknowledge.fail_incoming.Statement.{statement}
 use Rattle.hnsr_circuit.proofs.acknowledge.fail_incoming.Proof.Tie as tie
 
-at-requires : tie.Need-at-requires
-at-requires c = search needs
-
-look-up-pending-requires : tie.Need-look-up-pending-requires
-look-up-pending-requires c = search needs
+pending-by-id-requires : tie.Need-pending-by-id-requires
+pending-by-id-requires c = search needs
 
 pending-gone-requires : tie.Need-pending-gone-requires
 pending-gone-requires c = search needs
@@ -49,11 +44,11 @@ same-length-3 c = search needs
 returns : tie.Need-returns
 unfolding pendingAsked
 returns c = λ cs₀ l₀.
-    let a = c .before .before .before .before .before .before .before .before .before .before .before .before .before .before .before .before .before .before .args in
+    let a = c .before .before .before .before .before .before .before .before .before .before .before .before .before .before .before .before .before .args in
     let cs = heldCircuits (a .places) cs₀ in
     let l = heldLedger (a .places) l₀ in
     let p = heldPending (a .places) (a .pending .now) in
-    let ef = c .before .before .before .before .before .before .before .before .before .before .before .before .before .before .look-up-pending .ensures ∙ ap (λ (q : Question). pendingFound q (heldPending (a .places) (a .pending .now))) (c .before .before .before .before .before .before .before .before .before .before .before .before .before .before .before .before .at .ensures) in
+    let ef = c .before .before .before .before .before .before .before .before .before .before .before .before .before .before .pending-by-id .ensures in
     let e = c .before .before .before .before .before .before .before .before .before .before .before .before .fail-plan .ensures in
     let found = sym (e .0 ∙ ap (λ (f : PendingFound). f .found) ef) ∙ c .before .before .before .before .before .before .before .before .before .if1 .taken in
     let place = e .1 ∙ ap (λ (f : PendingFound). f .place) ef in
@@ -73,13 +68,13 @@ same-length-4 c = search needs
 returns-2 : tie.Need-returns-2
 unfolding pendingAsked
 returns-2 c = λ cs₀ l₀.
-    let a = c .before .before .before .before .before .before .before .before .before .before .args in
+    let a = c .before .before .before .before .before .before .before .before .before .args in
     let cs = heldCircuits (a .places) cs₀ in
     let l = heldLedger (a .places) l₀ in
-    let ef = c .before .before .before .before .before .before .look-up-pending .ensures ∙ ap (λ (q : Question). pendingFound q (heldPending (a .places) (a .pending .now))) (c .before .before .before .before .before .before .before .before .at .ensures) in
+    let ef = c .before .before .before .before .before .before .pending-by-id .ensures in
     let none = sym (c .before .before .before .before .fail-plan .ensures .0 ∙ ap (λ (f : PendingFound). f .found) ef) ∙ c .before .if1 .left in
     places-kept (c .taken-with .result) (a .pending .now) cs₀ l₀ (a .inflight .now) (a .out .now) (a .places) (c .taken-with .ensures .1)
     ∙ none-failed (a .runtime) (heldPending (a .places) (a .pending .now)) cs l (heldActions (a .places) (a .inflight .now)) (a .id) (c .taken-with .result) (a .out .now) none (c .taken-with .ensures .0)
 
 pub fail-incoming-spec : {M : Type 1} → statement M
-fail-incoming-spec = tie.close (tie.spec at-requires look-up-pending-requires pending-gone-requires fail-plan-requires set-pending-requires send-notice-requires same-length same-length-2 same-length-3 returns taken-with-requires same-length-4 returns-2)
+fail-incoming-spec = tie.close (tie.spec pending-by-id-requires pending-gone-requires fail-plan-requires set-pending-requires send-notice-requires same-length same-length-2 same-length-3 returns taken-with-requires same-length-4 returns-2)

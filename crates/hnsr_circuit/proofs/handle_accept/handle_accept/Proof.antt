@@ -1,49 +1,33 @@
--- What was found and read decides; where the answer is taken the tables are the definition's, and OPENED is sent.
+-- What the packet and its pending record refuse is refused; else the rows decide.
 mod Tie
-use mathlib.Core.Path.{ap, _∙_, sym}
-use Rattle.hnsr_circuit.specs.declared.records.Question.{Question}
-use Rattle.hnsr_circuit.specs.World.{Outcome, proceed}
-use Rattle.hnsr_circuit.specs.Lookup.{pendingFound}
-use Rattle.hnsr_circuit.specs.Progress.{ending, messageOf}
-use Rattle.hnsr_circuit.specs.Laws.Opening.{accept-ends}
+use Rattle.hnsr_circuit.specs.declared.peer.HnsrPeerId.{HnsrPeerId}
+use Rattle.hnsr_circuit.specs.Answers.{bodyAnswer, _then_}
+use Rattle.hnsr_circuit.specs.Accept.{requestAnswer}
+use Rattle.hnsr_circuit.specs.Laws.Opening.{accept-entered}
+use mathlib.Core.Path.{sym, ap, _∙_}
 use borrow.Author.Needs.{needs}
-use Rattle.hnsr_circuit.specs.Queue.{send}
-use Rattle.hnsr_body.specs.Accept.{openedBytes}
-use Rattle.hnsr_circuit.specs.Pending.{clearPending}
-use Rattle.hnsr_circuit.specs.Held.{heldPending, heldCircuits, heldLedger, heldActions, worldSeen}
-use Rattle.hnsr_circuit.specs.declared.places.Places.{Places}
+use Rattle.hnsr_circuit.specs.Held.{heldPending, heldCircuits, heldLedger, heldActions}
+use Rattle.hnsr_circuit.specs.Laws.HeldTables.{places-kept}
 use Rattle.hnsr_circuit.proofs.handle_accept.handle_accept.Statement.{statement}
 use Rattle.hnsr_circuit.proofs.handle_accept.handle_accept.Proof.Tie as tie
 
-at-requires : tie.Need-at-requires
-at-requires c = search needs
-
-look-up-pending-requires : tie.Need-look-up-pending-requires
-look-up-pending-requires c = search needs
+pending-by-id-requires : tie.Need-pending-by-id-requires
+pending-by-id-requires c = search needs
 
 decode-requires : tie.Need-decode-requires
 decode-requires c = search needs
 
-accept-answered-requires : tie.Need-accept-answered-requires
-accept-answered-requires c = search needs
+peer-of-requires : tie.Need-peer-of-requires
+peer-of-requires c = search needs
 
-accept-plan-requires : tie.Need-accept-plan-requires
-accept-plan-requires c = search needs
+accept-entry-requires : tie.Need-accept-entry-requires
+accept-entry-requires c = search needs
 
-found-unmarked-requires : tie.Need-found-unmarked-requires
-found-unmarked-requires c = search needs
+is-taken-requires : tie.Need-is-taken-requires
+is-taken-requires c = search needs
 
-circuit-for-requires : tie.Need-circuit-for-requires
-circuit-for-requires c = search needs
-
-accept-written-requires : tie.Need-accept-written-requires
-accept-written-requires c κs = let e = c .before .before .before .before .before .before .before .found-unmarked .ensures in ap clearPending e ∙ sym e
-
-with-circuits-requires : tie.Need-with-circuits-requires
-with-circuits-requires c = search needs
-
-send-opened-requires : tie.Need-send-opened-requires
-send-opened-requires c = search needs
+accept-found-requires : tie.Need-accept-found-requires
+accept-found-requires c = search needs
 
 same-length : tie.Need-same-length
 same-length c = search needs
@@ -58,16 +42,21 @@ same-length-4 : tie.Need-same-length-4
 same-length-4 c = search needs
 
 returns : tie.Need-returns
-returns c = λ l₀ e rs.
-    let a = c .before .before .before .before .before .before .before .before .before .before .before .before .before .before .before .before .before .before .before .before .before .before .before .before .before .before .before .before .before .before .before .before .args in
-    let l = heldLedger (a .places) l₀ in
-    let found = c .before .before .before .before .before .before .before .before .before .before .before .before .before .before .before .before .before .before .before .before .before .before .before .before .before .before .look-up-pending .ensures ∙ ap (λ (q : Question). pendingFound q (heldPending (a .places) (a .pending .now))) (c .before .before .before .before .before .before .before .before .before .before .before .before .before .before .before .before .before .before .before .before .before .before .before .before .before .before .before .before .at .ensures) in
-    let wrote = c .before .before .before .before .before .before .before .before .before .before .accept-written .ensures in
-    c .before .before .before .send-opened .ensures (c .before .before .before .before .before .before .before .before .before .before .accept-written .last .0) (c .before .before .before .before .before .before .before .before .before .before .accept-written .last .1 .0) l₀
-    ∙ ap (λ (n : Places). ending (a .out .now) (let w = worldSeen (c .before .before .before .before .before .before .before .before .before .before .before .before .before .before .before .before .before .before .before .accept-plan .result .runtime) n (c .before .before .before .before .before .before .before .before .before .before .accept-written .last .0) (c .before .before .before .before .before .before .before .before .before .before .accept-written .last .1 .0) l₀ (c .before .before .before .before .before .before .before .before .before .before .accept-written .last .1 .1 .0) in proceed w (c .before .before .before .before .before .before .before .before .before .before .before .before .before .before .before .before .before .before .before .before .accept-answered .result) (send w (messageOf (c .before .before .before .before .before .before .before .before .before .before .before .before .before .before .before .before .before .before .before .accept-plan .result .message) (openedBytes (c .before .before .before .before .before .before .before .before .before .before .before .before .before .before .before .before .before .before .before .accept-plan .result .opened)))))) (c .before .before .before .before .before .before .with-circuits .ensures)
-    ∙ ap (λ (o : Outcome). ending (a .out .now) o) (accept-ends (a .runtime) (heldPending (a .places) (a .pending .now)) (heldCircuits (a .places) (a .circuits .now)) l (heldActions (a .places) (a .inflight .now)) (a .packet) (a .source .now) (a .body .now) e rs
-    (c .before .before .before .before .before .before .before .before .before .before .before .before .before .before .before .before .before .before .before .before .before .before .before .before .before .before .look-up-pending .result) (c .before .before .before .before .before .before .before .before .before .before .before .before .before .before .before .before .before .before .before .before .before .before .before .before .before .decode .result) (c .before .before .before .before .before .before .before .before .before .before .before .before .before .before .before .before .before .before .before .before .accept-answered .result) (c .before .before .before .before .before .before .before .before .before .before .before .before .before .before .before .before .before .before .before .accept-plan .result) (c .before .before .before .before .before .before .before .before .before .before .before .before .before .before .before .before .before .before .found-unmarked .result) (c .before .before .before .before .before .before .before .before .before .before .before .before .before .before .before .before .before .circuit-for .result) _ _ _
-    found (c .before .before .before .before .before .before .before .before .before .before .before .before .before .before .before .before .before .before .before .before .before .before .before .before .before .decode .ensures) (c .before .before .before .before .before .before .before .before .before .before .before .before .before .before .before .before .before .before .before .before .accept-answered .ensures) (c .before .before .before .before .before .before .before .before .before .before .before .before .before .before .before .before .before .before .before .accept-plan .ensures) (c .before .before .before .before .before .before .before .before .before .before .before .before .before .before .before .before .before .before .found-unmarked .ensures) (c .before .before .before .before .before .before .before .before .before .before .before .before .before .before .before .before .before .circuit-for .ensures) (wrote .0) (wrote .1) (wrote .2))
+returns c = λ l₀ e rs. c .before .before .before .before .before .accept-found .ensures l₀ (c .before .before .before .before .before .before .before .before .before .before .before .before .before .before .before .before .before .before .before .before .args .body .now) e rs (c .before .before .before .before .before .before .before .before .before .before .before .before .before .before .before .pending-by-id .ensures) (c .before .before .before .before .before .before .before .before .before .before .before .before .before .before .decode .ensures)
+
+refused-requires : tie.Need-refused-requires
+refused-requires c = search needs
+
+same-length-5 : tie.Need-same-length-5
+same-length-5 c = search needs
+
+returns-2 : tie.Need-returns-2
+returns-2 c = λ l₀ e rs.
+    let a = c .before .before .before .before .before .before .before .before .before .before .before .args in
+    let n = a .places in
+    let entered = c .before .before .before .accept-entry .ensures ∙ ap (λ (x : HnsrPeerId). requestAnswer (c .before .before .before .before .before .before .pending-by-id .result .found) (c .before .before .before .before .before .before .pending-by-id .result .pending) x (a .packet .now) then bodyAnswer (c .before .before .before .before .before .decode .result .result)) (c .before .before .before .before .peer-of .ensures) in
+    places-kept (c .refused .result) (a .pending .now) (a .circuits .now) l₀ (a .inflight .now) (a .out .now) n (c .refused .ensures .1)
+    ∙ accept-entered (a .runtime) (heldPending n (a .pending .now)) (heldCircuits n (a .circuits .now)) (heldLedger n l₀) (heldActions n (a .inflight .now)) (a .packet) (a .source .now) (a .body .now) e rs (a .out .now) (c .before .before .before .before .before .before .pending-by-id .result) (c .before .before .before .before .before .decode .result) (c .before .before .before .accept-entry .result) (c .refused .result) (c .before .before .before .before .before .before .pending-by-id .ensures) (c .before .before .before .before .before .decode .ensures) entered (sym (c .before .before .is-taken .ensures) ∙ c .before .if1 .left) (c .refused .ensures .0)
 
 pub handle-accept-spec : {M : Type 1} → statement M
-handle-accept-spec = tie.close (tie.spec at-requires look-up-pending-requires decode-requires accept-answered-requires accept-plan-requires found-unmarked-requires circuit-for-requires accept-written-requires with-circuits-requires send-opened-requires same-length same-length-2 same-length-3 same-length-4 returns)
+handle-accept-spec = tie.close (tie.spec pending-by-id-requires decode-requires peer-of-requires accept-entry-requires is-taken-requires accept-found-requires same-length same-length-2 same-length-3 same-length-4 returns refused-requires same-length-5 returns-2)

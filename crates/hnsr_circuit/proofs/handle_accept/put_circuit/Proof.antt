@@ -16,17 +16,14 @@ use Rattle.hnsr_circuit.specs.Laws.Held.{length-held, put-upto, put-held
 use Rattle.hnsr_circuit.proofs.handle_accept.put_circuit.Statement.{statement}
 use Rattle.hnsr_circuit.proofs.handle_accept.put_circuit.Proof.Tie as tie
 
-at-requires : tie.Need-at-requires
-at-requires c = search needs
-
-find-circuit-requires : tie.Need-find-circuit-requires
-find-circuit-requires c = search needs
+find-circuit-id-requires : tie.Need-find-circuit-id-requires
+find-circuit-id-requires c = search needs
 
 unused-requires : tie.Need-unused-requires
 unused-requires c = search needs
 
-find-circuit-requires-2 : tie.Need-find-circuit-requires-2
-find-circuit-requires-2 c = search needs
+find-circuit-requires : tie.Need-find-circuit-requires
+find-circuit-requires c = search needs
 
 put-place-requires : tie.Need-put-place-requires
 put-place-requires c = search needs
@@ -43,12 +40,12 @@ same-length c = search needs
 returns : tie.Need-returns
 unfolding circuitAsked circuitAt isCircuit
 returns c =
-    let a = c .before .before .before .before .before .before .before .before .before .before .before .args in
+    let a = c .before .before .before .before .before .before .before .before .before .before .args in
     let n = a .places .circuits in
     let r = a .circuits .now in
     let t = heldCircuits (a .places) r in
-    let old = c .before .before .before .before .before .before .before .before .find-circuit .ensures ∙ ap (λ (q : Question). placeOf (circuitHas q) t) (c .before .before .before .before .before .before .before .before .before .before .at .ensures) in
-    let spare = c .before .before .before .before .before .find-circuit2 .ensures ∙ ap (λ (q : Question). placeOf (circuitHas q) t) (c .before .before .before .before .before .before .before .unused .ensures) in
+    let old = c .before .before .before .before .before .before .before .before .find-circuit-id .ensures in
+    let spare = c .before .before .before .before .before .find-circuit .ensures ∙ ap (λ (q : Question). placeOf (circuitHas q) t) (c .before .before .before .before .before .before .before .unused .ensures) in
     let long = sym (length-held clearCircuit n r) in
     let place = c .before .before .before .before .put-place .ensures ∙ (λ x. putPlace (old x) (long x) (spare x)) ∙ put-place (circuitAt (a .id)) (non isCircuit) t in
     let most = put-upto clearCircuit isCircuit (circuitAt (a .id)) (λ x. refl) (λ x. refl) n r in
@@ -56,4 +53,4 @@ returns c =
     ∙ ap (λ (m : ℕ). cond (a .go) (set t m (a .row)) t) place
 
 pub put-circuit-spec : {M : Type 1} → statement M
-put-circuit-spec = tie.close (tie.spec at-requires find-circuit-requires unused-requires find-circuit-requires-2 put-place-requires set-circuit-requires raised-requires same-length returns)
+put-circuit-spec = tie.close (tie.spec find-circuit-id-requires unused-requires find-circuit-requires put-place-requires set-circuit-requires raised-requires same-length returns)

@@ -16,17 +16,14 @@ use Rattle.hnsr_circuit.specs.Laws.Held.{length-held, put-upto, put-held
 use Rattle.hnsr_circuit.proofs.handle_open.put_pending.Statement.{statement}
 use Rattle.hnsr_circuit.proofs.handle_open.put_pending.Proof.Tie as tie
 
-at-requires : tie.Need-at-requires
-at-requires c = search needs
-
-find-pending-requires : tie.Need-find-pending-requires
-find-pending-requires c = search needs
+find-pending-id-requires : tie.Need-find-pending-id-requires
+find-pending-id-requires c = search needs
 
 unused-requires : tie.Need-unused-requires
 unused-requires c = search needs
 
-find-pending-requires-2 : tie.Need-find-pending-requires-2
-find-pending-requires-2 c = search needs
+find-pending-requires : tie.Need-find-pending-requires
+find-pending-requires c = search needs
 
 put-place-requires : tie.Need-put-place-requires
 put-place-requires c = search needs
@@ -43,12 +40,12 @@ same-length c = search needs
 returns : tie.Need-returns
 unfolding pendingAsked pendingAt isPending
 returns c =
-    let a = c .before .before .before .before .before .before .before .before .before .before .before .args in
+    let a = c .before .before .before .before .before .before .before .before .before .before .args in
     let n = a .places .pending in
     let r = a .pending .now in
     let t = heldPending (a .places) r in
-    let old = c .before .before .before .before .before .before .before .before .find-pending .ensures ∙ ap (λ (q : Question). placeOf (pendingHas q) t) (c .before .before .before .before .before .before .before .before .before .before .at .ensures) in
-    let spare = c .before .before .before .before .before .find-pending2 .ensures ∙ ap (λ (q : Question). placeOf (pendingHas q) t) (c .before .before .before .before .before .before .before .unused .ensures) in
+    let old = c .before .before .before .before .before .before .before .before .find-pending-id .ensures in
+    let spare = c .before .before .before .before .before .find-pending .ensures ∙ ap (λ (q : Question). placeOf (pendingHas q) t) (c .before .before .before .before .before .before .before .unused .ensures) in
     let long = sym (length-held clearPending n r) in
     let place = c .before .before .before .before .put-place .ensures ∙ (λ x. putPlace (old x) (long x) (spare x)) ∙ put-place (pendingAt (a .id)) (non isPending) t in
     let most = put-upto clearPending isPending (pendingAt (a .id)) (λ x. refl) (λ x. refl) n r in
@@ -56,4 +53,4 @@ returns c =
     ∙ ap (λ (m : ℕ). cond (a .go) (set t m (a .row)) t) place
 
 pub put-pending-spec : {M : Type 1} → statement M
-put-pending-spec = tie.close (tie.spec at-requires find-pending-requires unused-requires find-pending-requires-2 put-place-requires set-pending-requires raised-requires same-length returns)
+put-pending-spec = tie.close (tie.spec find-pending-id-requires unused-requires find-pending-requires put-place-requires set-pending-requires raised-requires same-length returns)

@@ -4,11 +4,11 @@ use mathlib.Core.Path.{sym, ap, _∙_}
 use Prim.Native.Nat.{ℕ}
 use lib.Dec.{ltb}
 use lib.ListN.{getD}
-use Rattle.hnsr_circuit.specs.Inflight.{noAction, clearAction}
+use Rattle.hnsr_circuit.specs.Inflight.{noAction, clearAction, actionAt}
 use Rattle.hnsr_circuit.specs.Laws.Held.{length-held}
-use Rattle.hnsr_circuit.specs.Question.{actionHas}
 use Rattle.hnsr_circuit.specs.Laws.Lookups.{place-any, pick-at}
 use borrow.Author.Needs.{needs}
+use Rattle.hnsr_circuit.specs.Question.{actionAsked}
 use Rattle.hnsr_circuit.specs.Held.{heldActions}
 use Rattle.hnsr_circuit.proofs.lookup.look_up_action.Statement.{statement}
 use Rattle.hnsr_circuit.proofs.lookup.look_up_action.Proof.Tie as tie
@@ -23,10 +23,11 @@ action-found-requires : tie.Need-action-found-requires
 action-found-requires c = search needs
 
 returns : tie.Need-returns
+unfolding actionAsked
 returns c =
     let a = c .before .before .before .args in
     let t = heldActions (a .places) (a .inflight .now) in
-    let p = actionHas (a .question) in
+    let p = actionAt (a .generation) (a .sequence) in
     let place = c .before .before .find-action .ensures in
     let e = c .action-found .ensures in
     let found = e .0 ∙ (λ i. ltb (place i) (sym (length-held clearAction (a .places .actions) (a .inflight .now)) i)) ∙ place-any p t in

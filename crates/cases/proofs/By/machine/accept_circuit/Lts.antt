@@ -6,10 +6,8 @@ use Rattle.cases.proofs.By.RelayPending
 use Rattle.cases.proofs.By.ReservationUsage
 use Rattle.hnsr_circuit.proofs.records.RelayPacket
 use Rattle.hnsr_circuit.proofs.records.RelayPacket.Laws
-use Rattle.hnsr_circuit.proofs.runtime.OpaqueRelayRuntime
-use Rattle.hnsr_circuit.proofs.runtime.OpaqueRelayRuntime.Laws as Laws'
 use Rattle.hnsr_circuit.proofs.runtime.Relayed
-use Rattle.hnsr_circuit.proofs.runtime.Relayed.Laws as Laws''
+use Rattle.hnsr_circuit.proofs.runtime.Relayed.Laws as Laws'
 use borrow.Author.Called
 use borrow.Fn.Any
 use borrow.Fn.Call
@@ -47,7 +45,7 @@ use contract.Lifetimes
 use denote.Array as Array'
 use denote.Exit
 use denote.Struct.Declared
-use denote.Struct.Laws as Laws'''
+use denote.Struct.Laws as Laws''
 use denote.Triple.Clauses
 use denote.Triple.Statement
 use ghost.Atoms
@@ -89,18 +87,17 @@ ref11 = Syntax.tyRef (Syntax.named 4) Syntax.mut (Syntax.tyInt Syntax.w32)
 abbrev pub ps : List.List (Kinds.PK 5)
 ps = (MutSlice.pMutS RelayPending.row 0 tt) ∷ (MutSlice.pMutS RelayCircuit.row 1 tt) ∷ (MutSlice.pMutS ReservationUsage.row 2 tt) ∷ (MutSlice.pMutS
     InflightAction.row 3 tt) ∷ (MutSlice.pMutS (Referent.rtF (Referent.fInt Syntax.w32)) 4 tt) ∷ (Value.pVal record { ty = Declared.row
-    OpaqueRelayRuntime.the-type; one = Path.refl; val = Laws'''.val OpaqueRelayRuntime.the-type Laws'.the-laws; tells = Laws'''.tells
-    OpaqueRelayRuntime.the-type Laws'.the-laws; still = Laws'''.still OpaqueRelayRuntime.the-type Laws'.the-copy Exit.yes; row = Rows'.whole
-    (Declared.row OpaqueRelayRuntime.the-type); rd = λ x. x; mk = λ x. x; } λ M 𝓤 H A W. record { copies = Laws'''.copy OpaqueRelayRuntime.the-type
-    Laws'.the-copy 𝓤 H A W; lawful = Laws'''.lawful OpaqueRelayRuntime.the-type Laws'.the-laws 𝓤 H A W; makes = Laws'''.makes
-    OpaqueRelayRuntime.the-type Laws'.the-plain 𝓤 H A; in-mem = Local.mem-whole 𝓤 H A W (Declared.row OpaqueRelayRuntime.the-type); of-mem =
-    Local.whole-mem 𝓤 H A W (Declared.row OpaqueRelayRuntime.the-type); }) ∷ (Num.pNum Syntax.w64) ∷ List.[]
+    Relayed.the-type; one = Path.refl; val = Laws''.val Relayed.the-type Laws'.the-laws; tells = Laws''.tells Relayed.the-type Laws'.the-laws; still =
+    Laws''.still Relayed.the-type Laws'.the-copy Exit.yes; row = Rows'.whole (Declared.row Relayed.the-type); rd = λ x. x; mk = λ x. x; } λ M 𝓤 H A W.
+    record { copies = Laws''.copy Relayed.the-type Laws'.the-copy 𝓤 H A W; lawful = Laws''.lawful Relayed.the-type Laws'.the-laws 𝓤 H A W; makes =
+    Laws''.makes Relayed.the-type Laws'.the-plain 𝓤 H A; in-mem = Local.mem-whole 𝓤 H A W (Declared.row Relayed.the-type); of-mem = Local.whole-mem 𝓤
+    H A W (Declared.row Relayed.the-type); }) ∷ (Num.pNum Syntax.w64) ∷ List.[]
 abbrev pub r : Kinds.RK 5
-r = Value.rVal record { ty = Declared.row Relayed.the-type; one = Path.refl; val = Laws'''.val Relayed.the-type Laws''.the-laws; tells = Laws'''.tells
-    Relayed.the-type Laws''.the-laws; still = Laws'''.still Relayed.the-type Laws''.the-copy Exit.yes; row = Rows'.whole (Declared.row
-    Relayed.the-type); rd = λ x. x; mk = λ x. x; } λ M 𝓤 H A W. record { copies = Laws'''.copy Relayed.the-type Laws''.the-copy 𝓤 H A W; lawful =
-    Laws'''.lawful Relayed.the-type Laws''.the-laws 𝓤 H A W; makes = Laws'''.makes Relayed.the-type Laws''.the-plain 𝓤 H A; in-mem = Local.mem-whole 𝓤
-    H A W (Declared.row Relayed.the-type); of-mem = Local.whole-mem 𝓤 H A W (Declared.row Relayed.the-type); }
+r = Value.rVal record { ty = Declared.row Relayed.the-type; one = Path.refl; val = Laws''.val Relayed.the-type Laws'.the-laws; tells = Laws''.tells
+    Relayed.the-type Laws'.the-laws; still = Laws''.still Relayed.the-type Laws'.the-copy Exit.yes; row = Rows'.whole (Declared.row Relayed.the-type);
+    rd = λ x. x; mk = λ x. x; } λ M 𝓤 H A W. record { copies = Laws''.copy Relayed.the-type Laws'.the-copy 𝓤 H A W; lawful = Laws''.lawful
+    Relayed.the-type Laws'.the-laws 𝓤 H A W; makes = Laws''.makes Relayed.the-type Laws'.the-plain 𝓤 H A; in-mem = Local.mem-whole 𝓤 H A W
+    (Declared.row Relayed.the-type); of-mem = Local.whole-mem 𝓤 H A W (Declared.row Relayed.the-type); }
 abbrev pub xs : List.List Syntax.Ty
 xs = Laws.mir ∷ (Syntax.tyArray (Syntax.tyInt Syntax.w8) 20) ∷ (Syntax.tyArray (Syntax.tyInt Syntax.w8) 20) ∷ ref0 ∷ (Syntax.tyStruct (38 ∷ 91 ∷ 93 ∷
     List.[]) (Syntax.tcons ref0 (Syntax.tcons (Syntax.tyInt Syntax.w64) Syntax.tnil))) ∷ ref1 ∷ (Syntax.tyStruct (38 ∷ 91 ∷ 93 ∷ List.[])
@@ -114,11 +111,11 @@ m = 6
 abbrev pub ps·0 : List.List (Kinds.PK 0)
 ps·0 = (Num.pNum Syntax.w8) ∷ (Num.pNum Syntax.w64) ∷ List.[]
 abbrev pub r·0 : Kinds.RK 0
-r·0 = Value.rVal record { ty = Declared.row RelayPacket.the-type; one = Path.refl; val = Laws'''.val RelayPacket.the-type Laws.the-laws; tells =
-    Laws'''.tells RelayPacket.the-type Laws.the-laws; still = Laws'''.still RelayPacket.the-type Laws.the-copy Exit.yes; row = Rows'.whole
-    (Declared.row RelayPacket.the-type); rd = λ x. x; mk = λ x. x; } λ M 𝓤 H A W. record { copies = Laws'''.copy RelayPacket.the-type Laws.the-copy 𝓤
-    H A W; lawful = Laws'''.lawful RelayPacket.the-type Laws.the-laws 𝓤 H A W; makes = Laws'''.makes RelayPacket.the-type Laws.the-plain 𝓤 H A; in-mem
-    = Local.mem-whole 𝓤 H A W (Declared.row RelayPacket.the-type); of-mem = Local.whole-mem 𝓤 H A W (Declared.row RelayPacket.the-type); }
+r·0 = Value.rVal record { ty = Declared.row RelayPacket.the-type; one = Path.refl; val = Laws''.val RelayPacket.the-type Laws.the-laws; tells =
+    Laws''.tells RelayPacket.the-type Laws.the-laws; still = Laws''.still RelayPacket.the-type Laws.the-copy Exit.yes; row = Rows'.whole (Declared.row
+    RelayPacket.the-type); rd = λ x. x; mk = λ x. x; } λ M 𝓤 H A W. record { copies = Laws''.copy RelayPacket.the-type Laws.the-copy 𝓤 H A W; lawful =
+    Laws''.lawful RelayPacket.the-type Laws.the-laws 𝓤 H A W; makes = Laws''.makes RelayPacket.the-type Laws.the-plain 𝓤 H A; in-mem = Local.mem-whole
+    𝓤 H A W (Declared.row RelayPacket.the-type); of-mem = Local.whole-mem 𝓤 H A W (Declared.row RelayPacket.the-type); }
 abbrev pub ps·1 : List.List (Kinds.PK 0)
 ps·1 = List.[]
 abbrev pub r·1 : Kinds.RK 0
@@ -126,24 +123,22 @@ r·1 = Array.rArr (Array.eInt Syntax.w8) (Array.eInt-laws Syntax.w8) 20
 abbrev pub ps·2 : List.List (Kinds.PK 6)
 ps·2 = (MutSlice.pMutS RelayPending.row 0 tt) ∷ (MutSlice.pMutS RelayCircuit.row 1 tt) ∷ (MutSlice.pMutS ReservationUsage.row 2 tt) ∷ (MutSlice.pMutS
     InflightAction.row 3 tt) ∷ (MutSlice.pMutS (Referent.rtF (Referent.fInt Syntax.w32)) 4 tt) ∷ (Value.pVal record { ty = Declared.row
-    OpaqueRelayRuntime.the-type; one = Path.refl; val = Laws'''.val OpaqueRelayRuntime.the-type Laws'.the-laws; tells = Laws'''.tells
-    OpaqueRelayRuntime.the-type Laws'.the-laws; still = Laws'''.still OpaqueRelayRuntime.the-type Laws'.the-copy Exit.yes; row = Rows'.whole
-    (Declared.row OpaqueRelayRuntime.the-type); rd = λ x. x; mk = λ x. x; } λ M 𝓤 H A W. record { copies = Laws'''.copy OpaqueRelayRuntime.the-type
-    Laws'.the-copy 𝓤 H A W; lawful = Laws'''.lawful OpaqueRelayRuntime.the-type Laws'.the-laws 𝓤 H A W; makes = Laws'''.makes
-    OpaqueRelayRuntime.the-type Laws'.the-plain 𝓤 H A; in-mem = Local.mem-whole 𝓤 H A W (Declared.row OpaqueRelayRuntime.the-type); of-mem =
-    Local.whole-mem 𝓤 H A W (Declared.row OpaqueRelayRuntime.the-type); }) ∷ (Value.pVal record { ty = Declared.row RelayPacket.the-type; one =
-    Path.refl; val = Laws'''.val RelayPacket.the-type Laws.the-laws; tells = Laws'''.tells RelayPacket.the-type Laws.the-laws; still = Laws'''.still
-    RelayPacket.the-type Laws.the-copy Exit.yes; row = Rows'.whole (Declared.row RelayPacket.the-type); rd = λ x. x; mk = λ x. x; } λ M 𝓤 H A W.
-    record { copies = Laws'''.copy RelayPacket.the-type Laws.the-copy 𝓤 H A W; lawful = Laws'''.lawful RelayPacket.the-type Laws.the-laws 𝓤 H A W;
-    makes = Laws'''.makes RelayPacket.the-type Laws.the-plain 𝓤 H A; in-mem = Local.mem-whole 𝓤 H A W (Declared.row RelayPacket.the-type); of-mem =
-    Local.whole-mem 𝓤 H A W (Declared.row RelayPacket.the-type); }) ∷ (Num.pNum Syntax.w8) ∷ (ShrSlice.pShrS (Referent.rtF (Referent.fInt Syntax.w8))
-    5 tt) ∷ List.[]
+    Relayed.the-type; one = Path.refl; val = Laws''.val Relayed.the-type Laws'.the-laws; tells = Laws''.tells Relayed.the-type Laws'.the-laws; still =
+    Laws''.still Relayed.the-type Laws'.the-copy Exit.yes; row = Rows'.whole (Declared.row Relayed.the-type); rd = λ x. x; mk = λ x. x; } λ M 𝓤 H A W.
+    record { copies = Laws''.copy Relayed.the-type Laws'.the-copy 𝓤 H A W; lawful = Laws''.lawful Relayed.the-type Laws'.the-laws 𝓤 H A W; makes =
+    Laws''.makes Relayed.the-type Laws'.the-plain 𝓤 H A; in-mem = Local.mem-whole 𝓤 H A W (Declared.row Relayed.the-type); of-mem = Local.whole-mem 𝓤
+    H A W (Declared.row Relayed.the-type); }) ∷ (Value.pVal record { ty = Declared.row RelayPacket.the-type; one = Path.refl; val = Laws''.val
+    RelayPacket.the-type Laws.the-laws; tells = Laws''.tells RelayPacket.the-type Laws.the-laws; still = Laws''.still RelayPacket.the-type
+    Laws.the-copy Exit.yes; row = Rows'.whole (Declared.row RelayPacket.the-type); rd = λ x. x; mk = λ x. x; } λ M 𝓤 H A W. record { copies =
+    Laws''.copy RelayPacket.the-type Laws.the-copy 𝓤 H A W; lawful = Laws''.lawful RelayPacket.the-type Laws.the-laws 𝓤 H A W; makes = Laws''.makes
+    RelayPacket.the-type Laws.the-plain 𝓤 H A; in-mem = Local.mem-whole 𝓤 H A W (Declared.row RelayPacket.the-type); of-mem = Local.whole-mem 𝓤 H A W
+    (Declared.row RelayPacket.the-type); }) ∷ (Num.pNum Syntax.w8) ∷ (ShrSlice.pShrS (Referent.rtF (Referent.fInt Syntax.w8)) 5 tt) ∷ List.[]
 abbrev pub r·2 : Kinds.RK 6
-r·2 = Value.rVal record { ty = Declared.row Relayed.the-type; one = Path.refl; val = Laws'''.val Relayed.the-type Laws''.the-laws; tells =
-    Laws'''.tells Relayed.the-type Laws''.the-laws; still = Laws'''.still Relayed.the-type Laws''.the-copy Exit.yes; row = Rows'.whole (Declared.row
-    Relayed.the-type); rd = λ x. x; mk = λ x. x; } λ M 𝓤 H A W. record { copies = Laws'''.copy Relayed.the-type Laws''.the-copy 𝓤 H A W; lawful =
-    Laws'''.lawful Relayed.the-type Laws''.the-laws 𝓤 H A W; makes = Laws'''.makes Relayed.the-type Laws''.the-plain 𝓤 H A; in-mem = Local.mem-whole 𝓤
-    H A W (Declared.row Relayed.the-type); of-mem = Local.whole-mem 𝓤 H A W (Declared.row Relayed.the-type); }
+r·2 = Value.rVal record { ty = Declared.row Relayed.the-type; one = Path.refl; val = Laws''.val Relayed.the-type Laws'.the-laws; tells = Laws''.tells
+    Relayed.the-type Laws'.the-laws; still = Laws''.still Relayed.the-type Laws'.the-copy Exit.yes; row = Rows'.whole (Declared.row Relayed.the-type);
+    rd = λ x. x; mk = λ x. x; } λ M 𝓤 H A W. record { copies = Laws''.copy Relayed.the-type Laws'.the-copy 𝓤 H A W; lawful = Laws''.lawful
+    Relayed.the-type Laws'.the-laws 𝓤 H A W; makes = Laws''.makes Relayed.the-type Laws'.the-plain 𝓤 H A; in-mem = Local.mem-whole 𝓤 H A W
+    (Declared.row Relayed.the-type); of-mem = Local.whole-mem 𝓤 H A W (Declared.row Relayed.the-type); }
 abbrev pub hs : List.List Syntax.Home
 hs = Syntax.valueLocal ∷ Syntax.valueLocal ∷ Syntax.valueLocal ∷ Syntax.valueLocal ∷ Syntax.valueLocal ∷ Syntax.valueLocal ∷ Syntax.valueLocal ∷
     Syntax.valueLocal ∷ Syntax.valueLocal ∷ Syntax.memorySlot ∷ Syntax.valueLocal ∷ Syntax.valueLocal ∷ Syntax.valueLocal ∷ Syntax.valueLocal ∷
@@ -228,7 +223,7 @@ body = b32
 abbrev pub Claims : Type 1
 Claims = Kinds.In 0 ps·0 × Kinds.Out 0 ps·0 r·0 × Kinds.In 0 ps·1 × Kinds.Out 0 ps·1 r·1 × Kinds.In 6 ps·2 × Kinds.Out 6 ps·2 r·2
 abbrev e0 : Row.Entry
-e0 = (0, Rows'.any-gone Laws''.mir)
+e0 = (0, Rows'.any-gone Laws'.mir)
 abbrev e1 : Row.Entry
 e1 = (1, Mut.mslice RelayPending.row ref7 0)
 abbrev e2 : Row.Entry
@@ -240,7 +235,7 @@ e4 = (4, Mut.mslice InflightAction.row ref10 3)
 abbrev e5 : Row.Entry
 e5 = (5, Mut.mslice (Referent.rtF (Referent.fInt Syntax.w32)) ref11 4)
 abbrev e6 : Row.Entry
-e6 = (6, Rows'.whole (Declared.row OpaqueRelayRuntime.the-type))
+e6 = (6, Rows'.whole (Declared.row Relayed.the-type))
 abbrev e7 : Row.Entry
 e7 = (7, Rows'.sc-here (Row.sInt Syntax.w64))
 abbrev e8 : Row.Entry
@@ -519,7 +514,7 @@ module _ (claims· : Claims) where
       Syntax.erased Syntax.mut ReservationUsage.to; ref = λ x. x; }, (record { pos = 18; ty = Syntax.tyRef Syntax.erased Syntax.mut InflightAction.to;
       ref = λ x. x; }, (record { pos = 20; ty = Syntax.tyRef Syntax.erased Syntax.mut (Syntax.tyInt Syntax.w32); ref = λ x. x; }, (record { pos = 6;
       st = List.[]; d = 0; at = λ x. x }, (record { pos = 8; st = List.[]; d = 0; at = λ x. x }, (Num.vLit 2, (record { pos = 22; ty = Syntax.tyRef
-      Syntax.erased Syntax.imm (Syntax.tyInt Syntax.w8); ref = λ x. x; }, tt,),),),),),),),),) 0 (5 ∷ 6 ∷ 7 ∷ 8 ∷ 9 ∷ 10 ∷ List.[]) Laws''.mir
+      Syntax.erased Syntax.imm (Syntax.tyInt Syntax.w8); ref = λ x. x; }, tt,),),),),),),),),) 0 (5 ∷ 6 ∷ 7 ∷ 8 ∷ 9 ∷ 10 ∷ List.[]) Laws'.mir
   abbrev s24 : Typed.Mo T25 → Typed.Mo T26
   s24 = Scalar.n-room T25 22 (Syntax.tyStruct (38 ∷ 91 ∷ 93 ∷ List.[]) (Syntax.tcons ref6 (Syntax.tcons (Syntax.tyInt Syntax.w64) Syntax.tnil)))
   abbrev s25 : Typed.Mo T26 → Typed.Mo T27
@@ -669,81 +664,79 @@ module _ (claims· : Claims) where
         abbrev life4 : Row.Life
         life4 = Row.lease (κs .1 .1 .1 .1 .0) (qs .1 .1 .1 .1 .0)
         abbrev g7 : List.List Row.Entry
-        g7 = (0, Rows'.any-gone Laws''.mir,) ∷ (1, Relend.mslice-owed RelayPending.row ref7 0 5 life0,) ∷ (2, Mut.mslice RelayCircuit.row ref8 1,) ∷
+        g7 = (0, Rows'.any-gone Laws'.mir,) ∷ (1, Relend.mslice-owed RelayPending.row ref7 0 5 life0,) ∷ (2, Mut.mslice RelayCircuit.row ref8 1,) ∷
             (3, Mut.mslice ReservationUsage.row ref9 2,) ∷ (4, Mut.mslice InflightAction.row ref10 3,) ∷ (5, Mut.mslice (Referent.rtF (Referent.fInt
-            Syntax.w32)) ref11 4,) ∷ (6, Rows'.whole (Declared.row OpaqueRelayRuntime.the-type)) ∷ (7, Rows'.sc-here (Row.sInt Syntax.w64),) ∷ (8,
-            Rows'.whole (Declared.row RelayPacket.the-type)) ∷ (9, Rows.arrF (Referent.rtF (Referent.fInt Syntax.w8)) 20 0,) ∷ (10, Rows'.any-gone
-            (Syntax.tyArray (Syntax.tyInt Syntax.w8) 20)) ∷ (11, Relend.msptr RelayPending.row ref0 5,) ∷ (12, Rows'.any-gone (Syntax.tyStruct (38 ∷
-            91 ∷ 93 ∷ List.[]) (Syntax.tcons ref0 (Syntax.tcons (Syntax.tyInt Syntax.w64) Syntax.tnil))),) ∷ (13, Rows'.any-gone ref1,) ∷ (14,
+            Syntax.w32)) ref11 4,) ∷ (6, Rows'.whole (Declared.row Relayed.the-type)) ∷ (7, Rows'.sc-here (Row.sInt Syntax.w64),) ∷ (8, Rows'.whole
+            (Declared.row RelayPacket.the-type)) ∷ (9, Rows.arrF (Referent.rtF (Referent.fInt Syntax.w8)) 20 0,) ∷ (10, Rows'.any-gone (Syntax.tyArray
+            (Syntax.tyInt Syntax.w8) 20)) ∷ (11, Relend.msptr RelayPending.row ref0 5,) ∷ (12, Rows'.any-gone (Syntax.tyStruct (38 ∷ 91 ∷ 93 ∷
+            List.[]) (Syntax.tcons ref0 (Syntax.tcons (Syntax.tyInt Syntax.w64) Syntax.tnil))),) ∷ (13, Rows'.any-gone ref1,) ∷ (14, Rows'.any-gone
+            (Syntax.tyStruct (38 ∷ 91 ∷ 93 ∷ List.[]) (Syntax.tcons ref1 (Syntax.tcons (Syntax.tyInt Syntax.w64) Syntax.tnil))),) ∷ (15,
+            Rows'.any-gone ref2,) ∷ List.[]
+        abbrev g8 : List.List Row.Entry
+        g8 = (0, Rows'.any-gone Laws'.mir,) ∷ (1, Relend.mslice-owed RelayPending.row ref7 0 5 life0,) ∷ (2, Mut.mslice RelayCircuit.row ref8 1,) ∷
+            (3, Mut.mslice ReservationUsage.row ref9 2,) ∷ (4, Mut.mslice InflightAction.row ref10 3,) ∷ (5, Mut.mslice (Referent.rtF (Referent.fInt
+            Syntax.w32)) ref11 4,) ∷ (6, Rows'.whole (Declared.row Relayed.the-type)) ∷ (7, Rows'.sc-here (Row.sInt Syntax.w64),) ∷ (8, Rows'.whole
+            (Declared.row RelayPacket.the-type)) ∷ (9, Rows.arrF (Referent.rtF (Referent.fInt Syntax.w8)) 20 0,) ∷ (10, Rows'.any-gone (Syntax.tyArray
+            (Syntax.tyInt Syntax.w8) 20)) ∷ (11, Rows'.any-gone ref0,) ∷ (12, Mut.mslice RelayPending.row ref0 5,) ∷ (13, Rows'.any-gone ref1,) ∷ (14,
             Rows'.any-gone (Syntax.tyStruct (38 ∷ 91 ∷ 93 ∷ List.[]) (Syntax.tcons ref1 (Syntax.tcons (Syntax.tyInt Syntax.w64) Syntax.tnil))),) ∷
             (15, Rows'.any-gone ref2,) ∷ List.[]
-        abbrev g8 : List.List Row.Entry
-        g8 = (0, Rows'.any-gone Laws''.mir,) ∷ (1, Relend.mslice-owed RelayPending.row ref7 0 5 life0,) ∷ (2, Mut.mslice RelayCircuit.row ref8 1,) ∷
-            (3, Mut.mslice ReservationUsage.row ref9 2,) ∷ (4, Mut.mslice InflightAction.row ref10 3,) ∷ (5, Mut.mslice (Referent.rtF (Referent.fInt
-            Syntax.w32)) ref11 4,) ∷ (6, Rows'.whole (Declared.row OpaqueRelayRuntime.the-type)) ∷ (7, Rows'.sc-here (Row.sInt Syntax.w64),) ∷ (8,
+        abbrev g9 : List.List Row.Entry
+        g9 = (0, Rows'.any-gone Laws'.mir,) ∷ (1, Relend.mslice-owed RelayPending.row ref7 0 5 life0,) ∷ (2, Relend.mslice-owed RelayCircuit.row ref8
+            1 6 life1,) ∷ (3, Mut.mslice ReservationUsage.row ref9 2,) ∷ (4, Mut.mslice InflightAction.row ref10 3,) ∷ (5, Mut.mslice (Referent.rtF
+            (Referent.fInt Syntax.w32)) ref11 4,) ∷ (6, Rows'.whole (Declared.row Relayed.the-type)) ∷ (7, Rows'.sc-here (Row.sInt Syntax.w64),) ∷ (8,
+            Rows'.whole (Declared.row RelayPacket.the-type)) ∷ (9, Rows.arrF (Referent.rtF (Referent.fInt Syntax.w8)) 20 0,) ∷ (10, Rows'.any-gone
+            (Syntax.tyArray (Syntax.tyInt Syntax.w8) 20)) ∷ (11, Rows'.any-gone ref0,) ∷ (12, Mut.mslice RelayPending.row ref0 5,) ∷ (13, Relend.msptr
+            RelayCircuit.row ref1 6,) ∷ (14, Rows'.any-gone (Syntax.tyStruct (38 ∷ 91 ∷ 93 ∷ List.[]) (Syntax.tcons ref1 (Syntax.tcons (Syntax.tyInt
+            Syntax.w64) Syntax.tnil))),) ∷ (15, Rows'.any-gone ref2,) ∷ List.[]
+        abbrev g10 : List.List Row.Entry
+        g10 = (0, Rows'.any-gone Laws'.mir,) ∷ (1, Relend.mslice-owed RelayPending.row ref7 0 5 life0,) ∷ (2, Relend.mslice-owed RelayCircuit.row ref8
+            1 6 life1,) ∷ (3, Mut.mslice ReservationUsage.row ref9 2,) ∷ (4, Mut.mslice InflightAction.row ref10 3,) ∷ (5, Mut.mslice (Referent.rtF
+            (Referent.fInt Syntax.w32)) ref11 4,) ∷ (6, Rows'.whole (Declared.row Relayed.the-type)) ∷ (7, Rows'.sc-here (Row.sInt Syntax.w64),) ∷ (8,
             Rows'.whole (Declared.row RelayPacket.the-type)) ∷ (9, Rows.arrF (Referent.rtF (Referent.fInt Syntax.w8)) 20 0,) ∷ (10, Rows'.any-gone
             (Syntax.tyArray (Syntax.tyInt Syntax.w8) 20)) ∷ (11, Rows'.any-gone ref0,) ∷ (12, Mut.mslice RelayPending.row ref0 5,) ∷ (13,
-            Rows'.any-gone ref1,) ∷ (14, Rows'.any-gone (Syntax.tyStruct (38 ∷ 91 ∷ 93 ∷ List.[]) (Syntax.tcons ref1 (Syntax.tcons (Syntax.tyInt
-            Syntax.w64) Syntax.tnil))),) ∷ (15, Rows'.any-gone ref2,) ∷ List.[]
-        abbrev g9 : List.List Row.Entry
-        g9 = (0, Rows'.any-gone Laws''.mir,) ∷ (1, Relend.mslice-owed RelayPending.row ref7 0 5 life0,) ∷ (2, Relend.mslice-owed RelayCircuit.row ref8
-            1 6 life1,) ∷ (3, Mut.mslice ReservationUsage.row ref9 2,) ∷ (4, Mut.mslice InflightAction.row ref10 3,) ∷ (5, Mut.mslice (Referent.rtF
-            (Referent.fInt Syntax.w32)) ref11 4,) ∷ (6, Rows'.whole (Declared.row OpaqueRelayRuntime.the-type)) ∷ (7, Rows'.sc-here (Row.sInt
+            Rows'.any-gone ref1,) ∷ (14, Mut.mslice RelayCircuit.row ref1 6,) ∷ (15, Rows'.any-gone ref2,) ∷ List.[]
+        abbrev g11 : List.List Row.Entry
+        g11 = (0, Rows'.any-gone Laws'.mir,) ∷ (1, Relend.mslice-owed RelayPending.row ref7 0 5 life0,) ∷ (2, Relend.mslice-owed RelayCircuit.row ref8
+            1 6 life1,) ∷ (3, Relend.mslice-owed ReservationUsage.row ref9 2 7 life2,) ∷ (4, Mut.mslice InflightAction.row ref10 3,) ∷ (5, Mut.mslice
+            (Referent.rtF (Referent.fInt Syntax.w32)) ref11 4,) ∷ (6, Rows'.whole (Declared.row Relayed.the-type)) ∷ (7, Rows'.sc-here (Row.sInt
             Syntax.w64),) ∷ (8, Rows'.whole (Declared.row RelayPacket.the-type)) ∷ (9, Rows.arrF (Referent.rtF (Referent.fInt Syntax.w8)) 20 0,) ∷
             (10, Rows'.any-gone (Syntax.tyArray (Syntax.tyInt Syntax.w8) 20)) ∷ (11, Rows'.any-gone ref0,) ∷ (12, Mut.mslice RelayPending.row ref0 5,)
-            ∷ (13, Relend.msptr RelayCircuit.row ref1 6,) ∷ (14, Rows'.any-gone (Syntax.tyStruct (38 ∷ 91 ∷ 93 ∷ List.[]) (Syntax.tcons ref1
-            (Syntax.tcons (Syntax.tyInt Syntax.w64) Syntax.tnil))),) ∷ (15, Rows'.any-gone ref2,) ∷ List.[]
-        abbrev g10 : List.List Row.Entry
-        g10 = (0, Rows'.any-gone Laws''.mir,) ∷ (1, Relend.mslice-owed RelayPending.row ref7 0 5 life0,) ∷ (2, Relend.mslice-owed RelayCircuit.row
-            ref8 1 6 life1,) ∷ (3, Mut.mslice ReservationUsage.row ref9 2,) ∷ (4, Mut.mslice InflightAction.row ref10 3,) ∷ (5, Mut.mslice
-            (Referent.rtF (Referent.fInt Syntax.w32)) ref11 4,) ∷ (6, Rows'.whole (Declared.row OpaqueRelayRuntime.the-type)) ∷ (7, Rows'.sc-here
+            ∷ (13, Rows'.any-gone ref1,) ∷ (14, Mut.mslice RelayCircuit.row ref1 6,) ∷ (15, Relend.msptr ReservationUsage.row ref2 7,) ∷ List.[]
+        abbrev g12 : List.List Row.Entry
+        g12 = (0, Rows'.any-gone Laws'.mir,) ∷ (1, Relend.mslice-owed RelayPending.row ref7 0 5 life0,) ∷ (2, Relend.mslice-owed RelayCircuit.row ref8
+            1 6 life1,) ∷ (3, Relend.mslice-owed ReservationUsage.row ref9 2 7 life2,) ∷ (4, Mut.mslice InflightAction.row ref10 3,) ∷ (5, Mut.mslice
+            (Referent.rtF (Referent.fInt Syntax.w32)) ref11 4,) ∷ (6, Rows'.whole (Declared.row Relayed.the-type)) ∷ (7, Rows'.sc-here (Row.sInt
+            Syntax.w64),) ∷ (8, Rows'.whole (Declared.row RelayPacket.the-type)) ∷ (9, Rows.arrF (Referent.rtF (Referent.fInt Syntax.w8)) 20 0,) ∷
+            (10, Rows'.any-gone (Syntax.tyArray (Syntax.tyInt Syntax.w8) 20)) ∷ (11, Rows'.any-gone ref0,) ∷ (12, Mut.mslice RelayPending.row ref0 5,)
+            ∷ (13, Rows'.any-gone ref1,) ∷ (14, Mut.mslice RelayCircuit.row ref1 6,) ∷ (15, Rows'.any-gone ref2,) ∷ List.[]
+        abbrev g14 : List.List Row.Entry
+        g14 = (0, Rows'.any-gone Laws'.mir,) ∷ (1, Relend.mslice-owed RelayPending.row ref7 0 5 life0,) ∷ (2, Relend.mslice-owed RelayCircuit.row ref8
+            1 6 life1,) ∷ (3, Relend.mslice-owed ReservationUsage.row ref9 2 7 life2,) ∷ (4, Relend.mslice-owed InflightAction.row ref10 3 8 life3,) ∷
+            (5, Mut.mslice (Referent.rtF (Referent.fInt Syntax.w32)) ref11 4,) ∷ (6, Rows'.whole (Declared.row Relayed.the-type)) ∷ (7, Rows'.sc-here
             (Row.sInt Syntax.w64),) ∷ (8, Rows'.whole (Declared.row RelayPacket.the-type)) ∷ (9, Rows.arrF (Referent.rtF (Referent.fInt Syntax.w8)) 20
             0,) ∷ (10, Rows'.any-gone (Syntax.tyArray (Syntax.tyInt Syntax.w8) 20)) ∷ (11, Rows'.any-gone ref0,) ∷ (12, Mut.mslice RelayPending.row
             ref0 5,) ∷ (13, Rows'.any-gone ref1,) ∷ (14, Mut.mslice RelayCircuit.row ref1 6,) ∷ (15, Rows'.any-gone ref2,) ∷ List.[]
-        abbrev g11 : List.List Row.Entry
-        g11 = (0, Rows'.any-gone Laws''.mir,) ∷ (1, Relend.mslice-owed RelayPending.row ref7 0 5 life0,) ∷ (2, Relend.mslice-owed RelayCircuit.row
-            ref8 1 6 life1,) ∷ (3, Relend.mslice-owed ReservationUsage.row ref9 2 7 life2,) ∷ (4, Mut.mslice InflightAction.row ref10 3,) ∷ (5,
-            Mut.mslice (Referent.rtF (Referent.fInt Syntax.w32)) ref11 4,) ∷ (6, Rows'.whole (Declared.row OpaqueRelayRuntime.the-type)) ∷ (7,
-            Rows'.sc-here (Row.sInt Syntax.w64),) ∷ (8, Rows'.whole (Declared.row RelayPacket.the-type)) ∷ (9, Rows.arrF (Referent.rtF (Referent.fInt
-            Syntax.w8)) 20 0,) ∷ (10, Rows'.any-gone (Syntax.tyArray (Syntax.tyInt Syntax.w8) 20)) ∷ (11, Rows'.any-gone ref0,) ∷ (12, Mut.mslice
-            RelayPending.row ref0 5,) ∷ (13, Rows'.any-gone ref1,) ∷ (14, Mut.mslice RelayCircuit.row ref1 6,) ∷ (15, Relend.msptr
-            ReservationUsage.row ref2 7,) ∷ List.[]
-        abbrev g12 : List.List Row.Entry
-        g12 = (0, Rows'.any-gone Laws''.mir,) ∷ (1, Relend.mslice-owed RelayPending.row ref7 0 5 life0,) ∷ (2, Relend.mslice-owed RelayCircuit.row
-            ref8 1 6 life1,) ∷ (3, Relend.mslice-owed ReservationUsage.row ref9 2 7 life2,) ∷ (4, Mut.mslice InflightAction.row ref10 3,) ∷ (5,
-            Mut.mslice (Referent.rtF (Referent.fInt Syntax.w32)) ref11 4,) ∷ (6, Rows'.whole (Declared.row OpaqueRelayRuntime.the-type)) ∷ (7,
-            Rows'.sc-here (Row.sInt Syntax.w64),) ∷ (8, Rows'.whole (Declared.row RelayPacket.the-type)) ∷ (9, Rows.arrF (Referent.rtF (Referent.fInt
-            Syntax.w8)) 20 0,) ∷ (10, Rows'.any-gone (Syntax.tyArray (Syntax.tyInt Syntax.w8) 20)) ∷ (11, Rows'.any-gone ref0,) ∷ (12, Mut.mslice
-            RelayPending.row ref0 5,) ∷ (13, Rows'.any-gone ref1,) ∷ (14, Mut.mslice RelayCircuit.row ref1 6,) ∷ (15, Rows'.any-gone ref2,) ∷ List.[]
-        abbrev g14 : List.List Row.Entry
-        g14 = (0, Rows'.any-gone Laws''.mir,) ∷ (1, Relend.mslice-owed RelayPending.row ref7 0 5 life0,) ∷ (2, Relend.mslice-owed RelayCircuit.row
-            ref8 1 6 life1,) ∷ (3, Relend.mslice-owed ReservationUsage.row ref9 2 7 life2,) ∷ (4, Relend.mslice-owed InflightAction.row ref10 3 8
-            life3,) ∷ (5, Mut.mslice (Referent.rtF (Referent.fInt Syntax.w32)) ref11 4,) ∷ (6, Rows'.whole (Declared.row OpaqueRelayRuntime.the-type))
-            ∷ (7, Rows'.sc-here (Row.sInt Syntax.w64),) ∷ (8, Rows'.whole (Declared.row RelayPacket.the-type)) ∷ (9, Rows.arrF (Referent.rtF
+        abbrev g17 : List.List Row.Entry
+        g17 = (0, Rows'.any-gone Laws'.mir,) ∷ (1, Relend.mslice-owed RelayPending.row ref7 0 5 life0,) ∷ (2, Relend.mslice-owed RelayCircuit.row ref8
+            1 6 life1,) ∷ (3, Relend.mslice-owed ReservationUsage.row ref9 2 7 life2,) ∷ (4, Relend.mslice-owed InflightAction.row ref10 3 8 life3,) ∷
+            (5, Relend.mslice-owed (Referent.rtF (Referent.fInt Syntax.w32)) ref11 4 9 life4,) ∷ (6, Rows'.whole (Declared.row Relayed.the-type)) ∷
+            (7, Rows'.sc-here (Row.sInt Syntax.w64),) ∷ (8, Rows'.whole (Declared.row RelayPacket.the-type)) ∷ (9, Rows.arrF (Referent.rtF
             (Referent.fInt Syntax.w8)) 20 0,) ∷ (10, Rows'.any-gone (Syntax.tyArray (Syntax.tyInt Syntax.w8) 20)) ∷ (11, Rows'.any-gone ref0,) ∷ (12,
             Mut.mslice RelayPending.row ref0 5,) ∷ (13, Rows'.any-gone ref1,) ∷ (14, Mut.mslice RelayCircuit.row ref1 6,) ∷ (15, Rows'.any-gone ref2,)
             ∷ List.[]
-        abbrev g17 : List.List Row.Entry
-        g17 = (0, Rows'.any-gone Laws''.mir,) ∷ (1, Relend.mslice-owed RelayPending.row ref7 0 5 life0,) ∷ (2, Relend.mslice-owed RelayCircuit.row
-            ref8 1 6 life1,) ∷ (3, Relend.mslice-owed ReservationUsage.row ref9 2 7 life2,) ∷ (4, Relend.mslice-owed InflightAction.row ref10 3 8
-            life3,) ∷ (5, Relend.mslice-owed (Referent.rtF (Referent.fInt Syntax.w32)) ref11 4 9 life4,) ∷ (6, Rows'.whole (Declared.row
-            OpaqueRelayRuntime.the-type)) ∷ (7, Rows'.sc-here (Row.sInt Syntax.w64),) ∷ (8, Rows'.whole (Declared.row RelayPacket.the-type)) ∷ (9,
-            Rows.arrF (Referent.rtF (Referent.fInt Syntax.w8)) 20 0,) ∷ (10, Rows'.any-gone (Syntax.tyArray (Syntax.tyInt Syntax.w8) 20)) ∷ (11,
-            Rows'.any-gone ref0,) ∷ (12, Mut.mslice RelayPending.row ref0 5,) ∷ (13, Rows'.any-gone ref1,) ∷ (14, Mut.mslice RelayCircuit.row ref1 6,)
-            ∷ (15, Rows'.any-gone ref2,) ∷ List.[]
         abbrev g20 : List.List Row.Entry
-        g20 = (0, Rows'.any-gone Laws''.mir,) ∷ (1, Relend.mslice-owed RelayPending.row ref7 0 5 life0,) ∷ (2, Relend.mslice-owed RelayCircuit.row
-            ref8 1 6 life1,) ∷ (3, Relend.mslice-owed ReservationUsage.row ref9 2 7 life2,) ∷ (4, Relend.mslice-owed InflightAction.row ref10 3 8
-            life3,) ∷ (5, Relend.mslice-owed (Referent.rtF (Referent.fInt Syntax.w32)) ref11 4 9 life4,) ∷ (6, Rows'.whole (Declared.row
-            OpaqueRelayRuntime.the-type)) ∷ (7, Rows'.sc-here (Row.sInt Syntax.w64),) ∷ (8, Rows'.whole (Declared.row RelayPacket.the-type)) ∷ (9,
-            Rows.arr-shr (Referent.rtF (Referent.fInt Syntax.w8)) 20 10,) ∷ (10, Rows'.any-gone (Syntax.tyArray (Syntax.tyInt Syntax.w8) 20)) ∷ (11,
-            Rows'.any-gone ref0,) ∷ (12, Mut.mslice RelayPending.row ref0 5,) ∷ (13, Rows'.any-gone ref1,) ∷ (14, Mut.mslice RelayCircuit.row ref1 6,)
-            ∷ (15, Rows'.any-gone ref2,) ∷ List.[]
+        g20 = (0, Rows'.any-gone Laws'.mir,) ∷ (1, Relend.mslice-owed RelayPending.row ref7 0 5 life0,) ∷ (2, Relend.mslice-owed RelayCircuit.row ref8
+            1 6 life1,) ∷ (3, Relend.mslice-owed ReservationUsage.row ref9 2 7 life2,) ∷ (4, Relend.mslice-owed InflightAction.row ref10 3 8 life3,) ∷
+            (5, Relend.mslice-owed (Referent.rtF (Referent.fInt Syntax.w32)) ref11 4 9 life4,) ∷ (6, Rows'.whole (Declared.row Relayed.the-type)) ∷
+            (7, Rows'.sc-here (Row.sInt Syntax.w64),) ∷ (8, Rows'.whole (Declared.row RelayPacket.the-type)) ∷ (9, Rows.arr-shr (Referent.rtF
+            (Referent.fInt Syntax.w8)) 20 10,) ∷ (10, Rows'.any-gone (Syntax.tyArray (Syntax.tyInt Syntax.w8) 20)) ∷ (11, Rows'.any-gone ref0,) ∷ (12,
+            Mut.mslice RelayPending.row ref0 5,) ∷ (13, Rows'.any-gone ref1,) ∷ (14, Mut.mslice RelayCircuit.row ref1 6,) ∷ (15, Rows'.any-gone ref2,)
+            ∷ List.[]
         abbrev g23 : List.List Row.Entry
         g23 = (0, Rows'.whole (Declared.row Relayed.the-type)) ∷ (1, Relend.mslice-owed RelayPending.row ref7 0 5 life0,) ∷ (2, Relend.mslice-owed
             RelayCircuit.row ref8 1 6 life1,) ∷ (3, Relend.mslice-owed ReservationUsage.row ref9 2 7 life2,) ∷ (4, Relend.mslice-owed
             InflightAction.row ref10 3 8 life3,) ∷ (5, Relend.mslice-owed (Referent.rtF (Referent.fInt Syntax.w32)) ref11 4 9 life4,) ∷ (6,
-            Rows'.whole (Declared.row OpaqueRelayRuntime.the-type)) ∷ (7, Rows'.sc-here (Row.sInt Syntax.w64),) ∷ (8, Rows'.whole (Declared.row
+            Rows'.whole (Declared.row Relayed.the-type)) ∷ (7, Rows'.sc-here (Row.sInt Syntax.w64),) ∷ (8, Rows'.whole (Declared.row
             RelayPacket.the-type)) ∷ (9, Rows.arr-shr (Referent.rtF (Referent.fInt Syntax.w8)) 20 10,) ∷ (10, Rows'.any-gone (Syntax.tyArray
             (Syntax.tyInt Syntax.w8) 20)) ∷ (11, Rows'.any-gone ref0,) ∷ (12, Mut.msleft RelayPending.row ref0,) ∷ (13, Rows'.any-gone ref1,) ∷ (14,
             Mut.msleft RelayCircuit.row ref1,) ∷ (15, Rows'.any-gone ref2,) ∷ List.[]
@@ -1016,7 +1009,7 @@ module _ (claims· : Claims) where
               (Declared.row RelayPacket.the-type) Laws.mir Path.refl)) d21
           d23 : Typed.Typed 𝓤 H A 𝓣 E G26 b16 Δ0 at23
           d23 = Typed.g-pre 𝓤 H A W 𝓣 E G26 G27 b16 Δ0 (Typed.pass T26 T27 s25) at22 (Scalar.g-room 𝓤 H A W E G26 6 Laws'.mir (Local.room-whole 𝓤 H A
-              W (Declared.row OpaqueRelayRuntime.the-type) Laws'.mir Path.refl)) d22
+              W (Declared.row Relayed.the-type) Laws'.mir Path.refl)) d22
           d24 : Typed.Typed 𝓤 H A 𝓣 E G25 b16 Δ0 at24
           d24 = Typed.g-pre 𝓤 H A W 𝓣 E G25 G26 b16 Δ0 (Typed.pass T25 T26 s24) at23 (Scalar.g-room 𝓤 H A W E G25 22 (Syntax.tyStruct (38 ∷ 91 ∷ 93 ∷
               List.[]) (Syntax.tcons ref6 (Syntax.tcons (Syntax.tyInt Syntax.w64) Syntax.tnil))) (Shared.room-sslice 𝓤 H A W (Referent.rtF
@@ -1035,15 +1028,14 @@ module _ (claims· : Claims) where
               ReservationUsage.row ref2 7, Path.refl, (Reads.as-is 𝓤 H A (Mut.mslice InflightAction.row ref3 8), Mut.reads-mslice 𝓤 H A W
               InflightAction.row ref3 8, Path.refl, (Reads.as-is 𝓤 H A (Mut.mslice (Referent.rtF (Referent.fInt Syntax.w32)) ref4 9), Mut.reads-mslice
               𝓤 H A W (Referent.rtF (Referent.fInt Syntax.w32)) ref4 9, Path.refl, ((Yields.yields-copy 𝓤 H A W (λ ρ. Unit) (Declared.row
-              OpaqueRelayRuntime.the-type) Path.refl (Copies.cStruct OpaqueRelayRuntime.the-type Laws'.the-laws Laws'.the-copy .copy 𝓤 H A W)
-              (Rows'.whole (Declared.row OpaqueRelayRuntime.the-type)) (λ x. x) (λ x. x) (λ ρ told. Local.mem-whole 𝓤 H A W (Declared.row
-              OpaqueRelayRuntime.the-type) ρ) λ ρ told. Local.whole-mem 𝓤 H A W (Declared.row OpaqueRelayRuntime.the-type) ρ, Path.refl,),
-              ((Yields.yields-copy 𝓤 H A W (λ ρ. Unit) (Declared.row RelayPacket.the-type) Path.refl (Copies.cStruct RelayPacket.the-type
-              Laws.the-laws Laws.the-copy .copy 𝓤 H A W) (Rows'.whole (Declared.row RelayPacket.the-type)) (λ x. x) (λ x. x) (λ ρ told.
-              Local.mem-whole 𝓤 H A W (Declared.row RelayPacket.the-type) ρ) λ ρ told. Local.whole-mem 𝓤 H A W (Declared.row RelayPacket.the-type) ρ,
-              Path.refl,), (tt, (ShrSlice.spares-sslice 𝓤 H A W (Referent.rtF (Referent.fInt Syntax.w8)) ref6 10, Shared.reads-sslice 𝓤 H A W
-              (Referent.rtF (Referent.fInt Syntax.w8)) ref6 10, Path.refl, tt,),),),),),),),),) (Reads.room-gone 𝓤 H A Laws''.mir) (tt, (tt, (tt, (tt,
-              (tt, (tt, tt)))))) Path.refl) d24
+              Relayed.the-type) Path.refl (Copies.cStruct Relayed.the-type Laws'.the-laws Laws'.the-copy .copy 𝓤 H A W) (Rows'.whole (Declared.row
+              Relayed.the-type)) (λ x. x) (λ x. x) (λ ρ told. Local.mem-whole 𝓤 H A W (Declared.row Relayed.the-type) ρ) λ ρ told. Local.whole-mem 𝓤 H
+              A W (Declared.row Relayed.the-type) ρ, Path.refl,), ((Yields.yields-copy 𝓤 H A W (λ ρ. Unit) (Declared.row RelayPacket.the-type)
+              Path.refl (Copies.cStruct RelayPacket.the-type Laws.the-laws Laws.the-copy .copy 𝓤 H A W) (Rows'.whole (Declared.row
+              RelayPacket.the-type)) (λ x. x) (λ x. x) (λ ρ told. Local.mem-whole 𝓤 H A W (Declared.row RelayPacket.the-type) ρ) λ ρ told.
+              Local.whole-mem 𝓤 H A W (Declared.row RelayPacket.the-type) ρ, Path.refl,), (tt, (ShrSlice.spares-sslice 𝓤 H A W (Referent.rtF
+              (Referent.fInt Syntax.w8)) ref6 10, Shared.reads-sslice 𝓤 H A W (Referent.rtF (Referent.fInt Syntax.w8)) ref6 10, Path.refl,
+              tt,),),),),),),),),) (Reads.room-gone 𝓤 H A Laws'.mir) (tt, (tt, (tt, (tt, (tt, (tt, tt)))))) Path.refl) d24
           d26 : Typed.Typed 𝓤 H A 𝓣 E G23 b18 Δ0 at26
           d26 = Typed.s-seq 𝓤 H A W 𝓣 E G23 G24 b14 b17 Δ0 (Typed.ask s22) at25 (Relend.t-sl-aggregate 𝓤 H A W E (Referent.rtF (Referent.fInt
               Syntax.w8)) 𝓣 (Relend.asShr (Referent.rtF (Referent.fInt Syntax.w8))) G23 21 22 10 ref5 ref6 (λ x. x) (Scalar.oInt Syntax.w64 20)
@@ -1159,16 +1151,15 @@ module _ (claims· : Claims) where
           pub ledger : Kinds.Den { n = 5 } κs (MutSlice.pMutS ReservationUsage.row 2 tt)
           pub inflight : Kinds.Den { n = 5 } κs (MutSlice.pMutS InflightAction.row 3 tt)
           pub out : Kinds.Den { n = 5 } κs (MutSlice.pMutS (Referent.rtF (Referent.fInt Syntax.w32)) 4 tt)
-          pub runtime : Kinds.Den { n = 5 } κs (Value.pVal record { ty = Declared.row OpaqueRelayRuntime.the-type; one = Path.refl; val = Laws'''.val
-              OpaqueRelayRuntime.the-type Laws'.the-laws; tells = Laws'''.tells OpaqueRelayRuntime.the-type Laws'.the-laws; still = Laws'''.still
-              OpaqueRelayRuntime.the-type Laws'.the-copy Exit.yes; row = Rows'.whole (Declared.row OpaqueRelayRuntime.the-type); rd = λ x. x; mk = λ
-              x. x; } λ M 𝓤 H A W. record { copies = Laws'''.copy OpaqueRelayRuntime.the-type Laws'.the-copy 𝓤 H A W; lawful = Laws'''.lawful
-              OpaqueRelayRuntime.the-type Laws'.the-laws 𝓤 H A W; makes = Laws'''.makes OpaqueRelayRuntime.the-type Laws'.the-plain 𝓤 H A; in-mem =
-              Local.mem-whole 𝓤 H A W (Declared.row OpaqueRelayRuntime.the-type); of-mem = Local.whole-mem 𝓤 H A W (Declared.row
-              OpaqueRelayRuntime.the-type); })
+          pub kept : Kinds.Den { n = 5 } κs (Value.pVal record { ty = Declared.row Relayed.the-type; one = Path.refl; val = Laws''.val
+              Relayed.the-type Laws'.the-laws; tells = Laws''.tells Relayed.the-type Laws'.the-laws; still = Laws''.still Relayed.the-type
+              Laws'.the-copy Exit.yes; row = Rows'.whole (Declared.row Relayed.the-type); rd = λ x. x; mk = λ x. x; } λ M 𝓤 H A W. record { copies =
+              Laws''.copy Relayed.the-type Laws'.the-copy 𝓤 H A W; lawful = Laws''.lawful Relayed.the-type Laws'.the-laws 𝓤 H A W; makes =
+              Laws''.makes Relayed.the-type Laws'.the-plain 𝓤 H A; in-mem = Local.mem-whole 𝓤 H A W (Declared.row Relayed.the-type); of-mem =
+              Local.whole-mem 𝓤 H A W (Declared.row Relayed.the-type); })
           pub time : Kinds.Den { n = 5 } κs (Num.pNum Syntax.w64)
         abbrev pub dens : (a : Args) → Kinds.Dens κs ps
-        dens = λ a. (a .pending, (a .circuits, (a .ledger, (a .inflight, (a .out, (a .runtime, (a .time, tt)))))),)
+        dens = λ a. (a .pending, (a .circuits, (a .ledger, (a .inflight, (a .out, (a .kept, (a .time, tt)))))),)
         module _ (args· : Args) where
           pub record Ranges : Type 0 where
             pub time : Val.Fits Syntax.w64 (args· .time)
@@ -1513,8 +1504,8 @@ module _ (claims· : Claims) where
           pub asked : (a : Kinds.Dens κs ps) → (good : Kinds.GoodsP κs ps a) → (pre : Pre· κs a) → (bs : List.List Nat.ℕ) → Φ (Any.wantQ 5 ps r xs m
               κs qs a (Post· κs a)) (Function.init 5 ps r xs m κs qs a)
           asked = λ a good pre bs. laid record { κs = κs; args = record { pending = a .0; circuits = a .1 .0; ledger = a .1 .1 .0; inflight = a .1 .1
-              .1 .0; out = a .1 .1 .1 .1 .0; runtime = a .1 .1 .1 .1 .1 .0; time = a .1 .1 .1 .1 .1 .1 .0; }; good = good; fits = record { time =
-              record { fits = good .1 .1 .1 .1 .1 .1 .0 .1 } }; pre = pre; }
+              .1 .0; out = a .1 .1 .1 .1 .0; kept = a .1 .1 .1 .1 .1 .0; time = a .1 .1 .1 .1 .1 .1 .0; }; good = good; fits = record { time = record
+              { fits = good .1 .1 .1 .1 .1 .1 .0 .1 } }; pre = pre; }
         module _ { M : Type 1 } (𝓤 : URA.URA M) (H : Wp.Heap 𝓤) (A : Atoms.Atoms 𝓤) (W : Kit.Given 𝓤 H A) (𝓣 : Wp.Tables 𝓤 H) (known0 : Plain.Known 𝓤
             H A W 𝓣 0 ps·0 r·0 (claims· .0) (claims· .1) "cases::script::packet") (known1 : Plain.Known 𝓤 H A W 𝓣 0 ps·1 r·1 (claims· .2) (claims· .3)
             "cases::script::accept_body") (known2 : Plain.Known 𝓤 H A W 𝓣 6 ps·2 r·2 (claims· .4) (claims· .5) "cases::machine::deliver") where

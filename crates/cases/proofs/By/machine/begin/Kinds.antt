@@ -3,10 +3,10 @@ use Rattle.cases.proofs.By.InflightAction
 use Rattle.cases.proofs.By.RelayCircuit
 use Rattle.cases.proofs.By.RelayPending
 use Rattle.cases.proofs.By.ReservationUsage
-use Rattle.hnsr_circuit.proofs.runtime.OpaqueRelayRuntime
-use Rattle.hnsr_circuit.proofs.runtime.OpaqueRelayRuntime.Laws
+use Rattle.hnsr_circuit.proofs.runtime.Relayed
+use Rattle.hnsr_circuit.proofs.runtime.Relayed.Laws
 use borrow.Fn.Kinds
-use borrow.Kind.MutSlice
+use borrow.Kind.ShrSlice
 use borrow.Kind.Value
 use borrow.Rule.Local
 use borrow.Table.Rows
@@ -19,12 +19,11 @@ use mir.Syntax
 use mathlib.Core.List.{_∷_}
 
 abbrev pub ps : List.List (Kinds.PK 4)
-ps = (MutSlice.pMutS RelayPending.row 0 tt) ∷ (MutSlice.pMutS RelayCircuit.row 1 tt) ∷ (MutSlice.pMutS ReservationUsage.row 2 tt) ∷ (MutSlice.pMutS
+ps = (ShrSlice.pShrS RelayPending.row 0 tt) ∷ (ShrSlice.pShrS RelayCircuit.row 1 tt) ∷ (ShrSlice.pShrS ReservationUsage.row 2 tt) ∷ (ShrSlice.pShrS
     InflightAction.row 3 tt) ∷ (Kinds.pNum Syntax.w64) ∷ List.[]
 abbrev pub r : Kinds.RK 4
-r = Value.rVal record { ty = Declared.row OpaqueRelayRuntime.the-type; one = Path.refl; val = Laws'.val OpaqueRelayRuntime.the-type Laws.the-laws;
-    tells = Laws'.tells OpaqueRelayRuntime.the-type Laws.the-laws; still = Laws'.still OpaqueRelayRuntime.the-type Laws.the-copy Exit.yes; row =
-    Rows.whole (Declared.row OpaqueRelayRuntime.the-type); rd = λ x. x; mk = λ x. x; } λ M 𝓤 H A W. record { copies = Laws'.copy
-    OpaqueRelayRuntime.the-type Laws.the-copy 𝓤 H A W; lawful = Laws'.lawful OpaqueRelayRuntime.the-type Laws.the-laws 𝓤 H A W; makes = Laws'.makes
-    OpaqueRelayRuntime.the-type Laws.the-plain 𝓤 H A; in-mem = Local.mem-whole 𝓤 H A W (Declared.row OpaqueRelayRuntime.the-type); of-mem =
-    Local.whole-mem 𝓤 H A W (Declared.row OpaqueRelayRuntime.the-type); }
+r = Value.rVal record { ty = Declared.row Relayed.the-type; one = Path.refl; val = Laws'.val Relayed.the-type Laws.the-laws; tells = Laws'.tells
+    Relayed.the-type Laws.the-laws; still = Laws'.still Relayed.the-type Laws.the-copy Exit.yes; row = Rows.whole (Declared.row Relayed.the-type); rd
+    = λ x. x; mk = λ x. x; } λ M 𝓤 H A W. record { copies = Laws'.copy Relayed.the-type Laws.the-copy 𝓤 H A W; lawful = Laws'.lawful Relayed.the-type
+    Laws.the-laws 𝓤 H A W; makes = Laws'.makes Relayed.the-type Laws.the-plain 𝓤 H A; in-mem = Local.mem-whole 𝓤 H A W (Declared.row
+    Relayed.the-type); of-mem = Local.whole-mem 𝓤 H A W (Declared.row Relayed.the-type); }

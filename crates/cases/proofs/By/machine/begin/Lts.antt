@@ -6,10 +6,8 @@ use Rattle.cases.proofs.By.RelayPending
 use Rattle.cases.proofs.By.ReservationUsage
 use Rattle.hnsr_circuit.proofs.config.OpaqueRelayConfig
 use Rattle.hnsr_circuit.proofs.config.OpaqueRelayConfig.Laws
-use Rattle.hnsr_circuit.proofs.runtime.OpaqueRelayRuntime
-use Rattle.hnsr_circuit.proofs.runtime.OpaqueRelayRuntime.Laws as Laws'
 use Rattle.hnsr_circuit.proofs.runtime.Relayed
-use Rattle.hnsr_circuit.proofs.runtime.Relayed.Laws as Laws''
+use Rattle.hnsr_circuit.proofs.runtime.Relayed.Laws as Laws'
 use borrow.Author.Called
 use borrow.Fn.Any
 use borrow.Fn.Call
@@ -19,26 +17,17 @@ use borrow.Fn.Function
 use borrow.Fn.Kinds
 use borrow.Fn.Plain
 use borrow.Kind.Array
-use borrow.Kind.MutSlice
 use borrow.Kind.Num
+use borrow.Kind.ShrSlice
 use borrow.Kind.Value
 use borrow.Rule.Array.Init
 use borrow.Rule.Array.Repeat
 use borrow.Rule.Array.Rows
 use borrow.Rule.AtSlots
-use borrow.Rule.DerefMove
-use borrow.Rule.Lifetime
 use borrow.Rule.Local
 use borrow.Rule.Scalar
-use borrow.Rule.Slice.Mut
-use borrow.Rule.Slice.Relend
 use borrow.Rule.Slice.Shared
-use borrow.Rule.Way
-use borrow.Rule.WayStmt
 use borrow.Rule.Yields
-use borrow.Struct.Behind
-use borrow.Struct.Inner
-use borrow.Struct.Way as Way'
 use borrow.Table.Copies
 use borrow.Table.Own
 use borrow.Table.Reads
@@ -50,9 +39,8 @@ use contract.Lifetimes
 use denote.Array as Array'
 use denote.Exit
 use denote.Plain as Plain'
-use denote.Struct.At
 use denote.Struct.Declared
-use denote.Struct.Laws as Laws'''
+use denote.Struct.Laws as Laws''
 use denote.Triple.Clauses
 use denote.Triple.Statement
 use ghost.Atoms
@@ -68,163 +56,91 @@ use types.Kit
 use mathlib.Core.List.{_∷_}
 
 abbrev ref0 : Syntax.Ty
-ref0 = Syntax.tyRef Syntax.erased Syntax.mut RelayPending.to
+ref0 = Syntax.tyRef (Syntax.named 0) Syntax.imm RelayPending.to
 abbrev ref1 : Syntax.Ty
-ref1 = Syntax.tyRef Syntax.erased Syntax.mut RelayCircuit.to
+ref1 = Syntax.tyRef (Syntax.named 1) Syntax.imm RelayCircuit.to
 abbrev ref2 : Syntax.Ty
-ref2 = Syntax.tyRef Syntax.erased Syntax.mut ReservationUsage.to
+ref2 = Syntax.tyRef (Syntax.named 2) Syntax.imm ReservationUsage.to
 abbrev ref3 : Syntax.Ty
-ref3 = Syntax.tyRef Syntax.erased Syntax.mut InflightAction.to
-abbrev ref4 : Syntax.Ty
-ref4 = Syntax.tyRef (Syntax.named 0) Syntax.mut RelayPending.to
-abbrev ref5 : Syntax.Ty
-ref5 = Syntax.tyRef (Syntax.named 1) Syntax.mut RelayCircuit.to
-abbrev ref6 : Syntax.Ty
-ref6 = Syntax.tyRef (Syntax.named 2) Syntax.mut ReservationUsage.to
-abbrev ref7 : Syntax.Ty
-ref7 = Syntax.tyRef (Syntax.named 3) Syntax.mut InflightAction.to
+ref3 = Syntax.tyRef (Syntax.named 3) Syntax.imm InflightAction.to
 abbrev pub ps : List.List (Kinds.PK 4)
-ps = (MutSlice.pMutS RelayPending.row 0 tt) ∷ (MutSlice.pMutS RelayCircuit.row 1 tt) ∷ (MutSlice.pMutS ReservationUsage.row 2 tt) ∷ (MutSlice.pMutS
+ps = (ShrSlice.pShrS RelayPending.row 0 tt) ∷ (ShrSlice.pShrS RelayCircuit.row 1 tt) ∷ (ShrSlice.pShrS ReservationUsage.row 2 tt) ∷ (ShrSlice.pShrS
     InflightAction.row 3 tt) ∷ (Num.pNum Syntax.w64) ∷ List.[]
 abbrev pub r : Kinds.RK 4
-r = Value.rVal record { ty = Declared.row OpaqueRelayRuntime.the-type; one = Path.refl; val = Laws'''.val OpaqueRelayRuntime.the-type Laws'.the-laws;
-    tells = Laws'''.tells OpaqueRelayRuntime.the-type Laws'.the-laws; still = Laws'''.still OpaqueRelayRuntime.the-type Laws'.the-copy Exit.yes; row =
-    Rows'.whole (Declared.row OpaqueRelayRuntime.the-type); rd = λ x. x; mk = λ x. x; } λ M 𝓤 H A W. record { copies = Laws'''.copy
-    OpaqueRelayRuntime.the-type Laws'.the-copy 𝓤 H A W; lawful = Laws'''.lawful OpaqueRelayRuntime.the-type Laws'.the-laws 𝓤 H A W; makes =
-    Laws'''.makes OpaqueRelayRuntime.the-type Laws'.the-plain 𝓤 H A; in-mem = Local.mem-whole 𝓤 H A W (Declared.row OpaqueRelayRuntime.the-type);
-    of-mem = Local.whole-mem 𝓤 H A W (Declared.row OpaqueRelayRuntime.the-type); }
+r = Value.rVal record { ty = Declared.row Relayed.the-type; one = Path.refl; val = Laws''.val Relayed.the-type Laws'.the-laws; tells = Laws''.tells
+    Relayed.the-type Laws'.the-laws; still = Laws''.still Relayed.the-type Laws'.the-copy Exit.yes; row = Rows'.whole (Declared.row Relayed.the-type);
+    rd = λ x. x; mk = λ x. x; } λ M 𝓤 H A W. record { copies = Laws''.copy Relayed.the-type Laws'.the-copy 𝓤 H A W; lawful = Laws''.lawful
+    Relayed.the-type Laws'.the-laws 𝓤 H A W; makes = Laws''.makes Relayed.the-type Laws'.the-plain 𝓤 H A; in-mem = Local.mem-whole 𝓤 H A W
+    (Declared.row Relayed.the-type); of-mem = Local.whole-mem 𝓤 H A W (Declared.row Relayed.the-type); }
 abbrev pub xs : List.List Syntax.Ty
-xs = Laws.mir ∷ (Syntax.tyArray (Syntax.tyInt Syntax.w8) 16) ∷ Laws''.mir ∷ ref0 ∷ (Syntax.tyStruct (38 ∷ 91 ∷ 93 ∷ List.[]) (Syntax.tcons ref0
-    (Syntax.tcons (Syntax.tyInt Syntax.w64) Syntax.tnil))) ∷ ref1 ∷ (Syntax.tyStruct (38 ∷ 91 ∷ 93 ∷ List.[]) (Syntax.tcons ref1 (Syntax.tcons
-    (Syntax.tyInt Syntax.w64) Syntax.tnil))) ∷ ref2 ∷ (Syntax.tyStruct (38 ∷ 91 ∷ 93 ∷ List.[]) (Syntax.tcons ref2 (Syntax.tcons (Syntax.tyInt
-    Syntax.w64) Syntax.tnil))) ∷ ref3 ∷ (Syntax.tyStruct (38 ∷ 91 ∷ 93 ∷ List.[]) (Syntax.tcons ref3 (Syntax.tcons (Syntax.tyInt Syntax.w64)
-    Syntax.tnil))) ∷ List.[]
+xs = Laws.mir ∷ (Syntax.tyArray (Syntax.tyInt Syntax.w8) 16) ∷ List.[]
 abbrev pub m : Nat.ℕ
-m = 4
+m = 0
 abbrev pub ps·0 : List.List (Kinds.PK 0)
 ps·0 = (Num.pNum Syntax.w64) ∷ List.[]
 abbrev pub r·0 : Kinds.RK 0
-r·0 = Value.rVal record { ty = Declared.row OpaqueRelayConfig.the-type; one = Path.refl; val = Laws'''.val OpaqueRelayConfig.the-type Laws.the-laws;
-    tells = Laws'''.tells OpaqueRelayConfig.the-type Laws.the-laws; still = Laws'''.still OpaqueRelayConfig.the-type Laws.the-copy Exit.yes; row =
-    Rows'.whole (Declared.row OpaqueRelayConfig.the-type); rd = λ x. x; mk = λ x. x; } λ M 𝓤 H A W. record { copies = Laws'''.copy
-    OpaqueRelayConfig.the-type Laws.the-copy 𝓤 H A W; lawful = Laws'''.lawful OpaqueRelayConfig.the-type Laws.the-laws 𝓤 H A W; makes = Laws'''.makes
+r·0 = Value.rVal record { ty = Declared.row OpaqueRelayConfig.the-type; one = Path.refl; val = Laws''.val OpaqueRelayConfig.the-type Laws.the-laws;
+    tells = Laws''.tells OpaqueRelayConfig.the-type Laws.the-laws; still = Laws''.still OpaqueRelayConfig.the-type Laws.the-copy Exit.yes; row =
+    Rows'.whole (Declared.row OpaqueRelayConfig.the-type); rd = λ x. x; mk = λ x. x; } λ M 𝓤 H A W. record { copies = Laws''.copy
+    OpaqueRelayConfig.the-type Laws.the-copy 𝓤 H A W; lawful = Laws''.lawful OpaqueRelayConfig.the-type Laws.the-laws 𝓤 H A W; makes = Laws''.makes
     OpaqueRelayConfig.the-type Laws.the-plain 𝓤 H A; in-mem = Local.mem-whole 𝓤 H A W (Declared.row OpaqueRelayConfig.the-type); of-mem =
     Local.whole-mem 𝓤 H A W (Declared.row OpaqueRelayConfig.the-type); }
 abbrev pub ps·1 : List.List (Kinds.PK 4)
-ps·1 = (MutSlice.pMutS RelayPending.row 0 tt) ∷ (MutSlice.pMutS RelayCircuit.row 1 tt) ∷ (MutSlice.pMutS ReservationUsage.row 2 tt) ∷ (MutSlice.pMutS
+ps·1 = (ShrSlice.pShrS RelayPending.row 0 tt) ∷ (ShrSlice.pShrS RelayCircuit.row 1 tt) ∷ (ShrSlice.pShrS ReservationUsage.row 2 tt) ∷ (ShrSlice.pShrS
     InflightAction.row 3 tt) ∷ (Array.pArr (Array.eInt Syntax.w8) (Array.eInt-laws Syntax.w8) 16) ∷ (Num.pNum Syntax.w64) ∷ (Value.pVal record { ty =
-    Declared.row OpaqueRelayConfig.the-type; one = Path.refl; val = Laws'''.val OpaqueRelayConfig.the-type Laws.the-laws; tells = Laws'''.tells
-    OpaqueRelayConfig.the-type Laws.the-laws; still = Laws'''.still OpaqueRelayConfig.the-type Laws.the-copy Exit.yes; row = Rows'.whole (Declared.row
-    OpaqueRelayConfig.the-type); rd = λ x. x; mk = λ x. x; } λ M 𝓤 H A W. record { copies = Laws'''.copy OpaqueRelayConfig.the-type Laws.the-copy 𝓤 H
-    A W; lawful = Laws'''.lawful OpaqueRelayConfig.the-type Laws.the-laws 𝓤 H A W; makes = Laws'''.makes OpaqueRelayConfig.the-type Laws.the-plain 𝓤 H
-    A; in-mem = Local.mem-whole 𝓤 H A W (Declared.row OpaqueRelayConfig.the-type); of-mem = Local.whole-mem 𝓤 H A W (Declared.row
+    Declared.row OpaqueRelayConfig.the-type; one = Path.refl; val = Laws''.val OpaqueRelayConfig.the-type Laws.the-laws; tells = Laws''.tells
+    OpaqueRelayConfig.the-type Laws.the-laws; still = Laws''.still OpaqueRelayConfig.the-type Laws.the-copy Exit.yes; row = Rows'.whole (Declared.row
+    OpaqueRelayConfig.the-type); rd = λ x. x; mk = λ x. x; } λ M 𝓤 H A W. record { copies = Laws''.copy OpaqueRelayConfig.the-type Laws.the-copy 𝓤 H A
+    W; lawful = Laws''.lawful OpaqueRelayConfig.the-type Laws.the-laws 𝓤 H A W; makes = Laws''.makes OpaqueRelayConfig.the-type Laws.the-plain 𝓤 H A;
+    in-mem = Local.mem-whole 𝓤 H A W (Declared.row OpaqueRelayConfig.the-type); of-mem = Local.whole-mem 𝓤 H A W (Declared.row
     OpaqueRelayConfig.the-type); }) ∷ (Num.pNum Syntax.w64) ∷ List.[]
 abbrev pub r·1 : Kinds.RK 4
-r·1 = Value.rVal record { ty = Declared.row Relayed.the-type; one = Path.refl; val = Laws'''.val Relayed.the-type Laws''.the-laws; tells =
-    Laws'''.tells Relayed.the-type Laws''.the-laws; still = Laws'''.still Relayed.the-type Laws''.the-copy Exit.yes; row = Rows'.whole (Declared.row
-    Relayed.the-type); rd = λ x. x; mk = λ x. x; } λ M 𝓤 H A W. record { copies = Laws'''.copy Relayed.the-type Laws''.the-copy 𝓤 H A W; lawful =
-    Laws'''.lawful Relayed.the-type Laws''.the-laws 𝓤 H A W; makes = Laws'''.makes Relayed.the-type Laws''.the-plain 𝓤 H A; in-mem = Local.mem-whole 𝓤
-    H A W (Declared.row Relayed.the-type); of-mem = Local.whole-mem 𝓤 H A W (Declared.row Relayed.the-type); }
+r·1 = Value.rVal record { ty = Declared.row Relayed.the-type; one = Path.refl; val = Laws''.val Relayed.the-type Laws'.the-laws; tells = Laws''.tells
+    Relayed.the-type Laws'.the-laws; still = Laws''.still Relayed.the-type Laws'.the-copy Exit.yes; row = Rows'.whole (Declared.row Relayed.the-type);
+    rd = λ x. x; mk = λ x. x; } λ M 𝓤 H A W. record { copies = Laws''.copy Relayed.the-type Laws'.the-copy 𝓤 H A W; lawful = Laws''.lawful
+    Relayed.the-type Laws'.the-laws 𝓤 H A W; makes = Laws''.makes Relayed.the-type Laws'.the-plain 𝓤 H A; in-mem = Local.mem-whole 𝓤 H A W
+    (Declared.row Relayed.the-type); of-mem = Local.whole-mem 𝓤 H A W (Declared.row Relayed.the-type); }
 abbrev pub hs : List.List Syntax.Home
 hs = Syntax.valueLocal ∷ Syntax.valueLocal ∷ Syntax.valueLocal ∷ Syntax.valueLocal ∷ Syntax.valueLocal ∷ Syntax.valueLocal ∷ Syntax.valueLocal ∷
-    Syntax.valueLocal ∷ Syntax.valueLocal ∷ Syntax.valueLocal ∷ Syntax.valueLocal ∷ Syntax.valueLocal ∷ Syntax.valueLocal ∷ Syntax.valueLocal ∷
-    Syntax.valueLocal ∷ Syntax.valueLocal ∷ Syntax.valueLocal ∷ List.[]
+    Syntax.valueLocal ∷ List.[]
 abbrev b0 : Syntax.Body
 b0 = Syntax.call "cases::script::configured" ((Syntax.copy (Syntax.place 5 List.[])) ∷ List.[]) (Syntax.place 6 List.[])
 abbrev b1 : Syntax.Body
 b1 = Syntax.assign (Syntax.place 7 List.[]) (Syntax.repeat (Syntax.int Syntax.w8 1) 16)
 abbrev b2 : Syntax.Body
-b2 = Syntax.assign (Syntax.place 9 List.[]) (Syntax.addrOf (Syntax.place 1 ((Syntax.field 0) ∷ (Syntax.deref RelayPending.ty) ∷ List.[])))
+b2 = Syntax.call "hnsr_circuit::calls::new" ((Syntax.copy (Syntax.place 1 List.[])) ∷ (Syntax.copy (Syntax.place 2 List.[])) ∷ (Syntax.copy
+    (Syntax.place 3 List.[])) ∷ (Syntax.copy (Syntax.place 4 List.[])) ∷ (Syntax.copy (Syntax.place 7 List.[])) ∷ (Syntax.int Syntax.w64 1) ∷
+    (Syntax.copy (Syntax.place 6 List.[])) ∷ (Syntax.int Syntax.w64 100) ∷ List.[]) (Syntax.place 0 List.[])
 abbrev b3 : Syntax.Body
-b3 = Syntax.assign (Syntax.place 10 List.[]) (Syntax.aggregate ((Syntax.copy (Syntax.place 9 List.[])) ∷ (Syntax.copy (Syntax.place 1 ((Syntax.field
-    1) ∷ List.[]))) ∷ List.[]))
+b3 = Syntax.return
 abbrev b4 : Syntax.Body
-b4 = Syntax.assign (Syntax.place 11 List.[]) (Syntax.addrOf (Syntax.place 2 ((Syntax.field 0) ∷ (Syntax.deref RelayCircuit.ty) ∷ List.[])))
+b4 = Syntax.seq b2 b3
 abbrev b5 : Syntax.Body
-b5 = Syntax.assign (Syntax.place 12 List.[]) (Syntax.aggregate ((Syntax.copy (Syntax.place 11 List.[])) ∷ (Syntax.copy (Syntax.place 2 ((Syntax.field
-    1) ∷ List.[]))) ∷ List.[]))
+b5 = Syntax.seq b1 b4
 abbrev b6 : Syntax.Body
-b6 = Syntax.assign (Syntax.place 13 List.[]) (Syntax.addrOf (Syntax.place 3 ((Syntax.field 0) ∷ (Syntax.deref ReservationUsage.ty) ∷ List.[])))
-abbrev b7 : Syntax.Body
-b7 = Syntax.assign (Syntax.place 14 List.[]) (Syntax.aggregate ((Syntax.copy (Syntax.place 13 List.[])) ∷ (Syntax.copy (Syntax.place 3 ((Syntax.field
-    1) ∷ List.[]))) ∷ List.[]))
-abbrev b8 : Syntax.Body
-b8 = Syntax.assign (Syntax.place 15 List.[]) (Syntax.addrOf (Syntax.place 4 ((Syntax.field 0) ∷ (Syntax.deref InflightAction.ty) ∷ List.[])))
-abbrev b9 : Syntax.Body
-b9 = Syntax.assign (Syntax.place 16 List.[]) (Syntax.aggregate ((Syntax.copy (Syntax.place 15 List.[])) ∷ (Syntax.copy (Syntax.place 4 ((Syntax.field
-    1) ∷ List.[]))) ∷ List.[]))
-abbrev b10 : Syntax.Body
-b10 = Syntax.call "hnsr_circuit::calls::new" ((Syntax.copy (Syntax.place 10 List.[])) ∷ (Syntax.copy (Syntax.place 12 List.[])) ∷ (Syntax.copy
-    (Syntax.place 14 List.[])) ∷ (Syntax.copy (Syntax.place 16 List.[])) ∷ (Syntax.copy (Syntax.place 7 List.[])) ∷ (Syntax.int Syntax.w64 1) ∷
-    (Syntax.copy (Syntax.place 6 List.[])) ∷ (Syntax.int Syntax.w64 100) ∷ List.[]) (Syntax.place 8 List.[])
-abbrev b11 : Syntax.Body
-b11 = Syntax.assign (Syntax.place 0 List.[]) (Syntax.rvOpd (Syntax.copy (Syntax.place 8 ((Syntax.field 0) ∷ List.[]))))
-abbrev b12 : Syntax.Body
-b12 = Syntax.return
-abbrev b13 : Syntax.Body
-b13 = Syntax.seq b11 b12
-abbrev b14 : Syntax.Body
-b14 = Syntax.seq b10 b13
-abbrev b15 : Syntax.Body
-b15 = Syntax.seq b9 b14
-abbrev b16 : Syntax.Body
-b16 = Syntax.seq b8 b15
-abbrev b17 : Syntax.Body
-b17 = Syntax.seq b7 b16
-abbrev b18 : Syntax.Body
-b18 = Syntax.seq b6 b17
-abbrev b19 : Syntax.Body
-b19 = Syntax.seq b5 b18
-abbrev b20 : Syntax.Body
-b20 = Syntax.seq b4 b19
-abbrev b21 : Syntax.Body
-b21 = Syntax.seq b3 b20
-abbrev b22 : Syntax.Body
-b22 = Syntax.seq b2 b21
-abbrev b23 : Syntax.Body
-b23 = Syntax.seq b1 b22
-abbrev b24 : Syntax.Body
-b24 = Syntax.seq b0 b23
+b6 = Syntax.seq b0 b5
 abbrev pub body : Syntax.Body
-body = b24
+body = b6
 abbrev pub Claims : Type 1
 Claims = Kinds.In 0 ps·0 × Kinds.Out 0 ps·0 r·0 × Kinds.In 4 ps·1 × Kinds.Out 4 ps·1 r·1
 abbrev e0 : Row.Entry
 e0 = (0, Rows'.any-gone Laws'.mir)
 abbrev e1 : Row.Entry
-e1 = (1, Mut.mslice RelayPending.row ref4 0)
+e1 = (1, Rows'.sslice RelayPending.row ref0 0)
 abbrev e2 : Row.Entry
-e2 = (2, Mut.mslice RelayCircuit.row ref5 1)
+e2 = (2, Rows'.sslice RelayCircuit.row ref1 1)
 abbrev e3 : Row.Entry
-e3 = (3, Mut.mslice ReservationUsage.row ref6 2)
+e3 = (3, Rows'.sslice ReservationUsage.row ref2 2)
 abbrev e4 : Row.Entry
-e4 = (4, Mut.mslice InflightAction.row ref7 3)
+e4 = (4, Rows'.sslice InflightAction.row ref3 3)
 abbrev e5 : Row.Entry
 e5 = (5, Rows'.sc-here (Row.sInt Syntax.w64))
 abbrev e6 : Row.Entry
 e6 = (6, Rows'.any-gone Laws.mir)
 abbrev e7 : Row.Entry
 e7 = (7, Rows'.any-gone (Syntax.tyArray (Syntax.tyInt Syntax.w8) 16))
-abbrev e8 : Row.Entry
-e8 = (8, Rows'.any-gone Laws''.mir)
-abbrev e9 : Row.Entry
-e9 = (9, Rows'.any-gone ref0)
-abbrev e10 : Row.Entry
-e10 = (10, Rows'.any-gone (Syntax.tyStruct (38 ∷ 91 ∷ 93 ∷ List.[]) (Syntax.tcons ref0 (Syntax.tcons (Syntax.tyInt Syntax.w64) Syntax.tnil))))
-abbrev e11 : Row.Entry
-e11 = (11, Rows'.any-gone ref1)
-abbrev e12 : Row.Entry
-e12 = (12, Rows'.any-gone (Syntax.tyStruct (38 ∷ 91 ∷ 93 ∷ List.[]) (Syntax.tcons ref1 (Syntax.tcons (Syntax.tyInt Syntax.w64) Syntax.tnil))))
-abbrev e13 : Row.Entry
-e13 = (13, Rows'.any-gone ref2)
-abbrev e14 : Row.Entry
-e14 = (14, Rows'.any-gone (Syntax.tyStruct (38 ∷ 91 ∷ 93 ∷ List.[]) (Syntax.tcons ref2 (Syntax.tcons (Syntax.tyInt Syntax.w64) Syntax.tnil))))
-abbrev e15 : Row.Entry
-e15 = (15, Rows'.any-gone ref3)
-abbrev e16 : Row.Entry
-e16 = (16, Rows'.any-gone (Syntax.tyStruct (38 ∷ 91 ∷ 93 ∷ List.[]) (Syntax.tcons ref3 (Syntax.tcons (Syntax.tyInt Syntax.w64) Syntax.tnil))))
 abbrev e0·1 : Row.Entry
-e0·1 = (0, Rows'.whole (Declared.row OpaqueRelayRuntime.the-type))
+e0·1 = (0, Rows'.whole (Declared.row Relayed.the-type))
 abbrev e5·1 : Row.Entry
 e5·1 = (5, Rows'.any-gone (Syntax.tyInt Syntax.w64))
 abbrev e6·1 : Row.Entry
@@ -233,192 +149,61 @@ abbrev e7·1 : Row.Entry
 e7·1 = (7, Rows'.whole (Array'.Array (Referent.rtF (Referent.fInt Syntax.w8)) 16))
 abbrev e7·2 : Row.Entry
 e7·2 = (7, Rows.arrF (Referent.rtF (Referent.fInt Syntax.w8)) 16 0)
-abbrev e1·1 : Row.Entry
-e1·1 = (1, Relend.mslice-owed RelayPending.row ref4 0 4 Row.off)
-abbrev e9·1 : Row.Entry
-e9·1 = (9, Relend.msptr RelayPending.row ref0 4)
-abbrev e10·1 : Row.Entry
-e10·1 = (10, Mut.mslice RelayPending.row ref0 4)
-abbrev e2·1 : Row.Entry
-e2·1 = (2, Relend.mslice-owed RelayCircuit.row ref5 1 5 Row.off)
-abbrev e11·1 : Row.Entry
-e11·1 = (11, Relend.msptr RelayCircuit.row ref1 5)
-abbrev e12·1 : Row.Entry
-e12·1 = (12, Mut.mslice RelayCircuit.row ref1 5)
-abbrev e3·1 : Row.Entry
-e3·1 = (3, Relend.mslice-owed ReservationUsage.row ref6 2 6 Row.off)
-abbrev e13·1 : Row.Entry
-e13·1 = (13, Relend.msptr ReservationUsage.row ref2 6)
-abbrev e14·1 : Row.Entry
-e14·1 = (14, Mut.mslice ReservationUsage.row ref2 6)
-abbrev e4·1 : Row.Entry
-e4·1 = (4, Relend.mslice-owed InflightAction.row ref7 3 7 Row.off)
-abbrev e15·1 : Row.Entry
-e15·1 = (15, Relend.msptr InflightAction.row ref3 7)
-abbrev e16·1 : Row.Entry
-e16·1 = (16, Mut.mslice InflightAction.row ref3 7)
-abbrev e8·1 : Row.Entry
-e8·1 = (8, Rows'.whole (Declared.row Relayed.the-type))
-abbrev e10·2 : Row.Entry
-e10·2 = (10, Mut.msleft RelayPending.row ref0)
-abbrev e12·2 : Row.Entry
-e12·2 = (12, Mut.msleft RelayCircuit.row ref1)
-abbrev e14·2 : Row.Entry
-e14·2 = (14, Mut.msleft ReservationUsage.row ref2)
-abbrev e16·2 : Row.Entry
-e16·2 = (16, Mut.msleft InflightAction.row ref3)
 abbrev pub t0 : List.List Row.Entry
-t0 = e0 ∷ e1 ∷ e2 ∷ e3 ∷ e4 ∷ e5 ∷ e6 ∷ e7 ∷ e8 ∷ e9 ∷ e10 ∷ e11 ∷ e12 ∷ e13 ∷ e14 ∷ e15 ∷ List.[]
+t0 = e0 ∷ e1 ∷ e2 ∷ e3 ∷ e4 ∷ e5 ∷ e6 ∷ e7 ∷ List.[]
 abbrev pub t1 : List.List Row.Entry
-t1 = e16 ∷ List.[]
+t1 = e0·1 ∷ e1 ∷ e2 ∷ e3 ∷ e4 ∷ e5·1 ∷ e6 ∷ e7 ∷ List.[]
 abbrev pub t2 : List.List Row.Entry
-t2 = e0·1 ∷ e1 ∷ e2 ∷ e3 ∷ e4 ∷ e5·1 ∷ e6 ∷ e7 ∷ e8 ∷ e9 ∷ e10 ∷ e11 ∷ e12 ∷ e13 ∷ e14 ∷ e15 ∷ List.[]
+t2 = e0 ∷ e1 ∷ e2 ∷ e3 ∷ e4 ∷ e5 ∷ e6·1 ∷ e7 ∷ List.[]
 abbrev pub t3 : List.List Row.Entry
-t3 = e0 ∷ e1 ∷ e2 ∷ e3 ∷ e4 ∷ e5 ∷ e6·1 ∷ e7 ∷ e8 ∷ e9 ∷ e10 ∷ e11 ∷ e12 ∷ e13 ∷ e14 ∷ e15 ∷ List.[]
+t3 = e0 ∷ e1 ∷ e2 ∷ e3 ∷ e4 ∷ e5 ∷ e6·1 ∷ e7·1 ∷ List.[]
 abbrev pub t4 : List.List Row.Entry
-t4 = e0 ∷ e1 ∷ e2 ∷ e3 ∷ e4 ∷ e5 ∷ e6·1 ∷ e7·1 ∷ e8 ∷ e9 ∷ e10 ∷ e11 ∷ e12 ∷ e13 ∷ e14 ∷ e15 ∷ List.[]
+t4 = e0 ∷ e1 ∷ e2 ∷ e3 ∷ e4 ∷ e5 ∷ e6·1 ∷ e7·2 ∷ List.[]
 abbrev pub t5 : List.List Row.Entry
-t5 = e0 ∷ e1 ∷ e2 ∷ e3 ∷ e4 ∷ e5 ∷ e6·1 ∷ e7·2 ∷ e8 ∷ e9 ∷ e10 ∷ e11 ∷ e12 ∷ e13 ∷ e14 ∷ e15 ∷ List.[]
+t5 = e0·1 ∷ e1 ∷ e2 ∷ e3 ∷ e4 ∷ e5 ∷ e6·1 ∷ e7·2 ∷ List.[]
 abbrev pub t6 : List.List Row.Entry
-t6 = e0 ∷ e1·1 ∷ e2 ∷ e3 ∷ e4 ∷ e5 ∷ e6·1 ∷ e7·2 ∷ e8 ∷ e9·1 ∷ e10 ∷ e11 ∷ e12 ∷ e13 ∷ e14 ∷ e15 ∷ List.[]
+t6 = e0·1 ∷ e1 ∷ e2 ∷ e3 ∷ e4 ∷ e5 ∷ e6 ∷ e7·2 ∷ List.[]
 abbrev pub t7 : List.List Row.Entry
-t7 = e0 ∷ e1·1 ∷ e2 ∷ e3 ∷ e4 ∷ e5 ∷ e6·1 ∷ e7·2 ∷ e8 ∷ e9 ∷ e10·1 ∷ e11 ∷ e12 ∷ e13 ∷ e14 ∷ e15 ∷ List.[]
-abbrev pub t8 : List.List Row.Entry
-t8 = e0 ∷ e1·1 ∷ e2·1 ∷ e3 ∷ e4 ∷ e5 ∷ e6·1 ∷ e7·2 ∷ e8 ∷ e9 ∷ e10·1 ∷ e11·1 ∷ e12 ∷ e13 ∷ e14 ∷ e15 ∷ List.[]
-abbrev pub t9 : List.List Row.Entry
-t9 = e0 ∷ e1·1 ∷ e2·1 ∷ e3 ∷ e4 ∷ e5 ∷ e6·1 ∷ e7·2 ∷ e8 ∷ e9 ∷ e10·1 ∷ e11 ∷ e12·1 ∷ e13 ∷ e14 ∷ e15 ∷ List.[]
-abbrev pub t10 : List.List Row.Entry
-t10 = e0 ∷ e1·1 ∷ e2·1 ∷ e3·1 ∷ e4 ∷ e5 ∷ e6·1 ∷ e7·2 ∷ e8 ∷ e9 ∷ e10·1 ∷ e11 ∷ e12·1 ∷ e13·1 ∷ e14 ∷ e15 ∷ List.[]
-abbrev pub t11 : List.List Row.Entry
-t11 = e0 ∷ e1·1 ∷ e2·1 ∷ e3·1 ∷ e4 ∷ e5 ∷ e6·1 ∷ e7·2 ∷ e8 ∷ e9 ∷ e10·1 ∷ e11 ∷ e12·1 ∷ e13 ∷ e14·1 ∷ e15 ∷ List.[]
-abbrev pub t12 : List.List Row.Entry
-t12 = e0 ∷ e1·1 ∷ e2·1 ∷ e3·1 ∷ e4·1 ∷ e5 ∷ e6·1 ∷ e7·2 ∷ e8 ∷ e9 ∷ e10·1 ∷ e11 ∷ e12·1 ∷ e13 ∷ e14·1 ∷ e15·1 ∷ List.[]
-abbrev pub t13 : List.List Row.Entry
-t13 = e0 ∷ e1·1 ∷ e2·1 ∷ e3·1 ∷ e4·1 ∷ e5 ∷ e6·1 ∷ e7·2 ∷ e8 ∷ e9 ∷ e10·1 ∷ e11 ∷ e12·1 ∷ e13 ∷ e14·1 ∷ e15 ∷ List.[]
-abbrev pub t14 : List.List Row.Entry
-t14 = e16·1 ∷ List.[]
-abbrev pub t15 : List.List Row.Entry
-t15 = e0 ∷ e1·1 ∷ e2·1 ∷ e3·1 ∷ e4·1 ∷ e5 ∷ e6·1 ∷ e7·2 ∷ e8·1 ∷ e9 ∷ e10·2 ∷ e11 ∷ e12·2 ∷ e13 ∷ e14·2 ∷ e15 ∷ List.[]
-abbrev pub t16 : List.List Row.Entry
-t16 = e16·2 ∷ List.[]
-abbrev pub t17 : List.List Row.Entry
-t17 = e0 ∷ e1·1 ∷ e2·1 ∷ e3·1 ∷ e4·1 ∷ e5 ∷ e6 ∷ e7·2 ∷ e8·1 ∷ e9 ∷ e10·2 ∷ e11 ∷ e12·2 ∷ e13 ∷ e14·2 ∷ e15 ∷ List.[]
-abbrev pub t18 : List.List Row.Entry
-t18 = e0 ∷ e1·1 ∷ e2·1 ∷ e3·1 ∷ e4·1 ∷ e5 ∷ e6 ∷ e7 ∷ e8·1 ∷ e9 ∷ e10·2 ∷ e11 ∷ e12·2 ∷ e13 ∷ e14·2 ∷ e15 ∷ List.[]
-abbrev pub t19 : List.List Row.Entry
-t19 = e0 ∷ e1 ∷ e2·1 ∷ e3·1 ∷ e4·1 ∷ e5 ∷ e6 ∷ e7 ∷ e8·1 ∷ e9 ∷ e10 ∷ e11 ∷ e12·2 ∷ e13 ∷ e14·2 ∷ e15 ∷ List.[]
-abbrev pub t20 : List.List Row.Entry
-t20 = e0 ∷ e1 ∷ e2 ∷ e3·1 ∷ e4·1 ∷ e5 ∷ e6 ∷ e7 ∷ e8·1 ∷ e9 ∷ e10 ∷ e11 ∷ e12 ∷ e13 ∷ e14·2 ∷ e15 ∷ List.[]
-abbrev pub t21 : List.List Row.Entry
-t21 = e0 ∷ e1 ∷ e2 ∷ e3 ∷ e4·1 ∷ e5 ∷ e6 ∷ e7 ∷ e8·1 ∷ e9 ∷ e10 ∷ e11 ∷ e12 ∷ e13 ∷ e14 ∷ e15 ∷ List.[]
-abbrev pub t22 : List.List Row.Entry
-t22 = e0 ∷ e1 ∷ e2 ∷ e3 ∷ e4 ∷ e5 ∷ e6 ∷ e7 ∷ e8·1 ∷ e9 ∷ e10 ∷ e11 ∷ e12 ∷ e13 ∷ e14 ∷ e15 ∷ List.[]
-abbrev pub t23 : List.List Row.Entry
-t23 = e0·1 ∷ e1 ∷ e2 ∷ e3 ∷ e4 ∷ e5 ∷ e6 ∷ e7 ∷ e8·1 ∷ e9 ∷ e10 ∷ e11 ∷ e12 ∷ e13 ∷ e14 ∷ e15 ∷ List.[]
-abbrev pub t24 : List.List Row.Entry
-t24 = e0·1 ∷ e1 ∷ e2 ∷ e3 ∷ e4 ∷ e5 ∷ e6 ∷ e7 ∷ e8 ∷ e9 ∷ e10 ∷ e11 ∷ e12 ∷ e13 ∷ e14 ∷ e15 ∷ List.[]
+t7 = e0·1 ∷ e1 ∷ e2 ∷ e3 ∷ e4 ∷ e5 ∷ e6 ∷ e7 ∷ List.[]
 abbrev pub T0 : Row.Cx
-T0 = record { locals = List._++_ t0 t1; slots = List.[] }
+T0 = record { locals = t0; slots = List.[] }
 abbrev pub T1 : Row.Cx
-T1 = record { locals = List._++_ t2 t1; slots = List.[] }
+T1 = record { locals = t1; slots = List.[] }
 abbrev pub T2 : Row.Cx
-T2 = record { locals = List._++_ t3 t1; slots = List.[] }
+T2 = record { locals = t2; slots = List.[] }
 abbrev pub T3 : Row.Cx
-T3 = record { locals = List._++_ t4 t1; slots = List.[] }
+T3 = record { locals = t3; slots = List.[] }
 abbrev pub T4 : Row.Cx
-T4 = record { locals = List._++_ t5 t1; slots = List.[] }
+T4 = record { locals = t4; slots = List.[] }
+abbrev pub T5 : Row.Cx
+T5 = record { locals = t5; slots = List.[] }
 abbrev pub T6 : Row.Cx
-T6 = record { locals = List._++_ t6 t1; slots = List.[] }
+T6 = record { locals = t6; slots = List.[] }
 abbrev pub T7 : Row.Cx
-T7 = record { locals = List._++_ t7 t1; slots = List.[] }
-abbrev pub T9 : Row.Cx
-T9 = record { locals = List._++_ t8 t1; slots = List.[] }
-abbrev pub T10 : Row.Cx
-T10 = record { locals = List._++_ t9 t1; slots = List.[] }
-abbrev pub T12 : Row.Cx
-T12 = record { locals = List._++_ t10 t1; slots = List.[] }
-abbrev pub T13 : Row.Cx
-T13 = record { locals = List._++_ t11 t1; slots = List.[] }
-abbrev pub T15 : Row.Cx
-T15 = record { locals = List._++_ t12 t1; slots = List.[] }
-abbrev pub T16 : Row.Cx
-T16 = record { locals = List._++_ t13 t14; slots = List.[] }
-abbrev pub T17 : Row.Cx
-T17 = record { locals = List._++_ t15 t16; slots = List.[] }
-abbrev pub T18 : Row.Cx
-T18 = record { locals = List._++_ t17 t16; slots = List.[] }
-abbrev pub T19 : Row.Cx
-T19 = record { locals = List._++_ t18 t16; slots = List.[] }
-abbrev pub T21 : Row.Cx
-T21 = record { locals = List._++_ t19 t16; slots = List.[] }
-abbrev pub T24 : Row.Cx
-T24 = record { locals = List._++_ t20 t16; slots = List.[] }
-abbrev pub T27 : Row.Cx
-T27 = record { locals = List._++_ t21 t16; slots = List.[] }
-abbrev pub T30 : Row.Cx
-T30 = record { locals = List._++_ t22 t1; slots = List.[] }
-abbrev pub T32 : Row.Cx
-T32 = record { locals = List._++_ t23 t1; slots = List.[] }
-abbrev pub T33 : Row.Cx
-T33 = record { locals = List._++_ t24 t1; slots = List.[] }
-abbrev pub T34 : Row.Cx
-T34 = record { locals = List._++_ t2 t1; slots = List.[] }
+T7 = record { locals = t7; slots = List.[] }
+abbrev pub T8 : Row.Cx
+T8 = record { locals = t1; slots = List.[] }
 abbrev pub O0 : Typed.Outs
 O0 = record { next = Option.none; exits = List.[]; returns = Option.some T1 }
 module _ (claims· : Claims) where
-  abbrev s0 : (bs : List.List Nat.ℕ) → Typed.Both T0 T2
-  s0 = λ bs. Call.callB ps·0 r·0 (claims· .0) (claims· .1) T0 (Num.vAt 5 λ x. x, tt) 6 List.[] Laws.mir
-  abbrev s1 : (bs : List.List Nat.ℕ) → Typed.Mo T2 → Typed.Mo T3
-  s1 = λ bs. Repeat.n-repeat (Referent.rtF (Referent.fInt Syntax.w8)) 16 T2 7 λ m. 1
-  abbrev s2 : (bs : List.List Nat.ℕ) → Typed.Mo T3 → Typed.Mo T4
-  s2 = λ bs. AtSlots.n-as-by T3 7 (Rows.arrF (Referent.rtF (Referent.fInt Syntax.w8)) 16 0) λ x. x
-  abbrev s4 : (bs : List.List Nat.ℕ) → Typed.Gives T4 T6
-  s4 = λ bs. Relend.k-sl-relend RelayPending.row T4 1 9 0 4 ref4 ref0 Row.off λ x. x
-  abbrev s5 : (bs : List.List Nat.ℕ) → Typed.Asks T6 T7
-  s5 = λ bs. Relend.k-sl-aggregate RelayPending.row (Relend.asMut RelayPending.row) T6 9 10 4 ref0 ref0 (λ x. x) (Scalar.oFld 1 ((Syntax.field 1) ∷
-      List.[]) (Syntax.tyInt Syntax.w64) 8 λ v. Shared.lenV (v .0))
-  abbrev s7 : (bs : List.List Nat.ℕ) → Typed.Gives T7 T9
-  s7 = λ bs. Relend.k-sl-relend RelayCircuit.row T7 2 11 1 5 ref5 ref1 Row.off λ x. x
-  abbrev s8 : (bs : List.List Nat.ℕ) → Typed.Asks T9 T10
-  s8 = λ bs. Relend.k-sl-aggregate RelayCircuit.row (Relend.asMut RelayCircuit.row) T9 11 12 5 ref1 ref1 (λ x. x) (Scalar.oFld 2 ((Syntax.field 1) ∷
-      List.[]) (Syntax.tyInt Syntax.w64) 8 λ v. Shared.lenV (v .0))
-  abbrev s10 : (bs : List.List Nat.ℕ) → Typed.Gives T10 T12
-  s10 = λ bs. Relend.k-sl-relend ReservationUsage.row T10 3 13 2 6 ref6 ref2 Row.off λ x. x
-  abbrev s11 : (bs : List.List Nat.ℕ) → Typed.Asks T12 T13
-  s11 = λ bs. Relend.k-sl-aggregate ReservationUsage.row (Relend.asMut ReservationUsage.row) T12 13 14 6 ref2 ref2 (λ x. x) (Scalar.oFld 3
-      ((Syntax.field 1) ∷ List.[]) (Syntax.tyInt Syntax.w64) 8 λ v. Shared.lenV (v .0))
-  abbrev s13 : (bs : List.List Nat.ℕ) → Typed.Gives T13 T15
-  s13 = λ bs. Relend.k-sl-relend InflightAction.row T13 4 15 3 7 ref7 ref3 Row.off λ x. x
-  abbrev s14 : (bs : List.List Nat.ℕ) → Typed.Asks T15 T16
-  s14 = λ bs. Relend.k-sl-aggregate InflightAction.row (Relend.asMut InflightAction.row) T15 15 16 7 ref3 ref3 (λ x. x) (Scalar.oFld 4 ((Syntax.field
-      1) ∷ List.[]) (Syntax.tyInt Syntax.w64) 8 λ v. Shared.lenV (v .0))
-  abbrev s15 : (bs : List.List Nat.ℕ) → Typed.Both T16 T17
-  s15 = λ bs. Call.callB ps·1 r·1 (claims· .2) (claims· .3) T16 (record { pos = 10; ty = Syntax.tyRef Syntax.erased Syntax.mut RelayPending.to; ref =
-      λ x. x; }, (record { pos = 12; ty = Syntax.tyRef Syntax.erased Syntax.mut RelayCircuit.to; ref = λ x. x; }, (record { pos = 14; ty =
-      Syntax.tyRef Syntax.erased Syntax.mut ReservationUsage.to; ref = λ x. x; }, (record { pos = 16; ty = Syntax.tyRef Syntax.erased Syntax.mut
+  abbrev s0 : Typed.Both T0 T2
+  s0 = Call.callB ps·0 r·0 (claims· .0) (claims· .1) T0 (Num.vAt 5 λ x. x, tt) 6 List.[] Laws.mir
+  abbrev s1 : Typed.Mo T2 → Typed.Mo T3
+  s1 = Repeat.n-repeat (Referent.rtF (Referent.fInt Syntax.w8)) 16 T2 7 λ m. 1
+  abbrev s2 : Typed.Mo T3 → Typed.Mo T4
+  s2 = AtSlots.n-as-by T3 7 (Rows.arrF (Referent.rtF (Referent.fInt Syntax.w8)) 16 0) λ x. x
+  abbrev s3 : Typed.Both T4 T5
+  s3 = Call.callB ps·1 r·1 (claims· .2) (claims· .3) T4 (record { pos = 1; ty = Syntax.tyRef (Syntax.named 0) Syntax.imm RelayPending.to; ref = λ x.
+      x; }, (record { pos = 2; ty = Syntax.tyRef (Syntax.named 1) Syntax.imm RelayCircuit.to; ref = λ x. x; }, (record { pos = 3; ty = Syntax.tyRef
+      (Syntax.named 2) Syntax.imm ReservationUsage.to; ref = λ x. x; }, (record { pos = 4; ty = Syntax.tyRef (Syntax.named 3) Syntax.imm
       InflightAction.to; ref = λ x. x; }, (record { pos = 7; st = List.[]; d = 0; at = λ x. x }, (Num.vLit 1, (record { pos = 6; st = List.[]; d = 0;
-      at = λ x. x }, (Num.vLit 100, tt)),),),),),),) 8 (4 ∷ 5 ∷ 6 ∷ 7 ∷ List.[]) Laws''.mir
-  abbrev s16 : (bs : List.List Nat.ℕ) → Typed.Mo T17 → Typed.Mo T18
-  s16 = λ bs. Scalar.n-room T17 6 Laws.mir
-  abbrev s17 : (bs : List.List Nat.ℕ) → Typed.Mo T18 → Typed.Mo T19
-  s17 = λ bs. Scalar.n-room T18 7 (Syntax.tyArray (Syntax.tyInt Syntax.w8) 16)
-  abbrev s19 : (bs : List.List Nat.ℕ) → Typed.Both T19 T21
-  s19 = λ bs. Relend.k-back-sl RelayPending.row T19 10 1 0 4 ref4 ref0 Row.off (λ x. x) λ x. x
-  abbrev s22 : (bs : List.List Nat.ℕ) → Typed.Both T21 T24
-  s22 = λ bs. Relend.k-back-sl RelayCircuit.row T21 12 2 1 5 ref5 ref1 Row.off (λ x. x) λ x. x
-  abbrev s25 : (bs : List.List Nat.ℕ) → Typed.Both T24 T27
-  s25 = λ bs. Relend.k-back-sl ReservationUsage.row T24 14 3 2 6 ref6 ref2 Row.off (λ x. x) λ x. x
-  abbrev s28 : (bs : List.List Nat.ℕ) → Typed.Both T27 T30
-  s28 = λ bs. Relend.k-back-sl InflightAction.row T27 16 4 3 7 ref7 ref3 Row.off (λ x. x) λ x. x
-  abbrev s30 : (bs : List.List Nat.ℕ) → Typed.Both T30 T32
-  s30 = λ bs. WayStmt.k-way-copy-out T30 (Row.out 8 (T30 .locals)) (λ u. Row.drop 8 (T30 .locals) u) 0 (Rows'.whole (Declared.row
-      OpaqueRelayRuntime.the-type)) (λ u. At.getAt (Relayed.the-type .parts) 0 (Relayed.struct .as-values (u .1 .1 .1 .1 .1 .1 .1 .1 .0))) (λ T′.
-      record { locals = Row.setRow 8 (8, Rows'.whole (Declared.row Relayed.the-type)) T′; slots = List.[]; }) (λ u T′ m′. Row.set 8 (8, Rows'.whole
-      (Declared.row Relayed.the-type)) (u .1 .1 .1 .1 .1 .1 .1 .1 .0) T′ m′) (λ u. Unit) λ u. Unit
-  abbrev s31 : (bs : List.List Nat.ℕ) → Typed.Mo T32 → Typed.Mo T33
-  s31 = λ bs. Scalar.n-room T32 8 Laws''.mir
-  abbrev s32 : (bs : List.List Nat.ℕ) → Typed.Mo T33 → Typed.Mo T34
-  s32 = λ bs. Scalar.n-room T33 5 (Syntax.tyInt Syntax.w64)
+      at = λ x. x }, (Num.vLit 100, tt)),),),),),),) 0 (0 ∷ 1 ∷ 2 ∷ 3 ∷ List.[]) Laws'.mir
+  abbrev s4 : Typed.Mo T5 → Typed.Mo T6
+  s4 = Scalar.n-room T5 6 Laws.mir
+  abbrev s5 : Typed.Mo T6 → Typed.Mo T7
+  s5 = Scalar.n-room T6 7 (Syntax.tyArray (Syntax.tyInt Syntax.w8) 16)
+  abbrev s6 : Typed.Mo T7 → Typed.Mo T8
+  s6 = Scalar.n-room T7 5 (Syntax.tyInt Syntax.w64)
   module _ (Pre· : (κs : Lifetimes.Lfts 4) → Kinds.Dens κs ps → Type 0) (Post· : (κs : Lifetimes.Lfts 4) → (a : Kinds.Dens κs ps) → Kinds.Plain 4 ps r
       κs) where
     module _ (M : Type 1) where
@@ -428,76 +213,24 @@ module _ (claims· : Claims) where
           "hnsr_circuit::calls::new") → Statement.Triple 𝓤 (Wp.WpFn 𝓤 H (𝓣 .C) (𝓣 .Λ) (Function.fnOf 4 ps r xs m hs body)) (Function.plainOf 𝓤 H A 4
           ps r Pre· Post·)
     module _ where
-      abbrev at0 : (bs : List.List Nat.ℕ) → Typed.TF T34 O0
-      at0 = λ bs. Typed.atRet O0
-      abbrev at1 : (bs : List.List Nat.ℕ) → Typed.TF T33 O0
-      at1 = λ bs. λ Ψ. Typed.pass T33 T34 (s32 bs) (at0 bs Ψ)
-      abbrev at2 : (bs : List.List Nat.ℕ) → Typed.TF T32 O0
-      at2 = λ bs. λ Ψ. Typed.pass T32 T33 (s31 bs) (at1 bs Ψ)
-      abbrev at3 : (bs : List.List Nat.ℕ) → Typed.TF T30 O0
-      at3 = λ bs. λ Ψ. Typed.both (s30 bs) (at2 bs Ψ)
-      abbrev at4 : (bs : List.List Nat.ℕ) → Typed.TF T30 O0
-      at4 = λ bs. λ Ψ. at3 bs Ψ
-      abbrev at5 : (bs : List.List Nat.ℕ) → Typed.TF T27 O0
-      at5 = λ bs. λ Ψ. Typed.both (s28 bs) (at4 bs Ψ)
-      abbrev at6 : (bs : List.List Nat.ℕ) → Typed.TF T27 O0
-      at6 = λ bs. λ Ψ. at5 bs Ψ
-      abbrev at7 : (bs : List.List Nat.ℕ) → Typed.TF T27 O0
-      at7 = λ bs. λ Ψ. at6 bs Ψ
-      abbrev at8 : (bs : List.List Nat.ℕ) → Typed.TF T24 O0
-      at8 = λ bs. λ Ψ. Typed.both (s25 bs) (at7 bs Ψ)
-      abbrev at9 : (bs : List.List Nat.ℕ) → Typed.TF T24 O0
-      at9 = λ bs. λ Ψ. at8 bs Ψ
-      abbrev at10 : (bs : List.List Nat.ℕ) → Typed.TF T24 O0
-      at10 = λ bs. λ Ψ. at9 bs Ψ
-      abbrev at11 : (bs : List.List Nat.ℕ) → Typed.TF T21 O0
-      at11 = λ bs. λ Ψ. Typed.both (s22 bs) (at10 bs Ψ)
-      abbrev at12 : (bs : List.List Nat.ℕ) → Typed.TF T21 O0
-      at12 = λ bs. λ Ψ. at11 bs Ψ
-      abbrev at13 : (bs : List.List Nat.ℕ) → Typed.TF T21 O0
-      at13 = λ bs. λ Ψ. at12 bs Ψ
-      abbrev at14 : (bs : List.List Nat.ℕ) → Typed.TF T19 O0
-      at14 = λ bs. λ Ψ. Typed.both (s19 bs) (at13 bs Ψ)
-      abbrev at15 : (bs : List.List Nat.ℕ) → Typed.TF T19 O0
-      at15 = λ bs. λ Ψ. at14 bs Ψ
-      abbrev at16 : (bs : List.List Nat.ℕ) → Typed.TF T18 O0
-      at16 = λ bs. λ Ψ. Typed.pass T18 T19 (s17 bs) (at15 bs Ψ)
-      abbrev at17 : (bs : List.List Nat.ℕ) → Typed.TF T17 O0
-      at17 = λ bs. λ Ψ. Typed.pass T17 T18 (s16 bs) (at16 bs Ψ)
-      abbrev at18 : (bs : List.List Nat.ℕ) → Typed.TF T16 O0
-      at18 = λ bs. λ Ψ. Typed.both (s15 bs) (at17 bs Ψ)
-      abbrev at19 : (bs : List.List Nat.ℕ) → Typed.TF T15 O0
-      at19 = λ bs. λ Ψ. Typed.ask (s14 bs) (at18 bs Ψ)
-      abbrev at20 : (bs : List.List Nat.ℕ) → Typed.TF T13 O0
-      at20 = λ bs. λ Ψ. Typed.give (s13 bs) (at19 bs Ψ)
-      abbrev at21 : (bs : List.List Nat.ℕ) → Typed.TF T13 O0
-      at21 = λ bs. λ Ψ. at20 bs Ψ
-      abbrev at22 : (bs : List.List Nat.ℕ) → Typed.TF T12 O0
-      at22 = λ bs. λ Ψ. Typed.ask (s11 bs) (at21 bs Ψ)
-      abbrev at23 : (bs : List.List Nat.ℕ) → Typed.TF T10 O0
-      at23 = λ bs. λ Ψ. Typed.give (s10 bs) (at22 bs Ψ)
-      abbrev at24 : (bs : List.List Nat.ℕ) → Typed.TF T10 O0
-      at24 = λ bs. λ Ψ. at23 bs Ψ
-      abbrev at25 : (bs : List.List Nat.ℕ) → Typed.TF T9 O0
-      at25 = λ bs. λ Ψ. Typed.ask (s8 bs) (at24 bs Ψ)
-      abbrev at26 : (bs : List.List Nat.ℕ) → Typed.TF T7 O0
-      at26 = λ bs. λ Ψ. Typed.give (s7 bs) (at25 bs Ψ)
-      abbrev at27 : (bs : List.List Nat.ℕ) → Typed.TF T7 O0
-      at27 = λ bs. λ Ψ. at26 bs Ψ
-      abbrev at28 : (bs : List.List Nat.ℕ) → Typed.TF T6 O0
-      at28 = λ bs. λ Ψ. Typed.ask (s5 bs) (at27 bs Ψ)
-      abbrev at29 : (bs : List.List Nat.ℕ) → Typed.TF T4 O0
-      at29 = λ bs. λ Ψ. Typed.give (s4 bs) (at28 bs Ψ)
-      abbrev at30 : (bs : List.List Nat.ℕ) → Typed.TF T4 O0
-      at30 = λ bs. λ Ψ. at29 bs Ψ
-      abbrev at31 : (bs : List.List Nat.ℕ) → Typed.TF T3 O0
-      at31 = λ bs. λ Ψ. Typed.pass T3 T4 (s2 bs) (at30 bs Ψ)
-      abbrev at32 : (bs : List.List Nat.ℕ) → Typed.TF T2 O0
-      at32 = λ bs. λ Ψ. Typed.pass T2 T3 (s1 bs) (at31 bs Ψ)
-      abbrev at33 : (bs : List.List Nat.ℕ) → Typed.TF T0 O0
-      at33 = λ bs. λ Ψ. Typed.both (s0 bs) (at32 bs Ψ)
-      abbrev pub Φ : (bs : List.List Nat.ℕ) → Typed.TF T0 O0
-      Φ = λ bs. at33 bs
+      abbrev at0 : Typed.TF T8 O0
+      at0 = Typed.atRet O0
+      abbrev at1 : Typed.TF T7 O0
+      at1 = λ Ψ. Typed.pass T7 T8 s6 (at0 Ψ)
+      abbrev at2 : Typed.TF T6 O0
+      at2 = λ Ψ. Typed.pass T6 T7 s5 (at1 Ψ)
+      abbrev at3 : Typed.TF T5 O0
+      at3 = λ Ψ. Typed.pass T5 T6 s4 (at2 Ψ)
+      abbrev at4 : Typed.TF T4 O0
+      at4 = λ Ψ. Typed.both s3 (at3 Ψ)
+      abbrev at5 : Typed.TF T3 O0
+      at5 = λ Ψ. Typed.pass T3 T4 s2 (at4 Ψ)
+      abbrev at6 : Typed.TF T2 O0
+      at6 = λ Ψ. Typed.pass T2 T3 s1 (at5 Ψ)
+      abbrev at7 : Typed.TF T0 O0
+      at7 = λ Ψ. Typed.both s0 (at6 Ψ)
+      abbrev pub Φ : Typed.TF T0 O0
+      Φ = at7
       module _ { M : Type 1 } (𝓤 : URA.URA M) (H : Wp.Heap 𝓤) (A : Atoms.Atoms 𝓤) (W : Kit.Given 𝓤 H A) (𝓣 : Wp.Tables 𝓤 H) where
         abbrev Knowns : Type 1
         Knowns = Plain.Known 𝓤 H A W 𝓣 0 ps·0 r·0 (claims· .0) (claims· .1) "cases::script::configured" × Plain.Known 𝓤 H A W 𝓣 4 ps·1 r·1 (claims·
@@ -511,633 +244,164 @@ module _ (claims· : Claims) where
         life2 = Row.lease (κs .1 .1 .0) (qs .1 .1 .0)
         abbrev life3 : Row.Life
         life3 = Row.lease (κs .1 .1 .1 .0) (qs .1 .1 .1 .0)
-        abbrev g6 : List.List Row.Entry
-        g6 = (0, Rows'.any-gone Laws'.mir,) ∷ (1, Relend.mslice-owed RelayPending.row ref4 0 4 life0,) ∷ (2, Mut.mslice RelayCircuit.row ref5 1,) ∷
-            (3, Mut.mslice ReservationUsage.row ref6 2,) ∷ (4, Mut.mslice InflightAction.row ref7 3,) ∷ (5, Rows'.sc-here (Row.sInt Syntax.w64)) ∷ (6,
-            Rows'.whole (Declared.row OpaqueRelayConfig.the-type),) ∷ (7, Rows.arrF (Referent.rtF (Referent.fInt Syntax.w8)) 16 0) ∷ (8,
-            Rows'.any-gone Laws''.mir,) ∷ (9, Relend.msptr RelayPending.row ref0 4,) ∷ (10, Rows'.any-gone (Syntax.tyStruct (38 ∷ 91 ∷ 93 ∷ List.[])
-            (Syntax.tcons ref0 (Syntax.tcons (Syntax.tyInt Syntax.w64) Syntax.tnil))),) ∷ (11, Rows'.any-gone ref1,) ∷ (12, Rows'.any-gone
-            (Syntax.tyStruct (38 ∷ 91 ∷ 93 ∷ List.[]) (Syntax.tcons ref1 (Syntax.tcons (Syntax.tyInt Syntax.w64) Syntax.tnil))),) ∷ (13,
-            Rows'.any-gone ref2,) ∷ (14, Rows'.any-gone (Syntax.tyStruct (38 ∷ 91 ∷ 93 ∷ List.[]) (Syntax.tcons ref2 (Syntax.tcons (Syntax.tyInt
-            Syntax.w64) Syntax.tnil))),) ∷ (15, Rows'.any-gone ref3,) ∷ List.[]
-        abbrev g7 : List.List Row.Entry
-        g7 = (0, Rows'.any-gone Laws'.mir,) ∷ (1, Relend.mslice-owed RelayPending.row ref4 0 4 life0,) ∷ (2, Mut.mslice RelayCircuit.row ref5 1,) ∷
-            (3, Mut.mslice ReservationUsage.row ref6 2,) ∷ (4, Mut.mslice InflightAction.row ref7 3,) ∷ (5, Rows'.sc-here (Row.sInt Syntax.w64)) ∷ (6,
-            Rows'.whole (Declared.row OpaqueRelayConfig.the-type),) ∷ (7, Rows.arrF (Referent.rtF (Referent.fInt Syntax.w8)) 16 0) ∷ (8,
-            Rows'.any-gone Laws''.mir,) ∷ (9, Rows'.any-gone ref0,) ∷ (10, Mut.mslice RelayPending.row ref0 4,) ∷ (11, Rows'.any-gone ref1,) ∷ (12,
-            Rows'.any-gone (Syntax.tyStruct (38 ∷ 91 ∷ 93 ∷ List.[]) (Syntax.tcons ref1 (Syntax.tcons (Syntax.tyInt Syntax.w64) Syntax.tnil))),) ∷
-            (13, Rows'.any-gone ref2,) ∷ (14, Rows'.any-gone (Syntax.tyStruct (38 ∷ 91 ∷ 93 ∷ List.[]) (Syntax.tcons ref2 (Syntax.tcons (Syntax.tyInt
-            Syntax.w64) Syntax.tnil))),) ∷ (15, Rows'.any-gone ref3,) ∷ List.[]
-        abbrev g8 : List.List Row.Entry
-        g8 = (0, Rows'.any-gone Laws'.mir,) ∷ (1, Relend.mslice-owed RelayPending.row ref4 0 4 life0,) ∷ (2, Relend.mslice-owed RelayCircuit.row ref5
-            1 5 life1,) ∷ (3, Mut.mslice ReservationUsage.row ref6 2,) ∷ (4, Mut.mslice InflightAction.row ref7 3,) ∷ (5, Rows'.sc-here (Row.sInt
-            Syntax.w64)) ∷ (6, Rows'.whole (Declared.row OpaqueRelayConfig.the-type),) ∷ (7, Rows.arrF (Referent.rtF (Referent.fInt Syntax.w8)) 16 0)
-            ∷ (8, Rows'.any-gone Laws''.mir,) ∷ (9, Rows'.any-gone ref0,) ∷ (10, Mut.mslice RelayPending.row ref0 4,) ∷ (11, Relend.msptr
-            RelayCircuit.row ref1 5,) ∷ (12, Rows'.any-gone (Syntax.tyStruct (38 ∷ 91 ∷ 93 ∷ List.[]) (Syntax.tcons ref1 (Syntax.tcons (Syntax.tyInt
-            Syntax.w64) Syntax.tnil))),) ∷ (13, Rows'.any-gone ref2,) ∷ (14, Rows'.any-gone (Syntax.tyStruct (38 ∷ 91 ∷ 93 ∷ List.[]) (Syntax.tcons
-            ref2 (Syntax.tcons (Syntax.tyInt Syntax.w64) Syntax.tnil))),) ∷ (15, Rows'.any-gone ref3,) ∷ List.[]
-        abbrev g9 : List.List Row.Entry
-        g9 = (0, Rows'.any-gone Laws'.mir,) ∷ (1, Relend.mslice-owed RelayPending.row ref4 0 4 life0,) ∷ (2, Relend.mslice-owed RelayCircuit.row ref5
-            1 5 life1,) ∷ (3, Mut.mslice ReservationUsage.row ref6 2,) ∷ (4, Mut.mslice InflightAction.row ref7 3,) ∷ (5, Rows'.sc-here (Row.sInt
-            Syntax.w64)) ∷ (6, Rows'.whole (Declared.row OpaqueRelayConfig.the-type),) ∷ (7, Rows.arrF (Referent.rtF (Referent.fInt Syntax.w8)) 16 0)
-            ∷ (8, Rows'.any-gone Laws''.mir,) ∷ (9, Rows'.any-gone ref0,) ∷ (10, Mut.mslice RelayPending.row ref0 4,) ∷ (11, Rows'.any-gone ref1,) ∷
-            (12, Mut.mslice RelayCircuit.row ref1 5,) ∷ (13, Rows'.any-gone ref2,) ∷ (14, Rows'.any-gone (Syntax.tyStruct (38 ∷ 91 ∷ 93 ∷ List.[])
-            (Syntax.tcons ref2 (Syntax.tcons (Syntax.tyInt Syntax.w64) Syntax.tnil))),) ∷ (15, Rows'.any-gone ref3,) ∷ List.[]
-        abbrev g10 : List.List Row.Entry
-        g10 = (0, Rows'.any-gone Laws'.mir,) ∷ (1, Relend.mslice-owed RelayPending.row ref4 0 4 life0,) ∷ (2, Relend.mslice-owed RelayCircuit.row ref5
-            1 5 life1,) ∷ (3, Relend.mslice-owed ReservationUsage.row ref6 2 6 life2,) ∷ (4, Mut.mslice InflightAction.row ref7 3,) ∷ (5,
-            Rows'.sc-here (Row.sInt Syntax.w64)) ∷ (6, Rows'.whole (Declared.row OpaqueRelayConfig.the-type),) ∷ (7, Rows.arrF (Referent.rtF
-            (Referent.fInt Syntax.w8)) 16 0) ∷ (8, Rows'.any-gone Laws''.mir,) ∷ (9, Rows'.any-gone ref0,) ∷ (10, Mut.mslice RelayPending.row ref0 4,)
-            ∷ (11, Rows'.any-gone ref1,) ∷ (12, Mut.mslice RelayCircuit.row ref1 5,) ∷ (13, Relend.msptr ReservationUsage.row ref2 6,) ∷ (14,
-            Rows'.any-gone (Syntax.tyStruct (38 ∷ 91 ∷ 93 ∷ List.[]) (Syntax.tcons ref2 (Syntax.tcons (Syntax.tyInt Syntax.w64) Syntax.tnil))),) ∷
-            (15, Rows'.any-gone ref3,) ∷ List.[]
-        abbrev g11 : List.List Row.Entry
-        g11 = (0, Rows'.any-gone Laws'.mir,) ∷ (1, Relend.mslice-owed RelayPending.row ref4 0 4 life0,) ∷ (2, Relend.mslice-owed RelayCircuit.row ref5
-            1 5 life1,) ∷ (3, Relend.mslice-owed ReservationUsage.row ref6 2 6 life2,) ∷ (4, Mut.mslice InflightAction.row ref7 3,) ∷ (5,
-            Rows'.sc-here (Row.sInt Syntax.w64)) ∷ (6, Rows'.whole (Declared.row OpaqueRelayConfig.the-type),) ∷ (7, Rows.arrF (Referent.rtF
-            (Referent.fInt Syntax.w8)) 16 0) ∷ (8, Rows'.any-gone Laws''.mir,) ∷ (9, Rows'.any-gone ref0,) ∷ (10, Mut.mslice RelayPending.row ref0 4,)
-            ∷ (11, Rows'.any-gone ref1,) ∷ (12, Mut.mslice RelayCircuit.row ref1 5,) ∷ (13, Rows'.any-gone ref2,) ∷ (14, Mut.mslice
-            ReservationUsage.row ref2 6,) ∷ (15, Rows'.any-gone ref3,) ∷ List.[]
-        abbrev g12 : List.List Row.Entry
-        g12 = (0, Rows'.any-gone Laws'.mir,) ∷ (1, Relend.mslice-owed RelayPending.row ref4 0 4 life0,) ∷ (2, Relend.mslice-owed RelayCircuit.row ref5
-            1 5 life1,) ∷ (3, Relend.mslice-owed ReservationUsage.row ref6 2 6 life2,) ∷ (4, Relend.mslice-owed InflightAction.row ref7 3 7 life3,) ∷
-            (5, Rows'.sc-here (Row.sInt Syntax.w64)) ∷ (6, Rows'.whole (Declared.row OpaqueRelayConfig.the-type),) ∷ (7, Rows.arrF (Referent.rtF
-            (Referent.fInt Syntax.w8)) 16 0) ∷ (8, Rows'.any-gone Laws''.mir,) ∷ (9, Rows'.any-gone ref0,) ∷ (10, Mut.mslice RelayPending.row ref0 4,)
-            ∷ (11, Rows'.any-gone ref1,) ∷ (12, Mut.mslice RelayCircuit.row ref1 5,) ∷ (13, Rows'.any-gone ref2,) ∷ (14, Mut.mslice
-            ReservationUsage.row ref2 6,) ∷ (15, Relend.msptr InflightAction.row ref3 7,) ∷ List.[]
-        abbrev g13 : List.List Row.Entry
-        g13 = (0, Rows'.any-gone Laws'.mir,) ∷ (1, Relend.mslice-owed RelayPending.row ref4 0 4 life0,) ∷ (2, Relend.mslice-owed RelayCircuit.row ref5
-            1 5 life1,) ∷ (3, Relend.mslice-owed ReservationUsage.row ref6 2 6 life2,) ∷ (4, Relend.mslice-owed InflightAction.row ref7 3 7 life3,) ∷
-            (5, Rows'.sc-here (Row.sInt Syntax.w64)) ∷ (6, Rows'.whole (Declared.row OpaqueRelayConfig.the-type),) ∷ (7, Rows.arrF (Referent.rtF
-            (Referent.fInt Syntax.w8)) 16 0) ∷ (8, Rows'.any-gone Laws''.mir,) ∷ (9, Rows'.any-gone ref0,) ∷ (10, Mut.mslice RelayPending.row ref0 4,)
-            ∷ (11, Rows'.any-gone ref1,) ∷ (12, Mut.mslice RelayCircuit.row ref1 5,) ∷ (13, Rows'.any-gone ref2,) ∷ (14, Mut.mslice
-            ReservationUsage.row ref2 6,) ∷ (15, Rows'.any-gone ref3,) ∷ List.[]
-        abbrev g15 : List.List Row.Entry
-        g15 = (0, Rows'.any-gone Laws'.mir,) ∷ (1, Relend.mslice-owed RelayPending.row ref4 0 4 life0,) ∷ (2, Relend.mslice-owed RelayCircuit.row ref5
-            1 5 life1,) ∷ (3, Relend.mslice-owed ReservationUsage.row ref6 2 6 life2,) ∷ (4, Relend.mslice-owed InflightAction.row ref7 3 7 life3,) ∷
-            (5, Rows'.sc-here (Row.sInt Syntax.w64)) ∷ (6, Rows'.whole (Declared.row OpaqueRelayConfig.the-type),) ∷ (7, Rows.arrF (Referent.rtF
-            (Referent.fInt Syntax.w8)) 16 0) ∷ (8, Rows'.whole (Declared.row Relayed.the-type),) ∷ (9, Rows'.any-gone ref0,) ∷ (10, Mut.msleft
-            RelayPending.row ref0,) ∷ (11, Rows'.any-gone ref1,) ∷ (12, Mut.msleft RelayCircuit.row ref1,) ∷ (13, Rows'.any-gone ref2,) ∷ (14,
-            Mut.msleft ReservationUsage.row ref2,) ∷ (15, Rows'.any-gone ref3,) ∷ List.[]
-        abbrev g17 : List.List Row.Entry
-        g17 = (0, Rows'.any-gone Laws'.mir,) ∷ (1, Relend.mslice-owed RelayPending.row ref4 0 4 life0,) ∷ (2, Relend.mslice-owed RelayCircuit.row ref5
-            1 5 life1,) ∷ (3, Relend.mslice-owed ReservationUsage.row ref6 2 6 life2,) ∷ (4, Relend.mslice-owed InflightAction.row ref7 3 7 life3,) ∷
-            (5, Rows'.sc-here (Row.sInt Syntax.w64)) ∷ (6, Rows'.any-gone Laws.mir,) ∷ (7, Rows.arrF (Referent.rtF (Referent.fInt Syntax.w8)) 16 0) ∷
-            (8, Rows'.whole (Declared.row Relayed.the-type),) ∷ (9, Rows'.any-gone ref0,) ∷ (10, Mut.msleft RelayPending.row ref0,) ∷ (11,
-            Rows'.any-gone ref1,) ∷ (12, Mut.msleft RelayCircuit.row ref1,) ∷ (13, Rows'.any-gone ref2,) ∷ (14, Mut.msleft ReservationUsage.row ref2,)
-            ∷ (15, Rows'.any-gone ref3,) ∷ List.[]
-        abbrev g18 : List.List Row.Entry
-        g18 = (0, Rows'.any-gone Laws'.mir,) ∷ (1, Relend.mslice-owed RelayPending.row ref4 0 4 life0,) ∷ (2, Relend.mslice-owed RelayCircuit.row ref5
-            1 5 life1,) ∷ (3, Relend.mslice-owed ReservationUsage.row ref6 2 6 life2,) ∷ (4, Relend.mslice-owed InflightAction.row ref7 3 7 life3,) ∷
-            (5, Rows'.sc-here (Row.sInt Syntax.w64)) ∷ (6, Rows'.any-gone Laws.mir,) ∷ (7, Rows'.any-gone (Syntax.tyArray (Syntax.tyInt Syntax.w8)
-            16)) ∷ (8, Rows'.whole (Declared.row Relayed.the-type),) ∷ (9, Rows'.any-gone ref0,) ∷ (10, Mut.msleft RelayPending.row ref0,) ∷ (11,
-            Rows'.any-gone ref1,) ∷ (12, Mut.msleft RelayCircuit.row ref1,) ∷ (13, Rows'.any-gone ref2,) ∷ (14, Mut.msleft ReservationUsage.row ref2,)
-            ∷ (15, Rows'.any-gone ref3,) ∷ List.[]
-        abbrev g19 : List.List Row.Entry
-        g19 = (0, Rows'.any-gone Laws'.mir,) ∷ (1, Mut.mslice RelayPending.row ref4 0,) ∷ (2, Relend.mslice-owed RelayCircuit.row ref5 1 5 life1,) ∷
-            (3, Relend.mslice-owed ReservationUsage.row ref6 2 6 life2,) ∷ (4, Relend.mslice-owed InflightAction.row ref7 3 7 life3,) ∷ (5,
-            Rows'.sc-here (Row.sInt Syntax.w64)) ∷ (6, Rows'.any-gone Laws.mir,) ∷ (7, Rows'.any-gone (Syntax.tyArray (Syntax.tyInt Syntax.w8) 16)) ∷
-            (8, Rows'.whole (Declared.row Relayed.the-type),) ∷ (9, Rows'.any-gone ref0,) ∷ (10, Rows'.any-gone (Syntax.tyStruct (38 ∷ 91 ∷ 93 ∷
-            List.[]) (Syntax.tcons ref0 (Syntax.tcons (Syntax.tyInt Syntax.w64) Syntax.tnil))),) ∷ (11, Rows'.any-gone ref1,) ∷ (12, Mut.msleft
-            RelayCircuit.row ref1,) ∷ (13, Rows'.any-gone ref2,) ∷ (14, Mut.msleft ReservationUsage.row ref2,) ∷ (15, Rows'.any-gone ref3,) ∷ List.[]
-        abbrev g20 : List.List Row.Entry
-        g20 = (0, Rows'.any-gone Laws'.mir,) ∷ (1, Mut.mslice RelayPending.row ref4 0,) ∷ (2, Mut.mslice RelayCircuit.row ref5 1,) ∷ (3,
-            Relend.mslice-owed ReservationUsage.row ref6 2 6 life2,) ∷ (4, Relend.mslice-owed InflightAction.row ref7 3 7 life3,) ∷ (5, Rows'.sc-here
-            (Row.sInt Syntax.w64)) ∷ (6, Rows'.any-gone Laws.mir,) ∷ (7, Rows'.any-gone (Syntax.tyArray (Syntax.tyInt Syntax.w8) 16)) ∷ (8,
-            Rows'.whole (Declared.row Relayed.the-type),) ∷ (9, Rows'.any-gone ref0,) ∷ (10, Rows'.any-gone (Syntax.tyStruct (38 ∷ 91 ∷ 93 ∷ List.[])
-            (Syntax.tcons ref0 (Syntax.tcons (Syntax.tyInt Syntax.w64) Syntax.tnil))),) ∷ (11, Rows'.any-gone ref1,) ∷ (12, Rows'.any-gone
-            (Syntax.tyStruct (38 ∷ 91 ∷ 93 ∷ List.[]) (Syntax.tcons ref1 (Syntax.tcons (Syntax.tyInt Syntax.w64) Syntax.tnil))),) ∷ (13,
-            Rows'.any-gone ref2,) ∷ (14, Mut.msleft ReservationUsage.row ref2,) ∷ (15, Rows'.any-gone ref3,) ∷ List.[]
-        abbrev g21 : List.List Row.Entry
-        g21 = (0, Rows'.any-gone Laws'.mir,) ∷ (1, Mut.mslice RelayPending.row ref4 0,) ∷ (2, Mut.mslice RelayCircuit.row ref5 1,) ∷ (3, Mut.mslice
-            ReservationUsage.row ref6 2,) ∷ (4, Relend.mslice-owed InflightAction.row ref7 3 7 life3,) ∷ (5, Rows'.sc-here (Row.sInt Syntax.w64)) ∷
-            (6, Rows'.any-gone Laws.mir,) ∷ (7, Rows'.any-gone (Syntax.tyArray (Syntax.tyInt Syntax.w8) 16)) ∷ (8, Rows'.whole (Declared.row
-            Relayed.the-type),) ∷ (9, Rows'.any-gone ref0,) ∷ (10, Rows'.any-gone (Syntax.tyStruct (38 ∷ 91 ∷ 93 ∷ List.[]) (Syntax.tcons ref0
-            (Syntax.tcons (Syntax.tyInt Syntax.w64) Syntax.tnil))),) ∷ (11, Rows'.any-gone ref1,) ∷ (12, Rows'.any-gone (Syntax.tyStruct (38 ∷ 91 ∷ 93
-            ∷ List.[]) (Syntax.tcons ref1 (Syntax.tcons (Syntax.tyInt Syntax.w64) Syntax.tnil))),) ∷ (13, Rows'.any-gone ref2,) ∷ (14, Rows'.any-gone
-            (Syntax.tyStruct (38 ∷ 91 ∷ 93 ∷ List.[]) (Syntax.tcons ref2 (Syntax.tcons (Syntax.tyInt Syntax.w64) Syntax.tnil))),) ∷ (15,
-            Rows'.any-gone ref3,) ∷ List.[]
         abbrev G0 : Row.Cx
-        G0 = record { locals = List._++_ t0 t1; slots = life0 ∷ life1 ∷ life2 ∷ life3 ∷ Row.off ∷ Row.off ∷ Row.off ∷ Row.off ∷ List.[]; }
+        G0 = record { locals = t0; slots = life0 ∷ life1 ∷ life2 ∷ life3 ∷ List.[]; }
         abbrev G1 : Row.Cx
-        G1 = record { locals = List._++_ t2 t1; slots = life0 ∷ life1 ∷ life2 ∷ life3 ∷ Row.off ∷ Row.off ∷ Row.off ∷ Row.off ∷ List.[]; }
+        G1 = record { locals = t1; slots = life0 ∷ life1 ∷ life2 ∷ life3 ∷ List.[]; }
         abbrev G2 : Row.Cx
-        G2 = record { locals = List._++_ t3 t1; slots = life0 ∷ life1 ∷ life2 ∷ life3 ∷ Row.off ∷ Row.off ∷ Row.off ∷ Row.off ∷ List.[]; }
+        G2 = record { locals = t2; slots = life0 ∷ life1 ∷ life2 ∷ life3 ∷ List.[]; }
         abbrev G3 : Row.Cx
-        G3 = record { locals = List._++_ t4 t1; slots = life0 ∷ life1 ∷ life2 ∷ life3 ∷ Row.off ∷ Row.off ∷ Row.off ∷ Row.off ∷ List.[]; }
+        G3 = record { locals = t3; slots = life0 ∷ life1 ∷ life2 ∷ life3 ∷ List.[]; }
         abbrev G4 : Row.Cx
-        G4 = record { locals = List._++_ t5 t1; slots = life0 ∷ life1 ∷ life2 ∷ life3 ∷ Row.off ∷ Row.off ∷ Row.off ∷ Row.off ∷ List.[]; }
+        G4 = record { locals = t4; slots = life0 ∷ life1 ∷ life2 ∷ life3 ∷ List.[]; }
         abbrev G5 : Row.Cx
-        G5 = record { locals = List._++_ t5 t1; slots = life0 ∷ life1 ∷ life2 ∷ life3 ∷ Row.alive ∷ Row.off ∷ Row.off ∷ Row.off ∷ List.[]; }
+        G5 = record { locals = t5; slots = life0 ∷ life1 ∷ life2 ∷ life3 ∷ List.[]; }
         abbrev G6 : Row.Cx
-        G6 = record { locals = List._++_ g6 t1; slots = Row.off ∷ life1 ∷ life2 ∷ life3 ∷ Row.alive ∷ Row.off ∷ Row.off ∷ Row.off ∷ List.[]; }
+        G6 = record { locals = t6; slots = life0 ∷ life1 ∷ life2 ∷ life3 ∷ List.[]; }
         abbrev G7 : Row.Cx
-        G7 = record { locals = List._++_ g7 t1; slots = Row.off ∷ life1 ∷ life2 ∷ life3 ∷ Row.alive ∷ Row.off ∷ Row.off ∷ Row.off ∷ List.[]; }
+        G7 = record { locals = t7; slots = life0 ∷ life1 ∷ life2 ∷ life3 ∷ List.[]; }
         abbrev G8 : Row.Cx
-        G8 = record { locals = List._++_ g7 t1; slots = Row.off ∷ life1 ∷ life2 ∷ life3 ∷ Row.alive ∷ Row.alive ∷ Row.off ∷ Row.off ∷ List.[]; }
-        abbrev G9 : Row.Cx
-        G9 = record { locals = List._++_ g8 t1; slots = Row.off ∷ Row.off ∷ life2 ∷ life3 ∷ Row.alive ∷ Row.alive ∷ Row.off ∷ Row.off ∷ List.[]; }
-        abbrev G10 : Row.Cx
-        G10 = record { locals = List._++_ g9 t1; slots = Row.off ∷ Row.off ∷ life2 ∷ life3 ∷ Row.alive ∷ Row.alive ∷ Row.off ∷ Row.off ∷ List.[]; }
-        abbrev G11 : Row.Cx
-        G11 = record { locals = List._++_ g9 t1; slots = Row.off ∷ Row.off ∷ life2 ∷ life3 ∷ Row.alive ∷ Row.alive ∷ Row.alive ∷ Row.off ∷ List.[]; }
-        abbrev G12 : Row.Cx
-        G12 = record { locals = List._++_ g10 t1; slots = Row.off ∷ Row.off ∷ Row.off ∷ life3 ∷ Row.alive ∷ Row.alive ∷ Row.alive ∷ Row.off ∷ List.[];
-            }
-        abbrev G13 : Row.Cx
-        G13 = record { locals = List._++_ g11 t1; slots = Row.off ∷ Row.off ∷ Row.off ∷ life3 ∷ Row.alive ∷ Row.alive ∷ Row.alive ∷ Row.off ∷ List.[];
-            }
-        abbrev G14 : Row.Cx
-        G14 = record { locals = List._++_ g11 t1; slots = Row.off ∷ Row.off ∷ Row.off ∷ life3 ∷ Row.alive ∷ Row.alive ∷ Row.alive ∷ Row.alive ∷
-            List.[]; }
-        abbrev G15 : Row.Cx
-        G15 = record { locals = List._++_ g12 t1; slots = Row.off ∷ Row.off ∷ Row.off ∷ Row.off ∷ Row.alive ∷ Row.alive ∷ Row.alive ∷ Row.alive ∷
-            List.[]; }
-        abbrev G16 : Row.Cx
-        G16 = record { locals = List._++_ g13 t14; slots = Row.off ∷ Row.off ∷ Row.off ∷ Row.off ∷ Row.alive ∷ Row.alive ∷ Row.alive ∷ Row.alive ∷
-            List.[]; }
-        abbrev G17 : Row.Cx
-        G17 = record { locals = List._++_ g15 t16; slots = Row.off ∷ Row.off ∷ Row.off ∷ Row.off ∷ Row.alive ∷ Row.alive ∷ Row.alive ∷ Row.alive ∷
-            List.[]; }
-        abbrev G18 : Row.Cx
-        G18 = record { locals = List._++_ g17 t16; slots = Row.off ∷ Row.off ∷ Row.off ∷ Row.off ∷ Row.alive ∷ Row.alive ∷ Row.alive ∷ Row.alive ∷
-            List.[]; }
-        abbrev G19 : Row.Cx
-        G19 = record { locals = List._++_ g18 t16; slots = Row.off ∷ Row.off ∷ Row.off ∷ Row.off ∷ Row.alive ∷ Row.alive ∷ Row.alive ∷ Row.alive ∷
-            List.[]; }
-        abbrev G20 : Row.Cx
-        G20 = record { locals = List._++_ g18 t16; slots = Row.off ∷ Row.off ∷ Row.off ∷ Row.off ∷ Row.dead ∷ Row.alive ∷ Row.alive ∷ Row.alive ∷
-            List.[]; }
-        abbrev G21 : Row.Cx
-        G21 = record { locals = List._++_ g19 t16; slots = life0 ∷ Row.off ∷ Row.off ∷ Row.off ∷ Row.dead ∷ Row.alive ∷ Row.alive ∷ Row.alive ∷
-            List.[]; }
-        abbrev G22 : Row.Cx
-        G22 = record { locals = List._++_ g19 t16; slots = life0 ∷ Row.off ∷ Row.off ∷ Row.off ∷ Row.off ∷ Row.alive ∷ Row.alive ∷ Row.alive ∷
-            List.[]; }
-        abbrev G23 : Row.Cx
-        G23 = record { locals = List._++_ g19 t16; slots = life0 ∷ Row.off ∷ Row.off ∷ Row.off ∷ Row.off ∷ Row.dead ∷ Row.alive ∷ Row.alive ∷ List.[];
-            }
-        abbrev G24 : Row.Cx
-        G24 = record { locals = List._++_ g20 t16; slots = life0 ∷ life1 ∷ Row.off ∷ Row.off ∷ Row.off ∷ Row.dead ∷ Row.alive ∷ Row.alive ∷ List.[]; }
-        abbrev G25 : Row.Cx
-        G25 = record { locals = List._++_ g20 t16; slots = life0 ∷ life1 ∷ Row.off ∷ Row.off ∷ Row.off ∷ Row.off ∷ Row.alive ∷ Row.alive ∷ List.[]; }
-        abbrev G26 : Row.Cx
-        G26 = record { locals = List._++_ g20 t16; slots = life0 ∷ life1 ∷ Row.off ∷ Row.off ∷ Row.off ∷ Row.off ∷ Row.dead ∷ Row.alive ∷ List.[]; }
-        abbrev G27 : Row.Cx
-        G27 = record { locals = List._++_ g21 t16; slots = life0 ∷ life1 ∷ life2 ∷ Row.off ∷ Row.off ∷ Row.off ∷ Row.dead ∷ Row.alive ∷ List.[]; }
-        abbrev G28 : Row.Cx
-        G28 = record { locals = List._++_ g21 t16; slots = life0 ∷ life1 ∷ life2 ∷ Row.off ∷ Row.off ∷ Row.off ∷ Row.off ∷ Row.alive ∷ List.[]; }
-        abbrev G29 : Row.Cx
-        G29 = record { locals = List._++_ g21 t16; slots = life0 ∷ life1 ∷ life2 ∷ Row.off ∷ Row.off ∷ Row.off ∷ Row.off ∷ Row.dead ∷ List.[]; }
-        abbrev G30 : Row.Cx
-        G30 = record { locals = List._++_ t22 t1; slots = life0 ∷ life1 ∷ life2 ∷ life3 ∷ Row.off ∷ Row.off ∷ Row.off ∷ Row.dead ∷ List.[]; }
-        abbrev G31 : Row.Cx
-        G31 = record { locals = List._++_ t22 t1; slots = life0 ∷ life1 ∷ life2 ∷ life3 ∷ Row.off ∷ Row.off ∷ Row.off ∷ Row.off ∷ List.[]; }
-        abbrev G32 : Row.Cx
-        G32 = record { locals = List._++_ t23 t1; slots = life0 ∷ life1 ∷ life2 ∷ life3 ∷ Row.off ∷ Row.off ∷ Row.off ∷ Row.off ∷ List.[]; }
-        abbrev G33 : Row.Cx
-        G33 = record { locals = List._++_ t24 t1; slots = life0 ∷ life1 ∷ life2 ∷ life3 ∷ Row.off ∷ Row.off ∷ Row.off ∷ Row.off ∷ List.[]; }
-        abbrev G34 : Row.Cx
-        G34 = record { locals = List._++_ t2 t1; slots = life0 ∷ life1 ∷ life2 ∷ life3 ∷ Row.off ∷ Row.off ∷ Row.off ∷ Row.off ∷ List.[]; }
+        G8 = record { locals = t1; slots = life0 ∷ life1 ∷ life2 ∷ life3 ∷ List.[]; }
         abbrev Δ0 : Typed.Outs
         Δ0 = record { next = Option.none; exits = List.[]; returns = Option.some G1 }
         module _ { M : Type 1 } (𝓤 : URA.URA M) (H : Wp.Heap 𝓤) (A : Atoms.Atoms 𝓤) (W : Kit.Given 𝓤 H A) (𝓣 : Wp.Tables 𝓤 H) (known : Knowns 𝓤 H A W
             𝓣) (bs : List.List Nat.ℕ) (bd : Lifetimes.AllOutlive 4 (Kinds.osR r) κs) where
           abbrev E : Wp.Env 𝓤 H
           E = Frame.EnvOf 𝓤 H ((Kinds.tyR r) ∷ (Enter.tysP ps xs)) bs
-          d0 : Typed.Typed 𝓤 H A 𝓣 E G34 b12 Δ0 (at0 bs)
+          d0 : Typed.Typed 𝓤 H A 𝓣 E G8 b3 Δ0 at0
           d0 = Typed.t-return 𝓤 H A W 𝓣 E Δ0 tt
-          d1 : Typed.Typed 𝓤 H A 𝓣 E G33 b12 Δ0 (at1 bs)
-          d1 = Typed.g-pre 𝓤 H A W 𝓣 E G33 G34 b12 Δ0 (Typed.pass T33 T34 (s32 bs)) (at0 bs) (Scalar.g-room 𝓤 H A W E G33 5 (Syntax.tyInt Syntax.w64)
-              (Scalar.room-sc 𝓤 H A W (Row.sInt Syntax.w64))) d0
-          d2 : Typed.Typed 𝓤 H A 𝓣 E G32 b12 Δ0 (at2 bs)
-          d2 = Typed.g-pre 𝓤 H A W 𝓣 E G32 G33 b12 Δ0 (Typed.pass T32 T33 (s31 bs)) (at1 bs) (Scalar.g-room 𝓤 H A W E G32 8 Laws''.mir
-              (Local.room-whole 𝓤 H A W (Declared.row Relayed.the-type) Laws''.mir Path.refl)) d1
-          d3 : Typed.Typed 𝓤 H A 𝓣 E G31 b13 Δ0 (at3 bs)
-          d3 = Typed.s-seq 𝓤 H A W 𝓣 E G31 G32 b11 b12 Δ0 (Typed.both (s30 bs)) (at2 bs) (WayStmt.t-way-copy-out 𝓤 H A W E 𝓣 (Declared.row
-              OpaqueRelayRuntime.the-type) Path.refl (Copies.cStruct OpaqueRelayRuntime.the-type Laws'.the-laws Laws'.the-copy .copy 𝓤 H A W) (λ ρ.
-              Unit) G31 (Row.out 8 (G31 .locals)) (λ u. Row.drop 8 (G31 .locals) u) (G31 .slots) 8 (λ t. (Syntax.field 0) ∷ t) Laws'.mir Laws'.mir 0
-              (Rows'.whole (Declared.row OpaqueRelayRuntime.the-type)) (λ x. x) (λ u. At.getAt (Relayed.the-type .parts) 0 (Relayed.struct .as-values
-              (u .1 .1 .1 .1 .1 .1 .1 .1 .0))) (λ u. (Row.hd 0 (Row.tl (Row.tl (Row.tl (Row.tl (Row.tl (Row.tl (Row.tl (Row.tl bs)))))))), Nat._+_ 0
-              0,)) (λ T′. record { locals = Row.setRow 8 (8, Rows'.whole (Declared.row Relayed.the-type)) T′; slots = G31 .slots; }) (λ u T′ m′.
-              Row.set 8 (8, Rows'.whole (Declared.row Relayed.the-type)) (u .1 .1 .1 .1 .1 .1 .1 .1 .0) T′ m′) (λ u. Unit) (λ x. Unit) (Own.told-none
-              𝓤 H A (G31 .slots)) (DerefMove.learns-nothing 𝓤 H A (Declared.row OpaqueRelayRuntime.the-type)) (λ ρ told u asked. Way'.w-partˢ 𝓤 H A W
-              E (Declared.row Relayed.the-type) (Declared.row OpaqueRelayRuntime.the-type) Laws''.mir Laws'.mir 0 0 (u .1 .1 .1 .1 .1 .1 .1 .1 .0)
-              (At.getAt (Relayed.the-type .parts) 0 (Relayed.struct .as-values (u .1 .1 .1 .1 .1 .1 .1 .1 .0))) (Row.hd 0 (Row.tl (Row.tl (Row.tl
-              (Row.tl (Row.tl (Row.tl (Row.tl (Row.tl bs)))))))), 0,) (Way.w-look 𝓤 H A W E (Way.w-local 𝓤 H A W E G31 ρ u (G31 .slots) 8
-              (Declared.row Relayed.the-type) (Rows'.whole (Declared.row Relayed.the-type)) (λ x. x) (λ x. x) (u .1 .1 .1 .1 .1 .1 .1 .1 .0)
-              (Local.mem-whole 𝓤 H A W (Declared.row Relayed.the-type) ρ (u .1 .1 .1 .1 .1 .1 .1 .1 .0) (Row.hd 0 (Row.tl (Row.tl (Row.tl (Row.tl
-              (Row.tl (Row.tl (Row.tl (Row.tl bs)))))))))) (Local.whole-mem 𝓤 H A W (Declared.row Relayed.the-type) ρ (u .1 .1 .1 .1 .1 .1 .1 .1 .0)
-              (Row.hd 0 (Row.tl (Row.tl (Row.tl (Row.tl (Row.tl (Row.tl (Row.tl (Row.tl bs)))))))))))) Path.refl λ q. Inner.cut-record 𝓤 H A q
-              (Declared.row Relayed.the-type) OpaqueRelayRuntime.the-type 0 (u .1 .1 .1 .1 .1 .1 .1 .1 .0) (u .1 .1 .1 .1 .1 .1 .1 .1 .0) (At.getAt
-              (Relayed.the-type .parts) 0 (Relayed.struct .as-values (u .1 .1 .1 .1 .1 .1 .1 .1 .0))) (At.getAt (Relayed.the-type .parts) 0
-              (Relayed.struct .as-values (u .1 .1 .1 .1 .1 .1 .1 .1 .0))) (Row.hd 0 (Row.tl (Row.tl (Row.tl (Row.tl (Row.tl (Row.tl (Row.tl (Row.tl
-              bs)))))))), 0,) (Behind.look-at 𝓤 H A W q Relayed.the-type Laws''.the-laws 0 0 Path.refl Path.refl (Row.hd 0 (Row.tl (Row.tl (Row.tl
-              (Row.tl (Row.tl (Row.tl (Row.tl (Row.tl bs)))))))), 0,) (u .1 .1 .1 .1 .1 .1 .1 .1 .0) (Relayed.struct .as-values (u .1 .1 .1 .1 .1 .1
-              .1 .1 .0)) Path.refl)) (Reads.room-gone 𝓤 H A Laws'.mir) (Yields.makes-mem 𝓤 H A W (λ ρ. Unit) (Declared.row
-              OpaqueRelayRuntime.the-type) Path.refl (Rows'.whole (Declared.row OpaqueRelayRuntime.the-type)) (λ x. x) λ ρ told. Local.whole-mem 𝓤 H A
-              W (Declared.row OpaqueRelayRuntime.the-type) ρ) Path.refl Path.refl Path.refl) d2
-          d4 : Typed.Typed 𝓤 H A 𝓣 E G30 b13 Δ0 (at4 bs)
-          d4 = Typed.g-pre 𝓤 H A W 𝓣 E G30 G31 b13 Δ0 (λ Ψ. Ψ) (at3 bs) (Lifetime.g-forget 𝓤 H A W E G30 7 Row.dead Path.refl) d3
-          d5 : Typed.Typed 𝓤 H A 𝓣 E G29 b13 Δ0 (at5 bs)
-          d5 = Typed.g-pre 𝓤 H A W 𝓣 E G29 G30 b13 Δ0 (Typed.both (s28 bs)) (at4 bs) (Relend.g-back-sl 𝓤 H A W E InflightAction.row G29 16 4 3 7 ref7
-              ref3 life3 (λ x. x) (λ x. x) (Reads.as-is 𝓤 H A (Mut.msleft InflightAction.row ref3)) (Reads.as-is 𝓤 H A (Relend.mslice-owed
-              InflightAction.row ref7 3 7 life3)) Path.refl Path.refl) d4
-          d6 : Typed.Typed 𝓤 H A 𝓣 E G28 b13 Δ0 (at6 bs)
-          d6 = Typed.g-pre 𝓤 H A W 𝓣 E G28 G29 b13 Δ0 (λ Ψ. Ψ) (at5 bs) (Lifetime.g-end 𝓤 H A W E G28 7 Path.refl) d5
-          d7 : Typed.Typed 𝓤 H A 𝓣 E G27 b13 Δ0 (at7 bs)
-          d7 = Typed.g-pre 𝓤 H A W 𝓣 E G27 G28 b13 Δ0 (λ Ψ. Ψ) (at6 bs) (Lifetime.g-forget 𝓤 H A W E G27 6 Row.dead Path.refl) d6
-          d8 : Typed.Typed 𝓤 H A 𝓣 E G26 b13 Δ0 (at8 bs)
-          d8 = Typed.g-pre 𝓤 H A W 𝓣 E G26 G27 b13 Δ0 (Typed.both (s25 bs)) (at7 bs) (Relend.g-back-sl 𝓤 H A W E ReservationUsage.row G26 14 3 2 6
-              ref6 ref2 life2 (λ x. x) (λ x. x) (Reads.as-is 𝓤 H A (Mut.msleft ReservationUsage.row ref2)) (Reads.as-is 𝓤 H A (Relend.mslice-owed
-              ReservationUsage.row ref6 2 6 life2)) Path.refl Path.refl) d7
-          d9 : Typed.Typed 𝓤 H A 𝓣 E G25 b13 Δ0 (at9 bs)
-          d9 = Typed.g-pre 𝓤 H A W 𝓣 E G25 G26 b13 Δ0 (λ Ψ. Ψ) (at8 bs) (Lifetime.g-end 𝓤 H A W E G25 6 Path.refl) d8
-          d10 : Typed.Typed 𝓤 H A 𝓣 E G24 b13 Δ0 (at10 bs)
-          d10 = Typed.g-pre 𝓤 H A W 𝓣 E G24 G25 b13 Δ0 (λ Ψ. Ψ) (at9 bs) (Lifetime.g-forget 𝓤 H A W E G24 5 Row.dead Path.refl) d9
-          d11 : Typed.Typed 𝓤 H A 𝓣 E G23 b13 Δ0 (at11 bs)
-          d11 = Typed.g-pre 𝓤 H A W 𝓣 E G23 G24 b13 Δ0 (Typed.both (s22 bs)) (at10 bs) (Relend.g-back-sl 𝓤 H A W E RelayCircuit.row G23 12 2 1 5 ref5
-              ref1 life1 (λ x. x) (λ x. x) (Reads.as-is 𝓤 H A (Mut.msleft RelayCircuit.row ref1)) (Reads.as-is 𝓤 H A (Relend.mslice-owed
-              RelayCircuit.row ref5 1 5 life1)) Path.refl Path.refl) d10
-          d12 : Typed.Typed 𝓤 H A 𝓣 E G22 b13 Δ0 (at12 bs)
-          d12 = Typed.g-pre 𝓤 H A W 𝓣 E G22 G23 b13 Δ0 (λ Ψ. Ψ) (at11 bs) (Lifetime.g-end 𝓤 H A W E G22 5 Path.refl) d11
-          d13 : Typed.Typed 𝓤 H A 𝓣 E G21 b13 Δ0 (at13 bs)
-          d13 = Typed.g-pre 𝓤 H A W 𝓣 E G21 G22 b13 Δ0 (λ Ψ. Ψ) (at12 bs) (Lifetime.g-forget 𝓤 H A W E G21 4 Row.dead Path.refl) d12
-          d14 : Typed.Typed 𝓤 H A 𝓣 E G20 b13 Δ0 (at14 bs)
-          d14 = Typed.g-pre 𝓤 H A W 𝓣 E G20 G21 b13 Δ0 (Typed.both (s19 bs)) (at13 bs) (Relend.g-back-sl 𝓤 H A W E RelayPending.row G20 10 1 0 4 ref4
-              ref0 life0 (λ x. x) (λ x. x) (Reads.as-is 𝓤 H A (Mut.msleft RelayPending.row ref0)) (Reads.as-is 𝓤 H A (Relend.mslice-owed
-              RelayPending.row ref4 0 4 life0)) Path.refl Path.refl) d13
-          d15 : Typed.Typed 𝓤 H A 𝓣 E G19 b13 Δ0 (at15 bs)
-          d15 = Typed.g-pre 𝓤 H A W 𝓣 E G19 G20 b13 Δ0 (λ Ψ. Ψ) (at14 bs) (Lifetime.g-end 𝓤 H A W E G19 4 Path.refl) d14
-          d16 : Typed.Typed 𝓤 H A 𝓣 E G18 b13 Δ0 (at16 bs)
-          d16 = Typed.g-pre 𝓤 H A W 𝓣 E G18 G19 b13 Δ0 (Typed.pass T18 T19 (s17 bs)) (at15 bs) (Scalar.g-room 𝓤 H A W E G18 7 (Syntax.tyArray
-              (Syntax.tyInt Syntax.w8) 16) (Init.room-arr 𝓤 H A W (Referent.rtF (Referent.fInt Syntax.w8)) 16 0 16 Path.refl)) d15
-          d17 : Typed.Typed 𝓤 H A 𝓣 E G17 b13 Δ0 (at17 bs)
-          d17 = Typed.g-pre 𝓤 H A W 𝓣 E G17 G18 b13 Δ0 (Typed.pass T17 T18 (s16 bs)) (at16 bs) (Scalar.g-room 𝓤 H A W E G17 6 Laws.mir
-              (Local.room-whole 𝓤 H A W (Declared.row OpaqueRelayConfig.the-type) Laws.mir Path.refl)) d16
-          d18 : Typed.Typed 𝓤 H A 𝓣 E G16 b14 Δ0 (at18 bs)
-          d18 = Typed.s-seq 𝓤 H A W 𝓣 E G16 G17 b10 b13 Δ0 (Typed.both (s15 bs)) (at17 bs) (Plain.t-call-plain 𝓤 H A W 𝓣 4 ps·1 r·1 (claims· .2)
-              (claims· .3) "hnsr_circuit::calls::new" (known .1) E (λ pos β. β) G16 (record { pos = 10; ty = Syntax.tyRef Syntax.erased Syntax.mut
-              RelayPending.to; ref = λ x. x; }, (record { pos = 12; ty = Syntax.tyRef Syntax.erased Syntax.mut RelayCircuit.to; ref = λ x. x; },
-              (record { pos = 14; ty = Syntax.tyRef Syntax.erased Syntax.mut ReservationUsage.to; ref = λ x. x; }, (record { pos = 16; ty =
-              Syntax.tyRef Syntax.erased Syntax.mut InflightAction.to; ref = λ x. x; }, (record { pos = 7; st = List.[]; d = 0; at = λ x. x },
-              (Num.vLit 1, (record { pos = 6; st = List.[]; d = 0; at = λ x. x }, (Num.vLit 100, tt),),),),),),),) 8 (4 ∷ 5 ∷ 6 ∷ 7 ∷ List.[])
-              (Call.sub-id 𝓤 H A W (G16 .slots)) (Reads.as-is 𝓤 H A (Mut.mslice RelayPending.row ref0 4), Mut.reads-mslice 𝓤 H A W RelayPending.row
-              ref0 4, Path.refl, (Reads.as-is 𝓤 H A (Mut.mslice RelayCircuit.row ref1 5), Mut.reads-mslice 𝓤 H A W RelayCircuit.row ref1 5, Path.refl,
-              (Reads.as-is 𝓤 H A (Mut.mslice ReservationUsage.row ref2 6), Mut.reads-mslice 𝓤 H A W ReservationUsage.row ref2 6, Path.refl,
-              (Reads.as-is 𝓤 H A (Mut.mslice InflightAction.row ref3 7), Mut.reads-mslice 𝓤 H A W InflightAction.row ref3 7, Path.refl,
+          d1 : Typed.Typed 𝓤 H A 𝓣 E G7 b3 Δ0 at1
+          d1 = Typed.g-pre 𝓤 H A W 𝓣 E G7 G8 b3 Δ0 (Typed.pass T7 T8 s6) at0 (Scalar.g-room 𝓤 H A W E G7 5 (Syntax.tyInt Syntax.w64) (Scalar.room-sc 𝓤
+              H A W (Row.sInt Syntax.w64))) d0
+          d2 : Typed.Typed 𝓤 H A 𝓣 E G6 b3 Δ0 at2
+          d2 = Typed.g-pre 𝓤 H A W 𝓣 E G6 G7 b3 Δ0 (Typed.pass T6 T7 s5) at1 (Scalar.g-room 𝓤 H A W E G6 7 (Syntax.tyArray (Syntax.tyInt Syntax.w8)
+              16) (Init.room-arr 𝓤 H A W (Referent.rtF (Referent.fInt Syntax.w8)) 16 0 16 Path.refl)) d1
+          d3 : Typed.Typed 𝓤 H A 𝓣 E G5 b3 Δ0 at3
+          d3 = Typed.g-pre 𝓤 H A W 𝓣 E G5 G6 b3 Δ0 (Typed.pass T5 T6 s4) at2 (Scalar.g-room 𝓤 H A W E G5 6 Laws.mir (Local.room-whole 𝓤 H A W
+              (Declared.row OpaqueRelayConfig.the-type) Laws.mir Path.refl)) d2
+          d4 : Typed.Typed 𝓤 H A 𝓣 E G4 b4 Δ0 at4
+          d4 = Typed.s-seq 𝓤 H A W 𝓣 E G4 G5 b2 b3 Δ0 (Typed.both s3) at3 (Plain.t-call-plain 𝓤 H A W 𝓣 4 ps·1 r·1 (claims· .2) (claims· .3)
+              "hnsr_circuit::calls::new" (known .1) E (λ pos β. β) G4 (record { pos = 1; ty = Syntax.tyRef (Syntax.named 0) Syntax.imm
+              RelayPending.to; ref = λ x. x; }, (record { pos = 2; ty = Syntax.tyRef (Syntax.named 1) Syntax.imm RelayCircuit.to; ref = λ x. x; },
+              (record { pos = 3; ty = Syntax.tyRef (Syntax.named 2) Syntax.imm ReservationUsage.to; ref = λ x. x; }, (record { pos = 4; ty =
+              Syntax.tyRef (Syntax.named 3) Syntax.imm InflightAction.to; ref = λ x. x; }, (record { pos = 7; st = List.[]; d = 0; at = λ x. x },
+              (Num.vLit 1, (record { pos = 6; st = List.[]; d = 0; at = λ x. x }, (Num.vLit 100, tt),),),),),),),) 0 (0 ∷ 1 ∷ 2 ∷ 3 ∷ List.[])
+              (Call.sub-id 𝓤 H A W (G4 .slots)) (ShrSlice.spares-sslice 𝓤 H A W RelayPending.row ref0 0, Shared.reads-sslice 𝓤 H A W RelayPending.row
+              ref0 0, Path.refl, (ShrSlice.spares-sslice 𝓤 H A W RelayCircuit.row ref1 1, Shared.reads-sslice 𝓤 H A W RelayCircuit.row ref1 1,
+              Path.refl, (ShrSlice.spares-sslice 𝓤 H A W ReservationUsage.row ref2 2, Shared.reads-sslice 𝓤 H A W ReservationUsage.row ref2 2,
+              Path.refl, (ShrSlice.spares-sslice 𝓤 H A W InflightAction.row ref3 3, Shared.reads-sslice 𝓤 H A W InflightAction.row ref3 3, Path.refl,
               ((Array.arr-yields 𝓤 H A W (Array.eInt Syntax.w8) (Array.eInt-laws Syntax.w8) 16, Path.refl,), (tt, ((Yields.yields-copy 𝓤 H A W (λ ρ.
               Unit) (Declared.row OpaqueRelayConfig.the-type) Path.refl (Copies.cStruct OpaqueRelayConfig.the-type Laws.the-laws Laws.the-copy .copy 𝓤
               H A W) (Rows'.whole (Declared.row OpaqueRelayConfig.the-type)) (λ x. x) (λ x. x) (λ ρ told. Local.mem-whole 𝓤 H A W (Declared.row
               OpaqueRelayConfig.the-type) ρ) λ ρ told. Local.whole-mem 𝓤 H A W (Declared.row OpaqueRelayConfig.the-type) ρ, Path.refl,), (tt,
-              tt),),),),),),),) (Reads.room-gone 𝓤 H A Laws''.mir) (tt, (tt, (tt, (tt, tt)))) Path.refl) d17
-          d19 : Typed.Typed 𝓤 H A 𝓣 E G15 b15 Δ0 (at19 bs)
-          d19 = Typed.s-seq 𝓤 H A W 𝓣 E G15 G16 b9 b14 Δ0 (Typed.ask (s14 bs)) (at18 bs) (Relend.t-sl-aggregate 𝓤 H A W E InflightAction.row 𝓣
-              (Relend.asMut InflightAction.row) G15 15 16 7 ref3 ref3 (λ x. x) (Scalar.oFld 4 ((Syntax.field 1) ∷ List.[]) (Syntax.tyInt Syntax.w64) 8
-              λ v. Shared.lenV (v .0)) (Reads.as-is 𝓤 H A (Relend.msptr InflightAction.row ref3 7)) (Reads.room-gone 𝓤 H A (Syntax.tyStruct (38 ∷ 91 ∷
-              93 ∷ List.[]) (Syntax.tcons ref3 (Syntax.tcons (Syntax.tyInt Syntax.w64) Syntax.tnil)))) (Relend.reads-owed-len 𝓤 H A W
-              InflightAction.row ref7 3 7 life3 8 Path.refl, Path.refl,) Path.refl Path.refl λ b o k. tt) d18
-          d20 : Typed.Typed 𝓤 H A 𝓣 E G14 b16 Δ0 (at20 bs)
-          d20 = Typed.s-seq 𝓤 H A W 𝓣 E G14 G15 b8 b15 Δ0 (Typed.give (s13 bs)) (at19 bs) (Relend.t-sl-relend 𝓤 H A W E InflightAction.row 𝓣 G14 4 15
-              3 7 ref7 ref3 life3 0 (λ x. x) (Reads.as-is 𝓤 H A (Mut.mslice InflightAction.row ref7 3)) (Reads.room-gone 𝓤 H A ref3) Path.refl tt
-              Path.refl Path.refl Path.refl λ b o. tt) d19
-          d21 : Typed.Typed 𝓤 H A 𝓣 E G13 b16 Δ0 (at21 bs)
-          d21 = Typed.g-pre 𝓤 H A W 𝓣 E G13 G14 b16 Δ0 (λ Ψ. Ψ) (at20 bs) (Lifetime.g-begin 𝓤 H A W E G13 7 (tt, ((tt, tt), ((tt, tt), ((tt, tt), (tt,
-              (tt, (tt, (tt, (tt, (tt, (tt, (tt, (tt, (tt, (tt, (tt, (tt, tt))))))))),),),),),),),),)) d20
-          d22 : Typed.Typed 𝓤 H A 𝓣 E G12 b17 Δ0 (at22 bs)
-          d22 = Typed.s-seq 𝓤 H A W 𝓣 E G12 G13 b7 b16 Δ0 (Typed.ask (s11 bs)) (at21 bs) (Relend.t-sl-aggregate 𝓤 H A W E ReservationUsage.row 𝓣
-              (Relend.asMut ReservationUsage.row) G12 13 14 6 ref2 ref2 (λ x. x) (Scalar.oFld 3 ((Syntax.field 1) ∷ List.[]) (Syntax.tyInt Syntax.w64)
-              8 λ v. Shared.lenV (v .0)) (Reads.as-is 𝓤 H A (Relend.msptr ReservationUsage.row ref2 6)) (Reads.room-gone 𝓤 H A (Syntax.tyStruct (38 ∷
-              91 ∷ 93 ∷ List.[]) (Syntax.tcons ref2 (Syntax.tcons (Syntax.tyInt Syntax.w64) Syntax.tnil)))) (Relend.reads-owed-len 𝓤 H A W
-              ReservationUsage.row ref6 2 6 life2 8 Path.refl, Path.refl,) Path.refl Path.refl λ b o k. tt) d21
-          d23 : Typed.Typed 𝓤 H A 𝓣 E G11 b18 Δ0 (at23 bs)
-          d23 = Typed.s-seq 𝓤 H A W 𝓣 E G11 G12 b6 b17 Δ0 (Typed.give (s10 bs)) (at22 bs) (Relend.t-sl-relend 𝓤 H A W E ReservationUsage.row 𝓣 G11 3
-              13 2 6 ref6 ref2 life2 0 (λ x. x) (Reads.as-is 𝓤 H A (Mut.mslice ReservationUsage.row ref6 2)) (Reads.room-gone 𝓤 H A ref2) Path.refl tt
-              Path.refl Path.refl Path.refl λ b o. tt) d22
-          d24 : Typed.Typed 𝓤 H A 𝓣 E G10 b18 Δ0 (at24 bs)
-          d24 = Typed.g-pre 𝓤 H A W 𝓣 E G10 G11 b18 Δ0 (λ Ψ. Ψ) (at23 bs) (Lifetime.g-begin 𝓤 H A W E G10 6 (tt, ((tt, tt), ((tt, tt), (tt, (tt, (tt,
-              (tt, (tt, (tt, (tt, (tt, (tt, (tt, (tt, (tt, (tt, (tt, tt))))))))),),),),),),),),)) d23
-          d25 : Typed.Typed 𝓤 H A 𝓣 E G9 b19 Δ0 (at25 bs)
-          d25 = Typed.s-seq 𝓤 H A W 𝓣 E G9 G10 b5 b18 Δ0 (Typed.ask (s8 bs)) (at24 bs) (Relend.t-sl-aggregate 𝓤 H A W E RelayCircuit.row 𝓣
-              (Relend.asMut RelayCircuit.row) G9 11 12 5 ref1 ref1 (λ x. x) (Scalar.oFld 2 ((Syntax.field 1) ∷ List.[]) (Syntax.tyInt Syntax.w64) 8 λ
-              v. Shared.lenV (v .0)) (Reads.as-is 𝓤 H A (Relend.msptr RelayCircuit.row ref1 5)) (Reads.room-gone 𝓤 H A (Syntax.tyStruct (38 ∷ 91 ∷ 93
-              ∷ List.[]) (Syntax.tcons ref1 (Syntax.tcons (Syntax.tyInt Syntax.w64) Syntax.tnil)))) (Relend.reads-owed-len 𝓤 H A W RelayCircuit.row
-              ref5 1 5 life1 8 Path.refl, Path.refl,) Path.refl Path.refl λ b o k. tt) d24
-          d26 : Typed.Typed 𝓤 H A 𝓣 E G8 b20 Δ0 (at26 bs)
-          d26 = Typed.s-seq 𝓤 H A W 𝓣 E G8 G9 b4 b19 Δ0 (Typed.give (s7 bs)) (at25 bs) (Relend.t-sl-relend 𝓤 H A W E RelayCircuit.row 𝓣 G8 2 11 1 5
-              ref5 ref1 life1 0 (λ x. x) (Reads.as-is 𝓤 H A (Mut.mslice RelayCircuit.row ref5 1)) (Reads.room-gone 𝓤 H A ref1) Path.refl tt Path.refl
-              Path.refl Path.refl λ b o. tt) d25
-          d27 : Typed.Typed 𝓤 H A 𝓣 E G7 b20 Δ0 (at27 bs)
-          d27 = Typed.g-pre 𝓤 H A W 𝓣 E G7 G8 b20 Δ0 (λ Ψ. Ψ) (at26 bs) (Lifetime.g-begin 𝓤 H A W E G7 5 (tt, ((tt, tt), (tt, (tt, (tt, (tt, (tt, (tt,
-              (tt, (tt, (tt, (tt, (tt, (tt, (tt, (tt, (tt, tt))))))))),),),),),),),),)) d26
-          d28 : Typed.Typed 𝓤 H A 𝓣 E G6 b21 Δ0 (at28 bs)
-          d28 = Typed.s-seq 𝓤 H A W 𝓣 E G6 G7 b3 b20 Δ0 (Typed.ask (s5 bs)) (at27 bs) (Relend.t-sl-aggregate 𝓤 H A W E RelayPending.row 𝓣
-              (Relend.asMut RelayPending.row) G6 9 10 4 ref0 ref0 (λ x. x) (Scalar.oFld 1 ((Syntax.field 1) ∷ List.[]) (Syntax.tyInt Syntax.w64) 8 λ
-              v. Shared.lenV (v .0)) (Reads.as-is 𝓤 H A (Relend.msptr RelayPending.row ref0 4)) (Reads.room-gone 𝓤 H A (Syntax.tyStruct (38 ∷ 91 ∷ 93
-              ∷ List.[]) (Syntax.tcons ref0 (Syntax.tcons (Syntax.tyInt Syntax.w64) Syntax.tnil)))) (Relend.reads-owed-len 𝓤 H A W RelayPending.row
-              ref4 0 4 life0 8 Path.refl, Path.refl,) Path.refl Path.refl λ b o k. tt) d27
-          d29 : Typed.Typed 𝓤 H A 𝓣 E G5 b22 Δ0 (at29 bs)
-          d29 = Typed.s-seq 𝓤 H A W 𝓣 E G5 G6 b2 b21 Δ0 (Typed.give (s4 bs)) (at28 bs) (Relend.t-sl-relend 𝓤 H A W E RelayPending.row 𝓣 G5 1 9 0 4
-              ref4 ref0 life0 0 (λ x. x) (Reads.as-is 𝓤 H A (Mut.mslice RelayPending.row ref4 0)) (Reads.room-gone 𝓤 H A ref0) Path.refl tt Path.refl
-              Path.refl Path.refl λ b o. tt) d28
-          d30 : Typed.Typed 𝓤 H A 𝓣 E G4 b22 Δ0 (at30 bs)
-          d30 = Typed.g-pre 𝓤 H A W 𝓣 E G4 G5 b22 Δ0 (λ Ψ. Ψ) (at29 bs) (Lifetime.g-begin 𝓤 H A W E G4 4 (tt, (tt, (tt, (tt, (tt, (tt, (tt, (tt, (tt,
-              (tt, (tt, (tt, (tt, (tt, (tt, (tt, (tt, tt))))))))),),),),),),),),)) d29
-          d31 : Typed.Typed 𝓤 H A 𝓣 E G3 b22 Δ0 (at31 bs)
-          d31 = Typed.g-pre 𝓤 H A W 𝓣 E G3 G4 b22 Δ0 (Typed.pass T3 T4 (s2 bs)) (at30 bs) (AtSlots.g-as-by 𝓤 H A W E (λ ρ. Unit) G3 7 (Rows.arrF
-              (Referent.rtF (Referent.fInt Syntax.w8)) 16 0) (λ x. x) (Own.told-none 𝓤 H A (G3 .slots)) λ ρ told. Repeat.whole-arr 𝓤 H A W
-              (Referent.rtF (Referent.fInt Syntax.w8)) 16 tt ρ) d30
-          d32 : Typed.Typed 𝓤 H A 𝓣 E G2 b23 Δ0 (at32 bs)
-          d32 = Typed.s-seq 𝓤 H A W 𝓣 E G2 G3 b1 b22 Δ0 (Typed.pass T2 T3 (s1 bs)) (at31 bs) (Repeat.t-repeat 𝓤 H A W E 𝓣 (Referent.rtF (Referent.fInt
-              Syntax.w8)) (Plain'.uint-lawful 𝓤 H A W Syntax.w8) (Copies.cRf (Referent.fInt Syntax.w8) .copy 𝓤 H A W) (Plain'.uint-makes 𝓤 H A W
-              Syntax.w8) 16 G2 7 (Scalar.oInt Syntax.w8 1) (λ m. 1) (Reads.room-gone 𝓤 H A (Syntax.tyArray (Syntax.tyInt Syntax.w8) 16)) tt Path.refl
-              λ m wa. (Path.refl, Dec.lit< tt)) d31
-          d33 : Typed.Typed 𝓤 H A 𝓣 E G0 b24 Δ0 (at33 bs)
-          d33 = Typed.s-seq 𝓤 H A W 𝓣 E G0 G2 b0 b23 Δ0 (Typed.both (s0 bs)) (at32 bs) (Plain.t-call-plain 𝓤 H A W 𝓣 0 ps·0 r·0 (claims· .0) (claims·
-              .1) "cases::script::configured" (known .0) E (λ pos β. β) G0 (Num.vAt 5 λ x. x, tt) 6 List.[] (Call.sub-id 𝓤 H A W (G0 .slots))
-              ((Scalar.reads-sc 𝓤 H A W (Row.sInt Syntax.w64), Path.refl), tt) (Reads.room-gone 𝓤 H A Laws.mir) tt Path.refl) d32
-          pub typed : Typed.Typed 𝓤 H A 𝓣 E (Function.Γin 4 ps r xs m κs qs) b24 (Function.Δret 4 ps r xs m κs qs) (Φ bs)
-          typed = d33
+              tt),),),),),),),) (Reads.room-gone 𝓤 H A Laws'.mir) (tt, (tt, (tt, (tt, tt)))) Path.refl) d3
+          d5 : Typed.Typed 𝓤 H A 𝓣 E G3 b4 Δ0 at5
+          d5 = Typed.g-pre 𝓤 H A W 𝓣 E G3 G4 b4 Δ0 (Typed.pass T3 T4 s2) at4 (AtSlots.g-as-by 𝓤 H A W E (λ ρ. Unit) G3 7 (Rows.arrF (Referent.rtF
+              (Referent.fInt Syntax.w8)) 16 0) (λ x. x) (Own.told-none 𝓤 H A (G3 .slots)) λ ρ told. Repeat.whole-arr 𝓤 H A W (Referent.rtF
+              (Referent.fInt Syntax.w8)) 16 tt ρ) d4
+          d6 : Typed.Typed 𝓤 H A 𝓣 E G2 b5 Δ0 at6
+          d6 = Typed.s-seq 𝓤 H A W 𝓣 E G2 G3 b1 b4 Δ0 (Typed.pass T2 T3 s1) at5 (Repeat.t-repeat 𝓤 H A W E 𝓣 (Referent.rtF (Referent.fInt Syntax.w8))
+              (Plain'.uint-lawful 𝓤 H A W Syntax.w8) (Copies.cRf (Referent.fInt Syntax.w8) .copy 𝓤 H A W) (Plain'.uint-makes 𝓤 H A W Syntax.w8) 16 G2
+              7 (Scalar.oInt Syntax.w8 1) (λ m. 1) (Reads.room-gone 𝓤 H A (Syntax.tyArray (Syntax.tyInt Syntax.w8) 16)) tt Path.refl λ m wa.
+              (Path.refl, Dec.lit< tt)) d5
+          d7 : Typed.Typed 𝓤 H A 𝓣 E G0 b6 Δ0 at7
+          d7 = Typed.s-seq 𝓤 H A W 𝓣 E G0 G2 b0 b5 Δ0 (Typed.both s0) at6 (Plain.t-call-plain 𝓤 H A W 𝓣 0 ps·0 r·0 (claims· .0) (claims· .1)
+              "cases::script::configured" (known .0) E (λ pos β. β) G0 (Num.vAt 5 λ x. x, tt) 6 List.[] (Call.sub-id 𝓤 H A W (G0 .slots))
+              ((Scalar.reads-sc 𝓤 H A W (Row.sInt Syntax.w64), Path.refl), tt) (Reads.room-gone 𝓤 H A Laws.mir) tt Path.refl) d6
+          pub typed : Typed.Typed 𝓤 H A 𝓣 E (Function.Γin 4 ps r xs m κs qs) b6 (Function.Δret 4 ps r xs m κs qs) Φ
+          typed = d7
       module _ (κs : Lifetimes.Lfts 4) where
         pub record Args : Type 0 where
-          pub pending : Kinds.Den { n = 4 } κs (MutSlice.pMutS RelayPending.row 0 tt)
-          pub circuits : Kinds.Den { n = 4 } κs (MutSlice.pMutS RelayCircuit.row 1 tt)
-          pub ledger : Kinds.Den { n = 4 } κs (MutSlice.pMutS ReservationUsage.row 2 tt)
-          pub inflight : Kinds.Den { n = 4 } κs (MutSlice.pMutS InflightAction.row 3 tt)
+          pub pending : Kinds.Den { n = 4 } κs (ShrSlice.pShrS RelayPending.row 0 tt)
+          pub circuits : Kinds.Den { n = 4 } κs (ShrSlice.pShrS RelayCircuit.row 1 tt)
+          pub ledger : Kinds.Den { n = 4 } κs (ShrSlice.pShrS ReservationUsage.row 2 tt)
+          pub inflight : Kinds.Den { n = 4 } κs (ShrSlice.pShrS InflightAction.row 3 tt)
           pub queue : Kinds.Den { n = 4 } κs (Num.pNum Syntax.w64)
         abbrev pub dens : (a : Args) → Kinds.Dens κs ps
         dens = λ a. (a .pending, (a .circuits, (a .ledger, (a .inflight, (a .queue, tt)))))
         module _ (args· : Args) where
           pub record Ranges : Type 0 where
             pub queue : Val.Fits Syntax.w64 (args· .queue)
-      abbrev pub m0 : (κs : Lifetimes.Lfts 4) → (args : Args κs) → (blocks : List.List Nat.ℕ) → Typed.Mo T0
-      m0 = λ κs args blocks. (tt, Enter.partsP κs 1 ps xs (dens κs args))
-      abbrev W0 : (κs : Lifetimes.Lfts 4) → (args : Args κs) → (blocks : List.List Nat.ℕ) → Typed.Want O0
-      W0 = λ κs args blocks. (λ u. ⊥, tt, λ u. Enter.Fixs κs 1 ps xs (dens κs args) (u .1) × Post· κs (dens κs args) (Function.resV r κs (u .0))
+      abbrev pub m0 : (κs : Lifetimes.Lfts 4) → (args : Args κs) → Typed.Mo T0
+      m0 = λ κs args. (tt, Enter.partsP κs 1 ps xs (dens κs args))
+      abbrev W0 : (κs : Lifetimes.Lfts 4) → (args : Args κs) → Typed.Want O0
+      W0 = λ κs args. (λ u. ⊥, tt, λ u. Enter.Fixs κs 1 ps xs (dens κs args) (u .1) × Post· κs (dens κs args) (Function.resV r κs (u .0))
           (Clauses.atExit (Kinds.endedOf 4 ps r) κs (dens κs args) (Enter.lastsP κs 1 ps xs (dens κs args) (u .1))),)
       pub record Start : Type 0 where
         pub κs : Lifetimes.Lfts 4
         pub args : Args κs
-        pub blocks : List.List Nat.ℕ
         pub good : Kinds.GoodsP κs ps (dens κs args)
         pub fits : Ranges κs args
         pub pre : Pre· κs (dens κs args)
       abbrev pub Need-configured-requires : Type 0
-      Need-configured-requires = (c : Start) → s0 (c .blocks) .asks (m0 (c .κs) (c .args) (c .blocks))
-      abbrev pub m1 : (before : Start) → (given : s0 (before .blocks) .gives (m0 (before .κs) (before .args) (before .blocks))) → Typed.Mo T2
-      m1 = λ before given. s0 (before .blocks) .next (m0 (before .κs) (before .args) (before .blocks)) given
+      Need-configured-requires = (c : Start) → s0 .asks (m0 (c .κs) (c .args))
+      abbrev pub m1 : (before : Start) → (given : s0 .gives (m0 (before .κs) (before .args))) → Typed.Mo T2
+      m1 = λ before given. s0 .next (m0 (before .κs) (before .args)) given
       module _ (before· : Start) where
         abbrev pub After-configured·own : Type 0
-        After-configured·own = Called.Called ps·0 r·0 (claims· .1) T0 (Num.vAt 5 λ x. x, tt) (m0 (before· .κs) (before· .args) (before· .blocks))
+        After-configured·own = Called.Called ps·0 r·0 (claims· .1) T0 (Num.vAt 5 λ x. x, tt) (m0 (before· .κs) (before· .args))
       pub record After-configured : Type 0 where
         pub before : Start
         pub configured : After-configured·own before
-      abbrev pub After-configured·gave : (c : After-configured) → s0 (c .before .blocks) .gives (m0 (c .before .κs) (c .before .args) (c .before
-          .blocks))
-      After-configured·gave = λ c. Called.given ps·0 r·0 (claims· .1) T0 (Num.vAt 5 λ x. x, tt) (m0 (c .before .κs) (c .before .args) (c .before
-          .blocks)) (c .configured)
-      abbrev pub m2 : (before : Start) → (given : s0 (before .blocks) .gives (m0 (before .κs) (before .args) (before .blocks))) → Typed.Mo T3
-      m2 = λ before given. s1 (before .blocks) (m1 before given)
-      abbrev pub m3 : (before : Start) → (given : s0 (before .blocks) .gives (m0 (before .κs) (before .args) (before .blocks))) → Typed.Mo T4
-      m3 = λ before given. s2 (before .blocks) (m2 before given)
-      abbrev pub m4 : (before : After-configured) → (given : s4 (before .before .blocks) .gives (m3 (before .before) (After-configured·gave before)))
-          → Typed.Mo T6
-      m4 = λ before given. s4 (before .before .blocks) .next (m3 (before .before) (After-configured·gave before)) given
-      abbrev pub m5 : (before : After-configured) → (given : s4 (before .before .blocks) .gives (m3 (before .before) (After-configured·gave before)))
-          → Typed.Mo T7
-      m5 = λ before given. s5 (before .before .blocks) .next (m4 before given)
-      module _ (before· : After-configured) where
-        pub record After-new-arg·own : Type 0 where
-          pub given : s4 (before· .before .blocks) .gives (m3 (before· .before) (After-configured·gave before·))
-      pub record After-new-arg : Type 0 where
-        pub before : After-configured
-        pub new-arg : After-new-arg·own before
-      abbrev pub m6 : (before : After-new-arg) → (given : s7 (before .before .before .blocks) .gives (m5 (before .before) (before .new-arg .given))) →
-          Typed.Mo T9
-      m6 = λ before given. s7 (before .before .before .blocks) .next (m5 (before .before) (before .new-arg .given)) given
-      abbrev pub m7 : (before : After-new-arg) → (given : s7 (before .before .before .blocks) .gives (m5 (before .before) (before .new-arg .given))) →
-          Typed.Mo T10
-      m7 = λ before given. s8 (before .before .before .blocks) .next (m6 before given)
-      module _ (before· : After-new-arg) where
-        pub record After-new-arg2·own : Type 0 where
-          pub given : s7 (before· .before .before .blocks) .gives (m5 (before· .before) (before· .new-arg .given))
-      pub record After-new-arg2 : Type 0 where
-        pub before : After-new-arg
-        pub new-arg2 : After-new-arg2·own before
-      abbrev pub m8 : (before : After-new-arg2) → (given : s10 (before .before .before .before .blocks) .gives (m7 (before .before) (before .new-arg2
-          .given))) → Typed.Mo T12
-      m8 = λ before given. s10 (before .before .before .before .blocks) .next (m7 (before .before) (before .new-arg2 .given)) given
-      abbrev pub m9 : (before : After-new-arg2) → (given : s10 (before .before .before .before .blocks) .gives (m7 (before .before) (before .new-arg2
-          .given))) → Typed.Mo T13
-      m9 = λ before given. s11 (before .before .before .before .blocks) .next (m8 before given)
-      module _ (before· : After-new-arg2) where
-        pub record After-new-arg3·own : Type 0 where
-          pub given : s10 (before· .before .before .before .blocks) .gives (m7 (before· .before) (before· .new-arg2 .given))
-      pub record After-new-arg3 : Type 0 where
-        pub before : After-new-arg2
-        pub new-arg3 : After-new-arg3·own before
-      abbrev pub m10 : (before : After-new-arg3) → (given : s13 (before .before .before .before .before .blocks) .gives (m9 (before .before) (before
-          .new-arg3 .given))) → Typed.Mo T15
-      m10 = λ before given. s13 (before .before .before .before .before .blocks) .next (m9 (before .before) (before .new-arg3 .given)) given
-      abbrev pub m11 : (before : After-new-arg3) → (given : s13 (before .before .before .before .before .blocks) .gives (m9 (before .before) (before
-          .new-arg3 .given))) → Typed.Mo T16
-      m11 = λ before given. s14 (before .before .before .before .before .blocks) .next (m10 before given)
-      module _ (before· : After-new-arg3) where
-        pub record After-new-arg4·own : Type 0 where
-          pub given : s13 (before· .before .before .before .before .blocks) .gives (m9 (before· .before) (before· .new-arg3 .given))
-      pub record After-new-arg4 : Type 0 where
-        pub before : After-new-arg3
-        pub new-arg4 : After-new-arg4·own before
+      abbrev pub After-configured·gave : (c : After-configured) → s0 .gives (m0 (c .before .κs) (c .before .args))
+      After-configured·gave = λ c. Called.given ps·0 r·0 (claims· .1) T0 (Num.vAt 5 λ x. x, tt) (m0 (c .before .κs) (c .before .args)) (c .configured)
+      abbrev pub m2 : (before : Start) → (given : s0 .gives (m0 (before .κs) (before .args))) → Typed.Mo T3
+      m2 = λ before given. s1 (m1 before given)
+      abbrev pub m3 : (before : Start) → (given : s0 .gives (m0 (before .κs) (before .args))) → Typed.Mo T4
+      m3 = λ before given. s2 (m2 before given)
       abbrev pub Need-new-requires : Type 0
-      Need-new-requires = (c : After-new-arg4) → s15 (c .before .before .before .before .before .blocks) .asks (m11 (c .before) (c .new-arg4 .given))
-      abbrev pub m12 : (before : After-new-arg4) → (given : s15 (before .before .before .before .before .before .blocks) .gives (m11 (before .before)
-          (before .new-arg4 .given))) → Typed.Mo T17
-      m12 = λ before given. s15 (before .before .before .before .before .before .blocks) .next (m11 (before .before) (before .new-arg4 .given)) given
-      module _ (before· : After-new-arg4) where
+      Need-new-requires = (c : After-configured) → s3 .asks (m3 (c .before) (After-configured·gave c))
+      abbrev pub m4 : (before : After-configured) → (given : s3 .gives (m3 (before .before) (After-configured·gave before))) → Typed.Mo T5
+      m4 = λ before given. s3 .next (m3 (before .before) (After-configured·gave before)) given
+      module _ (before· : After-configured) where
         abbrev pub After-new·own : Type 0
-        After-new·own = Called.Called ps·1 r·1 (claims· .3) T16 (record { pos = 10; ty = Syntax.tyRef Syntax.erased Syntax.mut RelayPending.to; ref =
-            λ x. x; }, (record { pos = 12; ty = Syntax.tyRef Syntax.erased Syntax.mut RelayCircuit.to; ref = λ x. x; }, (record { pos = 14; ty =
-            Syntax.tyRef Syntax.erased Syntax.mut ReservationUsage.to; ref = λ x. x; }, (record { pos = 16; ty = Syntax.tyRef Syntax.erased Syntax.mut
-            InflightAction.to; ref = λ x. x; }, (record { pos = 7; st = List.[]; d = 0; at = λ x. x }, (Num.vLit 1, (record { pos = 6; st = List.[]; d
-            = 0; at = λ x. x }, (Num.vLit 100, tt)),),),),),),) (m11 (before· .before) (before· .new-arg4 .given))
+        After-new·own = Called.Called ps·1 r·1 (claims· .3) T4 (record { pos = 1; ty = Syntax.tyRef (Syntax.named 0) Syntax.imm RelayPending.to; ref =
+            λ x. x; }, (record { pos = 2; ty = Syntax.tyRef (Syntax.named 1) Syntax.imm RelayCircuit.to; ref = λ x. x; }, (record { pos = 3; ty =
+            Syntax.tyRef (Syntax.named 2) Syntax.imm ReservationUsage.to; ref = λ x. x; }, (record { pos = 4; ty = Syntax.tyRef (Syntax.named 3)
+            Syntax.imm InflightAction.to; ref = λ x. x; }, (record { pos = 7; st = List.[]; d = 0; at = λ x. x }, (Num.vLit 1, (record { pos = 6; st =
+            List.[]; d = 0; at = λ x. x }, (Num.vLit 100, tt)),),),),),),) (m3 (before· .before) (After-configured·gave before·))
       pub record After-new : Type 0 where
-        pub before : After-new-arg4
+        pub before : After-configured
         pub new : After-new·own before
-      abbrev pub After-new·gave : (c : After-new) → s15 (c .before .before .before .before .before .before .blocks) .gives (m11 (c .before .before) (c
-          .before .new-arg4 .given))
-      After-new·gave = λ c. Called.given ps·1 r·1 (claims· .3) T16 (record { pos = 10; ty = Syntax.tyRef Syntax.erased Syntax.mut RelayPending.to; ref
-          = λ x. x; }, (record { pos = 12; ty = Syntax.tyRef Syntax.erased Syntax.mut RelayCircuit.to; ref = λ x. x; }, (record { pos = 14; ty =
-          Syntax.tyRef Syntax.erased Syntax.mut ReservationUsage.to; ref = λ x. x; }, (record { pos = 16; ty = Syntax.tyRef Syntax.erased Syntax.mut
-          InflightAction.to; ref = λ x. x; }, (record { pos = 7; st = List.[]; d = 0; at = λ x. x }, (Num.vLit 1, (record { pos = 6; st = List.[]; d =
-          0; at = λ x. x }, (Num.vLit 100, tt)),),),),),),) (m11 (c .before .before) (c .before .new-arg4 .given)) (c .new)
-      abbrev pub m13 : (before : After-new-arg4) → (given : s15 (before .before .before .before .before .before .blocks) .gives (m11 (before .before)
-          (before .new-arg4 .given))) → Typed.Mo T18
-      m13 = λ before given. s16 (before .before .before .before .before .before .blocks) (m12 before given)
-      abbrev pub m14 : (before : After-new-arg4) → (given : s15 (before .before .before .before .before .before .blocks) .gives (m11 (before .before)
-          (before .new-arg4 .given))) → Typed.Mo T19
-      m14 = λ before given. s17 (before .before .before .before .before .before .blocks) (m13 before given)
-      abbrev pub m15 : (before : After-new) → (given : s19 (before .before .before .before .before .before .before .blocks) .gives (m14 (before
-          .before) (After-new·gave before))) → Typed.Mo T21
-      m15 = λ before given. s19 (before .before .before .before .before .before .before .blocks) .next (m14 (before .before) (After-new·gave before))
-          given
-      module _ (before· : After-new) where
-        pub record After-pending·own : Type 0 where
-          pub given : s19 (before· .before .before .before .before .before .before .blocks) .gives (m14 (before· .before) (After-new·gave before·))
-      pub record After-pending : Type 0 where
-        pub before : After-new
-        pub pending : After-pending·own before
-      abbrev pub m16 : (before : After-pending) → (given : s22 (before .before .before .before .before .before .before .before .blocks) .gives (m15
-          (before .before) (before .pending .given))) → Typed.Mo T24
-      m16 = λ before given. s22 (before .before .before .before .before .before .before .before .blocks) .next (m15 (before .before) (before .pending
-          .given)) given
-      module _ (before· : After-pending) where
-        pub record After-circuits·own : Type 0 where
-          pub given : s22 (before· .before .before .before .before .before .before .before .blocks) .gives (m15 (before· .before) (before· .pending
-              .given))
-      pub record After-circuits : Type 0 where
-        pub before : After-pending
-        pub circuits : After-circuits·own before
-      abbrev pub m17 : (before : After-circuits) → (given : s25 (before .before .before .before .before .before .before .before .before .blocks)
-          .gives (m16 (before .before) (before .circuits .given))) → Typed.Mo T27
-      m17 = λ before given. s25 (before .before .before .before .before .before .before .before .before .blocks) .next (m16 (before .before) (before
-          .circuits .given)) given
-      module _ (before· : After-circuits) where
-        pub record After-ledger·own : Type 0 where
-          pub given : s25 (before· .before .before .before .before .before .before .before .before .blocks) .gives (m16 (before· .before) (before·
-              .circuits .given))
-      pub record After-ledger : Type 0 where
-        pub before : After-circuits
-        pub ledger : After-ledger·own before
-      abbrev pub m18 : (before : After-ledger) → (given : s28 (before .before .before .before .before .before .before .before .before .before .blocks)
-          .gives (m17 (before .before) (before .ledger .given))) → Typed.Mo T30
-      m18 = λ before given. s28 (before .before .before .before .before .before .before .before .before .before .blocks) .next (m17 (before .before)
-          (before .ledger .given)) given
-      module _ (before· : After-ledger) where
-        pub record After-inflight·own : Type 0 where
-          pub given : s28 (before· .before .before .before .before .before .before .before .before .before .blocks) .gives (m17 (before· .before)
-              (before· .ledger .given))
-      pub record After-inflight : Type 0 where
-        pub before : After-ledger
-        pub inflight : After-inflight·own before
-      abbrev pub m19 : (before : After-inflight) → (given : s30 (before .before .before .before .before .before .before .before .before .before
-          .before .blocks) .gives (m18 (before .before) (before .inflight .given))) → Typed.Mo T32
-      m19 = λ before given. s30 (before .before .before .before .before .before .before .before .before .before .before .blocks) .next (m18 (before
-          .before) (before .inflight .given)) given
-      abbrev pub m20 : (before : After-inflight) → (given : s30 (before .before .before .before .before .before .before .before .before .before
-          .before .blocks) .gives (m18 (before .before) (before .inflight .given))) → Typed.Mo T33
-      m20 = λ before given. s31 (before .before .before .before .before .before .before .before .before .before .before .blocks) (m19 before given)
-      abbrev pub m21 : (before : After-inflight) → (given : s30 (before .before .before .before .before .before .before .before .before .before
-          .before .blocks) .gives (m18 (before .before) (before .inflight .given))) → Typed.Mo T34
-      m21 = λ before given. s32 (before .before .before .before .before .before .before .before .before .before .before .blocks) (m20 before given)
-      module _ (before· : After-inflight) where
-        pub record After-result·own : Type 0 where
-          pub given : s30 (before· .before .before .before .before .before .before .before .before .before .before .blocks) .gives (m18 (before·
-              .before) (before· .inflight .given))
-      pub record After-result : Type 0 where
-        pub before : After-inflight
-        pub result : After-result·own before
-      abbrev pub Need-same-length : Type 0
-      Need-same-length = (c : After-result) → MutSlice.SameLen (Row.get 1 (T34 .locals) (m21 (c .before) (c .result .given))) (dens (c .before .before
-          .before .before .before .before .before .before .before .before .before .κs) (c .before .before .before .before .before .before .before
-          .before .before .before .before .args) .0)
-      abbrev pub Need-same-length-2 : Type 0
-      Need-same-length-2 = (c : After-result) → MutSlice.SameLen (Row.get 2 (T34 .locals) (m21 (c .before) (c .result .given))) (dens (c .before
-          .before .before .before .before .before .before .before .before .before .before .κs) (c .before .before .before .before .before .before
-          .before .before .before .before .before .args) .1 .0)
-      abbrev pub Need-same-length-3 : Type 0
-      Need-same-length-3 = (c : After-result) → MutSlice.SameLen (Row.get 3 (T34 .locals) (m21 (c .before) (c .result .given))) (dens (c .before
-          .before .before .before .before .before .before .before .before .before .before .κs) (c .before .before .before .before .before .before
-          .before .before .before .before .before .args) .1 .1 .0)
-      abbrev pub Need-same-length-4 : Type 0
-      Need-same-length-4 = (c : After-result) → MutSlice.SameLen (Row.get 4 (T34 .locals) (m21 (c .before) (c .result .given))) (dens (c .before
-          .before .before .before .before .before .before .before .before .before .before .κs) (c .before .before .before .before .before .before
-          .before .before .before .before .before .args) .1 .1 .1 .0)
+      abbrev pub After-new·gave : (c : After-new) → s3 .gives (m3 (c .before .before) (After-configured·gave (c .before)))
+      After-new·gave = λ c. Called.given ps·1 r·1 (claims· .3) T4 (record { pos = 1; ty = Syntax.tyRef (Syntax.named 0) Syntax.imm RelayPending.to;
+          ref = λ x. x; }, (record { pos = 2; ty = Syntax.tyRef (Syntax.named 1) Syntax.imm RelayCircuit.to; ref = λ x. x; }, (record { pos = 3; ty =
+          Syntax.tyRef (Syntax.named 2) Syntax.imm ReservationUsage.to; ref = λ x. x; }, (record { pos = 4; ty = Syntax.tyRef (Syntax.named 3)
+          Syntax.imm InflightAction.to; ref = λ x. x; }, (record { pos = 7; st = List.[]; d = 0; at = λ x. x }, (Num.vLit 1, (record { pos = 6; st =
+          List.[]; d = 0; at = λ x. x }, (Num.vLit 100, tt)),),),),),),) (m3 (c .before .before) (After-configured·gave (c .before))) (c .new)
+      abbrev pub m5 : (before : After-configured) → (given : s3 .gives (m3 (before .before) (After-configured·gave before))) → Typed.Mo T6
+      m5 = λ before given. s4 (m4 before given)
+      abbrev pub m6 : (before : After-configured) → (given : s3 .gives (m3 (before .before) (After-configured·gave before))) → Typed.Mo T7
+      m6 = λ before given. s5 (m5 before given)
+      abbrev pub m7 : (before : After-configured) → (given : s3 .gives (m3 (before .before) (After-configured·gave before))) → Typed.Mo T8
+      m7 = λ before given. s6 (m6 before given)
       abbrev pub Need-returns : Type 0
-      Need-returns = (c : After-result) → Post· (c .before .before .before .before .before .before .before .before .before .before .before .κs) (dens
-          (c .before .before .before .before .before .before .before .before .before .before .before .κs) (c .before .before .before .before .before
-          .before .before .before .before .before .before .args)) (Function.resV r (c .before .before .before .before .before .before .before .before
-          .before .before .before .κs) (m21 (c .before) (c .result .given) .0)) (Clauses.atExit (Kinds.endedOf 4 ps r) (c .before .before .before
-          .before .before .before .before .before .before .before .before .κs) (dens (c .before .before .before .before .before .before .before
-          .before .before .before .before .κs) (c .before .before .before .before .before .before .before .before .before .before .before .args))
-          (Enter.lastsP (c .before .before .before .before .before .before .before .before .before .before .before .κs) 1 ps xs (dens (c .before
-          .before .before .before .before .before .before .before .before .before .before .κs) (c .before .before .before .before .before .before
-          .before .before .before .before .before .args)) (m21 (c .before) (c .result .given) .1)))
-      module _ (configured-requires : Need-configured-requires) (new-requires : Need-new-requires) (same-length : Need-same-length) (same-length-2 :
-          Need-same-length-2) (same-length-3 : Need-same-length-3) (same-length-4 : Need-same-length-4) (returns : Need-returns) where
-        lay2 : (c : After-new) → at17 (c .before .before .before .before .before .before .blocks) (W0 (c .before .before .before .before .before
-            .before .κs) (c .before .before .before .before .before .before .args) (c .before .before .before .before .before .before .blocks)) (m12
-            (c .before) (After-new·gave c))
-        lay2 = λ c. (Path.refl, λ g. (Path.refl, λ g'. (Path.refl, λ g''. (Path.refl, λ g'3. (tt, λ g'4. ((MutSlice.fix-len (Row.get 1 (T34 .locals)
-            (m21 record { before = record { before = record { before = record { before = record { before = c .before; new = c .new }; pending = record
-            { given = g }; }; circuits = record { given = g' }; }; ledger = record { given = g'' }; }; inflight = record { given = g'3 }; } g'4) .ptr)
-            (Row.get 1 (T34 .locals) (m21 record { before = record { before = record { before = record { before = record { before = c .before; new = c
-            .new }; pending = record { given = g }; }; circuits = record { given = g' }; }; ledger = record { given = g'' }; }; inflight = record {
-            given = g'3 }; } g'4) .name) (Row.get 1 (T34 .locals) (m21 record { before = record { before = record { before = record { before = record
-            { before = c .before; new = c .new }; pending = record { given = g }; }; circuits = record { given = g' }; }; ledger = record { given =
-            g'' }; }; inflight = record { given = g'3 }; } g'4) .now) (dens (c .before .before .before .before .before .before .κs) (c .before .before
-            .before .before .before .before .args) .0 .now) (same-length record { before = record { before = record { before = record { before =
-            record { before = record { before = c .before; new = c .new }; pending = record { given = g }; }; circuits = record { given = g' }; };
-            ledger = record { given = g'' }; }; inflight = record { given = g'3 }; }; result = record { given = g'4 }; }), (MutSlice.fix-len (Row.get
-            2 (T34 .locals) (m21 record { before = record { before = record { before = record { before = record { before = c .before; new = c .new };
-            pending = record { given = g }; }; circuits = record { given = g' }; }; ledger = record { given = g'' }; }; inflight = record { given =
-            g'3 }; } g'4) .ptr) (Row.get 2 (T34 .locals) (m21 record { before = record { before = record { before = record { before = record { before
-            = c .before; new = c .new }; pending = record { given = g }; }; circuits = record { given = g' }; }; ledger = record { given = g'' }; };
-            inflight = record { given = g'3 }; } g'4) .name) (Row.get 2 (T34 .locals) (m21 record { before = record { before = record { before =
-            record { before = record { before = c .before; new = c .new }; pending = record { given = g }; }; circuits = record { given = g' }; };
-            ledger = record { given = g'' }; }; inflight = record { given = g'3 }; } g'4) .now) (dens (c .before .before .before .before .before
-            .before .κs) (c .before .before .before .before .before .before .args) .1 .0 .now) (same-length-2 record { before = record { before =
-            record { before = record { before = record { before = record { before = c .before; new = c .new }; pending = record { given = g }; };
-            circuits = record { given = g' }; }; ledger = record { given = g'' }; }; inflight = record { given = g'3 }; }; result = record { given =
-            g'4 }; }), (MutSlice.fix-len (Row.get 3 (T34 .locals) (m21 record { before = record { before = record { before = record { before = record
-            { before = c .before; new = c .new }; pending = record { given = g }; }; circuits = record { given = g' }; }; ledger = record { given =
-            g'' }; }; inflight = record { given = g'3 }; } g'4) .ptr) (Row.get 3 (T34 .locals) (m21 record { before = record { before = record {
-            before = record { before = record { before = c .before; new = c .new }; pending = record { given = g }; }; circuits = record { given = g'
-            }; }; ledger = record { given = g'' }; }; inflight = record { given = g'3 }; } g'4) .name) (Row.get 3 (T34 .locals) (m21 record { before =
-            record { before = record { before = record { before = record { before = c .before; new = c .new }; pending = record { given = g }; };
-            circuits = record { given = g' }; }; ledger = record { given = g'' }; }; inflight = record { given = g'3 }; } g'4) .now) (dens (c .before
-            .before .before .before .before .before .κs) (c .before .before .before .before .before .before .args) .1 .1 .0 .now) (same-length-3
-            record { before = record { before = record { before = record { before = record { before = record { before = c .before; new = c .new };
-            pending = record { given = g }; }; circuits = record { given = g' }; }; ledger = record { given = g'' }; }; inflight = record { given =
-            g'3 }; }; result = record { given = g'4 }; }), (MutSlice.fix-len (Row.get 4 (T34 .locals) (m21 record { before = record { before = record
-            { before = record { before = record { before = c .before; new = c .new }; pending = record { given = g }; }; circuits = record { given =
-            g' }; }; ledger = record { given = g'' }; }; inflight = record { given = g'3 }; } g'4) .ptr) (Row.get 4 (T34 .locals) (m21 record { before
-            = record { before = record { before = record { before = record { before = c .before; new = c .new }; pending = record { given = g }; };
-            circuits = record { given = g' }; }; ledger = record { given = g'' }; }; inflight = record { given = g'3 }; } g'4) .name) (Row.get 4 (T34
-            .locals) (m21 record { before = record { before = record { before = record { before = record { before = c .before; new = c .new }; pending
-            = record { given = g }; }; circuits = record { given = g' }; }; ledger = record { given = g'' }; }; inflight = record { given = g'3 }; }
-            g'4) .now) (dens (c .before .before .before .before .before .before .κs) (c .before .before .before .before .before .before .args) .1 .1
-            .1 .0 .now) (same-length-4 record { before = record { before = record { before = record { before = record { before = record { before = c
-            .before; new = c .new }; pending = record { given = g }; }; circuits = record { given = g' }; }; ledger = record { given = g'' }; };
-            inflight = record { given = g'3 }; }; result = record { given = g'4 }; }), (tt, tt),),),),), returns record { before = record { before =
-            record { before = record { before = record { before = record { before = c .before; new = c .new }; pending = record { given = g }; };
-            circuits = record { given = g' }; }; ledger = record { given = g'' }; }; inflight = record { given = g'3 }; }; result = record { given =
-            g'4 }; },),),),),),)
-        lay1 : (c : After-configured) → at32 (c .before .blocks) (W0 (c .before .κs) (c .before .args) (c .before .blocks)) (m1 (c .before)
-            (After-configured·gave c))
-        lay1 = λ c. λ g. (Path.refl, λ g'. (Path.refl, λ g''. (Path.refl, λ g'3. (Path.refl, (new-requires record { before = record { before = record
-            { before = record { before = record { before = c .before; configured = c .configured }; new-arg = record { given = g }; }; new-arg2 =
-            record { given = g' }; }; new-arg3 = record { given = g'' }; }; new-arg4 = record { given = g'3 }; }, λ g'4. lay2 record { before = record
-            { before = record { before = record { before = record { before = record { before = c .before; configured = c .configured }; new-arg =
-            record { given = g }; }; new-arg2 = record { given = g' }; }; new-arg3 = record { given = g'' }; }; new-arg4 = record { given = g'3 }; };
-            new = Called.called ps·1 r·1 (claims· .3) T16 (record { pos = 10; ty = Syntax.tyRef Syntax.erased Syntax.mut RelayPending.to; ref = λ x.
-            x; }, (record { pos = 12; ty = Syntax.tyRef Syntax.erased Syntax.mut RelayCircuit.to; ref = λ x. x; }, (record { pos = 14; ty =
-            Syntax.tyRef Syntax.erased Syntax.mut ReservationUsage.to; ref = λ x. x; }, (record { pos = 16; ty = Syntax.tyRef Syntax.erased Syntax.mut
-            InflightAction.to; ref = λ x. x; }, (record { pos = 7; st = List.[]; d = 0; at = λ x. x }, (Num.vLit 1, (record { pos = 6; st = List.[]; d
-            = 0; at = λ x. x }, (Num.vLit 100, tt),),),),),),),) (m11 record { before = record { before = record { before = record { before = c
-            .before; configured = c .configured }; new-arg = record { given = g }; }; new-arg2 = record { given = g' }; }; new-arg3 = record { given =
-            g'' }; } g'3) g'4; },),),),),)
-        pub laid : (c : Start) → at33 (c .blocks) (W0 (c .κs) (c .args) (c .blocks)) (m0 (c .κs) (c .args) (c .blocks))
+      Need-returns = (c : After-new) → Post· (c .before .before .κs) (dens (c .before .before .κs) (c .before .before .args)) (Function.resV r (c
+          .before .before .κs) (m7 (c .before) (After-new·gave c) .0)) (Clauses.atExit (Kinds.endedOf 4 ps r) (c .before .before .κs) (dens (c .before
+          .before .κs) (c .before .before .args)) (Enter.lastsP (c .before .before .κs) 1 ps xs (dens (c .before .before .κs) (c .before .before
+          .args)) (m7 (c .before) (After-new·gave c) .1)))
+      module _ (configured-requires : Need-configured-requires) (new-requires : Need-new-requires) (returns : Need-returns) where
+        lay2 : (c : After-new) → at3 (W0 (c .before .before .κs) (c .before .before .args)) (m4 (c .before) (After-new·gave c))
+        lay2 = λ c. ((Path.refl, (Path.refl, (Path.refl, (Path.refl, (tt, tt))))), returns record { before = c .before; new = c .new },)
+        lay1 : (c : After-configured) → at6 (W0 (c .before .κs) (c .before .args)) (m1 (c .before) (After-configured·gave c))
+        lay1 = λ c. (new-requires record { before = c .before; configured = c .configured }, λ g. lay2 record { before = record { before = c .before;
+            configured = c .configured }; new = Called.called ps·1 r·1 (claims· .3) T4 (record { pos = 1; ty = Syntax.tyRef (Syntax.named 0)
+            Syntax.imm RelayPending.to; ref = λ x. x; }, (record { pos = 2; ty = Syntax.tyRef (Syntax.named 1) Syntax.imm RelayCircuit.to; ref = λ x.
+            x; }, (record { pos = 3; ty = Syntax.tyRef (Syntax.named 2) Syntax.imm ReservationUsage.to; ref = λ x. x; }, (record { pos = 4; ty =
+            Syntax.tyRef (Syntax.named 3) Syntax.imm InflightAction.to; ref = λ x. x; }, (record { pos = 7; st = List.[]; d = 0; at = λ x. x },
+            (Num.vLit 1, (record { pos = 6; st = List.[]; d = 0; at = λ x. x }, (Num.vLit 100, tt),),),),),),),) (m3 (c .before)
+            (After-configured·gave c)) g; },)
+        pub laid : (c : Start) → at7 (W0 (c .κs) (c .args)) (m0 (c .κs) (c .args))
         laid = λ c. (configured-requires c, λ g. lay1 record { before = c; configured = Called.called ps·0 r·0 (claims· .1) T0 (Num.vAt 5 λ x. x, tt)
-            (m0 (c .κs) (c .args) (c .blocks)) g; },)
+            (m0 (c .κs) (c .args)) g; },)
         module _ (κs : Lifetimes.Lfts 4) (qs : Lifetimes.Shares 4) where
-          pub asked : (a : Kinds.Dens κs ps) → (good : Kinds.GoodsP κs ps a) → (pre : Pre· κs a) → (bs : List.List Nat.ℕ) → Φ bs (Any.wantQ 4 ps r xs
-              m κs qs a (Post· κs a)) (Function.init 4 ps r xs m κs qs a)
+          pub asked : (a : Kinds.Dens κs ps) → (good : Kinds.GoodsP κs ps a) → (pre : Pre· κs a) → (bs : List.List Nat.ℕ) → Φ (Any.wantQ 4 ps r xs m
+              κs qs a (Post· κs a)) (Function.init 4 ps r xs m κs qs a)
           asked = λ a good pre bs. laid record { κs = κs; args = record { pending = a .0; circuits = a .1 .0; ledger = a .1 .1 .0; inflight = a .1 .1
-              .1 .0; queue = a .1 .1 .1 .1 .0; }; blocks = bs; good = good; fits = record { queue = record { fits = good .1 .1 .1 .1 .0 .1 } }; pre =
-              pre; }
+              .1 .0; queue = a .1 .1 .1 .1 .0; }; good = good; fits = record { queue = record { fits = good .1 .1 .1 .1 .0 .1 } }; pre = pre; }
         module _ { M : Type 1 } (𝓤 : URA.URA M) (H : Wp.Heap 𝓤) (A : Atoms.Atoms 𝓤) (W : Kit.Given 𝓤 H A) (𝓣 : Wp.Tables 𝓤 H) (known0 : Plain.Known 𝓤
             H A W 𝓣 0 ps·0 r·0 (claims· .0) (claims· .1) "cases::script::configured") (known1 : Plain.Known 𝓤 H A W 𝓣 4 ps·1 r·1 (claims· .2) (claims·
             .3) "hnsr_circuit::calls::new") where
           pub spec : Statement.Triple 𝓤 (Wp.WpFn 𝓤 H (𝓣 .C) (𝓣 .Λ) (Function.fnOf 4 ps r xs m hs body)) (Function.plainOf 𝓤 H A 4 ps r Pre· Post·)
-          spec = Plain.t-fn-plain 𝓤 H A W 𝓣 4 ps r xs m hs body (λ κs qs bs. Φ bs) (λ κs qs bs bd. typed κs qs 𝓤 H A W 𝓣 (known0, known1) bs bd) Pre·
+          spec = Plain.t-fn-plain 𝓤 H A W 𝓣 4 ps r xs m hs body (λ κs qs bs. Φ) (λ κs qs bs bd. typed κs qs 𝓤 H A W 𝓣 (known0, known1) bs bd) Pre·
               Post· asked

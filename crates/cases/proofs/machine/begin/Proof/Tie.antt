@@ -17,83 +17,26 @@ use contract.Running
 
 abbrev pub Start : Type 0
 Start = Lts.Start (Reads'.Asked, Reads'.Learnt, Reads''.Asked, Reads''.Learnt) Reads.Pre Reads.Post
-
 abbrev pub After-configured : Type 0
-After-configured = Lts.After-configured (Reads'.Asked, Reads'.Learnt, Reads''.Asked, Reads''.Learnt) Reads.Pre Reads.Post
-
-abbrev pub After-new-arg : Type 0
-After-new-arg = Lts.After-new-arg (Reads'.Asked, Reads'.Learnt, Reads''.Asked, Reads''.Learnt) Reads.Pre Reads.Post
-
-abbrev pub After-new-arg2 : Type 0
-After-new-arg2 = Lts.After-new-arg2 (Reads'.Asked, Reads'.Learnt, Reads''.Asked, Reads''.Learnt) Reads.Pre Reads.Post
-
-abbrev pub After-new-arg3 : Type 0
-After-new-arg3 = Lts.After-new-arg3 (Reads'.Asked, Reads'.Learnt, Reads''.Asked, Reads''.Learnt) Reads.Pre Reads.Post
-
-abbrev pub After-new-arg4 : Type 0
-After-new-arg4 = Lts.After-new-arg4 (Reads'.Asked, Reads'.Learnt, Reads''.Asked, Reads''.Learnt) Reads.Pre Reads.Post
-
+After-configured = Lts.After-configured (Reads'.Asked, Reads'.Learnt, Reads''.Asked, Reads''.Learnt,) Reads.Pre Reads.Post
 abbrev pub After-new : Type 0
 After-new = Lts.After-new (Reads'.Asked, Reads'.Learnt, Reads''.Asked, Reads''.Learnt) Reads.Pre Reads.Post
-
-abbrev pub After-pending : Type 0
-After-pending = Lts.After-pending (Reads'.Asked, Reads'.Learnt, Reads''.Asked, Reads''.Learnt) Reads.Pre Reads.Post
-
-abbrev pub After-circuits : Type 0
-After-circuits = Lts.After-circuits (Reads'.Asked, Reads'.Learnt, Reads''.Asked, Reads''.Learnt) Reads.Pre Reads.Post
-
-abbrev pub After-ledger : Type 0
-After-ledger = Lts.After-ledger (Reads'.Asked, Reads'.Learnt, Reads''.Asked, Reads''.Learnt) Reads.Pre Reads.Post
-
-abbrev pub After-inflight : Type 0
-After-inflight = Lts.After-inflight (Reads'.Asked, Reads'.Learnt, Reads''.Asked, Reads''.Learnt) Reads.Pre Reads.Post
-
-abbrev pub After-result : Type 0
-After-result = Lts.After-result (Reads'.Asked, Reads'.Learnt, Reads''.Asked, Reads''.Learnt) Reads.Pre Reads.Post
-
 abbrev pub Need-configured-requires : Type 0
-Need-configured-requires = Lts.Need-configured-requires (Reads'.Asked, Reads'.Learnt, Reads''.Asked, Reads''.Learnt) Reads.Pre Reads.Post
-
+Need-configured-requires = Lts.Need-configured-requires (Reads'.Asked, Reads'.Learnt, Reads''.Asked, Reads''.Learnt,) Reads.Pre Reads.Post
 abbrev pub Need-new-requires : Type 0
-Need-new-requires = Lts.Need-new-requires (Reads'.Asked, Reads'.Learnt, Reads''.Asked, Reads''.Learnt) Reads.Pre Reads.Post
-
-abbrev pub Need-same-length : Type 0
-Need-same-length = Lts.Need-same-length (Reads'.Asked, Reads'.Learnt, Reads''.Asked, Reads''.Learnt) Reads.Pre Reads.Post
-
-abbrev pub Need-same-length-2 : Type 0
-Need-same-length-2 = Lts.Need-same-length-2 (Reads'.Asked, Reads'.Learnt, Reads''.Asked, Reads''.Learnt) Reads.Pre Reads.Post
-
-abbrev pub Need-same-length-3 : Type 0
-Need-same-length-3 = Lts.Need-same-length-3 (Reads'.Asked, Reads'.Learnt, Reads''.Asked, Reads''.Learnt) Reads.Pre Reads.Post
-
-abbrev pub Need-same-length-4 : Type 0
-Need-same-length-4 = Lts.Need-same-length-4 (Reads'.Asked, Reads'.Learnt, Reads''.Asked, Reads''.Learnt) Reads.Pre Reads.Post
-
+Need-new-requires = Lts.Need-new-requires (Reads'.Asked, Reads'.Learnt, Reads''.Asked, Reads''.Learnt,) Reads.Pre Reads.Post
 abbrev pub Need-returns : Type 0
 Need-returns = Lts.Need-returns (Reads'.Asked, Reads'.Learnt, Reads''.Asked, Reads''.Learnt) Reads.Pre Reads.Post
-
-module _ {M : Type 1} where
-  pub spec : (answer : Need-configured-requires) → (answer : Need-new-requires) → (answer : Need-same-length) → (answer : Need-same-length-2) →
-      (answer : Need-same-length-3) → (answer : Need-same-length-4) → (answer : Need-returns) → Lts.Closed (
-        Reads'.Asked,
-        Reads'.Learnt,
-        Reads''.Asked,
-        Reads''.Learnt,
-      ) Reads.Pre Reads.Post M
-  spec = λ answer answer' answer'' answer'3 answer'4 answer'5 answer'6. Lts.spec (Reads'.Asked, Reads'.Learnt, Reads''.Asked, Reads''.Learnt)
-      Reads.Pre Reads.Post answer answer' answer'' answer'3 answer'4 answer'5 answer'6
-
+module _ { M : Type 1 } where
+  pub spec : (answer : Need-configured-requires) → (answer : Need-new-requires) → (answer : Need-returns) → Lts.Closed (Reads'.Asked, Reads'.Learnt,
+      Reads''.Asked, Reads''.Learnt) Reads.Pre Reads.Post M
+  spec = λ answer answer' answer''. Lts.spec (Reads'.Asked, Reads'.Learnt, Reads''.Asked, Reads''.Learnt,) Reads.Pre Reads.Post answer answer'
+      answer''
   pub close : Lts.Closed (Reads'.Asked, Reads'.Learnt, Reads''.Asked, Reads''.Learnt) Reads.Pre Reads.Post M → Statement.statement M
   unfolding Code.routine Running.tablesOf
   close = λ closed 𝓤 H 𝓜 𝓖 𝓡. Written.close 4 Kinds.ps Kinds.r Reads.Ghost Reads.requires Reads.ensures Reads.pre-read Reads.Pinned Reads.Owned
       Reads.post-read record { M = M; 𝓤 = 𝓤; H = H; 𝓜 = 𝓜; 𝓖 = 𝓖; 𝓡 = 𝓡 } Code.env Key.name Code.function (Code.unfolded 𝓤 H 𝓜 𝓡) (λ κs a g. tt) (λ
       κs. Reads.owns κs record { M = M; 𝓤 = 𝓤; H = H; 𝓜 = 𝓜; 𝓖 = 𝓖; 𝓡 = 𝓡 }) (Reads.passes record { M = M; 𝓤 = 𝓤; H = H; 𝓜 = 𝓜; 𝓖 = 𝓖; 𝓡 = 𝓡 }) λ g.
       closed 𝓤 H (𝓖 .A) (Running.givenOf 𝓤 H 𝓜 𝓖) (Run.Over 𝓤 H 𝓜 𝓖 𝓡 Code.env) (Reads'.known record { M = M; 𝓤 = 𝓤; H = H; 𝓜 = 𝓜; 𝓖 = 𝓖; 𝓡 = 𝓡 }
-      Code.env Symbol.name Symbol.routine Code.calls-cases·script·configured (Met.met 𝓤 H 𝓜 𝓖 𝓡)) (Reads''.known record {
-        M = M;
-        𝓤 = 𝓤;
-        H = H;
-        𝓜 = 𝓜;
-        𝓖 = 𝓖;
-        𝓡 = 𝓡;
-      } Code.env Symbol'.name Symbol'.routine Code.calls-hnsr-circuit·calls·new (Met'.met 𝓤 H 𝓜 𝓖 𝓡))
+      Code.env Symbol.name Symbol.routine Code.calls-cases·script·configured (Met.met 𝓤 H 𝓜 𝓖 𝓡)) (Reads''.known record { M = M; 𝓤 = 𝓤; H = H; 𝓜 = 𝓜;
+      𝓖 = 𝓖; 𝓡 = 𝓡 } Code.env Symbol'.name Symbol'.routine Code.calls-hnsr-circuit·calls·new (Met'.met 𝓤 H 𝓜 𝓖 𝓡))

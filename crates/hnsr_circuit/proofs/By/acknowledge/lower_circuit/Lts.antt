@@ -3,10 +3,8 @@ use Prim.Native.Nat
 use Rattle.hnsr_circuit.proofs.By.RelayCircuit
 use Rattle.hnsr_circuit.proofs.places.Places
 use Rattle.hnsr_circuit.proofs.places.Places.Laws
-use Rattle.hnsr_circuit.proofs.records.Question
-use Rattle.hnsr_circuit.proofs.records.Question.Laws as Laws'
 use Rattle.hnsr_circuit.proofs.records.RelaySide
-use Rattle.hnsr_circuit.proofs.records.RelaySide.Laws as Laws''
+use Rattle.hnsr_circuit.proofs.records.RelaySide.Laws as Laws'
 use borrow.Author.Called
 use borrow.Fn.Any
 use borrow.Fn.Call
@@ -36,10 +34,10 @@ use borrow.Table.Rows
 use borrow.Table.Typed
 use contract.Lifetimes
 use denote.Enum.Declared
-use denote.Enum.Laws as Laws'''
+use denote.Enum.Laws as Laws''
 use denote.Exit
 use denote.Struct.Declared as Declared'
-use denote.Struct.Laws as Laws''''
+use denote.Struct.Laws as Laws'''
 use denote.Triple.Clauses
 use denote.Triple.Statement
 use ghost.Atoms
@@ -60,136 +58,119 @@ ref1 = Syntax.tyRef Syntax.erased Syntax.mut RelayCircuit.to
 abbrev ref2 : Syntax.Ty
 ref2 = Syntax.tyRef (Syntax.named 0) Syntax.mut RelayCircuit.to
 abbrev pub ps : List.List (Kinds.PK 1)
-ps = (MutSlice.pMutS RelayCircuit.row 0 tt) ∷ (Value.pVal record { ty = Declared'.row Places.the-type; one = Path.refl; val = Laws''''.val
-    Places.the-type Laws.the-laws; tells = Laws''''.tells Places.the-type Laws.the-laws; still = Laws''''.still Places.the-type Laws.the-copy
-    Exit.yes; row = Rows.whole (Declared'.row Places.the-type); rd = λ x. x; mk = λ x. x; } λ M 𝓤 H A W. record { copies = Laws''''.copy
-    Places.the-type Laws.the-copy 𝓤 H A W; lawful = Laws''''.lawful Places.the-type Laws.the-laws 𝓤 H A W; makes = Laws''''.makes Places.the-type
-    Laws.the-plain 𝓤 H A; in-mem = Local.mem-whole 𝓤 H A W (Declared'.row Places.the-type); of-mem = Local.whole-mem 𝓤 H A W (Declared'.row
-    Places.the-type); }) ∷ Bool.pBool ∷ (Num.pNum Syntax.w64) ∷ (Value.pVal record { ty = Declared.row RelaySide.the-type; one = Path.refl; val =
-    Laws'''.val RelaySide.the-type Laws''.the-laws; tells = Laws'''.tells RelaySide.the-type Laws''.the-laws; still = Laws'''.still RelaySide.the-type
-    Laws''.the-copy Exit.yes; row = Rows.whole (Declared.row RelaySide.the-type); rd = λ x. x; mk = λ x. x; } λ M 𝓤 H A W. record { copies =
-    Laws'''.copy RelaySide.the-type Laws''.the-copy 𝓤 H A W; lawful = Laws'''.lawful RelaySide.the-type Laws''.the-laws 𝓤 H A W tt; makes =
-    Laws'''.makes RelaySide.the-type Laws''.the-plain 𝓤 H A; in-mem = Local.mem-whole 𝓤 H A W (Declared.row RelaySide.the-type); of-mem =
-    Local.whole-mem 𝓤 H A W (Declared.row RelaySide.the-type); }) ∷ (Num.pNum Syntax.w64) ∷ List.[]
+ps = (MutSlice.pMutS RelayCircuit.row 0 tt) ∷ (Value.pVal record { ty = Declared'.row Places.the-type; one = Path.refl; val = Laws'''.val
+    Places.the-type Laws.the-laws; tells = Laws'''.tells Places.the-type Laws.the-laws; still = Laws'''.still Places.the-type Laws.the-copy Exit.yes;
+    row = Rows.whole (Declared'.row Places.the-type); rd = λ x. x; mk = λ x. x; } λ M 𝓤 H A W. record { copies = Laws'''.copy Places.the-type
+    Laws.the-copy 𝓤 H A W; lawful = Laws'''.lawful Places.the-type Laws.the-laws 𝓤 H A W; makes = Laws'''.makes Places.the-type Laws.the-plain 𝓤 H A;
+    in-mem = Local.mem-whole 𝓤 H A W (Declared'.row Places.the-type); of-mem = Local.whole-mem 𝓤 H A W (Declared'.row Places.the-type); }) ∷
+    Bool.pBool ∷ (Num.pNum Syntax.w64) ∷ (Value.pVal record { ty = Declared.row RelaySide.the-type; one = Path.refl; val = Laws''.val
+    RelaySide.the-type Laws'.the-laws; tells = Laws''.tells RelaySide.the-type Laws'.the-laws; still = Laws''.still RelaySide.the-type Laws'.the-copy
+    Exit.yes; row = Rows.whole (Declared.row RelaySide.the-type); rd = λ x. x; mk = λ x. x; } λ M 𝓤 H A W. record { copies = Laws''.copy
+    RelaySide.the-type Laws'.the-copy 𝓤 H A W; lawful = Laws''.lawful RelaySide.the-type Laws'.the-laws 𝓤 H A W tt; makes = Laws''.makes
+    RelaySide.the-type Laws'.the-plain 𝓤 H A; in-mem = Local.mem-whole 𝓤 H A W (Declared.row RelaySide.the-type); of-mem = Local.whole-mem 𝓤 H A W
+    (Declared.row RelaySide.the-type); }) ∷ (Num.pNum Syntax.w64) ∷ List.[]
 abbrev pub r : Kinds.RK 1
 r = Unit.rUnit
 abbrev pub xs : List.List Syntax.Ty
-xs = Laws'.mir ∷ (Syntax.tyInt Syntax.w64) ∷ RelayCircuit.ty ∷ RelayCircuit.ty ∷ ref0 ∷ (Syntax.tyStruct (38 ∷ 91 ∷ 93 ∷ List.[]) (Syntax.tcons ref0
-    (Syntax.tcons (Syntax.tyInt Syntax.w64) Syntax.tnil))) ∷ ref0 ∷ (Syntax.tyStruct (38 ∷ 91 ∷ 93 ∷ List.[]) (Syntax.tcons ref0 (Syntax.tcons
-    (Syntax.tyInt Syntax.w64) Syntax.tnil))) ∷ Syntax.tyUnit ∷ ref1 ∷ (Syntax.tyStruct (38 ∷ 91 ∷ 93 ∷ List.[]) (Syntax.tcons ref1 (Syntax.tcons
-    (Syntax.tyInt Syntax.w64) Syntax.tnil))) ∷ List.[]
+xs = (Syntax.tyInt Syntax.w64) ∷ RelayCircuit.ty ∷ RelayCircuit.ty ∷ ref0 ∷ (Syntax.tyStruct (38 ∷ 91 ∷ 93 ∷ List.[]) (Syntax.tcons ref0 (Syntax.tcons
+    (Syntax.tyInt Syntax.w64) Syntax.tnil))) ∷ ref0 ∷ (Syntax.tyStruct (38 ∷ 91 ∷ 93 ∷ List.[]) (Syntax.tcons ref0 (Syntax.tcons (Syntax.tyInt
+    Syntax.w64) Syntax.tnil))) ∷ Syntax.tyUnit ∷ ref1 ∷ (Syntax.tyStruct (38 ∷ 91 ∷ 93 ∷ List.[]) (Syntax.tcons ref1 (Syntax.tcons (Syntax.tyInt
+    Syntax.w64) Syntax.tnil))) ∷ List.[]
 abbrev pub m : Nat.ℕ
 m = 3
-abbrev pub ps·0 : List.List (Kinds.PK 0)
-ps·0 = (Num.pNum Syntax.w64) ∷ (Num.pNum Syntax.w64) ∷ List.[]
-abbrev pub r·0 : Kinds.RK 0
-r·0 = Value.rVal record { ty = Declared'.row Question.the-type; one = Path.refl; val = Laws''''.val Question.the-type Laws'.the-laws; tells =
-    Laws''''.tells Question.the-type Laws'.the-laws; still = Laws''''.still Question.the-type Laws'.the-copy Exit.yes; row = Rows.whole (Declared'.row
-    Question.the-type); rd = λ x. x; mk = λ x. x; } λ M 𝓤 H A W. record { copies = Laws''''.copy Question.the-type Laws'.the-copy 𝓤 H A W; lawful =
-    Laws''''.lawful Question.the-type Laws'.the-laws 𝓤 H A W; makes = Laws''''.makes Question.the-type Laws'.the-plain 𝓤 H A; in-mem = Local.mem-whole
-    𝓤 H A W (Declared'.row Question.the-type); of-mem = Local.whole-mem 𝓤 H A W (Declared'.row Question.the-type); }
+abbrev pub ps·0 : List.List (Kinds.PK 1)
+ps·0 = (ShrSlice.pShrS RelayCircuit.row 0 tt) ∷ (Value.pVal record { ty = Declared'.row Places.the-type; one = Path.refl; val = Laws'''.val
+    Places.the-type Laws.the-laws; tells = Laws'''.tells Places.the-type Laws.the-laws; still = Laws'''.still Places.the-type Laws.the-copy Exit.yes;
+    row = Rows.whole (Declared'.row Places.the-type); rd = λ x. x; mk = λ x. x; } λ M 𝓤 H A W. record { copies = Laws'''.copy Places.the-type
+    Laws.the-copy 𝓤 H A W; lawful = Laws'''.lawful Places.the-type Laws.the-laws 𝓤 H A W; makes = Laws'''.makes Places.the-type Laws.the-plain 𝓤 H A;
+    in-mem = Local.mem-whole 𝓤 H A W (Declared'.row Places.the-type); of-mem = Local.whole-mem 𝓤 H A W (Declared'.row Places.the-type); }) ∷ (Num.pNum
+    Syntax.w64) ∷ List.[]
+abbrev pub r·0 : Kinds.RK 1
+r·0 = Num.rNum Syntax.w64
 abbrev pub ps·1 : List.List (Kinds.PK 1)
-ps·1 = (ShrSlice.pShrS RelayCircuit.row 0 tt) ∷ (Value.pVal record { ty = Declared'.row Places.the-type; one = Path.refl; val = Laws''''.val
-    Places.the-type Laws.the-laws; tells = Laws''''.tells Places.the-type Laws.the-laws; still = Laws''''.still Places.the-type Laws.the-copy
-    Exit.yes; row = Rows.whole (Declared'.row Places.the-type); rd = λ x. x; mk = λ x. x; } λ M 𝓤 H A W. record { copies = Laws''''.copy
-    Places.the-type Laws.the-copy 𝓤 H A W; lawful = Laws''''.lawful Places.the-type Laws.the-laws 𝓤 H A W; makes = Laws''''.makes Places.the-type
-    Laws.the-plain 𝓤 H A; in-mem = Local.mem-whole 𝓤 H A W (Declared'.row Places.the-type); of-mem = Local.whole-mem 𝓤 H A W (Declared'.row
-    Places.the-type); }) ∷ (Value.pVal record { ty = Declared'.row Question.the-type; one = Path.refl; val = Laws''''.val Question.the-type
-    Laws'.the-laws; tells = Laws''''.tells Question.the-type Laws'.the-laws; still = Laws''''.still Question.the-type Laws'.the-copy Exit.yes; row =
-    Rows.whole (Declared'.row Question.the-type); rd = λ x. x; mk = λ x. x; } λ M 𝓤 H A W. record { copies = Laws''''.copy Question.the-type
-    Laws'.the-copy 𝓤 H A W; lawful = Laws''''.lawful Question.the-type Laws'.the-laws 𝓤 H A W; makes = Laws''''.makes Question.the-type
-    Laws'.the-plain 𝓤 H A; in-mem = Local.mem-whole 𝓤 H A W (Declared'.row Question.the-type); of-mem = Local.whole-mem 𝓤 H A W (Declared'.row
-    Question.the-type); }) ∷ List.[]
+ps·1 = (ShrSlice.pShrS RelayCircuit.row 0 tt) ∷ (Value.pVal record { ty = Declared'.row Places.the-type; one = Path.refl; val = Laws'''.val
+    Places.the-type Laws.the-laws; tells = Laws'''.tells Places.the-type Laws.the-laws; still = Laws'''.still Places.the-type Laws.the-copy Exit.yes;
+    row = Rows.whole (Declared'.row Places.the-type); rd = λ x. x; mk = λ x. x; } λ M 𝓤 H A W. record { copies = Laws'''.copy Places.the-type
+    Laws.the-copy 𝓤 H A W; lawful = Laws'''.lawful Places.the-type Laws.the-laws 𝓤 H A W; makes = Laws'''.makes Places.the-type Laws.the-plain 𝓤 H A;
+    in-mem = Local.mem-whole 𝓤 H A W (Declared'.row Places.the-type); of-mem = Local.whole-mem 𝓤 H A W (Declared'.row Places.the-type); }) ∷ (Num.pNum
+    Syntax.w64) ∷ List.[]
 abbrev pub r·1 : Kinds.RK 1
-r·1 = Num.rNum Syntax.w64
-abbrev pub ps·2 : List.List (Kinds.PK 1)
-ps·2 = (ShrSlice.pShrS RelayCircuit.row 0 tt) ∷ (Value.pVal record { ty = Declared'.row Places.the-type; one = Path.refl; val = Laws''''.val
-    Places.the-type Laws.the-laws; tells = Laws''''.tells Places.the-type Laws.the-laws; still = Laws''''.still Places.the-type Laws.the-copy
-    Exit.yes; row = Rows.whole (Declared'.row Places.the-type); rd = λ x. x; mk = λ x. x; } λ M 𝓤 H A W. record { copies = Laws''''.copy
-    Places.the-type Laws.the-copy 𝓤 H A W; lawful = Laws''''.lawful Places.the-type Laws.the-laws 𝓤 H A W; makes = Laws''''.makes Places.the-type
-    Laws.the-plain 𝓤 H A; in-mem = Local.mem-whole 𝓤 H A W (Declared'.row Places.the-type); of-mem = Local.whole-mem 𝓤 H A W (Declared'.row
-    Places.the-type); }) ∷ (Num.pNum Syntax.w64) ∷ List.[]
-abbrev pub r·2 : Kinds.RK 1
-r·2 = RelayCircuit.result
-abbrev pub ps·3 : List.List (Kinds.PK 0)
-ps·3 = RelayCircuit.param ∷ (Value.pVal record { ty = Declared.row RelaySide.the-type; one = Path.refl; val = Laws'''.val RelaySide.the-type
-    Laws''.the-laws; tells = Laws'''.tells RelaySide.the-type Laws''.the-laws; still = Laws'''.still RelaySide.the-type Laws''.the-copy Exit.yes; row
-    = Rows.whole (Declared.row RelaySide.the-type); rd = λ x. x; mk = λ x. x; } λ M 𝓤 H A W. record { copies = Laws'''.copy RelaySide.the-type
-    Laws''.the-copy 𝓤 H A W; lawful = Laws'''.lawful RelaySide.the-type Laws''.the-laws 𝓤 H A W tt; makes = Laws'''.makes RelaySide.the-type
-    Laws''.the-plain 𝓤 H A; in-mem = Local.mem-whole 𝓤 H A W (Declared.row RelaySide.the-type); of-mem = Local.whole-mem 𝓤 H A W (Declared.row
+r·1 = RelayCircuit.result
+abbrev pub ps·2 : List.List (Kinds.PK 0)
+ps·2 = RelayCircuit.param ∷ (Value.pVal record { ty = Declared.row RelaySide.the-type; one = Path.refl; val = Laws''.val RelaySide.the-type
+    Laws'.the-laws; tells = Laws''.tells RelaySide.the-type Laws'.the-laws; still = Laws''.still RelaySide.the-type Laws'.the-copy Exit.yes; row =
+    Rows.whole (Declared.row RelaySide.the-type); rd = λ x. x; mk = λ x. x; } λ M 𝓤 H A W. record { copies = Laws''.copy RelaySide.the-type
+    Laws'.the-copy 𝓤 H A W; lawful = Laws''.lawful RelaySide.the-type Laws'.the-laws 𝓤 H A W tt; makes = Laws''.makes RelaySide.the-type
+    Laws'.the-plain 𝓤 H A; in-mem = Local.mem-whole 𝓤 H A W (Declared.row RelaySide.the-type); of-mem = Local.whole-mem 𝓤 H A W (Declared.row
     RelaySide.the-type); }) ∷ (Num.pNum Syntax.w64) ∷ List.[]
-abbrev pub r·3 : Kinds.RK 0
-r·3 = RelayCircuit.result
-abbrev pub ps·4 : List.List (Kinds.PK 1)
-ps·4 = (MutSlice.pMutS RelayCircuit.row 0 tt) ∷ Bool.pBool ∷ (Num.pNum Syntax.w64) ∷ RelayCircuit.param ∷ List.[]
-abbrev pub r·4 : Kinds.RK 1
-r·4 = Unit.rUnit
+abbrev pub r·2 : Kinds.RK 0
+r·2 = RelayCircuit.result
+abbrev pub ps·3 : List.List (Kinds.PK 1)
+ps·3 = (MutSlice.pMutS RelayCircuit.row 0 tt) ∷ Bool.pBool ∷ (Num.pNum Syntax.w64) ∷ RelayCircuit.param ∷ List.[]
+abbrev pub r·3 : Kinds.RK 1
+r·3 = Unit.rUnit
 abbrev pub hs : List.List Syntax.Home
 hs = Syntax.valueLocal ∷ Syntax.valueLocal ∷ Syntax.valueLocal ∷ Syntax.valueLocal ∷ Syntax.valueLocal ∷ Syntax.valueLocal ∷ Syntax.valueLocal ∷
     Syntax.valueLocal ∷ Syntax.valueLocal ∷ Syntax.valueLocal ∷ Syntax.valueLocal ∷ Syntax.valueLocal ∷ Syntax.valueLocal ∷ Syntax.valueLocal ∷
-    Syntax.valueLocal ∷ Syntax.valueLocal ∷ Syntax.valueLocal ∷ Syntax.valueLocal ∷ List.[]
+    Syntax.valueLocal ∷ Syntax.valueLocal ∷ Syntax.valueLocal ∷ List.[]
 abbrev b0 : Syntax.Body
-b0 = Syntax.call "hnsr_circuit::question::at" ((Syntax.copy (Syntax.place 4 List.[])) ∷ (Syntax.int Syntax.w64 0) ∷ List.[]) (Syntax.place 7 List.[])
+b0 = Syntax.assign (Syntax.place 10 List.[]) (Syntax.addrOf (Syntax.place 1 ((Syntax.field 0) ∷ (Syntax.deref RelayCircuit.ty) ∷ List.[])))
 abbrev b1 : Syntax.Body
-b1 = Syntax.assign (Syntax.place 11 List.[]) (Syntax.addrOf (Syntax.place 1 ((Syntax.field 0) ∷ (Syntax.deref RelayCircuit.ty) ∷ List.[])))
+b1 = Syntax.assign (Syntax.place 11 List.[]) (Syntax.aggregate ((Syntax.copy (Syntax.place 10 List.[])) ∷ (Syntax.copy (Syntax.place 1 ((Syntax.field
+    1) ∷ List.[]))) ∷ List.[]))
 abbrev b2 : Syntax.Body
-b2 = Syntax.assign (Syntax.place 12 List.[]) (Syntax.aggregate ((Syntax.copy (Syntax.place 11 List.[])) ∷ (Syntax.copy (Syntax.place 1 ((Syntax.field
-    1) ∷ List.[]))) ∷ List.[]))
+b2 = Syntax.call "hnsr_circuit::tables::circuits::find_circuit_id" ((Syntax.copy (Syntax.place 11 List.[])) ∷ (Syntax.copy (Syntax.place 2 List.[])) ∷
+    (Syntax.copy (Syntax.place 4 List.[])) ∷ List.[]) (Syntax.place 7 List.[])
 abbrev b3 : Syntax.Body
-b3 = Syntax.call "hnsr_circuit::tables::circuits::find_circuit" ((Syntax.copy (Syntax.place 12 List.[])) ∷ (Syntax.copy (Syntax.place 2 List.[])) ∷
-    (Syntax.copy (Syntax.place 7 List.[])) ∷ List.[]) (Syntax.place 8 List.[])
+b3 = Syntax.assign (Syntax.place 12 List.[]) (Syntax.addrOf (Syntax.place 1 ((Syntax.field 0) ∷ (Syntax.deref RelayCircuit.ty) ∷ List.[])))
 abbrev b4 : Syntax.Body
-b4 = Syntax.assign (Syntax.place 13 List.[]) (Syntax.addrOf (Syntax.place 1 ((Syntax.field 0) ∷ (Syntax.deref RelayCircuit.ty) ∷ List.[])))
+b4 = Syntax.assign (Syntax.place 13 List.[]) (Syntax.aggregate ((Syntax.copy (Syntax.place 12 List.[])) ∷ (Syntax.copy (Syntax.place 1 ((Syntax.field
+    1) ∷ List.[]))) ∷ List.[]))
 abbrev b5 : Syntax.Body
-b5 = Syntax.assign (Syntax.place 14 List.[]) (Syntax.aggregate ((Syntax.copy (Syntax.place 13 List.[])) ∷ (Syntax.copy (Syntax.place 1 ((Syntax.field
-    1) ∷ List.[]))) ∷ List.[]))
+b5 = Syntax.call "hnsr_circuit::tables::circuits::circuit_at" ((Syntax.copy (Syntax.place 13 List.[])) ∷ (Syntax.copy (Syntax.place 2 List.[])) ∷
+    (Syntax.copy (Syntax.place 7 List.[])) ∷ List.[]) (Syntax.place 8 List.[])
 abbrev b6 : Syntax.Body
-b6 = Syntax.call "hnsr_circuit::tables::circuits::circuit_at" ((Syntax.copy (Syntax.place 14 List.[])) ∷ (Syntax.copy (Syntax.place 2 List.[])) ∷
-    (Syntax.copy (Syntax.place 8 List.[])) ∷ List.[]) (Syntax.place 9 List.[])
+b6 = Syntax.call "hnsr_circuit::circuits::circuit_lowered" ((Syntax.copy (Syntax.place 8 List.[])) ∷ (Syntax.copy (Syntax.place 5 List.[])) ∷
+    (Syntax.copy (Syntax.place 6 List.[])) ∷ List.[]) (Syntax.place 9 List.[])
 abbrev b7 : Syntax.Body
-b7 = Syntax.call "hnsr_circuit::circuits::circuit_lowered" ((Syntax.copy (Syntax.place 9 List.[])) ∷ (Syntax.copy (Syntax.place 5 List.[])) ∷
-    (Syntax.copy (Syntax.place 6 List.[])) ∷ List.[]) (Syntax.place 10 List.[])
+b7 = Syntax.assign (Syntax.place 15 List.[]) (Syntax.addrOf (Syntax.place 1 ((Syntax.field 0) ∷ (Syntax.deref RelayCircuit.ty) ∷ List.[])))
 abbrev b8 : Syntax.Body
-b8 = Syntax.assign (Syntax.place 16 List.[]) (Syntax.addrOf (Syntax.place 1 ((Syntax.field 0) ∷ (Syntax.deref RelayCircuit.ty) ∷ List.[])))
-abbrev b9 : Syntax.Body
-b9 = Syntax.assign (Syntax.place 17 List.[]) (Syntax.aggregate ((Syntax.copy (Syntax.place 16 List.[])) ∷ (Syntax.copy (Syntax.place 1 ((Syntax.field
+b8 = Syntax.assign (Syntax.place 16 List.[]) (Syntax.aggregate ((Syntax.copy (Syntax.place 15 List.[])) ∷ (Syntax.copy (Syntax.place 1 ((Syntax.field
     1) ∷ List.[]))) ∷ List.[]))
+abbrev b9 : Syntax.Body
+b9 = Syntax.call "hnsr_circuit::tables::circuits::set_circuit" ((Syntax.copy (Syntax.place 16 List.[])) ∷ (Syntax.copy (Syntax.place 3 List.[])) ∷
+    (Syntax.copy (Syntax.place 7 List.[])) ∷ (Syntax.copy (Syntax.place 9 List.[])) ∷ List.[]) (Syntax.place 14 List.[])
 abbrev b10 : Syntax.Body
-b10 = Syntax.call "hnsr_circuit::tables::circuits::set_circuit" ((Syntax.copy (Syntax.place 17 List.[])) ∷ (Syntax.copy (Syntax.place 3 List.[])) ∷
-    (Syntax.copy (Syntax.place 8 List.[])) ∷ (Syntax.copy (Syntax.place 10 List.[])) ∷ List.[]) (Syntax.place 15 List.[])
+b10 = Syntax.assign (Syntax.place 0 List.[]) (Syntax.rvOpd Syntax.opdUnit)
 abbrev b11 : Syntax.Body
-b11 = Syntax.assign (Syntax.place 0 List.[]) (Syntax.rvOpd Syntax.opdUnit)
+b11 = Syntax.return
 abbrev b12 : Syntax.Body
-b12 = Syntax.return
+b12 = Syntax.seq b10 b11
 abbrev b13 : Syntax.Body
-b13 = Syntax.seq b11 b12
+b13 = Syntax.seq b9 b12
 abbrev b14 : Syntax.Body
-b14 = Syntax.seq b10 b13
+b14 = Syntax.seq b8 b13
 abbrev b15 : Syntax.Body
-b15 = Syntax.seq b9 b14
+b15 = Syntax.seq b7 b14
 abbrev b16 : Syntax.Body
-b16 = Syntax.seq b8 b15
+b16 = Syntax.seq b6 b15
 abbrev b17 : Syntax.Body
-b17 = Syntax.seq b7 b16
+b17 = Syntax.seq b5 b16
 abbrev b18 : Syntax.Body
-b18 = Syntax.seq b6 b17
+b18 = Syntax.seq b4 b17
 abbrev b19 : Syntax.Body
-b19 = Syntax.seq b5 b18
+b19 = Syntax.seq b3 b18
 abbrev b20 : Syntax.Body
-b20 = Syntax.seq b4 b19
+b20 = Syntax.seq b2 b19
 abbrev b21 : Syntax.Body
-b21 = Syntax.seq b3 b20
+b21 = Syntax.seq b1 b20
 abbrev b22 : Syntax.Body
-b22 = Syntax.seq b2 b21
-abbrev b23 : Syntax.Body
-b23 = Syntax.seq b1 b22
-abbrev b24 : Syntax.Body
-b24 = Syntax.seq b0 b23
+b22 = Syntax.seq b0 b21
 abbrev pub body : Syntax.Body
-body = b24
+body = b22
 abbrev pub Claims : Type 1
-Claims = Kinds.In 0 ps·0 × Kinds.Out 0 ps·0 r·0 × Kinds.In 1 ps·1 × Kinds.Out 1 ps·1 r·1 × Kinds.In 1 ps·2 × Kinds.Out 1 ps·2 r·2 × Kinds.In 0 ps·3 ×
-    Kinds.Out 0 ps·3 r·3 × Kinds.In 1 ps·4 × Kinds.Out 1 ps·4 r·4
+Claims = Kinds.In 1 ps·0 × Kinds.Out 1 ps·0 r·0 × Kinds.In 1 ps·1 × Kinds.Out 1 ps·1 r·1 × Kinds.In 0 ps·2 × Kinds.Out 0 ps·2 r·2 × Kinds.In 1 ps·3 ×
+    Kinds.Out 1 ps·3 r·3
 abbrev e0 : Row.Entry
 e0 = (0, Rows.any-gone Syntax.tyUnit)
 abbrev e1 : Row.Entry
@@ -205,27 +186,25 @@ e5 = (5, Rows.whole (Declared.row RelaySide.the-type))
 abbrev e6 : Row.Entry
 e6 = (6, Rows.sc-here (Row.sInt Syntax.w64))
 abbrev e7 : Row.Entry
-e7 = (7, Rows.any-gone Laws'.mir)
+e7 = (7, Rows.any-gone (Syntax.tyInt Syntax.w64))
 abbrev e8 : Row.Entry
-e8 = (8, Rows.any-gone (Syntax.tyInt Syntax.w64))
+e8 = (8, Rows.any-gone RelayCircuit.ty)
 abbrev e9 : Row.Entry
 e9 = (9, Rows.any-gone RelayCircuit.ty)
 abbrev e10 : Row.Entry
-e10 = (10, Rows.any-gone RelayCircuit.ty)
+e10 = (10, Rows.any-gone ref0)
 abbrev e11 : Row.Entry
-e11 = (11, Rows.any-gone ref0)
+e11 = (11, Rows.any-gone (Syntax.tyStruct (38 ∷ 91 ∷ 93 ∷ List.[]) (Syntax.tcons ref0 (Syntax.tcons (Syntax.tyInt Syntax.w64) Syntax.tnil))))
 abbrev e12 : Row.Entry
-e12 = (12, Rows.any-gone (Syntax.tyStruct (38 ∷ 91 ∷ 93 ∷ List.[]) (Syntax.tcons ref0 (Syntax.tcons (Syntax.tyInt Syntax.w64) Syntax.tnil))))
+e12 = (12, Rows.any-gone ref0)
 abbrev e13 : Row.Entry
-e13 = (13, Rows.any-gone ref0)
+e13 = (13, Rows.any-gone (Syntax.tyStruct (38 ∷ 91 ∷ 93 ∷ List.[]) (Syntax.tcons ref0 (Syntax.tcons (Syntax.tyInt Syntax.w64) Syntax.tnil))))
 abbrev e14 : Row.Entry
-e14 = (14, Rows.any-gone (Syntax.tyStruct (38 ∷ 91 ∷ 93 ∷ List.[]) (Syntax.tcons ref0 (Syntax.tcons (Syntax.tyInt Syntax.w64) Syntax.tnil))))
+e14 = (14, Rows.any-gone Syntax.tyUnit)
 abbrev e15 : Row.Entry
-e15 = (15, Rows.any-gone Syntax.tyUnit)
+e15 = (15, Rows.any-gone ref1)
 abbrev e16 : Row.Entry
-e16 = (16, Rows.any-gone ref1)
-abbrev e17 : Row.Entry
-e17 = (17, Rows.any-gone (Syntax.tyStruct (38 ∷ 91 ∷ 93 ∷ List.[]) (Syntax.tcons ref1 (Syntax.tcons (Syntax.tyInt Syntax.w64) Syntax.tnil))))
+e16 = (16, Rows.any-gone (Syntax.tyStruct (38 ∷ 91 ∷ 93 ∷ List.[]) (Syntax.tcons ref1 (Syntax.tcons (Syntax.tyInt Syntax.w64) Syntax.tnil))))
 abbrev e0·1 : Row.Entry
 e0·1 = (0, Rows.sc-here Row.sUnit)
 abbrev e2·1 : Row.Entry
@@ -235,433 +214,412 @@ e3·1 = (3, Rows.any-gone Syntax.tyBool)
 abbrev e4·1 : Row.Entry
 e4·1 = (4, Rows.any-gone (Syntax.tyInt Syntax.w64))
 abbrev e5·1 : Row.Entry
-e5·1 = (5, Rows.any-gone Laws''.mir)
+e5·1 = (5, Rows.any-gone Laws'.mir)
 abbrev e6·1 : Row.Entry
 e6·1 = (6, Rows.any-gone (Syntax.tyInt Syntax.w64))
-abbrev e7·1 : Row.Entry
-e7·1 = (7, Rows.whole (Declared'.row Question.the-type))
 abbrev e1·1 : Row.Entry
 e1·1 = (1, Reshare.mslice-owedS RelayCircuit.row ref2 0 1 Row.off)
+abbrev e10·1 : Row.Entry
+e10·1 = (10, Relend.ssptr RelayCircuit.row ref0 1)
 abbrev e11·1 : Row.Entry
-e11·1 = (11, Relend.ssptr RelayCircuit.row ref0 1)
-abbrev e12·1 : Row.Entry
-e12·1 = (12, Rows.sslice RelayCircuit.row ref0 1)
-abbrev e8·1 : Row.Entry
-e8·1 = (8, Rows.sc-here (Row.sInt Syntax.w64))
+e11·1 = (11, Rows.sslice RelayCircuit.row ref0 1)
+abbrev e7·1 : Row.Entry
+e7·1 = (7, Rows.sc-here (Row.sInt Syntax.w64))
 abbrev e1·2 : Row.Entry
 e1·2 = (1, Reshare.mslice-owedS RelayCircuit.row ref2 0 2 Row.off)
+abbrev e12·1 : Row.Entry
+e12·1 = (12, Relend.ssptr RelayCircuit.row ref0 2)
 abbrev e13·1 : Row.Entry
-e13·1 = (13, Relend.ssptr RelayCircuit.row ref0 2)
-abbrev e14·1 : Row.Entry
-e14·1 = (14, Rows.sslice RelayCircuit.row ref0 2)
+e13·1 = (13, Rows.sslice RelayCircuit.row ref0 2)
+abbrev e8·1 : Row.Entry
+e8·1 = (8, RelayCircuit.held)
 abbrev e9·1 : Row.Entry
 e9·1 = (9, RelayCircuit.held)
-abbrev e10·1 : Row.Entry
-e10·1 = (10, RelayCircuit.held)
 abbrev e1·3 : Row.Entry
 e1·3 = (1, Relend.mslice-owed RelayCircuit.row ref2 0 3 Row.off)
-abbrev e16·1 : Row.Entry
-e16·1 = (16, Relend.msptr RelayCircuit.row ref1 3)
-abbrev e17·1 : Row.Entry
-e17·1 = (17, Mut.mslice RelayCircuit.row ref1 3)
 abbrev e15·1 : Row.Entry
-e15·1 = (15, Rows.sc-here Row.sUnit)
-abbrev e17·2 : Row.Entry
-e17·2 = (17, Mut.msleft RelayCircuit.row ref1)
+e15·1 = (15, Relend.msptr RelayCircuit.row ref1 3)
+abbrev e16·1 : Row.Entry
+e16·1 = (16, Mut.mslice RelayCircuit.row ref1 3)
+abbrev e14·1 : Row.Entry
+e14·1 = (14, Rows.sc-here Row.sUnit)
+abbrev e16·2 : Row.Entry
+e16·2 = (16, Mut.msleft RelayCircuit.row ref1)
 abbrev pub t0 : List.List Row.Entry
 t0 = e0 ∷ e1 ∷ e2 ∷ e3 ∷ e4 ∷ e5 ∷ e6 ∷ e7 ∷ e8 ∷ e9 ∷ e10 ∷ e11 ∷ e12 ∷ e13 ∷ e14 ∷ e15 ∷ List.[]
 abbrev pub t1 : List.List Row.Entry
-t1 = e16 ∷ e17 ∷ List.[]
+t1 = e16 ∷ List.[]
 abbrev pub t2 : List.List Row.Entry
 t2 = e0·1 ∷ e1 ∷ e2·1 ∷ e3·1 ∷ e4·1 ∷ e5·1 ∷ e6·1 ∷ e7 ∷ e8 ∷ e9 ∷ e10 ∷ e11 ∷ e12 ∷ e13 ∷ e14 ∷ e15 ∷ List.[]
 abbrev pub t3 : List.List Row.Entry
-t3 = e0 ∷ e1 ∷ e2 ∷ e3 ∷ e4 ∷ e5 ∷ e6 ∷ e7·1 ∷ e8 ∷ e9 ∷ e10 ∷ e11 ∷ e12 ∷ e13 ∷ e14 ∷ e15 ∷ List.[]
+t3 = e0 ∷ e1·1 ∷ e2 ∷ e3 ∷ e4 ∷ e5 ∷ e6 ∷ e7 ∷ e8 ∷ e9 ∷ e10·1 ∷ e11 ∷ e12 ∷ e13 ∷ e14 ∷ e15 ∷ List.[]
 abbrev pub t4 : List.List Row.Entry
-t4 = e0 ∷ e1·1 ∷ e2 ∷ e3 ∷ e4 ∷ e5 ∷ e6 ∷ e7·1 ∷ e8 ∷ e9 ∷ e10 ∷ e11·1 ∷ e12 ∷ e13 ∷ e14 ∷ e15 ∷ List.[]
+t4 = e0 ∷ e1·1 ∷ e2 ∷ e3 ∷ e4 ∷ e5 ∷ e6 ∷ e7 ∷ e8 ∷ e9 ∷ e10 ∷ e11·1 ∷ e12 ∷ e13 ∷ e14 ∷ e15 ∷ List.[]
 abbrev pub t5 : List.List Row.Entry
-t5 = e0 ∷ e1·1 ∷ e2 ∷ e3 ∷ e4 ∷ e5 ∷ e6 ∷ e7·1 ∷ e8 ∷ e9 ∷ e10 ∷ e11 ∷ e12·1 ∷ e13 ∷ e14 ∷ e15 ∷ List.[]
+t5 = e0 ∷ e1·1 ∷ e2 ∷ e3 ∷ e4 ∷ e5 ∷ e6 ∷ e7·1 ∷ e8 ∷ e9 ∷ e10 ∷ e11·1 ∷ e12 ∷ e13 ∷ e14 ∷ e15 ∷ List.[]
 abbrev pub t6 : List.List Row.Entry
-t6 = e0 ∷ e1·1 ∷ e2 ∷ e3 ∷ e4 ∷ e5 ∷ e6 ∷ e7·1 ∷ e8·1 ∷ e9 ∷ e10 ∷ e11 ∷ e12·1 ∷ e13 ∷ e14 ∷ e15 ∷ List.[]
+t6 = e0 ∷ e1·1 ∷ e2 ∷ e3 ∷ e4 ∷ e5 ∷ e6 ∷ e7·1 ∷ e8 ∷ e9 ∷ e10 ∷ e11 ∷ e12 ∷ e13 ∷ e14 ∷ e15 ∷ List.[]
 abbrev pub t7 : List.List Row.Entry
-t7 = e0 ∷ e1·1 ∷ e2 ∷ e3 ∷ e4 ∷ e5 ∷ e6 ∷ e7·1 ∷ e8·1 ∷ e9 ∷ e10 ∷ e11 ∷ e12 ∷ e13 ∷ e14 ∷ e15 ∷ List.[]
+t7 = e0 ∷ e1 ∷ e2 ∷ e3 ∷ e4 ∷ e5 ∷ e6 ∷ e7·1 ∷ e8 ∷ e9 ∷ e10 ∷ e11 ∷ e12 ∷ e13 ∷ e14 ∷ e15 ∷ List.[]
 abbrev pub t8 : List.List Row.Entry
-t8 = e0 ∷ e1·1 ∷ e2 ∷ e3 ∷ e4 ∷ e5 ∷ e6 ∷ e7 ∷ e8·1 ∷ e9 ∷ e10 ∷ e11 ∷ e12 ∷ e13 ∷ e14 ∷ e15 ∷ List.[]
+t8 = e0 ∷ e1·2 ∷ e2 ∷ e3 ∷ e4 ∷ e5 ∷ e6 ∷ e7·1 ∷ e8 ∷ e9 ∷ e10 ∷ e11 ∷ e12·1 ∷ e13 ∷ e14 ∷ e15 ∷ List.[]
 abbrev pub t9 : List.List Row.Entry
-t9 = e0 ∷ e1 ∷ e2 ∷ e3 ∷ e4 ∷ e5 ∷ e6 ∷ e7 ∷ e8·1 ∷ e9 ∷ e10 ∷ e11 ∷ e12 ∷ e13 ∷ e14 ∷ e15 ∷ List.[]
+t9 = e0 ∷ e1·2 ∷ e2 ∷ e3 ∷ e4 ∷ e5 ∷ e6 ∷ e7·1 ∷ e8 ∷ e9 ∷ e10 ∷ e11 ∷ e12 ∷ e13·1 ∷ e14 ∷ e15 ∷ List.[]
 abbrev pub t10 : List.List Row.Entry
-t10 = e0 ∷ e1·2 ∷ e2 ∷ e3 ∷ e4 ∷ e5 ∷ e6 ∷ e7 ∷ e8·1 ∷ e9 ∷ e10 ∷ e11 ∷ e12 ∷ e13·1 ∷ e14 ∷ e15 ∷ List.[]
+t10 = e0 ∷ e1·2 ∷ e2 ∷ e3 ∷ e4 ∷ e5 ∷ e6 ∷ e7·1 ∷ e8·1 ∷ e9 ∷ e10 ∷ e11 ∷ e12 ∷ e13·1 ∷ e14 ∷ e15 ∷ List.[]
 abbrev pub t11 : List.List Row.Entry
-t11 = e0 ∷ e1·2 ∷ e2 ∷ e3 ∷ e4 ∷ e5 ∷ e6 ∷ e7 ∷ e8·1 ∷ e9 ∷ e10 ∷ e11 ∷ e12 ∷ e13 ∷ e14·1 ∷ e15 ∷ List.[]
+t11 = e0 ∷ e1·2 ∷ e2 ∷ e3 ∷ e4 ∷ e5 ∷ e6 ∷ e7·1 ∷ e8·1 ∷ e9 ∷ e10 ∷ e11 ∷ e12 ∷ e13 ∷ e14 ∷ e15 ∷ List.[]
 abbrev pub t12 : List.List Row.Entry
-t12 = e0 ∷ e1·2 ∷ e2 ∷ e3 ∷ e4 ∷ e5 ∷ e6 ∷ e7 ∷ e8·1 ∷ e9·1 ∷ e10 ∷ e11 ∷ e12 ∷ e13 ∷ e14·1 ∷ e15 ∷ List.[]
+t12 = e0 ∷ e1·2 ∷ e2·1 ∷ e3 ∷ e4 ∷ e5 ∷ e6 ∷ e7·1 ∷ e8·1 ∷ e9 ∷ e10 ∷ e11 ∷ e12 ∷ e13 ∷ e14 ∷ e15 ∷ List.[]
 abbrev pub t13 : List.List Row.Entry
-t13 = e0 ∷ e1·2 ∷ e2 ∷ e3 ∷ e4 ∷ e5 ∷ e6 ∷ e7 ∷ e8·1 ∷ e9·1 ∷ e10 ∷ e11 ∷ e12 ∷ e13 ∷ e14 ∷ e15 ∷ List.[]
+t13 = e0 ∷ e1 ∷ e2·1 ∷ e3 ∷ e4 ∷ e5 ∷ e6 ∷ e7·1 ∷ e8·1 ∷ e9 ∷ e10 ∷ e11 ∷ e12 ∷ e13 ∷ e14 ∷ e15 ∷ List.[]
 abbrev pub t14 : List.List Row.Entry
-t14 = e0 ∷ e1·2 ∷ e2·1 ∷ e3 ∷ e4 ∷ e5 ∷ e6 ∷ e7 ∷ e8·1 ∷ e9·1 ∷ e10 ∷ e11 ∷ e12 ∷ e13 ∷ e14 ∷ e15 ∷ List.[]
+t14 = e0 ∷ e1 ∷ e2·1 ∷ e3 ∷ e4 ∷ e5 ∷ e6 ∷ e7·1 ∷ e8·1 ∷ e9·1 ∷ e10 ∷ e11 ∷ e12 ∷ e13 ∷ e14 ∷ e15 ∷ List.[]
 abbrev pub t15 : List.List Row.Entry
-t15 = e0 ∷ e1 ∷ e2·1 ∷ e3 ∷ e4 ∷ e5 ∷ e6 ∷ e7 ∷ e8·1 ∷ e9·1 ∷ e10 ∷ e11 ∷ e12 ∷ e13 ∷ e14 ∷ e15 ∷ List.[]
+t15 = e0 ∷ e1 ∷ e2·1 ∷ e3 ∷ e4 ∷ e5·1 ∷ e6 ∷ e7·1 ∷ e8·1 ∷ e9·1 ∷ e10 ∷ e11 ∷ e12 ∷ e13 ∷ e14 ∷ e15 ∷ List.[]
 abbrev pub t16 : List.List Row.Entry
-t16 = e0 ∷ e1 ∷ e2·1 ∷ e3 ∷ e4 ∷ e5 ∷ e6 ∷ e7 ∷ e8·1 ∷ e9·1 ∷ e10·1 ∷ e11 ∷ e12 ∷ e13 ∷ e14 ∷ e15 ∷ List.[]
+t16 = e0 ∷ e1 ∷ e2·1 ∷ e3 ∷ e4 ∷ e5·1 ∷ e6 ∷ e7·1 ∷ e8 ∷ e9·1 ∷ e10 ∷ e11 ∷ e12 ∷ e13 ∷ e14 ∷ e15 ∷ List.[]
 abbrev pub t17 : List.List Row.Entry
-t17 = e0 ∷ e1 ∷ e2·1 ∷ e3 ∷ e4 ∷ e5·1 ∷ e6 ∷ e7 ∷ e8·1 ∷ e9·1 ∷ e10·1 ∷ e11 ∷ e12 ∷ e13 ∷ e14 ∷ e15 ∷ List.[]
+t17 = e0 ∷ e1·3 ∷ e2·1 ∷ e3 ∷ e4 ∷ e5·1 ∷ e6 ∷ e7·1 ∷ e8 ∷ e9·1 ∷ e10 ∷ e11 ∷ e12 ∷ e13 ∷ e14 ∷ e15·1 ∷ List.[]
 abbrev pub t18 : List.List Row.Entry
-t18 = e0 ∷ e1 ∷ e2·1 ∷ e3 ∷ e4 ∷ e5·1 ∷ e6 ∷ e7 ∷ e8·1 ∷ e9 ∷ e10·1 ∷ e11 ∷ e12 ∷ e13 ∷ e14 ∷ e15 ∷ List.[]
+t18 = e0 ∷ e1·3 ∷ e2·1 ∷ e3 ∷ e4 ∷ e5·1 ∷ e6 ∷ e7·1 ∷ e8 ∷ e9·1 ∷ e10 ∷ e11 ∷ e12 ∷ e13 ∷ e14 ∷ e15 ∷ List.[]
 abbrev pub t19 : List.List Row.Entry
-t19 = e0 ∷ e1·3 ∷ e2·1 ∷ e3 ∷ e4 ∷ e5·1 ∷ e6 ∷ e7 ∷ e8·1 ∷ e9 ∷ e10·1 ∷ e11 ∷ e12 ∷ e13 ∷ e14 ∷ e15 ∷ List.[]
+t19 = e16·1 ∷ List.[]
 abbrev pub t20 : List.List Row.Entry
-t20 = e16·1 ∷ e17 ∷ List.[]
+t20 = e0 ∷ e1·3 ∷ e2·1 ∷ e3 ∷ e4 ∷ e5·1 ∷ e6 ∷ e7·1 ∷ e8 ∷ e9·1 ∷ e10 ∷ e11 ∷ e12 ∷ e13 ∷ e14·1 ∷ e15 ∷ List.[]
 abbrev pub t21 : List.List Row.Entry
-t21 = e16 ∷ e17·1 ∷ List.[]
+t21 = e16·2 ∷ List.[]
 abbrev pub t22 : List.List Row.Entry
-t22 = e0 ∷ e1·3 ∷ e2·1 ∷ e3 ∷ e4 ∷ e5·1 ∷ e6 ∷ e7 ∷ e8·1 ∷ e9 ∷ e10·1 ∷ e11 ∷ e12 ∷ e13 ∷ e14 ∷ e15·1 ∷ List.[]
+t22 = e0 ∷ e1·3 ∷ e2·1 ∷ e3 ∷ e4 ∷ e5·1 ∷ e6 ∷ e7·1 ∷ e8 ∷ e9 ∷ e10 ∷ e11 ∷ e12 ∷ e13 ∷ e14·1 ∷ e15 ∷ List.[]
 abbrev pub t23 : List.List Row.Entry
-t23 = e16 ∷ e17·2 ∷ List.[]
+t23 = e0 ∷ e1·3 ∷ e2·1 ∷ e3 ∷ e4 ∷ e5·1 ∷ e6 ∷ e7·1 ∷ e8 ∷ e9 ∷ e10 ∷ e11 ∷ e12 ∷ e13 ∷ e14 ∷ e15 ∷ List.[]
 abbrev pub t24 : List.List Row.Entry
-t24 = e0 ∷ e1·3 ∷ e2·1 ∷ e3 ∷ e4 ∷ e5·1 ∷ e6 ∷ e7 ∷ e8·1 ∷ e9 ∷ e10 ∷ e11 ∷ e12 ∷ e13 ∷ e14 ∷ e15·1 ∷ List.[]
+t24 = e0 ∷ e1 ∷ e2·1 ∷ e3 ∷ e4 ∷ e5·1 ∷ e6 ∷ e7·1 ∷ e8 ∷ e9 ∷ e10 ∷ e11 ∷ e12 ∷ e13 ∷ e14 ∷ e15 ∷ List.[]
 abbrev pub t25 : List.List Row.Entry
-t25 = e0 ∷ e1·3 ∷ e2·1 ∷ e3 ∷ e4 ∷ e5·1 ∷ e6 ∷ e7 ∷ e8·1 ∷ e9 ∷ e10 ∷ e11 ∷ e12 ∷ e13 ∷ e14 ∷ e15 ∷ List.[]
+t25 = e0·1 ∷ e1 ∷ e2·1 ∷ e3 ∷ e4 ∷ e5·1 ∷ e6 ∷ e7·1 ∷ e8 ∷ e9 ∷ e10 ∷ e11 ∷ e12 ∷ e13 ∷ e14 ∷ e15 ∷ List.[]
 abbrev pub t26 : List.List Row.Entry
-t26 = e0 ∷ e1 ∷ e2·1 ∷ e3 ∷ e4 ∷ e5·1 ∷ e6 ∷ e7 ∷ e8·1 ∷ e9 ∷ e10 ∷ e11 ∷ e12 ∷ e13 ∷ e14 ∷ e15 ∷ List.[]
+t26 = e0·1 ∷ e1 ∷ e2·1 ∷ e3 ∷ e4 ∷ e5·1 ∷ e6 ∷ e7 ∷ e8 ∷ e9 ∷ e10 ∷ e11 ∷ e12 ∷ e13 ∷ e14 ∷ e15 ∷ List.[]
 abbrev pub t27 : List.List Row.Entry
-t27 = e0·1 ∷ e1 ∷ e2·1 ∷ e3 ∷ e4 ∷ e5·1 ∷ e6 ∷ e7 ∷ e8·1 ∷ e9 ∷ e10 ∷ e11 ∷ e12 ∷ e13 ∷ e14 ∷ e15 ∷ List.[]
+t27 = e0·1 ∷ e1 ∷ e2·1 ∷ e3·1 ∷ e4 ∷ e5·1 ∷ e6 ∷ e7 ∷ e8 ∷ e9 ∷ e10 ∷ e11 ∷ e12 ∷ e13 ∷ e14 ∷ e15 ∷ List.[]
 abbrev pub t28 : List.List Row.Entry
-t28 = e0·1 ∷ e1 ∷ e2·1 ∷ e3 ∷ e4 ∷ e5·1 ∷ e6 ∷ e7 ∷ e8 ∷ e9 ∷ e10 ∷ e11 ∷ e12 ∷ e13 ∷ e14 ∷ e15 ∷ List.[]
-abbrev pub t29 : List.List Row.Entry
-t29 = e0·1 ∷ e1 ∷ e2·1 ∷ e3·1 ∷ e4 ∷ e5·1 ∷ e6 ∷ e7 ∷ e8 ∷ e9 ∷ e10 ∷ e11 ∷ e12 ∷ e13 ∷ e14 ∷ e15 ∷ List.[]
-abbrev pub t30 : List.List Row.Entry
-t30 = e0·1 ∷ e1 ∷ e2·1 ∷ e3·1 ∷ e4·1 ∷ e5·1 ∷ e6 ∷ e7 ∷ e8 ∷ e9 ∷ e10 ∷ e11 ∷ e12 ∷ e13 ∷ e14 ∷ e15 ∷ List.[]
+t28 = e0·1 ∷ e1 ∷ e2·1 ∷ e3·1 ∷ e4·1 ∷ e5·1 ∷ e6 ∷ e7 ∷ e8 ∷ e9 ∷ e10 ∷ e11 ∷ e12 ∷ e13 ∷ e14 ∷ e15 ∷ List.[]
 abbrev pub T0 : Row.Cx
 T0 = record { locals = List._++_ t0 t1; slots = List.[] }
 abbrev pub T1 : Row.Cx
 T1 = record { locals = List._++_ t2 t1; slots = List.[] }
-abbrev pub T2 : Row.Cx
-T2 = record { locals = List._++_ t3 t1; slots = List.[] }
+abbrev pub T3 : Row.Cx
+T3 = record { locals = List._++_ t3 t1; slots = List.[] }
 abbrev pub T4 : Row.Cx
 T4 = record { locals = List._++_ t4 t1; slots = List.[] }
 abbrev pub T5 : Row.Cx
 T5 = record { locals = List._++_ t5 t1; slots = List.[] }
 abbrev pub T6 : Row.Cx
 T6 = record { locals = List._++_ t6 t1; slots = List.[] }
-abbrev pub T7 : Row.Cx
-T7 = record { locals = List._++_ t7 t1; slots = List.[] }
 abbrev pub T8 : Row.Cx
-T8 = record { locals = List._++_ t8 t1; slots = List.[] }
-abbrev pub T10 : Row.Cx
-T10 = record { locals = List._++_ t9 t1; slots = List.[] }
+T8 = record { locals = List._++_ t7 t1; slots = List.[] }
+abbrev pub T11 : Row.Cx
+T11 = record { locals = List._++_ t8 t1; slots = List.[] }
+abbrev pub T12 : Row.Cx
+T12 = record { locals = List._++_ t9 t1; slots = List.[] }
 abbrev pub T13 : Row.Cx
 T13 = record { locals = List._++_ t10 t1; slots = List.[] }
 abbrev pub T14 : Row.Cx
 T14 = record { locals = List._++_ t11 t1; slots = List.[] }
 abbrev pub T15 : Row.Cx
 T15 = record { locals = List._++_ t12 t1; slots = List.[] }
-abbrev pub T16 : Row.Cx
-T16 = record { locals = List._++_ t13 t1; slots = List.[] }
 abbrev pub T17 : Row.Cx
-T17 = record { locals = List._++_ t14 t1; slots = List.[] }
+T17 = record { locals = List._++_ t13 t1; slots = List.[] }
 abbrev pub T19 : Row.Cx
-T19 = record { locals = List._++_ t15 t1; slots = List.[] }
+T19 = record { locals = List._++_ t14 t1; slots = List.[] }
+abbrev pub T20 : Row.Cx
+T20 = record { locals = List._++_ t15 t1; slots = List.[] }
 abbrev pub T21 : Row.Cx
 T21 = record { locals = List._++_ t16 t1; slots = List.[] }
-abbrev pub T22 : Row.Cx
-T22 = record { locals = List._++_ t17 t1; slots = List.[] }
 abbrev pub T23 : Row.Cx
-T23 = record { locals = List._++_ t18 t1; slots = List.[] }
+T23 = record { locals = List._++_ t17 t1; slots = List.[] }
+abbrev pub T24 : Row.Cx
+T24 = record { locals = List._++_ t18 t19; slots = List.[] }
 abbrev pub T25 : Row.Cx
-T25 = record { locals = List._++_ t19 t20; slots = List.[] }
+T25 = record { locals = List._++_ t20 t21; slots = List.[] }
 abbrev pub T26 : Row.Cx
-T26 = record { locals = List._++_ t19 t21; slots = List.[] }
+T26 = record { locals = List._++_ t22 t21; slots = List.[] }
 abbrev pub T27 : Row.Cx
-T27 = record { locals = List._++_ t22 t23; slots = List.[] }
-abbrev pub T28 : Row.Cx
-T28 = record { locals = List._++_ t24 t23; slots = List.[] }
+T27 = record { locals = List._++_ t23 t21; slots = List.[] }
 abbrev pub T29 : Row.Cx
-T29 = record { locals = List._++_ t25 t23; slots = List.[] }
+T29 = record { locals = List._++_ t24 t1; slots = List.[] }
 abbrev pub T31 : Row.Cx
-T31 = record { locals = List._++_ t26 t1; slots = List.[] }
+T31 = record { locals = List._++_ t25 t1; slots = List.[] }
+abbrev pub T32 : Row.Cx
+T32 = record { locals = List._++_ t26 t1; slots = List.[] }
 abbrev pub T33 : Row.Cx
 T33 = record { locals = List._++_ t27 t1; slots = List.[] }
 abbrev pub T34 : Row.Cx
 T34 = record { locals = List._++_ t28 t1; slots = List.[] }
 abbrev pub T35 : Row.Cx
-T35 = record { locals = List._++_ t29 t1; slots = List.[] }
-abbrev pub T36 : Row.Cx
-T36 = record { locals = List._++_ t30 t1; slots = List.[] }
-abbrev pub T37 : Row.Cx
-T37 = record { locals = List._++_ t2 t1; slots = List.[] }
+T35 = record { locals = List._++_ t2 t1; slots = List.[] }
 abbrev pub O0 : Typed.Outs
 O0 = record { next = Option.none; exits = List.[]; returns = Option.some T1 }
 module _ (claims· : Claims) where
-  abbrev s0 : Typed.Both T0 T2
-  s0 = Call.callB ps·0 r·0 (claims· .0) (claims· .1) T0 (Num.vAt 4 λ x. x, (Num.vLit 0, tt)) 7 List.[] Laws'.mir
-  abbrev s2 : Typed.Gives T2 T4
-  s2 = Reshare.k-sl-reshare RelayCircuit.row T2 1 11 0 1 ref2 ref0 Row.off λ x. x
-  abbrev s3 : Typed.Asks T4 T5
-  s3 = Relend.k-sl-aggregate RelayCircuit.row (Relend.asShr RelayCircuit.row) T4 11 12 1 ref0 ref0 (λ x. x) (Scalar.oFld 1 ((Syntax.field 1) ∷
+  abbrev s1 : Typed.Gives T0 T3
+  s1 = Reshare.k-sl-reshare RelayCircuit.row T0 1 10 0 1 ref2 ref0 Row.off λ x. x
+  abbrev s2 : Typed.Asks T3 T4
+  s2 = Relend.k-sl-aggregate RelayCircuit.row (Relend.asShr RelayCircuit.row) T3 10 11 1 ref0 ref0 (λ x. x) (Scalar.oFld 1 ((Syntax.field 1) ∷
       List.[]) (Syntax.tyInt Syntax.w64) 8 λ v. Shared.lenV (v .0))
-  abbrev s4 : Typed.Both T5 T6
-  s4 = Call.callB ps·1 r·1 (claims· .2) (claims· .3) T5 (record { pos = 12; ty = Syntax.tyRef Syntax.erased Syntax.imm RelayCircuit.to; ref = λ x. x;
-      }, (record { pos = 2; st = List.[]; d = 0; at = λ x. x }, (record { pos = 7; st = List.[]; d = 0; at = λ x. x }, tt),),) 8 (1 ∷ List.[])
-      (Syntax.tyInt Syntax.w64)
-  abbrev s5 : Typed.Mo T6 → Typed.Mo T7
-  s5 = Scalar.n-room T6 12 (Syntax.tyStruct (38 ∷ 91 ∷ 93 ∷ List.[]) (Syntax.tcons ref0 (Syntax.tcons (Syntax.tyInt Syntax.w64) Syntax.tnil)))
-  abbrev s6 : Typed.Mo T7 → Typed.Mo T8
-  s6 = Scalar.n-room T7 7 Laws'.mir
-  abbrev s8 : Typed.Mo T8 → Typed.Mo T10
-  s8 = Reshare.n-back-sl-shr RelayCircuit.row T8 1 0 1 ref2 Row.off λ x. x
-  abbrev s11 : Typed.Gives T10 T13
-  s11 = Reshare.k-sl-reshare RelayCircuit.row T10 1 13 0 2 ref2 ref0 Row.off λ x. x
-  abbrev s12 : Typed.Asks T13 T14
-  s12 = Relend.k-sl-aggregate RelayCircuit.row (Relend.asShr RelayCircuit.row) T13 13 14 2 ref0 ref0 (λ x. x) (Scalar.oFld 1 ((Syntax.field 1) ∷
+  abbrev s3 : Typed.Both T4 T5
+  s3 = Call.callB ps·0 r·0 (claims· .0) (claims· .1) T4 (record { pos = 11; ty = Syntax.tyRef Syntax.erased Syntax.imm RelayCircuit.to; ref = λ x. x;
+      }, (record { pos = 2; st = List.[]; d = 0; at = λ x. x }, (Num.vAt 4 λ x. x, tt)),) 7 (1 ∷ List.[]) (Syntax.tyInt Syntax.w64)
+  abbrev s4 : Typed.Mo T5 → Typed.Mo T6
+  s4 = Scalar.n-room T5 11 (Syntax.tyStruct (38 ∷ 91 ∷ 93 ∷ List.[]) (Syntax.tcons ref0 (Syntax.tcons (Syntax.tyInt Syntax.w64) Syntax.tnil)))
+  abbrev s6 : Typed.Mo T6 → Typed.Mo T8
+  s6 = Reshare.n-back-sl-shr RelayCircuit.row T6 1 0 1 ref2 Row.off λ x. x
+  abbrev s9 : Typed.Gives T8 T11
+  s9 = Reshare.k-sl-reshare RelayCircuit.row T8 1 12 0 2 ref2 ref0 Row.off λ x. x
+  abbrev s10 : Typed.Asks T11 T12
+  s10 = Relend.k-sl-aggregate RelayCircuit.row (Relend.asShr RelayCircuit.row) T11 12 13 2 ref0 ref0 (λ x. x) (Scalar.oFld 1 ((Syntax.field 1) ∷
       List.[]) (Syntax.tyInt Syntax.w64) 8 λ v. Shared.lenV (v .0))
-  abbrev s13 : Typed.Both T14 T15
-  s13 = Call.callB ps·2 r·2 (claims· .4) (claims· .5) T14 (record { pos = 14; ty = Syntax.tyRef Syntax.erased Syntax.imm RelayCircuit.to; ref = λ x.
-      x; }, (record { pos = 2; st = List.[]; d = 0; at = λ x. x }, (Num.vAt 8 λ x. x, tt)),) 9 (2 ∷ List.[]) RelayCircuit.ty
-  abbrev s14 : Typed.Mo T15 → Typed.Mo T16
-  s14 = Scalar.n-room T15 14 (Syntax.tyStruct (38 ∷ 91 ∷ 93 ∷ List.[]) (Syntax.tcons ref0 (Syntax.tcons (Syntax.tyInt Syntax.w64) Syntax.tnil)))
-  abbrev s15 : Typed.Mo T16 → Typed.Mo T17
-  s15 = Scalar.n-room T16 2 Laws.mir
-  abbrev s17 : Typed.Mo T17 → Typed.Mo T19
-  s17 = Reshare.n-back-sl-shr RelayCircuit.row T17 1 0 2 ref2 Row.off λ x. x
-  abbrev s19 : Typed.Both T19 T21
-  s19 = Call.callB ps·3 r·3 (claims· .6) (claims· .7) T19 (record { pos = 9; st = List.[]; d = 0; at = λ x. x }, (record { pos = 5; st = List.[]; d =
-      0; at = λ x. x }, (Num.vAt 6 λ x. x, tt)),) 10 List.[] RelayCircuit.ty
-  abbrev s20 : Typed.Mo T21 → Typed.Mo T22
-  s20 = Scalar.n-room T21 5 Laws''.mir
-  abbrev s21 : Typed.Mo T22 → Typed.Mo T23
-  s21 = Scalar.n-room T22 9 RelayCircuit.ty
-  abbrev s23 : Typed.Gives T23 T25
-  s23 = Relend.k-sl-relend RelayCircuit.row T23 1 16 0 3 ref2 ref1 Row.off λ x. x
-  abbrev s24 : Typed.Asks T25 T26
-  s24 = Relend.k-sl-aggregate RelayCircuit.row (Relend.asMut RelayCircuit.row) T25 16 17 3 ref1 ref1 (λ x. x) (Scalar.oFld 1 ((Syntax.field 1) ∷
+  abbrev s11 : Typed.Both T12 T13
+  s11 = Call.callB ps·1 r·1 (claims· .2) (claims· .3) T12 (record { pos = 13; ty = Syntax.tyRef Syntax.erased Syntax.imm RelayCircuit.to; ref = λ x.
+      x; }, (record { pos = 2; st = List.[]; d = 0; at = λ x. x }, (Num.vAt 7 λ x. x, tt)),) 8 (2 ∷ List.[]) RelayCircuit.ty
+  abbrev s12 : Typed.Mo T13 → Typed.Mo T14
+  s12 = Scalar.n-room T13 13 (Syntax.tyStruct (38 ∷ 91 ∷ 93 ∷ List.[]) (Syntax.tcons ref0 (Syntax.tcons (Syntax.tyInt Syntax.w64) Syntax.tnil)))
+  abbrev s13 : Typed.Mo T14 → Typed.Mo T15
+  s13 = Scalar.n-room T14 2 Laws.mir
+  abbrev s15 : Typed.Mo T15 → Typed.Mo T17
+  s15 = Reshare.n-back-sl-shr RelayCircuit.row T15 1 0 2 ref2 Row.off λ x. x
+  abbrev s17 : Typed.Both T17 T19
+  s17 = Call.callB ps·2 r·2 (claims· .4) (claims· .5) T17 (record { pos = 8; st = List.[]; d = 0; at = λ x. x }, (record { pos = 5; st = List.[]; d =
+      0; at = λ x. x }, (Num.vAt 6 λ x. x, tt)),) 9 List.[] RelayCircuit.ty
+  abbrev s18 : Typed.Mo T19 → Typed.Mo T20
+  s18 = Scalar.n-room T19 5 Laws'.mir
+  abbrev s19 : Typed.Mo T20 → Typed.Mo T21
+  s19 = Scalar.n-room T20 8 RelayCircuit.ty
+  abbrev s21 : Typed.Gives T21 T23
+  s21 = Relend.k-sl-relend RelayCircuit.row T21 1 15 0 3 ref2 ref1 Row.off λ x. x
+  abbrev s22 : Typed.Asks T23 T24
+  s22 = Relend.k-sl-aggregate RelayCircuit.row (Relend.asMut RelayCircuit.row) T23 15 16 3 ref1 ref1 (λ x. x) (Scalar.oFld 1 ((Syntax.field 1) ∷
       List.[]) (Syntax.tyInt Syntax.w64) 8 λ v. Shared.lenV (v .0))
-  abbrev s25 : Typed.Both T26 T27
-  s25 = Call.callB ps·4 r·4 (claims· .8) (claims· .9) T26 (record { pos = 17; ty = Syntax.tyRef Syntax.erased Syntax.mut RelayCircuit.to; ref = λ x.
-      x; }, (Bool.bAt 3 λ x. x, (Num.vAt 8 λ x. x, (record { pos = 10; st = List.[]; d = 0; at = λ x. x }, tt)),),) 15 (3 ∷ List.[]) Syntax.tyUnit
-  abbrev s26 : Typed.Mo T27 → Typed.Mo T28
-  s26 = Scalar.n-room T27 10 RelayCircuit.ty
-  abbrev s27 : Typed.Mo T28 → Typed.Mo T29
-  s27 = Scalar.n-room T28 15 Syntax.tyUnit
-  abbrev s29 : Typed.Both T29 T31
-  s29 = Relend.k-back-sl RelayCircuit.row T29 17 1 0 3 ref2 ref1 Row.off (λ x. x) λ x. x
-  abbrev s31 : Typed.Mo T31 → Typed.Mo T33
-  s31 = Scalar.n-use T31 Scalar.oUnit 0 (Rows.sc-here Row.sUnit) (Row.sUnit .of)
+  abbrev s23 : Typed.Both T24 T25
+  s23 = Call.callB ps·3 r·3 (claims· .6) (claims· .7) T24 (record { pos = 16; ty = Syntax.tyRef Syntax.erased Syntax.mut RelayCircuit.to; ref = λ x.
+      x; }, (Bool.bAt 3 λ x. x, (Num.vAt 7 λ x. x, (record { pos = 9; st = List.[]; d = 0; at = λ x. x }, tt)),),) 14 (3 ∷ List.[]) Syntax.tyUnit
+  abbrev s24 : Typed.Mo T25 → Typed.Mo T26
+  s24 = Scalar.n-room T25 9 RelayCircuit.ty
+  abbrev s25 : Typed.Mo T26 → Typed.Mo T27
+  s25 = Scalar.n-room T26 14 Syntax.tyUnit
+  abbrev s27 : Typed.Both T27 T29
+  s27 = Relend.k-back-sl RelayCircuit.row T27 16 1 0 3 ref2 ref1 Row.off (λ x. x) λ x. x
+  abbrev s29 : Typed.Mo T29 → Typed.Mo T31
+  s29 = Scalar.n-use T29 Scalar.oUnit 0 (Rows.sc-here Row.sUnit) (Row.sUnit .of)
+  abbrev s30 : Typed.Mo T31 → Typed.Mo T32
+  s30 = Scalar.n-room T31 7 (Syntax.tyInt Syntax.w64)
+  abbrev s31 : Typed.Mo T32 → Typed.Mo T33
+  s31 = Scalar.n-room T32 3 Syntax.tyBool
   abbrev s32 : Typed.Mo T33 → Typed.Mo T34
-  s32 = Scalar.n-room T33 8 (Syntax.tyInt Syntax.w64)
+  s32 = Scalar.n-room T33 4 (Syntax.tyInt Syntax.w64)
   abbrev s33 : Typed.Mo T34 → Typed.Mo T35
-  s33 = Scalar.n-room T34 3 Syntax.tyBool
-  abbrev s34 : Typed.Mo T35 → Typed.Mo T36
-  s34 = Scalar.n-room T35 4 (Syntax.tyInt Syntax.w64)
-  abbrev s35 : Typed.Mo T36 → Typed.Mo T37
-  s35 = Scalar.n-room T36 6 (Syntax.tyInt Syntax.w64)
+  s33 = Scalar.n-room T34 6 (Syntax.tyInt Syntax.w64)
   module _ (Pre· : (κs : Lifetimes.Lfts 1) → Kinds.Dens κs ps → Type 0) (Post· : (κs : Lifetimes.Lfts 1) → (a : Kinds.Dens κs ps) → Kinds.Plain 1 ps r
       κs) where
     module _ (M : Type 1) where
       abbrev pub Closed : Type 2
-      Closed = (𝓤 : URA.URA M) (H : Wp.Heap 𝓤) (A : Atoms.Atoms 𝓤) (W : Kit.Given 𝓤 H A) (𝓣 : Wp.Tables 𝓤 H) (known0 : Plain.Known 𝓤 H A W 𝓣 0 ps·0
-          r·0 (claims· .0) (claims· .1) "hnsr_circuit::question::at") (known1 : Plain.Known 𝓤 H A W 𝓣 1 ps·1 r·1 (claims· .2) (claims· .3)
-          "hnsr_circuit::tables::circuits::find_circuit") (known2 : Plain.Known 𝓤 H A W 𝓣 1 ps·2 r·2 (claims· .4) (claims· .5)
-          "hnsr_circuit::tables::circuits::circuit_at") (known3 : Plain.Known 𝓤 H A W 𝓣 0 ps·3 r·3 (claims· .6) (claims· .7)
-          "hnsr_circuit::circuits::circuit_lowered") (known4 : Plain.Known 𝓤 H A W 𝓣 1 ps·4 r·4 (claims· .8) (claims· .9)
+      Closed = (𝓤 : URA.URA M) (H : Wp.Heap 𝓤) (A : Atoms.Atoms 𝓤) (W : Kit.Given 𝓤 H A) (𝓣 : Wp.Tables 𝓤 H) (known0 : Plain.Known 𝓤 H A W 𝓣 1 ps·0
+          r·0 (claims· .0) (claims· .1) "hnsr_circuit::tables::circuits::find_circuit_id") (known1 : Plain.Known 𝓤 H A W 𝓣 1 ps·1 r·1 (claims· .2)
+          (claims· .3) "hnsr_circuit::tables::circuits::circuit_at") (known2 : Plain.Known 𝓤 H A W 𝓣 0 ps·2 r·2 (claims· .4) (claims· .5)
+          "hnsr_circuit::circuits::circuit_lowered") (known3 : Plain.Known 𝓤 H A W 𝓣 1 ps·3 r·3 (claims· .6) (claims· .7)
           "hnsr_circuit::tables::circuits::set_circuit") → Statement.Triple 𝓤 (Wp.WpFn 𝓤 H (𝓣 .C) (𝓣 .Λ) (Function.fnOf 1 ps r xs m hs body))
           (Function.plainOf 𝓤 H A 1 ps r Pre· Post·)
     module _ where
-      abbrev at0 : Typed.TF T37 O0
+      abbrev at0 : Typed.TF T35 O0
       at0 = Typed.atRet O0
-      abbrev at1 : Typed.TF T36 O0
-      at1 = λ Ψ. Typed.pass T36 T37 s35 (at0 Ψ)
-      abbrev at2 : Typed.TF T35 O0
-      at2 = λ Ψ. Typed.pass T35 T36 s34 (at1 Ψ)
-      abbrev at3 : Typed.TF T34 O0
-      at3 = λ Ψ. Typed.pass T34 T35 s33 (at2 Ψ)
-      abbrev at4 : Typed.TF T33 O0
-      at4 = λ Ψ. Typed.pass T33 T34 s32 (at3 Ψ)
-      abbrev at5 : Typed.TF T31 O0
-      at5 = λ Ψ. Typed.pass T31 T33 s31 (at4 Ψ)
-      abbrev at6 : Typed.TF T31 O0
+      abbrev at1 : Typed.TF T34 O0
+      at1 = λ Ψ. Typed.pass T34 T35 s33 (at0 Ψ)
+      abbrev at2 : Typed.TF T33 O0
+      at2 = λ Ψ. Typed.pass T33 T34 s32 (at1 Ψ)
+      abbrev at3 : Typed.TF T32 O0
+      at3 = λ Ψ. Typed.pass T32 T33 s31 (at2 Ψ)
+      abbrev at4 : Typed.TF T31 O0
+      at4 = λ Ψ. Typed.pass T31 T32 s30 (at3 Ψ)
+      abbrev at5 : Typed.TF T29 O0
+      at5 = λ Ψ. Typed.pass T29 T31 s29 (at4 Ψ)
+      abbrev at6 : Typed.TF T29 O0
       at6 = λ Ψ. at5 Ψ
-      abbrev at7 : Typed.TF T29 O0
-      at7 = λ Ψ. Typed.both s29 (at6 Ψ)
-      abbrev at8 : Typed.TF T29 O0
+      abbrev at7 : Typed.TF T27 O0
+      at7 = λ Ψ. Typed.both s27 (at6 Ψ)
+      abbrev at8 : Typed.TF T27 O0
       at8 = λ Ψ. at7 Ψ
-      abbrev at9 : Typed.TF T28 O0
-      at9 = λ Ψ. Typed.pass T28 T29 s27 (at8 Ψ)
-      abbrev at10 : Typed.TF T27 O0
-      at10 = λ Ψ. Typed.pass T27 T28 s26 (at9 Ψ)
-      abbrev at11 : Typed.TF T26 O0
-      at11 = λ Ψ. Typed.both s25 (at10 Ψ)
-      abbrev at12 : Typed.TF T25 O0
-      at12 = λ Ψ. Typed.ask s24 (at11 Ψ)
-      abbrev at13 : Typed.TF T23 O0
-      at13 = λ Ψ. Typed.give s23 (at12 Ψ)
-      abbrev at14 : Typed.TF T23 O0
+      abbrev at9 : Typed.TF T26 O0
+      at9 = λ Ψ. Typed.pass T26 T27 s25 (at8 Ψ)
+      abbrev at10 : Typed.TF T25 O0
+      at10 = λ Ψ. Typed.pass T25 T26 s24 (at9 Ψ)
+      abbrev at11 : Typed.TF T24 O0
+      at11 = λ Ψ. Typed.both s23 (at10 Ψ)
+      abbrev at12 : Typed.TF T23 O0
+      at12 = λ Ψ. Typed.ask s22 (at11 Ψ)
+      abbrev at13 : Typed.TF T21 O0
+      at13 = λ Ψ. Typed.give s21 (at12 Ψ)
+      abbrev at14 : Typed.TF T21 O0
       at14 = λ Ψ. at13 Ψ
-      abbrev at15 : Typed.TF T22 O0
-      at15 = λ Ψ. Typed.pass T22 T23 s21 (at14 Ψ)
-      abbrev at16 : Typed.TF T21 O0
-      at16 = λ Ψ. Typed.pass T21 T22 s20 (at15 Ψ)
-      abbrev at17 : Typed.TF T19 O0
-      at17 = λ Ψ. Typed.both s19 (at16 Ψ)
-      abbrev at18 : Typed.TF T19 O0
+      abbrev at15 : Typed.TF T20 O0
+      at15 = λ Ψ. Typed.pass T20 T21 s19 (at14 Ψ)
+      abbrev at16 : Typed.TF T19 O0
+      at16 = λ Ψ. Typed.pass T19 T20 s18 (at15 Ψ)
+      abbrev at17 : Typed.TF T17 O0
+      at17 = λ Ψ. Typed.both s17 (at16 Ψ)
+      abbrev at18 : Typed.TF T17 O0
       at18 = λ Ψ. at17 Ψ
-      abbrev at19 : Typed.TF T17 O0
-      at19 = λ Ψ. Typed.pass T17 T19 s17 (at18 Ψ)
-      abbrev at20 : Typed.TF T17 O0
+      abbrev at19 : Typed.TF T15 O0
+      at19 = λ Ψ. Typed.pass T15 T17 s15 (at18 Ψ)
+      abbrev at20 : Typed.TF T15 O0
       at20 = λ Ψ. at19 Ψ
-      abbrev at21 : Typed.TF T16 O0
-      at21 = λ Ψ. Typed.pass T16 T17 s15 (at20 Ψ)
-      abbrev at22 : Typed.TF T15 O0
-      at22 = λ Ψ. Typed.pass T15 T16 s14 (at21 Ψ)
-      abbrev at23 : Typed.TF T14 O0
-      at23 = λ Ψ. Typed.both s13 (at22 Ψ)
-      abbrev at24 : Typed.TF T13 O0
-      at24 = λ Ψ. Typed.ask s12 (at23 Ψ)
-      abbrev at25 : Typed.TF T10 O0
-      at25 = λ Ψ. Typed.give s11 (at24 Ψ)
-      abbrev at26 : Typed.TF T10 O0
+      abbrev at21 : Typed.TF T14 O0
+      at21 = λ Ψ. Typed.pass T14 T15 s13 (at20 Ψ)
+      abbrev at22 : Typed.TF T13 O0
+      at22 = λ Ψ. Typed.pass T13 T14 s12 (at21 Ψ)
+      abbrev at23 : Typed.TF T12 O0
+      at23 = λ Ψ. Typed.both s11 (at22 Ψ)
+      abbrev at24 : Typed.TF T11 O0
+      at24 = λ Ψ. Typed.ask s10 (at23 Ψ)
+      abbrev at25 : Typed.TF T8 O0
+      at25 = λ Ψ. Typed.give s9 (at24 Ψ)
+      abbrev at26 : Typed.TF T8 O0
       at26 = λ Ψ. at25 Ψ
-      abbrev at27 : Typed.TF T10 O0
+      abbrev at27 : Typed.TF T8 O0
       at27 = λ Ψ. at26 Ψ
-      abbrev at28 : Typed.TF T8 O0
-      at28 = λ Ψ. Typed.pass T8 T10 s8 (at27 Ψ)
-      abbrev at29 : Typed.TF T8 O0
+      abbrev at28 : Typed.TF T6 O0
+      at28 = λ Ψ. Typed.pass T6 T8 s6 (at27 Ψ)
+      abbrev at29 : Typed.TF T6 O0
       at29 = λ Ψ. at28 Ψ
-      abbrev at30 : Typed.TF T7 O0
-      at30 = λ Ψ. Typed.pass T7 T8 s6 (at29 Ψ)
-      abbrev at31 : Typed.TF T6 O0
-      at31 = λ Ψ. Typed.pass T6 T7 s5 (at30 Ψ)
-      abbrev at32 : Typed.TF T5 O0
-      at32 = λ Ψ. Typed.both s4 (at31 Ψ)
-      abbrev at33 : Typed.TF T4 O0
-      at33 = λ Ψ. Typed.ask s3 (at32 Ψ)
-      abbrev at34 : Typed.TF T2 O0
-      at34 = λ Ψ. Typed.give s2 (at33 Ψ)
-      abbrev at35 : Typed.TF T2 O0
-      at35 = λ Ψ. at34 Ψ
-      abbrev at36 : Typed.TF T0 O0
-      at36 = λ Ψ. Typed.both s0 (at35 Ψ)
+      abbrev at30 : Typed.TF T5 O0
+      at30 = λ Ψ. Typed.pass T5 T6 s4 (at29 Ψ)
+      abbrev at31 : Typed.TF T4 O0
+      at31 = λ Ψ. Typed.both s3 (at30 Ψ)
+      abbrev at32 : Typed.TF T3 O0
+      at32 = λ Ψ. Typed.ask s2 (at31 Ψ)
+      abbrev at33 : Typed.TF T0 O0
+      at33 = λ Ψ. Typed.give s1 (at32 Ψ)
+      abbrev at34 : Typed.TF T0 O0
+      at34 = λ Ψ. at33 Ψ
       abbrev pub Φ : Typed.TF T0 O0
-      Φ = at36
+      Φ = at34
       module _ { M : Type 1 } (𝓤 : URA.URA M) (H : Wp.Heap 𝓤) (A : Atoms.Atoms 𝓤) (W : Kit.Given 𝓤 H A) (𝓣 : Wp.Tables 𝓤 H) where
         abbrev Knowns : Type 1
-        Knowns = Plain.Known 𝓤 H A W 𝓣 0 ps·0 r·0 (claims· .0) (claims· .1) "hnsr_circuit::question::at" × Plain.Known 𝓤 H A W 𝓣 1 ps·1 r·1 (claims·
-            .2) (claims· .3) "hnsr_circuit::tables::circuits::find_circuit" × Plain.Known 𝓤 H A W 𝓣 1 ps·2 r·2 (claims· .4) (claims· .5)
-            "hnsr_circuit::tables::circuits::circuit_at" × Plain.Known 𝓤 H A W 𝓣 0 ps·3 r·3 (claims· .6) (claims· .7)
-            "hnsr_circuit::circuits::circuit_lowered" × Plain.Known 𝓤 H A W 𝓣 1 ps·4 r·4 (claims· .8) (claims· .9)
+        Knowns = Plain.Known 𝓤 H A W 𝓣 1 ps·0 r·0 (claims· .0) (claims· .1) "hnsr_circuit::tables::circuits::find_circuit_id" × Plain.Known 𝓤 H A W 𝓣
+            1 ps·1 r·1 (claims· .2) (claims· .3) "hnsr_circuit::tables::circuits::circuit_at" × Plain.Known 𝓤 H A W 𝓣 0 ps·2 r·2 (claims· .4) (claims·
+            .5) "hnsr_circuit::circuits::circuit_lowered" × Plain.Known 𝓤 H A W 𝓣 1 ps·3 r·3 (claims· .6) (claims· .7)
             "hnsr_circuit::tables::circuits::set_circuit"
       module _ (κs : Lifetimes.Lfts 1) (qs : Lifetimes.Shares 1) where
         abbrev life0 : Row.Life
         life0 = Row.lease (κs .0) (qs .0)
+        abbrev g3 : List.List Row.Entry
+        g3 = (0, Rows.any-gone Syntax.tyUnit) ∷ (1, Reshare.mslice-owedS RelayCircuit.row ref2 0 1 life0,) ∷ (2, Rows.whole (Declared'.row
+            Places.the-type)) ∷ (3, Rows.sc-here Row.sBool,) ∷ (4, Rows.sc-here (Row.sInt Syntax.w64)) ∷ (5, Rows.whole (Declared.row
+            RelaySide.the-type),) ∷ (6, Rows.sc-here (Row.sInt Syntax.w64)) ∷ (7, Rows.any-gone (Syntax.tyInt Syntax.w64),) ∷ (8, Rows.any-gone
+            RelayCircuit.ty) ∷ (9, Rows.any-gone RelayCircuit.ty,) ∷ (10, Relend.ssptr RelayCircuit.row ref0 1,) ∷ (11, Rows.any-gone (Syntax.tyStruct
+            (38 ∷ 91 ∷ 93 ∷ List.[]) (Syntax.tcons ref0 (Syntax.tcons (Syntax.tyInt Syntax.w64) Syntax.tnil))),) ∷ (12, Rows.any-gone ref0,) ∷ (13,
+            Rows.any-gone (Syntax.tyStruct (38 ∷ 91 ∷ 93 ∷ List.[]) (Syntax.tcons ref0 (Syntax.tcons (Syntax.tyInt Syntax.w64) Syntax.tnil))),) ∷ (14,
+            Rows.any-gone Syntax.tyUnit) ∷ (15, Rows.any-gone ref1,) ∷ List.[]
         abbrev g4 : List.List Row.Entry
         g4 = (0, Rows.any-gone Syntax.tyUnit) ∷ (1, Reshare.mslice-owedS RelayCircuit.row ref2 0 1 life0,) ∷ (2, Rows.whole (Declared'.row
             Places.the-type)) ∷ (3, Rows.sc-here Row.sBool,) ∷ (4, Rows.sc-here (Row.sInt Syntax.w64)) ∷ (5, Rows.whole (Declared.row
-            RelaySide.the-type),) ∷ (6, Rows.sc-here (Row.sInt Syntax.w64)) ∷ (7, Rows.whole (Declared'.row Question.the-type),) ∷ (8, Rows.any-gone
-            (Syntax.tyInt Syntax.w64)) ∷ (9, Rows.any-gone RelayCircuit.ty,) ∷ (10, Rows.any-gone RelayCircuit.ty) ∷ (11, Relend.ssptr
-            RelayCircuit.row ref0 1,) ∷ (12, Rows.any-gone (Syntax.tyStruct (38 ∷ 91 ∷ 93 ∷ List.[]) (Syntax.tcons ref0 (Syntax.tcons (Syntax.tyInt
-            Syntax.w64) Syntax.tnil))),) ∷ (13, Rows.any-gone ref0,) ∷ (14, Rows.any-gone (Syntax.tyStruct (38 ∷ 91 ∷ 93 ∷ List.[]) (Syntax.tcons ref0
-            (Syntax.tcons (Syntax.tyInt Syntax.w64) Syntax.tnil))),) ∷ (15, Rows.any-gone Syntax.tyUnit) ∷ List.[]
+            RelaySide.the-type),) ∷ (6, Rows.sc-here (Row.sInt Syntax.w64)) ∷ (7, Rows.any-gone (Syntax.tyInt Syntax.w64),) ∷ (8, Rows.any-gone
+            RelayCircuit.ty) ∷ (9, Rows.any-gone RelayCircuit.ty,) ∷ (10, Rows.any-gone ref0,) ∷ (11, Rows.sslice RelayCircuit.row ref0 1,) ∷ (12,
+            Rows.any-gone ref0,) ∷ (13, Rows.any-gone (Syntax.tyStruct (38 ∷ 91 ∷ 93 ∷ List.[]) (Syntax.tcons ref0 (Syntax.tcons (Syntax.tyInt
+            Syntax.w64) Syntax.tnil))),) ∷ (14, Rows.any-gone Syntax.tyUnit) ∷ (15, Rows.any-gone ref1,) ∷ List.[]
         abbrev g5 : List.List Row.Entry
         g5 = (0, Rows.any-gone Syntax.tyUnit) ∷ (1, Reshare.mslice-owedS RelayCircuit.row ref2 0 1 life0,) ∷ (2, Rows.whole (Declared'.row
             Places.the-type)) ∷ (3, Rows.sc-here Row.sBool,) ∷ (4, Rows.sc-here (Row.sInt Syntax.w64)) ∷ (5, Rows.whole (Declared.row
-            RelaySide.the-type),) ∷ (6, Rows.sc-here (Row.sInt Syntax.w64)) ∷ (7, Rows.whole (Declared'.row Question.the-type),) ∷ (8, Rows.any-gone
-            (Syntax.tyInt Syntax.w64)) ∷ (9, Rows.any-gone RelayCircuit.ty,) ∷ (10, Rows.any-gone RelayCircuit.ty) ∷ (11, Rows.any-gone ref0,) ∷ (12,
-            Rows.sslice RelayCircuit.row ref0 1,) ∷ (13, Rows.any-gone ref0,) ∷ (14, Rows.any-gone (Syntax.tyStruct (38 ∷ 91 ∷ 93 ∷ List.[])
-            (Syntax.tcons ref0 (Syntax.tcons (Syntax.tyInt Syntax.w64) Syntax.tnil))),) ∷ (15, Rows.any-gone Syntax.tyUnit) ∷ List.[]
+            RelaySide.the-type),) ∷ (6, Rows.sc-here (Row.sInt Syntax.w64)) ∷ (7, Rows.sc-here (Row.sInt Syntax.w64),) ∷ (8, Rows.any-gone
+            RelayCircuit.ty) ∷ (9, Rows.any-gone RelayCircuit.ty,) ∷ (10, Rows.any-gone ref0,) ∷ (11, Rows.sslice RelayCircuit.row ref0 1,) ∷ (12,
+            Rows.any-gone ref0,) ∷ (13, Rows.any-gone (Syntax.tyStruct (38 ∷ 91 ∷ 93 ∷ List.[]) (Syntax.tcons ref0 (Syntax.tcons (Syntax.tyInt
+            Syntax.w64) Syntax.tnil))),) ∷ (14, Rows.any-gone Syntax.tyUnit) ∷ (15, Rows.any-gone ref1,) ∷ List.[]
         abbrev g6 : List.List Row.Entry
         g6 = (0, Rows.any-gone Syntax.tyUnit) ∷ (1, Reshare.mslice-owedS RelayCircuit.row ref2 0 1 life0,) ∷ (2, Rows.whole (Declared'.row
             Places.the-type)) ∷ (3, Rows.sc-here Row.sBool,) ∷ (4, Rows.sc-here (Row.sInt Syntax.w64)) ∷ (5, Rows.whole (Declared.row
-            RelaySide.the-type),) ∷ (6, Rows.sc-here (Row.sInt Syntax.w64)) ∷ (7, Rows.whole (Declared'.row Question.the-type),) ∷ (8, Rows.sc-here
-            (Row.sInt Syntax.w64)) ∷ (9, Rows.any-gone RelayCircuit.ty,) ∷ (10, Rows.any-gone RelayCircuit.ty) ∷ (11, Rows.any-gone ref0,) ∷ (12,
-            Rows.sslice RelayCircuit.row ref0 1,) ∷ (13, Rows.any-gone ref0,) ∷ (14, Rows.any-gone (Syntax.tyStruct (38 ∷ 91 ∷ 93 ∷ List.[])
-            (Syntax.tcons ref0 (Syntax.tcons (Syntax.tyInt Syntax.w64) Syntax.tnil))),) ∷ (15, Rows.any-gone Syntax.tyUnit) ∷ List.[]
-        abbrev g7 : List.List Row.Entry
-        g7 = (0, Rows.any-gone Syntax.tyUnit) ∷ (1, Reshare.mslice-owedS RelayCircuit.row ref2 0 1 life0,) ∷ (2, Rows.whole (Declared'.row
-            Places.the-type)) ∷ (3, Rows.sc-here Row.sBool,) ∷ (4, Rows.sc-here (Row.sInt Syntax.w64)) ∷ (5, Rows.whole (Declared.row
-            RelaySide.the-type),) ∷ (6, Rows.sc-here (Row.sInt Syntax.w64)) ∷ (7, Rows.whole (Declared'.row Question.the-type),) ∷ (8, Rows.sc-here
-            (Row.sInt Syntax.w64)) ∷ (9, Rows.any-gone RelayCircuit.ty,) ∷ (10, Rows.any-gone RelayCircuit.ty) ∷ (11, Rows.any-gone ref0,) ∷ (12,
-            Rows.any-gone (Syntax.tyStruct (38 ∷ 91 ∷ 93 ∷ List.[]) (Syntax.tcons ref0 (Syntax.tcons (Syntax.tyInt Syntax.w64) Syntax.tnil))),) ∷ (13,
-            Rows.any-gone ref0,) ∷ (14, Rows.any-gone (Syntax.tyStruct (38 ∷ 91 ∷ 93 ∷ List.[]) (Syntax.tcons ref0 (Syntax.tcons (Syntax.tyInt
-            Syntax.w64) Syntax.tnil))),) ∷ (15, Rows.any-gone Syntax.tyUnit) ∷ List.[]
+            RelaySide.the-type),) ∷ (6, Rows.sc-here (Row.sInt Syntax.w64)) ∷ (7, Rows.sc-here (Row.sInt Syntax.w64),) ∷ (8, Rows.any-gone
+            RelayCircuit.ty) ∷ (9, Rows.any-gone RelayCircuit.ty,) ∷ (10, Rows.any-gone ref0,) ∷ (11, Rows.any-gone (Syntax.tyStruct (38 ∷ 91 ∷ 93 ∷
+            List.[]) (Syntax.tcons ref0 (Syntax.tcons (Syntax.tyInt Syntax.w64) Syntax.tnil))),) ∷ (12, Rows.any-gone ref0,) ∷ (13, Rows.any-gone
+            (Syntax.tyStruct (38 ∷ 91 ∷ 93 ∷ List.[]) (Syntax.tcons ref0 (Syntax.tcons (Syntax.tyInt Syntax.w64) Syntax.tnil))),) ∷ (14, Rows.any-gone
+            Syntax.tyUnit) ∷ (15, Rows.any-gone ref1,) ∷ List.[]
         abbrev g8 : List.List Row.Entry
-        g8 = (0, Rows.any-gone Syntax.tyUnit) ∷ (1, Reshare.mslice-owedS RelayCircuit.row ref2 0 1 life0,) ∷ (2, Rows.whole (Declared'.row
+        g8 = (0, Rows.any-gone Syntax.tyUnit) ∷ (1, Reshare.mslice-owedS RelayCircuit.row ref2 0 2 life0,) ∷ (2, Rows.whole (Declared'.row
             Places.the-type)) ∷ (3, Rows.sc-here Row.sBool,) ∷ (4, Rows.sc-here (Row.sInt Syntax.w64)) ∷ (5, Rows.whole (Declared.row
-            RelaySide.the-type),) ∷ (6, Rows.sc-here (Row.sInt Syntax.w64)) ∷ (7, Rows.any-gone Laws'.mir,) ∷ (8, Rows.sc-here (Row.sInt Syntax.w64))
-            ∷ (9, Rows.any-gone RelayCircuit.ty,) ∷ (10, Rows.any-gone RelayCircuit.ty) ∷ (11, Rows.any-gone ref0,) ∷ (12, Rows.any-gone
-            (Syntax.tyStruct (38 ∷ 91 ∷ 93 ∷ List.[]) (Syntax.tcons ref0 (Syntax.tcons (Syntax.tyInt Syntax.w64) Syntax.tnil))),) ∷ (13, Rows.any-gone
-            ref0,) ∷ (14, Rows.any-gone (Syntax.tyStruct (38 ∷ 91 ∷ 93 ∷ List.[]) (Syntax.tcons ref0 (Syntax.tcons (Syntax.tyInt Syntax.w64)
-            Syntax.tnil))),) ∷ (15, Rows.any-gone Syntax.tyUnit) ∷ List.[]
+            RelaySide.the-type),) ∷ (6, Rows.sc-here (Row.sInt Syntax.w64)) ∷ (7, Rows.sc-here (Row.sInt Syntax.w64),) ∷ (8, Rows.any-gone
+            RelayCircuit.ty) ∷ (9, Rows.any-gone RelayCircuit.ty,) ∷ (10, Rows.any-gone ref0,) ∷ (11, Rows.any-gone (Syntax.tyStruct (38 ∷ 91 ∷ 93 ∷
+            List.[]) (Syntax.tcons ref0 (Syntax.tcons (Syntax.tyInt Syntax.w64) Syntax.tnil))),) ∷ (12, Relend.ssptr RelayCircuit.row ref0 2,) ∷ (13,
+            Rows.any-gone (Syntax.tyStruct (38 ∷ 91 ∷ 93 ∷ List.[]) (Syntax.tcons ref0 (Syntax.tcons (Syntax.tyInt Syntax.w64) Syntax.tnil))),) ∷ (14,
+            Rows.any-gone Syntax.tyUnit) ∷ (15, Rows.any-gone ref1,) ∷ List.[]
+        abbrev g9 : List.List Row.Entry
+        g9 = (0, Rows.any-gone Syntax.tyUnit) ∷ (1, Reshare.mslice-owedS RelayCircuit.row ref2 0 2 life0,) ∷ (2, Rows.whole (Declared'.row
+            Places.the-type)) ∷ (3, Rows.sc-here Row.sBool,) ∷ (4, Rows.sc-here (Row.sInt Syntax.w64)) ∷ (5, Rows.whole (Declared.row
+            RelaySide.the-type),) ∷ (6, Rows.sc-here (Row.sInt Syntax.w64)) ∷ (7, Rows.sc-here (Row.sInt Syntax.w64),) ∷ (8, Rows.any-gone
+            RelayCircuit.ty) ∷ (9, Rows.any-gone RelayCircuit.ty,) ∷ (10, Rows.any-gone ref0,) ∷ (11, Rows.any-gone (Syntax.tyStruct (38 ∷ 91 ∷ 93 ∷
+            List.[]) (Syntax.tcons ref0 (Syntax.tcons (Syntax.tyInt Syntax.w64) Syntax.tnil))),) ∷ (12, Rows.any-gone ref0,) ∷ (13, Rows.sslice
+            RelayCircuit.row ref0 2,) ∷ (14, Rows.any-gone Syntax.tyUnit) ∷ (15, Rows.any-gone ref1,) ∷ List.[]
         abbrev g10 : List.List Row.Entry
         g10 = (0, Rows.any-gone Syntax.tyUnit) ∷ (1, Reshare.mslice-owedS RelayCircuit.row ref2 0 2 life0,) ∷ (2, Rows.whole (Declared'.row
             Places.the-type)) ∷ (3, Rows.sc-here Row.sBool,) ∷ (4, Rows.sc-here (Row.sInt Syntax.w64)) ∷ (5, Rows.whole (Declared.row
-            RelaySide.the-type),) ∷ (6, Rows.sc-here (Row.sInt Syntax.w64)) ∷ (7, Rows.any-gone Laws'.mir,) ∷ (8, Rows.sc-here (Row.sInt Syntax.w64))
-            ∷ (9, Rows.any-gone RelayCircuit.ty,) ∷ (10, Rows.any-gone RelayCircuit.ty) ∷ (11, Rows.any-gone ref0,) ∷ (12, Rows.any-gone
-            (Syntax.tyStruct (38 ∷ 91 ∷ 93 ∷ List.[]) (Syntax.tcons ref0 (Syntax.tcons (Syntax.tyInt Syntax.w64) Syntax.tnil))),) ∷ (13, Relend.ssptr
-            RelayCircuit.row ref0 2,) ∷ (14, Rows.any-gone (Syntax.tyStruct (38 ∷ 91 ∷ 93 ∷ List.[]) (Syntax.tcons ref0 (Syntax.tcons (Syntax.tyInt
-            Syntax.w64) Syntax.tnil))),) ∷ (15, Rows.any-gone Syntax.tyUnit) ∷ List.[]
+            RelaySide.the-type),) ∷ (6, Rows.sc-here (Row.sInt Syntax.w64)) ∷ (7, Rows.sc-here (Row.sInt Syntax.w64),) ∷ (8, RelayCircuit.held) ∷ (9,
+            Rows.any-gone RelayCircuit.ty,) ∷ (10, Rows.any-gone ref0,) ∷ (11, Rows.any-gone (Syntax.tyStruct (38 ∷ 91 ∷ 93 ∷ List.[]) (Syntax.tcons
+            ref0 (Syntax.tcons (Syntax.tyInt Syntax.w64) Syntax.tnil))),) ∷ (12, Rows.any-gone ref0,) ∷ (13, Rows.sslice RelayCircuit.row ref0 2,) ∷
+            (14, Rows.any-gone Syntax.tyUnit) ∷ (15, Rows.any-gone ref1,) ∷ List.[]
         abbrev g11 : List.List Row.Entry
         g11 = (0, Rows.any-gone Syntax.tyUnit) ∷ (1, Reshare.mslice-owedS RelayCircuit.row ref2 0 2 life0,) ∷ (2, Rows.whole (Declared'.row
             Places.the-type)) ∷ (3, Rows.sc-here Row.sBool,) ∷ (4, Rows.sc-here (Row.sInt Syntax.w64)) ∷ (5, Rows.whole (Declared.row
-            RelaySide.the-type),) ∷ (6, Rows.sc-here (Row.sInt Syntax.w64)) ∷ (7, Rows.any-gone Laws'.mir,) ∷ (8, Rows.sc-here (Row.sInt Syntax.w64))
-            ∷ (9, Rows.any-gone RelayCircuit.ty,) ∷ (10, Rows.any-gone RelayCircuit.ty) ∷ (11, Rows.any-gone ref0,) ∷ (12, Rows.any-gone
-            (Syntax.tyStruct (38 ∷ 91 ∷ 93 ∷ List.[]) (Syntax.tcons ref0 (Syntax.tcons (Syntax.tyInt Syntax.w64) Syntax.tnil))),) ∷ (13, Rows.any-gone
-            ref0,) ∷ (14, Rows.sslice RelayCircuit.row ref0 2,) ∷ (15, Rows.any-gone Syntax.tyUnit) ∷ List.[]
+            RelaySide.the-type),) ∷ (6, Rows.sc-here (Row.sInt Syntax.w64)) ∷ (7, Rows.sc-here (Row.sInt Syntax.w64),) ∷ (8, RelayCircuit.held) ∷ (9,
+            Rows.any-gone RelayCircuit.ty,) ∷ (10, Rows.any-gone ref0,) ∷ (11, Rows.any-gone (Syntax.tyStruct (38 ∷ 91 ∷ 93 ∷ List.[]) (Syntax.tcons
+            ref0 (Syntax.tcons (Syntax.tyInt Syntax.w64) Syntax.tnil))),) ∷ (12, Rows.any-gone ref0,) ∷ (13, Rows.any-gone (Syntax.tyStruct (38 ∷ 91 ∷
+            93 ∷ List.[]) (Syntax.tcons ref0 (Syntax.tcons (Syntax.tyInt Syntax.w64) Syntax.tnil))),) ∷ (14, Rows.any-gone Syntax.tyUnit) ∷ (15,
+            Rows.any-gone ref1,) ∷ List.[]
         abbrev g12 : List.List Row.Entry
-        g12 = (0, Rows.any-gone Syntax.tyUnit) ∷ (1, Reshare.mslice-owedS RelayCircuit.row ref2 0 2 life0,) ∷ (2, Rows.whole (Declared'.row
-            Places.the-type)) ∷ (3, Rows.sc-here Row.sBool,) ∷ (4, Rows.sc-here (Row.sInt Syntax.w64)) ∷ (5, Rows.whole (Declared.row
-            RelaySide.the-type),) ∷ (6, Rows.sc-here (Row.sInt Syntax.w64)) ∷ (7, Rows.any-gone Laws'.mir,) ∷ (8, Rows.sc-here (Row.sInt Syntax.w64))
-            ∷ (9, RelayCircuit.held,) ∷ (10, Rows.any-gone RelayCircuit.ty) ∷ (11, Rows.any-gone ref0,) ∷ (12, Rows.any-gone (Syntax.tyStruct (38 ∷ 91
-            ∷ 93 ∷ List.[]) (Syntax.tcons ref0 (Syntax.tcons (Syntax.tyInt Syntax.w64) Syntax.tnil))),) ∷ (13, Rows.any-gone ref0,) ∷ (14, Rows.sslice
-            RelayCircuit.row ref0 2,) ∷ (15, Rows.any-gone Syntax.tyUnit) ∷ List.[]
-        abbrev g13 : List.List Row.Entry
-        g13 = (0, Rows.any-gone Syntax.tyUnit) ∷ (1, Reshare.mslice-owedS RelayCircuit.row ref2 0 2 life0,) ∷ (2, Rows.whole (Declared'.row
-            Places.the-type)) ∷ (3, Rows.sc-here Row.sBool,) ∷ (4, Rows.sc-here (Row.sInt Syntax.w64)) ∷ (5, Rows.whole (Declared.row
-            RelaySide.the-type),) ∷ (6, Rows.sc-here (Row.sInt Syntax.w64)) ∷ (7, Rows.any-gone Laws'.mir,) ∷ (8, Rows.sc-here (Row.sInt Syntax.w64))
-            ∷ (9, RelayCircuit.held,) ∷ (10, Rows.any-gone RelayCircuit.ty) ∷ (11, Rows.any-gone ref0,) ∷ (12, Rows.any-gone (Syntax.tyStruct (38 ∷ 91
-            ∷ 93 ∷ List.[]) (Syntax.tcons ref0 (Syntax.tcons (Syntax.tyInt Syntax.w64) Syntax.tnil))),) ∷ (13, Rows.any-gone ref0,) ∷ (14,
-            Rows.any-gone (Syntax.tyStruct (38 ∷ 91 ∷ 93 ∷ List.[]) (Syntax.tcons ref0 (Syntax.tcons (Syntax.tyInt Syntax.w64) Syntax.tnil))),) ∷ (15,
-            Rows.any-gone Syntax.tyUnit) ∷ List.[]
-        abbrev g14 : List.List Row.Entry
-        g14 = (0, Rows.any-gone Syntax.tyUnit) ∷ (1, Reshare.mslice-owedS RelayCircuit.row ref2 0 2 life0,) ∷ (2, Rows.any-gone Laws.mir,) ∷ (3,
+        g12 = (0, Rows.any-gone Syntax.tyUnit) ∷ (1, Reshare.mslice-owedS RelayCircuit.row ref2 0 2 life0,) ∷ (2, Rows.any-gone Laws.mir,) ∷ (3,
             Rows.sc-here Row.sBool) ∷ (4, Rows.sc-here (Row.sInt Syntax.w64),) ∷ (5, Rows.whole (Declared.row RelaySide.the-type)) ∷ (6, Rows.sc-here
-            (Row.sInt Syntax.w64),) ∷ (7, Rows.any-gone Laws'.mir,) ∷ (8, Rows.sc-here (Row.sInt Syntax.w64)) ∷ (9, RelayCircuit.held,) ∷ (10,
-            Rows.any-gone RelayCircuit.ty) ∷ (11, Rows.any-gone ref0,) ∷ (12, Rows.any-gone (Syntax.tyStruct (38 ∷ 91 ∷ 93 ∷ List.[]) (Syntax.tcons
-            ref0 (Syntax.tcons (Syntax.tyInt Syntax.w64) Syntax.tnil))),) ∷ (13, Rows.any-gone ref0,) ∷ (14, Rows.any-gone (Syntax.tyStruct (38 ∷ 91 ∷
-            93 ∷ List.[]) (Syntax.tcons ref0 (Syntax.tcons (Syntax.tyInt Syntax.w64) Syntax.tnil))),) ∷ (15, Rows.any-gone Syntax.tyUnit) ∷ List.[]
-        abbrev g19 : List.List Row.Entry
-        g19 = (0, Rows.any-gone Syntax.tyUnit) ∷ (1, Relend.mslice-owed RelayCircuit.row ref2 0 3 life0,) ∷ (2, Rows.any-gone Laws.mir,) ∷ (3,
-            Rows.sc-here Row.sBool) ∷ (4, Rows.sc-here (Row.sInt Syntax.w64),) ∷ (5, Rows.any-gone Laws''.mir,) ∷ (6, Rows.sc-here (Row.sInt
-            Syntax.w64)) ∷ (7, Rows.any-gone Laws'.mir,) ∷ (8, Rows.sc-here (Row.sInt Syntax.w64)) ∷ (9, Rows.any-gone RelayCircuit.ty,) ∷ (10,
-            RelayCircuit.held) ∷ (11, Rows.any-gone ref0,) ∷ (12, Rows.any-gone (Syntax.tyStruct (38 ∷ 91 ∷ 93 ∷ List.[]) (Syntax.tcons ref0
-            (Syntax.tcons (Syntax.tyInt Syntax.w64) Syntax.tnil))),) ∷ (13, Rows.any-gone ref0,) ∷ (14, Rows.any-gone (Syntax.tyStruct (38 ∷ 91 ∷ 93 ∷
-            List.[]) (Syntax.tcons ref0 (Syntax.tcons (Syntax.tyInt Syntax.w64) Syntax.tnil))),) ∷ (15, Rows.any-gone Syntax.tyUnit) ∷ List.[]
+            (Row.sInt Syntax.w64),) ∷ (7, Rows.sc-here (Row.sInt Syntax.w64)) ∷ (8, RelayCircuit.held,) ∷ (9, Rows.any-gone RelayCircuit.ty) ∷ (10,
+            Rows.any-gone ref0,) ∷ (11, Rows.any-gone (Syntax.tyStruct (38 ∷ 91 ∷ 93 ∷ List.[]) (Syntax.tcons ref0 (Syntax.tcons (Syntax.tyInt
+            Syntax.w64) Syntax.tnil))),) ∷ (12, Rows.any-gone ref0,) ∷ (13, Rows.any-gone (Syntax.tyStruct (38 ∷ 91 ∷ 93 ∷ List.[]) (Syntax.tcons ref0
+            (Syntax.tcons (Syntax.tyInt Syntax.w64) Syntax.tnil))),) ∷ (14, Rows.any-gone Syntax.tyUnit) ∷ (15, Rows.any-gone ref1,) ∷ List.[]
+        abbrev g17 : List.List Row.Entry
+        g17 = (0, Rows.any-gone Syntax.tyUnit) ∷ (1, Relend.mslice-owed RelayCircuit.row ref2 0 3 life0,) ∷ (2, Rows.any-gone Laws.mir,) ∷ (3,
+            Rows.sc-here Row.sBool) ∷ (4, Rows.sc-here (Row.sInt Syntax.w64),) ∷ (5, Rows.any-gone Laws'.mir,) ∷ (6, Rows.sc-here (Row.sInt
+            Syntax.w64)) ∷ (7, Rows.sc-here (Row.sInt Syntax.w64),) ∷ (8, Rows.any-gone RelayCircuit.ty) ∷ (9, RelayCircuit.held,) ∷ (10,
+            Rows.any-gone ref0,) ∷ (11, Rows.any-gone (Syntax.tyStruct (38 ∷ 91 ∷ 93 ∷ List.[]) (Syntax.tcons ref0 (Syntax.tcons (Syntax.tyInt
+            Syntax.w64) Syntax.tnil))),) ∷ (12, Rows.any-gone ref0,) ∷ (13, Rows.any-gone (Syntax.tyStruct (38 ∷ 91 ∷ 93 ∷ List.[]) (Syntax.tcons ref0
+            (Syntax.tcons (Syntax.tyInt Syntax.w64) Syntax.tnil))),) ∷ (14, Rows.any-gone Syntax.tyUnit) ∷ (15, Relend.msptr RelayCircuit.row ref1 3,)
+            ∷ List.[]
+        abbrev g18 : List.List Row.Entry
+        g18 = (0, Rows.any-gone Syntax.tyUnit) ∷ (1, Relend.mslice-owed RelayCircuit.row ref2 0 3 life0,) ∷ (2, Rows.any-gone Laws.mir,) ∷ (3,
+            Rows.sc-here Row.sBool) ∷ (4, Rows.sc-here (Row.sInt Syntax.w64),) ∷ (5, Rows.any-gone Laws'.mir,) ∷ (6, Rows.sc-here (Row.sInt
+            Syntax.w64)) ∷ (7, Rows.sc-here (Row.sInt Syntax.w64),) ∷ (8, Rows.any-gone RelayCircuit.ty) ∷ (9, RelayCircuit.held,) ∷ (10,
+            Rows.any-gone ref0,) ∷ (11, Rows.any-gone (Syntax.tyStruct (38 ∷ 91 ∷ 93 ∷ List.[]) (Syntax.tcons ref0 (Syntax.tcons (Syntax.tyInt
+            Syntax.w64) Syntax.tnil))),) ∷ (12, Rows.any-gone ref0,) ∷ (13, Rows.any-gone (Syntax.tyStruct (38 ∷ 91 ∷ 93 ∷ List.[]) (Syntax.tcons ref0
+            (Syntax.tcons (Syntax.tyInt Syntax.w64) Syntax.tnil))),) ∷ (14, Rows.any-gone Syntax.tyUnit) ∷ (15, Rows.any-gone ref1,) ∷ List.[]
+        abbrev g20 : List.List Row.Entry
+        g20 = (0, Rows.any-gone Syntax.tyUnit) ∷ (1, Relend.mslice-owed RelayCircuit.row ref2 0 3 life0,) ∷ (2, Rows.any-gone Laws.mir,) ∷ (3,
+            Rows.sc-here Row.sBool) ∷ (4, Rows.sc-here (Row.sInt Syntax.w64),) ∷ (5, Rows.any-gone Laws'.mir,) ∷ (6, Rows.sc-here (Row.sInt
+            Syntax.w64)) ∷ (7, Rows.sc-here (Row.sInt Syntax.w64),) ∷ (8, Rows.any-gone RelayCircuit.ty) ∷ (9, RelayCircuit.held,) ∷ (10,
+            Rows.any-gone ref0,) ∷ (11, Rows.any-gone (Syntax.tyStruct (38 ∷ 91 ∷ 93 ∷ List.[]) (Syntax.tcons ref0 (Syntax.tcons (Syntax.tyInt
+            Syntax.w64) Syntax.tnil))),) ∷ (12, Rows.any-gone ref0,) ∷ (13, Rows.any-gone (Syntax.tyStruct (38 ∷ 91 ∷ 93 ∷ List.[]) (Syntax.tcons ref0
+            (Syntax.tcons (Syntax.tyInt Syntax.w64) Syntax.tnil))),) ∷ (14, Rows.sc-here Row.sUnit) ∷ (15, Rows.any-gone ref1,) ∷ List.[]
         abbrev g22 : List.List Row.Entry
         g22 = (0, Rows.any-gone Syntax.tyUnit) ∷ (1, Relend.mslice-owed RelayCircuit.row ref2 0 3 life0,) ∷ (2, Rows.any-gone Laws.mir,) ∷ (3,
-            Rows.sc-here Row.sBool) ∷ (4, Rows.sc-here (Row.sInt Syntax.w64),) ∷ (5, Rows.any-gone Laws''.mir,) ∷ (6, Rows.sc-here (Row.sInt
-            Syntax.w64)) ∷ (7, Rows.any-gone Laws'.mir,) ∷ (8, Rows.sc-here (Row.sInt Syntax.w64)) ∷ (9, Rows.any-gone RelayCircuit.ty,) ∷ (10,
-            RelayCircuit.held) ∷ (11, Rows.any-gone ref0,) ∷ (12, Rows.any-gone (Syntax.tyStruct (38 ∷ 91 ∷ 93 ∷ List.[]) (Syntax.tcons ref0
-            (Syntax.tcons (Syntax.tyInt Syntax.w64) Syntax.tnil))),) ∷ (13, Rows.any-gone ref0,) ∷ (14, Rows.any-gone (Syntax.tyStruct (38 ∷ 91 ∷ 93 ∷
-            List.[]) (Syntax.tcons ref0 (Syntax.tcons (Syntax.tyInt Syntax.w64) Syntax.tnil))),) ∷ (15, Rows.sc-here Row.sUnit) ∷ List.[]
-        abbrev g24 : List.List Row.Entry
-        g24 = (0, Rows.any-gone Syntax.tyUnit) ∷ (1, Relend.mslice-owed RelayCircuit.row ref2 0 3 life0,) ∷ (2, Rows.any-gone Laws.mir,) ∷ (3,
-            Rows.sc-here Row.sBool) ∷ (4, Rows.sc-here (Row.sInt Syntax.w64),) ∷ (5, Rows.any-gone Laws''.mir,) ∷ (6, Rows.sc-here (Row.sInt
-            Syntax.w64)) ∷ (7, Rows.any-gone Laws'.mir,) ∷ (8, Rows.sc-here (Row.sInt Syntax.w64)) ∷ (9, Rows.any-gone RelayCircuit.ty,) ∷ (10,
-            Rows.any-gone RelayCircuit.ty) ∷ (11, Rows.any-gone ref0,) ∷ (12, Rows.any-gone (Syntax.tyStruct (38 ∷ 91 ∷ 93 ∷ List.[]) (Syntax.tcons
-            ref0 (Syntax.tcons (Syntax.tyInt Syntax.w64) Syntax.tnil))),) ∷ (13, Rows.any-gone ref0,) ∷ (14, Rows.any-gone (Syntax.tyStruct (38 ∷ 91 ∷
-            93 ∷ List.[]) (Syntax.tcons ref0 (Syntax.tcons (Syntax.tyInt Syntax.w64) Syntax.tnil))),) ∷ (15, Rows.sc-here Row.sUnit) ∷ List.[]
-        abbrev g25 : List.List Row.Entry
-        g25 = (0, Rows.any-gone Syntax.tyUnit) ∷ (1, Relend.mslice-owed RelayCircuit.row ref2 0 3 life0,) ∷ (2, Rows.any-gone Laws.mir,) ∷ (3,
-            Rows.sc-here Row.sBool) ∷ (4, Rows.sc-here (Row.sInt Syntax.w64),) ∷ (5, Rows.any-gone Laws''.mir,) ∷ (6, Rows.sc-here (Row.sInt
-            Syntax.w64)) ∷ (7, Rows.any-gone Laws'.mir,) ∷ (8, Rows.sc-here (Row.sInt Syntax.w64)) ∷ (9, Rows.any-gone RelayCircuit.ty,) ∷ (10,
-            Rows.any-gone RelayCircuit.ty) ∷ (11, Rows.any-gone ref0,) ∷ (12, Rows.any-gone (Syntax.tyStruct (38 ∷ 91 ∷ 93 ∷ List.[]) (Syntax.tcons
-            ref0 (Syntax.tcons (Syntax.tyInt Syntax.w64) Syntax.tnil))),) ∷ (13, Rows.any-gone ref0,) ∷ (14, Rows.any-gone (Syntax.tyStruct (38 ∷ 91 ∷
-            93 ∷ List.[]) (Syntax.tcons ref0 (Syntax.tcons (Syntax.tyInt Syntax.w64) Syntax.tnil))),) ∷ (15, Rows.any-gone Syntax.tyUnit) ∷ List.[]
+            Rows.sc-here Row.sBool) ∷ (4, Rows.sc-here (Row.sInt Syntax.w64),) ∷ (5, Rows.any-gone Laws'.mir,) ∷ (6, Rows.sc-here (Row.sInt
+            Syntax.w64)) ∷ (7, Rows.sc-here (Row.sInt Syntax.w64),) ∷ (8, Rows.any-gone RelayCircuit.ty) ∷ (9, Rows.any-gone RelayCircuit.ty,) ∷ (10,
+            Rows.any-gone ref0,) ∷ (11, Rows.any-gone (Syntax.tyStruct (38 ∷ 91 ∷ 93 ∷ List.[]) (Syntax.tcons ref0 (Syntax.tcons (Syntax.tyInt
+            Syntax.w64) Syntax.tnil))),) ∷ (12, Rows.any-gone ref0,) ∷ (13, Rows.any-gone (Syntax.tyStruct (38 ∷ 91 ∷ 93 ∷ List.[]) (Syntax.tcons ref0
+            (Syntax.tcons (Syntax.tyInt Syntax.w64) Syntax.tnil))),) ∷ (14, Rows.sc-here Row.sUnit) ∷ (15, Rows.any-gone ref1,) ∷ List.[]
+        abbrev g23 : List.List Row.Entry
+        g23 = (0, Rows.any-gone Syntax.tyUnit) ∷ (1, Relend.mslice-owed RelayCircuit.row ref2 0 3 life0,) ∷ (2, Rows.any-gone Laws.mir,) ∷ (3,
+            Rows.sc-here Row.sBool) ∷ (4, Rows.sc-here (Row.sInt Syntax.w64),) ∷ (5, Rows.any-gone Laws'.mir,) ∷ (6, Rows.sc-here (Row.sInt
+            Syntax.w64)) ∷ (7, Rows.sc-here (Row.sInt Syntax.w64),) ∷ (8, Rows.any-gone RelayCircuit.ty) ∷ (9, Rows.any-gone RelayCircuit.ty,) ∷ (10,
+            Rows.any-gone ref0,) ∷ (11, Rows.any-gone (Syntax.tyStruct (38 ∷ 91 ∷ 93 ∷ List.[]) (Syntax.tcons ref0 (Syntax.tcons (Syntax.tyInt
+            Syntax.w64) Syntax.tnil))),) ∷ (12, Rows.any-gone ref0,) ∷ (13, Rows.any-gone (Syntax.tyStruct (38 ∷ 91 ∷ 93 ∷ List.[]) (Syntax.tcons ref0
+            (Syntax.tcons (Syntax.tyInt Syntax.w64) Syntax.tnil))),) ∷ (14, Rows.any-gone Syntax.tyUnit) ∷ (15, Rows.any-gone ref1,) ∷ List.[]
         abbrev G0 : Row.Cx
         G0 = record { locals = List._++_ t0 t1; slots = life0 ∷ Row.off ∷ Row.off ∷ Row.off ∷ List.[]; }
         abbrev G1 : Row.Cx
         G1 = record { locals = List._++_ t2 t1; slots = life0 ∷ Row.off ∷ Row.off ∷ Row.off ∷ List.[]; }
         abbrev G2 : Row.Cx
-        G2 = record { locals = List._++_ t3 t1; slots = life0 ∷ Row.off ∷ Row.off ∷ Row.off ∷ List.[]; }
+        G2 = record { locals = List._++_ t0 t1; slots = life0 ∷ Row.alive ∷ Row.off ∷ Row.off ∷ List.[]; }
         abbrev G3 : Row.Cx
-        G3 = record { locals = List._++_ t3 t1; slots = life0 ∷ Row.alive ∷ Row.off ∷ Row.off ∷ List.[]; }
+        G3 = record { locals = List._++_ g3 t1; slots = Row.off ∷ Row.alive ∷ Row.off ∷ Row.off ∷ List.[]; }
         abbrev G4 : Row.Cx
         G4 = record { locals = List._++_ g4 t1; slots = Row.off ∷ Row.alive ∷ Row.off ∷ Row.off ∷ List.[]; }
         abbrev G5 : Row.Cx
@@ -669,17 +627,17 @@ module _ (claims· : Claims) where
         abbrev G6 : Row.Cx
         G6 = record { locals = List._++_ g6 t1; slots = Row.off ∷ Row.alive ∷ Row.off ∷ Row.off ∷ List.[]; }
         abbrev G7 : Row.Cx
-        G7 = record { locals = List._++_ g7 t1; slots = Row.off ∷ Row.alive ∷ Row.off ∷ Row.off ∷ List.[]; }
+        G7 = record { locals = List._++_ g6 t1; slots = Row.off ∷ Row.dead ∷ Row.off ∷ Row.off ∷ List.[]; }
         abbrev G8 : Row.Cx
-        G8 = record { locals = List._++_ g8 t1; slots = Row.off ∷ Row.alive ∷ Row.off ∷ Row.off ∷ List.[]; }
+        G8 = record { locals = List._++_ t7 t1; slots = life0 ∷ Row.dead ∷ Row.off ∷ Row.off ∷ List.[]; }
         abbrev G9 : Row.Cx
-        G9 = record { locals = List._++_ g8 t1; slots = Row.off ∷ Row.dead ∷ Row.off ∷ Row.off ∷ List.[]; }
+        G9 = record { locals = List._++_ t7 t1; slots = life0 ∷ Row.off ∷ Row.off ∷ Row.off ∷ List.[]; }
         abbrev G10 : Row.Cx
-        G10 = record { locals = List._++_ t9 t1; slots = life0 ∷ Row.dead ∷ Row.off ∷ Row.off ∷ List.[]; }
+        G10 = record { locals = List._++_ t7 t1; slots = life0 ∷ Row.off ∷ Row.alive ∷ Row.off ∷ List.[]; }
         abbrev G11 : Row.Cx
-        G11 = record { locals = List._++_ t9 t1; slots = life0 ∷ Row.off ∷ Row.off ∷ Row.off ∷ List.[]; }
+        G11 = record { locals = List._++_ g8 t1; slots = Row.off ∷ Row.off ∷ Row.alive ∷ Row.off ∷ List.[]; }
         abbrev G12 : Row.Cx
-        G12 = record { locals = List._++_ t9 t1; slots = life0 ∷ Row.off ∷ Row.alive ∷ Row.off ∷ List.[]; }
+        G12 = record { locals = List._++_ g9 t1; slots = Row.off ∷ Row.off ∷ Row.alive ∷ Row.off ∷ List.[]; }
         abbrev G13 : Row.Cx
         G13 = record { locals = List._++_ g10 t1; slots = Row.off ∷ Row.off ∷ Row.alive ∷ Row.off ∷ List.[]; }
         abbrev G14 : Row.Cx
@@ -687,37 +645,37 @@ module _ (claims· : Claims) where
         abbrev G15 : Row.Cx
         G15 = record { locals = List._++_ g12 t1; slots = Row.off ∷ Row.off ∷ Row.alive ∷ Row.off ∷ List.[]; }
         abbrev G16 : Row.Cx
-        G16 = record { locals = List._++_ g13 t1; slots = Row.off ∷ Row.off ∷ Row.alive ∷ Row.off ∷ List.[]; }
+        G16 = record { locals = List._++_ g12 t1; slots = Row.off ∷ Row.off ∷ Row.dead ∷ Row.off ∷ List.[]; }
         abbrev G17 : Row.Cx
-        G17 = record { locals = List._++_ g14 t1; slots = Row.off ∷ Row.off ∷ Row.alive ∷ Row.off ∷ List.[]; }
+        G17 = record { locals = List._++_ t13 t1; slots = life0 ∷ Row.off ∷ Row.dead ∷ Row.off ∷ List.[]; }
         abbrev G18 : Row.Cx
-        G18 = record { locals = List._++_ g14 t1; slots = Row.off ∷ Row.off ∷ Row.dead ∷ Row.off ∷ List.[]; }
+        G18 = record { locals = List._++_ t13 t1; slots = life0 ∷ Row.off ∷ Row.off ∷ Row.off ∷ List.[]; }
         abbrev G19 : Row.Cx
-        G19 = record { locals = List._++_ t15 t1; slots = life0 ∷ Row.off ∷ Row.dead ∷ Row.off ∷ List.[]; }
+        G19 = record { locals = List._++_ t14 t1; slots = life0 ∷ Row.off ∷ Row.off ∷ Row.off ∷ List.[]; }
         abbrev G20 : Row.Cx
         G20 = record { locals = List._++_ t15 t1; slots = life0 ∷ Row.off ∷ Row.off ∷ Row.off ∷ List.[]; }
         abbrev G21 : Row.Cx
         G21 = record { locals = List._++_ t16 t1; slots = life0 ∷ Row.off ∷ Row.off ∷ Row.off ∷ List.[]; }
         abbrev G22 : Row.Cx
-        G22 = record { locals = List._++_ t17 t1; slots = life0 ∷ Row.off ∷ Row.off ∷ Row.off ∷ List.[]; }
+        G22 = record { locals = List._++_ t16 t1; slots = life0 ∷ Row.off ∷ Row.off ∷ Row.alive ∷ List.[]; }
         abbrev G23 : Row.Cx
-        G23 = record { locals = List._++_ t18 t1; slots = life0 ∷ Row.off ∷ Row.off ∷ Row.off ∷ List.[]; }
+        G23 = record { locals = List._++_ g17 t1; slots = Row.off ∷ Row.off ∷ Row.off ∷ Row.alive ∷ List.[]; }
         abbrev G24 : Row.Cx
-        G24 = record { locals = List._++_ t18 t1; slots = life0 ∷ Row.off ∷ Row.off ∷ Row.alive ∷ List.[]; }
+        G24 = record { locals = List._++_ g18 t19; slots = Row.off ∷ Row.off ∷ Row.off ∷ Row.alive ∷ List.[]; }
         abbrev G25 : Row.Cx
-        G25 = record { locals = List._++_ g19 t20; slots = Row.off ∷ Row.off ∷ Row.off ∷ Row.alive ∷ List.[]; }
+        G25 = record { locals = List._++_ g20 t21; slots = Row.off ∷ Row.off ∷ Row.off ∷ Row.alive ∷ List.[]; }
         abbrev G26 : Row.Cx
-        G26 = record { locals = List._++_ g19 t21; slots = Row.off ∷ Row.off ∷ Row.off ∷ Row.alive ∷ List.[]; }
+        G26 = record { locals = List._++_ g22 t21; slots = Row.off ∷ Row.off ∷ Row.off ∷ Row.alive ∷ List.[]; }
         abbrev G27 : Row.Cx
-        G27 = record { locals = List._++_ g22 t23; slots = Row.off ∷ Row.off ∷ Row.off ∷ Row.alive ∷ List.[]; }
+        G27 = record { locals = List._++_ g23 t21; slots = Row.off ∷ Row.off ∷ Row.off ∷ Row.alive ∷ List.[]; }
         abbrev G28 : Row.Cx
-        G28 = record { locals = List._++_ g24 t23; slots = Row.off ∷ Row.off ∷ Row.off ∷ Row.alive ∷ List.[]; }
+        G28 = record { locals = List._++_ g23 t21; slots = Row.off ∷ Row.off ∷ Row.off ∷ Row.dead ∷ List.[]; }
         abbrev G29 : Row.Cx
-        G29 = record { locals = List._++_ g25 t23; slots = Row.off ∷ Row.off ∷ Row.off ∷ Row.alive ∷ List.[]; }
+        G29 = record { locals = List._++_ t24 t1; slots = life0 ∷ Row.off ∷ Row.off ∷ Row.dead ∷ List.[]; }
         abbrev G30 : Row.Cx
-        G30 = record { locals = List._++_ g25 t23; slots = Row.off ∷ Row.off ∷ Row.off ∷ Row.dead ∷ List.[]; }
+        G30 = record { locals = List._++_ t24 t1; slots = life0 ∷ Row.off ∷ Row.off ∷ Row.off ∷ List.[]; }
         abbrev G31 : Row.Cx
-        G31 = record { locals = List._++_ t26 t1; slots = life0 ∷ Row.off ∷ Row.off ∷ Row.dead ∷ List.[]; }
+        G31 = record { locals = List._++_ t25 t1; slots = life0 ∷ Row.off ∷ Row.off ∷ Row.off ∷ List.[]; }
         abbrev G32 : Row.Cx
         G32 = record { locals = List._++_ t26 t1; slots = life0 ∷ Row.off ∷ Row.off ∷ Row.off ∷ List.[]; }
         abbrev G33 : Row.Cx
@@ -725,185 +683,172 @@ module _ (claims· : Claims) where
         abbrev G34 : Row.Cx
         G34 = record { locals = List._++_ t28 t1; slots = life0 ∷ Row.off ∷ Row.off ∷ Row.off ∷ List.[]; }
         abbrev G35 : Row.Cx
-        G35 = record { locals = List._++_ t29 t1; slots = life0 ∷ Row.off ∷ Row.off ∷ Row.off ∷ List.[]; }
-        abbrev G36 : Row.Cx
-        G36 = record { locals = List._++_ t30 t1; slots = life0 ∷ Row.off ∷ Row.off ∷ Row.off ∷ List.[]; }
-        abbrev G37 : Row.Cx
-        G37 = record { locals = List._++_ t2 t1; slots = life0 ∷ Row.off ∷ Row.off ∷ Row.off ∷ List.[]; }
+        G35 = record { locals = List._++_ t2 t1; slots = life0 ∷ Row.off ∷ Row.off ∷ Row.off ∷ List.[]; }
         abbrev Δ0 : Typed.Outs
         Δ0 = record { next = Option.none; exits = List.[]; returns = Option.some G1 }
         module _ { M : Type 1 } (𝓤 : URA.URA M) (H : Wp.Heap 𝓤) (A : Atoms.Atoms 𝓤) (W : Kit.Given 𝓤 H A) (𝓣 : Wp.Tables 𝓤 H) (known : Knowns 𝓤 H A W
             𝓣) (bs : List.List Nat.ℕ) (bd : Lifetimes.AllOutlive 1 (Kinds.osR r) κs) where
           abbrev E : Wp.Env 𝓤 H
           E = Frame.EnvOf 𝓤 H ((Kinds.tyR r) ∷ (Enter.tysP ps xs)) bs
-          d0 : Typed.Typed 𝓤 H A 𝓣 E G37 b12 Δ0 at0
+          d0 : Typed.Typed 𝓤 H A 𝓣 E G35 b11 Δ0 at0
           d0 = Typed.t-return 𝓤 H A W 𝓣 E Δ0 tt
-          d1 : Typed.Typed 𝓤 H A 𝓣 E G36 b12 Δ0 at1
-          d1 = Typed.g-pre 𝓤 H A W 𝓣 E G36 G37 b12 Δ0 (Typed.pass T36 T37 s35) at0 (Scalar.g-room 𝓤 H A W E G36 6 (Syntax.tyInt Syntax.w64)
+          d1 : Typed.Typed 𝓤 H A 𝓣 E G34 b11 Δ0 at1
+          d1 = Typed.g-pre 𝓤 H A W 𝓣 E G34 G35 b11 Δ0 (Typed.pass T34 T35 s33) at0 (Scalar.g-room 𝓤 H A W E G34 6 (Syntax.tyInt Syntax.w64)
               (Scalar.room-sc 𝓤 H A W (Row.sInt Syntax.w64))) d0
-          d2 : Typed.Typed 𝓤 H A 𝓣 E G35 b12 Δ0 at2
-          d2 = Typed.g-pre 𝓤 H A W 𝓣 E G35 G36 b12 Δ0 (Typed.pass T35 T36 s34) at1 (Scalar.g-room 𝓤 H A W E G35 4 (Syntax.tyInt Syntax.w64)
+          d2 : Typed.Typed 𝓤 H A 𝓣 E G33 b11 Δ0 at2
+          d2 = Typed.g-pre 𝓤 H A W 𝓣 E G33 G34 b11 Δ0 (Typed.pass T33 T34 s32) at1 (Scalar.g-room 𝓤 H A W E G33 4 (Syntax.tyInt Syntax.w64)
               (Scalar.room-sc 𝓤 H A W (Row.sInt Syntax.w64))) d1
-          d3 : Typed.Typed 𝓤 H A 𝓣 E G34 b12 Δ0 at3
-          d3 = Typed.g-pre 𝓤 H A W 𝓣 E G34 G35 b12 Δ0 (Typed.pass T34 T35 s33) at2 (Scalar.g-room 𝓤 H A W E G34 3 Syntax.tyBool (Scalar.room-sc 𝓤 H A
+          d3 : Typed.Typed 𝓤 H A 𝓣 E G32 b11 Δ0 at3
+          d3 = Typed.g-pre 𝓤 H A W 𝓣 E G32 G33 b11 Δ0 (Typed.pass T32 T33 s31) at2 (Scalar.g-room 𝓤 H A W E G32 3 Syntax.tyBool (Scalar.room-sc 𝓤 H A
               W Row.sBool)) d2
-          d4 : Typed.Typed 𝓤 H A 𝓣 E G33 b12 Δ0 at4
-          d4 = Typed.g-pre 𝓤 H A W 𝓣 E G33 G34 b12 Δ0 (Typed.pass T33 T34 s32) at3 (Scalar.g-room 𝓤 H A W E G33 8 (Syntax.tyInt Syntax.w64)
+          d4 : Typed.Typed 𝓤 H A 𝓣 E G31 b11 Δ0 at4
+          d4 = Typed.g-pre 𝓤 H A W 𝓣 E G31 G32 b11 Δ0 (Typed.pass T31 T32 s30) at3 (Scalar.g-room 𝓤 H A W E G31 7 (Syntax.tyInt Syntax.w64)
               (Scalar.room-sc 𝓤 H A W (Row.sInt Syntax.w64))) d3
-          d5 : Typed.Typed 𝓤 H A 𝓣 E G32 b13 Δ0 at5
-          d5 = Typed.s-seq 𝓤 H A W 𝓣 E G32 G33 b11 b12 Δ0 (Typed.pass T31 T33 s31) at4 (Scalar.t-use 𝓤 H A W E 𝓣 G32 Scalar.oUnit 0 (Rows.sc-here
+          d5 : Typed.Typed 𝓤 H A 𝓣 E G30 b12 Δ0 at5
+          d5 = Typed.s-seq 𝓤 H A W 𝓣 E G30 G31 b10 b11 Δ0 (Typed.pass T29 T31 s29) at4 (Scalar.t-use 𝓤 H A W E 𝓣 G30 Scalar.oUnit 0 (Rows.sc-here
               Row.sUnit) Syntax.tyUnit (Row.valS Row.sUnit) (Row.sUnit .of) tt (Reads.room-gone 𝓤 H A Syntax.tyUnit) (Scalar.holds-sc 𝓤 H A W
               Row.sUnit) Path.refl (λ u. Path.refl) λ u. tt) d4
-          d6 : Typed.Typed 𝓤 H A 𝓣 E G31 b13 Δ0 at6
-          d6 = Typed.g-pre 𝓤 H A W 𝓣 E G31 G32 b13 Δ0 (λ Ψ. Ψ) at5 (Lifetime.g-forget 𝓤 H A W E G31 3 Row.dead Path.refl) d5
-          d7 : Typed.Typed 𝓤 H A 𝓣 E G30 b13 Δ0 at7
-          d7 = Typed.g-pre 𝓤 H A W 𝓣 E G30 G31 b13 Δ0 (Typed.both s29) at6 (Relend.g-back-sl 𝓤 H A W E RelayCircuit.row G30 17 1 0 3 ref2 ref1 life0
+          d6 : Typed.Typed 𝓤 H A 𝓣 E G29 b12 Δ0 at6
+          d6 = Typed.g-pre 𝓤 H A W 𝓣 E G29 G30 b12 Δ0 (λ Ψ. Ψ) at5 (Lifetime.g-forget 𝓤 H A W E G29 3 Row.dead Path.refl) d5
+          d7 : Typed.Typed 𝓤 H A 𝓣 E G28 b12 Δ0 at7
+          d7 = Typed.g-pre 𝓤 H A W 𝓣 E G28 G29 b12 Δ0 (Typed.both s27) at6 (Relend.g-back-sl 𝓤 H A W E RelayCircuit.row G28 16 1 0 3 ref2 ref1 life0
               (λ x. x) (λ x. x) (Reads.as-is 𝓤 H A (Mut.msleft RelayCircuit.row ref1)) (Reads.as-is 𝓤 H A (Relend.mslice-owed RelayCircuit.row ref2 0
               3 life0)) Path.refl Path.refl) d6
-          d8 : Typed.Typed 𝓤 H A 𝓣 E G29 b13 Δ0 at8
-          d8 = Typed.g-pre 𝓤 H A W 𝓣 E G29 G30 b13 Δ0 (λ Ψ. Ψ) at7 (Lifetime.g-end 𝓤 H A W E G29 3 Path.refl) d7
-          d9 : Typed.Typed 𝓤 H A 𝓣 E G28 b13 Δ0 at9
-          d9 = Typed.g-pre 𝓤 H A W 𝓣 E G28 G29 b13 Δ0 (Typed.pass T28 T29 s27) at8 (Scalar.g-room 𝓤 H A W E G28 15 Syntax.tyUnit (Scalar.room-sc 𝓤 H A
+          d8 : Typed.Typed 𝓤 H A 𝓣 E G27 b12 Δ0 at8
+          d8 = Typed.g-pre 𝓤 H A W 𝓣 E G27 G28 b12 Δ0 (λ Ψ. Ψ) at7 (Lifetime.g-end 𝓤 H A W E G27 3 Path.refl) d7
+          d9 : Typed.Typed 𝓤 H A 𝓣 E G26 b12 Δ0 at9
+          d9 = Typed.g-pre 𝓤 H A W 𝓣 E G26 G27 b12 Δ0 (Typed.pass T26 T27 s25) at8 (Scalar.g-room 𝓤 H A W E G26 14 Syntax.tyUnit (Scalar.room-sc 𝓤 H A
               W Row.sUnit)) d8
-          d10 : Typed.Typed 𝓤 H A 𝓣 E G27 b13 Δ0 at10
-          d10 = Typed.g-pre 𝓤 H A W 𝓣 E G27 G28 b13 Δ0 (Typed.pass T27 T28 s26) at9 (Scalar.g-room 𝓤 H A W E G27 10 RelayCircuit.ty (Local.room-whole
-              𝓤 H A W RelayCircuit.row RelayCircuit.ty Path.refl)) d9
-          d11 : Typed.Typed 𝓤 H A 𝓣 E G26 b14 Δ0 at11
-          d11 = Typed.s-seq 𝓤 H A W 𝓣 E G26 G27 b10 b13 Δ0 (Typed.both s25) at10 (Plain.t-call-plain 𝓤 H A W 𝓣 1 ps·4 r·4 (claims· .8) (claims· .9)
-              "hnsr_circuit::tables::circuits::set_circuit" (known .4) E (λ pos β. β) G26 (record { pos = 17; ty = Syntax.tyRef Syntax.erased
-              Syntax.mut RelayCircuit.to; ref = λ x. x; }, (Bool.bAt 3 λ x. x, (Num.vAt 8 λ x. x, (record { pos = 10; st = List.[]; d = 0; at = λ x. x
-              }, tt),),),) 15 (3 ∷ List.[]) (Call.sub-id 𝓤 H A W (G26 .slots)) (Reads.as-is 𝓤 H A (Mut.mslice RelayCircuit.row ref1 3),
+          d10 : Typed.Typed 𝓤 H A 𝓣 E G25 b12 Δ0 at10
+          d10 = Typed.g-pre 𝓤 H A W 𝓣 E G25 G26 b12 Δ0 (Typed.pass T25 T26 s24) at9 (Scalar.g-room 𝓤 H A W E G25 9 RelayCircuit.ty (Local.room-whole 𝓤
+              H A W RelayCircuit.row RelayCircuit.ty Path.refl)) d9
+          d11 : Typed.Typed 𝓤 H A 𝓣 E G24 b13 Δ0 at11
+          d11 = Typed.s-seq 𝓤 H A W 𝓣 E G24 G25 b9 b12 Δ0 (Typed.both s23) at10 (Plain.t-call-plain 𝓤 H A W 𝓣 1 ps·3 r·3 (claims· .6) (claims· .7)
+              "hnsr_circuit::tables::circuits::set_circuit" (known .3) E (λ pos β. β) G24 (record { pos = 16; ty = Syntax.tyRef Syntax.erased
+              Syntax.mut RelayCircuit.to; ref = λ x. x; }, (Bool.bAt 3 λ x. x, (Num.vAt 7 λ x. x, (record { pos = 9; st = List.[]; d = 0; at = λ x. x
+              }, tt)),),) 14 (3 ∷ List.[]) (Call.sub-id 𝓤 H A W (G24 .slots)) (Reads.as-is 𝓤 H A (Mut.mslice RelayCircuit.row ref1 3),
               Mut.reads-mslice 𝓤 H A W RelayCircuit.row ref1 3, Path.refl, ((Scalar.reads-sc 𝓤 H A W Row.sBool, Path.refl), ((Scalar.reads-sc 𝓤 H A W
               (Row.sInt Syntax.w64), Path.refl), ((Yields.yields-copy 𝓤 H A W (λ ρ. Unit) RelayCircuit.row Path.refl (RelayCircuit.copies .copy 𝓤 H A
               W) RelayCircuit.held (λ x. x) (λ x. x) (λ ρ told. Local.mem-whole 𝓤 H A W RelayCircuit.row ρ) λ ρ told. Local.whole-mem 𝓤 H A W
               RelayCircuit.row ρ, Path.refl,), tt,),),),) (Reads.room-gone 𝓤 H A Syntax.tyUnit) (tt, tt) Path.refl) d10
-          d12 : Typed.Typed 𝓤 H A 𝓣 E G25 b15 Δ0 at12
-          d12 = Typed.s-seq 𝓤 H A W 𝓣 E G25 G26 b9 b14 Δ0 (Typed.ask s24) at11 (Relend.t-sl-aggregate 𝓤 H A W E RelayCircuit.row 𝓣 (Relend.asMut
-              RelayCircuit.row) G25 16 17 3 ref1 ref1 (λ x. x) (Scalar.oFld 1 ((Syntax.field 1) ∷ List.[]) (Syntax.tyInt Syntax.w64) 8 λ v.
+          d12 : Typed.Typed 𝓤 H A 𝓣 E G23 b14 Δ0 at12
+          d12 = Typed.s-seq 𝓤 H A W 𝓣 E G23 G24 b8 b13 Δ0 (Typed.ask s22) at11 (Relend.t-sl-aggregate 𝓤 H A W E RelayCircuit.row 𝓣 (Relend.asMut
+              RelayCircuit.row) G23 15 16 3 ref1 ref1 (λ x. x) (Scalar.oFld 1 ((Syntax.field 1) ∷ List.[]) (Syntax.tyInt Syntax.w64) 8 λ v.
               Shared.lenV (v .0)) (Reads.as-is 𝓤 H A (Relend.msptr RelayCircuit.row ref1 3)) (Reads.room-gone 𝓤 H A (Syntax.tyStruct (38 ∷ 91 ∷ 93 ∷
               List.[]) (Syntax.tcons ref1 (Syntax.tcons (Syntax.tyInt Syntax.w64) Syntax.tnil)))) (Relend.reads-owed-len 𝓤 H A W RelayCircuit.row ref2
               0 3 life0 8 Path.refl, Path.refl,) Path.refl Path.refl λ b o k. tt) d11
-          d13 : Typed.Typed 𝓤 H A 𝓣 E G24 b16 Δ0 at13
-          d13 = Typed.s-seq 𝓤 H A W 𝓣 E G24 G25 b8 b15 Δ0 (Typed.give s23) at12 (Relend.t-sl-relend 𝓤 H A W E RelayCircuit.row 𝓣 G24 1 16 0 3 ref2
+          d13 : Typed.Typed 𝓤 H A 𝓣 E G22 b15 Δ0 at13
+          d13 = Typed.s-seq 𝓤 H A W 𝓣 E G22 G23 b7 b14 Δ0 (Typed.give s21) at12 (Relend.t-sl-relend 𝓤 H A W E RelayCircuit.row 𝓣 G22 1 15 0 3 ref2
               ref1 life0 0 (λ x. x) (Reads.as-is 𝓤 H A (Mut.mslice RelayCircuit.row ref2 0)) (Reads.room-gone 𝓤 H A ref1) Path.refl tt Path.refl
               Path.refl Path.refl λ b o. tt) d12
-          d14 : Typed.Typed 𝓤 H A 𝓣 E G23 b16 Δ0 at14
-          d14 = Typed.g-pre 𝓤 H A W 𝓣 E G23 G24 b16 Δ0 (λ Ψ. Ψ) at13 (Lifetime.g-begin 𝓤 H A W E G23 3 (tt, (tt, (tt, (tt, (tt, (tt, (tt, (tt, (tt,
-              (tt, (tt, (tt, (tt, (tt, (tt, (tt, (tt, (tt, tt))))))))),),),),),),),),),)) d13
-          d15 : Typed.Typed 𝓤 H A 𝓣 E G22 b16 Δ0 at15
-          d15 = Typed.g-pre 𝓤 H A W 𝓣 E G22 G23 b16 Δ0 (Typed.pass T22 T23 s21) at14 (Scalar.g-room 𝓤 H A W E G22 9 RelayCircuit.ty (Local.room-whole
+          d14 : Typed.Typed 𝓤 H A 𝓣 E G21 b15 Δ0 at14
+          d14 = Typed.g-pre 𝓤 H A W 𝓣 E G21 G22 b15 Δ0 (λ Ψ. Ψ) at13 (Lifetime.g-begin 𝓤 H A W E G21 3 (tt, (tt, (tt, (tt, (tt, (tt, (tt, (tt, (tt,
+              (tt, (tt, (tt, (tt, (tt, (tt, (tt, (tt, tt))))))))),),),),),),),),)) d13
+          d15 : Typed.Typed 𝓤 H A 𝓣 E G20 b15 Δ0 at15
+          d15 = Typed.g-pre 𝓤 H A W 𝓣 E G20 G21 b15 Δ0 (Typed.pass T20 T21 s19) at14 (Scalar.g-room 𝓤 H A W E G20 8 RelayCircuit.ty (Local.room-whole
               𝓤 H A W RelayCircuit.row RelayCircuit.ty Path.refl)) d14
-          d16 : Typed.Typed 𝓤 H A 𝓣 E G21 b16 Δ0 at16
-          d16 = Typed.g-pre 𝓤 H A W 𝓣 E G21 G22 b16 Δ0 (Typed.pass T21 T22 s20) at15 (Scalar.g-room 𝓤 H A W E G21 5 Laws''.mir (Local.room-whole 𝓤 H A
-              W (Declared.row RelaySide.the-type) Laws''.mir Path.refl)) d15
-          d17 : Typed.Typed 𝓤 H A 𝓣 E G20 b17 Δ0 at17
-          d17 = Typed.s-seq 𝓤 H A W 𝓣 E G20 G21 b7 b16 Δ0 (Typed.both s19) at16 (Plain.t-call-plain 𝓤 H A W 𝓣 0 ps·3 r·3 (claims· .6) (claims· .7)
-              "hnsr_circuit::circuits::circuit_lowered" (known .3) E (λ pos β. β) G20 (record { pos = 9; st = List.[]; d = 0; at = λ x. x }, (record {
-              pos = 5; st = List.[]; d = 0; at = λ x. x }, (Num.vAt 6 λ x. x, tt)),) 10 List.[] (Call.sub-id 𝓤 H A W (G20 .slots))
-              ((Yields.yields-copy 𝓤 H A W (λ ρ. Unit) RelayCircuit.row Path.refl (RelayCircuit.copies .copy 𝓤 H A W) RelayCircuit.held (λ x. x) (λ x.
-              x) (λ ρ told. Local.mem-whole 𝓤 H A W RelayCircuit.row ρ) λ ρ told. Local.whole-mem 𝓤 H A W RelayCircuit.row ρ, Path.refl,),
-              ((Yields.yields-copy 𝓤 H A W (λ ρ. Unit) (Declared.row RelaySide.the-type) Path.refl (Copies.cEnum RelaySide.the-type Laws''.the-laws
-              Laws''.the-copy .copy 𝓤 H A W) (Rows.whole (Declared.row RelaySide.the-type)) (λ x. x) (λ x. x) (λ ρ told. Local.mem-whole 𝓤 H A W
-              (Declared.row RelaySide.the-type) ρ) λ ρ told. Local.whole-mem 𝓤 H A W (Declared.row RelaySide.the-type) ρ, Path.refl,),
-              ((Scalar.reads-sc 𝓤 H A W (Row.sInt Syntax.w64), Path.refl), tt),),) (Reads.room-gone 𝓤 H A RelayCircuit.ty) tt Path.refl) d16
-          d18 : Typed.Typed 𝓤 H A 𝓣 E G19 b17 Δ0 at18
-          d18 = Typed.g-pre 𝓤 H A W 𝓣 E G19 G20 b17 Δ0 (λ Ψ. Ψ) at17 (Lifetime.g-forget 𝓤 H A W E G19 2 Row.dead Path.refl) d17
-          d19 : Typed.Typed 𝓤 H A 𝓣 E G18 b17 Δ0 at19
-          d19 = Typed.g-pre 𝓤 H A W 𝓣 E G18 G19 b17 Δ0 (Typed.pass T17 T19 s17) at18 (Reshare.g-back-sl-shr 𝓤 H A W E RelayCircuit.row G18 1 0 2 ref2
+          d16 : Typed.Typed 𝓤 H A 𝓣 E G19 b15 Δ0 at16
+          d16 = Typed.g-pre 𝓤 H A W 𝓣 E G19 G20 b15 Δ0 (Typed.pass T19 T20 s18) at15 (Scalar.g-room 𝓤 H A W E G19 5 Laws'.mir (Local.room-whole 𝓤 H A
+              W (Declared.row RelaySide.the-type) Laws'.mir Path.refl)) d15
+          d17 : Typed.Typed 𝓤 H A 𝓣 E G18 b16 Δ0 at17
+          d17 = Typed.s-seq 𝓤 H A W 𝓣 E G18 G19 b6 b15 Δ0 (Typed.both s17) at16 (Plain.t-call-plain 𝓤 H A W 𝓣 0 ps·2 r·2 (claims· .4) (claims· .5)
+              "hnsr_circuit::circuits::circuit_lowered" (known .2) E (λ pos β. β) G18 (record { pos = 8; st = List.[]; d = 0; at = λ x. x }, (record {
+              pos = 5; st = List.[]; d = 0; at = λ x. x }, (Num.vAt 6 λ x. x, tt)),) 9 List.[] (Call.sub-id 𝓤 H A W (G18 .slots)) ((Yields.yields-copy
+              𝓤 H A W (λ ρ. Unit) RelayCircuit.row Path.refl (RelayCircuit.copies .copy 𝓤 H A W) RelayCircuit.held (λ x. x) (λ x. x) (λ ρ told.
+              Local.mem-whole 𝓤 H A W RelayCircuit.row ρ) λ ρ told. Local.whole-mem 𝓤 H A W RelayCircuit.row ρ, Path.refl,), ((Yields.yields-copy 𝓤 H
+              A W (λ ρ. Unit) (Declared.row RelaySide.the-type) Path.refl (Copies.cEnum RelaySide.the-type Laws'.the-laws Laws'.the-copy .copy 𝓤 H A
+              W) (Rows.whole (Declared.row RelaySide.the-type)) (λ x. x) (λ x. x) (λ ρ told. Local.mem-whole 𝓤 H A W (Declared.row RelaySide.the-type)
+              ρ) λ ρ told. Local.whole-mem 𝓤 H A W (Declared.row RelaySide.the-type) ρ, Path.refl,), ((Scalar.reads-sc 𝓤 H A W (Row.sInt Syntax.w64),
+              Path.refl), tt),),) (Reads.room-gone 𝓤 H A RelayCircuit.ty) tt Path.refl) d16
+          d18 : Typed.Typed 𝓤 H A 𝓣 E G17 b16 Δ0 at18
+          d18 = Typed.g-pre 𝓤 H A W 𝓣 E G17 G18 b16 Δ0 (λ Ψ. Ψ) at17 (Lifetime.g-forget 𝓤 H A W E G17 2 Row.dead Path.refl) d17
+          d19 : Typed.Typed 𝓤 H A 𝓣 E G16 b16 Δ0 at19
+          d19 = Typed.g-pre 𝓤 H A W 𝓣 E G16 G17 b16 Δ0 (Typed.pass T15 T17 s15) at18 (Reshare.g-back-sl-shr 𝓤 H A W E RelayCircuit.row G16 1 0 2 ref2
               life0 (λ x. x) (Reads.as-is 𝓤 H A (Reshare.mslice-owedS RelayCircuit.row ref2 0 2 life0)) Path.refl Path.refl) d18
-          d20 : Typed.Typed 𝓤 H A 𝓣 E G17 b17 Δ0 at20
-          d20 = Typed.g-pre 𝓤 H A W 𝓣 E G17 G18 b17 Δ0 (λ Ψ. Ψ) at19 (Lifetime.g-end 𝓤 H A W E G17 2 Path.refl) d19
-          d21 : Typed.Typed 𝓤 H A 𝓣 E G16 b17 Δ0 at21
-          d21 = Typed.g-pre 𝓤 H A W 𝓣 E G16 G17 b17 Δ0 (Typed.pass T16 T17 s15) at20 (Scalar.g-room 𝓤 H A W E G16 2 Laws.mir (Local.room-whole 𝓤 H A W
+          d20 : Typed.Typed 𝓤 H A 𝓣 E G15 b16 Δ0 at20
+          d20 = Typed.g-pre 𝓤 H A W 𝓣 E G15 G16 b16 Δ0 (λ Ψ. Ψ) at19 (Lifetime.g-end 𝓤 H A W E G15 2 Path.refl) d19
+          d21 : Typed.Typed 𝓤 H A 𝓣 E G14 b16 Δ0 at21
+          d21 = Typed.g-pre 𝓤 H A W 𝓣 E G14 G15 b16 Δ0 (Typed.pass T14 T15 s13) at20 (Scalar.g-room 𝓤 H A W E G14 2 Laws.mir (Local.room-whole 𝓤 H A W
               (Declared'.row Places.the-type) Laws.mir Path.refl)) d20
-          d22 : Typed.Typed 𝓤 H A 𝓣 E G15 b17 Δ0 at22
-          d22 = Typed.g-pre 𝓤 H A W 𝓣 E G15 G16 b17 Δ0 (Typed.pass T15 T16 s14) at21 (Scalar.g-room 𝓤 H A W E G15 14 (Syntax.tyStruct (38 ∷ 91 ∷ 93 ∷
+          d22 : Typed.Typed 𝓤 H A 𝓣 E G13 b16 Δ0 at22
+          d22 = Typed.g-pre 𝓤 H A W 𝓣 E G13 G14 b16 Δ0 (Typed.pass T13 T14 s12) at21 (Scalar.g-room 𝓤 H A W E G13 13 (Syntax.tyStruct (38 ∷ 91 ∷ 93 ∷
               List.[]) (Syntax.tcons ref0 (Syntax.tcons (Syntax.tyInt Syntax.w64) Syntax.tnil))) (Shared.room-sslice 𝓤 H A W RelayCircuit.row ref0 2))
               d21
-          d23 : Typed.Typed 𝓤 H A 𝓣 E G14 b18 Δ0 at23
-          d23 = Typed.s-seq 𝓤 H A W 𝓣 E G14 G15 b6 b17 Δ0 (Typed.both s13) at22 (Plain.t-call-plain 𝓤 H A W 𝓣 1 ps·2 r·2 (claims· .4) (claims· .5)
-              "hnsr_circuit::tables::circuits::circuit_at" (known .2) E (λ pos β. β) G14 (record { pos = 14; ty = Syntax.tyRef Syntax.erased
-              Syntax.imm RelayCircuit.to; ref = λ x. x; }, (record { pos = 2; st = List.[]; d = 0; at = λ x. x }, (Num.vAt 8 λ x. x, tt)),) 9 (2 ∷
-              List.[]) (Call.sub-id 𝓤 H A W (G14 .slots)) (ShrSlice.spares-sslice 𝓤 H A W RelayCircuit.row ref0 2, Shared.reads-sslice 𝓤 H A W
+          d23 : Typed.Typed 𝓤 H A 𝓣 E G12 b17 Δ0 at23
+          d23 = Typed.s-seq 𝓤 H A W 𝓣 E G12 G13 b5 b16 Δ0 (Typed.both s11) at22 (Plain.t-call-plain 𝓤 H A W 𝓣 1 ps·1 r·1 (claims· .2) (claims· .3)
+              "hnsr_circuit::tables::circuits::circuit_at" (known .1) E (λ pos β. β) G12 (record { pos = 13; ty = Syntax.tyRef Syntax.erased
+              Syntax.imm RelayCircuit.to; ref = λ x. x; }, (record { pos = 2; st = List.[]; d = 0; at = λ x. x }, (Num.vAt 7 λ x. x, tt)),) 8 (2 ∷
+              List.[]) (Call.sub-id 𝓤 H A W (G12 .slots)) (ShrSlice.spares-sslice 𝓤 H A W RelayCircuit.row ref0 2, Shared.reads-sslice 𝓤 H A W
               RelayCircuit.row ref0 2, Path.refl, ((Yields.yields-copy 𝓤 H A W (λ ρ. Unit) (Declared'.row Places.the-type) Path.refl (Copies.cStruct
               Places.the-type Laws.the-laws Laws.the-copy .copy 𝓤 H A W) (Rows.whole (Declared'.row Places.the-type)) (λ x. x) (λ x. x) (λ ρ told.
               Local.mem-whole 𝓤 H A W (Declared'.row Places.the-type) ρ) λ ρ told. Local.whole-mem 𝓤 H A W (Declared'.row Places.the-type) ρ,
               Path.refl,), ((Scalar.reads-sc 𝓤 H A W (Row.sInt Syntax.w64), Path.refl), tt),),) (Reads.room-gone 𝓤 H A RelayCircuit.ty) (tt, tt)
               Path.refl) d22
-          d24 : Typed.Typed 𝓤 H A 𝓣 E G13 b19 Δ0 at24
-          d24 = Typed.s-seq 𝓤 H A W 𝓣 E G13 G14 b5 b18 Δ0 (Typed.ask s12) at23 (Relend.t-sl-aggregate 𝓤 H A W E RelayCircuit.row 𝓣 (Relend.asShr
-              RelayCircuit.row) G13 13 14 2 ref0 ref0 (λ x. x) (Scalar.oFld 1 ((Syntax.field 1) ∷ List.[]) (Syntax.tyInt Syntax.w64) 8 λ v.
+          d24 : Typed.Typed 𝓤 H A 𝓣 E G11 b18 Δ0 at24
+          d24 = Typed.s-seq 𝓤 H A W 𝓣 E G11 G12 b4 b17 Δ0 (Typed.ask s10) at23 (Relend.t-sl-aggregate 𝓤 H A W E RelayCircuit.row 𝓣 (Relend.asShr
+              RelayCircuit.row) G11 12 13 2 ref0 ref0 (λ x. x) (Scalar.oFld 1 ((Syntax.field 1) ∷ List.[]) (Syntax.tyInt Syntax.w64) 8 λ v.
               Shared.lenV (v .0)) (Reads.as-is 𝓤 H A (Relend.ssptr RelayCircuit.row ref0 2)) (Reads.room-gone 𝓤 H A (Syntax.tyStruct (38 ∷ 91 ∷ 93 ∷
               List.[]) (Syntax.tcons ref0 (Syntax.tcons (Syntax.tyInt Syntax.w64) Syntax.tnil)))) (Reshare.reads-owedS-len 𝓤 H A W RelayCircuit.row
               ref2 0 2 life0 8 Path.refl, Path.refl,) Path.refl Path.refl λ b o k. tt) d23
-          d25 : Typed.Typed 𝓤 H A 𝓣 E G12 b20 Δ0 at25
-          d25 = Typed.s-seq 𝓤 H A W 𝓣 E G12 G13 b4 b19 Δ0 (Typed.give s11) at24 (Reshare.t-sl-reshare 𝓤 H A W E RelayCircuit.row 𝓣 G12 1 13 0 2 ref2
+          d25 : Typed.Typed 𝓤 H A 𝓣 E G10 b19 Δ0 at25
+          d25 = Typed.s-seq 𝓤 H A W 𝓣 E G10 G11 b3 b18 Δ0 (Typed.give s9) at24 (Reshare.t-sl-reshare 𝓤 H A W E RelayCircuit.row 𝓣 G10 1 12 0 2 ref2
               ref0 life0 0 (λ x. x) (Reads.as-is 𝓤 H A (Mut.mslice RelayCircuit.row ref2 0)) (Reads.room-gone 𝓤 H A ref0) Path.refl tt Path.refl
               Path.refl Path.refl λ b o. tt) d24
-          d26 : Typed.Typed 𝓤 H A 𝓣 E G11 b20 Δ0 at26
-          d26 = Typed.g-pre 𝓤 H A W 𝓣 E G11 G12 b20 Δ0 (λ Ψ. Ψ) at25 (Lifetime.g-begin 𝓤 H A W E G11 2 (tt, (tt, (tt, (tt, (tt, (tt, (tt, (tt, (tt,
-              (tt, (tt, (tt, (tt, (tt, (tt, (tt, (tt, (tt, tt))))))))),),),),),),),),),)) d25
-          d27 : Typed.Typed 𝓤 H A 𝓣 E G10 b20 Δ0 at27
-          d27 = Typed.g-pre 𝓤 H A W 𝓣 E G10 G11 b20 Δ0 (λ Ψ. Ψ) at26 (Lifetime.g-forget 𝓤 H A W E G10 1 Row.dead Path.refl) d26
-          d28 : Typed.Typed 𝓤 H A 𝓣 E G9 b20 Δ0 at28
-          d28 = Typed.g-pre 𝓤 H A W 𝓣 E G9 G10 b20 Δ0 (Typed.pass T8 T10 s8) at27 (Reshare.g-back-sl-shr 𝓤 H A W E RelayCircuit.row G9 1 0 1 ref2
-              life0 (λ x. x) (Reads.as-is 𝓤 H A (Reshare.mslice-owedS RelayCircuit.row ref2 0 1 life0)) Path.refl Path.refl) d27
-          d29 : Typed.Typed 𝓤 H A 𝓣 E G8 b20 Δ0 at29
-          d29 = Typed.g-pre 𝓤 H A W 𝓣 E G8 G9 b20 Δ0 (λ Ψ. Ψ) at28 (Lifetime.g-end 𝓤 H A W E G8 1 Path.refl) d28
-          d30 : Typed.Typed 𝓤 H A 𝓣 E G7 b20 Δ0 at30
-          d30 = Typed.g-pre 𝓤 H A W 𝓣 E G7 G8 b20 Δ0 (Typed.pass T7 T8 s6) at29 (Scalar.g-room 𝓤 H A W E G7 7 Laws'.mir (Local.room-whole 𝓤 H A W
-              (Declared'.row Question.the-type) Laws'.mir Path.refl)) d29
-          d31 : Typed.Typed 𝓤 H A 𝓣 E G6 b20 Δ0 at31
-          d31 = Typed.g-pre 𝓤 H A W 𝓣 E G6 G7 b20 Δ0 (Typed.pass T6 T7 s5) at30 (Scalar.g-room 𝓤 H A W E G6 12 (Syntax.tyStruct (38 ∷ 91 ∷ 93 ∷
+          d26 : Typed.Typed 𝓤 H A 𝓣 E G9 b19 Δ0 at26
+          d26 = Typed.g-pre 𝓤 H A W 𝓣 E G9 G10 b19 Δ0 (λ Ψ. Ψ) at25 (Lifetime.g-begin 𝓤 H A W E G9 2 (tt, (tt, (tt, (tt, (tt, (tt, (tt, (tt, (tt, (tt,
+              (tt, (tt, (tt, (tt, (tt, (tt, (tt, tt))))))))),),),),),),),),)) d25
+          d27 : Typed.Typed 𝓤 H A 𝓣 E G8 b19 Δ0 at27
+          d27 = Typed.g-pre 𝓤 H A W 𝓣 E G8 G9 b19 Δ0 (λ Ψ. Ψ) at26 (Lifetime.g-forget 𝓤 H A W E G8 1 Row.dead Path.refl) d26
+          d28 : Typed.Typed 𝓤 H A 𝓣 E G7 b19 Δ0 at28
+          d28 = Typed.g-pre 𝓤 H A W 𝓣 E G7 G8 b19 Δ0 (Typed.pass T6 T8 s6) at27 (Reshare.g-back-sl-shr 𝓤 H A W E RelayCircuit.row G7 1 0 1 ref2 life0
+              (λ x. x) (Reads.as-is 𝓤 H A (Reshare.mslice-owedS RelayCircuit.row ref2 0 1 life0)) Path.refl Path.refl) d27
+          d29 : Typed.Typed 𝓤 H A 𝓣 E G6 b19 Δ0 at29
+          d29 = Typed.g-pre 𝓤 H A W 𝓣 E G6 G7 b19 Δ0 (λ Ψ. Ψ) at28 (Lifetime.g-end 𝓤 H A W E G6 1 Path.refl) d28
+          d30 : Typed.Typed 𝓤 H A 𝓣 E G5 b19 Δ0 at30
+          d30 = Typed.g-pre 𝓤 H A W 𝓣 E G5 G6 b19 Δ0 (Typed.pass T5 T6 s4) at29 (Scalar.g-room 𝓤 H A W E G5 11 (Syntax.tyStruct (38 ∷ 91 ∷ 93 ∷
               List.[]) (Syntax.tcons ref0 (Syntax.tcons (Syntax.tyInt Syntax.w64) Syntax.tnil))) (Shared.room-sslice 𝓤 H A W RelayCircuit.row ref0 1))
-              d30
-          d32 : Typed.Typed 𝓤 H A 𝓣 E G5 b21 Δ0 at32
-          d32 = Typed.s-seq 𝓤 H A W 𝓣 E G5 G6 b3 b20 Δ0 (Typed.both s4) at31 (Plain.t-call-plain 𝓤 H A W 𝓣 1 ps·1 r·1 (claims· .2) (claims· .3)
-              "hnsr_circuit::tables::circuits::find_circuit" (known .1) E (λ pos β. β) G5 (record { pos = 12; ty = Syntax.tyRef Syntax.erased
-              Syntax.imm RelayCircuit.to; ref = λ x. x; }, (record { pos = 2; st = List.[]; d = 0; at = λ x. x }, (record { pos = 7; st = List.[]; d =
-              0; at = λ x. x }, tt),),) 8 (1 ∷ List.[]) (Call.sub-id 𝓤 H A W (G5 .slots)) (ShrSlice.spares-sslice 𝓤 H A W RelayCircuit.row ref0 1,
-              Shared.reads-sslice 𝓤 H A W RelayCircuit.row ref0 1, Path.refl, ((Yields.yields-copy 𝓤 H A W (λ ρ. Unit) (Declared'.row Places.the-type)
-              Path.refl (Copies.cStruct Places.the-type Laws.the-laws Laws.the-copy .copy 𝓤 H A W) (Rows.whole (Declared'.row Places.the-type)) (λ x.
-              x) (λ x. x) (λ ρ told. Local.mem-whole 𝓤 H A W (Declared'.row Places.the-type) ρ) λ ρ told. Local.whole-mem 𝓤 H A W (Declared'.row
-              Places.the-type) ρ, Path.refl,), ((Yields.yields-copy 𝓤 H A W (λ ρ. Unit) (Declared'.row Question.the-type) Path.refl (Copies.cStruct
-              Question.the-type Laws'.the-laws Laws'.the-copy .copy 𝓤 H A W) (Rows.whole (Declared'.row Question.the-type)) (λ x. x) (λ x. x) (λ ρ
-              told. Local.mem-whole 𝓤 H A W (Declared'.row Question.the-type) ρ) λ ρ told. Local.whole-mem 𝓤 H A W (Declared'.row Question.the-type)
-              ρ, Path.refl,), tt,),),) (Reads.room-gone 𝓤 H A (Syntax.tyInt Syntax.w64)) (tt, tt) Path.refl) d31
-          d33 : Typed.Typed 𝓤 H A 𝓣 E G4 b22 Δ0 at33
-          d33 = Typed.s-seq 𝓤 H A W 𝓣 E G4 G5 b2 b21 Δ0 (Typed.ask s3) at32 (Relend.t-sl-aggregate 𝓤 H A W E RelayCircuit.row 𝓣 (Relend.asShr
-              RelayCircuit.row) G4 11 12 1 ref0 ref0 (λ x. x) (Scalar.oFld 1 ((Syntax.field 1) ∷ List.[]) (Syntax.tyInt Syntax.w64) 8 λ v. Shared.lenV
+              d29
+          d31 : Typed.Typed 𝓤 H A 𝓣 E G4 b20 Δ0 at31
+          d31 = Typed.s-seq 𝓤 H A W 𝓣 E G4 G5 b2 b19 Δ0 (Typed.both s3) at30 (Plain.t-call-plain 𝓤 H A W 𝓣 1 ps·0 r·0 (claims· .0) (claims· .1)
+              "hnsr_circuit::tables::circuits::find_circuit_id" (known .0) E (λ pos β. β) G4 (record { pos = 11; ty = Syntax.tyRef Syntax.erased
+              Syntax.imm RelayCircuit.to; ref = λ x. x; }, (record { pos = 2; st = List.[]; d = 0; at = λ x. x }, (Num.vAt 4 λ x. x, tt)),) 7 (1 ∷
+              List.[]) (Call.sub-id 𝓤 H A W (G4 .slots)) (ShrSlice.spares-sslice 𝓤 H A W RelayCircuit.row ref0 1, Shared.reads-sslice 𝓤 H A W
+              RelayCircuit.row ref0 1, Path.refl, ((Yields.yields-copy 𝓤 H A W (λ ρ. Unit) (Declared'.row Places.the-type) Path.refl (Copies.cStruct
+              Places.the-type Laws.the-laws Laws.the-copy .copy 𝓤 H A W) (Rows.whole (Declared'.row Places.the-type)) (λ x. x) (λ x. x) (λ ρ told.
+              Local.mem-whole 𝓤 H A W (Declared'.row Places.the-type) ρ) λ ρ told. Local.whole-mem 𝓤 H A W (Declared'.row Places.the-type) ρ,
+              Path.refl,), ((Scalar.reads-sc 𝓤 H A W (Row.sInt Syntax.w64), Path.refl), tt),),) (Reads.room-gone 𝓤 H A (Syntax.tyInt Syntax.w64)) (tt,
+              tt) Path.refl) d30
+          d32 : Typed.Typed 𝓤 H A 𝓣 E G3 b21 Δ0 at32
+          d32 = Typed.s-seq 𝓤 H A W 𝓣 E G3 G4 b1 b20 Δ0 (Typed.ask s2) at31 (Relend.t-sl-aggregate 𝓤 H A W E RelayCircuit.row 𝓣 (Relend.asShr
+              RelayCircuit.row) G3 10 11 1 ref0 ref0 (λ x. x) (Scalar.oFld 1 ((Syntax.field 1) ∷ List.[]) (Syntax.tyInt Syntax.w64) 8 λ v. Shared.lenV
               (v .0)) (Reads.as-is 𝓤 H A (Relend.ssptr RelayCircuit.row ref0 1)) (Reads.room-gone 𝓤 H A (Syntax.tyStruct (38 ∷ 91 ∷ 93 ∷ List.[])
               (Syntax.tcons ref0 (Syntax.tcons (Syntax.tyInt Syntax.w64) Syntax.tnil)))) (Reshare.reads-owedS-len 𝓤 H A W RelayCircuit.row ref2 0 1
-              life0 8 Path.refl, Path.refl,) Path.refl Path.refl λ b o k. tt) d32
-          d34 : Typed.Typed 𝓤 H A 𝓣 E G3 b23 Δ0 at34
-          d34 = Typed.s-seq 𝓤 H A W 𝓣 E G3 G4 b1 b22 Δ0 (Typed.give s2) at33 (Reshare.t-sl-reshare 𝓤 H A W E RelayCircuit.row 𝓣 G3 1 11 0 1 ref2 ref0
+              life0 8 Path.refl, Path.refl,) Path.refl Path.refl λ b o k. tt) d31
+          d33 : Typed.Typed 𝓤 H A 𝓣 E G2 b22 Δ0 at33
+          d33 = Typed.s-seq 𝓤 H A W 𝓣 E G2 G3 b0 b21 Δ0 (Typed.give s1) at32 (Reshare.t-sl-reshare 𝓤 H A W E RelayCircuit.row 𝓣 G2 1 10 0 1 ref2 ref0
               life0 0 (λ x. x) (Reads.as-is 𝓤 H A (Mut.mslice RelayCircuit.row ref2 0)) (Reads.room-gone 𝓤 H A ref0) Path.refl tt Path.refl Path.refl
-              Path.refl λ b o. tt) d33
-          d35 : Typed.Typed 𝓤 H A 𝓣 E G2 b23 Δ0 at35
-          d35 = Typed.g-pre 𝓤 H A W 𝓣 E G2 G3 b23 Δ0 (λ Ψ. Ψ) at34 (Lifetime.g-begin 𝓤 H A W E G2 1 (tt, (tt, (tt, (tt, (tt, (tt, (tt, (tt, (tt, (tt,
-              (tt, (tt, (tt, (tt, (tt, (tt, (tt, (tt, tt))))))))),),),),),),),),),)) d34
-          d36 : Typed.Typed 𝓤 H A 𝓣 E G0 b24 Δ0 at36
-          d36 = Typed.s-seq 𝓤 H A W 𝓣 E G0 G2 b0 b23 Δ0 (Typed.both s0) at35 (Plain.t-call-plain 𝓤 H A W 𝓣 0 ps·0 r·0 (claims· .0) (claims· .1)
-              "hnsr_circuit::question::at" (known .0) E (λ pos β. β) G0 (Num.vAt 4 λ x. x, (Num.vLit 0, tt)) 7 List.[] (Call.sub-id 𝓤 H A W (G0
-              .slots)) ((Scalar.reads-sc 𝓤 H A W (Row.sInt Syntax.w64), Path.refl), (tt, tt)) (Reads.room-gone 𝓤 H A Laws'.mir) tt Path.refl) d35
-          pub typed : Typed.Typed 𝓤 H A 𝓣 E (Function.Γin 1 ps r xs m κs qs) b24 (Function.Δret 1 ps r xs m κs qs) Φ
-          typed = d36
+              Path.refl λ b o. tt) d32
+          d34 : Typed.Typed 𝓤 H A 𝓣 E G0 b22 Δ0 at34
+          d34 = Typed.g-pre 𝓤 H A W 𝓣 E G0 G2 b22 Δ0 (λ Ψ. Ψ) at33 (Lifetime.g-begin 𝓤 H A W E G0 1 (tt, (tt, (tt, (tt, (tt, (tt, (tt, (tt, (tt, (tt,
+              (tt, (tt, (tt, (tt, (tt, (tt, (tt, tt))))))))),),),),),),),),)) d33
+          pub typed : Typed.Typed 𝓤 H A 𝓣 E (Function.Γin 1 ps r xs m κs qs) b22 (Function.Δret 1 ps r xs m κs qs) Φ
+          typed = d34
       module _ (κs : Lifetimes.Lfts 1) where
         pub record Args : Type 0 where
           pub circuits : Kinds.Den { n = 1 } κs (MutSlice.pMutS RelayCircuit.row 0 tt)
-          pub places : Kinds.Den { n = 1 } κs (Value.pVal record { ty = Declared'.row Places.the-type; one = Path.refl; val = Laws''''.val
-              Places.the-type Laws.the-laws; tells = Laws''''.tells Places.the-type Laws.the-laws; still = Laws''''.still Places.the-type
-              Laws.the-copy Exit.yes; row = Rows.whole (Declared'.row Places.the-type); rd = λ x. x; mk = λ x. x; } λ M 𝓤 H A W. record { copies =
-              Laws''''.copy Places.the-type Laws.the-copy 𝓤 H A W; lawful = Laws''''.lawful Places.the-type Laws.the-laws 𝓤 H A W; makes =
-              Laws''''.makes Places.the-type Laws.the-plain 𝓤 H A; in-mem = Local.mem-whole 𝓤 H A W (Declared'.row Places.the-type); of-mem =
-              Local.whole-mem 𝓤 H A W (Declared'.row Places.the-type); })
+          pub places : Kinds.Den { n = 1 } κs (Value.pVal record { ty = Declared'.row Places.the-type; one = Path.refl; val = Laws'''.val
+              Places.the-type Laws.the-laws; tells = Laws'''.tells Places.the-type Laws.the-laws; still = Laws'''.still Places.the-type Laws.the-copy
+              Exit.yes; row = Rows.whole (Declared'.row Places.the-type); rd = λ x. x; mk = λ x. x; } λ M 𝓤 H A W. record { copies = Laws'''.copy
+              Places.the-type Laws.the-copy 𝓤 H A W; lawful = Laws'''.lawful Places.the-type Laws.the-laws 𝓤 H A W; makes = Laws'''.makes
+              Places.the-type Laws.the-plain 𝓤 H A; in-mem = Local.mem-whole 𝓤 H A W (Declared'.row Places.the-type); of-mem = Local.whole-mem 𝓤 H A W
+              (Declared'.row Places.the-type); })
           pub go : Kinds.Den { n = 1 } κs Bool.pBool
           pub id : Kinds.Den { n = 1 } κs (Num.pNum Syntax.w64)
-          pub side : Kinds.Den { n = 1 } κs (Value.pVal record { ty = Declared.row RelaySide.the-type; one = Path.refl; val = Laws'''.val
-              RelaySide.the-type Laws''.the-laws; tells = Laws'''.tells RelaySide.the-type Laws''.the-laws; still = Laws'''.still RelaySide.the-type
-              Laws''.the-copy Exit.yes; row = Rows.whole (Declared.row RelaySide.the-type); rd = λ x. x; mk = λ x. x; } λ M 𝓤 H A W. record { copies =
-              Laws'''.copy RelaySide.the-type Laws''.the-copy 𝓤 H A W; lawful = Laws'''.lawful RelaySide.the-type Laws''.the-laws 𝓤 H A W tt; makes =
-              Laws'''.makes RelaySide.the-type Laws''.the-plain 𝓤 H A; in-mem = Local.mem-whole 𝓤 H A W (Declared.row RelaySide.the-type); of-mem =
+          pub side : Kinds.Den { n = 1 } κs (Value.pVal record { ty = Declared.row RelaySide.the-type; one = Path.refl; val = Laws''.val
+              RelaySide.the-type Laws'.the-laws; tells = Laws''.tells RelaySide.the-type Laws'.the-laws; still = Laws''.still RelaySide.the-type
+              Laws'.the-copy Exit.yes; row = Rows.whole (Declared.row RelaySide.the-type); rd = λ x. x; mk = λ x. x; } λ M 𝓤 H A W. record { copies =
+              Laws''.copy RelaySide.the-type Laws'.the-copy 𝓤 H A W; lawful = Laws''.lawful RelaySide.the-type Laws'.the-laws 𝓤 H A W tt; makes =
+              Laws''.makes RelaySide.the-type Laws'.the-plain 𝓤 H A; in-mem = Local.mem-whole 𝓤 H A W (Declared.row RelaySide.the-type); of-mem =
               Local.whole-mem 𝓤 H A W (Declared.row RelaySide.the-type); })
           pub n : Kinds.Den { n = 1 } κs (Num.pNum Syntax.w64)
         abbrev pub dens : (a : Args) → Kinds.Dens κs ps
@@ -923,204 +868,188 @@ module _ (claims· : Claims) where
         pub good : Kinds.GoodsP κs ps (dens κs args)
         pub fits : Ranges κs args
         pub pre : Pre· κs (dens κs args)
-      abbrev pub Need-at-requires : Type 0
-      Need-at-requires = (c : Start) → s0 .asks (m0 (c .κs) (c .args))
-      abbrev pub m1 : (before : Start) → (given : s0 .gives (m0 (before .κs) (before .args))) → Typed.Mo T2
-      m1 = λ before given. s0 .next (m0 (before .κs) (before .args)) given
+      abbrev pub m1 : (before : Start) → (given : s1 .gives (m0 (before .κs) (before .args))) → Typed.Mo T3
+      m1 = λ before given. s1 .next (m0 (before .κs) (before .args)) given
+      abbrev pub m2 : (before : Start) → (given : s1 .gives (m0 (before .κs) (before .args))) → Typed.Mo T4
+      m2 = λ before given. s2 .next (m1 before given)
       module _ (before· : Start) where
-        abbrev pub After-at·own : Type 0
-        After-at·own = Called.Called ps·0 r·0 (claims· .1) T0 (Num.vAt 4 λ x. x, (Num.vLit 0, tt),) (m0 (before· .κs) (before· .args))
-      pub record After-at : Type 0 where
+        pub record After-find-circuit-id-arg·own : Type 0 where
+          pub given : s1 .gives (m0 (before· .κs) (before· .args))
+      pub record After-find-circuit-id-arg : Type 0 where
         pub before : Start
-        pub at : After-at·own before
-      abbrev pub After-at·gave : (c : After-at) → s0 .gives (m0 (c .before .κs) (c .before .args))
-      After-at·gave = λ c. Called.given ps·0 r·0 (claims· .1) T0 (Num.vAt 4 λ x. x, (Num.vLit 0, tt),) (m0 (c .before .κs) (c .before .args)) (c .at)
-      abbrev pub m2 : (before : After-at) → (given : s2 .gives (m1 (before .before) (After-at·gave before))) → Typed.Mo T4
-      m2 = λ before given. s2 .next (m1 (before .before) (After-at·gave before)) given
-      abbrev pub m3 : (before : After-at) → (given : s2 .gives (m1 (before .before) (After-at·gave before))) → Typed.Mo T5
-      m3 = λ before given. s3 .next (m2 before given)
-      module _ (before· : After-at) where
-        pub record After-find-circuit-arg·own : Type 0 where
-          pub given : s2 .gives (m1 (before· .before) (After-at·gave before·))
-      pub record After-find-circuit-arg : Type 0 where
-        pub before : After-at
-        pub find-circuit-arg : After-find-circuit-arg·own before
-      abbrev pub Need-find-circuit-requires : Type 0
-      Need-find-circuit-requires = (c : After-find-circuit-arg) → s4 .asks (m3 (c .before) (c .find-circuit-arg .given))
-      abbrev pub m4 : (before : After-find-circuit-arg) → (given : s4 .gives (m3 (before .before) (before .find-circuit-arg .given))) → Typed.Mo T6
-      m4 = λ before given. s4 .next (m3 (before .before) (before .find-circuit-arg .given)) given
-      module _ (before· : After-find-circuit-arg) where
-        abbrev pub After-find-circuit·own : Type 0
-        After-find-circuit·own = Called.Called ps·1 r·1 (claims· .3) T5 (record { pos = 12; ty = Syntax.tyRef Syntax.erased Syntax.imm
-            RelayCircuit.to; ref = λ x. x; }, (record { pos = 2; st = List.[]; d = 0; at = λ x. x }, (record { pos = 7; st = List.[]; d = 0; at = λ x.
-            x }, tt),),) (m3 (before· .before) (before· .find-circuit-arg .given))
-      pub record After-find-circuit : Type 0 where
-        pub before : After-find-circuit-arg
-        pub find-circuit : After-find-circuit·own before
-      abbrev pub After-find-circuit·gave : (c : After-find-circuit) → s4 .gives (m3 (c .before .before) (c .before .find-circuit-arg .given))
-      After-find-circuit·gave = λ c. Called.given ps·1 r·1 (claims· .3) T5 (record { pos = 12; ty = Syntax.tyRef Syntax.erased Syntax.imm
-          RelayCircuit.to; ref = λ x. x; }, (record { pos = 2; st = List.[]; d = 0; at = λ x. x }, (record { pos = 7; st = List.[]; d = 0; at = λ x. x
-          }, tt),),) (m3 (c .before .before) (c .before .find-circuit-arg .given)) (c .find-circuit)
-      abbrev pub m5 : (before : After-find-circuit-arg) → (given : s4 .gives (m3 (before .before) (before .find-circuit-arg .given))) → Typed.Mo T7
-      m5 = λ before given. s5 (m4 before given)
-      abbrev pub m6 : (before : After-find-circuit-arg) → (given : s4 .gives (m3 (before .before) (before .find-circuit-arg .given))) → Typed.Mo T8
-      m6 = λ before given. s6 (m5 before given)
-      abbrev pub m7 : (before : After-find-circuit-arg) → (given : s4 .gives (m3 (before .before) (before .find-circuit-arg .given))) → Typed.Mo T10
-      m7 = λ before given. s8 (m6 before given)
-      abbrev pub m8 : (before : After-find-circuit) → (given : s11 .gives (m7 (before .before) (After-find-circuit·gave before))) → Typed.Mo T13
-      m8 = λ before given. s11 .next (m7 (before .before) (After-find-circuit·gave before)) given
-      abbrev pub m9 : (before : After-find-circuit) → (given : s11 .gives (m7 (before .before) (After-find-circuit·gave before))) → Typed.Mo T14
-      m9 = λ before given. s12 .next (m8 before given)
-      module _ (before· : After-find-circuit) where
+        pub find-circuit-id-arg : After-find-circuit-id-arg·own before
+      abbrev pub Need-find-circuit-id-requires : Type 0
+      Need-find-circuit-id-requires = (c : After-find-circuit-id-arg) → s3 .asks (m2 (c .before) (c .find-circuit-id-arg .given))
+      abbrev pub m3 : (before : After-find-circuit-id-arg) → (given : s3 .gives (m2 (before .before) (before .find-circuit-id-arg .given))) → Typed.Mo
+          T5
+      m3 = λ before given. s3 .next (m2 (before .before) (before .find-circuit-id-arg .given)) given
+      module _ (before· : After-find-circuit-id-arg) where
+        abbrev pub After-find-circuit-id·own : Type 0
+        After-find-circuit-id·own = Called.Called ps·0 r·0 (claims· .1) T4 (record { pos = 11; ty = Syntax.tyRef Syntax.erased Syntax.imm
+            RelayCircuit.to; ref = λ x. x; }, (record { pos = 2; st = List.[]; d = 0; at = λ x. x }, (Num.vAt 4 λ x. x, tt)),) (m2 (before· .before)
+            (before· .find-circuit-id-arg .given))
+      pub record After-find-circuit-id : Type 0 where
+        pub before : After-find-circuit-id-arg
+        pub find-circuit-id : After-find-circuit-id·own before
+      abbrev pub After-find-circuit-id·gave : (c : After-find-circuit-id) → s3 .gives (m2 (c .before .before) (c .before .find-circuit-id-arg .given))
+      After-find-circuit-id·gave = λ c. Called.given ps·0 r·0 (claims· .1) T4 (record { pos = 11; ty = Syntax.tyRef Syntax.erased Syntax.imm
+          RelayCircuit.to; ref = λ x. x; }, (record { pos = 2; st = List.[]; d = 0; at = λ x. x }, (Num.vAt 4 λ x. x, tt)),) (m2 (c .before .before)
+          (c .before .find-circuit-id-arg .given)) (c .find-circuit-id)
+      abbrev pub m4 : (before : After-find-circuit-id-arg) → (given : s3 .gives (m2 (before .before) (before .find-circuit-id-arg .given))) → Typed.Mo
+          T6
+      m4 = λ before given. s4 (m3 before given)
+      abbrev pub m5 : (before : After-find-circuit-id-arg) → (given : s3 .gives (m2 (before .before) (before .find-circuit-id-arg .given))) → Typed.Mo
+          T8
+      m5 = λ before given. s6 (m4 before given)
+      abbrev pub m6 : (before : After-find-circuit-id) → (given : s9 .gives (m5 (before .before) (After-find-circuit-id·gave before))) → Typed.Mo T11
+      m6 = λ before given. s9 .next (m5 (before .before) (After-find-circuit-id·gave before)) given
+      abbrev pub m7 : (before : After-find-circuit-id) → (given : s9 .gives (m5 (before .before) (After-find-circuit-id·gave before))) → Typed.Mo T12
+      m7 = λ before given. s10 .next (m6 before given)
+      module _ (before· : After-find-circuit-id) where
         pub record After-circuit-at-arg·own : Type 0 where
-          pub given : s11 .gives (m7 (before· .before) (After-find-circuit·gave before·))
+          pub given : s9 .gives (m5 (before· .before) (After-find-circuit-id·gave before·))
       pub record After-circuit-at-arg : Type 0 where
-        pub before : After-find-circuit
+        pub before : After-find-circuit-id
         pub circuit-at-arg : After-circuit-at-arg·own before
       abbrev pub Need-circuit-at-requires : Type 0
-      Need-circuit-at-requires = (c : After-circuit-at-arg) → s13 .asks (m9 (c .before) (c .circuit-at-arg .given))
-      abbrev pub m10 : (before : After-circuit-at-arg) → (given : s13 .gives (m9 (before .before) (before .circuit-at-arg .given))) → Typed.Mo T15
-      m10 = λ before given. s13 .next (m9 (before .before) (before .circuit-at-arg .given)) given
+      Need-circuit-at-requires = (c : After-circuit-at-arg) → s11 .asks (m7 (c .before) (c .circuit-at-arg .given))
+      abbrev pub m8 : (before : After-circuit-at-arg) → (given : s11 .gives (m7 (before .before) (before .circuit-at-arg .given))) → Typed.Mo T13
+      m8 = λ before given. s11 .next (m7 (before .before) (before .circuit-at-arg .given)) given
       module _ (before· : After-circuit-at-arg) where
         abbrev pub After-circuit-at·own : Type 0
-        After-circuit-at·own = Called.Called ps·2 r·2 (claims· .5) T14 (record { pos = 14; ty = Syntax.tyRef Syntax.erased Syntax.imm RelayCircuit.to;
-            ref = λ x. x; }, (record { pos = 2; st = List.[]; d = 0; at = λ x. x }, (Num.vAt 8 λ x. x, tt)),) (m9 (before· .before) (before·
+        After-circuit-at·own = Called.Called ps·1 r·1 (claims· .3) T12 (record { pos = 13; ty = Syntax.tyRef Syntax.erased Syntax.imm RelayCircuit.to;
+            ref = λ x. x; }, (record { pos = 2; st = List.[]; d = 0; at = λ x. x }, (Num.vAt 7 λ x. x, tt)),) (m7 (before· .before) (before·
             .circuit-at-arg .given))
       pub record After-circuit-at : Type 0 where
         pub before : After-circuit-at-arg
         pub circuit-at : After-circuit-at·own before
-      abbrev pub After-circuit-at·gave : (c : After-circuit-at) → s13 .gives (m9 (c .before .before) (c .before .circuit-at-arg .given))
-      After-circuit-at·gave = λ c. Called.given ps·2 r·2 (claims· .5) T14 (record { pos = 14; ty = Syntax.tyRef Syntax.erased Syntax.imm
-          RelayCircuit.to; ref = λ x. x; }, (record { pos = 2; st = List.[]; d = 0; at = λ x. x }, (Num.vAt 8 λ x. x, tt)),) (m9 (c .before .before)
+      abbrev pub After-circuit-at·gave : (c : After-circuit-at) → s11 .gives (m7 (c .before .before) (c .before .circuit-at-arg .given))
+      After-circuit-at·gave = λ c. Called.given ps·1 r·1 (claims· .3) T12 (record { pos = 13; ty = Syntax.tyRef Syntax.erased Syntax.imm
+          RelayCircuit.to; ref = λ x. x; }, (record { pos = 2; st = List.[]; d = 0; at = λ x. x }, (Num.vAt 7 λ x. x, tt)),) (m7 (c .before .before)
           (c .before .circuit-at-arg .given)) (c .circuit-at)
-      abbrev pub m11 : (before : After-circuit-at-arg) → (given : s13 .gives (m9 (before .before) (before .circuit-at-arg .given))) → Typed.Mo T16
-      m11 = λ before given. s14 (m10 before given)
-      abbrev pub m12 : (before : After-circuit-at-arg) → (given : s13 .gives (m9 (before .before) (before .circuit-at-arg .given))) → Typed.Mo T17
-      m12 = λ before given. s15 (m11 before given)
-      abbrev pub m13 : (before : After-circuit-at-arg) → (given : s13 .gives (m9 (before .before) (before .circuit-at-arg .given))) → Typed.Mo T19
-      m13 = λ before given. s17 (m12 before given)
+      abbrev pub m9 : (before : After-circuit-at-arg) → (given : s11 .gives (m7 (before .before) (before .circuit-at-arg .given))) → Typed.Mo T14
+      m9 = λ before given. s12 (m8 before given)
+      abbrev pub m10 : (before : After-circuit-at-arg) → (given : s11 .gives (m7 (before .before) (before .circuit-at-arg .given))) → Typed.Mo T15
+      m10 = λ before given. s13 (m9 before given)
+      abbrev pub m11 : (before : After-circuit-at-arg) → (given : s11 .gives (m7 (before .before) (before .circuit-at-arg .given))) → Typed.Mo T17
+      m11 = λ before given. s15 (m10 before given)
       abbrev pub Need-circuit-lowered-requires : Type 0
-      Need-circuit-lowered-requires = (c : After-circuit-at) → s19 .asks (m13 (c .before) (After-circuit-at·gave c))
-      abbrev pub m14 : (before : After-circuit-at) → (given : s19 .gives (m13 (before .before) (After-circuit-at·gave before))) → Typed.Mo T21
-      m14 = λ before given. s19 .next (m13 (before .before) (After-circuit-at·gave before)) given
+      Need-circuit-lowered-requires = (c : After-circuit-at) → s17 .asks (m11 (c .before) (After-circuit-at·gave c))
+      abbrev pub m12 : (before : After-circuit-at) → (given : s17 .gives (m11 (before .before) (After-circuit-at·gave before))) → Typed.Mo T19
+      m12 = λ before given. s17 .next (m11 (before .before) (After-circuit-at·gave before)) given
       module _ (before· : After-circuit-at) where
         abbrev pub After-circuit-lowered·own : Type 0
-        After-circuit-lowered·own = Called.Called ps·3 r·3 (claims· .7) T19 (record { pos = 9; st = List.[]; d = 0; at = λ x. x }, (record { pos = 5;
-            st = List.[]; d = 0; at = λ x. x }, (Num.vAt 6 λ x. x, tt)),) (m13 (before· .before) (After-circuit-at·gave before·))
+        After-circuit-lowered·own = Called.Called ps·2 r·2 (claims· .5) T17 (record { pos = 8; st = List.[]; d = 0; at = λ x. x }, (record { pos = 5;
+            st = List.[]; d = 0; at = λ x. x }, (Num.vAt 6 λ x. x, tt)),) (m11 (before· .before) (After-circuit-at·gave before·))
       pub record After-circuit-lowered : Type 0 where
         pub before : After-circuit-at
         pub circuit-lowered : After-circuit-lowered·own before
-      abbrev pub After-circuit-lowered·gave : (c : After-circuit-lowered) → s19 .gives (m13 (c .before .before) (After-circuit-at·gave (c .before)))
-      After-circuit-lowered·gave = λ c. Called.given ps·3 r·3 (claims· .7) T19 (record { pos = 9; st = List.[]; d = 0; at = λ x. x }, (record { pos =
-          5; st = List.[]; d = 0; at = λ x. x }, (Num.vAt 6 λ x. x, tt)),) (m13 (c .before .before) (After-circuit-at·gave (c .before))) (c
+      abbrev pub After-circuit-lowered·gave : (c : After-circuit-lowered) → s17 .gives (m11 (c .before .before) (After-circuit-at·gave (c .before)))
+      After-circuit-lowered·gave = λ c. Called.given ps·2 r·2 (claims· .5) T17 (record { pos = 8; st = List.[]; d = 0; at = λ x. x }, (record { pos =
+          5; st = List.[]; d = 0; at = λ x. x }, (Num.vAt 6 λ x. x, tt)),) (m11 (c .before .before) (After-circuit-at·gave (c .before))) (c
           .circuit-lowered)
-      abbrev pub m15 : (before : After-circuit-at) → (given : s19 .gives (m13 (before .before) (After-circuit-at·gave before))) → Typed.Mo T22
-      m15 = λ before given. s20 (m14 before given)
-      abbrev pub m16 : (before : After-circuit-at) → (given : s19 .gives (m13 (before .before) (After-circuit-at·gave before))) → Typed.Mo T23
-      m16 = λ before given. s21 (m15 before given)
-      abbrev pub m17 : (before : After-circuit-lowered) → (given : s23 .gives (m16 (before .before) (After-circuit-lowered·gave before))) → Typed.Mo
-          T25
-      m17 = λ before given. s23 .next (m16 (before .before) (After-circuit-lowered·gave before)) given
-      abbrev pub m18 : (before : After-circuit-lowered) → (given : s23 .gives (m16 (before .before) (After-circuit-lowered·gave before))) → Typed.Mo
-          T26
-      m18 = λ before given. s24 .next (m17 before given)
+      abbrev pub m13 : (before : After-circuit-at) → (given : s17 .gives (m11 (before .before) (After-circuit-at·gave before))) → Typed.Mo T20
+      m13 = λ before given. s18 (m12 before given)
+      abbrev pub m14 : (before : After-circuit-at) → (given : s17 .gives (m11 (before .before) (After-circuit-at·gave before))) → Typed.Mo T21
+      m14 = λ before given. s19 (m13 before given)
+      abbrev pub m15 : (before : After-circuit-lowered) → (given : s21 .gives (m14 (before .before) (After-circuit-lowered·gave before))) → Typed.Mo
+          T23
+      m15 = λ before given. s21 .next (m14 (before .before) (After-circuit-lowered·gave before)) given
+      abbrev pub m16 : (before : After-circuit-lowered) → (given : s21 .gives (m14 (before .before) (After-circuit-lowered·gave before))) → Typed.Mo
+          T24
+      m16 = λ before given. s22 .next (m15 before given)
       module _ (before· : After-circuit-lowered) where
         pub record After-set-circuit-arg·own : Type 0 where
-          pub given : s23 .gives (m16 (before· .before) (After-circuit-lowered·gave before·))
+          pub given : s21 .gives (m14 (before· .before) (After-circuit-lowered·gave before·))
       pub record After-set-circuit-arg : Type 0 where
         pub before : After-circuit-lowered
         pub set-circuit-arg : After-set-circuit-arg·own before
       abbrev pub Need-set-circuit-requires : Type 0
-      Need-set-circuit-requires = (c : After-set-circuit-arg) → s25 .asks (m18 (c .before) (c .set-circuit-arg .given))
-      abbrev pub m19 : (before : After-set-circuit-arg) → (given : s25 .gives (m18 (before .before) (before .set-circuit-arg .given))) → Typed.Mo T27
-      m19 = λ before given. s25 .next (m18 (before .before) (before .set-circuit-arg .given)) given
+      Need-set-circuit-requires = (c : After-set-circuit-arg) → s23 .asks (m16 (c .before) (c .set-circuit-arg .given))
+      abbrev pub m17 : (before : After-set-circuit-arg) → (given : s23 .gives (m16 (before .before) (before .set-circuit-arg .given))) → Typed.Mo T25
+      m17 = λ before given. s23 .next (m16 (before .before) (before .set-circuit-arg .given)) given
       module _ (before· : After-set-circuit-arg) where
         abbrev pub After-set-circuit·own : Type 0
-        After-set-circuit·own = Called.Called ps·4 r·4 (claims· .9) T26 (record { pos = 17; ty = Syntax.tyRef Syntax.erased Syntax.mut
-            RelayCircuit.to; ref = λ x. x; }, (Bool.bAt 3 λ x. x, (Num.vAt 8 λ x. x, (record { pos = 10; st = List.[]; d = 0; at = λ x. x }, tt)),),)
-            (m18 (before· .before) (before· .set-circuit-arg .given))
+        After-set-circuit·own = Called.Called ps·3 r·3 (claims· .7) T24 (record { pos = 16; ty = Syntax.tyRef Syntax.erased Syntax.mut
+            RelayCircuit.to; ref = λ x. x; }, (Bool.bAt 3 λ x. x, (Num.vAt 7 λ x. x, (record { pos = 9; st = List.[]; d = 0; at = λ x. x }, tt)),),)
+            (m16 (before· .before) (before· .set-circuit-arg .given))
       pub record After-set-circuit : Type 0 where
         pub before : After-set-circuit-arg
         pub set-circuit : After-set-circuit·own before
-      abbrev pub After-set-circuit·gave : (c : After-set-circuit) → s25 .gives (m18 (c .before .before) (c .before .set-circuit-arg .given))
-      After-set-circuit·gave = λ c. Called.given ps·4 r·4 (claims· .9) T26 (record { pos = 17; ty = Syntax.tyRef Syntax.erased Syntax.mut
-          RelayCircuit.to; ref = λ x. x; }, (Bool.bAt 3 λ x. x, (Num.vAt 8 λ x. x, (record { pos = 10; st = List.[]; d = 0; at = λ x. x }, tt)),),)
-          (m18 (c .before .before) (c .before .set-circuit-arg .given)) (c .set-circuit)
-      abbrev pub m20 : (before : After-set-circuit-arg) → (given : s25 .gives (m18 (before .before) (before .set-circuit-arg .given))) → Typed.Mo T28
-      m20 = λ before given. s26 (m19 before given)
-      abbrev pub m21 : (before : After-set-circuit-arg) → (given : s25 .gives (m18 (before .before) (before .set-circuit-arg .given))) → Typed.Mo T29
-      m21 = λ before given. s27 (m20 before given)
-      abbrev pub m22 : (before : After-set-circuit) → (given : s29 .gives (m21 (before .before) (After-set-circuit·gave before))) → Typed.Mo T31
-      m22 = λ before given. s29 .next (m21 (before .before) (After-set-circuit·gave before)) given
-      abbrev pub m23 : (before : After-set-circuit) → (given : s29 .gives (m21 (before .before) (After-set-circuit·gave before))) → Typed.Mo T33
+      abbrev pub After-set-circuit·gave : (c : After-set-circuit) → s23 .gives (m16 (c .before .before) (c .before .set-circuit-arg .given))
+      After-set-circuit·gave = λ c. Called.given ps·3 r·3 (claims· .7) T24 (record { pos = 16; ty = Syntax.tyRef Syntax.erased Syntax.mut
+          RelayCircuit.to; ref = λ x. x; }, (Bool.bAt 3 λ x. x, (Num.vAt 7 λ x. x, (record { pos = 9; st = List.[]; d = 0; at = λ x. x }, tt)),),)
+          (m16 (c .before .before) (c .before .set-circuit-arg .given)) (c .set-circuit)
+      abbrev pub m18 : (before : After-set-circuit-arg) → (given : s23 .gives (m16 (before .before) (before .set-circuit-arg .given))) → Typed.Mo T26
+      m18 = λ before given. s24 (m17 before given)
+      abbrev pub m19 : (before : After-set-circuit-arg) → (given : s23 .gives (m16 (before .before) (before .set-circuit-arg .given))) → Typed.Mo T27
+      m19 = λ before given. s25 (m18 before given)
+      abbrev pub m20 : (before : After-set-circuit) → (given : s27 .gives (m19 (before .before) (After-set-circuit·gave before))) → Typed.Mo T29
+      m20 = λ before given. s27 .next (m19 (before .before) (After-set-circuit·gave before)) given
+      abbrev pub m21 : (before : After-set-circuit) → (given : s27 .gives (m19 (before .before) (After-set-circuit·gave before))) → Typed.Mo T31
+      m21 = λ before given. s29 (m20 before given)
+      abbrev pub m22 : (before : After-set-circuit) → (given : s27 .gives (m19 (before .before) (After-set-circuit·gave before))) → Typed.Mo T32
+      m22 = λ before given. s30 (m21 before given)
+      abbrev pub m23 : (before : After-set-circuit) → (given : s27 .gives (m19 (before .before) (After-set-circuit·gave before))) → Typed.Mo T33
       m23 = λ before given. s31 (m22 before given)
-      abbrev pub m24 : (before : After-set-circuit) → (given : s29 .gives (m21 (before .before) (After-set-circuit·gave before))) → Typed.Mo T34
+      abbrev pub m24 : (before : After-set-circuit) → (given : s27 .gives (m19 (before .before) (After-set-circuit·gave before))) → Typed.Mo T34
       m24 = λ before given. s32 (m23 before given)
-      abbrev pub m25 : (before : After-set-circuit) → (given : s29 .gives (m21 (before .before) (After-set-circuit·gave before))) → Typed.Mo T35
+      abbrev pub m25 : (before : After-set-circuit) → (given : s27 .gives (m19 (before .before) (After-set-circuit·gave before))) → Typed.Mo T35
       m25 = λ before given. s33 (m24 before given)
-      abbrev pub m26 : (before : After-set-circuit) → (given : s29 .gives (m21 (before .before) (After-set-circuit·gave before))) → Typed.Mo T36
-      m26 = λ before given. s34 (m25 before given)
-      abbrev pub m27 : (before : After-set-circuit) → (given : s29 .gives (m21 (before .before) (After-set-circuit·gave before))) → Typed.Mo T37
-      m27 = λ before given. s35 (m26 before given)
       module _ (before· : After-set-circuit) where
         pub record After-circuits·own : Type 0 where
-          pub given : s29 .gives (m21 (before· .before) (After-set-circuit·gave before·))
+          pub given : s27 .gives (m19 (before· .before) (After-set-circuit·gave before·))
       pub record After-circuits : Type 0 where
         pub before : After-set-circuit
         pub circuits : After-circuits·own before
       abbrev pub Need-same-length : Type 0
-      Need-same-length = (c : After-circuits) → MutSlice.SameLen (Row.get 1 (T37 .locals) (m27 (c .before) (c .circuits .given))) (dens (c .before
-          .before .before .before .before .before .before .before .before .κs) (c .before .before .before .before .before .before .before .before
-          .before .args) .0)
+      Need-same-length = (c : After-circuits) → MutSlice.SameLen (Row.get 1 (T35 .locals) (m25 (c .before) (c .circuits .given))) (dens (c .before
+          .before .before .before .before .before .before .before .κs) (c .before .before .before .before .before .before .before .before .args) .0)
       abbrev pub Need-returns : Type 0
-      Need-returns = (c : After-circuits) → Post· (c .before .before .before .before .before .before .before .before .before .κs) (dens (c .before
-          .before .before .before .before .before .before .before .before .κs) (c .before .before .before .before .before .before .before .before
-          .before .args)) (Function.resV r (c .before .before .before .before .before .before .before .before .before .κs) (m27 (c .before) (c
-          .circuits .given) .0)) (Clauses.atExit (Kinds.endedOf 1 ps r) (c .before .before .before .before .before .before .before .before .before
-          .κs) (dens (c .before .before .before .before .before .before .before .before .before .κs) (c .before .before .before .before .before
-          .before .before .before .before .args)) (Enter.lastsP (c .before .before .before .before .before .before .before .before .before .κs) 1 ps
-          xs (dens (c .before .before .before .before .before .before .before .before .before .κs) (c .before .before .before .before .before .before
-          .before .before .before .args)) (m27 (c .before) (c .circuits .given) .1)))
-      module _ (at-requires : Need-at-requires) (find-circuit-requires : Need-find-circuit-requires) (circuit-at-requires : Need-circuit-at-requires)
-          (circuit-lowered-requires : Need-circuit-lowered-requires) (set-circuit-requires : Need-set-circuit-requires) (same-length :
-          Need-same-length) (returns : Need-returns) where
-        lay5 : (c : After-set-circuit) → at10 (W0 (c .before .before .before .before .before .before .before .before .κs) (c .before .before .before
-            .before .before .before .before .before .args)) (m19 (c .before) (After-set-circuit·gave c))
-        lay5 = λ c. (Path.refl, λ g. ((MutSlice.fix-len (Row.get 1 (T37 .locals) (m27 record { before = c .before; set-circuit = c .set-circuit; } g)
-            .ptr) (Row.get 1 (T37 .locals) (m27 record { before = c .before; set-circuit = c .set-circuit; } g) .name) (Row.get 1 (T37 .locals) (m27
+      Need-returns = (c : After-circuits) → Post· (c .before .before .before .before .before .before .before .before .κs) (dens (c .before .before
+          .before .before .before .before .before .before .κs) (c .before .before .before .before .before .before .before .before .args))
+          (Function.resV r (c .before .before .before .before .before .before .before .before .κs) (m25 (c .before) (c .circuits .given) .0))
+          (Clauses.atExit (Kinds.endedOf 1 ps r) (c .before .before .before .before .before .before .before .before .κs) (dens (c .before .before
+          .before .before .before .before .before .before .κs) (c .before .before .before .before .before .before .before .before .args))
+          (Enter.lastsP (c .before .before .before .before .before .before .before .before .κs) 1 ps xs (dens (c .before .before .before .before
+          .before .before .before .before .κs) (c .before .before .before .before .before .before .before .before .args)) (m25 (c .before) (c
+          .circuits .given) .1)))
+      module _ (find-circuit-id-requires : Need-find-circuit-id-requires) (circuit-at-requires : Need-circuit-at-requires) (circuit-lowered-requires :
+          Need-circuit-lowered-requires) (set-circuit-requires : Need-set-circuit-requires) (same-length : Need-same-length) (returns : Need-returns)
+          where
+        lay4 : (c : After-set-circuit) → at10 (W0 (c .before .before .before .before .before .before .before .κs) (c .before .before .before .before
+            .before .before .before .args)) (m17 (c .before) (After-set-circuit·gave c))
+        lay4 = λ c. (Path.refl, λ g. ((MutSlice.fix-len (Row.get 1 (T35 .locals) (m25 record { before = c .before; set-circuit = c .set-circuit; } g)
+            .ptr) (Row.get 1 (T35 .locals) (m25 record { before = c .before; set-circuit = c .set-circuit; } g) .name) (Row.get 1 (T35 .locals) (m25
             record { before = c .before; set-circuit = c .set-circuit; } g) .now) (dens (c .before .before .before .before .before .before .before
-            .before .κs) (c .before .before .before .before .before .before .before .before .args) .0 .now) (same-length record { before = record {
-            before = c .before; set-circuit = c .set-circuit }; circuits = record { given = g }; }), (tt, (tt, (tt, (tt, (tt, tt))))),), returns
-            record { before = record { before = c .before; set-circuit = c .set-circuit }; circuits = record { given = g }; },),)
-        lay4 : (c : After-circuit-lowered) → at16 (W0 (c .before .before .before .before .before .before .κs) (c .before .before .before .before
-            .before .before .args)) (m14 (c .before) (After-circuit-lowered·gave c))
-        lay4 = λ c. λ g. (Path.refl, (set-circuit-requires record { before = record { before = c .before; circuit-lowered = c .circuit-lowered };
-            set-circuit-arg = record { given = g }; }, λ g'. lay5 record { before = record { before = record { before = c .before; circuit-lowered = c
-            .circuit-lowered }; set-circuit-arg = record { given = g }; }; set-circuit = Called.called ps·4 r·4 (claims· .9) T26 (record { pos = 17;
-            ty = Syntax.tyRef Syntax.erased Syntax.mut RelayCircuit.to; ref = λ x. x; }, (Bool.bAt 3 λ x. x, (Num.vAt 8 λ x. x, (record { pos = 10; st
-            = List.[]; d = 0; at = λ x. x }, tt),),),) (m18 record { before = c .before; circuit-lowered = c .circuit-lowered } g) g'; },),)
-        lay3 : (c : After-circuit-at) → at22 (W0 (c .before .before .before .before .before .κs) (c .before .before .before .before .before .args))
-            (m10 (c .before) (After-circuit-at·gave c))
-        lay3 = λ c. (circuit-lowered-requires record { before = c .before; circuit-at = c .circuit-at }, λ g. lay4 record { before = record { before =
-            c .before; circuit-at = c .circuit-at }; circuit-lowered = Called.called ps·3 r·3 (claims· .7) T19 (record { pos = 9; st = List.[]; d = 0;
-            at = λ x. x }, (record { pos = 5; st = List.[]; d = 0; at = λ x. x }, (Num.vAt 6 λ x. x, tt)),) (m13 (c .before) (After-circuit-at·gave
+            .κs) (c .before .before .before .before .before .before .before .args) .0 .now) (same-length record { before = record { before = c
+            .before; set-circuit = c .set-circuit }; circuits = record { given = g }; }), (tt, (tt, (tt, (tt, (tt, tt))))),), returns record { before
+            = record { before = c .before; set-circuit = c .set-circuit }; circuits = record { given = g }; },),)
+        lay3 : (c : After-circuit-lowered) → at16 (W0 (c .before .before .before .before .before .κs) (c .before .before .before .before .before
+            .args)) (m12 (c .before) (After-circuit-lowered·gave c))
+        lay3 = λ c. λ g. (Path.refl, (set-circuit-requires record { before = record { before = c .before; circuit-lowered = c .circuit-lowered };
+            set-circuit-arg = record { given = g }; }, λ g'. lay4 record { before = record { before = record { before = c .before; circuit-lowered = c
+            .circuit-lowered }; set-circuit-arg = record { given = g }; }; set-circuit = Called.called ps·3 r·3 (claims· .7) T24 (record { pos = 16;
+            ty = Syntax.tyRef Syntax.erased Syntax.mut RelayCircuit.to; ref = λ x. x; }, (Bool.bAt 3 λ x. x, (Num.vAt 7 λ x. x, (record { pos = 9; st
+            = List.[]; d = 0; at = λ x. x }, tt)),),) (m16 record { before = c .before; circuit-lowered = c .circuit-lowered } g) g'; },),)
+        lay2 : (c : After-circuit-at) → at22 (W0 (c .before .before .before .before .κs) (c .before .before .before .before .args)) (m8 (c .before)
+            (After-circuit-at·gave c))
+        lay2 = λ c. (circuit-lowered-requires record { before = c .before; circuit-at = c .circuit-at }, λ g. lay3 record { before = record { before =
+            c .before; circuit-at = c .circuit-at }; circuit-lowered = Called.called ps·2 r·2 (claims· .5) T17 (record { pos = 8; st = List.[]; d = 0;
+            at = λ x. x }, (record { pos = 5; st = List.[]; d = 0; at = λ x. x }, (Num.vAt 6 λ x. x, tt)),) (m11 (c .before) (After-circuit-at·gave
             c)) g; },)
-        lay2 : (c : After-find-circuit) → at31 (W0 (c .before .before .before .κs) (c .before .before .before .args)) (m4 (c .before)
-            (After-find-circuit·gave c))
-        lay2 = λ c. λ g. (Path.refl, (circuit-at-requires record { before = record { before = c .before; find-circuit = c .find-circuit };
-            circuit-at-arg = record { given = g }; }, λ g'. lay3 record { before = record { before = record { before = c .before; find-circuit = c
-            .find-circuit }; circuit-at-arg = record { given = g }; }; circuit-at = Called.called ps·2 r·2 (claims· .5) T14 (record { pos = 14; ty =
-            Syntax.tyRef Syntax.erased Syntax.imm RelayCircuit.to; ref = λ x. x; }, (record { pos = 2; st = List.[]; d = 0; at = λ x. x }, (Num.vAt 8
-            λ x. x, tt)),) (m9 record { before = c .before; find-circuit = c .find-circuit } g) g'; },),)
-        lay1 : (c : After-at) → at35 (W0 (c .before .κs) (c .before .args)) (m1 (c .before) (After-at·gave c))
-        lay1 = λ c. λ g. (Path.refl, (find-circuit-requires record { before = record { before = c .before; at = c .at }; find-circuit-arg = record {
-            given = g }; }, λ g'. lay2 record { before = record { before = record { before = c .before; at = c .at }; find-circuit-arg = record {
-            given = g }; }; find-circuit = Called.called ps·1 r·1 (claims· .3) T5 (record { pos = 12; ty = Syntax.tyRef Syntax.erased Syntax.imm
-            RelayCircuit.to; ref = λ x. x; }, (record { pos = 2; st = List.[]; d = 0; at = λ x. x }, (record { pos = 7; st = List.[]; d = 0; at = λ x.
-            x }, tt),),) (m3 record { before = c .before; at = c .at } g) g'; },),)
-        pub laid : (c : Start) → at36 (W0 (c .κs) (c .args)) (m0 (c .κs) (c .args))
-        laid = λ c. (at-requires c, λ g. lay1 record { before = c; at = Called.called ps·0 r·0 (claims· .1) T0 (Num.vAt 4 λ x. x, (Num.vLit 0, tt))
-            (m0 (c .κs) (c .args)) g; },)
+        lay1 : (c : After-find-circuit-id) → at30 (W0 (c .before .before .κs) (c .before .before .args)) (m3 (c .before) (After-find-circuit-id·gave
+            c))
+        lay1 = λ c. λ g. (Path.refl, (circuit-at-requires record { before = record { before = c .before; find-circuit-id = c .find-circuit-id };
+            circuit-at-arg = record { given = g }; }, λ g'. lay2 record { before = record { before = record { before = c .before; find-circuit-id = c
+            .find-circuit-id }; circuit-at-arg = record { given = g }; }; circuit-at = Called.called ps·1 r·1 (claims· .3) T12 (record { pos = 13; ty
+            = Syntax.tyRef Syntax.erased Syntax.imm RelayCircuit.to; ref = λ x. x; }, (record { pos = 2; st = List.[]; d = 0; at = λ x. x }, (Num.vAt
+            7 λ x. x, tt)),) (m7 record { before = c .before; find-circuit-id = c .find-circuit-id } g) g'; },),)
+        pub laid : (c : Start) → at34 (W0 (c .κs) (c .args)) (m0 (c .κs) (c .args))
+        laid = λ c. λ g. (Path.refl, (find-circuit-id-requires record { before = c; find-circuit-id-arg = record { given = g }; }, λ g'. lay1 record {
+            before = record { before = c; find-circuit-id-arg = record { given = g } }; find-circuit-id = Called.called ps·0 r·0 (claims· .1) T4
+            (record { pos = 11; ty = Syntax.tyRef Syntax.erased Syntax.imm RelayCircuit.to; ref = λ x. x; }, (record { pos = 2; st = List.[]; d = 0;
+            at = λ x. x }, (Num.vAt 4 λ x. x, tt)),) (m2 c g) g'; },),)
         module _ (κs : Lifetimes.Lfts 1) (qs : Lifetimes.Shares 1) where
           pub asked : (a : Kinds.Dens κs ps) → (good : Kinds.GoodsP κs ps a) → (pre : Pre· κs a) → (bs : List.List Nat.ℕ) → Φ (Any.wantQ 1 ps r xs m
               κs qs a (Post· κs a)) (Function.init 1 ps r xs m κs qs a)
@@ -1128,11 +1057,10 @@ module _ (claims· : Claims) where
               = a .1 .1 .1 .1 .0; n = a .1 .1 .1 .1 .1 .0; }; good = good; fits = record { id = record { fits = good .1 .1 .1 .0 .1 }; n = record {
               fits = good .1 .1 .1 .1 .1 .0 .1 }; }; pre = pre; }
         module _ { M : Type 1 } (𝓤 : URA.URA M) (H : Wp.Heap 𝓤) (A : Atoms.Atoms 𝓤) (W : Kit.Given 𝓤 H A) (𝓣 : Wp.Tables 𝓤 H) (known0 : Plain.Known 𝓤
-            H A W 𝓣 0 ps·0 r·0 (claims· .0) (claims· .1) "hnsr_circuit::question::at") (known1 : Plain.Known 𝓤 H A W 𝓣 1 ps·1 r·1 (claims· .2)
-            (claims· .3) "hnsr_circuit::tables::circuits::find_circuit") (known2 : Plain.Known 𝓤 H A W 𝓣 1 ps·2 r·2 (claims· .4) (claims· .5)
-            "hnsr_circuit::tables::circuits::circuit_at") (known3 : Plain.Known 𝓤 H A W 𝓣 0 ps·3 r·3 (claims· .6) (claims· .7)
-            "hnsr_circuit::circuits::circuit_lowered") (known4 : Plain.Known 𝓤 H A W 𝓣 1 ps·4 r·4 (claims· .8) (claims· .9)
+            H A W 𝓣 1 ps·0 r·0 (claims· .0) (claims· .1) "hnsr_circuit::tables::circuits::find_circuit_id") (known1 : Plain.Known 𝓤 H A W 𝓣 1 ps·1 r·1
+            (claims· .2) (claims· .3) "hnsr_circuit::tables::circuits::circuit_at") (known2 : Plain.Known 𝓤 H A W 𝓣 0 ps·2 r·2 (claims· .4) (claims·
+            .5) "hnsr_circuit::circuits::circuit_lowered") (known3 : Plain.Known 𝓤 H A W 𝓣 1 ps·3 r·3 (claims· .6) (claims· .7)
             "hnsr_circuit::tables::circuits::set_circuit") where
           pub spec : Statement.Triple 𝓤 (Wp.WpFn 𝓤 H (𝓣 .C) (𝓣 .Λ) (Function.fnOf 1 ps r xs m hs body)) (Function.plainOf 𝓤 H A 1 ps r Pre· Post·)
-          spec = Plain.t-fn-plain 𝓤 H A W 𝓣 1 ps r xs m hs body (λ κs qs bs. Φ) (λ κs qs bs bd. typed κs qs 𝓤 H A W 𝓣 (known0, known1, known2, known3,
-              known4) bs bd) Pre· Post· asked
+          spec = Plain.t-fn-plain 𝓤 H A W 𝓣 1 ps r xs m hs body (λ κs qs bs. Φ) (λ κs qs bs bd. typed κs qs 𝓤 H A W 𝓣 (known0, known1, known2, known3)
+              bs bd) Pre· Post· asked

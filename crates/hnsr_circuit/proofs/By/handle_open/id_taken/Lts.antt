@@ -4,8 +4,6 @@ use Rattle.hnsr_circuit.proofs.By.RelayCircuit
 use Rattle.hnsr_circuit.proofs.By.RelayPending
 use Rattle.hnsr_circuit.proofs.places.Places
 use Rattle.hnsr_circuit.proofs.places.Places.Laws
-use Rattle.hnsr_circuit.proofs.records.Question
-use Rattle.hnsr_circuit.proofs.records.Question.Laws as Laws'
 use borrow.Author.Called
 use borrow.Fn.Any
 use borrow.Fn.Call
@@ -30,7 +28,7 @@ use borrow.Table.Typed
 use contract.Lifetimes
 use denote.Exit
 use denote.Struct.Declared
-use denote.Struct.Laws as Laws''
+use denote.Struct.Laws as Laws'
 use denote.Triple.Clauses
 use denote.Triple.Statement
 use ghost.Atoms
@@ -50,92 +48,71 @@ abbrev ref1 : Syntax.Ty
 ref1 = Syntax.tyRef (Syntax.named 1) Syntax.imm RelayCircuit.to
 abbrev pub ps : List.List (Kinds.PK 2)
 ps = (ShrSlice.pShrS RelayPending.row 0 tt) ∷ (ShrSlice.pShrS RelayCircuit.row 1 tt) ∷ (Value.pVal record { ty = Declared.row Places.the-type; one =
-    Path.refl; val = Laws''.val Places.the-type Laws.the-laws; tells = Laws''.tells Places.the-type Laws.the-laws; still = Laws''.still
-    Places.the-type Laws.the-copy Exit.yes; row = Rows.whole (Declared.row Places.the-type); rd = λ x. x; mk = λ x. x; } λ M 𝓤 H A W. record { copies
-    = Laws''.copy Places.the-type Laws.the-copy 𝓤 H A W; lawful = Laws''.lawful Places.the-type Laws.the-laws 𝓤 H A W; makes = Laws''.makes
-    Places.the-type Laws.the-plain 𝓤 H A; in-mem = Local.mem-whole 𝓤 H A W (Declared.row Places.the-type); of-mem = Local.whole-mem 𝓤 H A W
-    (Declared.row Places.the-type); }) ∷ (Num.pNum Syntax.w64) ∷ List.[]
+    Path.refl; val = Laws'.val Places.the-type Laws.the-laws; tells = Laws'.tells Places.the-type Laws.the-laws; still = Laws'.still Places.the-type
+    Laws.the-copy Exit.yes; row = Rows.whole (Declared.row Places.the-type); rd = λ x. x; mk = λ x. x; } λ M 𝓤 H A W. record { copies = Laws'.copy
+    Places.the-type Laws.the-copy 𝓤 H A W; lawful = Laws'.lawful Places.the-type Laws.the-laws 𝓤 H A W; makes = Laws'.makes Places.the-type
+    Laws.the-plain 𝓤 H A; in-mem = Local.mem-whole 𝓤 H A W (Declared.row Places.the-type); of-mem = Local.whole-mem 𝓤 H A W (Declared.row
+    Places.the-type); }) ∷ (Num.pNum Syntax.w64) ∷ List.[]
 abbrev pub r : Kinds.RK 2
 r = Bool.rBool
 abbrev pub xs : List.List Syntax.Ty
-xs = Laws'.mir ∷ (Syntax.tyInt Syntax.w64) ∷ (Syntax.tyInt Syntax.w64) ∷ (Syntax.tyInt Syntax.w64) ∷ (Syntax.tyInt Syntax.w64) ∷ List.[]
+xs = (Syntax.tyInt Syntax.w64) ∷ (Syntax.tyInt Syntax.w64) ∷ (Syntax.tyInt Syntax.w64) ∷ (Syntax.tyInt Syntax.w64) ∷ List.[]
 abbrev pub m : Nat.ℕ
 m = 0
-abbrev pub ps·0 : List.List (Kinds.PK 0)
-ps·0 = (Num.pNum Syntax.w64) ∷ (Num.pNum Syntax.w64) ∷ List.[]
-abbrev pub r·0 : Kinds.RK 0
-r·0 = Value.rVal record { ty = Declared.row Question.the-type; one = Path.refl; val = Laws''.val Question.the-type Laws'.the-laws; tells =
-    Laws''.tells Question.the-type Laws'.the-laws; still = Laws''.still Question.the-type Laws'.the-copy Exit.yes; row = Rows.whole (Declared.row
-    Question.the-type); rd = λ x. x; mk = λ x. x; } λ M 𝓤 H A W. record { copies = Laws''.copy Question.the-type Laws'.the-copy 𝓤 H A W; lawful =
-    Laws''.lawful Question.the-type Laws'.the-laws 𝓤 H A W; makes = Laws''.makes Question.the-type Laws'.the-plain 𝓤 H A; in-mem = Local.mem-whole 𝓤 H
-    A W (Declared.row Question.the-type); of-mem = Local.whole-mem 𝓤 H A W (Declared.row Question.the-type); }
+abbrev pub ps·0 : List.List (Kinds.PK 1)
+ps·0 = (ShrSlice.pShrS RelayPending.row 0 tt) ∷ (Value.pVal record { ty = Declared.row Places.the-type; one = Path.refl; val = Laws'.val
+    Places.the-type Laws.the-laws; tells = Laws'.tells Places.the-type Laws.the-laws; still = Laws'.still Places.the-type Laws.the-copy Exit.yes; row
+    = Rows.whole (Declared.row Places.the-type); rd = λ x. x; mk = λ x. x; } λ M 𝓤 H A W. record { copies = Laws'.copy Places.the-type Laws.the-copy 𝓤
+    H A W; lawful = Laws'.lawful Places.the-type Laws.the-laws 𝓤 H A W; makes = Laws'.makes Places.the-type Laws.the-plain 𝓤 H A; in-mem =
+    Local.mem-whole 𝓤 H A W (Declared.row Places.the-type); of-mem = Local.whole-mem 𝓤 H A W (Declared.row Places.the-type); }) ∷ (Num.pNum
+    Syntax.w64) ∷ List.[]
+abbrev pub r·0 : Kinds.RK 1
+r·0 = Num.rNum Syntax.w64
 abbrev pub ps·1 : List.List (Kinds.PK 1)
-ps·1 = (ShrSlice.pShrS RelayPending.row 0 tt) ∷ (Value.pVal record { ty = Declared.row Places.the-type; one = Path.refl; val = Laws''.val
-    Places.the-type Laws.the-laws; tells = Laws''.tells Places.the-type Laws.the-laws; still = Laws''.still Places.the-type Laws.the-copy Exit.yes;
-    row = Rows.whole (Declared.row Places.the-type); rd = λ x. x; mk = λ x. x; } λ M 𝓤 H A W. record { copies = Laws''.copy Places.the-type
-    Laws.the-copy 𝓤 H A W; lawful = Laws''.lawful Places.the-type Laws.the-laws 𝓤 H A W; makes = Laws''.makes Places.the-type Laws.the-plain 𝓤 H A;
-    in-mem = Local.mem-whole 𝓤 H A W (Declared.row Places.the-type); of-mem = Local.whole-mem 𝓤 H A W (Declared.row Places.the-type); }) ∷ (Value.pVal
-    record { ty = Declared.row Question.the-type; one = Path.refl; val = Laws''.val Question.the-type Laws'.the-laws; tells = Laws''.tells
-    Question.the-type Laws'.the-laws; still = Laws''.still Question.the-type Laws'.the-copy Exit.yes; row = Rows.whole (Declared.row
-    Question.the-type); rd = λ x. x; mk = λ x. x; } λ M 𝓤 H A W. record { copies = Laws''.copy Question.the-type Laws'.the-copy 𝓤 H A W; lawful =
-    Laws''.lawful Question.the-type Laws'.the-laws 𝓤 H A W; makes = Laws''.makes Question.the-type Laws'.the-plain 𝓤 H A; in-mem = Local.mem-whole 𝓤 H
-    A W (Declared.row Question.the-type); of-mem = Local.whole-mem 𝓤 H A W (Declared.row Question.the-type); }) ∷ List.[]
+ps·1 = (ShrSlice.pShrS RelayCircuit.row 0 tt) ∷ (Value.pVal record { ty = Declared.row Places.the-type; one = Path.refl; val = Laws'.val
+    Places.the-type Laws.the-laws; tells = Laws'.tells Places.the-type Laws.the-laws; still = Laws'.still Places.the-type Laws.the-copy Exit.yes; row
+    = Rows.whole (Declared.row Places.the-type); rd = λ x. x; mk = λ x. x; } λ M 𝓤 H A W. record { copies = Laws'.copy Places.the-type Laws.the-copy 𝓤
+    H A W; lawful = Laws'.lawful Places.the-type Laws.the-laws 𝓤 H A W; makes = Laws'.makes Places.the-type Laws.the-plain 𝓤 H A; in-mem =
+    Local.mem-whole 𝓤 H A W (Declared.row Places.the-type); of-mem = Local.whole-mem 𝓤 H A W (Declared.row Places.the-type); }) ∷ (Num.pNum
+    Syntax.w64) ∷ List.[]
 abbrev pub r·1 : Kinds.RK 1
 r·1 = Num.rNum Syntax.w64
-abbrev pub ps·2 : List.List (Kinds.PK 1)
-ps·2 = (ShrSlice.pShrS RelayCircuit.row 0 tt) ∷ (Value.pVal record { ty = Declared.row Places.the-type; one = Path.refl; val = Laws''.val
-    Places.the-type Laws.the-laws; tells = Laws''.tells Places.the-type Laws.the-laws; still = Laws''.still Places.the-type Laws.the-copy Exit.yes;
-    row = Rows.whole (Declared.row Places.the-type); rd = λ x. x; mk = λ x. x; } λ M 𝓤 H A W. record { copies = Laws''.copy Places.the-type
-    Laws.the-copy 𝓤 H A W; lawful = Laws''.lawful Places.the-type Laws.the-laws 𝓤 H A W; makes = Laws''.makes Places.the-type Laws.the-plain 𝓤 H A;
-    in-mem = Local.mem-whole 𝓤 H A W (Declared.row Places.the-type); of-mem = Local.whole-mem 𝓤 H A W (Declared.row Places.the-type); }) ∷ (Value.pVal
-    record { ty = Declared.row Question.the-type; one = Path.refl; val = Laws''.val Question.the-type Laws'.the-laws; tells = Laws''.tells
-    Question.the-type Laws'.the-laws; still = Laws''.still Question.the-type Laws'.the-copy Exit.yes; row = Rows.whole (Declared.row
-    Question.the-type); rd = λ x. x; mk = λ x. x; } λ M 𝓤 H A W. record { copies = Laws''.copy Question.the-type Laws'.the-copy 𝓤 H A W; lawful =
-    Laws''.lawful Question.the-type Laws'.the-laws 𝓤 H A W; makes = Laws''.makes Question.the-type Laws'.the-plain 𝓤 H A; in-mem = Local.mem-whole 𝓤 H
-    A W (Declared.row Question.the-type); of-mem = Local.whole-mem 𝓤 H A W (Declared.row Question.the-type); }) ∷ List.[]
-abbrev pub r·2 : Kinds.RK 1
-r·2 = Num.rNum Syntax.w64
-abbrev pub ps·3 : List.List (Kinds.PK 0)
-ps·3 = (Num.pNum Syntax.w64) ∷ (Num.pNum Syntax.w64) ∷ (Num.pNum Syntax.w64) ∷ (Num.pNum Syntax.w64) ∷ List.[]
-abbrev pub r·3 : Kinds.RK 0
-r·3 = Bool.rBool
+abbrev pub ps·2 : List.List (Kinds.PK 0)
+ps·2 = (Num.pNum Syntax.w64) ∷ (Num.pNum Syntax.w64) ∷ (Num.pNum Syntax.w64) ∷ (Num.pNum Syntax.w64) ∷ List.[]
+abbrev pub r·2 : Kinds.RK 0
+r·2 = Bool.rBool
 abbrev pub hs : List.List Syntax.Home
 hs = Syntax.valueLocal ∷ Syntax.valueLocal ∷ Syntax.valueLocal ∷ Syntax.valueLocal ∷ Syntax.valueLocal ∷ Syntax.valueLocal ∷ Syntax.valueLocal ∷
-    Syntax.valueLocal ∷ Syntax.valueLocal ∷ Syntax.valueLocal ∷ List.[]
+    Syntax.valueLocal ∷ Syntax.valueLocal ∷ List.[]
 abbrev b0 : Syntax.Body
-b0 = Syntax.call "hnsr_circuit::question::at" ((Syntax.copy (Syntax.place 4 List.[])) ∷ (Syntax.int Syntax.w64 0) ∷ List.[]) (Syntax.place 5 List.[])
+b0 = Syntax.call "hnsr_circuit::tables::pending::find_pending_id" ((Syntax.copy (Syntax.place 1 List.[])) ∷ (Syntax.copy (Syntax.place 3 List.[])) ∷
+    (Syntax.copy (Syntax.place 4 List.[])) ∷ List.[]) (Syntax.place 5 List.[])
 abbrev b1 : Syntax.Body
-b1 = Syntax.call "hnsr_circuit::tables::pending::find_pending" ((Syntax.copy (Syntax.place 1 List.[])) ∷ (Syntax.copy (Syntax.place 3 List.[])) ∷
-    (Syntax.copy (Syntax.place 5 List.[])) ∷ List.[]) (Syntax.place 6 List.[])
+b1 = Syntax.call "hnsr_circuit::tables::circuits::find_circuit_id" ((Syntax.copy (Syntax.place 2 List.[])) ∷ (Syntax.copy (Syntax.place 3 List.[])) ∷
+    (Syntax.copy (Syntax.place 4 List.[])) ∷ List.[]) (Syntax.place 6 List.[])
 abbrev b2 : Syntax.Body
-b2 = Syntax.call "hnsr_circuit::tables::circuits::find_circuit" ((Syntax.copy (Syntax.place 2 List.[])) ∷ (Syntax.copy (Syntax.place 3 List.[])) ∷
-    (Syntax.copy (Syntax.place 5 List.[])) ∷ List.[]) (Syntax.place 7 List.[])
+b2 = Syntax.assign (Syntax.place 7 List.[]) (Syntax.rvOpd (Syntax.copy (Syntax.place 1 ((Syntax.field 1) ∷ List.[]))))
 abbrev b3 : Syntax.Body
-b3 = Syntax.assign (Syntax.place 8 List.[]) (Syntax.rvOpd (Syntax.copy (Syntax.place 1 ((Syntax.field 1) ∷ List.[]))))
+b3 = Syntax.assign (Syntax.place 8 List.[]) (Syntax.rvOpd (Syntax.copy (Syntax.place 2 ((Syntax.field 1) ∷ List.[]))))
 abbrev b4 : Syntax.Body
-b4 = Syntax.assign (Syntax.place 9 List.[]) (Syntax.rvOpd (Syntax.copy (Syntax.place 2 ((Syntax.field 1) ∷ List.[]))))
+b4 = Syntax.call "hnsr_circuit::draw::either_found" ((Syntax.copy (Syntax.place 5 List.[])) ∷ (Syntax.copy (Syntax.place 7 List.[])) ∷ (Syntax.copy
+    (Syntax.place 6 List.[])) ∷ (Syntax.copy (Syntax.place 8 List.[])) ∷ List.[]) (Syntax.place 0 List.[])
 abbrev b5 : Syntax.Body
-b5 = Syntax.call "hnsr_circuit::draw::either_found" ((Syntax.copy (Syntax.place 6 List.[])) ∷ (Syntax.copy (Syntax.place 8 List.[])) ∷ (Syntax.copy
-    (Syntax.place 7 List.[])) ∷ (Syntax.copy (Syntax.place 9 List.[])) ∷ List.[]) (Syntax.place 0 List.[])
+b5 = Syntax.return
 abbrev b6 : Syntax.Body
-b6 = Syntax.return
+b6 = Syntax.seq b4 b5
 abbrev b7 : Syntax.Body
-b7 = Syntax.seq b5 b6
+b7 = Syntax.seq b3 b6
 abbrev b8 : Syntax.Body
-b8 = Syntax.seq b4 b7
+b8 = Syntax.seq b2 b7
 abbrev b9 : Syntax.Body
-b9 = Syntax.seq b3 b8
+b9 = Syntax.seq b1 b8
 abbrev b10 : Syntax.Body
-b10 = Syntax.seq b2 b9
-abbrev b11 : Syntax.Body
-b11 = Syntax.seq b1 b10
-abbrev b12 : Syntax.Body
-b12 = Syntax.seq b0 b11
+b10 = Syntax.seq b0 b9
 abbrev pub body : Syntax.Body
-body = b12
+body = b10
 abbrev pub Claims : Type 1
-Claims = Kinds.In 0 ps·0 × Kinds.Out 0 ps·0 r·0 × Kinds.In 1 ps·1 × Kinds.Out 1 ps·1 r·1 × Kinds.In 1 ps·2 × Kinds.Out 1 ps·2 r·2 × Kinds.In 0 ps·3 ×
-    Kinds.Out 0 ps·3 r·3
+Claims = Kinds.In 1 ps·0 × Kinds.Out 1 ps·0 r·0 × Kinds.In 1 ps·1 × Kinds.Out 1 ps·1 r·1 × Kinds.In 0 ps·2 × Kinds.Out 0 ps·2 r·2
 abbrev e0 : Row.Entry
 e0 = (0, Rows.any-gone Syntax.tyBool)
 abbrev e1 : Row.Entry
@@ -147,15 +124,13 @@ e3 = (3, Rows.whole (Declared.row Places.the-type))
 abbrev e4 : Row.Entry
 e4 = (4, Rows.sc-here (Row.sInt Syntax.w64))
 abbrev e5 : Row.Entry
-e5 = (5, Rows.any-gone Laws'.mir)
+e5 = (5, Rows.any-gone (Syntax.tyInt Syntax.w64))
 abbrev e6 : Row.Entry
 e6 = (6, Rows.any-gone (Syntax.tyInt Syntax.w64))
 abbrev e7 : Row.Entry
 e7 = (7, Rows.any-gone (Syntax.tyInt Syntax.w64))
 abbrev e8 : Row.Entry
 e8 = (8, Rows.any-gone (Syntax.tyInt Syntax.w64))
-abbrev e9 : Row.Entry
-e9 = (9, Rows.any-gone (Syntax.tyInt Syntax.w64))
 abbrev e0·1 : Row.Entry
 e0·1 = (0, Rows.sc-here Row.sBool)
 abbrev e3·1 : Row.Entry
@@ -163,43 +138,37 @@ e3·1 = (3, Rows.any-gone Laws.mir)
 abbrev e4·1 : Row.Entry
 e4·1 = (4, Rows.any-gone (Syntax.tyInt Syntax.w64))
 abbrev e5·1 : Row.Entry
-e5·1 = (5, Rows.whole (Declared.row Question.the-type))
+e5·1 = (5, Rows.sc-here (Row.sInt Syntax.w64))
 abbrev e6·1 : Row.Entry
 e6·1 = (6, Rows.sc-here (Row.sInt Syntax.w64))
 abbrev e7·1 : Row.Entry
 e7·1 = (7, Rows.sc-here (Row.sInt Syntax.w64))
 abbrev e8·1 : Row.Entry
 e8·1 = (8, Rows.sc-here (Row.sInt Syntax.w64))
-abbrev e9·1 : Row.Entry
-e9·1 = (9, Rows.sc-here (Row.sInt Syntax.w64))
 abbrev pub t0 : List.List Row.Entry
-t0 = e0 ∷ e1 ∷ e2 ∷ e3 ∷ e4 ∷ e5 ∷ e6 ∷ e7 ∷ e8 ∷ e9 ∷ List.[]
+t0 = e0 ∷ e1 ∷ e2 ∷ e3 ∷ e4 ∷ e5 ∷ e6 ∷ e7 ∷ e8 ∷ List.[]
 abbrev pub t1 : List.List Row.Entry
-t1 = e0·1 ∷ e1 ∷ e2 ∷ e3·1 ∷ e4·1 ∷ e5 ∷ e6 ∷ e7 ∷ e8 ∷ e9 ∷ List.[]
+t1 = e0·1 ∷ e1 ∷ e2 ∷ e3·1 ∷ e4·1 ∷ e5 ∷ e6 ∷ e7 ∷ e8 ∷ List.[]
 abbrev pub t2 : List.List Row.Entry
-t2 = e0 ∷ e1 ∷ e2 ∷ e3 ∷ e4 ∷ e5·1 ∷ e6 ∷ e7 ∷ e8 ∷ e9 ∷ List.[]
+t2 = e0 ∷ e1 ∷ e2 ∷ e3 ∷ e4 ∷ e5·1 ∷ e6 ∷ e7 ∷ e8 ∷ List.[]
 abbrev pub t3 : List.List Row.Entry
-t3 = e0 ∷ e1 ∷ e2 ∷ e3 ∷ e4 ∷ e5·1 ∷ e6·1 ∷ e7 ∷ e8 ∷ e9 ∷ List.[]
+t3 = e0 ∷ e1 ∷ e2 ∷ e3 ∷ e4 ∷ e5·1 ∷ e6·1 ∷ e7 ∷ e8 ∷ List.[]
 abbrev pub t4 : List.List Row.Entry
-t4 = e0 ∷ e1 ∷ e2 ∷ e3 ∷ e4 ∷ e5·1 ∷ e6·1 ∷ e7·1 ∷ e8 ∷ e9 ∷ List.[]
+t4 = e0 ∷ e1 ∷ e2 ∷ e3·1 ∷ e4 ∷ e5·1 ∷ e6·1 ∷ e7 ∷ e8 ∷ List.[]
 abbrev pub t5 : List.List Row.Entry
-t5 = e0 ∷ e1 ∷ e2 ∷ e3·1 ∷ e4 ∷ e5·1 ∷ e6·1 ∷ e7·1 ∷ e8 ∷ e9 ∷ List.[]
+t5 = e0 ∷ e1 ∷ e2 ∷ e3·1 ∷ e4 ∷ e5·1 ∷ e6·1 ∷ e7·1 ∷ e8 ∷ List.[]
 abbrev pub t6 : List.List Row.Entry
-t6 = e0 ∷ e1 ∷ e2 ∷ e3·1 ∷ e4 ∷ e5 ∷ e6·1 ∷ e7·1 ∷ e8 ∷ e9 ∷ List.[]
+t6 = e0 ∷ e1 ∷ e2 ∷ e3·1 ∷ e4 ∷ e5·1 ∷ e6·1 ∷ e7·1 ∷ e8·1 ∷ List.[]
 abbrev pub t7 : List.List Row.Entry
-t7 = e0 ∷ e1 ∷ e2 ∷ e3·1 ∷ e4 ∷ e5 ∷ e6·1 ∷ e7·1 ∷ e8·1 ∷ e9 ∷ List.[]
+t7 = e0·1 ∷ e1 ∷ e2 ∷ e3·1 ∷ e4 ∷ e5·1 ∷ e6·1 ∷ e7·1 ∷ e8·1 ∷ List.[]
 abbrev pub t8 : List.List Row.Entry
-t8 = e0 ∷ e1 ∷ e2 ∷ e3·1 ∷ e4 ∷ e5 ∷ e6·1 ∷ e7·1 ∷ e8·1 ∷ e9·1 ∷ List.[]
+t8 = e0·1 ∷ e1 ∷ e2 ∷ e3·1 ∷ e4 ∷ e5 ∷ e6·1 ∷ e7·1 ∷ e8·1 ∷ List.[]
 abbrev pub t9 : List.List Row.Entry
-t9 = e0·1 ∷ e1 ∷ e2 ∷ e3·1 ∷ e4 ∷ e5 ∷ e6·1 ∷ e7·1 ∷ e8·1 ∷ e9·1 ∷ List.[]
+t9 = e0·1 ∷ e1 ∷ e2 ∷ e3·1 ∷ e4 ∷ e5 ∷ e6 ∷ e7·1 ∷ e8·1 ∷ List.[]
 abbrev pub t10 : List.List Row.Entry
-t10 = e0·1 ∷ e1 ∷ e2 ∷ e3·1 ∷ e4 ∷ e5 ∷ e6 ∷ e7·1 ∷ e8·1 ∷ e9·1 ∷ List.[]
+t10 = e0·1 ∷ e1 ∷ e2 ∷ e3·1 ∷ e4 ∷ e5 ∷ e6 ∷ e7 ∷ e8·1 ∷ List.[]
 abbrev pub t11 : List.List Row.Entry
-t11 = e0·1 ∷ e1 ∷ e2 ∷ e3·1 ∷ e4 ∷ e5 ∷ e6 ∷ e7 ∷ e8·1 ∷ e9·1 ∷ List.[]
-abbrev pub t12 : List.List Row.Entry
-t12 = e0·1 ∷ e1 ∷ e2 ∷ e3·1 ∷ e4 ∷ e5 ∷ e6 ∷ e7 ∷ e8 ∷ e9·1 ∷ List.[]
-abbrev pub t13 : List.List Row.Entry
-t13 = e0·1 ∷ e1 ∷ e2 ∷ e3·1 ∷ e4 ∷ e5 ∷ e6 ∷ e7 ∷ e8 ∷ e9 ∷ List.[]
+t11 = e0·1 ∷ e1 ∷ e2 ∷ e3·1 ∷ e4 ∷ e5 ∷ e6 ∷ e7 ∷ e8 ∷ List.[]
 abbrev pub T0 : Row.Cx
 T0 = record { locals = t0; slots = List.[] }
 abbrev pub T1 : Row.Cx
@@ -225,94 +194,78 @@ T10 = record { locals = t10; slots = List.[] }
 abbrev pub T11 : Row.Cx
 T11 = record { locals = t11; slots = List.[] }
 abbrev pub T12 : Row.Cx
-T12 = record { locals = t12; slots = List.[] }
-abbrev pub T13 : Row.Cx
-T13 = record { locals = t13; slots = List.[] }
-abbrev pub T14 : Row.Cx
-T14 = record { locals = t1; slots = List.[] }
+T12 = record { locals = t1; slots = List.[] }
 abbrev pub O0 : Typed.Outs
 O0 = record { next = Option.none; exits = List.[]; returns = Option.some T1 }
 module _ (claims· : Claims) where
   abbrev s0 : Typed.Both T0 T2
-  s0 = Call.callB ps·0 r·0 (claims· .0) (claims· .1) T0 (Num.vAt 4 λ x. x, (Num.vLit 0, tt)) 5 List.[] Laws'.mir
+  s0 = Call.callB ps·0 r·0 (claims· .0) (claims· .1) T0 (record { pos = 1; ty = Syntax.tyRef (Syntax.named 0) Syntax.imm RelayPending.to; ref = λ x.
+      x; }, (record { pos = 3; st = List.[]; d = 0; at = λ x. x }, (Num.vAt 4 λ x. x, tt)),) 5 (0 ∷ List.[]) (Syntax.tyInt Syntax.w64)
   abbrev s1 : Typed.Both T2 T3
-  s1 = Call.callB ps·1 r·1 (claims· .2) (claims· .3) T2 (record { pos = 1; ty = Syntax.tyRef (Syntax.named 0) Syntax.imm RelayPending.to; ref = λ x.
-      x; }, (record { pos = 3; st = List.[]; d = 0; at = λ x. x }, (record { pos = 5; st = List.[]; d = 0; at = λ x. x }, tt),),) 6 (0 ∷ List.[])
-      (Syntax.tyInt Syntax.w64)
-  abbrev s2 : Typed.Both T3 T4
-  s2 = Call.callB ps·2 r·2 (claims· .4) (claims· .5) T3 (record { pos = 2; ty = Syntax.tyRef (Syntax.named 1) Syntax.imm RelayCircuit.to; ref = λ x.
-      x; }, (record { pos = 3; st = List.[]; d = 0; at = λ x. x }, (record { pos = 5; st = List.[]; d = 0; at = λ x. x }, tt),),) 7 (1 ∷ List.[])
-      (Syntax.tyInt Syntax.w64)
+  s1 = Call.callB ps·1 r·1 (claims· .2) (claims· .3) T2 (record { pos = 2; ty = Syntax.tyRef (Syntax.named 1) Syntax.imm RelayCircuit.to; ref = λ x.
+      x; }, (record { pos = 3; st = List.[]; d = 0; at = λ x. x }, (Num.vAt 4 λ x. x, tt)),) 6 (1 ∷ List.[]) (Syntax.tyInt Syntax.w64)
+  abbrev s2 : Typed.Mo T3 → Typed.Mo T4
+  s2 = Scalar.n-room T3 3 Laws.mir
   abbrev s3 : Typed.Mo T4 → Typed.Mo T5
-  s3 = Scalar.n-room T4 3 Laws.mir
+  s3 = Scalar.n-use T4 (Scalar.oFld 1 ((Syntax.field 1) ∷ List.[]) (Syntax.tyInt Syntax.w64) 8 Shared.lenV) 7 (Rows.sc-here (Row.sInt Syntax.w64))
+      (Row.sInt Syntax.w64 .of)
   abbrev s4 : Typed.Mo T5 → Typed.Mo T6
-  s4 = Scalar.n-room T5 5 Laws'.mir
-  abbrev s5 : Typed.Mo T6 → Typed.Mo T7
-  s5 = Scalar.n-use T6 (Scalar.oFld 1 ((Syntax.field 1) ∷ List.[]) (Syntax.tyInt Syntax.w64) 8 Shared.lenV) 8 (Rows.sc-here (Row.sInt Syntax.w64))
+  s4 = Scalar.n-use T5 (Scalar.oFld 2 ((Syntax.field 1) ∷ List.[]) (Syntax.tyInt Syntax.w64) 8 Shared.lenV) 8 (Rows.sc-here (Row.sInt Syntax.w64))
       (Row.sInt Syntax.w64 .of)
-  abbrev s6 : Typed.Mo T7 → Typed.Mo T8
-  s6 = Scalar.n-use T7 (Scalar.oFld 2 ((Syntax.field 1) ∷ List.[]) (Syntax.tyInt Syntax.w64) 8 Shared.lenV) 9 (Rows.sc-here (Row.sInt Syntax.w64))
-      (Row.sInt Syntax.w64 .of)
-  abbrev s7 : Typed.Both T8 T9
-  s7 = Call.callB ps·3 r·3 (claims· .6) (claims· .7) T8 (Num.vAt 6 λ x. x, (Num.vAt 8 λ x. x, (Num.vAt 7 λ x. x, (Num.vAt 9 λ x. x, tt))),) 0 List.[]
+  abbrev s5 : Typed.Both T6 T7
+  s5 = Call.callB ps·2 r·2 (claims· .4) (claims· .5) T6 (Num.vAt 5 λ x. x, (Num.vAt 7 λ x. x, (Num.vAt 6 λ x. x, (Num.vAt 8 λ x. x, tt))),) 0 List.[]
       Syntax.tyBool
+  abbrev s6 : Typed.Mo T7 → Typed.Mo T8
+  s6 = Scalar.n-room T7 5 (Syntax.tyInt Syntax.w64)
+  abbrev s7 : Typed.Mo T8 → Typed.Mo T9
+  s7 = Scalar.n-room T8 6 (Syntax.tyInt Syntax.w64)
   abbrev s8 : Typed.Mo T9 → Typed.Mo T10
-  s8 = Scalar.n-room T9 6 (Syntax.tyInt Syntax.w64)
+  s8 = Scalar.n-room T9 7 (Syntax.tyInt Syntax.w64)
   abbrev s9 : Typed.Mo T10 → Typed.Mo T11
-  s9 = Scalar.n-room T10 7 (Syntax.tyInt Syntax.w64)
+  s9 = Scalar.n-room T10 8 (Syntax.tyInt Syntax.w64)
   abbrev s10 : Typed.Mo T11 → Typed.Mo T12
-  s10 = Scalar.n-room T11 8 (Syntax.tyInt Syntax.w64)
-  abbrev s11 : Typed.Mo T12 → Typed.Mo T13
-  s11 = Scalar.n-room T12 9 (Syntax.tyInt Syntax.w64)
-  abbrev s12 : Typed.Mo T13 → Typed.Mo T14
-  s12 = Scalar.n-room T13 4 (Syntax.tyInt Syntax.w64)
+  s10 = Scalar.n-room T11 4 (Syntax.tyInt Syntax.w64)
   module _ (Pre· : (κs : Lifetimes.Lfts 2) → Kinds.Dens κs ps → Type 0) (Post· : (κs : Lifetimes.Lfts 2) → (a : Kinds.Dens κs ps) → Kinds.Plain 2 ps r
       κs) where
     module _ (M : Type 1) where
       abbrev pub Closed : Type 2
-      Closed = (𝓤 : URA.URA M) (H : Wp.Heap 𝓤) (A : Atoms.Atoms 𝓤) (W : Kit.Given 𝓤 H A) (𝓣 : Wp.Tables 𝓤 H) (known0 : Plain.Known 𝓤 H A W 𝓣 0 ps·0
-          r·0 (claims· .0) (claims· .1) "hnsr_circuit::question::at") (known1 : Plain.Known 𝓤 H A W 𝓣 1 ps·1 r·1 (claims· .2) (claims· .3)
-          "hnsr_circuit::tables::pending::find_pending") (known2 : Plain.Known 𝓤 H A W 𝓣 1 ps·2 r·2 (claims· .4) (claims· .5)
-          "hnsr_circuit::tables::circuits::find_circuit") (known3 : Plain.Known 𝓤 H A W 𝓣 0 ps·3 r·3 (claims· .6) (claims· .7)
+      Closed = (𝓤 : URA.URA M) (H : Wp.Heap 𝓤) (A : Atoms.Atoms 𝓤) (W : Kit.Given 𝓤 H A) (𝓣 : Wp.Tables 𝓤 H) (known0 : Plain.Known 𝓤 H A W 𝓣 1 ps·0
+          r·0 (claims· .0) (claims· .1) "hnsr_circuit::tables::pending::find_pending_id") (known1 : Plain.Known 𝓤 H A W 𝓣 1 ps·1 r·1 (claims· .2)
+          (claims· .3) "hnsr_circuit::tables::circuits::find_circuit_id") (known2 : Plain.Known 𝓤 H A W 𝓣 0 ps·2 r·2 (claims· .4) (claims· .5)
           "hnsr_circuit::draw::either_found") → Statement.Triple 𝓤 (Wp.WpFn 𝓤 H (𝓣 .C) (𝓣 .Λ) (Function.fnOf 2 ps r xs m hs body)) (Function.plainOf 𝓤
           H A 2 ps r Pre· Post·)
     module _ where
-      abbrev at0 : Typed.TF T14 O0
+      abbrev at0 : Typed.TF T12 O0
       at0 = Typed.atRet O0
-      abbrev at1 : Typed.TF T13 O0
-      at1 = λ Ψ. Typed.pass T13 T14 s12 (at0 Ψ)
-      abbrev at2 : Typed.TF T12 O0
-      at2 = λ Ψ. Typed.pass T12 T13 s11 (at1 Ψ)
-      abbrev at3 : Typed.TF T11 O0
-      at3 = λ Ψ. Typed.pass T11 T12 s10 (at2 Ψ)
-      abbrev at4 : Typed.TF T10 O0
-      at4 = λ Ψ. Typed.pass T10 T11 s9 (at3 Ψ)
-      abbrev at5 : Typed.TF T9 O0
-      at5 = λ Ψ. Typed.pass T9 T10 s8 (at4 Ψ)
-      abbrev at6 : Typed.TF T8 O0
-      at6 = λ Ψ. Typed.both s7 (at5 Ψ)
-      abbrev at7 : Typed.TF T7 O0
-      at7 = λ Ψ. Typed.pass T7 T8 s6 (at6 Ψ)
-      abbrev at8 : Typed.TF T6 O0
-      at8 = λ Ψ. Typed.pass T6 T7 s5 (at7 Ψ)
-      abbrev at9 : Typed.TF T5 O0
-      at9 = λ Ψ. Typed.pass T5 T6 s4 (at8 Ψ)
-      abbrev at10 : Typed.TF T4 O0
-      at10 = λ Ψ. Typed.pass T4 T5 s3 (at9 Ψ)
-      abbrev at11 : Typed.TF T3 O0
-      at11 = λ Ψ. Typed.both s2 (at10 Ψ)
-      abbrev at12 : Typed.TF T2 O0
-      at12 = λ Ψ. Typed.both s1 (at11 Ψ)
-      abbrev at13 : Typed.TF T0 O0
-      at13 = λ Ψ. Typed.both s0 (at12 Ψ)
+      abbrev at1 : Typed.TF T11 O0
+      at1 = λ Ψ. Typed.pass T11 T12 s10 (at0 Ψ)
+      abbrev at2 : Typed.TF T10 O0
+      at2 = λ Ψ. Typed.pass T10 T11 s9 (at1 Ψ)
+      abbrev at3 : Typed.TF T9 O0
+      at3 = λ Ψ. Typed.pass T9 T10 s8 (at2 Ψ)
+      abbrev at4 : Typed.TF T8 O0
+      at4 = λ Ψ. Typed.pass T8 T9 s7 (at3 Ψ)
+      abbrev at5 : Typed.TF T7 O0
+      at5 = λ Ψ. Typed.pass T7 T8 s6 (at4 Ψ)
+      abbrev at6 : Typed.TF T6 O0
+      at6 = λ Ψ. Typed.both s5 (at5 Ψ)
+      abbrev at7 : Typed.TF T5 O0
+      at7 = λ Ψ. Typed.pass T5 T6 s4 (at6 Ψ)
+      abbrev at8 : Typed.TF T4 O0
+      at8 = λ Ψ. Typed.pass T4 T5 s3 (at7 Ψ)
+      abbrev at9 : Typed.TF T3 O0
+      at9 = λ Ψ. Typed.pass T3 T4 s2 (at8 Ψ)
+      abbrev at10 : Typed.TF T2 O0
+      at10 = λ Ψ. Typed.both s1 (at9 Ψ)
+      abbrev at11 : Typed.TF T0 O0
+      at11 = λ Ψ. Typed.both s0 (at10 Ψ)
       abbrev pub Φ : Typed.TF T0 O0
-      Φ = at13
+      Φ = at11
       module _ { M : Type 1 } (𝓤 : URA.URA M) (H : Wp.Heap 𝓤) (A : Atoms.Atoms 𝓤) (W : Kit.Given 𝓤 H A) (𝓣 : Wp.Tables 𝓤 H) where
         abbrev Knowns : Type 1
-        Knowns = Plain.Known 𝓤 H A W 𝓣 0 ps·0 r·0 (claims· .0) (claims· .1) "hnsr_circuit::question::at" × Plain.Known 𝓤 H A W 𝓣 1 ps·1 r·1 (claims·
-            .2) (claims· .3) "hnsr_circuit::tables::pending::find_pending" × Plain.Known 𝓤 H A W 𝓣 1 ps·2 r·2 (claims· .4) (claims· .5)
-            "hnsr_circuit::tables::circuits::find_circuit" × Plain.Known 𝓤 H A W 𝓣 0 ps·3 r·3 (claims· .6) (claims· .7)
-            "hnsr_circuit::draw::either_found"
+        Knowns = Plain.Known 𝓤 H A W 𝓣 1 ps·0 r·0 (claims· .0) (claims· .1) "hnsr_circuit::tables::pending::find_pending_id" × Plain.Known 𝓤 H A W 𝓣 1
+            ps·1 r·1 (claims· .2) (claims· .3) "hnsr_circuit::tables::circuits::find_circuit_id" × Plain.Known 𝓤 H A W 𝓣 0 ps·2 r·2 (claims· .4)
+            (claims· .5) "hnsr_circuit::draw::either_found"
       module _ (κs : Lifetimes.Lfts 2) (qs : Lifetimes.Shares 2) where
         abbrev life0 : Row.Life
         life0 = Row.lease (κs .0) (qs .0)
@@ -343,96 +296,81 @@ module _ (claims· : Claims) where
         abbrev G11 : Row.Cx
         G11 = record { locals = t11; slots = life0 ∷ life1 ∷ List.[]; }
         abbrev G12 : Row.Cx
-        G12 = record { locals = t12; slots = life0 ∷ life1 ∷ List.[]; }
-        abbrev G13 : Row.Cx
-        G13 = record { locals = t13; slots = life0 ∷ life1 ∷ List.[]; }
-        abbrev G14 : Row.Cx
-        G14 = record { locals = t1; slots = life0 ∷ life1 ∷ List.[]; }
+        G12 = record { locals = t1; slots = life0 ∷ life1 ∷ List.[]; }
         abbrev Δ0 : Typed.Outs
         Δ0 = record { next = Option.none; exits = List.[]; returns = Option.some G1 }
         module _ { M : Type 1 } (𝓤 : URA.URA M) (H : Wp.Heap 𝓤) (A : Atoms.Atoms 𝓤) (W : Kit.Given 𝓤 H A) (𝓣 : Wp.Tables 𝓤 H) (known : Knowns 𝓤 H A W
             𝓣) (bs : List.List Nat.ℕ) (bd : Lifetimes.AllOutlive 2 (Kinds.osR r) κs) where
           abbrev E : Wp.Env 𝓤 H
           E = Frame.EnvOf 𝓤 H ((Kinds.tyR r) ∷ (Enter.tysP ps xs)) bs
-          d0 : Typed.Typed 𝓤 H A 𝓣 E G14 b6 Δ0 at0
+          d0 : Typed.Typed 𝓤 H A 𝓣 E G12 b5 Δ0 at0
           d0 = Typed.t-return 𝓤 H A W 𝓣 E Δ0 tt
-          d1 : Typed.Typed 𝓤 H A 𝓣 E G13 b6 Δ0 at1
-          d1 = Typed.g-pre 𝓤 H A W 𝓣 E G13 G14 b6 Δ0 (Typed.pass T13 T14 s12) at0 (Scalar.g-room 𝓤 H A W E G13 4 (Syntax.tyInt Syntax.w64)
+          d1 : Typed.Typed 𝓤 H A 𝓣 E G11 b5 Δ0 at1
+          d1 = Typed.g-pre 𝓤 H A W 𝓣 E G11 G12 b5 Δ0 (Typed.pass T11 T12 s10) at0 (Scalar.g-room 𝓤 H A W E G11 4 (Syntax.tyInt Syntax.w64)
               (Scalar.room-sc 𝓤 H A W (Row.sInt Syntax.w64))) d0
-          d2 : Typed.Typed 𝓤 H A 𝓣 E G12 b6 Δ0 at2
-          d2 = Typed.g-pre 𝓤 H A W 𝓣 E G12 G13 b6 Δ0 (Typed.pass T12 T13 s11) at1 (Scalar.g-room 𝓤 H A W E G12 9 (Syntax.tyInt Syntax.w64)
+          d2 : Typed.Typed 𝓤 H A 𝓣 E G10 b5 Δ0 at2
+          d2 = Typed.g-pre 𝓤 H A W 𝓣 E G10 G11 b5 Δ0 (Typed.pass T10 T11 s9) at1 (Scalar.g-room 𝓤 H A W E G10 8 (Syntax.tyInt Syntax.w64)
               (Scalar.room-sc 𝓤 H A W (Row.sInt Syntax.w64))) d1
-          d3 : Typed.Typed 𝓤 H A 𝓣 E G11 b6 Δ0 at3
-          d3 = Typed.g-pre 𝓤 H A W 𝓣 E G11 G12 b6 Δ0 (Typed.pass T11 T12 s10) at2 (Scalar.g-room 𝓤 H A W E G11 8 (Syntax.tyInt Syntax.w64)
-              (Scalar.room-sc 𝓤 H A W (Row.sInt Syntax.w64))) d2
-          d4 : Typed.Typed 𝓤 H A 𝓣 E G10 b6 Δ0 at4
-          d4 = Typed.g-pre 𝓤 H A W 𝓣 E G10 G11 b6 Δ0 (Typed.pass T10 T11 s9) at3 (Scalar.g-room 𝓤 H A W E G10 7 (Syntax.tyInt Syntax.w64)
-              (Scalar.room-sc 𝓤 H A W (Row.sInt Syntax.w64))) d3
-          d5 : Typed.Typed 𝓤 H A 𝓣 E G9 b6 Δ0 at5
-          d5 = Typed.g-pre 𝓤 H A W 𝓣 E G9 G10 b6 Δ0 (Typed.pass T9 T10 s8) at4 (Scalar.g-room 𝓤 H A W E G9 6 (Syntax.tyInt Syntax.w64) (Scalar.room-sc
-              𝓤 H A W (Row.sInt Syntax.w64))) d4
-          d6 : Typed.Typed 𝓤 H A 𝓣 E G8 b7 Δ0 at6
-          d6 = Typed.s-seq 𝓤 H A W 𝓣 E G8 G9 b5 b6 Δ0 (Typed.both s7) at5 (Plain.t-call-plain 𝓤 H A W 𝓣 0 ps·3 r·3 (claims· .6) (claims· .7)
-              "hnsr_circuit::draw::either_found" (known .3) E (λ pos β. β) G8 (Num.vAt 6 λ x. x, (Num.vAt 8 λ x. x, (Num.vAt 7 λ x. x, (Num.vAt 9 λ x.
-              x, tt))),) 0 List.[] (Call.sub-id 𝓤 H A W (G8 .slots)) ((Scalar.reads-sc 𝓤 H A W (Row.sInt Syntax.w64), Path.refl), ((Scalar.reads-sc 𝓤
+          d3 : Typed.Typed 𝓤 H A 𝓣 E G9 b5 Δ0 at3
+          d3 = Typed.g-pre 𝓤 H A W 𝓣 E G9 G10 b5 Δ0 (Typed.pass T9 T10 s8) at2 (Scalar.g-room 𝓤 H A W E G9 7 (Syntax.tyInt Syntax.w64) (Scalar.room-sc
+              𝓤 H A W (Row.sInt Syntax.w64))) d2
+          d4 : Typed.Typed 𝓤 H A 𝓣 E G8 b5 Δ0 at4
+          d4 = Typed.g-pre 𝓤 H A W 𝓣 E G8 G9 b5 Δ0 (Typed.pass T8 T9 s7) at3 (Scalar.g-room 𝓤 H A W E G8 6 (Syntax.tyInt Syntax.w64) (Scalar.room-sc 𝓤
+              H A W (Row.sInt Syntax.w64))) d3
+          d5 : Typed.Typed 𝓤 H A 𝓣 E G7 b5 Δ0 at5
+          d5 = Typed.g-pre 𝓤 H A W 𝓣 E G7 G8 b5 Δ0 (Typed.pass T7 T8 s6) at4 (Scalar.g-room 𝓤 H A W E G7 5 (Syntax.tyInt Syntax.w64) (Scalar.room-sc 𝓤
+              H A W (Row.sInt Syntax.w64))) d4
+          d6 : Typed.Typed 𝓤 H A 𝓣 E G6 b6 Δ0 at6
+          d6 = Typed.s-seq 𝓤 H A W 𝓣 E G6 G7 b4 b5 Δ0 (Typed.both s5) at5 (Plain.t-call-plain 𝓤 H A W 𝓣 0 ps·2 r·2 (claims· .4) (claims· .5)
+              "hnsr_circuit::draw::either_found" (known .2) E (λ pos β. β) G6 (Num.vAt 5 λ x. x, (Num.vAt 7 λ x. x, (Num.vAt 6 λ x. x, (Num.vAt 8 λ x.
+              x, tt))),) 0 List.[] (Call.sub-id 𝓤 H A W (G6 .slots)) ((Scalar.reads-sc 𝓤 H A W (Row.sInt Syntax.w64), Path.refl), ((Scalar.reads-sc 𝓤
               H A W (Row.sInt Syntax.w64), Path.refl), ((Scalar.reads-sc 𝓤 H A W (Row.sInt Syntax.w64), Path.refl), ((Scalar.reads-sc 𝓤 H A W
               (Row.sInt Syntax.w64), Path.refl), tt),),),) (Reads.room-gone 𝓤 H A Syntax.tyBool) tt Path.refl) d5
-          d7 : Typed.Typed 𝓤 H A 𝓣 E G7 b8 Δ0 at7
-          d7 = Typed.s-seq 𝓤 H A W 𝓣 E G7 G8 b4 b7 Δ0 (Typed.pass T7 T8 s6) at6 (Scalar.t-use 𝓤 H A W E 𝓣 G7 (Scalar.oFld 2 ((Syntax.field 1) ∷
-              List.[]) (Syntax.tyInt Syntax.w64) 8 Shared.lenV) 9 (Rows.sc-here (Row.sInt Syntax.w64)) (Syntax.tyInt Syntax.w64) (Row.valS (Row.sInt
+          d7 : Typed.Typed 𝓤 H A 𝓣 E G5 b7 Δ0 at7
+          d7 = Typed.s-seq 𝓤 H A W 𝓣 E G5 G6 b3 b6 Δ0 (Typed.pass T5 T6 s4) at6 (Scalar.t-use 𝓤 H A W E 𝓣 G5 (Scalar.oFld 2 ((Syntax.field 1) ∷
+              List.[]) (Syntax.tyInt Syntax.w64) 8 Shared.lenV) 8 (Rows.sc-here (Row.sInt Syntax.w64)) (Syntax.tyInt Syntax.w64) (Row.valS (Row.sInt
               Syntax.w64)) (Row.sInt Syntax.w64 .of) (Shared.reads-sslice-len 𝓤 H A W RelayCircuit.row ref1 1 8 Path.refl, Path.refl,)
               (Reads.room-gone 𝓤 H A (Syntax.tyInt Syntax.w64)) (Scalar.holds-sc 𝓤 H A W (Row.sInt Syntax.w64)) Path.refl (λ u. Path.refl) λ u. tt) d6
-          d8 : Typed.Typed 𝓤 H A 𝓣 E G6 b9 Δ0 at8
-          d8 = Typed.s-seq 𝓤 H A W 𝓣 E G6 G7 b3 b8 Δ0 (Typed.pass T6 T7 s5) at7 (Scalar.t-use 𝓤 H A W E 𝓣 G6 (Scalar.oFld 1 ((Syntax.field 1) ∷
-              List.[]) (Syntax.tyInt Syntax.w64) 8 Shared.lenV) 8 (Rows.sc-here (Row.sInt Syntax.w64)) (Syntax.tyInt Syntax.w64) (Row.valS (Row.sInt
+          d8 : Typed.Typed 𝓤 H A 𝓣 E G4 b8 Δ0 at8
+          d8 = Typed.s-seq 𝓤 H A W 𝓣 E G4 G5 b2 b7 Δ0 (Typed.pass T4 T5 s3) at7 (Scalar.t-use 𝓤 H A W E 𝓣 G4 (Scalar.oFld 1 ((Syntax.field 1) ∷
+              List.[]) (Syntax.tyInt Syntax.w64) 8 Shared.lenV) 7 (Rows.sc-here (Row.sInt Syntax.w64)) (Syntax.tyInt Syntax.w64) (Row.valS (Row.sInt
               Syntax.w64)) (Row.sInt Syntax.w64 .of) (Shared.reads-sslice-len 𝓤 H A W RelayPending.row ref0 0 8 Path.refl, Path.refl,)
               (Reads.room-gone 𝓤 H A (Syntax.tyInt Syntax.w64)) (Scalar.holds-sc 𝓤 H A W (Row.sInt Syntax.w64)) Path.refl (λ u. Path.refl) λ u. tt) d7
-          d9 : Typed.Typed 𝓤 H A 𝓣 E G5 b9 Δ0 at9
-          d9 = Typed.g-pre 𝓤 H A W 𝓣 E G5 G6 b9 Δ0 (Typed.pass T5 T6 s4) at8 (Scalar.g-room 𝓤 H A W E G5 5 Laws'.mir (Local.room-whole 𝓤 H A W
-              (Declared.row Question.the-type) Laws'.mir Path.refl)) d8
-          d10 : Typed.Typed 𝓤 H A 𝓣 E G4 b9 Δ0 at10
-          d10 = Typed.g-pre 𝓤 H A W 𝓣 E G4 G5 b9 Δ0 (Typed.pass T4 T5 s3) at9 (Scalar.g-room 𝓤 H A W E G4 3 Laws.mir (Local.room-whole 𝓤 H A W
-              (Declared.row Places.the-type) Laws.mir Path.refl)) d9
-          d11 : Typed.Typed 𝓤 H A 𝓣 E G3 b10 Δ0 at11
-          d11 = Typed.s-seq 𝓤 H A W 𝓣 E G3 G4 b2 b9 Δ0 (Typed.both s2) at10 (Plain.t-call-plain 𝓤 H A W 𝓣 1 ps·2 r·2 (claims· .4) (claims· .5)
-              "hnsr_circuit::tables::circuits::find_circuit" (known .2) E (λ pos β. β) G3 (record { pos = 2; ty = Syntax.tyRef (Syntax.named 1)
-              Syntax.imm RelayCircuit.to; ref = λ x. x; }, (record { pos = 3; st = List.[]; d = 0; at = λ x. x }, (record { pos = 5; st = List.[]; d =
-              0; at = λ x. x }, tt),),) 7 (1 ∷ List.[]) (Call.sub-id 𝓤 H A W (G3 .slots)) (ShrSlice.spares-sslice 𝓤 H A W RelayCircuit.row ref1 1,
-              Shared.reads-sslice 𝓤 H A W RelayCircuit.row ref1 1, Path.refl, ((Yields.yields-copy 𝓤 H A W (λ ρ. Unit) (Declared.row Places.the-type)
-              Path.refl (Copies.cStruct Places.the-type Laws.the-laws Laws.the-copy .copy 𝓤 H A W) (Rows.whole (Declared.row Places.the-type)) (λ x.
-              x) (λ x. x) (λ ρ told. Local.mem-whole 𝓤 H A W (Declared.row Places.the-type) ρ) λ ρ told. Local.whole-mem 𝓤 H A W (Declared.row
-              Places.the-type) ρ, Path.refl,), ((Yields.yields-copy 𝓤 H A W (λ ρ. Unit) (Declared.row Question.the-type) Path.refl (Copies.cStruct
-              Question.the-type Laws'.the-laws Laws'.the-copy .copy 𝓤 H A W) (Rows.whole (Declared.row Question.the-type)) (λ x. x) (λ x. x) (λ ρ
-              told. Local.mem-whole 𝓤 H A W (Declared.row Question.the-type) ρ) λ ρ told. Local.whole-mem 𝓤 H A W (Declared.row Question.the-type) ρ,
-              Path.refl,), tt,),),) (Reads.room-gone 𝓤 H A (Syntax.tyInt Syntax.w64)) (tt, tt) Path.refl) d10
-          d12 : Typed.Typed 𝓤 H A 𝓣 E G2 b11 Δ0 at12
-          d12 = Typed.s-seq 𝓤 H A W 𝓣 E G2 G3 b1 b10 Δ0 (Typed.both s1) at11 (Plain.t-call-plain 𝓤 H A W 𝓣 1 ps·1 r·1 (claims· .2) (claims· .3)
-              "hnsr_circuit::tables::pending::find_pending" (known .1) E (λ pos β. β) G2 (record { pos = 1; ty = Syntax.tyRef (Syntax.named 0)
-              Syntax.imm RelayPending.to; ref = λ x. x; }, (record { pos = 3; st = List.[]; d = 0; at = λ x. x }, (record { pos = 5; st = List.[]; d =
-              0; at = λ x. x }, tt),),) 6 (0 ∷ List.[]) (Call.sub-id 𝓤 H A W (G2 .slots)) (ShrSlice.spares-sslice 𝓤 H A W RelayPending.row ref0 0,
-              Shared.reads-sslice 𝓤 H A W RelayPending.row ref0 0, Path.refl, ((Yields.yields-copy 𝓤 H A W (λ ρ. Unit) (Declared.row Places.the-type)
-              Path.refl (Copies.cStruct Places.the-type Laws.the-laws Laws.the-copy .copy 𝓤 H A W) (Rows.whole (Declared.row Places.the-type)) (λ x.
-              x) (λ x. x) (λ ρ told. Local.mem-whole 𝓤 H A W (Declared.row Places.the-type) ρ) λ ρ told. Local.whole-mem 𝓤 H A W (Declared.row
-              Places.the-type) ρ, Path.refl,), ((Yields.yields-copy 𝓤 H A W (λ ρ. Unit) (Declared.row Question.the-type) Path.refl (Copies.cStruct
-              Question.the-type Laws'.the-laws Laws'.the-copy .copy 𝓤 H A W) (Rows.whole (Declared.row Question.the-type)) (λ x. x) (λ x. x) (λ ρ
-              told. Local.mem-whole 𝓤 H A W (Declared.row Question.the-type) ρ) λ ρ told. Local.whole-mem 𝓤 H A W (Declared.row Question.the-type) ρ,
-              Path.refl,), tt,),),) (Reads.room-gone 𝓤 H A (Syntax.tyInt Syntax.w64)) (tt, tt) Path.refl) d11
-          d13 : Typed.Typed 𝓤 H A 𝓣 E G0 b12 Δ0 at13
-          d13 = Typed.s-seq 𝓤 H A W 𝓣 E G0 G2 b0 b11 Δ0 (Typed.both s0) at12 (Plain.t-call-plain 𝓤 H A W 𝓣 0 ps·0 r·0 (claims· .0) (claims· .1)
-              "hnsr_circuit::question::at" (known .0) E (λ pos β. β) G0 (Num.vAt 4 λ x. x, (Num.vLit 0, tt)) 5 List.[] (Call.sub-id 𝓤 H A W (G0
-              .slots)) ((Scalar.reads-sc 𝓤 H A W (Row.sInt Syntax.w64), Path.refl), (tt, tt)) (Reads.room-gone 𝓤 H A Laws'.mir) tt Path.refl) d12
-          pub typed : Typed.Typed 𝓤 H A 𝓣 E (Function.Γin 2 ps r xs m κs qs) b12 (Function.Δret 2 ps r xs m κs qs) Φ
-          typed = d13
+          d9 : Typed.Typed 𝓤 H A 𝓣 E G3 b8 Δ0 at9
+          d9 = Typed.g-pre 𝓤 H A W 𝓣 E G3 G4 b8 Δ0 (Typed.pass T3 T4 s2) at8 (Scalar.g-room 𝓤 H A W E G3 3 Laws.mir (Local.room-whole 𝓤 H A W
+              (Declared.row Places.the-type) Laws.mir Path.refl)) d8
+          d10 : Typed.Typed 𝓤 H A 𝓣 E G2 b9 Δ0 at10
+          d10 = Typed.s-seq 𝓤 H A W 𝓣 E G2 G3 b1 b8 Δ0 (Typed.both s1) at9 (Plain.t-call-plain 𝓤 H A W 𝓣 1 ps·1 r·1 (claims· .2) (claims· .3)
+              "hnsr_circuit::tables::circuits::find_circuit_id" (known .1) E (λ pos β. β) G2 (record { pos = 2; ty = Syntax.tyRef (Syntax.named 1)
+              Syntax.imm RelayCircuit.to; ref = λ x. x; }, (record { pos = 3; st = List.[]; d = 0; at = λ x. x }, (Num.vAt 4 λ x. x, tt)),) 6 (1 ∷
+              List.[]) (Call.sub-id 𝓤 H A W (G2 .slots)) (ShrSlice.spares-sslice 𝓤 H A W RelayCircuit.row ref1 1, Shared.reads-sslice 𝓤 H A W
+              RelayCircuit.row ref1 1, Path.refl, ((Yields.yields-copy 𝓤 H A W (λ ρ. Unit) (Declared.row Places.the-type) Path.refl (Copies.cStruct
+              Places.the-type Laws.the-laws Laws.the-copy .copy 𝓤 H A W) (Rows.whole (Declared.row Places.the-type)) (λ x. x) (λ x. x) (λ ρ told.
+              Local.mem-whole 𝓤 H A W (Declared.row Places.the-type) ρ) λ ρ told. Local.whole-mem 𝓤 H A W (Declared.row Places.the-type) ρ,
+              Path.refl,), ((Scalar.reads-sc 𝓤 H A W (Row.sInt Syntax.w64), Path.refl), tt),),) (Reads.room-gone 𝓤 H A (Syntax.tyInt Syntax.w64)) (tt,
+              tt) Path.refl) d9
+          d11 : Typed.Typed 𝓤 H A 𝓣 E G0 b10 Δ0 at11
+          d11 = Typed.s-seq 𝓤 H A W 𝓣 E G0 G2 b0 b9 Δ0 (Typed.both s0) at10 (Plain.t-call-plain 𝓤 H A W 𝓣 1 ps·0 r·0 (claims· .0) (claims· .1)
+              "hnsr_circuit::tables::pending::find_pending_id" (known .0) E (λ pos β. β) G0 (record { pos = 1; ty = Syntax.tyRef (Syntax.named 0)
+              Syntax.imm RelayPending.to; ref = λ x. x; }, (record { pos = 3; st = List.[]; d = 0; at = λ x. x }, (Num.vAt 4 λ x. x, tt)),) 5 (0 ∷
+              List.[]) (Call.sub-id 𝓤 H A W (G0 .slots)) (ShrSlice.spares-sslice 𝓤 H A W RelayPending.row ref0 0, Shared.reads-sslice 𝓤 H A W
+              RelayPending.row ref0 0, Path.refl, ((Yields.yields-copy 𝓤 H A W (λ ρ. Unit) (Declared.row Places.the-type) Path.refl (Copies.cStruct
+              Places.the-type Laws.the-laws Laws.the-copy .copy 𝓤 H A W) (Rows.whole (Declared.row Places.the-type)) (λ x. x) (λ x. x) (λ ρ told.
+              Local.mem-whole 𝓤 H A W (Declared.row Places.the-type) ρ) λ ρ told. Local.whole-mem 𝓤 H A W (Declared.row Places.the-type) ρ,
+              Path.refl,), ((Scalar.reads-sc 𝓤 H A W (Row.sInt Syntax.w64), Path.refl), tt),),) (Reads.room-gone 𝓤 H A (Syntax.tyInt Syntax.w64)) (tt,
+              tt) Path.refl) d10
+          pub typed : Typed.Typed 𝓤 H A 𝓣 E (Function.Γin 2 ps r xs m κs qs) b10 (Function.Δret 2 ps r xs m κs qs) Φ
+          typed = d11
       module _ (κs : Lifetimes.Lfts 2) where
         pub record Args : Type 0 where
           pub pending : Kinds.Den { n = 2 } κs (ShrSlice.pShrS RelayPending.row 0 tt)
           pub circuits : Kinds.Den { n = 2 } κs (ShrSlice.pShrS RelayCircuit.row 1 tt)
-          pub places : Kinds.Den { n = 2 } κs (Value.pVal record { ty = Declared.row Places.the-type; one = Path.refl; val = Laws''.val
-              Places.the-type Laws.the-laws; tells = Laws''.tells Places.the-type Laws.the-laws; still = Laws''.still Places.the-type Laws.the-copy
-              Exit.yes; row = Rows.whole (Declared.row Places.the-type); rd = λ x. x; mk = λ x. x; } λ M 𝓤 H A W. record { copies = Laws''.copy
-              Places.the-type Laws.the-copy 𝓤 H A W; lawful = Laws''.lawful Places.the-type Laws.the-laws 𝓤 H A W; makes = Laws''.makes
-              Places.the-type Laws.the-plain 𝓤 H A; in-mem = Local.mem-whole 𝓤 H A W (Declared.row Places.the-type); of-mem = Local.whole-mem 𝓤 H A W
-              (Declared.row Places.the-type); })
+          pub places : Kinds.Den { n = 2 } κs (Value.pVal record { ty = Declared.row Places.the-type; one = Path.refl; val = Laws'.val Places.the-type
+              Laws.the-laws; tells = Laws'.tells Places.the-type Laws.the-laws; still = Laws'.still Places.the-type Laws.the-copy Exit.yes; row =
+              Rows.whole (Declared.row Places.the-type); rd = λ x. x; mk = λ x. x; } λ M 𝓤 H A W. record { copies = Laws'.copy Places.the-type
+              Laws.the-copy 𝓤 H A W; lawful = Laws'.lawful Places.the-type Laws.the-laws 𝓤 H A W; makes = Laws'.makes Places.the-type Laws.the-plain 𝓤
+              H A; in-mem = Local.mem-whole 𝓤 H A W (Declared.row Places.the-type); of-mem = Local.whole-mem 𝓤 H A W (Declared.row Places.the-type);
+              })
           pub id : Kinds.Den { n = 2 } κs (Num.pNum Syntax.w64)
         abbrev pub dens : (a : Args) → Kinds.Dens κs ps
         dens = λ a. (a .pending, (a .circuits, (a .places, (a .id, tt))))
@@ -450,121 +388,103 @@ module _ (claims· : Claims) where
         pub good : Kinds.GoodsP κs ps (dens κs args)
         pub fits : Ranges κs args
         pub pre : Pre· κs (dens κs args)
-      abbrev pub Need-at-requires : Type 0
-      Need-at-requires = (c : Start) → s0 .asks (m0 (c .κs) (c .args))
+      abbrev pub Need-find-pending-id-requires : Type 0
+      Need-find-pending-id-requires = (c : Start) → s0 .asks (m0 (c .κs) (c .args))
       abbrev pub m1 : (before : Start) → (given : s0 .gives (m0 (before .κs) (before .args))) → Typed.Mo T2
       m1 = λ before given. s0 .next (m0 (before .κs) (before .args)) given
       module _ (before· : Start) where
-        abbrev pub After-at·own : Type 0
-        After-at·own = Called.Called ps·0 r·0 (claims· .1) T0 (Num.vAt 4 λ x. x, (Num.vLit 0, tt),) (m0 (before· .κs) (before· .args))
-      pub record After-at : Type 0 where
+        abbrev pub After-find-pending-id·own : Type 0
+        After-find-pending-id·own = Called.Called ps·0 r·0 (claims· .1) T0 (record { pos = 1; ty = Syntax.tyRef (Syntax.named 0) Syntax.imm
+            RelayPending.to; ref = λ x. x; }, (record { pos = 3; st = List.[]; d = 0; at = λ x. x }, (Num.vAt 4 λ x. x, tt)),) (m0 (before· .κs)
+            (before· .args))
+      pub record After-find-pending-id : Type 0 where
         pub before : Start
-        pub at : After-at·own before
-      abbrev pub After-at·gave : (c : After-at) → s0 .gives (m0 (c .before .κs) (c .before .args))
-      After-at·gave = λ c. Called.given ps·0 r·0 (claims· .1) T0 (Num.vAt 4 λ x. x, (Num.vLit 0, tt),) (m0 (c .before .κs) (c .before .args)) (c .at)
-      abbrev pub Need-find-pending-requires : Type 0
-      Need-find-pending-requires = (c : After-at) → s1 .asks (m1 (c .before) (After-at·gave c))
-      abbrev pub m2 : (before : After-at) → (given : s1 .gives (m1 (before .before) (After-at·gave before))) → Typed.Mo T3
-      m2 = λ before given. s1 .next (m1 (before .before) (After-at·gave before)) given
-      module _ (before· : After-at) where
-        abbrev pub After-find-pending·own : Type 0
-        After-find-pending·own = Called.Called ps·1 r·1 (claims· .3) T2 (record { pos = 1; ty = Syntax.tyRef (Syntax.named 0) Syntax.imm
-            RelayPending.to; ref = λ x. x; }, (record { pos = 3; st = List.[]; d = 0; at = λ x. x }, (record { pos = 5; st = List.[]; d = 0; at = λ x.
-            x }, tt),),) (m1 (before· .before) (After-at·gave before·))
-      pub record After-find-pending : Type 0 where
-        pub before : After-at
-        pub find-pending : After-find-pending·own before
-      abbrev pub After-find-pending·gave : (c : After-find-pending) → s1 .gives (m1 (c .before .before) (After-at·gave (c .before)))
-      After-find-pending·gave = λ c. Called.given ps·1 r·1 (claims· .3) T2 (record { pos = 1; ty = Syntax.tyRef (Syntax.named 0) Syntax.imm
-          RelayPending.to; ref = λ x. x; }, (record { pos = 3; st = List.[]; d = 0; at = λ x. x }, (record { pos = 5; st = List.[]; d = 0; at = λ x. x
-          }, tt),),) (m1 (c .before .before) (After-at·gave (c .before))) (c .find-pending)
-      abbrev pub Need-find-circuit-requires : Type 0
-      Need-find-circuit-requires = (c : After-find-pending) → s2 .asks (m2 (c .before) (After-find-pending·gave c))
-      abbrev pub m3 : (before : After-find-pending) → (given : s2 .gives (m2 (before .before) (After-find-pending·gave before))) → Typed.Mo T4
-      m3 = λ before given. s2 .next (m2 (before .before) (After-find-pending·gave before)) given
-      module _ (before· : After-find-pending) where
-        abbrev pub After-find-circuit·own : Type 0
-        After-find-circuit·own = Called.Called ps·2 r·2 (claims· .5) T3 (record { pos = 2; ty = Syntax.tyRef (Syntax.named 1) Syntax.imm
-            RelayCircuit.to; ref = λ x. x; }, (record { pos = 3; st = List.[]; d = 0; at = λ x. x }, (record { pos = 5; st = List.[]; d = 0; at = λ x.
-            x }, tt),),) (m2 (before· .before) (After-find-pending·gave before·))
-      pub record After-find-circuit : Type 0 where
-        pub before : After-find-pending
-        pub find-circuit : After-find-circuit·own before
-      abbrev pub After-find-circuit·gave : (c : After-find-circuit) → s2 .gives (m2 (c .before .before) (After-find-pending·gave (c .before)))
-      After-find-circuit·gave = λ c. Called.given ps·2 r·2 (claims· .5) T3 (record { pos = 2; ty = Syntax.tyRef (Syntax.named 1) Syntax.imm
-          RelayCircuit.to; ref = λ x. x; }, (record { pos = 3; st = List.[]; d = 0; at = λ x. x }, (record { pos = 5; st = List.[]; d = 0; at = λ x. x
-          }, tt),),) (m2 (c .before .before) (After-find-pending·gave (c .before))) (c .find-circuit)
-      abbrev pub m4 : (before : After-find-pending) → (given : s2 .gives (m2 (before .before) (After-find-pending·gave before))) → Typed.Mo T5
+        pub find-pending-id : After-find-pending-id·own before
+      abbrev pub After-find-pending-id·gave : (c : After-find-pending-id) → s0 .gives (m0 (c .before .κs) (c .before .args))
+      After-find-pending-id·gave = λ c. Called.given ps·0 r·0 (claims· .1) T0 (record { pos = 1; ty = Syntax.tyRef (Syntax.named 0) Syntax.imm
+          RelayPending.to; ref = λ x. x; }, (record { pos = 3; st = List.[]; d = 0; at = λ x. x }, (Num.vAt 4 λ x. x, tt)),) (m0 (c .before .κs) (c
+          .before .args)) (c .find-pending-id)
+      abbrev pub Need-find-circuit-id-requires : Type 0
+      Need-find-circuit-id-requires = (c : After-find-pending-id) → s1 .asks (m1 (c .before) (After-find-pending-id·gave c))
+      abbrev pub m2 : (before : After-find-pending-id) → (given : s1 .gives (m1 (before .before) (After-find-pending-id·gave before))) → Typed.Mo T3
+      m2 = λ before given. s1 .next (m1 (before .before) (After-find-pending-id·gave before)) given
+      module _ (before· : After-find-pending-id) where
+        abbrev pub After-find-circuit-id·own : Type 0
+        After-find-circuit-id·own = Called.Called ps·1 r·1 (claims· .3) T2 (record { pos = 2; ty = Syntax.tyRef (Syntax.named 1) Syntax.imm
+            RelayCircuit.to; ref = λ x. x; }, (record { pos = 3; st = List.[]; d = 0; at = λ x. x }, (Num.vAt 4 λ x. x, tt)),) (m1 (before· .before)
+            (After-find-pending-id·gave before·))
+      pub record After-find-circuit-id : Type 0 where
+        pub before : After-find-pending-id
+        pub find-circuit-id : After-find-circuit-id·own before
+      abbrev pub After-find-circuit-id·gave : (c : After-find-circuit-id) → s1 .gives (m1 (c .before .before) (After-find-pending-id·gave (c
+          .before)))
+      After-find-circuit-id·gave = λ c. Called.given ps·1 r·1 (claims· .3) T2 (record { pos = 2; ty = Syntax.tyRef (Syntax.named 1) Syntax.imm
+          RelayCircuit.to; ref = λ x. x; }, (record { pos = 3; st = List.[]; d = 0; at = λ x. x }, (Num.vAt 4 λ x. x, tt)),) (m1 (c .before .before)
+          (After-find-pending-id·gave (c .before))) (c .find-circuit-id)
+      abbrev pub m3 : (before : After-find-pending-id) → (given : s1 .gives (m1 (before .before) (After-find-pending-id·gave before))) → Typed.Mo T4
+      m3 = λ before given. s2 (m2 before given)
+      abbrev pub m4 : (before : After-find-pending-id) → (given : s1 .gives (m1 (before .before) (After-find-pending-id·gave before))) → Typed.Mo T5
       m4 = λ before given. s3 (m3 before given)
-      abbrev pub m5 : (before : After-find-pending) → (given : s2 .gives (m2 (before .before) (After-find-pending·gave before))) → Typed.Mo T6
+      abbrev pub m5 : (before : After-find-pending-id) → (given : s1 .gives (m1 (before .before) (After-find-pending-id·gave before))) → Typed.Mo T6
       m5 = λ before given. s4 (m4 before given)
-      abbrev pub m6 : (before : After-find-pending) → (given : s2 .gives (m2 (before .before) (After-find-pending·gave before))) → Typed.Mo T7
-      m6 = λ before given. s5 (m5 before given)
-      abbrev pub m7 : (before : After-find-pending) → (given : s2 .gives (m2 (before .before) (After-find-pending·gave before))) → Typed.Mo T8
-      m7 = λ before given. s6 (m6 before given)
       abbrev pub Need-either-found-requires : Type 0
-      Need-either-found-requires = (c : After-find-circuit) → s7 .asks (m7 (c .before) (After-find-circuit·gave c))
-      abbrev pub m8 : (before : After-find-circuit) → (given : s7 .gives (m7 (before .before) (After-find-circuit·gave before))) → Typed.Mo T9
-      m8 = λ before given. s7 .next (m7 (before .before) (After-find-circuit·gave before)) given
-      module _ (before· : After-find-circuit) where
+      Need-either-found-requires = (c : After-find-circuit-id) → s5 .asks (m5 (c .before) (After-find-circuit-id·gave c))
+      abbrev pub m6 : (before : After-find-circuit-id) → (given : s5 .gives (m5 (before .before) (After-find-circuit-id·gave before))) → Typed.Mo T7
+      m6 = λ before given. s5 .next (m5 (before .before) (After-find-circuit-id·gave before)) given
+      module _ (before· : After-find-circuit-id) where
         abbrev pub After-either-found·own : Type 0
-        After-either-found·own = Called.Called ps·3 r·3 (claims· .7) T8 (Num.vAt 6 λ x. x, (Num.vAt 8 λ x. x, (Num.vAt 7 λ x. x, (Num.vAt 9 λ x. x,
-            tt))),) (m7 (before· .before) (After-find-circuit·gave before·))
+        After-either-found·own = Called.Called ps·2 r·2 (claims· .5) T6 (Num.vAt 5 λ x. x, (Num.vAt 7 λ x. x, (Num.vAt 6 λ x. x, (Num.vAt 8 λ x. x,
+            tt))),) (m5 (before· .before) (After-find-circuit-id·gave before·))
       pub record After-either-found : Type 0 where
-        pub before : After-find-circuit
+        pub before : After-find-circuit-id
         pub either-found : After-either-found·own before
-      abbrev pub After-either-found·gave : (c : After-either-found) → s7 .gives (m7 (c .before .before) (After-find-circuit·gave (c .before)))
-      After-either-found·gave = λ c. Called.given ps·3 r·3 (claims· .7) T8 (Num.vAt 6 λ x. x, (Num.vAt 8 λ x. x, (Num.vAt 7 λ x. x, (Num.vAt 9 λ x. x,
-          tt))),) (m7 (c .before .before) (After-find-circuit·gave (c .before))) (c .either-found)
-      abbrev pub m9 : (before : After-find-circuit) → (given : s7 .gives (m7 (before .before) (After-find-circuit·gave before))) → Typed.Mo T10
+      abbrev pub After-either-found·gave : (c : After-either-found) → s5 .gives (m5 (c .before .before) (After-find-circuit-id·gave (c .before)))
+      After-either-found·gave = λ c. Called.given ps·2 r·2 (claims· .5) T6 (Num.vAt 5 λ x. x, (Num.vAt 7 λ x. x, (Num.vAt 6 λ x. x, (Num.vAt 8 λ x. x,
+          tt))),) (m5 (c .before .before) (After-find-circuit-id·gave (c .before))) (c .either-found)
+      abbrev pub m7 : (before : After-find-circuit-id) → (given : s5 .gives (m5 (before .before) (After-find-circuit-id·gave before))) → Typed.Mo T8
+      m7 = λ before given. s6 (m6 before given)
+      abbrev pub m8 : (before : After-find-circuit-id) → (given : s5 .gives (m5 (before .before) (After-find-circuit-id·gave before))) → Typed.Mo T9
+      m8 = λ before given. s7 (m7 before given)
+      abbrev pub m9 : (before : After-find-circuit-id) → (given : s5 .gives (m5 (before .before) (After-find-circuit-id·gave before))) → Typed.Mo T10
       m9 = λ before given. s8 (m8 before given)
-      abbrev pub m10 : (before : After-find-circuit) → (given : s7 .gives (m7 (before .before) (After-find-circuit·gave before))) → Typed.Mo T11
+      abbrev pub m10 : (before : After-find-circuit-id) → (given : s5 .gives (m5 (before .before) (After-find-circuit-id·gave before))) → Typed.Mo T11
       m10 = λ before given. s9 (m9 before given)
-      abbrev pub m11 : (before : After-find-circuit) → (given : s7 .gives (m7 (before .before) (After-find-circuit·gave before))) → Typed.Mo T12
+      abbrev pub m11 : (before : After-find-circuit-id) → (given : s5 .gives (m5 (before .before) (After-find-circuit-id·gave before))) → Typed.Mo T12
       m11 = λ before given. s10 (m10 before given)
-      abbrev pub m12 : (before : After-find-circuit) → (given : s7 .gives (m7 (before .before) (After-find-circuit·gave before))) → Typed.Mo T13
-      m12 = λ before given. s11 (m11 before given)
-      abbrev pub m13 : (before : After-find-circuit) → (given : s7 .gives (m7 (before .before) (After-find-circuit·gave before))) → Typed.Mo T14
-      m13 = λ before given. s12 (m12 before given)
       abbrev pub Need-returns : Type 0
-      Need-returns = (c : After-either-found) → Post· (c .before .before .before .before .κs) (dens (c .before .before .before .before .κs) (c .before
-          .before .before .before .args)) (Function.resV r (c .before .before .before .before .κs) (m13 (c .before) (After-either-found·gave c) .0))
-          (Clauses.atExit (Kinds.endedOf 2 ps r) (c .before .before .before .before .κs) (dens (c .before .before .before .before .κs) (c .before
-          .before .before .before .args)) (Enter.lastsP (c .before .before .before .before .κs) 1 ps xs (dens (c .before .before .before .before .κs)
-          (c .before .before .before .before .args)) (m13 (c .before) (After-either-found·gave c) .1)))
-      module _ (at-requires : Need-at-requires) (find-pending-requires : Need-find-pending-requires) (find-circuit-requires :
-          Need-find-circuit-requires) (either-found-requires : Need-either-found-requires) (returns : Need-returns) where
-        lay4 : (c : After-either-found) → at5 (W0 (c .before .before .before .before .κs) (c .before .before .before .before .args)) (m8 (c .before)
+      Need-returns = (c : After-either-found) → Post· (c .before .before .before .κs) (dens (c .before .before .before .κs) (c .before .before .before
+          .args)) (Function.resV r (c .before .before .before .κs) (m11 (c .before) (After-either-found·gave c) .0)) (Clauses.atExit (Kinds.endedOf 2
+          ps r) (c .before .before .before .κs) (dens (c .before .before .before .κs) (c .before .before .before .args)) (Enter.lastsP (c .before
+          .before .before .κs) 1 ps xs (dens (c .before .before .before .κs) (c .before .before .before .args)) (m11 (c .before)
+          (After-either-found·gave c) .1)))
+      module _ (find-pending-id-requires : Need-find-pending-id-requires) (find-circuit-id-requires : Need-find-circuit-id-requires)
+          (either-found-requires : Need-either-found-requires) (returns : Need-returns) where
+        lay3 : (c : After-either-found) → at5 (W0 (c .before .before .before .κs) (c .before .before .before .args)) (m6 (c .before)
             (After-either-found·gave c))
-        lay4 = λ c. ((Path.refl, (Path.refl, (tt, (tt, tt)))), returns record { before = c .before; either-found = c .either-found },)
-        lay3 : (c : After-find-circuit) → at10 (W0 (c .before .before .before .κs) (c .before .before .before .args)) (m3 (c .before)
-            (After-find-circuit·gave c))
-        lay3 = λ c. (either-found-requires record { before = c .before; find-circuit = c .find-circuit }, λ g. lay4 record { before = record { before
-            = c .before; find-circuit = c .find-circuit }; either-found = Called.called ps·3 r·3 (claims· .7) T8 (Num.vAt 6 λ x. x, (Num.vAt 8 λ x. x,
-            (Num.vAt 7 λ x. x, (Num.vAt 9 λ x. x, tt))),) (m7 (c .before) (After-find-circuit·gave c)) g; },)
-        lay2 : (c : After-find-pending) → at11 (W0 (c .before .before .κs) (c .before .before .args)) (m2 (c .before) (After-find-pending·gave c))
-        lay2 = λ c. (find-circuit-requires record { before = c .before; find-pending = c .find-pending }, λ g. lay3 record { before = record { before
-            = c .before; find-pending = c .find-pending }; find-circuit = Called.called ps·2 r·2 (claims· .5) T3 (record { pos = 2; ty = Syntax.tyRef
-            (Syntax.named 1) Syntax.imm RelayCircuit.to; ref = λ x. x; }, (record { pos = 3; st = List.[]; d = 0; at = λ x. x }, (record { pos = 5; st
-            = List.[]; d = 0; at = λ x. x }, tt),),) (m2 (c .before) (After-find-pending·gave c)) g; },)
-        lay1 : (c : After-at) → at12 (W0 (c .before .κs) (c .before .args)) (m1 (c .before) (After-at·gave c))
-        lay1 = λ c. (find-pending-requires record { before = c .before; at = c .at }, λ g. lay2 record { before = record { before = c .before; at = c
-            .at }; find-pending = Called.called ps·1 r·1 (claims· .3) T2 (record { pos = 1; ty = Syntax.tyRef (Syntax.named 0) Syntax.imm
-            RelayPending.to; ref = λ x. x; }, (record { pos = 3; st = List.[]; d = 0; at = λ x. x }, (record { pos = 5; st = List.[]; d = 0; at = λ x.
-            x }, tt),),) (m1 (c .before) (After-at·gave c)) g; },)
-        pub laid : (c : Start) → at13 (W0 (c .κs) (c .args)) (m0 (c .κs) (c .args))
-        laid = λ c. (at-requires c, λ g. lay1 record { before = c; at = Called.called ps·0 r·0 (claims· .1) T0 (Num.vAt 4 λ x. x, (Num.vLit 0, tt))
-            (m0 (c .κs) (c .args)) g; },)
+        lay3 = λ c. ((Path.refl, (Path.refl, (tt, (tt, tt)))), returns record { before = c .before; either-found = c .either-found },)
+        lay2 : (c : After-find-circuit-id) → at9 (W0 (c .before .before .κs) (c .before .before .args)) (m2 (c .before) (After-find-circuit-id·gave
+            c))
+        lay2 = λ c. (either-found-requires record { before = c .before; find-circuit-id = c .find-circuit-id; }, λ g. lay3 record { before = record {
+            before = c .before; find-circuit-id = c .find-circuit-id }; either-found = Called.called ps·2 r·2 (claims· .5) T6 (Num.vAt 5 λ x. x,
+            (Num.vAt 7 λ x. x, (Num.vAt 6 λ x. x, (Num.vAt 8 λ x. x, tt))),) (m5 (c .before) (After-find-circuit-id·gave c)) g; },)
+        lay1 : (c : After-find-pending-id) → at10 (W0 (c .before .κs) (c .before .args)) (m1 (c .before) (After-find-pending-id·gave c))
+        lay1 = λ c. (find-circuit-id-requires record { before = c .before; find-pending-id = c .find-pending-id; }, λ g. lay2 record { before = record
+            { before = c .before; find-pending-id = c .find-pending-id }; find-circuit-id = Called.called ps·1 r·1 (claims· .3) T2 (record { pos = 2;
+            ty = Syntax.tyRef (Syntax.named 1) Syntax.imm RelayCircuit.to; ref = λ x. x; }, (record { pos = 3; st = List.[]; d = 0; at = λ x. x },
+            (Num.vAt 4 λ x. x, tt)),) (m1 (c .before) (After-find-pending-id·gave c)) g; },)
+        pub laid : (c : Start) → at11 (W0 (c .κs) (c .args)) (m0 (c .κs) (c .args))
+        laid = λ c. (find-pending-id-requires c, λ g. lay1 record { before = c; find-pending-id = Called.called ps·0 r·0 (claims· .1) T0 (record { pos
+            = 1; ty = Syntax.tyRef (Syntax.named 0) Syntax.imm RelayPending.to; ref = λ x. x; }, (record { pos = 3; st = List.[]; d = 0; at = λ x. x
+            }, (Num.vAt 4 λ x. x, tt)),) (m0 (c .κs) (c .args)) g; },)
         module _ (κs : Lifetimes.Lfts 2) (qs : Lifetimes.Shares 2) where
           pub asked : (a : Kinds.Dens κs ps) → (good : Kinds.GoodsP κs ps a) → (pre : Pre· κs a) → (bs : List.List Nat.ℕ) → Φ (Any.wantQ 2 ps r xs m
               κs qs a (Post· κs a)) (Function.init 2 ps r xs m κs qs a)
           asked = λ a good pre bs. laid record { κs = κs; args = record { pending = a .0; circuits = a .1 .0; places = a .1 .1 .0; id = a .1 .1 .1 .0;
               }; good = good; fits = record { id = record { fits = good .1 .1 .1 .0 .1 } }; pre = pre; }
         module _ { M : Type 1 } (𝓤 : URA.URA M) (H : Wp.Heap 𝓤) (A : Atoms.Atoms 𝓤) (W : Kit.Given 𝓤 H A) (𝓣 : Wp.Tables 𝓤 H) (known0 : Plain.Known 𝓤
-            H A W 𝓣 0 ps·0 r·0 (claims· .0) (claims· .1) "hnsr_circuit::question::at") (known1 : Plain.Known 𝓤 H A W 𝓣 1 ps·1 r·1 (claims· .2)
-            (claims· .3) "hnsr_circuit::tables::pending::find_pending") (known2 : Plain.Known 𝓤 H A W 𝓣 1 ps·2 r·2 (claims· .4) (claims· .5)
-            "hnsr_circuit::tables::circuits::find_circuit") (known3 : Plain.Known 𝓤 H A W 𝓣 0 ps·3 r·3 (claims· .6) (claims· .7)
-            "hnsr_circuit::draw::either_found") where
+            H A W 𝓣 1 ps·0 r·0 (claims· .0) (claims· .1) "hnsr_circuit::tables::pending::find_pending_id") (known1 : Plain.Known 𝓤 H A W 𝓣 1 ps·1 r·1
+            (claims· .2) (claims· .3) "hnsr_circuit::tables::circuits::find_circuit_id") (known2 : Plain.Known 𝓤 H A W 𝓣 0 ps·2 r·2 (claims· .4)
+            (claims· .5) "hnsr_circuit::draw::either_found") where
           pub spec : Statement.Triple 𝓤 (Wp.WpFn 𝓤 H (𝓣 .C) (𝓣 .Λ) (Function.fnOf 2 ps r xs m hs body)) (Function.plainOf 𝓤 H A 2 ps r Pre· Post·)
-          spec = Plain.t-fn-plain 𝓤 H A W 𝓣 2 ps r xs m hs body (λ κs qs bs. Φ) (λ κs qs bs bd. typed κs qs 𝓤 H A W 𝓣 (known0, known1, known2, known3)
-              bs bd) Pre· Post· asked
+          spec = Plain.t-fn-plain 𝓤 H A W 𝓣 2 ps r xs m hs body (λ κs qs bs. Φ) (λ κs qs bs bd. typed κs qs 𝓤 H A W 𝓣 (known0, known1, known2) bs bd)
+              Pre· Post· asked

@@ -3,7 +3,6 @@ use Prim.Native.Nat
 use Rattle.hnsr_body.proofs.data_body.WindowRead
 use Rattle.hnsr_body.proofs.data_body.WindowRead.Laws
 use Rattle.hnsr_circuit.proofs.By.InflightAction
-use Rattle.hnsr_circuit.proofs.By.RelayCircuit
 use Rattle.hnsr_circuit.proofs.config.OpaqueRelayConfig
 use Rattle.hnsr_circuit.proofs.config.OpaqueRelayConfig.Laws as Laws'
 use Rattle.hnsr_circuit.proofs.peer.HnsrPeerId
@@ -20,14 +19,12 @@ use Rattle.hnsr_circuit.proofs.records.InflightKind
 use Rattle.hnsr_circuit.proofs.records.InflightKind.Laws as Laws'''''''
 use Rattle.hnsr_circuit.proofs.records.Outgoing
 use Rattle.hnsr_circuit.proofs.records.Outgoing.Laws as Laws''''''''
-use Rattle.hnsr_circuit.proofs.records.Question
-use Rattle.hnsr_circuit.proofs.records.Question.Laws as Laws'''''''''
 use Rattle.hnsr_circuit.proofs.records.RelayPacket
-use Rattle.hnsr_circuit.proofs.records.RelayPacket.Laws as Laws''''''''''
+use Rattle.hnsr_circuit.proofs.records.RelayPacket.Laws as Laws'''''''''
 use Rattle.hnsr_circuit.proofs.runtime.OpaqueRelayRuntime
-use Rattle.hnsr_circuit.proofs.runtime.OpaqueRelayRuntime.Laws as Laws'''''''''''
+use Rattle.hnsr_circuit.proofs.runtime.OpaqueRelayRuntime.Laws as Laws''''''''''
 use Rattle.hnsr_circuit.proofs.window.WindowPlan
-use Rattle.hnsr_circuit.proofs.window.WindowPlan.Laws as Laws''''''''''''
+use Rattle.hnsr_circuit.proofs.window.WindowPlan.Laws as Laws'''''''''''
 use borrow.Author.Called
 use borrow.Enum.Make
 use borrow.Fn.Any
@@ -37,7 +34,6 @@ use borrow.Fn.Frame
 use borrow.Fn.Function
 use borrow.Fn.Kinds
 use borrow.Fn.Plain
-use borrow.Kind.Num
 use borrow.Kind.ShrSlice
 use borrow.Kind.Value
 use borrow.Rule.DerefMove
@@ -50,22 +46,21 @@ use borrow.Rule.WayStmt
 use borrow.Rule.Yields
 use borrow.Struct.Behind
 use borrow.Struct.Inner
-use borrow.Struct.Reads
 use borrow.Struct.Way as Way'
 use borrow.Table.Copies
 use borrow.Table.Own
-use borrow.Table.Reads as Reads'
+use borrow.Table.Reads
 use borrow.Table.Referent
 use borrow.Table.Row
 use borrow.Table.Rows
 use borrow.Table.Typed
 use contract.Lifetimes
 use denote.Enum.Declared
-use denote.Enum.Laws as Laws'''''''''''''
+use denote.Enum.Laws as Laws''''''''''''
 use denote.Exit
 use denote.Struct.At
 use denote.Struct.Declared as Declared'
-use denote.Struct.Laws as Laws''''''''''''''
+use denote.Struct.Laws as Laws'''''''''''''
 use denote.Triple.Clauses
 use denote.Triple.Statement
 use ghost.Atoms
@@ -81,284 +76,235 @@ use types.Kit
 use mathlib.Core.List.{_∷_}
 
 abbrev ref0 : Syntax.Ty
-ref0 = Syntax.tyRef (Syntax.named 0) Syntax.imm RelayCircuit.to
+ref0 = Syntax.tyRef (Syntax.named 0) Syntax.imm InflightAction.to
 abbrev ref1 : Syntax.Ty
-ref1 = Syntax.tyRef (Syntax.named 1) Syntax.imm InflightAction.to
-abbrev ref2 : Syntax.Ty
-ref2 = Syntax.tyRef (Syntax.named 2) Syntax.imm (Syntax.tyInt Syntax.w8)
-abbrev ref3 : Syntax.Ty
-ref3 = Syntax.tyRef (Syntax.named 3) Syntax.imm (Syntax.tyInt Syntax.w8)
-abbrev pub ps : List.List (Kinds.PK 4)
-ps = (ShrSlice.pShrS RelayCircuit.row 0 tt) ∷ (ShrSlice.pShrS InflightAction.row 1 tt) ∷ (Value.pVal record { ty = Declared'.row
-    OpaqueRelayRuntime.the-type; one = Path.refl; val = Laws''''''''''''''.val OpaqueRelayRuntime.the-type Laws'''''''''''.the-laws; tells =
-    Laws''''''''''''''.tells OpaqueRelayRuntime.the-type Laws'''''''''''.the-laws; still = Laws''''''''''''''.still OpaqueRelayRuntime.the-type
-    Laws'''''''''''.the-copy Exit.yes; row = Rows.whole (Declared'.row OpaqueRelayRuntime.the-type); rd = λ x. x; mk = λ x. x; } λ M 𝓤 H A W. record {
-    copies = Laws''''''''''''''.copy OpaqueRelayRuntime.the-type Laws'''''''''''.the-copy 𝓤 H A W; lawful = Laws''''''''''''''.lawful
-    OpaqueRelayRuntime.the-type Laws'''''''''''.the-laws 𝓤 H A W; makes = Laws''''''''''''''.makes OpaqueRelayRuntime.the-type
-    Laws'''''''''''.the-plain 𝓤 H A; in-mem = Local.mem-whole 𝓤 H A W (Declared'.row OpaqueRelayRuntime.the-type); of-mem = Local.whole-mem 𝓤 H A W
-    (Declared'.row OpaqueRelayRuntime.the-type); }) ∷ (Value.pVal record { ty = Declared'.row Places.the-type; one = Path.refl; val =
-    Laws''''''''''''''.val Places.the-type Laws'''.the-laws; tells = Laws''''''''''''''.tells Places.the-type Laws'''.the-laws; still =
-    Laws''''''''''''''.still Places.the-type Laws'''.the-copy Exit.yes; row = Rows.whole (Declared'.row Places.the-type); rd = λ x. x; mk = λ x. x; }
-    λ M 𝓤 H A W. record { copies = Laws''''''''''''''.copy Places.the-type Laws'''.the-copy 𝓤 H A W; lawful = Laws''''''''''''''.lawful
-    Places.the-type Laws'''.the-laws 𝓤 H A W; makes = Laws''''''''''''''.makes Places.the-type Laws'''.the-plain 𝓤 H A; in-mem = Local.mem-whole 𝓤 H A
-    W (Declared'.row Places.the-type); of-mem = Local.whole-mem 𝓤 H A W (Declared'.row Places.the-type); }) ∷ (Value.pVal record { ty = Declared'.row
-    RelayPacket.the-type; one = Path.refl; val = Laws''''''''''''''.val RelayPacket.the-type Laws''''''''''.the-laws; tells = Laws''''''''''''''.tells
-    RelayPacket.the-type Laws''''''''''.the-laws; still = Laws''''''''''''''.still RelayPacket.the-type Laws''''''''''.the-copy Exit.yes; row =
-    Rows.whole (Declared'.row RelayPacket.the-type); rd = λ x. x; mk = λ x. x; } λ M 𝓤 H A W. record { copies = Laws''''''''''''''.copy
-    RelayPacket.the-type Laws''''''''''.the-copy 𝓤 H A W; lawful = Laws''''''''''''''.lawful RelayPacket.the-type Laws''''''''''.the-laws 𝓤 H A W;
-    makes = Laws''''''''''''''.makes RelayPacket.the-type Laws''''''''''.the-plain 𝓤 H A; in-mem = Local.mem-whole 𝓤 H A W (Declared'.row
-    RelayPacket.the-type); of-mem = Local.whole-mem 𝓤 H A W (Declared'.row RelayPacket.the-type); }) ∷ (ShrSlice.pShrS (Referent.rtF (Referent.fInt
-    Syntax.w8)) 2 tt) ∷ (ShrSlice.pShrS (Referent.rtF (Referent.fInt Syntax.w8)) 3 tt) ∷ List.[]
-abbrev pub r : Kinds.RK 4
-r = Value.rVal record { ty = Declared'.row WindowPlan.the-type; one = Path.refl; val = Laws''''''''''''''.val WindowPlan.the-type
-    Laws''''''''''''.the-laws; tells = Laws''''''''''''''.tells WindowPlan.the-type Laws''''''''''''.the-laws; still = Laws''''''''''''''.still
-    WindowPlan.the-type Laws''''''''''''.the-copy Exit.yes; row = Rows.whole (Declared'.row WindowPlan.the-type); rd = λ x. x; mk = λ x. x; } λ M 𝓤 H
-    A W. record { copies = Laws''''''''''''''.copy WindowPlan.the-type Laws''''''''''''.the-copy 𝓤 H A W; lawful = Laws''''''''''''''.lawful
-    WindowPlan.the-type Laws''''''''''''.the-laws 𝓤 H A W; makes = Laws''''''''''''''.makes WindowPlan.the-type Laws''''''''''''.the-plain 𝓤 H A;
-    in-mem = Local.mem-whole 𝓤 H A W (Declared'.row WindowPlan.the-type); of-mem = Local.whole-mem 𝓤 H A W (Declared'.row WindowPlan.the-type); }
+ref1 = Syntax.tyRef (Syntax.named 1) Syntax.imm (Syntax.tyInt Syntax.w8)
+abbrev pub ps : List.List (Kinds.PK 2)
+ps = (ShrSlice.pShrS InflightAction.row 0 tt) ∷ (Value.pVal record { ty = Declared'.row OpaqueRelayRuntime.the-type; one = Path.refl; val =
+    Laws'''''''''''''.val OpaqueRelayRuntime.the-type Laws''''''''''.the-laws; tells = Laws'''''''''''''.tells OpaqueRelayRuntime.the-type
+    Laws''''''''''.the-laws; still = Laws'''''''''''''.still OpaqueRelayRuntime.the-type Laws''''''''''.the-copy Exit.yes; row = Rows.whole
+    (Declared'.row OpaqueRelayRuntime.the-type); rd = λ x. x; mk = λ x. x; } λ M 𝓤 H A W. record { copies = Laws'''''''''''''.copy
+    OpaqueRelayRuntime.the-type Laws''''''''''.the-copy 𝓤 H A W; lawful = Laws'''''''''''''.lawful OpaqueRelayRuntime.the-type Laws''''''''''.the-laws
+    𝓤 H A W; makes = Laws'''''''''''''.makes OpaqueRelayRuntime.the-type Laws''''''''''.the-plain 𝓤 H A; in-mem = Local.mem-whole 𝓤 H A W
+    (Declared'.row OpaqueRelayRuntime.the-type); of-mem = Local.whole-mem 𝓤 H A W (Declared'.row OpaqueRelayRuntime.the-type); }) ∷ (Value.pVal record
+    { ty = Declared'.row Places.the-type; one = Path.refl; val = Laws'''''''''''''.val Places.the-type Laws'''.the-laws; tells =
+    Laws'''''''''''''.tells Places.the-type Laws'''.the-laws; still = Laws'''''''''''''.still Places.the-type Laws'''.the-copy Exit.yes; row =
+    Rows.whole (Declared'.row Places.the-type); rd = λ x. x; mk = λ x. x; } λ M 𝓤 H A W. record { copies = Laws'''''''''''''.copy Places.the-type
+    Laws'''.the-copy 𝓤 H A W; lawful = Laws'''''''''''''.lawful Places.the-type Laws'''.the-laws 𝓤 H A W; makes = Laws'''''''''''''.makes
+    Places.the-type Laws'''.the-plain 𝓤 H A; in-mem = Local.mem-whole 𝓤 H A W (Declared'.row Places.the-type); of-mem = Local.whole-mem 𝓤 H A W
+    (Declared'.row Places.the-type); }) ∷ (Value.pVal record { ty = Declared'.row RelayPacket.the-type; one = Path.refl; val = Laws'''''''''''''.val
+    RelayPacket.the-type Laws'''''''''.the-laws; tells = Laws'''''''''''''.tells RelayPacket.the-type Laws'''''''''.the-laws; still =
+    Laws'''''''''''''.still RelayPacket.the-type Laws'''''''''.the-copy Exit.yes; row = Rows.whole (Declared'.row RelayPacket.the-type); rd = λ x. x;
+    mk = λ x. x; } λ M 𝓤 H A W. record { copies = Laws'''''''''''''.copy RelayPacket.the-type Laws'''''''''.the-copy 𝓤 H A W; lawful =
+    Laws'''''''''''''.lawful RelayPacket.the-type Laws'''''''''.the-laws 𝓤 H A W; makes = Laws'''''''''''''.makes RelayPacket.the-type
+    Laws'''''''''.the-plain 𝓤 H A; in-mem = Local.mem-whole 𝓤 H A W (Declared'.row RelayPacket.the-type); of-mem = Local.whole-mem 𝓤 H A W
+    (Declared'.row RelayPacket.the-type); }) ∷ (Value.pVal record { ty = Declared'.row WindowRead.the-type; one = Path.refl; val =
+    Laws'''''''''''''.val WindowRead.the-type Laws.the-laws; tells = Laws'''''''''''''.tells WindowRead.the-type Laws.the-laws; still =
+    Laws'''''''''''''.still WindowRead.the-type Laws.the-copy Exit.yes; row = Rows.whole (Declared'.row WindowRead.the-type); rd = λ x. x; mk = λ x.
+    x; } λ M 𝓤 H A W. record { copies = Laws'''''''''''''.copy WindowRead.the-type Laws.the-copy 𝓤 H A W; lawful = Laws'''''''''''''.lawful
+    WindowRead.the-type Laws.the-laws 𝓤 H A W; makes = Laws'''''''''''''.makes WindowRead.the-type Laws.the-plain 𝓤 H A; in-mem = Local.mem-whole 𝓤 H
+    A W (Declared'.row WindowRead.the-type); of-mem = Local.whole-mem 𝓤 H A W (Declared'.row WindowRead.the-type); }) ∷ (Value.pVal record { ty =
+    Declared'.row CircuitFound.the-type; one = Path.refl; val = Laws'''''''''''''.val CircuitFound.the-type Laws''''''.the-laws; tells =
+    Laws'''''''''''''.tells CircuitFound.the-type Laws''''''.the-laws; still = Laws'''''''''''''.still CircuitFound.the-type Laws''''''.the-copy
+    Exit.yes; row = Rows.whole (Declared'.row CircuitFound.the-type); rd = λ x. x; mk = λ x. x; } λ M 𝓤 H A W. record { copies =
+    Laws'''''''''''''.copy CircuitFound.the-type Laws''''''.the-copy 𝓤 H A W; lawful = Laws'''''''''''''.lawful CircuitFound.the-type
+    Laws''''''.the-laws 𝓤 H A W; makes = Laws'''''''''''''.makes CircuitFound.the-type Laws''''''.the-plain 𝓤 H A; in-mem = Local.mem-whole 𝓤 H A W
+    (Declared'.row CircuitFound.the-type); of-mem = Local.whole-mem 𝓤 H A W (Declared'.row CircuitFound.the-type); }) ∷ (ShrSlice.pShrS (Referent.rtF
+    (Referent.fInt Syntax.w8)) 1 tt) ∷ List.[]
+abbrev pub r : Kinds.RK 2
+r = Value.rVal record { ty = Declared'.row WindowPlan.the-type; one = Path.refl; val = Laws'''''''''''''.val WindowPlan.the-type
+    Laws'''''''''''.the-laws; tells = Laws'''''''''''''.tells WindowPlan.the-type Laws'''''''''''.the-laws; still = Laws'''''''''''''.still
+    WindowPlan.the-type Laws'''''''''''.the-copy Exit.yes; row = Rows.whole (Declared'.row WindowPlan.the-type); rd = λ x. x; mk = λ x. x; } λ M 𝓤 H A
+    W. record { copies = Laws'''''''''''''.copy WindowPlan.the-type Laws'''''''''''.the-copy 𝓤 H A W; lawful = Laws'''''''''''''.lawful
+    WindowPlan.the-type Laws'''''''''''.the-laws 𝓤 H A W; makes = Laws'''''''''''''.makes WindowPlan.the-type Laws'''''''''''.the-plain 𝓤 H A; in-mem
+    = Local.mem-whole 𝓤 H A W (Declared'.row WindowPlan.the-type); of-mem = Local.whole-mem 𝓤 H A W (Declared'.row WindowPlan.the-type); }
 abbrev pub xs : List.List Syntax.Ty
-xs = Laws'.mir ∷ Laws'''''''.mir ∷ Laws''.mir ∷ Laws.mir ∷ Laws'''''''''.mir ∷ Laws''''''.mir ∷ Laws''''''''.mir ∷ Laws''''.mir ∷ Laws'''''.mir ∷
-    List.[]
+xs = Laws'.mir ∷ Laws'''''''.mir ∷ Laws''.mir ∷ Laws''''''''.mir ∷ Laws''''.mir ∷ Laws'''''.mir ∷ List.[]
 abbrev pub m : Nat.ℕ
 m = 0
 abbrev pub ps·0 : List.List (Kinds.PK 1)
 ps·0 = (ShrSlice.pShrS (Referent.rtF (Referent.fInt Syntax.w8)) 0 tt) ∷ List.[]
 abbrev pub r·0 : Kinds.RK 1
-r·0 = Value.rVal record { ty = Declared'.row HnsrPeerId.the-type; one = Path.refl; val = Laws''''''''''''''.val HnsrPeerId.the-type Laws''.the-laws;
-    tells = Laws''''''''''''''.tells HnsrPeerId.the-type Laws''.the-laws; still = Laws''''''''''''''.still HnsrPeerId.the-type Laws''.the-copy
-    Exit.yes; row = Rows.whole (Declared'.row HnsrPeerId.the-type); rd = λ x. x; mk = λ x. x; } λ M 𝓤 H A W. record { copies = Laws''''''''''''''.copy
-    HnsrPeerId.the-type Laws''.the-copy 𝓤 H A W; lawful = Laws''''''''''''''.lawful HnsrPeerId.the-type Laws''.the-laws 𝓤 H A W; makes =
-    Laws''''''''''''''.makes HnsrPeerId.the-type Laws''.the-plain 𝓤 H A; in-mem = Local.mem-whole 𝓤 H A W (Declared'.row HnsrPeerId.the-type); of-mem
-    = Local.whole-mem 𝓤 H A W (Declared'.row HnsrPeerId.the-type); }
-abbrev pub ps·1 : List.List (Kinds.PK 1)
-ps·1 = (ShrSlice.pShrS (Referent.rtF (Referent.fInt Syntax.w8)) 0 tt) ∷ List.[]
-abbrev pub r·1 : Kinds.RK 1
-r·1 = Value.rVal record { ty = Declared'.row WindowRead.the-type; one = Path.refl; val = Laws''''''''''''''.val WindowRead.the-type Laws.the-laws;
-    tells = Laws''''''''''''''.tells WindowRead.the-type Laws.the-laws; still = Laws''''''''''''''.still WindowRead.the-type Laws.the-copy Exit.yes;
-    row = Rows.whole (Declared'.row WindowRead.the-type); rd = λ x. x; mk = λ x. x; } λ M 𝓤 H A W. record { copies = Laws''''''''''''''.copy
-    WindowRead.the-type Laws.the-copy 𝓤 H A W; lawful = Laws''''''''''''''.lawful WindowRead.the-type Laws.the-laws 𝓤 H A W; makes =
-    Laws''''''''''''''.makes WindowRead.the-type Laws.the-plain 𝓤 H A; in-mem = Local.mem-whole 𝓤 H A W (Declared'.row WindowRead.the-type); of-mem =
-    Local.whole-mem 𝓤 H A W (Declared'.row WindowRead.the-type); }
-abbrev pub ps·2 : List.List (Kinds.PK 0)
-ps·2 = (Num.pNum Syntax.w64) ∷ (Num.pNum Syntax.w64) ∷ List.[]
-abbrev pub r·2 : Kinds.RK 0
-r·2 = Value.rVal record { ty = Declared'.row Question.the-type; one = Path.refl; val = Laws''''''''''''''.val Question.the-type
-    Laws'''''''''.the-laws; tells = Laws''''''''''''''.tells Question.the-type Laws'''''''''.the-laws; still = Laws''''''''''''''.still
-    Question.the-type Laws'''''''''.the-copy Exit.yes; row = Rows.whole (Declared'.row Question.the-type); rd = λ x. x; mk = λ x. x; } λ M 𝓤 H A W.
-    record { copies = Laws''''''''''''''.copy Question.the-type Laws'''''''''.the-copy 𝓤 H A W; lawful = Laws''''''''''''''.lawful Question.the-type
-    Laws'''''''''.the-laws 𝓤 H A W; makes = Laws''''''''''''''.makes Question.the-type Laws'''''''''.the-plain 𝓤 H A; in-mem = Local.mem-whole 𝓤 H A W
-    (Declared'.row Question.the-type); of-mem = Local.whole-mem 𝓤 H A W (Declared'.row Question.the-type); }
-abbrev pub ps·3 : List.List (Kinds.PK 1)
-ps·3 = (ShrSlice.pShrS RelayCircuit.row 0 tt) ∷ (Value.pVal record { ty = Declared'.row Places.the-type; one = Path.refl; val = Laws''''''''''''''.val
-    Places.the-type Laws'''.the-laws; tells = Laws''''''''''''''.tells Places.the-type Laws'''.the-laws; still = Laws''''''''''''''.still
-    Places.the-type Laws'''.the-copy Exit.yes; row = Rows.whole (Declared'.row Places.the-type); rd = λ x. x; mk = λ x. x; } λ M 𝓤 H A W. record {
-    copies = Laws''''''''''''''.copy Places.the-type Laws'''.the-copy 𝓤 H A W; lawful = Laws''''''''''''''.lawful Places.the-type Laws'''.the-laws 𝓤 H
-    A W; makes = Laws''''''''''''''.makes Places.the-type Laws'''.the-plain 𝓤 H A; in-mem = Local.mem-whole 𝓤 H A W (Declared'.row Places.the-type);
-    of-mem = Local.whole-mem 𝓤 H A W (Declared'.row Places.the-type); }) ∷ (Value.pVal record { ty = Declared'.row Question.the-type; one = Path.refl;
-    val = Laws''''''''''''''.val Question.the-type Laws'''''''''.the-laws; tells = Laws''''''''''''''.tells Question.the-type Laws'''''''''.the-laws;
-    still = Laws''''''''''''''.still Question.the-type Laws'''''''''.the-copy Exit.yes; row = Rows.whole (Declared'.row Question.the-type); rd = λ x.
-    x; mk = λ x. x; } λ M 𝓤 H A W. record { copies = Laws''''''''''''''.copy Question.the-type Laws'''''''''.the-copy 𝓤 H A W; lawful =
-    Laws''''''''''''''.lawful Question.the-type Laws'''''''''.the-laws 𝓤 H A W; makes = Laws''''''''''''''.makes Question.the-type
-    Laws'''''''''.the-plain 𝓤 H A; in-mem = Local.mem-whole 𝓤 H A W (Declared'.row Question.the-type); of-mem = Local.whole-mem 𝓤 H A W (Declared'.row
-    Question.the-type); }) ∷ List.[]
-abbrev pub r·3 : Kinds.RK 1
-r·3 = Value.rVal record { ty = Declared'.row CircuitFound.the-type; one = Path.refl; val = Laws''''''''''''''.val CircuitFound.the-type
-    Laws''''''.the-laws; tells = Laws''''''''''''''.tells CircuitFound.the-type Laws''''''.the-laws; still = Laws''''''''''''''.still
+r·0 = Value.rVal record { ty = Declared'.row HnsrPeerId.the-type; one = Path.refl; val = Laws'''''''''''''.val HnsrPeerId.the-type Laws''.the-laws;
+    tells = Laws'''''''''''''.tells HnsrPeerId.the-type Laws''.the-laws; still = Laws'''''''''''''.still HnsrPeerId.the-type Laws''.the-copy Exit.yes;
+    row = Rows.whole (Declared'.row HnsrPeerId.the-type); rd = λ x. x; mk = λ x. x; } λ M 𝓤 H A W. record { copies = Laws'''''''''''''.copy
+    HnsrPeerId.the-type Laws''.the-copy 𝓤 H A W; lawful = Laws'''''''''''''.lawful HnsrPeerId.the-type Laws''.the-laws 𝓤 H A W; makes =
+    Laws'''''''''''''.makes HnsrPeerId.the-type Laws''.the-plain 𝓤 H A; in-mem = Local.mem-whole 𝓤 H A W (Declared'.row HnsrPeerId.the-type); of-mem =
+    Local.whole-mem 𝓤 H A W (Declared'.row HnsrPeerId.the-type); }
+abbrev pub ps·1 : List.List (Kinds.PK 0)
+ps·1 = (Value.pVal record { ty = Declared'.row RelayPacket.the-type; one = Path.refl; val = Laws'''''''''''''.val RelayPacket.the-type
+    Laws'''''''''.the-laws; tells = Laws'''''''''''''.tells RelayPacket.the-type Laws'''''''''.the-laws; still = Laws'''''''''''''.still
+    RelayPacket.the-type Laws'''''''''.the-copy Exit.yes; row = Rows.whole (Declared'.row RelayPacket.the-type); rd = λ x. x; mk = λ x. x; } λ M 𝓤 H A
+    W. record { copies = Laws'''''''''''''.copy RelayPacket.the-type Laws'''''''''.the-copy 𝓤 H A W; lawful = Laws'''''''''''''.lawful
+    RelayPacket.the-type Laws'''''''''.the-laws 𝓤 H A W; makes = Laws'''''''''''''.makes RelayPacket.the-type Laws'''''''''.the-plain 𝓤 H A; in-mem =
+    Local.mem-whole 𝓤 H A W (Declared'.row RelayPacket.the-type); of-mem = Local.whole-mem 𝓤 H A W (Declared'.row RelayPacket.the-type); }) ∷
+    (Value.pVal record { ty = Declared'.row CircuitFound.the-type; one = Path.refl; val = Laws'''''''''''''.val CircuitFound.the-type
+    Laws''''''.the-laws; tells = Laws'''''''''''''.tells CircuitFound.the-type Laws''''''.the-laws; still = Laws'''''''''''''.still
     CircuitFound.the-type Laws''''''.the-copy Exit.yes; row = Rows.whole (Declared'.row CircuitFound.the-type); rd = λ x. x; mk = λ x. x; } λ M 𝓤 H A
-    W. record { copies = Laws''''''''''''''.copy CircuitFound.the-type Laws''''''.the-copy 𝓤 H A W; lawful = Laws''''''''''''''.lawful
-    CircuitFound.the-type Laws''''''.the-laws 𝓤 H A W; makes = Laws''''''''''''''.makes CircuitFound.the-type Laws''''''.the-plain 𝓤 H A; in-mem =
-    Local.mem-whole 𝓤 H A W (Declared'.row CircuitFound.the-type); of-mem = Local.whole-mem 𝓤 H A W (Declared'.row CircuitFound.the-type); }
-abbrev pub ps·4 : List.List (Kinds.PK 0)
-ps·4 = (Value.pVal record { ty = Declared'.row RelayPacket.the-type; one = Path.refl; val = Laws''''''''''''''.val RelayPacket.the-type
-    Laws''''''''''.the-laws; tells = Laws''''''''''''''.tells RelayPacket.the-type Laws''''''''''.the-laws; still = Laws''''''''''''''.still
-    RelayPacket.the-type Laws''''''''''.the-copy Exit.yes; row = Rows.whole (Declared'.row RelayPacket.the-type); rd = λ x. x; mk = λ x. x; } λ M 𝓤 H
-    A W. record { copies = Laws''''''''''''''.copy RelayPacket.the-type Laws''''''''''.the-copy 𝓤 H A W; lawful = Laws''''''''''''''.lawful
-    RelayPacket.the-type Laws''''''''''.the-laws 𝓤 H A W; makes = Laws''''''''''''''.makes RelayPacket.the-type Laws''''''''''.the-plain 𝓤 H A; in-mem
-    = Local.mem-whole 𝓤 H A W (Declared'.row RelayPacket.the-type); of-mem = Local.whole-mem 𝓤 H A W (Declared'.row RelayPacket.the-type); }) ∷
-    (Value.pVal record { ty = Declared'.row CircuitFound.the-type; one = Path.refl; val = Laws''''''''''''''.val CircuitFound.the-type
-    Laws''''''.the-laws; tells = Laws''''''''''''''.tells CircuitFound.the-type Laws''''''.the-laws; still = Laws''''''''''''''.still
-    CircuitFound.the-type Laws''''''.the-copy Exit.yes; row = Rows.whole (Declared'.row CircuitFound.the-type); rd = λ x. x; mk = λ x. x; } λ M 𝓤 H A
-    W. record { copies = Laws''''''''''''''.copy CircuitFound.the-type Laws''''''.the-copy 𝓤 H A W; lawful = Laws''''''''''''''.lawful
-    CircuitFound.the-type Laws''''''.the-laws 𝓤 H A W; makes = Laws''''''''''''''.makes CircuitFound.the-type Laws''''''.the-plain 𝓤 H A; in-mem =
+    W. record { copies = Laws'''''''''''''.copy CircuitFound.the-type Laws''''''.the-copy 𝓤 H A W; lawful = Laws'''''''''''''.lawful
+    CircuitFound.the-type Laws''''''.the-laws 𝓤 H A W; makes = Laws'''''''''''''.makes CircuitFound.the-type Laws''''''.the-plain 𝓤 H A; in-mem =
     Local.mem-whole 𝓤 H A W (Declared'.row CircuitFound.the-type); of-mem = Local.whole-mem 𝓤 H A W (Declared'.row CircuitFound.the-type); }) ∷
-    (Value.pVal record { ty = Declared'.row HnsrPeerId.the-type; one = Path.refl; val = Laws''''''''''''''.val HnsrPeerId.the-type Laws''.the-laws;
-    tells = Laws''''''''''''''.tells HnsrPeerId.the-type Laws''.the-laws; still = Laws''''''''''''''.still HnsrPeerId.the-type Laws''.the-copy
-    Exit.yes; row = Rows.whole (Declared'.row HnsrPeerId.the-type); rd = λ x. x; mk = λ x. x; } λ M 𝓤 H A W. record { copies = Laws''''''''''''''.copy
-    HnsrPeerId.the-type Laws''.the-copy 𝓤 H A W; lawful = Laws''''''''''''''.lawful HnsrPeerId.the-type Laws''.the-laws 𝓤 H A W; makes =
-    Laws''''''''''''''.makes HnsrPeerId.the-type Laws''.the-plain 𝓤 H A; in-mem = Local.mem-whole 𝓤 H A W (Declared'.row HnsrPeerId.the-type); of-mem
-    = Local.whole-mem 𝓤 H A W (Declared'.row HnsrPeerId.the-type); }) ∷ (Value.pVal record { ty = Declared.row InflightKind.the-type; one = Path.refl;
-    val = Laws'''''''''''''.val InflightKind.the-type Laws'''''''.the-laws; tells = Laws'''''''''''''.tells InflightKind.the-type
-    Laws'''''''.the-laws; still = Laws'''''''''''''.still InflightKind.the-type Laws'''''''.the-copy Exit.yes; row = Rows.whole (Declared.row
-    InflightKind.the-type); rd = λ x. x; mk = λ x. x; } λ M 𝓤 H A W. record { copies = Laws'''''''''''''.copy InflightKind.the-type
-    Laws'''''''.the-copy 𝓤 H A W; lawful = Laws'''''''''''''.lawful InflightKind.the-type Laws'''''''.the-laws 𝓤 H A W tt; makes =
-    Laws'''''''''''''.makes InflightKind.the-type Laws'''''''.the-plain 𝓤 H A; in-mem = Local.mem-whole 𝓤 H A W (Declared.row InflightKind.the-type);
-    of-mem = Local.whole-mem 𝓤 H A W (Declared.row InflightKind.the-type); }) ∷ List.[]
-abbrev pub r·4 : Kinds.RK 0
-r·4 = Value.rVal record { ty = Declared'.row Outgoing.the-type; one = Path.refl; val = Laws''''''''''''''.val Outgoing.the-type Laws''''''''.the-laws;
-    tells = Laws''''''''''''''.tells Outgoing.the-type Laws''''''''.the-laws; still = Laws''''''''''''''.still Outgoing.the-type Laws''''''''.the-copy
-    Exit.yes; row = Rows.whole (Declared'.row Outgoing.the-type); rd = λ x. x; mk = λ x. x; } λ M 𝓤 H A W. record { copies = Laws''''''''''''''.copy
-    Outgoing.the-type Laws''''''''.the-copy 𝓤 H A W; lawful = Laws''''''''''''''.lawful Outgoing.the-type Laws''''''''.the-laws 𝓤 H A W; makes =
-    Laws''''''''''''''.makes Outgoing.the-type Laws''''''''.the-plain 𝓤 H A; in-mem = Local.mem-whole 𝓤 H A W (Declared'.row Outgoing.the-type);
-    of-mem = Local.whole-mem 𝓤 H A W (Declared'.row Outgoing.the-type); }
-abbrev pub ps·5 : List.List (Kinds.PK 0)
-ps·5 = (Value.pVal record { ty = Declared'.row OpaqueRelayRuntime.the-type; one = Path.refl; val = Laws''''''''''''''.val OpaqueRelayRuntime.the-type
-    Laws'''''''''''.the-laws; tells = Laws''''''''''''''.tells OpaqueRelayRuntime.the-type Laws'''''''''''.the-laws; still = Laws''''''''''''''.still
-    OpaqueRelayRuntime.the-type Laws'''''''''''.the-copy Exit.yes; row = Rows.whole (Declared'.row OpaqueRelayRuntime.the-type); rd = λ x. x; mk = λ
-    x. x; } λ M 𝓤 H A W. record { copies = Laws''''''''''''''.copy OpaqueRelayRuntime.the-type Laws'''''''''''.the-copy 𝓤 H A W; lawful =
-    Laws''''''''''''''.lawful OpaqueRelayRuntime.the-type Laws'''''''''''.the-laws 𝓤 H A W; makes = Laws''''''''''''''.makes
-    OpaqueRelayRuntime.the-type Laws'''''''''''.the-plain 𝓤 H A; in-mem = Local.mem-whole 𝓤 H A W (Declared'.row OpaqueRelayRuntime.the-type); of-mem
-    = Local.whole-mem 𝓤 H A W (Declared'.row OpaqueRelayRuntime.the-type); }) ∷ (Value.pVal record { ty = Declared'.row Outgoing.the-type; one =
-    Path.refl; val = Laws''''''''''''''.val Outgoing.the-type Laws''''''''.the-laws; tells = Laws''''''''''''''.tells Outgoing.the-type
-    Laws''''''''.the-laws; still = Laws''''''''''''''.still Outgoing.the-type Laws''''''''.the-copy Exit.yes; row = Rows.whole (Declared'.row
-    Outgoing.the-type); rd = λ x. x; mk = λ x. x; } λ M 𝓤 H A W. record { copies = Laws''''''''''''''.copy Outgoing.the-type Laws''''''''.the-copy 𝓤 H
-    A W; lawful = Laws''''''''''''''.lawful Outgoing.the-type Laws''''''''.the-laws 𝓤 H A W; makes = Laws''''''''''''''.makes Outgoing.the-type
-    Laws''''''''.the-plain 𝓤 H A; in-mem = Local.mem-whole 𝓤 H A W (Declared'.row Outgoing.the-type); of-mem = Local.whole-mem 𝓤 H A W (Declared'.row
-    Outgoing.the-type); }) ∷ List.[]
-abbrev pub r·5 : Kinds.RK 0
-r·5 = Value.rVal record { ty = Declared'.row ActionQuestion.the-type; one = Path.refl; val = Laws''''''''''''''.val ActionQuestion.the-type
-    Laws''''.the-laws; tells = Laws''''''''''''''.tells ActionQuestion.the-type Laws''''.the-laws; still = Laws''''''''''''''.still
+    (Value.pVal record { ty = Declared'.row HnsrPeerId.the-type; one = Path.refl; val = Laws'''''''''''''.val HnsrPeerId.the-type Laws''.the-laws;
+    tells = Laws'''''''''''''.tells HnsrPeerId.the-type Laws''.the-laws; still = Laws'''''''''''''.still HnsrPeerId.the-type Laws''.the-copy Exit.yes;
+    row = Rows.whole (Declared'.row HnsrPeerId.the-type); rd = λ x. x; mk = λ x. x; } λ M 𝓤 H A W. record { copies = Laws'''''''''''''.copy
+    HnsrPeerId.the-type Laws''.the-copy 𝓤 H A W; lawful = Laws'''''''''''''.lawful HnsrPeerId.the-type Laws''.the-laws 𝓤 H A W; makes =
+    Laws'''''''''''''.makes HnsrPeerId.the-type Laws''.the-plain 𝓤 H A; in-mem = Local.mem-whole 𝓤 H A W (Declared'.row HnsrPeerId.the-type); of-mem =
+    Local.whole-mem 𝓤 H A W (Declared'.row HnsrPeerId.the-type); }) ∷ (Value.pVal record { ty = Declared.row InflightKind.the-type; one = Path.refl;
+    val = Laws''''''''''''.val InflightKind.the-type Laws'''''''.the-laws; tells = Laws''''''''''''.tells InflightKind.the-type Laws'''''''.the-laws;
+    still = Laws''''''''''''.still InflightKind.the-type Laws'''''''.the-copy Exit.yes; row = Rows.whole (Declared.row InflightKind.the-type); rd = λ
+    x. x; mk = λ x. x; } λ M 𝓤 H A W. record { copies = Laws''''''''''''.copy InflightKind.the-type Laws'''''''.the-copy 𝓤 H A W; lawful =
+    Laws''''''''''''.lawful InflightKind.the-type Laws'''''''.the-laws 𝓤 H A W tt; makes = Laws''''''''''''.makes InflightKind.the-type
+    Laws'''''''.the-plain 𝓤 H A; in-mem = Local.mem-whole 𝓤 H A W (Declared.row InflightKind.the-type); of-mem = Local.whole-mem 𝓤 H A W (Declared.row
+    InflightKind.the-type); }) ∷ List.[]
+abbrev pub r·1 : Kinds.RK 0
+r·1 = Value.rVal record { ty = Declared'.row Outgoing.the-type; one = Path.refl; val = Laws'''''''''''''.val Outgoing.the-type Laws''''''''.the-laws;
+    tells = Laws'''''''''''''.tells Outgoing.the-type Laws''''''''.the-laws; still = Laws'''''''''''''.still Outgoing.the-type Laws''''''''.the-copy
+    Exit.yes; row = Rows.whole (Declared'.row Outgoing.the-type); rd = λ x. x; mk = λ x. x; } λ M 𝓤 H A W. record { copies = Laws'''''''''''''.copy
+    Outgoing.the-type Laws''''''''.the-copy 𝓤 H A W; lawful = Laws'''''''''''''.lawful Outgoing.the-type Laws''''''''.the-laws 𝓤 H A W; makes =
+    Laws'''''''''''''.makes Outgoing.the-type Laws''''''''.the-plain 𝓤 H A; in-mem = Local.mem-whole 𝓤 H A W (Declared'.row Outgoing.the-type); of-mem
+    = Local.whole-mem 𝓤 H A W (Declared'.row Outgoing.the-type); }
+abbrev pub ps·2 : List.List (Kinds.PK 0)
+ps·2 = (Value.pVal record { ty = Declared'.row OpaqueRelayRuntime.the-type; one = Path.refl; val = Laws'''''''''''''.val OpaqueRelayRuntime.the-type
+    Laws''''''''''.the-laws; tells = Laws'''''''''''''.tells OpaqueRelayRuntime.the-type Laws''''''''''.the-laws; still = Laws'''''''''''''.still
+    OpaqueRelayRuntime.the-type Laws''''''''''.the-copy Exit.yes; row = Rows.whole (Declared'.row OpaqueRelayRuntime.the-type); rd = λ x. x; mk = λ x.
+    x; } λ M 𝓤 H A W. record { copies = Laws'''''''''''''.copy OpaqueRelayRuntime.the-type Laws''''''''''.the-copy 𝓤 H A W; lawful =
+    Laws'''''''''''''.lawful OpaqueRelayRuntime.the-type Laws''''''''''.the-laws 𝓤 H A W; makes = Laws'''''''''''''.makes OpaqueRelayRuntime.the-type
+    Laws''''''''''.the-plain 𝓤 H A; in-mem = Local.mem-whole 𝓤 H A W (Declared'.row OpaqueRelayRuntime.the-type); of-mem = Local.whole-mem 𝓤 H A W
+    (Declared'.row OpaqueRelayRuntime.the-type); }) ∷ (Value.pVal record { ty = Declared'.row Outgoing.the-type; one = Path.refl; val =
+    Laws'''''''''''''.val Outgoing.the-type Laws''''''''.the-laws; tells = Laws'''''''''''''.tells Outgoing.the-type Laws''''''''.the-laws; still =
+    Laws'''''''''''''.still Outgoing.the-type Laws''''''''.the-copy Exit.yes; row = Rows.whole (Declared'.row Outgoing.the-type); rd = λ x. x; mk = λ
+    x. x; } λ M 𝓤 H A W. record { copies = Laws'''''''''''''.copy Outgoing.the-type Laws''''''''.the-copy 𝓤 H A W; lawful = Laws'''''''''''''.lawful
+    Outgoing.the-type Laws''''''''.the-laws 𝓤 H A W; makes = Laws'''''''''''''.makes Outgoing.the-type Laws''''''''.the-plain 𝓤 H A; in-mem =
+    Local.mem-whole 𝓤 H A W (Declared'.row Outgoing.the-type); of-mem = Local.whole-mem 𝓤 H A W (Declared'.row Outgoing.the-type); }) ∷ List.[]
+abbrev pub r·2 : Kinds.RK 0
+r·2 = Value.rVal record { ty = Declared'.row ActionQuestion.the-type; one = Path.refl; val = Laws'''''''''''''.val ActionQuestion.the-type
+    Laws''''.the-laws; tells = Laws'''''''''''''.tells ActionQuestion.the-type Laws''''.the-laws; still = Laws'''''''''''''.still
     ActionQuestion.the-type Laws''''.the-copy Exit.yes; row = Rows.whole (Declared'.row ActionQuestion.the-type); rd = λ x. x; mk = λ x. x; } λ M 𝓤 H
-    A W. record { copies = Laws''''''''''''''.copy ActionQuestion.the-type Laws''''.the-copy 𝓤 H A W; lawful = Laws''''''''''''''.lawful
-    ActionQuestion.the-type Laws''''.the-laws 𝓤 H A W; makes = Laws''''''''''''''.makes ActionQuestion.the-type Laws''''.the-plain 𝓤 H A; in-mem =
+    A W. record { copies = Laws'''''''''''''.copy ActionQuestion.the-type Laws''''.the-copy 𝓤 H A W; lawful = Laws'''''''''''''.lawful
+    ActionQuestion.the-type Laws''''.the-laws 𝓤 H A W; makes = Laws'''''''''''''.makes ActionQuestion.the-type Laws''''.the-plain 𝓤 H A; in-mem =
     Local.mem-whole 𝓤 H A W (Declared'.row ActionQuestion.the-type); of-mem = Local.whole-mem 𝓤 H A W (Declared'.row ActionQuestion.the-type); }
-abbrev pub ps·6 : List.List (Kinds.PK 1)
-ps·6 = (ShrSlice.pShrS InflightAction.row 0 tt) ∷ (Value.pVal record { ty = Declared'.row Places.the-type; one = Path.refl; val =
-    Laws''''''''''''''.val Places.the-type Laws'''.the-laws; tells = Laws''''''''''''''.tells Places.the-type Laws'''.the-laws; still =
-    Laws''''''''''''''.still Places.the-type Laws'''.the-copy Exit.yes; row = Rows.whole (Declared'.row Places.the-type); rd = λ x. x; mk = λ x. x; }
-    λ M 𝓤 H A W. record { copies = Laws''''''''''''''.copy Places.the-type Laws'''.the-copy 𝓤 H A W; lawful = Laws''''''''''''''.lawful
-    Places.the-type Laws'''.the-laws 𝓤 H A W; makes = Laws''''''''''''''.makes Places.the-type Laws'''.the-plain 𝓤 H A; in-mem = Local.mem-whole 𝓤 H A
-    W (Declared'.row Places.the-type); of-mem = Local.whole-mem 𝓤 H A W (Declared'.row Places.the-type); }) ∷ (Value.pVal record { ty = Declared'.row
-    ActionQuestion.the-type; one = Path.refl; val = Laws''''''''''''''.val ActionQuestion.the-type Laws''''.the-laws; tells = Laws''''''''''''''.tells
-    ActionQuestion.the-type Laws''''.the-laws; still = Laws''''''''''''''.still ActionQuestion.the-type Laws''''.the-copy Exit.yes; row = Rows.whole
-    (Declared'.row ActionQuestion.the-type); rd = λ x. x; mk = λ x. x; } λ M 𝓤 H A W. record { copies = Laws''''''''''''''.copy
-    ActionQuestion.the-type Laws''''.the-copy 𝓤 H A W; lawful = Laws''''''''''''''.lawful ActionQuestion.the-type Laws''''.the-laws 𝓤 H A W; makes =
-    Laws''''''''''''''.makes ActionQuestion.the-type Laws''''.the-plain 𝓤 H A; in-mem = Local.mem-whole 𝓤 H A W (Declared'.row
-    ActionQuestion.the-type); of-mem = Local.whole-mem 𝓤 H A W (Declared'.row ActionQuestion.the-type); }) ∷ List.[]
-abbrev pub r·6 : Kinds.RK 1
-r·6 = Value.rVal record { ty = Declared'.row ActionScan.the-type; one = Path.refl; val = Laws''''''''''''''.val ActionScan.the-type
-    Laws'''''.the-laws; tells = Laws''''''''''''''.tells ActionScan.the-type Laws'''''.the-laws; still = Laws''''''''''''''.still ActionScan.the-type
-    Laws'''''.the-copy Exit.yes; row = Rows.whole (Declared'.row ActionScan.the-type); rd = λ x. x; mk = λ x. x; } λ M 𝓤 H A W. record { copies =
-    Laws''''''''''''''.copy ActionScan.the-type Laws'''''.the-copy 𝓤 H A W; lawful = Laws''''''''''''''.lawful ActionScan.the-type Laws'''''.the-laws
-    𝓤 H A W; makes = Laws''''''''''''''.makes ActionScan.the-type Laws'''''.the-plain 𝓤 H A; in-mem = Local.mem-whole 𝓤 H A W (Declared'.row
-    ActionScan.the-type); of-mem = Local.whole-mem 𝓤 H A W (Declared'.row ActionScan.the-type); }
-abbrev pub ps·7 : List.List (Kinds.PK 0)
-ps·7 = (Value.pVal record { ty = Declared'.row OpaqueRelayConfig.the-type; one = Path.refl; val = Laws''''''''''''''.val OpaqueRelayConfig.the-type
-    Laws'.the-laws; tells = Laws''''''''''''''.tells OpaqueRelayConfig.the-type Laws'.the-laws; still = Laws''''''''''''''.still
+abbrev pub ps·3 : List.List (Kinds.PK 1)
+ps·3 = (ShrSlice.pShrS InflightAction.row 0 tt) ∷ (Value.pVal record { ty = Declared'.row Places.the-type; one = Path.refl; val =
+    Laws'''''''''''''.val Places.the-type Laws'''.the-laws; tells = Laws'''''''''''''.tells Places.the-type Laws'''.the-laws; still =
+    Laws'''''''''''''.still Places.the-type Laws'''.the-copy Exit.yes; row = Rows.whole (Declared'.row Places.the-type); rd = λ x. x; mk = λ x. x; } λ
+    M 𝓤 H A W. record { copies = Laws'''''''''''''.copy Places.the-type Laws'''.the-copy 𝓤 H A W; lawful = Laws'''''''''''''.lawful Places.the-type
+    Laws'''.the-laws 𝓤 H A W; makes = Laws'''''''''''''.makes Places.the-type Laws'''.the-plain 𝓤 H A; in-mem = Local.mem-whole 𝓤 H A W (Declared'.row
+    Places.the-type); of-mem = Local.whole-mem 𝓤 H A W (Declared'.row Places.the-type); }) ∷ (Value.pVal record { ty = Declared'.row
+    ActionQuestion.the-type; one = Path.refl; val = Laws'''''''''''''.val ActionQuestion.the-type Laws''''.the-laws; tells = Laws'''''''''''''.tells
+    ActionQuestion.the-type Laws''''.the-laws; still = Laws'''''''''''''.still ActionQuestion.the-type Laws''''.the-copy Exit.yes; row = Rows.whole
+    (Declared'.row ActionQuestion.the-type); rd = λ x. x; mk = λ x. x; } λ M 𝓤 H A W. record { copies = Laws'''''''''''''.copy ActionQuestion.the-type
+    Laws''''.the-copy 𝓤 H A W; lawful = Laws'''''''''''''.lawful ActionQuestion.the-type Laws''''.the-laws 𝓤 H A W; makes = Laws'''''''''''''.makes
+    ActionQuestion.the-type Laws''''.the-plain 𝓤 H A; in-mem = Local.mem-whole 𝓤 H A W (Declared'.row ActionQuestion.the-type); of-mem =
+    Local.whole-mem 𝓤 H A W (Declared'.row ActionQuestion.the-type); }) ∷ List.[]
+abbrev pub r·3 : Kinds.RK 1
+r·3 = Value.rVal record { ty = Declared'.row ActionScan.the-type; one = Path.refl; val = Laws'''''''''''''.val ActionScan.the-type Laws'''''.the-laws;
+    tells = Laws'''''''''''''.tells ActionScan.the-type Laws'''''.the-laws; still = Laws'''''''''''''.still ActionScan.the-type Laws'''''.the-copy
+    Exit.yes; row = Rows.whole (Declared'.row ActionScan.the-type); rd = λ x. x; mk = λ x. x; } λ M 𝓤 H A W. record { copies = Laws'''''''''''''.copy
+    ActionScan.the-type Laws'''''.the-copy 𝓤 H A W; lawful = Laws'''''''''''''.lawful ActionScan.the-type Laws'''''.the-laws 𝓤 H A W; makes =
+    Laws'''''''''''''.makes ActionScan.the-type Laws'''''.the-plain 𝓤 H A; in-mem = Local.mem-whole 𝓤 H A W (Declared'.row ActionScan.the-type);
+    of-mem = Local.whole-mem 𝓤 H A W (Declared'.row ActionScan.the-type); }
+abbrev pub ps·4 : List.List (Kinds.PK 0)
+ps·4 = (Value.pVal record { ty = Declared'.row OpaqueRelayConfig.the-type; one = Path.refl; val = Laws'''''''''''''.val OpaqueRelayConfig.the-type
+    Laws'.the-laws; tells = Laws'''''''''''''.tells OpaqueRelayConfig.the-type Laws'.the-laws; still = Laws'''''''''''''.still
     OpaqueRelayConfig.the-type Laws'.the-copy Exit.yes; row = Rows.whole (Declared'.row OpaqueRelayConfig.the-type); rd = λ x. x; mk = λ x. x; } λ M 𝓤
-    H A W. record { copies = Laws''''''''''''''.copy OpaqueRelayConfig.the-type Laws'.the-copy 𝓤 H A W; lawful = Laws''''''''''''''.lawful
-    OpaqueRelayConfig.the-type Laws'.the-laws 𝓤 H A W; makes = Laws''''''''''''''.makes OpaqueRelayConfig.the-type Laws'.the-plain 𝓤 H A; in-mem =
+    H A W. record { copies = Laws'''''''''''''.copy OpaqueRelayConfig.the-type Laws'.the-copy 𝓤 H A W; lawful = Laws'''''''''''''.lawful
+    OpaqueRelayConfig.the-type Laws'.the-laws 𝓤 H A W; makes = Laws'''''''''''''.makes OpaqueRelayConfig.the-type Laws'.the-plain 𝓤 H A; in-mem =
     Local.mem-whole 𝓤 H A W (Declared'.row OpaqueRelayConfig.the-type); of-mem = Local.whole-mem 𝓤 H A W (Declared'.row OpaqueRelayConfig.the-type);
-    }) ∷ (Value.pVal record { ty = Declared'.row WindowRead.the-type; one = Path.refl; val = Laws''''''''''''''.val WindowRead.the-type Laws.the-laws;
-    tells = Laws''''''''''''''.tells WindowRead.the-type Laws.the-laws; still = Laws''''''''''''''.still WindowRead.the-type Laws.the-copy Exit.yes;
-    row = Rows.whole (Declared'.row WindowRead.the-type); rd = λ x. x; mk = λ x. x; } λ M 𝓤 H A W. record { copies = Laws''''''''''''''.copy
-    WindowRead.the-type Laws.the-copy 𝓤 H A W; lawful = Laws''''''''''''''.lawful WindowRead.the-type Laws.the-laws 𝓤 H A W; makes =
-    Laws''''''''''''''.makes WindowRead.the-type Laws.the-plain 𝓤 H A; in-mem = Local.mem-whole 𝓤 H A W (Declared'.row WindowRead.the-type); of-mem =
+    }) ∷ (Value.pVal record { ty = Declared'.row WindowRead.the-type; one = Path.refl; val = Laws'''''''''''''.val WindowRead.the-type Laws.the-laws;
+    tells = Laws'''''''''''''.tells WindowRead.the-type Laws.the-laws; still = Laws'''''''''''''.still WindowRead.the-type Laws.the-copy Exit.yes; row
+    = Rows.whole (Declared'.row WindowRead.the-type); rd = λ x. x; mk = λ x. x; } λ M 𝓤 H A W. record { copies = Laws'''''''''''''.copy
+    WindowRead.the-type Laws.the-copy 𝓤 H A W; lawful = Laws'''''''''''''.lawful WindowRead.the-type Laws.the-laws 𝓤 H A W; makes =
+    Laws'''''''''''''.makes WindowRead.the-type Laws.the-plain 𝓤 H A; in-mem = Local.mem-whole 𝓤 H A W (Declared'.row WindowRead.the-type); of-mem =
     Local.whole-mem 𝓤 H A W (Declared'.row WindowRead.the-type); }) ∷ (Value.pVal record { ty = Declared'.row CircuitFound.the-type; one = Path.refl;
-    val = Laws''''''''''''''.val CircuitFound.the-type Laws''''''.the-laws; tells = Laws''''''''''''''.tells CircuitFound.the-type
-    Laws''''''.the-laws; still = Laws''''''''''''''.still CircuitFound.the-type Laws''''''.the-copy Exit.yes; row = Rows.whole (Declared'.row
-    CircuitFound.the-type); rd = λ x. x; mk = λ x. x; } λ M 𝓤 H A W. record { copies = Laws''''''''''''''.copy CircuitFound.the-type
-    Laws''''''.the-copy 𝓤 H A W; lawful = Laws''''''''''''''.lawful CircuitFound.the-type Laws''''''.the-laws 𝓤 H A W; makes =
-    Laws''''''''''''''.makes CircuitFound.the-type Laws''''''.the-plain 𝓤 H A; in-mem = Local.mem-whole 𝓤 H A W (Declared'.row CircuitFound.the-type);
-    of-mem = Local.whole-mem 𝓤 H A W (Declared'.row CircuitFound.the-type); }) ∷ (Value.pVal record { ty = Declared'.row ActionScan.the-type; one =
-    Path.refl; val = Laws''''''''''''''.val ActionScan.the-type Laws'''''.the-laws; tells = Laws''''''''''''''.tells ActionScan.the-type
-    Laws'''''.the-laws; still = Laws''''''''''''''.still ActionScan.the-type Laws'''''.the-copy Exit.yes; row = Rows.whole (Declared'.row
-    ActionScan.the-type); rd = λ x. x; mk = λ x. x; } λ M 𝓤 H A W. record { copies = Laws''''''''''''''.copy ActionScan.the-type Laws'''''.the-copy 𝓤
-    H A W; lawful = Laws''''''''''''''.lawful ActionScan.the-type Laws'''''.the-laws 𝓤 H A W; makes = Laws''''''''''''''.makes ActionScan.the-type
-    Laws'''''.the-plain 𝓤 H A; in-mem = Local.mem-whole 𝓤 H A W (Declared'.row ActionScan.the-type); of-mem = Local.whole-mem 𝓤 H A W (Declared'.row
-    ActionScan.the-type); }) ∷ (Value.pVal record { ty = Declared'.row HnsrPeerId.the-type; one = Path.refl; val = Laws''''''''''''''.val
-    HnsrPeerId.the-type Laws''.the-laws; tells = Laws''''''''''''''.tells HnsrPeerId.the-type Laws''.the-laws; still = Laws''''''''''''''.still
-    HnsrPeerId.the-type Laws''.the-copy Exit.yes; row = Rows.whole (Declared'.row HnsrPeerId.the-type); rd = λ x. x; mk = λ x. x; } λ M 𝓤 H A W.
-    record { copies = Laws''''''''''''''.copy HnsrPeerId.the-type Laws''.the-copy 𝓤 H A W; lawful = Laws''''''''''''''.lawful HnsrPeerId.the-type
-    Laws''.the-laws 𝓤 H A W; makes = Laws''''''''''''''.makes HnsrPeerId.the-type Laws''.the-plain 𝓤 H A; in-mem = Local.mem-whole 𝓤 H A W
-    (Declared'.row HnsrPeerId.the-type); of-mem = Local.whole-mem 𝓤 H A W (Declared'.row HnsrPeerId.the-type); }) ∷ (Value.pVal record { ty =
-    Declared'.row Outgoing.the-type; one = Path.refl; val = Laws''''''''''''''.val Outgoing.the-type Laws''''''''.the-laws; tells =
-    Laws''''''''''''''.tells Outgoing.the-type Laws''''''''.the-laws; still = Laws''''''''''''''.still Outgoing.the-type Laws''''''''.the-copy
-    Exit.yes; row = Rows.whole (Declared'.row Outgoing.the-type); rd = λ x. x; mk = λ x. x; } λ M 𝓤 H A W. record { copies = Laws''''''''''''''.copy
-    Outgoing.the-type Laws''''''''.the-copy 𝓤 H A W; lawful = Laws''''''''''''''.lawful Outgoing.the-type Laws''''''''.the-laws 𝓤 H A W; makes =
-    Laws''''''''''''''.makes Outgoing.the-type Laws''''''''.the-plain 𝓤 H A; in-mem = Local.mem-whole 𝓤 H A W (Declared'.row Outgoing.the-type);
-    of-mem = Local.whole-mem 𝓤 H A W (Declared'.row Outgoing.the-type); }) ∷ List.[]
-abbrev pub r·7 : Kinds.RK 0
-r·7 = Value.rVal record { ty = Declared'.row WindowPlan.the-type; one = Path.refl; val = Laws''''''''''''''.val WindowPlan.the-type
-    Laws''''''''''''.the-laws; tells = Laws''''''''''''''.tells WindowPlan.the-type Laws''''''''''''.the-laws; still = Laws''''''''''''''.still
-    WindowPlan.the-type Laws''''''''''''.the-copy Exit.yes; row = Rows.whole (Declared'.row WindowPlan.the-type); rd = λ x. x; mk = λ x. x; } λ M 𝓤 H
-    A W. record { copies = Laws''''''''''''''.copy WindowPlan.the-type Laws''''''''''''.the-copy 𝓤 H A W; lawful = Laws''''''''''''''.lawful
-    WindowPlan.the-type Laws''''''''''''.the-laws 𝓤 H A W; makes = Laws''''''''''''''.makes WindowPlan.the-type Laws''''''''''''.the-plain 𝓤 H A;
-    in-mem = Local.mem-whole 𝓤 H A W (Declared'.row WindowPlan.the-type); of-mem = Local.whole-mem 𝓤 H A W (Declared'.row WindowPlan.the-type); }
+    val = Laws'''''''''''''.val CircuitFound.the-type Laws''''''.the-laws; tells = Laws'''''''''''''.tells CircuitFound.the-type Laws''''''.the-laws;
+    still = Laws'''''''''''''.still CircuitFound.the-type Laws''''''.the-copy Exit.yes; row = Rows.whole (Declared'.row CircuitFound.the-type); rd = λ
+    x. x; mk = λ x. x; } λ M 𝓤 H A W. record { copies = Laws'''''''''''''.copy CircuitFound.the-type Laws''''''.the-copy 𝓤 H A W; lawful =
+    Laws'''''''''''''.lawful CircuitFound.the-type Laws''''''.the-laws 𝓤 H A W; makes = Laws'''''''''''''.makes CircuitFound.the-type
+    Laws''''''.the-plain 𝓤 H A; in-mem = Local.mem-whole 𝓤 H A W (Declared'.row CircuitFound.the-type); of-mem = Local.whole-mem 𝓤 H A W
+    (Declared'.row CircuitFound.the-type); }) ∷ (Value.pVal record { ty = Declared'.row ActionScan.the-type; one = Path.refl; val =
+    Laws'''''''''''''.val ActionScan.the-type Laws'''''.the-laws; tells = Laws'''''''''''''.tells ActionScan.the-type Laws'''''.the-laws; still =
+    Laws'''''''''''''.still ActionScan.the-type Laws'''''.the-copy Exit.yes; row = Rows.whole (Declared'.row ActionScan.the-type); rd = λ x. x; mk = λ
+    x. x; } λ M 𝓤 H A W. record { copies = Laws'''''''''''''.copy ActionScan.the-type Laws'''''.the-copy 𝓤 H A W; lawful = Laws'''''''''''''.lawful
+    ActionScan.the-type Laws'''''.the-laws 𝓤 H A W; makes = Laws'''''''''''''.makes ActionScan.the-type Laws'''''.the-plain 𝓤 H A; in-mem =
+    Local.mem-whole 𝓤 H A W (Declared'.row ActionScan.the-type); of-mem = Local.whole-mem 𝓤 H A W (Declared'.row ActionScan.the-type); }) ∷
+    (Value.pVal record { ty = Declared'.row HnsrPeerId.the-type; one = Path.refl; val = Laws'''''''''''''.val HnsrPeerId.the-type Laws''.the-laws;
+    tells = Laws'''''''''''''.tells HnsrPeerId.the-type Laws''.the-laws; still = Laws'''''''''''''.still HnsrPeerId.the-type Laws''.the-copy Exit.yes;
+    row = Rows.whole (Declared'.row HnsrPeerId.the-type); rd = λ x. x; mk = λ x. x; } λ M 𝓤 H A W. record { copies = Laws'''''''''''''.copy
+    HnsrPeerId.the-type Laws''.the-copy 𝓤 H A W; lawful = Laws'''''''''''''.lawful HnsrPeerId.the-type Laws''.the-laws 𝓤 H A W; makes =
+    Laws'''''''''''''.makes HnsrPeerId.the-type Laws''.the-plain 𝓤 H A; in-mem = Local.mem-whole 𝓤 H A W (Declared'.row HnsrPeerId.the-type); of-mem =
+    Local.whole-mem 𝓤 H A W (Declared'.row HnsrPeerId.the-type); }) ∷ (Value.pVal record { ty = Declared'.row Outgoing.the-type; one = Path.refl; val
+    = Laws'''''''''''''.val Outgoing.the-type Laws''''''''.the-laws; tells = Laws'''''''''''''.tells Outgoing.the-type Laws''''''''.the-laws; still =
+    Laws'''''''''''''.still Outgoing.the-type Laws''''''''.the-copy Exit.yes; row = Rows.whole (Declared'.row Outgoing.the-type); rd = λ x. x; mk = λ
+    x. x; } λ M 𝓤 H A W. record { copies = Laws'''''''''''''.copy Outgoing.the-type Laws''''''''.the-copy 𝓤 H A W; lawful = Laws'''''''''''''.lawful
+    Outgoing.the-type Laws''''''''.the-laws 𝓤 H A W; makes = Laws'''''''''''''.makes Outgoing.the-type Laws''''''''.the-plain 𝓤 H A; in-mem =
+    Local.mem-whole 𝓤 H A W (Declared'.row Outgoing.the-type); of-mem = Local.whole-mem 𝓤 H A W (Declared'.row Outgoing.the-type); }) ∷ List.[]
+abbrev pub r·4 : Kinds.RK 0
+r·4 = Value.rVal record { ty = Declared'.row WindowPlan.the-type; one = Path.refl; val = Laws'''''''''''''.val WindowPlan.the-type
+    Laws'''''''''''.the-laws; tells = Laws'''''''''''''.tells WindowPlan.the-type Laws'''''''''''.the-laws; still = Laws'''''''''''''.still
+    WindowPlan.the-type Laws'''''''''''.the-copy Exit.yes; row = Rows.whole (Declared'.row WindowPlan.the-type); rd = λ x. x; mk = λ x. x; } λ M 𝓤 H A
+    W. record { copies = Laws'''''''''''''.copy WindowPlan.the-type Laws'''''''''''.the-copy 𝓤 H A W; lawful = Laws'''''''''''''.lawful
+    WindowPlan.the-type Laws'''''''''''.the-laws 𝓤 H A W; makes = Laws'''''''''''''.makes WindowPlan.the-type Laws'''''''''''.the-plain 𝓤 H A; in-mem
+    = Local.mem-whole 𝓤 H A W (Declared'.row WindowPlan.the-type); of-mem = Local.whole-mem 𝓤 H A W (Declared'.row WindowPlan.the-type); }
 abbrev pub hs : List.List Syntax.Home
 hs = Syntax.valueLocal ∷ Syntax.valueLocal ∷ Syntax.valueLocal ∷ Syntax.valueLocal ∷ Syntax.valueLocal ∷ Syntax.valueLocal ∷ Syntax.valueLocal ∷
     Syntax.valueLocal ∷ Syntax.valueLocal ∷ Syntax.valueLocal ∷ Syntax.valueLocal ∷ Syntax.valueLocal ∷ Syntax.valueLocal ∷ Syntax.valueLocal ∷
-    Syntax.valueLocal ∷ Syntax.valueLocal ∷ Syntax.valueLocal ∷ List.[]
+    List.[]
 abbrev b0 : Syntax.Body
-b0 = Syntax.assign (Syntax.place 8 List.[]) (Syntax.rvOpd (Syntax.copy (Syntax.place 3 ((Syntax.field 4) ∷ List.[]))))
+b0 = Syntax.assign (Syntax.place 8 List.[]) (Syntax.rvOpd (Syntax.copy (Syntax.place 2 ((Syntax.field 4) ∷ List.[]))))
 abbrev b1 : Syntax.Body
 b1 = Syntax.assign (Syntax.place 9 List.[]) (Syntax.aggregate ((Syntax.int Syntax.w8 3) ∷ List.[]))
 abbrev b2 : Syntax.Body
-b2 = Syntax.call "hnsr_circuit::peer::peer_of" ((Syntax.copy (Syntax.place 6 List.[])) ∷ List.[]) (Syntax.place 10 List.[])
+b2 = Syntax.call "hnsr_circuit::peer::peer_of" ((Syntax.copy (Syntax.place 7 List.[])) ∷ List.[]) (Syntax.place 10 List.[])
 abbrev b3 : Syntax.Body
-b3 = Syntax.call "hnsr_body::data_body::WindowBody::decode" ((Syntax.copy (Syntax.place 7 List.[])) ∷ List.[]) (Syntax.place 11 List.[])
+b3 = Syntax.call "hnsr_circuit::message::passed_on" ((Syntax.copy (Syntax.place 4 List.[])) ∷ (Syntax.copy (Syntax.place 6 List.[])) ∷ (Syntax.copy
+    (Syntax.place 10 List.[])) ∷ (Syntax.copy (Syntax.place 9 List.[])) ∷ List.[]) (Syntax.place 11 List.[])
 abbrev b4 : Syntax.Body
-b4 = Syntax.call "hnsr_circuit::question::at" ((Syntax.copy (Syntax.place 5 ((Syntax.field 1) ∷ List.[]))) ∷ (Syntax.int Syntax.w64 0) ∷ List.[])
+b4 = Syntax.call "hnsr_circuit::queue::asking" ((Syntax.copy (Syntax.place 2 List.[])) ∷ (Syntax.copy (Syntax.place 11 List.[])) ∷ List.[])
     (Syntax.place 12 List.[])
 abbrev b5 : Syntax.Body
-b5 = Syntax.call "hnsr_circuit::lookup::look_up_circuit" ((Syntax.copy (Syntax.place 1 List.[])) ∷ (Syntax.copy (Syntax.place 4 List.[])) ∷
+b5 = Syntax.call "hnsr_circuit::tables::inflight::scan_actions" ((Syntax.copy (Syntax.place 1 List.[])) ∷ (Syntax.copy (Syntax.place 3 List.[])) ∷
     (Syntax.copy (Syntax.place 12 List.[])) ∷ List.[]) (Syntax.place 13 List.[])
 abbrev b6 : Syntax.Body
-b6 = Syntax.call "hnsr_circuit::message::passed_on" ((Syntax.copy (Syntax.place 5 List.[])) ∷ (Syntax.copy (Syntax.place 13 List.[])) ∷ (Syntax.copy
-    (Syntax.place 10 List.[])) ∷ (Syntax.copy (Syntax.place 9 List.[])) ∷ List.[]) (Syntax.place 14 List.[])
-abbrev b7 : Syntax.Body
-b7 = Syntax.call "hnsr_circuit::queue::asking" ((Syntax.copy (Syntax.place 3 List.[])) ∷ (Syntax.copy (Syntax.place 14 List.[])) ∷ List.[])
-    (Syntax.place 15 List.[])
-abbrev b8 : Syntax.Body
-b8 = Syntax.call "hnsr_circuit::tables::inflight::scan_actions" ((Syntax.copy (Syntax.place 2 List.[])) ∷ (Syntax.copy (Syntax.place 4 List.[])) ∷
-    (Syntax.copy (Syntax.place 15 List.[])) ∷ List.[]) (Syntax.place 16 List.[])
-abbrev b9 : Syntax.Body
-b9 = Syntax.call "hnsr_circuit::window::window_plan" ((Syntax.copy (Syntax.place 8 List.[])) ∷ (Syntax.copy (Syntax.place 11 List.[])) ∷ (Syntax.copy
-    (Syntax.place 13 List.[])) ∷ (Syntax.copy (Syntax.place 16 List.[])) ∷ (Syntax.copy (Syntax.place 10 List.[])) ∷ (Syntax.copy (Syntax.place 14
+b6 = Syntax.call "hnsr_circuit::window::window_plan" ((Syntax.copy (Syntax.place 8 List.[])) ∷ (Syntax.copy (Syntax.place 5 List.[])) ∷ (Syntax.copy
+    (Syntax.place 6 List.[])) ∷ (Syntax.copy (Syntax.place 13 List.[])) ∷ (Syntax.copy (Syntax.place 10 List.[])) ∷ (Syntax.copy (Syntax.place 11
     List.[])) ∷ List.[]) (Syntax.place 0 List.[])
+abbrev b7 : Syntax.Body
+b7 = Syntax.return
+abbrev b8 : Syntax.Body
+b8 = Syntax.seq b6 b7
+abbrev b9 : Syntax.Body
+b9 = Syntax.seq b5 b8
 abbrev b10 : Syntax.Body
-b10 = Syntax.return
+b10 = Syntax.seq b4 b9
 abbrev b11 : Syntax.Body
-b11 = Syntax.seq b9 b10
+b11 = Syntax.seq b3 b10
 abbrev b12 : Syntax.Body
-b12 = Syntax.seq b8 b11
+b12 = Syntax.seq b2 b11
 abbrev b13 : Syntax.Body
-b13 = Syntax.seq b7 b12
+b13 = Syntax.seq b1 b12
 abbrev b14 : Syntax.Body
-b14 = Syntax.seq b6 b13
-abbrev b15 : Syntax.Body
-b15 = Syntax.seq b5 b14
-abbrev b16 : Syntax.Body
-b16 = Syntax.seq b4 b15
-abbrev b17 : Syntax.Body
-b17 = Syntax.seq b3 b16
-abbrev b18 : Syntax.Body
-b18 = Syntax.seq b2 b17
-abbrev b19 : Syntax.Body
-b19 = Syntax.seq b1 b18
-abbrev b20 : Syntax.Body
-b20 = Syntax.seq b0 b19
+b14 = Syntax.seq b0 b13
 abbrev pub body : Syntax.Body
-body = b20
+body = b14
 abbrev pub Claims : Type 1
-Claims = Kinds.In 1 ps·0 × Kinds.Out 1 ps·0 r·0 × Kinds.In 1 ps·1 × Kinds.Out 1 ps·1 r·1 × Kinds.In 0 ps·2 × Kinds.Out 0 ps·2 r·2 × Kinds.In 1 ps·3 ×
-    Kinds.Out 1 ps·3 r·3 × Kinds.In 0 ps·4 × Kinds.Out 0 ps·4 r·4 × Kinds.In 0 ps·5 × Kinds.Out 0 ps·5 r·5 × Kinds.In 1 ps·6 × Kinds.Out 1 ps·6 r·6 ×
-    Kinds.In 0 ps·7 × Kinds.Out 0 ps·7 r·7
+Claims = Kinds.In 1 ps·0 × Kinds.Out 1 ps·0 r·0 × Kinds.In 0 ps·1 × Kinds.Out 0 ps·1 r·1 × Kinds.In 0 ps·2 × Kinds.Out 0 ps·2 r·2 × Kinds.In 1 ps·3 ×
+    Kinds.Out 1 ps·3 r·3 × Kinds.In 0 ps·4 × Kinds.Out 0 ps·4 r·4
 abbrev e0 : Row.Entry
-e0 = (0, Rows.any-gone Laws''''''''''''.mir)
+e0 = (0, Rows.any-gone Laws'''''''''''.mir)
 abbrev e1 : Row.Entry
-e1 = (1, Rows.sslice RelayCircuit.row ref0 0)
+e1 = (1, Rows.sslice InflightAction.row ref0 0)
 abbrev e2 : Row.Entry
-e2 = (2, Rows.sslice InflightAction.row ref1 1)
+e2 = (2, Rows.whole (Declared'.row OpaqueRelayRuntime.the-type))
 abbrev e3 : Row.Entry
-e3 = (3, Rows.whole (Declared'.row OpaqueRelayRuntime.the-type))
+e3 = (3, Rows.whole (Declared'.row Places.the-type))
 abbrev e4 : Row.Entry
-e4 = (4, Rows.whole (Declared'.row Places.the-type))
+e4 = (4, Rows.whole (Declared'.row RelayPacket.the-type))
 abbrev e5 : Row.Entry
-e5 = (5, Rows.whole (Declared'.row RelayPacket.the-type))
+e5 = (5, Rows.whole (Declared'.row WindowRead.the-type))
 abbrev e6 : Row.Entry
-e6 = (6, Rows.sslice (Referent.rtF (Referent.fInt Syntax.w8)) ref2 2)
+e6 = (6, Rows.whole (Declared'.row CircuitFound.the-type))
 abbrev e7 : Row.Entry
-e7 = (7, Rows.sslice (Referent.rtF (Referent.fInt Syntax.w8)) ref3 3)
+e7 = (7, Rows.sslice (Referent.rtF (Referent.fInt Syntax.w8)) ref1 1)
 abbrev e8 : Row.Entry
 e8 = (8, Rows.any-gone Laws'.mir)
 abbrev e9 : Row.Entry
@@ -366,25 +312,23 @@ e9 = (9, Rows.any-gone Laws'''''''.mir)
 abbrev e10 : Row.Entry
 e10 = (10, Rows.any-gone Laws''.mir)
 abbrev e11 : Row.Entry
-e11 = (11, Rows.any-gone Laws.mir)
+e11 = (11, Rows.any-gone Laws''''''''.mir)
 abbrev e12 : Row.Entry
-e12 = (12, Rows.any-gone Laws'''''''''.mir)
+e12 = (12, Rows.any-gone Laws''''.mir)
 abbrev e13 : Row.Entry
-e13 = (13, Rows.any-gone Laws''''''.mir)
-abbrev e14 : Row.Entry
-e14 = (14, Rows.any-gone Laws''''''''.mir)
-abbrev e15 : Row.Entry
-e15 = (15, Rows.any-gone Laws''''.mir)
-abbrev e16 : Row.Entry
-e16 = (16, Rows.any-gone Laws'''''.mir)
+e13 = (13, Rows.any-gone Laws'''''.mir)
 abbrev e0·1 : Row.Entry
 e0·1 = (0, Rows.whole (Declared'.row WindowPlan.the-type))
+abbrev e2·1 : Row.Entry
+e2·1 = (2, Rows.any-gone Laws''''''''''.mir)
 abbrev e3·1 : Row.Entry
-e3·1 = (3, Rows.any-gone Laws'''''''''''.mir)
+e3·1 = (3, Rows.any-gone Laws'''.mir)
 abbrev e4·1 : Row.Entry
-e4·1 = (4, Rows.any-gone Laws'''.mir)
+e4·1 = (4, Rows.any-gone Laws'''''''''.mir)
 abbrev e5·1 : Row.Entry
-e5·1 = (5, Rows.any-gone Laws''''''''''.mir)
+e5·1 = (5, Rows.any-gone Laws.mir)
+abbrev e6·1 : Row.Entry
+e6·1 = (6, Rows.any-gone Laws''''''.mir)
 abbrev e8·1 : Row.Entry
 e8·1 = (8, Rows.whole (Declared'.row OpaqueRelayConfig.the-type))
 abbrev e9·1 : Row.Entry
@@ -392,350 +336,282 @@ e9·1 = (9, Rows.whole (Declared.row InflightKind.the-type))
 abbrev e10·1 : Row.Entry
 e10·1 = (10, Rows.whole (Declared'.row HnsrPeerId.the-type))
 abbrev e11·1 : Row.Entry
-e11·1 = (11, Rows.whole (Declared'.row WindowRead.the-type))
+e11·1 = (11, Rows.whole (Declared'.row Outgoing.the-type))
 abbrev e12·1 : Row.Entry
-e12·1 = (12, Rows.whole (Declared'.row Question.the-type))
+e12·1 = (12, Rows.whole (Declared'.row ActionQuestion.the-type))
 abbrev e13·1 : Row.Entry
-e13·1 = (13, Rows.whole (Declared'.row CircuitFound.the-type))
-abbrev e14·1 : Row.Entry
-e14·1 = (14, Rows.whole (Declared'.row Outgoing.the-type))
-abbrev e15·1 : Row.Entry
-e15·1 = (15, Rows.whole (Declared'.row ActionQuestion.the-type))
-abbrev e16·1 : Row.Entry
-e16·1 = (16, Rows.whole (Declared'.row ActionScan.the-type))
+e13·1 = (13, Rows.whole (Declared'.row ActionScan.the-type))
 abbrev pub t0 : List.List Row.Entry
-t0 = e0 ∷ e1 ∷ e2 ∷ e3 ∷ e4 ∷ e5 ∷ e6 ∷ e7 ∷ e8 ∷ e9 ∷ e10 ∷ e11 ∷ e12 ∷ e13 ∷ e14 ∷ e15 ∷ List.[]
+t0 = e0 ∷ e1 ∷ e2 ∷ e3 ∷ e4 ∷ e5 ∷ e6 ∷ e7 ∷ e8 ∷ e9 ∷ e10 ∷ e11 ∷ e12 ∷ e13 ∷ List.[]
 abbrev pub t1 : List.List Row.Entry
-t1 = e16 ∷ List.[]
+t1 = e0·1 ∷ e1 ∷ e2·1 ∷ e3·1 ∷ e4·1 ∷ e5·1 ∷ e6·1 ∷ e7 ∷ e8 ∷ e9 ∷ e10 ∷ e11 ∷ e12 ∷ e13 ∷ List.[]
 abbrev pub t2 : List.List Row.Entry
-t2 = e0·1 ∷ e1 ∷ e2 ∷ e3·1 ∷ e4·1 ∷ e5·1 ∷ e6 ∷ e7 ∷ e8 ∷ e9 ∷ e10 ∷ e11 ∷ e12 ∷ e13 ∷ e14 ∷ e15 ∷ List.[]
+t2 = e0 ∷ e1 ∷ e2 ∷ e3 ∷ e4 ∷ e5 ∷ e6 ∷ e7 ∷ e8·1 ∷ e9 ∷ e10 ∷ e11 ∷ e12 ∷ e13 ∷ List.[]
 abbrev pub t3 : List.List Row.Entry
-t3 = e0 ∷ e1 ∷ e2 ∷ e3 ∷ e4 ∷ e5 ∷ e6 ∷ e7 ∷ e8·1 ∷ e9 ∷ e10 ∷ e11 ∷ e12 ∷ e13 ∷ e14 ∷ e15 ∷ List.[]
+t3 = e0 ∷ e1 ∷ e2 ∷ e3 ∷ e4 ∷ e5 ∷ e6 ∷ e7 ∷ e8·1 ∷ e9·1 ∷ e10 ∷ e11 ∷ e12 ∷ e13 ∷ List.[]
 abbrev pub t4 : List.List Row.Entry
-t4 = e0 ∷ e1 ∷ e2 ∷ e3 ∷ e4 ∷ e5 ∷ e6 ∷ e7 ∷ e8·1 ∷ e9·1 ∷ e10 ∷ e11 ∷ e12 ∷ e13 ∷ e14 ∷ e15 ∷ List.[]
+t4 = e0 ∷ e1 ∷ e2 ∷ e3 ∷ e4 ∷ e5 ∷ e6 ∷ e7 ∷ e8·1 ∷ e9·1 ∷ e10·1 ∷ e11 ∷ e12 ∷ e13 ∷ List.[]
 abbrev pub t5 : List.List Row.Entry
-t5 = e0 ∷ e1 ∷ e2 ∷ e3 ∷ e4 ∷ e5 ∷ e6 ∷ e7 ∷ e8·1 ∷ e9·1 ∷ e10·1 ∷ e11 ∷ e12 ∷ e13 ∷ e14 ∷ e15 ∷ List.[]
+t5 = e0 ∷ e1 ∷ e2 ∷ e3 ∷ e4 ∷ e5 ∷ e6 ∷ e7 ∷ e8·1 ∷ e9·1 ∷ e10·1 ∷ e11·1 ∷ e12 ∷ e13 ∷ List.[]
 abbrev pub t6 : List.List Row.Entry
-t6 = e0 ∷ e1 ∷ e2 ∷ e3 ∷ e4 ∷ e5 ∷ e6 ∷ e7 ∷ e8·1 ∷ e9·1 ∷ e10·1 ∷ e11·1 ∷ e12 ∷ e13 ∷ e14 ∷ e15 ∷ List.[]
+t6 = e0 ∷ e1 ∷ e2 ∷ e3 ∷ e4·1 ∷ e5 ∷ e6 ∷ e7 ∷ e8·1 ∷ e9·1 ∷ e10·1 ∷ e11·1 ∷ e12 ∷ e13 ∷ List.[]
 abbrev pub t7 : List.List Row.Entry
-t7 = e0 ∷ e1 ∷ e2 ∷ e3 ∷ e4 ∷ e5 ∷ e6 ∷ e7 ∷ e8·1 ∷ e9·1 ∷ e10·1 ∷ e11·1 ∷ e12·1 ∷ e13 ∷ e14 ∷ e15 ∷ List.[]
+t7 = e0 ∷ e1 ∷ e2 ∷ e3 ∷ e4·1 ∷ e5 ∷ e6 ∷ e7 ∷ e8·1 ∷ e9 ∷ e10·1 ∷ e11·1 ∷ e12 ∷ e13 ∷ List.[]
 abbrev pub t8 : List.List Row.Entry
-t8 = e0 ∷ e1 ∷ e2 ∷ e3 ∷ e4 ∷ e5 ∷ e6 ∷ e7 ∷ e8·1 ∷ e9·1 ∷ e10·1 ∷ e11·1 ∷ e12·1 ∷ e13·1 ∷ e14 ∷ e15 ∷ List.[]
+t8 = e0 ∷ e1 ∷ e2 ∷ e3 ∷ e4·1 ∷ e5 ∷ e6 ∷ e7 ∷ e8·1 ∷ e9 ∷ e10·1 ∷ e11·1 ∷ e12·1 ∷ e13 ∷ List.[]
 abbrev pub t9 : List.List Row.Entry
-t9 = e0 ∷ e1 ∷ e2 ∷ e3 ∷ e4 ∷ e5 ∷ e6 ∷ e7 ∷ e8·1 ∷ e9·1 ∷ e10·1 ∷ e11·1 ∷ e12 ∷ e13·1 ∷ e14 ∷ e15 ∷ List.[]
+t9 = e0 ∷ e1 ∷ e2·1 ∷ e3 ∷ e4·1 ∷ e5 ∷ e6 ∷ e7 ∷ e8·1 ∷ e9 ∷ e10·1 ∷ e11·1 ∷ e12·1 ∷ e13 ∷ List.[]
 abbrev pub t10 : List.List Row.Entry
-t10 = e0 ∷ e1 ∷ e2 ∷ e3 ∷ e4 ∷ e5 ∷ e6 ∷ e7 ∷ e8·1 ∷ e9·1 ∷ e10·1 ∷ e11·1 ∷ e12 ∷ e13·1 ∷ e14·1 ∷ e15 ∷ List.[]
+t10 = e0 ∷ e1 ∷ e2·1 ∷ e3 ∷ e4·1 ∷ e5 ∷ e6 ∷ e7 ∷ e8·1 ∷ e9 ∷ e10·1 ∷ e11·1 ∷ e12·1 ∷ e13·1 ∷ List.[]
 abbrev pub t11 : List.List Row.Entry
-t11 = e0 ∷ e1 ∷ e2 ∷ e3 ∷ e4 ∷ e5·1 ∷ e6 ∷ e7 ∷ e8·1 ∷ e9·1 ∷ e10·1 ∷ e11·1 ∷ e12 ∷ e13·1 ∷ e14·1 ∷ e15 ∷ List.[]
+t11 = e0 ∷ e1 ∷ e2·1 ∷ e3·1 ∷ e4·1 ∷ e5 ∷ e6 ∷ e7 ∷ e8·1 ∷ e9 ∷ e10·1 ∷ e11·1 ∷ e12·1 ∷ e13·1 ∷ List.[]
 abbrev pub t12 : List.List Row.Entry
-t12 = e0 ∷ e1 ∷ e2 ∷ e3 ∷ e4 ∷ e5·1 ∷ e6 ∷ e7 ∷ e8·1 ∷ e9 ∷ e10·1 ∷ e11·1 ∷ e12 ∷ e13·1 ∷ e14·1 ∷ e15 ∷ List.[]
+t12 = e0 ∷ e1 ∷ e2·1 ∷ e3·1 ∷ e4·1 ∷ e5 ∷ e6 ∷ e7 ∷ e8·1 ∷ e9 ∷ e10·1 ∷ e11·1 ∷ e12 ∷ e13·1 ∷ List.[]
 abbrev pub t13 : List.List Row.Entry
-t13 = e0 ∷ e1 ∷ e2 ∷ e3 ∷ e4 ∷ e5·1 ∷ e6 ∷ e7 ∷ e8·1 ∷ e9 ∷ e10·1 ∷ e11·1 ∷ e12 ∷ e13·1 ∷ e14·1 ∷ e15·1 ∷ List.[]
+t13 = e0·1 ∷ e1 ∷ e2·1 ∷ e3·1 ∷ e4·1 ∷ e5 ∷ e6 ∷ e7 ∷ e8·1 ∷ e9 ∷ e10·1 ∷ e11·1 ∷ e12 ∷ e13·1 ∷ List.[]
 abbrev pub t14 : List.List Row.Entry
-t14 = e0 ∷ e1 ∷ e2 ∷ e3·1 ∷ e4 ∷ e5·1 ∷ e6 ∷ e7 ∷ e8·1 ∷ e9 ∷ e10·1 ∷ e11·1 ∷ e12 ∷ e13·1 ∷ e14·1 ∷ e15·1 ∷ List.[]
+t14 = e0·1 ∷ e1 ∷ e2·1 ∷ e3·1 ∷ e4·1 ∷ e5·1 ∷ e6 ∷ e7 ∷ e8·1 ∷ e9 ∷ e10·1 ∷ e11·1 ∷ e12 ∷ e13·1 ∷ List.[]
 abbrev pub t15 : List.List Row.Entry
-t15 = e16·1 ∷ List.[]
+t15 = e0·1 ∷ e1 ∷ e2·1 ∷ e3·1 ∷ e4·1 ∷ e5·1 ∷ e6·1 ∷ e7 ∷ e8·1 ∷ e9 ∷ e10·1 ∷ e11·1 ∷ e12 ∷ e13·1 ∷ List.[]
 abbrev pub t16 : List.List Row.Entry
-t16 = e0 ∷ e1 ∷ e2 ∷ e3·1 ∷ e4·1 ∷ e5·1 ∷ e6 ∷ e7 ∷ e8·1 ∷ e9 ∷ e10·1 ∷ e11·1 ∷ e12 ∷ e13·1 ∷ e14·1 ∷ e15·1 ∷ List.[]
+t16 = e0·1 ∷ e1 ∷ e2·1 ∷ e3·1 ∷ e4·1 ∷ e5·1 ∷ e6·1 ∷ e7 ∷ e8 ∷ e9 ∷ e10·1 ∷ e11·1 ∷ e12 ∷ e13·1 ∷ List.[]
 abbrev pub t17 : List.List Row.Entry
-t17 = e0 ∷ e1 ∷ e2 ∷ e3·1 ∷ e4·1 ∷ e5·1 ∷ e6 ∷ e7 ∷ e8·1 ∷ e9 ∷ e10·1 ∷ e11·1 ∷ e12 ∷ e13·1 ∷ e14·1 ∷ e15 ∷ List.[]
+t17 = e0·1 ∷ e1 ∷ e2·1 ∷ e3·1 ∷ e4·1 ∷ e5·1 ∷ e6·1 ∷ e7 ∷ e8 ∷ e9 ∷ e10 ∷ e11·1 ∷ e12 ∷ e13·1 ∷ List.[]
 abbrev pub t18 : List.List Row.Entry
-t18 = e0·1 ∷ e1 ∷ e2 ∷ e3·1 ∷ e4·1 ∷ e5·1 ∷ e6 ∷ e7 ∷ e8·1 ∷ e9 ∷ e10·1 ∷ e11·1 ∷ e12 ∷ e13·1 ∷ e14·1 ∷ e15 ∷ List.[]
-abbrev pub t19 : List.List Row.Entry
-t19 = e0·1 ∷ e1 ∷ e2 ∷ e3·1 ∷ e4·1 ∷ e5·1 ∷ e6 ∷ e7 ∷ e8 ∷ e9 ∷ e10·1 ∷ e11·1 ∷ e12 ∷ e13·1 ∷ e14·1 ∷ e15 ∷ List.[]
-abbrev pub t20 : List.List Row.Entry
-t20 = e0·1 ∷ e1 ∷ e2 ∷ e3·1 ∷ e4·1 ∷ e5·1 ∷ e6 ∷ e7 ∷ e8 ∷ e9 ∷ e10 ∷ e11·1 ∷ e12 ∷ e13·1 ∷ e14·1 ∷ e15 ∷ List.[]
-abbrev pub t21 : List.List Row.Entry
-t21 = e0·1 ∷ e1 ∷ e2 ∷ e3·1 ∷ e4·1 ∷ e5·1 ∷ e6 ∷ e7 ∷ e8 ∷ e9 ∷ e10 ∷ e11 ∷ e12 ∷ e13·1 ∷ e14·1 ∷ e15 ∷ List.[]
-abbrev pub t22 : List.List Row.Entry
-t22 = e0·1 ∷ e1 ∷ e2 ∷ e3·1 ∷ e4·1 ∷ e5·1 ∷ e6 ∷ e7 ∷ e8 ∷ e9 ∷ e10 ∷ e11 ∷ e12 ∷ e13 ∷ e14·1 ∷ e15 ∷ List.[]
+t18 = e0·1 ∷ e1 ∷ e2·1 ∷ e3·1 ∷ e4·1 ∷ e5·1 ∷ e6·1 ∷ e7 ∷ e8 ∷ e9 ∷ e10 ∷ e11 ∷ e12 ∷ e13·1 ∷ List.[]
 abbrev pub T0 : Row.Cx
-T0 = record { locals = List._++_ t0 t1; slots = List.[] }
+T0 = record { locals = t0; slots = List.[] }
 abbrev pub T1 : Row.Cx
-T1 = record { locals = List._++_ t2 t1; slots = List.[] }
+T1 = record { locals = t1; slots = List.[] }
 abbrev pub T2 : Row.Cx
-T2 = record { locals = List._++_ t0 t1; slots = List.[] }
+T2 = record { locals = t0; slots = List.[] }
 abbrev pub T3 : Row.Cx
-T3 = record { locals = List._++_ t0 t1; slots = List.[] }
+T3 = record { locals = t2; slots = List.[] }
 abbrev pub T4 : Row.Cx
-T4 = record { locals = List._++_ t3 t1; slots = List.[] }
+T4 = record { locals = t3; slots = List.[] }
 abbrev pub T5 : Row.Cx
-T5 = record { locals = List._++_ t4 t1; slots = List.[] }
+T5 = record { locals = t4; slots = List.[] }
 abbrev pub T6 : Row.Cx
-T6 = record { locals = List._++_ t5 t1; slots = List.[] }
+T6 = record { locals = t5; slots = List.[] }
 abbrev pub T7 : Row.Cx
-T7 = record { locals = List._++_ t6 t1; slots = List.[] }
+T7 = record { locals = t6; slots = List.[] }
 abbrev pub T8 : Row.Cx
-T8 = record { locals = List._++_ t7 t1; slots = List.[] }
+T8 = record { locals = t7; slots = List.[] }
 abbrev pub T9 : Row.Cx
-T9 = record { locals = List._++_ t8 t1; slots = List.[] }
+T9 = record { locals = t8; slots = List.[] }
 abbrev pub T10 : Row.Cx
-T10 = record { locals = List._++_ t9 t1; slots = List.[] }
+T10 = record { locals = t9; slots = List.[] }
 abbrev pub T11 : Row.Cx
-T11 = record { locals = List._++_ t10 t1; slots = List.[] }
+T11 = record { locals = t10; slots = List.[] }
 abbrev pub T12 : Row.Cx
-T12 = record { locals = List._++_ t11 t1; slots = List.[] }
+T12 = record { locals = t11; slots = List.[] }
 abbrev pub T13 : Row.Cx
-T13 = record { locals = List._++_ t12 t1; slots = List.[] }
+T13 = record { locals = t12; slots = List.[] }
 abbrev pub T14 : Row.Cx
-T14 = record { locals = List._++_ t13 t1; slots = List.[] }
+T14 = record { locals = t13; slots = List.[] }
 abbrev pub T15 : Row.Cx
-T15 = record { locals = List._++_ t14 t1; slots = List.[] }
+T15 = record { locals = t14; slots = List.[] }
 abbrev pub T16 : Row.Cx
-T16 = record { locals = List._++_ t14 t15; slots = List.[] }
+T16 = record { locals = t15; slots = List.[] }
 abbrev pub T17 : Row.Cx
-T17 = record { locals = List._++_ t16 t15; slots = List.[] }
+T17 = record { locals = t16; slots = List.[] }
 abbrev pub T18 : Row.Cx
-T18 = record { locals = List._++_ t17 t15; slots = List.[] }
+T18 = record { locals = t17; slots = List.[] }
 abbrev pub T19 : Row.Cx
-T19 = record { locals = List._++_ t18 t15; slots = List.[] }
+T19 = record { locals = t18; slots = List.[] }
 abbrev pub T20 : Row.Cx
-T20 = record { locals = List._++_ t19 t15; slots = List.[] }
-abbrev pub T21 : Row.Cx
-T21 = record { locals = List._++_ t20 t15; slots = List.[] }
-abbrev pub T22 : Row.Cx
-T22 = record { locals = List._++_ t21 t15; slots = List.[] }
-abbrev pub T23 : Row.Cx
-T23 = record { locals = List._++_ t22 t15; slots = List.[] }
-abbrev pub T24 : Row.Cx
-T24 = record { locals = List._++_ t2 t15; slots = List.[] }
-abbrev pub T25 : Row.Cx
-T25 = record { locals = List._++_ t2 t1; slots = List.[] }
+T20 = record { locals = t1; slots = List.[] }
 abbrev pub O0 : Typed.Outs
 O0 = record { next = Option.none; exits = List.[]; returns = Option.some T1 }
 module _ (claims· : Claims) where
   abbrev s0 : (bs : List.List Nat.ℕ) → Typed.Gives T0 T2
-  s0 = λ bs. Know.k-shs-known (Referent.fInt Syntax.w8) T0 6 2 ref2 Row.off 0 λ x. x
-  abbrev s1 : (bs : List.List Nat.ℕ) → Typed.Gives T2 T3
-  s1 = λ bs. Know.k-shs-known (Referent.fInt Syntax.w8) T2 7 3 ref3 Row.off 0 λ x. x
-  abbrev s2 : (bs : List.List Nat.ℕ) → Typed.Both T3 T4
-  s2 = λ bs. WayStmt.k-way-copy-out T3 (Row.out 3 (T3 .locals)) (λ u. Row.drop 3 (T3 .locals) u) 8 (Rows.whole (Declared'.row
-      OpaqueRelayConfig.the-type)) (λ u. At.getAt (OpaqueRelayRuntime.the-type .parts) 4 (OpaqueRelayRuntime.struct .as-values (u .1 .1 .1 .0))) (λ
-      T′. record { locals = Row.setRow 3 (3, Rows.whole (Declared'.row OpaqueRelayRuntime.the-type)) T′; slots = List.[]; }) (λ u T′ m′. Row.set 3 (3,
-      Rows.whole (Declared'.row OpaqueRelayRuntime.the-type)) (u .1 .1 .1 .0) T′ m′) (λ u. Unit) λ u. Unit
-  abbrev s3 : (bs : List.List Nat.ℕ) → Typed.Mo T4 → Typed.Mo T5
-  s3 = λ bs. Make.n-enum-make InflightKind.the-type T4 9 λ m. InflightKind.enum .make (Logic.inr (Logic.inr (Logic.inr (Logic.inl tt))))
+  s0 = λ bs. Know.k-shs-known (Referent.fInt Syntax.w8) T0 7 1 ref1 Row.off 0 λ x. x
+  abbrev s1 : (bs : List.List Nat.ℕ) → Typed.Both T2 T3
+  s1 = λ bs. WayStmt.k-way-copy-out T2 (Row.out 2 (T2 .locals)) (λ u. Row.drop 2 (T2 .locals) u) 8 (Rows.whole (Declared'.row
+      OpaqueRelayConfig.the-type)) (λ u. At.getAt (OpaqueRelayRuntime.the-type .parts) 4 (OpaqueRelayRuntime.struct .as-values (u .1 .1 .0))) (λ T′.
+      record { locals = Row.setRow 2 (2, Rows.whole (Declared'.row OpaqueRelayRuntime.the-type)) T′; slots = List.[]; }) (λ u T′ m′. Row.set 2 (2,
+      Rows.whole (Declared'.row OpaqueRelayRuntime.the-type)) (u .1 .1 .0) T′ m′) (λ u. Unit) λ u. Unit
+  abbrev s2 : (bs : List.List Nat.ℕ) → Typed.Mo T3 → Typed.Mo T4
+  s2 = λ bs. Make.n-enum-make InflightKind.the-type T3 9 λ m. InflightKind.enum .make (Logic.inr (Logic.inr (Logic.inr (Logic.inl tt))))
+  abbrev s3 : (bs : List.List Nat.ℕ) → Typed.Both T4 T5
+  s3 = λ bs. Call.callB ps·0 r·0 (claims· .0) (claims· .1) T4 (record { pos = 7; ty = Syntax.tyRef (Syntax.named 1) Syntax.imm (Syntax.tyInt
+      Syntax.w8); ref = λ x. x; }, tt,) 10 (1 ∷ List.[]) Laws''.mir
   abbrev s4 : (bs : List.List Nat.ℕ) → Typed.Both T5 T6
-  s4 = λ bs. Call.callB ps·0 r·0 (claims· .0) (claims· .1) T5 (record { pos = 6; ty = Syntax.tyRef (Syntax.named 2) Syntax.imm (Syntax.tyInt
-      Syntax.w8); ref = λ x. x; }, tt,) 10 (2 ∷ List.[]) Laws''.mir
-  abbrev s5 : (bs : List.List Nat.ℕ) → Typed.Both T6 T7
-  s5 = λ bs. Call.callB ps·1 r·1 (claims· .2) (claims· .3) T6 (record { pos = 7; ty = Syntax.tyRef (Syntax.named 3) Syntax.imm (Syntax.tyInt
-      Syntax.w8); ref = λ x. x; }, tt,) 11 (3 ∷ List.[]) Laws.mir
-  abbrev s6 : (bs : List.List Nat.ℕ) → Typed.Both T7 T8
-  s6 = λ bs. Call.callB ps·2 r·2 (claims· .4) (claims· .5) T7 (Num.vFld 5 ((Syntax.field 1) ∷ List.[]) 8 λ x. RelayPacket.struct .as-values x .1 .0,
-      (Num.vLit 0, tt),) 12 List.[] Laws'''''''''.mir
+  s4 = λ bs. Call.callB ps·1 r·1 (claims· .2) (claims· .3) T5 (record { pos = 4; st = List.[]; d = 0; at = λ x. x }, (record { pos = 6; st = List.[];
+      d = 0; at = λ x. x }, (record { pos = 10; st = List.[]; d = 0; at = λ x. x }, (record { pos = 9; st = List.[]; d = 0; at = λ x. x }, tt),),),)
+      11 List.[] Laws''''''''.mir
+  abbrev s5 : (bs : List.List Nat.ℕ) → Typed.Mo T6 → Typed.Mo T7
+  s5 = λ bs. Scalar.n-room T6 4 Laws'''''''''.mir
+  abbrev s6 : (bs : List.List Nat.ℕ) → Typed.Mo T7 → Typed.Mo T8
+  s6 = λ bs. Scalar.n-room T7 9 Laws'''''''.mir
   abbrev s7 : (bs : List.List Nat.ℕ) → Typed.Both T8 T9
-  s7 = λ bs. Call.callB ps·3 r·3 (claims· .6) (claims· .7) T8 (record { pos = 1; ty = Syntax.tyRef (Syntax.named 0) Syntax.imm RelayCircuit.to; ref =
-      λ x. x; }, (record { pos = 4; st = List.[]; d = 0; at = λ x. x }, (record { pos = 12; st = List.[]; d = 0; at = λ x. x }, tt),),) 13 (0 ∷
-      List.[]) Laws''''''.mir
+  s7 = λ bs. Call.callB ps·2 r·2 (claims· .4) (claims· .5) T8 (record { pos = 2; st = List.[]; d = 0; at = λ x. x }, (record { pos = 11; st = List.[];
+      d = 0; at = λ x. x }, tt),) 12 List.[] Laws''''.mir
   abbrev s8 : (bs : List.List Nat.ℕ) → Typed.Mo T9 → Typed.Mo T10
-  s8 = λ bs. Scalar.n-room T9 12 Laws'''''''''.mir
+  s8 = λ bs. Scalar.n-room T9 2 Laws''''''''''.mir
   abbrev s9 : (bs : List.List Nat.ℕ) → Typed.Both T10 T11
-  s9 = λ bs. Call.callB ps·4 r·4 (claims· .8) (claims· .9) T10 (record { pos = 5; st = List.[]; d = 0; at = λ x. x }, (record { pos = 13; st =
-      List.[]; d = 0; at = λ x. x }, (record { pos = 10; st = List.[]; d = 0; at = λ x. x }, (record { pos = 9; st = List.[]; d = 0; at = λ x. x },
-      tt),),),) 14 List.[] Laws''''''''.mir
-  abbrev s10 : (bs : List.List Nat.ℕ) → Typed.Mo T11 → Typed.Mo T12
-  s10 = λ bs. Scalar.n-room T11 5 Laws''''''''''.mir
-  abbrev s11 : (bs : List.List Nat.ℕ) → Typed.Mo T12 → Typed.Mo T13
-  s11 = λ bs. Scalar.n-room T12 9 Laws'''''''.mir
-  abbrev s12 : (bs : List.List Nat.ℕ) → Typed.Both T13 T14
-  s12 = λ bs. Call.callB ps·5 r·5 (claims· .10) (claims· .11) T13 (record { pos = 3; st = List.[]; d = 0; at = λ x. x }, (record { pos = 14; st =
-      List.[]; d = 0; at = λ x. x }, tt),) 15 List.[] Laws''''.mir
-  abbrev s13 : (bs : List.List Nat.ℕ) → Typed.Mo T14 → Typed.Mo T15
-  s13 = λ bs. Scalar.n-room T14 3 Laws'''''''''''.mir
-  abbrev s14 : (bs : List.List Nat.ℕ) → Typed.Both T15 T16
-  s14 = λ bs. Call.callB ps·6 r·6 (claims· .12) (claims· .13) T15 (record { pos = 2; ty = Syntax.tyRef (Syntax.named 1) Syntax.imm InflightAction.to;
-      ref = λ x. x; }, (record { pos = 4; st = List.[]; d = 0; at = λ x. x }, (record { pos = 15; st = List.[]; d = 0; at = λ x. x }, tt),),) 16 (1 ∷
+  s9 = λ bs. Call.callB ps·3 r·3 (claims· .6) (claims· .7) T10 (record { pos = 1; ty = Syntax.tyRef (Syntax.named 0) Syntax.imm InflightAction.to; ref
+      = λ x. x; }, (record { pos = 3; st = List.[]; d = 0; at = λ x. x }, (record { pos = 12; st = List.[]; d = 0; at = λ x. x }, tt),),) 13 (0 ∷
       List.[]) Laws'''''.mir
+  abbrev s10 : (bs : List.List Nat.ℕ) → Typed.Mo T11 → Typed.Mo T12
+  s10 = λ bs. Scalar.n-room T11 3 Laws'''.mir
+  abbrev s11 : (bs : List.List Nat.ℕ) → Typed.Mo T12 → Typed.Mo T13
+  s11 = λ bs. Scalar.n-room T12 12 Laws''''.mir
+  abbrev s12 : (bs : List.List Nat.ℕ) → Typed.Both T13 T14
+  s12 = λ bs. Call.callB ps·4 r·4 (claims· .8) (claims· .9) T13 (record { pos = 8; st = List.[]; d = 0; at = λ x. x }, (record { pos = 5; st =
+      List.[]; d = 0; at = λ x. x }, (record { pos = 6; st = List.[]; d = 0; at = λ x. x }, (record { pos = 13; st = List.[]; d = 0; at = λ x. x },
+      (record { pos = 10; st = List.[]; d = 0; at = λ x. x }, (record { pos = 11; st = List.[]; d = 0; at = λ x. x }, tt),),),),),) 0 List.[]
+      Laws'''''''''''.mir
+  abbrev s13 : (bs : List.List Nat.ℕ) → Typed.Mo T14 → Typed.Mo T15
+  s13 = λ bs. Scalar.n-room T14 5 Laws.mir
+  abbrev s14 : (bs : List.List Nat.ℕ) → Typed.Mo T15 → Typed.Mo T16
+  s14 = λ bs. Scalar.n-room T15 6 Laws''''''.mir
   abbrev s15 : (bs : List.List Nat.ℕ) → Typed.Mo T16 → Typed.Mo T17
-  s15 = λ bs. Scalar.n-room T16 4 Laws'''.mir
+  s15 = λ bs. Scalar.n-room T16 8 Laws'.mir
   abbrev s16 : (bs : List.List Nat.ℕ) → Typed.Mo T17 → Typed.Mo T18
-  s16 = λ bs. Scalar.n-room T17 15 Laws''''.mir
-  abbrev s17 : (bs : List.List Nat.ℕ) → Typed.Both T18 T19
-  s17 = λ bs. Call.callB ps·7 r·7 (claims· .14) (claims· .15) T18 (record { pos = 8; st = List.[]; d = 0; at = λ x. x }, (record { pos = 11; st =
-      List.[]; d = 0; at = λ x. x }, (record { pos = 13; st = List.[]; d = 0; at = λ x. x }, (record { pos = 16; st = List.[]; d = 0; at = λ x. x },
-      (record { pos = 10; st = List.[]; d = 0; at = λ x. x }, (record { pos = 14; st = List.[]; d = 0; at = λ x. x }, tt),),),),),) 0 List.[]
-      Laws''''''''''''.mir
+  s16 = λ bs. Scalar.n-room T17 10 Laws''.mir
+  abbrev s17 : (bs : List.List Nat.ℕ) → Typed.Mo T18 → Typed.Mo T19
+  s17 = λ bs. Scalar.n-room T18 11 Laws''''''''.mir
   abbrev s18 : (bs : List.List Nat.ℕ) → Typed.Mo T19 → Typed.Mo T20
-  s18 = λ bs. Scalar.n-room T19 8 Laws'.mir
-  abbrev s19 : (bs : List.List Nat.ℕ) → Typed.Mo T20 → Typed.Mo T21
-  s19 = λ bs. Scalar.n-room T20 10 Laws''.mir
-  abbrev s20 : (bs : List.List Nat.ℕ) → Typed.Mo T21 → Typed.Mo T22
-  s20 = λ bs. Scalar.n-room T21 11 Laws.mir
-  abbrev s21 : (bs : List.List Nat.ℕ) → Typed.Mo T22 → Typed.Mo T23
-  s21 = λ bs. Scalar.n-room T22 13 Laws''''''.mir
-  abbrev s22 : (bs : List.List Nat.ℕ) → Typed.Mo T23 → Typed.Mo T24
-  s22 = λ bs. Scalar.n-room T23 14 Laws''''''''.mir
-  abbrev s23 : (bs : List.List Nat.ℕ) → Typed.Mo T24 → Typed.Mo T25
-  s23 = λ bs. Scalar.n-room T24 16 Laws'''''.mir
-  module _ (Pre· : (κs : Lifetimes.Lfts 4) → Kinds.Dens κs ps → Type 0) (Post· : (κs : Lifetimes.Lfts 4) → (a : Kinds.Dens κs ps) → Kinds.Plain 4 ps r
+  s18 = λ bs. Scalar.n-room T19 13 Laws'''''.mir
+  module _ (Pre· : (κs : Lifetimes.Lfts 2) → Kinds.Dens κs ps → Type 0) (Post· : (κs : Lifetimes.Lfts 2) → (a : Kinds.Dens κs ps) → Kinds.Plain 2 ps r
       κs) where
     module _ (M : Type 1) where
       abbrev pub Closed : Type 2
       Closed = (𝓤 : URA.URA M) (H : Wp.Heap 𝓤) (A : Atoms.Atoms 𝓤) (W : Kit.Given 𝓤 H A) (𝓣 : Wp.Tables 𝓤 H) (known0 : Plain.Known 𝓤 H A W 𝓣 1 ps·0
-          r·0 (claims· .0) (claims· .1) "hnsr_circuit::peer::peer_of") (known1 : Plain.Known 𝓤 H A W 𝓣 1 ps·1 r·1 (claims· .2) (claims· .3)
-          "hnsr_body::data_body::WindowBody::decode") (known2 : Plain.Known 𝓤 H A W 𝓣 0 ps·2 r·2 (claims· .4) (claims· .5)
-          "hnsr_circuit::question::at") (known3 : Plain.Known 𝓤 H A W 𝓣 1 ps·3 r·3 (claims· .6) (claims· .7) "hnsr_circuit::lookup::look_up_circuit")
-          (known4 : Plain.Known 𝓤 H A W 𝓣 0 ps·4 r·4 (claims· .8) (claims· .9) "hnsr_circuit::message::passed_on") (known5 : Plain.Known 𝓤 H A W 𝓣 0
-          ps·5 r·5 (claims· .10) (claims· .11) "hnsr_circuit::queue::asking") (known6 : Plain.Known 𝓤 H A W 𝓣 1 ps·6 r·6 (claims· .12) (claims· .13)
-          "hnsr_circuit::tables::inflight::scan_actions") (known7 : Plain.Known 𝓤 H A W 𝓣 0 ps·7 r·7 (claims· .14) (claims· .15)
-          "hnsr_circuit::window::window_plan") → Statement.Triple 𝓤 (Wp.WpFn 𝓤 H (𝓣 .C) (𝓣 .Λ) (Function.fnOf 4 ps r xs m hs body)) (Function.plainOf
-          𝓤 H A 4 ps r Pre· Post·)
+          r·0 (claims· .0) (claims· .1) "hnsr_circuit::peer::peer_of") (known1 : Plain.Known 𝓤 H A W 𝓣 0 ps·1 r·1 (claims· .2) (claims· .3)
+          "hnsr_circuit::message::passed_on") (known2 : Plain.Known 𝓤 H A W 𝓣 0 ps·2 r·2 (claims· .4) (claims· .5) "hnsr_circuit::queue::asking")
+          (known3 : Plain.Known 𝓤 H A W 𝓣 1 ps·3 r·3 (claims· .6) (claims· .7) "hnsr_circuit::tables::inflight::scan_actions") (known4 : Plain.Known 𝓤
+          H A W 𝓣 0 ps·4 r·4 (claims· .8) (claims· .9) "hnsr_circuit::window::window_plan") → Statement.Triple 𝓤 (Wp.WpFn 𝓤 H (𝓣 .C) (𝓣 .Λ)
+          (Function.fnOf 2 ps r xs m hs body)) (Function.plainOf 𝓤 H A 2 ps r Pre· Post·)
     module _ where
-      abbrev at0 : (bs : List.List Nat.ℕ) → Typed.TF T25 O0
+      abbrev at0 : (bs : List.List Nat.ℕ) → Typed.TF T20 O0
       at0 = λ bs. Typed.atRet O0
-      abbrev at1 : (bs : List.List Nat.ℕ) → Typed.TF T24 O0
-      at1 = λ bs. λ Ψ. Typed.pass T24 T25 (s23 bs) (at0 bs Ψ)
-      abbrev at2 : (bs : List.List Nat.ℕ) → Typed.TF T23 O0
-      at2 = λ bs. λ Ψ. Typed.pass T23 T24 (s22 bs) (at1 bs Ψ)
-      abbrev at3 : (bs : List.List Nat.ℕ) → Typed.TF T22 O0
-      at3 = λ bs. λ Ψ. Typed.pass T22 T23 (s21 bs) (at2 bs Ψ)
-      abbrev at4 : (bs : List.List Nat.ℕ) → Typed.TF T21 O0
-      at4 = λ bs. λ Ψ. Typed.pass T21 T22 (s20 bs) (at3 bs Ψ)
-      abbrev at5 : (bs : List.List Nat.ℕ) → Typed.TF T20 O0
-      at5 = λ bs. λ Ψ. Typed.pass T20 T21 (s19 bs) (at4 bs Ψ)
-      abbrev at6 : (bs : List.List Nat.ℕ) → Typed.TF T19 O0
-      at6 = λ bs. λ Ψ. Typed.pass T19 T20 (s18 bs) (at5 bs Ψ)
-      abbrev at7 : (bs : List.List Nat.ℕ) → Typed.TF T18 O0
-      at7 = λ bs. λ Ψ. Typed.both (s17 bs) (at6 bs Ψ)
-      abbrev at8 : (bs : List.List Nat.ℕ) → Typed.TF T17 O0
-      at8 = λ bs. λ Ψ. Typed.pass T17 T18 (s16 bs) (at7 bs Ψ)
-      abbrev at9 : (bs : List.List Nat.ℕ) → Typed.TF T16 O0
-      at9 = λ bs. λ Ψ. Typed.pass T16 T17 (s15 bs) (at8 bs Ψ)
-      abbrev at10 : (bs : List.List Nat.ℕ) → Typed.TF T15 O0
-      at10 = λ bs. λ Ψ. Typed.both (s14 bs) (at9 bs Ψ)
-      abbrev at11 : (bs : List.List Nat.ℕ) → Typed.TF T14 O0
-      at11 = λ bs. λ Ψ. Typed.pass T14 T15 (s13 bs) (at10 bs Ψ)
-      abbrev at12 : (bs : List.List Nat.ℕ) → Typed.TF T13 O0
-      at12 = λ bs. λ Ψ. Typed.both (s12 bs) (at11 bs Ψ)
-      abbrev at13 : (bs : List.List Nat.ℕ) → Typed.TF T12 O0
-      at13 = λ bs. λ Ψ. Typed.pass T12 T13 (s11 bs) (at12 bs Ψ)
-      abbrev at14 : (bs : List.List Nat.ℕ) → Typed.TF T11 O0
-      at14 = λ bs. λ Ψ. Typed.pass T11 T12 (s10 bs) (at13 bs Ψ)
-      abbrev at15 : (bs : List.List Nat.ℕ) → Typed.TF T10 O0
-      at15 = λ bs. λ Ψ. Typed.both (s9 bs) (at14 bs Ψ)
-      abbrev at16 : (bs : List.List Nat.ℕ) → Typed.TF T9 O0
-      at16 = λ bs. λ Ψ. Typed.pass T9 T10 (s8 bs) (at15 bs Ψ)
-      abbrev at17 : (bs : List.List Nat.ℕ) → Typed.TF T8 O0
-      at17 = λ bs. λ Ψ. Typed.both (s7 bs) (at16 bs Ψ)
-      abbrev at18 : (bs : List.List Nat.ℕ) → Typed.TF T7 O0
-      at18 = λ bs. λ Ψ. Typed.both (s6 bs) (at17 bs Ψ)
-      abbrev at19 : (bs : List.List Nat.ℕ) → Typed.TF T6 O0
-      at19 = λ bs. λ Ψ. Typed.both (s5 bs) (at18 bs Ψ)
-      abbrev at20 : (bs : List.List Nat.ℕ) → Typed.TF T5 O0
-      at20 = λ bs. λ Ψ. Typed.both (s4 bs) (at19 bs Ψ)
-      abbrev at21 : (bs : List.List Nat.ℕ) → Typed.TF T4 O0
-      at21 = λ bs. λ Ψ. Typed.pass T4 T5 (s3 bs) (at20 bs Ψ)
-      abbrev at22 : (bs : List.List Nat.ℕ) → Typed.TF T3 O0
-      at22 = λ bs. λ Ψ. Typed.both (s2 bs) (at21 bs Ψ)
-      abbrev at23 : (bs : List.List Nat.ℕ) → Typed.TF T2 O0
-      at23 = λ bs. λ Ψ. Typed.give (s1 bs) (at22 bs Ψ)
-      abbrev at24 : (bs : List.List Nat.ℕ) → Typed.TF T0 O0
-      at24 = λ bs. λ Ψ. Typed.give (s0 bs) (at23 bs Ψ)
+      abbrev at1 : (bs : List.List Nat.ℕ) → Typed.TF T19 O0
+      at1 = λ bs. λ Ψ. Typed.pass T19 T20 (s18 bs) (at0 bs Ψ)
+      abbrev at2 : (bs : List.List Nat.ℕ) → Typed.TF T18 O0
+      at2 = λ bs. λ Ψ. Typed.pass T18 T19 (s17 bs) (at1 bs Ψ)
+      abbrev at3 : (bs : List.List Nat.ℕ) → Typed.TF T17 O0
+      at3 = λ bs. λ Ψ. Typed.pass T17 T18 (s16 bs) (at2 bs Ψ)
+      abbrev at4 : (bs : List.List Nat.ℕ) → Typed.TF T16 O0
+      at4 = λ bs. λ Ψ. Typed.pass T16 T17 (s15 bs) (at3 bs Ψ)
+      abbrev at5 : (bs : List.List Nat.ℕ) → Typed.TF T15 O0
+      at5 = λ bs. λ Ψ. Typed.pass T15 T16 (s14 bs) (at4 bs Ψ)
+      abbrev at6 : (bs : List.List Nat.ℕ) → Typed.TF T14 O0
+      at6 = λ bs. λ Ψ. Typed.pass T14 T15 (s13 bs) (at5 bs Ψ)
+      abbrev at7 : (bs : List.List Nat.ℕ) → Typed.TF T13 O0
+      at7 = λ bs. λ Ψ. Typed.both (s12 bs) (at6 bs Ψ)
+      abbrev at8 : (bs : List.List Nat.ℕ) → Typed.TF T12 O0
+      at8 = λ bs. λ Ψ. Typed.pass T12 T13 (s11 bs) (at7 bs Ψ)
+      abbrev at9 : (bs : List.List Nat.ℕ) → Typed.TF T11 O0
+      at9 = λ bs. λ Ψ. Typed.pass T11 T12 (s10 bs) (at8 bs Ψ)
+      abbrev at10 : (bs : List.List Nat.ℕ) → Typed.TF T10 O0
+      at10 = λ bs. λ Ψ. Typed.both (s9 bs) (at9 bs Ψ)
+      abbrev at11 : (bs : List.List Nat.ℕ) → Typed.TF T9 O0
+      at11 = λ bs. λ Ψ. Typed.pass T9 T10 (s8 bs) (at10 bs Ψ)
+      abbrev at12 : (bs : List.List Nat.ℕ) → Typed.TF T8 O0
+      at12 = λ bs. λ Ψ. Typed.both (s7 bs) (at11 bs Ψ)
+      abbrev at13 : (bs : List.List Nat.ℕ) → Typed.TF T7 O0
+      at13 = λ bs. λ Ψ. Typed.pass T7 T8 (s6 bs) (at12 bs Ψ)
+      abbrev at14 : (bs : List.List Nat.ℕ) → Typed.TF T6 O0
+      at14 = λ bs. λ Ψ. Typed.pass T6 T7 (s5 bs) (at13 bs Ψ)
+      abbrev at15 : (bs : List.List Nat.ℕ) → Typed.TF T5 O0
+      at15 = λ bs. λ Ψ. Typed.both (s4 bs) (at14 bs Ψ)
+      abbrev at16 : (bs : List.List Nat.ℕ) → Typed.TF T4 O0
+      at16 = λ bs. λ Ψ. Typed.both (s3 bs) (at15 bs Ψ)
+      abbrev at17 : (bs : List.List Nat.ℕ) → Typed.TF T3 O0
+      at17 = λ bs. λ Ψ. Typed.pass T3 T4 (s2 bs) (at16 bs Ψ)
+      abbrev at18 : (bs : List.List Nat.ℕ) → Typed.TF T2 O0
+      at18 = λ bs. λ Ψ. Typed.both (s1 bs) (at17 bs Ψ)
+      abbrev at19 : (bs : List.List Nat.ℕ) → Typed.TF T0 O0
+      at19 = λ bs. λ Ψ. Typed.give (s0 bs) (at18 bs Ψ)
       abbrev pub Φ : (bs : List.List Nat.ℕ) → Typed.TF T0 O0
-      Φ = λ bs. at24 bs
+      Φ = λ bs. at19 bs
       module _ { M : Type 1 } (𝓤 : URA.URA M) (H : Wp.Heap 𝓤) (A : Atoms.Atoms 𝓤) (W : Kit.Given 𝓤 H A) (𝓣 : Wp.Tables 𝓤 H) where
         abbrev Knowns : Type 1
-        Knowns = Plain.Known 𝓤 H A W 𝓣 1 ps·0 r·0 (claims· .0) (claims· .1) "hnsr_circuit::peer::peer_of" × Plain.Known 𝓤 H A W 𝓣 1 ps·1 r·1 (claims·
-            .2) (claims· .3) "hnsr_body::data_body::WindowBody::decode" × Plain.Known 𝓤 H A W 𝓣 0 ps·2 r·2 (claims· .4) (claims· .5)
-            "hnsr_circuit::question::at" × Plain.Known 𝓤 H A W 𝓣 1 ps·3 r·3 (claims· .6) (claims· .7) "hnsr_circuit::lookup::look_up_circuit" ×
-            Plain.Known 𝓤 H A W 𝓣 0 ps·4 r·4 (claims· .8) (claims· .9) "hnsr_circuit::message::passed_on" × Plain.Known 𝓤 H A W 𝓣 0 ps·5 r·5 (claims·
-            .10) (claims· .11) "hnsr_circuit::queue::asking" × Plain.Known 𝓤 H A W 𝓣 1 ps·6 r·6 (claims· .12) (claims· .13)
-            "hnsr_circuit::tables::inflight::scan_actions" × Plain.Known 𝓤 H A W 𝓣 0 ps·7 r·7 (claims· .14) (claims· .15)
-            "hnsr_circuit::window::window_plan"
-      module _ (κs : Lifetimes.Lfts 4) (qs : Lifetimes.Shares 4) where
+        Knowns = Plain.Known 𝓤 H A W 𝓣 1 ps·0 r·0 (claims· .0) (claims· .1) "hnsr_circuit::peer::peer_of" × Plain.Known 𝓤 H A W 𝓣 0 ps·1 r·1 (claims·
+            .2) (claims· .3) "hnsr_circuit::message::passed_on" × Plain.Known 𝓤 H A W 𝓣 0 ps·2 r·2 (claims· .4) (claims· .5)
+            "hnsr_circuit::queue::asking" × Plain.Known 𝓤 H A W 𝓣 1 ps·3 r·3 (claims· .6) (claims· .7) "hnsr_circuit::tables::inflight::scan_actions"
+            × Plain.Known 𝓤 H A W 𝓣 0 ps·4 r·4 (claims· .8) (claims· .9) "hnsr_circuit::window::window_plan"
+      module _ (κs : Lifetimes.Lfts 2) (qs : Lifetimes.Shares 2) where
         abbrev life0 : Row.Life
         life0 = Row.lease (κs .0) (qs .0)
         abbrev life1 : Row.Life
         life1 = Row.lease (κs .1 .0) (qs .1 .0)
-        abbrev life2 : Row.Life
-        life2 = Row.lease (κs .1 .1 .0) (qs .1 .1 .0)
-        abbrev life3 : Row.Life
-        life3 = Row.lease (κs .1 .1 .1 .0) (qs .1 .1 .1 .0)
         abbrev G0 : Row.Cx
-        G0 = record { locals = List._++_ t0 t1; slots = life0 ∷ life1 ∷ life2 ∷ life3 ∷ List.[]; }
+        G0 = record { locals = t0; slots = life0 ∷ life1 ∷ List.[]; }
         abbrev G1 : Row.Cx
-        G1 = record { locals = List._++_ t2 t1; slots = life0 ∷ life1 ∷ life2 ∷ life3 ∷ List.[]; }
+        G1 = record { locals = t1; slots = life0 ∷ life1 ∷ List.[]; }
         abbrev G2 : Row.Cx
-        G2 = record { locals = List._++_ t0 t1; slots = life0 ∷ life1 ∷ life2 ∷ life3 ∷ List.[]; }
+        G2 = record { locals = t0; slots = life0 ∷ life1 ∷ List.[]; }
         abbrev G3 : Row.Cx
-        G3 = record { locals = List._++_ t0 t1; slots = life0 ∷ life1 ∷ life2 ∷ life3 ∷ List.[]; }
+        G3 = record { locals = t2; slots = life0 ∷ life1 ∷ List.[]; }
         abbrev G4 : Row.Cx
-        G4 = record { locals = List._++_ t3 t1; slots = life0 ∷ life1 ∷ life2 ∷ life3 ∷ List.[]; }
+        G4 = record { locals = t3; slots = life0 ∷ life1 ∷ List.[]; }
         abbrev G5 : Row.Cx
-        G5 = record { locals = List._++_ t4 t1; slots = life0 ∷ life1 ∷ life2 ∷ life3 ∷ List.[]; }
+        G5 = record { locals = t4; slots = life0 ∷ life1 ∷ List.[]; }
         abbrev G6 : Row.Cx
-        G6 = record { locals = List._++_ t5 t1; slots = life0 ∷ life1 ∷ life2 ∷ life3 ∷ List.[]; }
+        G6 = record { locals = t5; slots = life0 ∷ life1 ∷ List.[]; }
         abbrev G7 : Row.Cx
-        G7 = record { locals = List._++_ t6 t1; slots = life0 ∷ life1 ∷ life2 ∷ life3 ∷ List.[]; }
+        G7 = record { locals = t6; slots = life0 ∷ life1 ∷ List.[]; }
         abbrev G8 : Row.Cx
-        G8 = record { locals = List._++_ t7 t1; slots = life0 ∷ life1 ∷ life2 ∷ life3 ∷ List.[]; }
+        G8 = record { locals = t7; slots = life0 ∷ life1 ∷ List.[]; }
         abbrev G9 : Row.Cx
-        G9 = record { locals = List._++_ t8 t1; slots = life0 ∷ life1 ∷ life2 ∷ life3 ∷ List.[]; }
+        G9 = record { locals = t8; slots = life0 ∷ life1 ∷ List.[]; }
         abbrev G10 : Row.Cx
-        G10 = record { locals = List._++_ t9 t1; slots = life0 ∷ life1 ∷ life2 ∷ life3 ∷ List.[]; }
+        G10 = record { locals = t9; slots = life0 ∷ life1 ∷ List.[]; }
         abbrev G11 : Row.Cx
-        G11 = record { locals = List._++_ t10 t1; slots = life0 ∷ life1 ∷ life2 ∷ life3 ∷ List.[]; }
+        G11 = record { locals = t10; slots = life0 ∷ life1 ∷ List.[]; }
         abbrev G12 : Row.Cx
-        G12 = record { locals = List._++_ t11 t1; slots = life0 ∷ life1 ∷ life2 ∷ life3 ∷ List.[]; }
+        G12 = record { locals = t11; slots = life0 ∷ life1 ∷ List.[]; }
         abbrev G13 : Row.Cx
-        G13 = record { locals = List._++_ t12 t1; slots = life0 ∷ life1 ∷ life2 ∷ life3 ∷ List.[]; }
+        G13 = record { locals = t12; slots = life0 ∷ life1 ∷ List.[]; }
         abbrev G14 : Row.Cx
-        G14 = record { locals = List._++_ t13 t1; slots = life0 ∷ life1 ∷ life2 ∷ life3 ∷ List.[]; }
+        G14 = record { locals = t13; slots = life0 ∷ life1 ∷ List.[]; }
         abbrev G15 : Row.Cx
-        G15 = record { locals = List._++_ t14 t1; slots = life0 ∷ life1 ∷ life2 ∷ life3 ∷ List.[]; }
+        G15 = record { locals = t14; slots = life0 ∷ life1 ∷ List.[]; }
         abbrev G16 : Row.Cx
-        G16 = record { locals = List._++_ t14 t15; slots = life0 ∷ life1 ∷ life2 ∷ life3 ∷ List.[]; }
+        G16 = record { locals = t15; slots = life0 ∷ life1 ∷ List.[]; }
         abbrev G17 : Row.Cx
-        G17 = record { locals = List._++_ t16 t15; slots = life0 ∷ life1 ∷ life2 ∷ life3 ∷ List.[]; }
+        G17 = record { locals = t16; slots = life0 ∷ life1 ∷ List.[]; }
         abbrev G18 : Row.Cx
-        G18 = record { locals = List._++_ t17 t15; slots = life0 ∷ life1 ∷ life2 ∷ life3 ∷ List.[]; }
+        G18 = record { locals = t17; slots = life0 ∷ life1 ∷ List.[]; }
         abbrev G19 : Row.Cx
-        G19 = record { locals = List._++_ t18 t15; slots = life0 ∷ life1 ∷ life2 ∷ life3 ∷ List.[]; }
+        G19 = record { locals = t18; slots = life0 ∷ life1 ∷ List.[]; }
         abbrev G20 : Row.Cx
-        G20 = record { locals = List._++_ t19 t15; slots = life0 ∷ life1 ∷ life2 ∷ life3 ∷ List.[]; }
-        abbrev G21 : Row.Cx
-        G21 = record { locals = List._++_ t20 t15; slots = life0 ∷ life1 ∷ life2 ∷ life3 ∷ List.[]; }
-        abbrev G22 : Row.Cx
-        G22 = record { locals = List._++_ t21 t15; slots = life0 ∷ life1 ∷ life2 ∷ life3 ∷ List.[]; }
-        abbrev G23 : Row.Cx
-        G23 = record { locals = List._++_ t22 t15; slots = life0 ∷ life1 ∷ life2 ∷ life3 ∷ List.[]; }
-        abbrev G24 : Row.Cx
-        G24 = record { locals = List._++_ t2 t15; slots = life0 ∷ life1 ∷ life2 ∷ life3 ∷ List.[]; }
-        abbrev G25 : Row.Cx
-        G25 = record { locals = List._++_ t2 t1; slots = life0 ∷ life1 ∷ life2 ∷ life3 ∷ List.[]; }
+        G20 = record { locals = t1; slots = life0 ∷ life1 ∷ List.[]; }
         abbrev Δ0 : Typed.Outs
         Δ0 = record { next = Option.none; exits = List.[]; returns = Option.some G1 }
         module _ { M : Type 1 } (𝓤 : URA.URA M) (H : Wp.Heap 𝓤) (A : Atoms.Atoms 𝓤) (W : Kit.Given 𝓤 H A) (𝓣 : Wp.Tables 𝓤 H) (known : Knowns 𝓤 H A W
-            𝓣) (bs : List.List Nat.ℕ) (bd : Lifetimes.AllOutlive 4 (Kinds.osR r) κs) where
+            𝓣) (bs : List.List Nat.ℕ) (bd : Lifetimes.AllOutlive 2 (Kinds.osR r) κs) where
           abbrev E : Wp.Env 𝓤 H
           E = Frame.EnvOf 𝓤 H ((Kinds.tyR r) ∷ (Enter.tysP ps xs)) bs
-          d0 : Typed.Typed 𝓤 H A 𝓣 E G25 b10 Δ0 (at0 bs)
+          d0 : Typed.Typed 𝓤 H A 𝓣 E G20 b7 Δ0 (at0 bs)
           d0 = Typed.t-return 𝓤 H A W 𝓣 E Δ0 tt
-          d1 : Typed.Typed 𝓤 H A 𝓣 E G24 b10 Δ0 (at1 bs)
-          d1 = Typed.g-pre 𝓤 H A W 𝓣 E G24 G25 b10 Δ0 (Typed.pass T24 T25 (s23 bs)) (at0 bs) (Scalar.g-room 𝓤 H A W E G24 16 Laws'''''.mir
+          d1 : Typed.Typed 𝓤 H A 𝓣 E G19 b7 Δ0 (at1 bs)
+          d1 = Typed.g-pre 𝓤 H A W 𝓣 E G19 G20 b7 Δ0 (Typed.pass T19 T20 (s18 bs)) (at0 bs) (Scalar.g-room 𝓤 H A W E G19 13 Laws'''''.mir
               (Local.room-whole 𝓤 H A W (Declared'.row ActionScan.the-type) Laws'''''.mir Path.refl)) d0
-          d2 : Typed.Typed 𝓤 H A 𝓣 E G23 b10 Δ0 (at2 bs)
-          d2 = Typed.g-pre 𝓤 H A W 𝓣 E G23 G24 b10 Δ0 (Typed.pass T23 T24 (s22 bs)) (at1 bs) (Scalar.g-room 𝓤 H A W E G23 14 Laws''''''''.mir
+          d2 : Typed.Typed 𝓤 H A 𝓣 E G18 b7 Δ0 (at2 bs)
+          d2 = Typed.g-pre 𝓤 H A W 𝓣 E G18 G19 b7 Δ0 (Typed.pass T18 T19 (s17 bs)) (at1 bs) (Scalar.g-room 𝓤 H A W E G18 11 Laws''''''''.mir
               (Local.room-whole 𝓤 H A W (Declared'.row Outgoing.the-type) Laws''''''''.mir Path.refl)) d1
-          d3 : Typed.Typed 𝓤 H A 𝓣 E G22 b10 Δ0 (at3 bs)
-          d3 = Typed.g-pre 𝓤 H A W 𝓣 E G22 G23 b10 Δ0 (Typed.pass T22 T23 (s21 bs)) (at2 bs) (Scalar.g-room 𝓤 H A W E G22 13 Laws''''''.mir
-              (Local.room-whole 𝓤 H A W (Declared'.row CircuitFound.the-type) Laws''''''.mir Path.refl)) d2
-          d4 : Typed.Typed 𝓤 H A 𝓣 E G21 b10 Δ0 (at4 bs)
-          d4 = Typed.g-pre 𝓤 H A W 𝓣 E G21 G22 b10 Δ0 (Typed.pass T21 T22 (s20 bs)) (at3 bs) (Scalar.g-room 𝓤 H A W E G21 11 Laws.mir
-              (Local.room-whole 𝓤 H A W (Declared'.row WindowRead.the-type) Laws.mir Path.refl)) d3
-          d5 : Typed.Typed 𝓤 H A 𝓣 E G20 b10 Δ0 (at5 bs)
-          d5 = Typed.g-pre 𝓤 H A W 𝓣 E G20 G21 b10 Δ0 (Typed.pass T20 T21 (s19 bs)) (at4 bs) (Scalar.g-room 𝓤 H A W E G20 10 Laws''.mir
-              (Local.room-whole 𝓤 H A W (Declared'.row HnsrPeerId.the-type) Laws''.mir Path.refl)) d4
-          d6 : Typed.Typed 𝓤 H A 𝓣 E G19 b10 Δ0 (at6 bs)
-          d6 = Typed.g-pre 𝓤 H A W 𝓣 E G19 G20 b10 Δ0 (Typed.pass T19 T20 (s18 bs)) (at5 bs) (Scalar.g-room 𝓤 H A W E G19 8 Laws'.mir
-              (Local.room-whole 𝓤 H A W (Declared'.row OpaqueRelayConfig.the-type) Laws'.mir Path.refl)) d5
-          d7 : Typed.Typed 𝓤 H A 𝓣 E G18 b11 Δ0 (at7 bs)
-          d7 = Typed.s-seq 𝓤 H A W 𝓣 E G18 G19 b9 b10 Δ0 (Typed.both (s17 bs)) (at6 bs) (Plain.t-call-plain 𝓤 H A W 𝓣 0 ps·7 r·7 (claims· .14)
-              (claims· .15) "hnsr_circuit::window::window_plan" (known .7) E (λ pos β. β) G18 (record { pos = 8; st = List.[]; d = 0; at = λ x. x },
-              (record { pos = 11; st = List.[]; d = 0; at = λ x. x }, (record { pos = 13; st = List.[]; d = 0; at = λ x. x }, (record { pos = 16; st =
-              List.[]; d = 0; at = λ x. x }, (record { pos = 10; st = List.[]; d = 0; at = λ x. x }, (record { pos = 14; st = List.[]; d = 0; at = λ
-              x. x }, tt),),),),),) 0 List.[] (Call.sub-id 𝓤 H A W (G18 .slots)) ((Yields.yields-copy 𝓤 H A W (λ ρ. Unit) (Declared'.row
+          d3 : Typed.Typed 𝓤 H A 𝓣 E G17 b7 Δ0 (at3 bs)
+          d3 = Typed.g-pre 𝓤 H A W 𝓣 E G17 G18 b7 Δ0 (Typed.pass T17 T18 (s16 bs)) (at2 bs) (Scalar.g-room 𝓤 H A W E G17 10 Laws''.mir
+              (Local.room-whole 𝓤 H A W (Declared'.row HnsrPeerId.the-type) Laws''.mir Path.refl)) d2
+          d4 : Typed.Typed 𝓤 H A 𝓣 E G16 b7 Δ0 (at4 bs)
+          d4 = Typed.g-pre 𝓤 H A W 𝓣 E G16 G17 b7 Δ0 (Typed.pass T16 T17 (s15 bs)) (at3 bs) (Scalar.g-room 𝓤 H A W E G16 8 Laws'.mir (Local.room-whole
+              𝓤 H A W (Declared'.row OpaqueRelayConfig.the-type) Laws'.mir Path.refl)) d3
+          d5 : Typed.Typed 𝓤 H A 𝓣 E G15 b7 Δ0 (at5 bs)
+          d5 = Typed.g-pre 𝓤 H A W 𝓣 E G15 G16 b7 Δ0 (Typed.pass T15 T16 (s14 bs)) (at4 bs) (Scalar.g-room 𝓤 H A W E G15 6 Laws''''''.mir
+              (Local.room-whole 𝓤 H A W (Declared'.row CircuitFound.the-type) Laws''''''.mir Path.refl)) d4
+          d6 : Typed.Typed 𝓤 H A 𝓣 E G14 b7 Δ0 (at6 bs)
+          d6 = Typed.g-pre 𝓤 H A W 𝓣 E G14 G15 b7 Δ0 (Typed.pass T14 T15 (s13 bs)) (at5 bs) (Scalar.g-room 𝓤 H A W E G14 5 Laws.mir (Local.room-whole
+              𝓤 H A W (Declared'.row WindowRead.the-type) Laws.mir Path.refl)) d5
+          d7 : Typed.Typed 𝓤 H A 𝓣 E G13 b8 Δ0 (at7 bs)
+          d7 = Typed.s-seq 𝓤 H A W 𝓣 E G13 G14 b6 b7 Δ0 (Typed.both (s12 bs)) (at6 bs) (Plain.t-call-plain 𝓤 H A W 𝓣 0 ps·4 r·4 (claims· .8) (claims·
+              .9) "hnsr_circuit::window::window_plan" (known .4) E (λ pos β. β) G13 (record { pos = 8; st = List.[]; d = 0; at = λ x. x }, (record {
+              pos = 5; st = List.[]; d = 0; at = λ x. x }, (record { pos = 6; st = List.[]; d = 0; at = λ x. x }, (record { pos = 13; st = List.[]; d
+              = 0; at = λ x. x }, (record { pos = 10; st = List.[]; d = 0; at = λ x. x }, (record { pos = 11; st = List.[]; d = 0; at = λ x. x },
+              tt),),),),),) 0 List.[] (Call.sub-id 𝓤 H A W (G13 .slots)) ((Yields.yields-copy 𝓤 H A W (λ ρ. Unit) (Declared'.row
               OpaqueRelayConfig.the-type) Path.refl (Copies.cStruct OpaqueRelayConfig.the-type Laws'.the-laws Laws'.the-copy .copy 𝓤 H A W)
               (Rows.whole (Declared'.row OpaqueRelayConfig.the-type)) (λ x. x) (λ x. x) (λ ρ told. Local.mem-whole 𝓤 H A W (Declared'.row
               OpaqueRelayConfig.the-type) ρ) λ ρ told. Local.whole-mem 𝓤 H A W (Declared'.row OpaqueRelayConfig.the-type) ρ, Path.refl,),
@@ -754,53 +630,53 @@ module _ (claims· : Claims) where
               (Declared'.row HnsrPeerId.the-type) ρ, Path.refl,), ((Yields.yields-copy 𝓤 H A W (λ ρ. Unit) (Declared'.row Outgoing.the-type) Path.refl
               (Copies.cStruct Outgoing.the-type Laws''''''''.the-laws Laws''''''''.the-copy .copy 𝓤 H A W) (Rows.whole (Declared'.row
               Outgoing.the-type)) (λ x. x) (λ x. x) (λ ρ told. Local.mem-whole 𝓤 H A W (Declared'.row Outgoing.the-type) ρ) λ ρ told. Local.whole-mem
-              𝓤 H A W (Declared'.row Outgoing.the-type) ρ, Path.refl,), tt,),),),),),) (Reads'.room-gone 𝓤 H A Laws''''''''''''.mir) tt Path.refl) d6
-          d8 : Typed.Typed 𝓤 H A 𝓣 E G17 b11 Δ0 (at8 bs)
-          d8 = Typed.g-pre 𝓤 H A W 𝓣 E G17 G18 b11 Δ0 (Typed.pass T17 T18 (s16 bs)) (at7 bs) (Scalar.g-room 𝓤 H A W E G17 15 Laws''''.mir
+              𝓤 H A W (Declared'.row Outgoing.the-type) ρ, Path.refl,), tt,),),),),),) (Reads.room-gone 𝓤 H A Laws'''''''''''.mir) tt Path.refl) d6
+          d8 : Typed.Typed 𝓤 H A 𝓣 E G12 b8 Δ0 (at8 bs)
+          d8 = Typed.g-pre 𝓤 H A W 𝓣 E G12 G13 b8 Δ0 (Typed.pass T12 T13 (s11 bs)) (at7 bs) (Scalar.g-room 𝓤 H A W E G12 12 Laws''''.mir
               (Local.room-whole 𝓤 H A W (Declared'.row ActionQuestion.the-type) Laws''''.mir Path.refl)) d7
-          d9 : Typed.Typed 𝓤 H A 𝓣 E G16 b11 Δ0 (at9 bs)
-          d9 = Typed.g-pre 𝓤 H A W 𝓣 E G16 G17 b11 Δ0 (Typed.pass T16 T17 (s15 bs)) (at8 bs) (Scalar.g-room 𝓤 H A W E G16 4 Laws'''.mir
+          d9 : Typed.Typed 𝓤 H A 𝓣 E G11 b8 Δ0 (at9 bs)
+          d9 = Typed.g-pre 𝓤 H A W 𝓣 E G11 G12 b8 Δ0 (Typed.pass T11 T12 (s10 bs)) (at8 bs) (Scalar.g-room 𝓤 H A W E G11 3 Laws'''.mir
               (Local.room-whole 𝓤 H A W (Declared'.row Places.the-type) Laws'''.mir Path.refl)) d8
-          d10 : Typed.Typed 𝓤 H A 𝓣 E G15 b12 Δ0 (at10 bs)
-          d10 = Typed.s-seq 𝓤 H A W 𝓣 E G15 G16 b8 b11 Δ0 (Typed.both (s14 bs)) (at9 bs) (Plain.t-call-plain 𝓤 H A W 𝓣 1 ps·6 r·6 (claims· .12)
-              (claims· .13) "hnsr_circuit::tables::inflight::scan_actions" (known .6) E (λ pos β. β) G15 (record { pos = 2; ty = Syntax.tyRef
-              (Syntax.named 1) Syntax.imm InflightAction.to; ref = λ x. x; }, (record { pos = 4; st = List.[]; d = 0; at = λ x. x }, (record { pos =
-              15; st = List.[]; d = 0; at = λ x. x }, tt),),) 16 (1 ∷ List.[]) (Call.sub-id 𝓤 H A W (G15 .slots)) (ShrSlice.spares-sslice 𝓤 H A W
-              InflightAction.row ref1 1, Shared.reads-sslice 𝓤 H A W InflightAction.row ref1 1, Path.refl, ((Yields.yields-copy 𝓤 H A W (λ ρ. Unit)
-              (Declared'.row Places.the-type) Path.refl (Copies.cStruct Places.the-type Laws'''.the-laws Laws'''.the-copy .copy 𝓤 H A W) (Rows.whole
-              (Declared'.row Places.the-type)) (λ x. x) (λ x. x) (λ ρ told. Local.mem-whole 𝓤 H A W (Declared'.row Places.the-type) ρ) λ ρ told.
-              Local.whole-mem 𝓤 H A W (Declared'.row Places.the-type) ρ, Path.refl,), ((Yields.yields-copy 𝓤 H A W (λ ρ. Unit) (Declared'.row
-              ActionQuestion.the-type) Path.refl (Copies.cStruct ActionQuestion.the-type Laws''''.the-laws Laws''''.the-copy .copy 𝓤 H A W)
-              (Rows.whole (Declared'.row ActionQuestion.the-type)) (λ x. x) (λ x. x) (λ ρ told. Local.mem-whole 𝓤 H A W (Declared'.row
-              ActionQuestion.the-type) ρ) λ ρ told. Local.whole-mem 𝓤 H A W (Declared'.row ActionQuestion.the-type) ρ, Path.refl,), tt,),),)
-              (Reads'.room-gone 𝓤 H A Laws'''''.mir) (tt, tt) Path.refl) d9
-          d11 : Typed.Typed 𝓤 H A 𝓣 E G14 b12 Δ0 (at11 bs)
-          d11 = Typed.g-pre 𝓤 H A W 𝓣 E G14 G15 b12 Δ0 (Typed.pass T14 T15 (s13 bs)) (at10 bs) (Scalar.g-room 𝓤 H A W E G14 3 Laws'''''''''''.mir
-              (Local.room-whole 𝓤 H A W (Declared'.row OpaqueRelayRuntime.the-type) Laws'''''''''''.mir Path.refl)) d10
-          d12 : Typed.Typed 𝓤 H A 𝓣 E G13 b13 Δ0 (at12 bs)
-          d12 = Typed.s-seq 𝓤 H A W 𝓣 E G13 G14 b7 b12 Δ0 (Typed.both (s12 bs)) (at11 bs) (Plain.t-call-plain 𝓤 H A W 𝓣 0 ps·5 r·5 (claims· .10)
-              (claims· .11) "hnsr_circuit::queue::asking" (known .5) E (λ pos β. β) G13 (record { pos = 3; st = List.[]; d = 0; at = λ x. x }, (record
-              { pos = 14; st = List.[]; d = 0; at = λ x. x }, tt),) 15 List.[] (Call.sub-id 𝓤 H A W (G13 .slots)) ((Yields.yields-copy 𝓤 H A W (λ ρ.
-              Unit) (Declared'.row OpaqueRelayRuntime.the-type) Path.refl (Copies.cStruct OpaqueRelayRuntime.the-type Laws'''''''''''.the-laws
-              Laws'''''''''''.the-copy .copy 𝓤 H A W) (Rows.whole (Declared'.row OpaqueRelayRuntime.the-type)) (λ x. x) (λ x. x) (λ ρ told.
+          d10 : Typed.Typed 𝓤 H A 𝓣 E G10 b9 Δ0 (at10 bs)
+          d10 = Typed.s-seq 𝓤 H A W 𝓣 E G10 G11 b5 b8 Δ0 (Typed.both (s9 bs)) (at9 bs) (Plain.t-call-plain 𝓤 H A W 𝓣 1 ps·3 r·3 (claims· .6) (claims·
+              .7) "hnsr_circuit::tables::inflight::scan_actions" (known .3) E (λ pos β. β) G10 (record { pos = 1; ty = Syntax.tyRef (Syntax.named 0)
+              Syntax.imm InflightAction.to; ref = λ x. x; }, (record { pos = 3; st = List.[]; d = 0; at = λ x. x }, (record { pos = 12; st = List.[];
+              d = 0; at = λ x. x }, tt),),) 13 (0 ∷ List.[]) (Call.sub-id 𝓤 H A W (G10 .slots)) (ShrSlice.spares-sslice 𝓤 H A W InflightAction.row
+              ref0 0, Shared.reads-sslice 𝓤 H A W InflightAction.row ref0 0, Path.refl, ((Yields.yields-copy 𝓤 H A W (λ ρ. Unit) (Declared'.row
+              Places.the-type) Path.refl (Copies.cStruct Places.the-type Laws'''.the-laws Laws'''.the-copy .copy 𝓤 H A W) (Rows.whole (Declared'.row
+              Places.the-type)) (λ x. x) (λ x. x) (λ ρ told. Local.mem-whole 𝓤 H A W (Declared'.row Places.the-type) ρ) λ ρ told. Local.whole-mem 𝓤 H
+              A W (Declared'.row Places.the-type) ρ, Path.refl,), ((Yields.yields-copy 𝓤 H A W (λ ρ. Unit) (Declared'.row ActionQuestion.the-type)
+              Path.refl (Copies.cStruct ActionQuestion.the-type Laws''''.the-laws Laws''''.the-copy .copy 𝓤 H A W) (Rows.whole (Declared'.row
+              ActionQuestion.the-type)) (λ x. x) (λ x. x) (λ ρ told. Local.mem-whole 𝓤 H A W (Declared'.row ActionQuestion.the-type) ρ) λ ρ told.
+              Local.whole-mem 𝓤 H A W (Declared'.row ActionQuestion.the-type) ρ, Path.refl,), tt,),),) (Reads.room-gone 𝓤 H A Laws'''''.mir) (tt, tt)
+              Path.refl) d9
+          d11 : Typed.Typed 𝓤 H A 𝓣 E G9 b9 Δ0 (at11 bs)
+          d11 = Typed.g-pre 𝓤 H A W 𝓣 E G9 G10 b9 Δ0 (Typed.pass T9 T10 (s8 bs)) (at10 bs) (Scalar.g-room 𝓤 H A W E G9 2 Laws''''''''''.mir
+              (Local.room-whole 𝓤 H A W (Declared'.row OpaqueRelayRuntime.the-type) Laws''''''''''.mir Path.refl)) d10
+          d12 : Typed.Typed 𝓤 H A 𝓣 E G8 b10 Δ0 (at12 bs)
+          d12 = Typed.s-seq 𝓤 H A W 𝓣 E G8 G9 b4 b9 Δ0 (Typed.both (s7 bs)) (at11 bs) (Plain.t-call-plain 𝓤 H A W 𝓣 0 ps·2 r·2 (claims· .4) (claims·
+              .5) "hnsr_circuit::queue::asking" (known .2) E (λ pos β. β) G8 (record { pos = 2; st = List.[]; d = 0; at = λ x. x }, (record { pos =
+              11; st = List.[]; d = 0; at = λ x. x }, tt),) 12 List.[] (Call.sub-id 𝓤 H A W (G8 .slots)) ((Yields.yields-copy 𝓤 H A W (λ ρ. Unit)
+              (Declared'.row OpaqueRelayRuntime.the-type) Path.refl (Copies.cStruct OpaqueRelayRuntime.the-type Laws''''''''''.the-laws
+              Laws''''''''''.the-copy .copy 𝓤 H A W) (Rows.whole (Declared'.row OpaqueRelayRuntime.the-type)) (λ x. x) (λ x. x) (λ ρ told.
               Local.mem-whole 𝓤 H A W (Declared'.row OpaqueRelayRuntime.the-type) ρ) λ ρ told. Local.whole-mem 𝓤 H A W (Declared'.row
               OpaqueRelayRuntime.the-type) ρ, Path.refl,), ((Yields.yields-copy 𝓤 H A W (λ ρ. Unit) (Declared'.row Outgoing.the-type) Path.refl
               (Copies.cStruct Outgoing.the-type Laws''''''''.the-laws Laws''''''''.the-copy .copy 𝓤 H A W) (Rows.whole (Declared'.row
               Outgoing.the-type)) (λ x. x) (λ x. x) (λ ρ told. Local.mem-whole 𝓤 H A W (Declared'.row Outgoing.the-type) ρ) λ ρ told. Local.whole-mem
-              𝓤 H A W (Declared'.row Outgoing.the-type) ρ, Path.refl,), tt,),) (Reads'.room-gone 𝓤 H A Laws''''.mir) tt Path.refl) d11
-          d13 : Typed.Typed 𝓤 H A 𝓣 E G12 b13 Δ0 (at13 bs)
-          d13 = Typed.g-pre 𝓤 H A W 𝓣 E G12 G13 b13 Δ0 (Typed.pass T12 T13 (s11 bs)) (at12 bs) (Scalar.g-room 𝓤 H A W E G12 9 Laws'''''''.mir
+              𝓤 H A W (Declared'.row Outgoing.the-type) ρ, Path.refl,), tt,),) (Reads.room-gone 𝓤 H A Laws''''.mir) tt Path.refl) d11
+          d13 : Typed.Typed 𝓤 H A 𝓣 E G7 b10 Δ0 (at13 bs)
+          d13 = Typed.g-pre 𝓤 H A W 𝓣 E G7 G8 b10 Δ0 (Typed.pass T7 T8 (s6 bs)) (at12 bs) (Scalar.g-room 𝓤 H A W E G7 9 Laws'''''''.mir
               (Local.room-whole 𝓤 H A W (Declared.row InflightKind.the-type) Laws'''''''.mir Path.refl)) d12
-          d14 : Typed.Typed 𝓤 H A 𝓣 E G11 b13 Δ0 (at14 bs)
-          d14 = Typed.g-pre 𝓤 H A W 𝓣 E G11 G12 b13 Δ0 (Typed.pass T11 T12 (s10 bs)) (at13 bs) (Scalar.g-room 𝓤 H A W E G11 5 Laws''''''''''.mir
-              (Local.room-whole 𝓤 H A W (Declared'.row RelayPacket.the-type) Laws''''''''''.mir Path.refl)) d13
-          d15 : Typed.Typed 𝓤 H A 𝓣 E G10 b14 Δ0 (at15 bs)
-          d15 = Typed.s-seq 𝓤 H A W 𝓣 E G10 G11 b6 b13 Δ0 (Typed.both (s9 bs)) (at14 bs) (Plain.t-call-plain 𝓤 H A W 𝓣 0 ps·4 r·4 (claims· .8)
-              (claims· .9) "hnsr_circuit::message::passed_on" (known .4) E (λ pos β. β) G10 (record { pos = 5; st = List.[]; d = 0; at = λ x. x },
-              (record { pos = 13; st = List.[]; d = 0; at = λ x. x }, (record { pos = 10; st = List.[]; d = 0; at = λ x. x }, (record { pos = 9; st =
-              List.[]; d = 0; at = λ x. x }, tt),),),) 14 List.[] (Call.sub-id 𝓤 H A W (G10 .slots)) ((Yields.yields-copy 𝓤 H A W (λ ρ. Unit)
-              (Declared'.row RelayPacket.the-type) Path.refl (Copies.cStruct RelayPacket.the-type Laws''''''''''.the-laws Laws''''''''''.the-copy
-              .copy 𝓤 H A W) (Rows.whole (Declared'.row RelayPacket.the-type)) (λ x. x) (λ x. x) (λ ρ told. Local.mem-whole 𝓤 H A W (Declared'.row
+          d14 : Typed.Typed 𝓤 H A 𝓣 E G6 b10 Δ0 (at14 bs)
+          d14 = Typed.g-pre 𝓤 H A W 𝓣 E G6 G7 b10 Δ0 (Typed.pass T6 T7 (s5 bs)) (at13 bs) (Scalar.g-room 𝓤 H A W E G6 4 Laws'''''''''.mir
+              (Local.room-whole 𝓤 H A W (Declared'.row RelayPacket.the-type) Laws'''''''''.mir Path.refl)) d13
+          d15 : Typed.Typed 𝓤 H A 𝓣 E G5 b11 Δ0 (at15 bs)
+          d15 = Typed.s-seq 𝓤 H A W 𝓣 E G5 G6 b3 b10 Δ0 (Typed.both (s4 bs)) (at14 bs) (Plain.t-call-plain 𝓤 H A W 𝓣 0 ps·1 r·1 (claims· .2) (claims·
+              .3) "hnsr_circuit::message::passed_on" (known .1) E (λ pos β. β) G5 (record { pos = 4; st = List.[]; d = 0; at = λ x. x }, (record { pos
+              = 6; st = List.[]; d = 0; at = λ x. x }, (record { pos = 10; st = List.[]; d = 0; at = λ x. x }, (record { pos = 9; st = List.[]; d = 0;
+              at = λ x. x }, tt),),),) 11 List.[] (Call.sub-id 𝓤 H A W (G5 .slots)) ((Yields.yields-copy 𝓤 H A W (λ ρ. Unit) (Declared'.row
+              RelayPacket.the-type) Path.refl (Copies.cStruct RelayPacket.the-type Laws'''''''''.the-laws Laws'''''''''.the-copy .copy 𝓤 H A W)
+              (Rows.whole (Declared'.row RelayPacket.the-type)) (λ x. x) (λ x. x) (λ ρ told. Local.mem-whole 𝓤 H A W (Declared'.row
               RelayPacket.the-type) ρ) λ ρ told. Local.whole-mem 𝓤 H A W (Declared'.row RelayPacket.the-type) ρ, Path.refl,), ((Yields.yields-copy 𝓤 H
               A W (λ ρ. Unit) (Declared'.row CircuitFound.the-type) Path.refl (Copies.cStruct CircuitFound.the-type Laws''''''.the-laws
               Laws''''''.the-copy .copy 𝓤 H A W) (Rows.whole (Declared'.row CircuitFound.the-type)) (λ x. x) (λ x. x) (λ ρ told. Local.mem-whole 𝓤 H A
@@ -811,115 +687,94 @@ module _ (claims· : Claims) where
               Path.refl,), ((Yields.yields-copy 𝓤 H A W (λ ρ. Unit) (Declared.row InflightKind.the-type) Path.refl (Copies.cEnum InflightKind.the-type
               Laws'''''''.the-laws Laws'''''''.the-copy .copy 𝓤 H A W) (Rows.whole (Declared.row InflightKind.the-type)) (λ x. x) (λ x. x) (λ ρ told.
               Local.mem-whole 𝓤 H A W (Declared.row InflightKind.the-type) ρ) λ ρ told. Local.whole-mem 𝓤 H A W (Declared.row InflightKind.the-type)
-              ρ, Path.refl,), tt,),),),) (Reads'.room-gone 𝓤 H A Laws''''''''.mir) tt Path.refl) d14
-          d16 : Typed.Typed 𝓤 H A 𝓣 E G9 b14 Δ0 (at16 bs)
-          d16 = Typed.g-pre 𝓤 H A W 𝓣 E G9 G10 b14 Δ0 (Typed.pass T9 T10 (s8 bs)) (at15 bs) (Scalar.g-room 𝓤 H A W E G9 12 Laws'''''''''.mir
-              (Local.room-whole 𝓤 H A W (Declared'.row Question.the-type) Laws'''''''''.mir Path.refl)) d15
-          d17 : Typed.Typed 𝓤 H A 𝓣 E G8 b15 Δ0 (at17 bs)
-          d17 = Typed.s-seq 𝓤 H A W 𝓣 E G8 G9 b5 b14 Δ0 (Typed.both (s7 bs)) (at16 bs) (Plain.t-call-plain 𝓤 H A W 𝓣 1 ps·3 r·3 (claims· .6) (claims·
-              .7) "hnsr_circuit::lookup::look_up_circuit" (known .3) E (λ pos β. β) G8 (record { pos = 1; ty = Syntax.tyRef (Syntax.named 0)
-              Syntax.imm RelayCircuit.to; ref = λ x. x; }, (record { pos = 4; st = List.[]; d = 0; at = λ x. x }, (record { pos = 12; st = List.[]; d
-              = 0; at = λ x. x }, tt),),) 13 (0 ∷ List.[]) (Call.sub-id 𝓤 H A W (G8 .slots)) (ShrSlice.spares-sslice 𝓤 H A W RelayCircuit.row ref0 0,
-              Shared.reads-sslice 𝓤 H A W RelayCircuit.row ref0 0, Path.refl, ((Yields.yields-copy 𝓤 H A W (λ ρ. Unit) (Declared'.row Places.the-type)
-              Path.refl (Copies.cStruct Places.the-type Laws'''.the-laws Laws'''.the-copy .copy 𝓤 H A W) (Rows.whole (Declared'.row Places.the-type))
-              (λ x. x) (λ x. x) (λ ρ told. Local.mem-whole 𝓤 H A W (Declared'.row Places.the-type) ρ) λ ρ told. Local.whole-mem 𝓤 H A W (Declared'.row
-              Places.the-type) ρ, Path.refl,), ((Yields.yields-copy 𝓤 H A W (λ ρ. Unit) (Declared'.row Question.the-type) Path.refl (Copies.cStruct
-              Question.the-type Laws'''''''''.the-laws Laws'''''''''.the-copy .copy 𝓤 H A W) (Rows.whole (Declared'.row Question.the-type)) (λ x. x)
-              (λ x. x) (λ ρ told. Local.mem-whole 𝓤 H A W (Declared'.row Question.the-type) ρ) λ ρ told. Local.whole-mem 𝓤 H A W (Declared'.row
-              Question.the-type) ρ, Path.refl,), tt,),),) (Reads'.room-gone 𝓤 H A Laws''''''.mir) (tt, tt) Path.refl) d16
-          d18 : Typed.Typed 𝓤 H A 𝓣 E G7 b16 Δ0 (at18 bs)
-          d18 = Typed.s-seq 𝓤 H A W 𝓣 E G7 G8 b4 b15 Δ0 (Typed.both (s6 bs)) (at17 bs) (Plain.t-call-plain 𝓤 H A W 𝓣 0 ps·2 r·2 (claims· .4) (claims·
-              .5) "hnsr_circuit::question::at" (known .2) E (λ pos β. β) G7 (Num.vFld 5 ((Syntax.field 1) ∷ List.[]) 8 λ x. RelayPacket.struct
-              .as-values x .1 .0, (Num.vLit 0, tt),) 12 List.[] (Call.sub-id 𝓤 H A W (G7 .slots)) ((Reads.reads-field 𝓤 H A W RelayPacket.the-type
-              Laws''''''''''.the-laws 1 (Syntax.tyInt Syntax.w64) 8 Path.refl, Path.refl,), (tt, tt),) (Reads'.room-gone 𝓤 H A Laws'''''''''.mir) tt
-              Path.refl) d17
-          d19 : Typed.Typed 𝓤 H A 𝓣 E G6 b17 Δ0 (at19 bs)
-          d19 = Typed.s-seq 𝓤 H A W 𝓣 E G6 G7 b3 b16 Δ0 (Typed.both (s5 bs)) (at18 bs) (Plain.t-call-plain 𝓤 H A W 𝓣 1 ps·1 r·1 (claims· .2) (claims·
-              .3) "hnsr_body::data_body::WindowBody::decode" (known .1) E (λ pos β. β) G6 (record { pos = 7; ty = Syntax.tyRef (Syntax.named 3)
-              Syntax.imm (Syntax.tyInt Syntax.w8); ref = λ x. x; }, tt,) 11 (3 ∷ List.[]) (Call.sub-id 𝓤 H A W (G6 .slots)) (ShrSlice.spares-sslice 𝓤
-              H A W (Referent.rtF (Referent.fInt Syntax.w8)) ref3 3, Shared.reads-sslice 𝓤 H A W (Referent.rtF (Referent.fInt Syntax.w8)) ref3 3,
-              Path.refl, tt,) (Reads'.room-gone 𝓤 H A Laws.mir) (tt, tt) Path.refl) d18
-          d20 : Typed.Typed 𝓤 H A 𝓣 E G5 b18 Δ0 (at20 bs)
-          d20 = Typed.s-seq 𝓤 H A W 𝓣 E G5 G6 b2 b17 Δ0 (Typed.both (s4 bs)) (at19 bs) (Plain.t-call-plain 𝓤 H A W 𝓣 1 ps·0 r·0 (claims· .0) (claims·
-              .1) "hnsr_circuit::peer::peer_of" (known .0) E (λ pos β. β) G5 (record { pos = 6; ty = Syntax.tyRef (Syntax.named 2) Syntax.imm
-              (Syntax.tyInt Syntax.w8); ref = λ x. x; }, tt,) 10 (2 ∷ List.[]) (Call.sub-id 𝓤 H A W (G5 .slots)) (ShrSlice.spares-sslice 𝓤 H A W
-              (Referent.rtF (Referent.fInt Syntax.w8)) ref2 2, Shared.reads-sslice 𝓤 H A W (Referent.rtF (Referent.fInt Syntax.w8)) ref2 2, Path.refl,
-              tt,) (Reads'.room-gone 𝓤 H A Laws''.mir) (tt, tt) Path.refl) d19
-          d21 : Typed.Typed 𝓤 H A 𝓣 E G4 b19 Δ0 (at21 bs)
-          d21 = Typed.s-seq 𝓤 H A W 𝓣 E G4 G5 b1 b18 Δ0 (Typed.pass T4 T5 (s3 bs)) (at20 bs) (Make.t-enum-make-wt 𝓤 H A W E 𝓣 InflightKind.the-type
-              Laws'''''''.the-laws Laws'''''''.the-plain tt G4 9 ((Scalar.oInt Syntax.w8 3) ∷ List.[]) (λ m. InflightKind.enum .make (Logic.inr
-              (Logic.inr (Logic.inr (Logic.inl tt))))) (Reads'.room-gone 𝓤 H A Laws'''''''.mir) (tt, tt) Path.refl (λ m wa. Make.made-val
+              ρ, Path.refl,), tt,),),),) (Reads.room-gone 𝓤 H A Laws''''''''.mir) tt Path.refl) d14
+          d16 : Typed.Typed 𝓤 H A 𝓣 E G4 b12 Δ0 (at16 bs)
+          d16 = Typed.s-seq 𝓤 H A W 𝓣 E G4 G5 b2 b11 Δ0 (Typed.both (s3 bs)) (at15 bs) (Plain.t-call-plain 𝓤 H A W 𝓣 1 ps·0 r·0 (claims· .0) (claims·
+              .1) "hnsr_circuit::peer::peer_of" (known .0) E (λ pos β. β) G4 (record { pos = 7; ty = Syntax.tyRef (Syntax.named 1) Syntax.imm
+              (Syntax.tyInt Syntax.w8); ref = λ x. x; }, tt,) 10 (1 ∷ List.[]) (Call.sub-id 𝓤 H A W (G4 .slots)) (ShrSlice.spares-sslice 𝓤 H A W
+              (Referent.rtF (Referent.fInt Syntax.w8)) ref1 1, Shared.reads-sslice 𝓤 H A W (Referent.rtF (Referent.fInt Syntax.w8)) ref1 1, Path.refl,
+              tt,) (Reads.room-gone 𝓤 H A Laws''.mir) (tt, tt) Path.refl) d15
+          d17 : Typed.Typed 𝓤 H A 𝓣 E G3 b13 Δ0 (at17 bs)
+          d17 = Typed.s-seq 𝓤 H A W 𝓣 E G3 G4 b1 b12 Δ0 (Typed.pass T3 T4 (s2 bs)) (at16 bs) (Make.t-enum-make-wt 𝓤 H A W E 𝓣 InflightKind.the-type
+              Laws'''''''.the-laws Laws'''''''.the-plain tt G3 9 ((Scalar.oInt Syntax.w8 3) ∷ List.[]) (λ m. InflightKind.enum .make (Logic.inr
+              (Logic.inr (Logic.inr (Logic.inl tt))))) (Reads.room-gone 𝓤 H A Laws'''''''.mir) (tt, tt) Path.refl (λ m wa. Make.made-val
               InflightKind.the-type Laws'''''''.the-laws List.[] (InflightKind.enum .make (Logic.inr (Logic.inr (Logic.inr (Logic.inl tt))))) tt (wa
               .1)) λ m wa. Make.made-is InflightKind.the-type Laws'''''''.the-laws List.[] (InflightKind.enum .make (Logic.inr (Logic.inr (Logic.inr
-              (Logic.inl tt))))) tt (wa .1)) d20
-          d22 : Typed.Typed 𝓤 H A 𝓣 E G3 b20 Δ0 (at22 bs)
-          d22 = Typed.s-seq 𝓤 H A W 𝓣 E G3 G4 b0 b19 Δ0 (Typed.both (s2 bs)) (at21 bs) (WayStmt.t-way-copy-out 𝓤 H A W E 𝓣 (Declared'.row
+              (Logic.inl tt))))) tt (wa .1)) d16
+          d18 : Typed.Typed 𝓤 H A 𝓣 E G2 b14 Δ0 (at18 bs)
+          d18 = Typed.s-seq 𝓤 H A W 𝓣 E G2 G3 b0 b13 Δ0 (Typed.both (s1 bs)) (at17 bs) (WayStmt.t-way-copy-out 𝓤 H A W E 𝓣 (Declared'.row
               OpaqueRelayConfig.the-type) Path.refl (Copies.cStruct OpaqueRelayConfig.the-type Laws'.the-laws Laws'.the-copy .copy 𝓤 H A W) (λ ρ.
-              Unit) G3 (Row.out 3 (G3 .locals)) (λ u. Row.drop 3 (G3 .locals) u) (G3 .slots) 3 (λ t. (Syntax.field 4) ∷ t) Laws'.mir Laws'.mir 8
+              Unit) G2 (Row.out 2 (G2 .locals)) (λ u. Row.drop 2 (G2 .locals) u) (G2 .slots) 2 (λ t. (Syntax.field 4) ∷ t) Laws'.mir Laws'.mir 8
               (Rows.whole (Declared'.row OpaqueRelayConfig.the-type)) (λ x. x) (λ u. At.getAt (OpaqueRelayRuntime.the-type .parts) 4
-              (OpaqueRelayRuntime.struct .as-values (u .1 .1 .1 .0))) (λ u. (Row.hd 0 (Row.tl (Row.tl (Row.tl bs))), Nat._+_ 0 40)) (λ T′. record {
-              locals = Row.setRow 3 (3, Rows.whole (Declared'.row OpaqueRelayRuntime.the-type)) T′; slots = G3 .slots; }) (λ u T′ m′. Row.set 3 (3,
-              Rows.whole (Declared'.row OpaqueRelayRuntime.the-type)) (u .1 .1 .1 .0) T′ m′) (λ u. Unit) (λ x. Unit) (Own.told-none 𝓤 H A (G3 .slots))
+              (OpaqueRelayRuntime.struct .as-values (u .1 .1 .0))) (λ u. (Row.hd 0 (Row.tl (Row.tl bs)), Nat._+_ 0 40)) (λ T′. record { locals =
+              Row.setRow 2 (2, Rows.whole (Declared'.row OpaqueRelayRuntime.the-type)) T′; slots = G2 .slots; }) (λ u T′ m′. Row.set 2 (2, Rows.whole
+              (Declared'.row OpaqueRelayRuntime.the-type)) (u .1 .1 .0) T′ m′) (λ u. Unit) (λ x. Unit) (Own.told-none 𝓤 H A (G2 .slots))
               (DerefMove.learns-nothing 𝓤 H A (Declared'.row OpaqueRelayConfig.the-type)) (λ ρ told u asked. Way'.w-partˢ 𝓤 H A W E (Declared'.row
-              OpaqueRelayRuntime.the-type) (Declared'.row OpaqueRelayConfig.the-type) Laws'''''''''''.mir Laws'.mir 4 40 (u .1 .1 .1 .0) (At.getAt
-              (OpaqueRelayRuntime.the-type .parts) 4 (OpaqueRelayRuntime.struct .as-values (u .1 .1 .1 .0))) (Row.hd 0 (Row.tl (Row.tl (Row.tl bs))),
-              0) (Way.w-look 𝓤 H A W E (Way.w-local 𝓤 H A W E G3 ρ u (G3 .slots) 3 (Declared'.row OpaqueRelayRuntime.the-type) (Rows.whole
-              (Declared'.row OpaqueRelayRuntime.the-type)) (λ x. x) (λ x. x) (u .1 .1 .1 .0) (Local.mem-whole 𝓤 H A W (Declared'.row
-              OpaqueRelayRuntime.the-type) ρ (u .1 .1 .1 .0) (Row.hd 0 (Row.tl (Row.tl (Row.tl bs))))) (Local.whole-mem 𝓤 H A W (Declared'.row
-              OpaqueRelayRuntime.the-type) ρ (u .1 .1 .1 .0) (Row.hd 0 (Row.tl (Row.tl (Row.tl bs))))))) Path.refl λ q. Inner.cut-record 𝓤 H A q
-              (Declared'.row OpaqueRelayRuntime.the-type) OpaqueRelayConfig.the-type 40 (u .1 .1 .1 .0) (u .1 .1 .1 .0) (At.getAt
-              (OpaqueRelayRuntime.the-type .parts) 4 (OpaqueRelayRuntime.struct .as-values (u .1 .1 .1 .0))) (At.getAt (OpaqueRelayRuntime.the-type
-              .parts) 4 (OpaqueRelayRuntime.struct .as-values (u .1 .1 .1 .0))) (Row.hd 0 (Row.tl (Row.tl (Row.tl bs))), 0) (Behind.look-at 𝓤 H A W q
-              OpaqueRelayRuntime.the-type Laws'''''''''''.the-laws 4 40 Path.refl Path.refl (Row.hd 0 (Row.tl (Row.tl (Row.tl bs))), 0) (u .1 .1 .1
-              .0) (OpaqueRelayRuntime.struct .as-values (u .1 .1 .1 .0)) Path.refl)) (Reads'.room-gone 𝓤 H A Laws'.mir) (Yields.makes-mem 𝓤 H A W (λ
-              ρ. Unit) (Declared'.row OpaqueRelayConfig.the-type) Path.refl (Rows.whole (Declared'.row OpaqueRelayConfig.the-type)) (λ x. x) λ ρ told.
-              Local.whole-mem 𝓤 H A W (Declared'.row OpaqueRelayConfig.the-type) ρ) Path.refl Path.refl Path.refl) d21
-          d23 : Typed.Typed 𝓤 H A 𝓣 E G2 b20 Δ0 (at23 bs)
-          d23 = Typed.g-pre 𝓤 H A W 𝓣 E G2 G3 b20 Δ0 (Typed.give (s1 bs)) (at22 bs) (Know.g-shs-known 𝓤 H A W (Referent.fInt Syntax.w8) E G2 7 3 ref3
-              life3 0 (λ x. x) record { fits = Dec.lit< tt } (Reads'.as-is 𝓤 H A (Rows.sslice (Referent.rtF (Referent.fInt Syntax.w8)) ref3 3))
-              Path.refl tt) d22
-          d24 : Typed.Typed 𝓤 H A 𝓣 E G0 b20 Δ0 (at24 bs)
-          d24 = Typed.g-pre 𝓤 H A W 𝓣 E G0 G2 b20 Δ0 (Typed.give (s0 bs)) (at23 bs) (Know.g-shs-known 𝓤 H A W (Referent.fInt Syntax.w8) E G0 6 2 ref2
-              life2 0 (λ x. x) record { fits = Dec.lit< tt } (Reads'.as-is 𝓤 H A (Rows.sslice (Referent.rtF (Referent.fInt Syntax.w8)) ref2 2))
-              Path.refl tt) d23
-          pub typed : Typed.Typed 𝓤 H A 𝓣 E (Function.Γin 4 ps r xs m κs qs) b20 (Function.Δret 4 ps r xs m κs qs) (Φ bs)
-          typed = d24
-      module _ (κs : Lifetimes.Lfts 4) where
+              OpaqueRelayRuntime.the-type) (Declared'.row OpaqueRelayConfig.the-type) Laws''''''''''.mir Laws'.mir 4 40 (u .1 .1 .0) (At.getAt
+              (OpaqueRelayRuntime.the-type .parts) 4 (OpaqueRelayRuntime.struct .as-values (u .1 .1 .0))) (Row.hd 0 (Row.tl (Row.tl bs)), 0)
+              (Way.w-look 𝓤 H A W E (Way.w-local 𝓤 H A W E G2 ρ u (G2 .slots) 2 (Declared'.row OpaqueRelayRuntime.the-type) (Rows.whole (Declared'.row
+              OpaqueRelayRuntime.the-type)) (λ x. x) (λ x. x) (u .1 .1 .0) (Local.mem-whole 𝓤 H A W (Declared'.row OpaqueRelayRuntime.the-type) ρ (u
+              .1 .1 .0) (Row.hd 0 (Row.tl (Row.tl bs)))) (Local.whole-mem 𝓤 H A W (Declared'.row OpaqueRelayRuntime.the-type) ρ (u .1 .1 .0) (Row.hd 0
+              (Row.tl (Row.tl bs)))))) Path.refl λ q. Inner.cut-record 𝓤 H A q (Declared'.row OpaqueRelayRuntime.the-type) OpaqueRelayConfig.the-type
+              40 (u .1 .1 .0) (u .1 .1 .0) (At.getAt (OpaqueRelayRuntime.the-type .parts) 4 (OpaqueRelayRuntime.struct .as-values (u .1 .1 .0)))
+              (At.getAt (OpaqueRelayRuntime.the-type .parts) 4 (OpaqueRelayRuntime.struct .as-values (u .1 .1 .0))) (Row.hd 0 (Row.tl (Row.tl bs)), 0)
+              (Behind.look-at 𝓤 H A W q OpaqueRelayRuntime.the-type Laws''''''''''.the-laws 4 40 Path.refl Path.refl (Row.hd 0 (Row.tl (Row.tl bs)),
+              0) (u .1 .1 .0) (OpaqueRelayRuntime.struct .as-values (u .1 .1 .0)) Path.refl)) (Reads.room-gone 𝓤 H A Laws'.mir) (Yields.makes-mem 𝓤 H
+              A W (λ ρ. Unit) (Declared'.row OpaqueRelayConfig.the-type) Path.refl (Rows.whole (Declared'.row OpaqueRelayConfig.the-type)) (λ x. x) λ
+              ρ told. Local.whole-mem 𝓤 H A W (Declared'.row OpaqueRelayConfig.the-type) ρ) Path.refl Path.refl Path.refl) d17
+          d19 : Typed.Typed 𝓤 H A 𝓣 E G0 b14 Δ0 (at19 bs)
+          d19 = Typed.g-pre 𝓤 H A W 𝓣 E G0 G2 b14 Δ0 (Typed.give (s0 bs)) (at18 bs) (Know.g-shs-known 𝓤 H A W (Referent.fInt Syntax.w8) E G0 7 1 ref1
+              life1 0 (λ x. x) record { fits = Dec.lit< tt } (Reads.as-is 𝓤 H A (Rows.sslice (Referent.rtF (Referent.fInt Syntax.w8)) ref1 1))
+              Path.refl tt) d18
+          pub typed : Typed.Typed 𝓤 H A 𝓣 E (Function.Γin 2 ps r xs m κs qs) b14 (Function.Δret 2 ps r xs m κs qs) (Φ bs)
+          typed = d19
+      module _ (κs : Lifetimes.Lfts 2) where
         pub record Args : Type 0 where
-          pub circuits : Kinds.Den { n = 4 } κs (ShrSlice.pShrS RelayCircuit.row 0 tt)
-          pub inflight : Kinds.Den { n = 4 } κs (ShrSlice.pShrS InflightAction.row 1 tt)
-          pub runtime : Kinds.Den { n = 4 } κs (Value.pVal record { ty = Declared'.row OpaqueRelayRuntime.the-type; one = Path.refl; val =
-              Laws''''''''''''''.val OpaqueRelayRuntime.the-type Laws'''''''''''.the-laws; tells = Laws''''''''''''''.tells
-              OpaqueRelayRuntime.the-type Laws'''''''''''.the-laws; still = Laws''''''''''''''.still OpaqueRelayRuntime.the-type
-              Laws'''''''''''.the-copy Exit.yes; row = Rows.whole (Declared'.row OpaqueRelayRuntime.the-type); rd = λ x. x; mk = λ x. x; } λ M 𝓤 H A
-              W. record { copies = Laws''''''''''''''.copy OpaqueRelayRuntime.the-type Laws'''''''''''.the-copy 𝓤 H A W; lawful =
-              Laws''''''''''''''.lawful OpaqueRelayRuntime.the-type Laws'''''''''''.the-laws 𝓤 H A W; makes = Laws''''''''''''''.makes
-              OpaqueRelayRuntime.the-type Laws'''''''''''.the-plain 𝓤 H A; in-mem = Local.mem-whole 𝓤 H A W (Declared'.row
-              OpaqueRelayRuntime.the-type); of-mem = Local.whole-mem 𝓤 H A W (Declared'.row OpaqueRelayRuntime.the-type); })
-          pub places : Kinds.Den { n = 4 } κs (Value.pVal record { ty = Declared'.row Places.the-type; one = Path.refl; val = Laws''''''''''''''.val
-              Places.the-type Laws'''.the-laws; tells = Laws''''''''''''''.tells Places.the-type Laws'''.the-laws; still = Laws''''''''''''''.still
+          pub inflight : Kinds.Den { n = 2 } κs (ShrSlice.pShrS InflightAction.row 0 tt)
+          pub runtime : Kinds.Den { n = 2 } κs (Value.pVal record { ty = Declared'.row OpaqueRelayRuntime.the-type; one = Path.refl; val =
+              Laws'''''''''''''.val OpaqueRelayRuntime.the-type Laws''''''''''.the-laws; tells = Laws'''''''''''''.tells OpaqueRelayRuntime.the-type
+              Laws''''''''''.the-laws; still = Laws'''''''''''''.still OpaqueRelayRuntime.the-type Laws''''''''''.the-copy Exit.yes; row = Rows.whole
+              (Declared'.row OpaqueRelayRuntime.the-type); rd = λ x. x; mk = λ x. x; } λ M 𝓤 H A W. record { copies = Laws'''''''''''''.copy
+              OpaqueRelayRuntime.the-type Laws''''''''''.the-copy 𝓤 H A W; lawful = Laws'''''''''''''.lawful OpaqueRelayRuntime.the-type
+              Laws''''''''''.the-laws 𝓤 H A W; makes = Laws'''''''''''''.makes OpaqueRelayRuntime.the-type Laws''''''''''.the-plain 𝓤 H A; in-mem =
+              Local.mem-whole 𝓤 H A W (Declared'.row OpaqueRelayRuntime.the-type); of-mem = Local.whole-mem 𝓤 H A W (Declared'.row
+              OpaqueRelayRuntime.the-type); })
+          pub places : Kinds.Den { n = 2 } κs (Value.pVal record { ty = Declared'.row Places.the-type; one = Path.refl; val = Laws'''''''''''''.val
+              Places.the-type Laws'''.the-laws; tells = Laws'''''''''''''.tells Places.the-type Laws'''.the-laws; still = Laws'''''''''''''.still
               Places.the-type Laws'''.the-copy Exit.yes; row = Rows.whole (Declared'.row Places.the-type); rd = λ x. x; mk = λ x. x; } λ M 𝓤 H A W.
-              record { copies = Laws''''''''''''''.copy Places.the-type Laws'''.the-copy 𝓤 H A W; lawful = Laws''''''''''''''.lawful Places.the-type
-              Laws'''.the-laws 𝓤 H A W; makes = Laws''''''''''''''.makes Places.the-type Laws'''.the-plain 𝓤 H A; in-mem = Local.mem-whole 𝓤 H A W
+              record { copies = Laws'''''''''''''.copy Places.the-type Laws'''.the-copy 𝓤 H A W; lawful = Laws'''''''''''''.lawful Places.the-type
+              Laws'''.the-laws 𝓤 H A W; makes = Laws'''''''''''''.makes Places.the-type Laws'''.the-plain 𝓤 H A; in-mem = Local.mem-whole 𝓤 H A W
               (Declared'.row Places.the-type); of-mem = Local.whole-mem 𝓤 H A W (Declared'.row Places.the-type); })
-          pub packet : Kinds.Den { n = 4 } κs (Value.pVal record { ty = Declared'.row RelayPacket.the-type; one = Path.refl; val =
-              Laws''''''''''''''.val RelayPacket.the-type Laws''''''''''.the-laws; tells = Laws''''''''''''''.tells RelayPacket.the-type
-              Laws''''''''''.the-laws; still = Laws''''''''''''''.still RelayPacket.the-type Laws''''''''''.the-copy Exit.yes; row = Rows.whole
-              (Declared'.row RelayPacket.the-type); rd = λ x. x; mk = λ x. x; } λ M 𝓤 H A W. record { copies = Laws''''''''''''''.copy
-              RelayPacket.the-type Laws''''''''''.the-copy 𝓤 H A W; lawful = Laws''''''''''''''.lawful RelayPacket.the-type Laws''''''''''.the-laws 𝓤
-              H A W; makes = Laws''''''''''''''.makes RelayPacket.the-type Laws''''''''''.the-plain 𝓤 H A; in-mem = Local.mem-whole 𝓤 H A W
-              (Declared'.row RelayPacket.the-type); of-mem = Local.whole-mem 𝓤 H A W (Declared'.row RelayPacket.the-type); })
-          pub source : Kinds.Den { n = 4 } κs (ShrSlice.pShrS (Referent.rtF (Referent.fInt Syntax.w8)) 2 tt)
-          pub body : Kinds.Den { n = 4 } κs (ShrSlice.pShrS (Referent.rtF (Referent.fInt Syntax.w8)) 3 tt)
+          pub packet : Kinds.Den { n = 2 } κs (Value.pVal record { ty = Declared'.row RelayPacket.the-type; one = Path.refl; val =
+              Laws'''''''''''''.val RelayPacket.the-type Laws'''''''''.the-laws; tells = Laws'''''''''''''.tells RelayPacket.the-type
+              Laws'''''''''.the-laws; still = Laws'''''''''''''.still RelayPacket.the-type Laws'''''''''.the-copy Exit.yes; row = Rows.whole
+              (Declared'.row RelayPacket.the-type); rd = λ x. x; mk = λ x. x; } λ M 𝓤 H A W. record { copies = Laws'''''''''''''.copy
+              RelayPacket.the-type Laws'''''''''.the-copy 𝓤 H A W; lawful = Laws'''''''''''''.lawful RelayPacket.the-type Laws'''''''''.the-laws 𝓤 H A
+              W; makes = Laws'''''''''''''.makes RelayPacket.the-type Laws'''''''''.the-plain 𝓤 H A; in-mem = Local.mem-whole 𝓤 H A W (Declared'.row
+              RelayPacket.the-type); of-mem = Local.whole-mem 𝓤 H A W (Declared'.row RelayPacket.the-type); })
+          pub read : Kinds.Den { n = 2 } κs (Value.pVal record { ty = Declared'.row WindowRead.the-type; one = Path.refl; val = Laws'''''''''''''.val
+              WindowRead.the-type Laws.the-laws; tells = Laws'''''''''''''.tells WindowRead.the-type Laws.the-laws; still = Laws'''''''''''''.still
+              WindowRead.the-type Laws.the-copy Exit.yes; row = Rows.whole (Declared'.row WindowRead.the-type); rd = λ x. x; mk = λ x. x; } λ M 𝓤 H A
+              W. record { copies = Laws'''''''''''''.copy WindowRead.the-type Laws.the-copy 𝓤 H A W; lawful = Laws'''''''''''''.lawful
+              WindowRead.the-type Laws.the-laws 𝓤 H A W; makes = Laws'''''''''''''.makes WindowRead.the-type Laws.the-plain 𝓤 H A; in-mem =
+              Local.mem-whole 𝓤 H A W (Declared'.row WindowRead.the-type); of-mem = Local.whole-mem 𝓤 H A W (Declared'.row WindowRead.the-type); })
+          pub named : Kinds.Den { n = 2 } κs (Value.pVal record { ty = Declared'.row CircuitFound.the-type; one = Path.refl; val =
+              Laws'''''''''''''.val CircuitFound.the-type Laws''''''.the-laws; tells = Laws'''''''''''''.tells CircuitFound.the-type
+              Laws''''''.the-laws; still = Laws'''''''''''''.still CircuitFound.the-type Laws''''''.the-copy Exit.yes; row = Rows.whole (Declared'.row
+              CircuitFound.the-type); rd = λ x. x; mk = λ x. x; } λ M 𝓤 H A W. record { copies = Laws'''''''''''''.copy CircuitFound.the-type
+              Laws''''''.the-copy 𝓤 H A W; lawful = Laws'''''''''''''.lawful CircuitFound.the-type Laws''''''.the-laws 𝓤 H A W; makes =
+              Laws'''''''''''''.makes CircuitFound.the-type Laws''''''.the-plain 𝓤 H A; in-mem = Local.mem-whole 𝓤 H A W (Declared'.row
+              CircuitFound.the-type); of-mem = Local.whole-mem 𝓤 H A W (Declared'.row CircuitFound.the-type); })
+          pub source : Kinds.Den { n = 2 } κs (ShrSlice.pShrS (Referent.rtF (Referent.fInt Syntax.w8)) 1 tt)
         abbrev pub dens : (a : Args) → Kinds.Dens κs ps
-        dens = λ a. (a .circuits, (a .inflight, (a .runtime, (a .places, (a .packet, (a .source, (a .body, tt)))))),)
-      abbrev pub m0 : (κs : Lifetimes.Lfts 4) → (args : Args κs) → (blocks : List.List Nat.ℕ) → Typed.Mo T0
+        dens = λ a. (a .inflight, (a .runtime, (a .places, (a .packet, (a .read, (a .named, (a .source, tt)))))),)
+      abbrev pub m0 : (κs : Lifetimes.Lfts 2) → (args : Args κs) → (blocks : List.List Nat.ℕ) → Typed.Mo T0
       m0 = λ κs args blocks. (tt, Enter.partsP κs 1 ps xs (dens κs args))
-      abbrev W0 : (κs : Lifetimes.Lfts 4) → (args : Args κs) → (blocks : List.List Nat.ℕ) → Typed.Want O0
+      abbrev W0 : (κs : Lifetimes.Lfts 2) → (args : Args κs) → (blocks : List.List Nat.ℕ) → Typed.Want O0
       W0 = λ κs args blocks. (λ u. ⊥, tt, λ u. Enter.Fixs κs 1 ps xs (dens κs args) (u .1) × Post· κs (dens κs args) (Function.resV r κs (u .0))
-          (Clauses.atExit (Kinds.endedOf 4 ps r) κs (dens κs args) (Enter.lastsP κs 1 ps xs (dens κs args) (u .1))),)
+          (Clauses.atExit (Kinds.endedOf 2 ps r) κs (dens κs args) (Enter.lastsP κs 1 ps xs (dens κs args) (u .1))),)
       pub record Start : Type 0 where
-        pub κs : Lifetimes.Lfts 4
+        pub κs : Lifetimes.Lfts 2
         pub args : Args κs
         pub blocks : List.List Nat.ℕ
         pub good : Kinds.GoodsP κs ps (dens κs args)
@@ -935,294 +790,195 @@ module _ (claims· : Claims) where
       abbrev pub m2 : (before : After-shared-slice-known) → (given : s1 (before .before .blocks) .gives (m1 (before .before) (before
           .shared-slice-known .given))) → Typed.Mo T3
       m2 = λ before given. s1 (before .before .blocks) .next (m1 (before .before) (before .shared-slice-known .given)) given
+      abbrev pub m3 : (before : After-shared-slice-known) → (given : s1 (before .before .blocks) .gives (m1 (before .before) (before
+          .shared-slice-known .given))) → Typed.Mo T4
+      m3 = λ before given. s2 (before .before .blocks) (m2 before given)
       module _ (before· : After-shared-slice-known) where
-        pub record After-shared-slice-known2·own : Type 0 where
-          pub given : s1 (before· .before .blocks) .gives (m1 (before· .before) (before· .shared-slice-known .given))
-      pub record After-shared-slice-known2 : Type 0 where
-        pub before : After-shared-slice-known
-        pub shared-slice-known2 : After-shared-slice-known2·own before
-      abbrev pub m3 : (before : After-shared-slice-known2) → (given : s2 (before .before .before .blocks) .gives (m2 (before .before) (before
-          .shared-slice-known2 .given))) → Typed.Mo T4
-      m3 = λ before given. s2 (before .before .before .blocks) .next (m2 (before .before) (before .shared-slice-known2 .given)) given
-      abbrev pub m4 : (before : After-shared-slice-known2) → (given : s2 (before .before .before .blocks) .gives (m2 (before .before) (before
-          .shared-slice-known2 .given))) → Typed.Mo T5
-      m4 = λ before given. s3 (before .before .before .blocks) (m3 before given)
-      module _ (before· : After-shared-slice-known2) where
         pub record After-config·own : Type 0 where
-          pub given : s2 (before· .before .before .blocks) .gives (m2 (before· .before) (before· .shared-slice-known2 .given))
+          pub given : s1 (before· .before .blocks) .gives (m1 (before· .before) (before· .shared-slice-known .given))
       pub record After-config : Type 0 where
-        pub before : After-shared-slice-known2
+        pub before : After-shared-slice-known
         pub config : After-config·own before
       abbrev pub Need-peer-of-requires : Type 0
-      Need-peer-of-requires = (c : After-config) → s4 (c .before .before .before .blocks) .asks (m4 (c .before) (c .config .given))
-      abbrev pub m5 : (before : After-config) → (given : s4 (before .before .before .before .blocks) .gives (m4 (before .before) (before .config
-          .given))) → Typed.Mo T6
-      m5 = λ before given. s4 (before .before .before .before .blocks) .next (m4 (before .before) (before .config .given)) given
+      Need-peer-of-requires = (c : After-config) → s3 (c .before .before .blocks) .asks (m3 (c .before) (c .config .given))
+      abbrev pub m4 : (before : After-config) → (given : s3 (before .before .before .blocks) .gives (m3 (before .before) (before .config .given))) →
+          Typed.Mo T5
+      m4 = λ before given. s3 (before .before .before .blocks) .next (m3 (before .before) (before .config .given)) given
       module _ (before· : After-config) where
         abbrev pub After-peer-of·own : Type 0
-        After-peer-of·own = Called.Called ps·0 r·0 (claims· .1) T5 (record { pos = 6; ty = Syntax.tyRef (Syntax.named 2) Syntax.imm (Syntax.tyInt
-            Syntax.w8); ref = λ x. x; }, tt,) (m4 (before· .before) (before· .config .given))
+        After-peer-of·own = Called.Called ps·0 r·0 (claims· .1) T4 (record { pos = 7; ty = Syntax.tyRef (Syntax.named 1) Syntax.imm (Syntax.tyInt
+            Syntax.w8); ref = λ x. x; }, tt,) (m3 (before· .before) (before· .config .given))
       pub record After-peer-of : Type 0 where
         pub before : After-config
         pub peer-of : After-peer-of·own before
-      abbrev pub After-peer-of·gave : (c : After-peer-of) → s4 (c .before .before .before .before .blocks) .gives (m4 (c .before .before) (c .before
-          .config .given))
-      After-peer-of·gave = λ c. Called.given ps·0 r·0 (claims· .1) T5 (record { pos = 6; ty = Syntax.tyRef (Syntax.named 2) Syntax.imm (Syntax.tyInt
-          Syntax.w8); ref = λ x. x; }, tt,) (m4 (c .before .before) (c .before .config .given)) (c .peer-of)
-      abbrev pub Need-decode-requires : Type 0
-      Need-decode-requires = (c : After-peer-of) → s5 (c .before .before .before .before .blocks) .asks (m5 (c .before) (After-peer-of·gave c))
-      abbrev pub m6 : (before : After-peer-of) → (given : s5 (before .before .before .before .before .blocks) .gives (m5 (before .before)
-          (After-peer-of·gave before))) → Typed.Mo T7
-      m6 = λ before given. s5 (before .before .before .before .before .blocks) .next (m5 (before .before) (After-peer-of·gave before)) given
-      module _ (before· : After-peer-of) where
-        abbrev pub After-decode·own : Type 0
-        After-decode·own = Called.Called ps·1 r·1 (claims· .3) T6 (record { pos = 7; ty = Syntax.tyRef (Syntax.named 3) Syntax.imm (Syntax.tyInt
-            Syntax.w8); ref = λ x. x; }, tt,) (m5 (before· .before) (After-peer-of·gave before·))
-      pub record After-decode : Type 0 where
-        pub before : After-peer-of
-        pub decode : After-decode·own before
-      abbrev pub After-decode·gave : (c : After-decode) → s5 (c .before .before .before .before .before .blocks) .gives (m5 (c .before .before)
-          (After-peer-of·gave (c .before)))
-      After-decode·gave = λ c. Called.given ps·1 r·1 (claims· .3) T6 (record { pos = 7; ty = Syntax.tyRef (Syntax.named 3) Syntax.imm (Syntax.tyInt
-          Syntax.w8); ref = λ x. x; }, tt,) (m5 (c .before .before) (After-peer-of·gave (c .before))) (c .decode)
-      abbrev pub Need-at-requires : Type 0
-      Need-at-requires = (c : After-decode) → s6 (c .before .before .before .before .before .blocks) .asks (m6 (c .before) (After-decode·gave c))
-      abbrev pub m7 : (before : After-decode) → (given : s6 (before .before .before .before .before .before .blocks) .gives (m6 (before .before)
-          (After-decode·gave before))) → Typed.Mo T8
-      m7 = λ before given. s6 (before .before .before .before .before .before .blocks) .next (m6 (before .before) (After-decode·gave before)) given
-      module _ (before· : After-decode) where
-        abbrev pub After-at·own : Type 0
-        After-at·own = Called.Called ps·2 r·2 (claims· .5) T7 (Num.vFld 5 ((Syntax.field 1) ∷ List.[]) 8 λ x. RelayPacket.struct .as-values x .1 .0,
-            (Num.vLit 0, tt),) (m6 (before· .before) (After-decode·gave before·))
-      pub record After-at : Type 0 where
-        pub before : After-decode
-        pub at : After-at·own before
-      abbrev pub After-at·gave : (c : After-at) → s6 (c .before .before .before .before .before .before .blocks) .gives (m6 (c .before .before)
-          (After-decode·gave (c .before)))
-      After-at·gave = λ c. Called.given ps·2 r·2 (claims· .5) T7 (Num.vFld 5 ((Syntax.field 1) ∷ List.[]) 8 λ x. RelayPacket.struct .as-values x .1
-          .0, (Num.vLit 0, tt),) (m6 (c .before .before) (After-decode·gave (c .before))) (c .at)
-      abbrev pub Need-look-up-circuit-requires : Type 0
-      Need-look-up-circuit-requires = (c : After-at) → s7 (c .before .before .before .before .before .before .blocks) .asks (m7 (c .before)
-          (After-at·gave c))
-      abbrev pub m8 : (before : After-at) → (given : s7 (before .before .before .before .before .before .before .blocks) .gives (m7 (before .before)
-          (After-at·gave before))) → Typed.Mo T9
-      m8 = λ before given. s7 (before .before .before .before .before .before .before .blocks) .next (m7 (before .before) (After-at·gave before))
-          given
-      module _ (before· : After-at) where
-        abbrev pub After-look-up-circuit·own : Type 0
-        After-look-up-circuit·own = Called.Called ps·3 r·3 (claims· .7) T8 (record { pos = 1; ty = Syntax.tyRef (Syntax.named 0) Syntax.imm
-            RelayCircuit.to; ref = λ x. x; }, (record { pos = 4; st = List.[]; d = 0; at = λ x. x }, (record { pos = 12; st = List.[]; d = 0; at = λ
-            x. x }, tt),),) (m7 (before· .before) (After-at·gave before·))
-      pub record After-look-up-circuit : Type 0 where
-        pub before : After-at
-        pub look-up-circuit : After-look-up-circuit·own before
-      abbrev pub After-look-up-circuit·gave : (c : After-look-up-circuit) → s7 (c .before .before .before .before .before .before .before .blocks)
-          .gives (m7 (c .before .before) (After-at·gave (c .before)))
-      After-look-up-circuit·gave = λ c. Called.given ps·3 r·3 (claims· .7) T8 (record { pos = 1; ty = Syntax.tyRef (Syntax.named 0) Syntax.imm
-          RelayCircuit.to; ref = λ x. x; }, (record { pos = 4; st = List.[]; d = 0; at = λ x. x }, (record { pos = 12; st = List.[]; d = 0; at = λ x.
-          x }, tt),),) (m7 (c .before .before) (After-at·gave (c .before))) (c .look-up-circuit)
-      abbrev pub m9 : (before : After-at) → (given : s7 (before .before .before .before .before .before .before .blocks) .gives (m7 (before .before)
-          (After-at·gave before))) → Typed.Mo T10
-      m9 = λ before given. s8 (before .before .before .before .before .before .before .blocks) (m8 before given)
+      abbrev pub After-peer-of·gave : (c : After-peer-of) → s3 (c .before .before .before .blocks) .gives (m3 (c .before .before) (c .before .config
+          .given))
+      After-peer-of·gave = λ c. Called.given ps·0 r·0 (claims· .1) T4 (record { pos = 7; ty = Syntax.tyRef (Syntax.named 1) Syntax.imm (Syntax.tyInt
+          Syntax.w8); ref = λ x. x; }, tt,) (m3 (c .before .before) (c .before .config .given)) (c .peer-of)
       abbrev pub Need-passed-on-requires : Type 0
-      Need-passed-on-requires = (c : After-look-up-circuit) → s9 (c .before .before .before .before .before .before .before .blocks) .asks (m9 (c
-          .before) (After-look-up-circuit·gave c))
-      abbrev pub m10 : (before : After-look-up-circuit) → (given : s9 (before .before .before .before .before .before .before .before .blocks) .gives
-          (m9 (before .before) (After-look-up-circuit·gave before))) → Typed.Mo T11
-      m10 = λ before given. s9 (before .before .before .before .before .before .before .before .blocks) .next (m9 (before .before)
-          (After-look-up-circuit·gave before)) given
-      module _ (before· : After-look-up-circuit) where
+      Need-passed-on-requires = (c : After-peer-of) → s4 (c .before .before .before .blocks) .asks (m4 (c .before) (After-peer-of·gave c))
+      abbrev pub m5 : (before : After-peer-of) → (given : s4 (before .before .before .before .blocks) .gives (m4 (before .before) (After-peer-of·gave
+          before))) → Typed.Mo T6
+      m5 = λ before given. s4 (before .before .before .before .blocks) .next (m4 (before .before) (After-peer-of·gave before)) given
+      module _ (before· : After-peer-of) where
         abbrev pub After-passed-on·own : Type 0
-        After-passed-on·own = Called.Called ps·4 r·4 (claims· .9) T10 (record { pos = 5; st = List.[]; d = 0; at = λ x. x }, (record { pos = 13; st =
+        After-passed-on·own = Called.Called ps·1 r·1 (claims· .3) T5 (record { pos = 4; st = List.[]; d = 0; at = λ x. x }, (record { pos = 6; st =
             List.[]; d = 0; at = λ x. x }, (record { pos = 10; st = List.[]; d = 0; at = λ x. x }, (record { pos = 9; st = List.[]; d = 0; at = λ x. x
-            }, tt),),),) (m9 (before· .before) (After-look-up-circuit·gave before·))
+            }, tt),),),) (m4 (before· .before) (After-peer-of·gave before·))
       pub record After-passed-on : Type 0 where
-        pub before : After-look-up-circuit
+        pub before : After-peer-of
         pub passed-on : After-passed-on·own before
-      abbrev pub After-passed-on·gave : (c : After-passed-on) → s9 (c .before .before .before .before .before .before .before .before .blocks) .gives
-          (m9 (c .before .before) (After-look-up-circuit·gave (c .before)))
-      After-passed-on·gave = λ c. Called.given ps·4 r·4 (claims· .9) T10 (record { pos = 5; st = List.[]; d = 0; at = λ x. x }, (record { pos = 13; st
-          = List.[]; d = 0; at = λ x. x }, (record { pos = 10; st = List.[]; d = 0; at = λ x. x }, (record { pos = 9; st = List.[]; d = 0; at = λ x. x
-          }, tt),),),) (m9 (c .before .before) (After-look-up-circuit·gave (c .before))) (c .passed-on)
-      abbrev pub m11 : (before : After-look-up-circuit) → (given : s9 (before .before .before .before .before .before .before .before .blocks) .gives
-          (m9 (before .before) (After-look-up-circuit·gave before))) → Typed.Mo T12
-      m11 = λ before given. s10 (before .before .before .before .before .before .before .before .blocks) (m10 before given)
-      abbrev pub m12 : (before : After-look-up-circuit) → (given : s9 (before .before .before .before .before .before .before .before .blocks) .gives
-          (m9 (before .before) (After-look-up-circuit·gave before))) → Typed.Mo T13
-      m12 = λ before given. s11 (before .before .before .before .before .before .before .before .blocks) (m11 before given)
+      abbrev pub After-passed-on·gave : (c : After-passed-on) → s4 (c .before .before .before .before .blocks) .gives (m4 (c .before .before)
+          (After-peer-of·gave (c .before)))
+      After-passed-on·gave = λ c. Called.given ps·1 r·1 (claims· .3) T5 (record { pos = 4; st = List.[]; d = 0; at = λ x. x }, (record { pos = 6; st =
+          List.[]; d = 0; at = λ x. x }, (record { pos = 10; st = List.[]; d = 0; at = λ x. x }, (record { pos = 9; st = List.[]; d = 0; at = λ x. x
+          }, tt),),),) (m4 (c .before .before) (After-peer-of·gave (c .before))) (c .passed-on)
+      abbrev pub m6 : (before : After-peer-of) → (given : s4 (before .before .before .before .blocks) .gives (m4 (before .before) (After-peer-of·gave
+          before))) → Typed.Mo T7
+      m6 = λ before given. s5 (before .before .before .before .blocks) (m5 before given)
+      abbrev pub m7 : (before : After-peer-of) → (given : s4 (before .before .before .before .blocks) .gives (m4 (before .before) (After-peer-of·gave
+          before))) → Typed.Mo T8
+      m7 = λ before given. s6 (before .before .before .before .blocks) (m6 before given)
       abbrev pub Need-asking-requires : Type 0
-      Need-asking-requires = (c : After-passed-on) → s12 (c .before .before .before .before .before .before .before .before .blocks) .asks (m12 (c
-          .before) (After-passed-on·gave c))
-      abbrev pub m13 : (before : After-passed-on) → (given : s12 (before .before .before .before .before .before .before .before .before .blocks)
-          .gives (m12 (before .before) (After-passed-on·gave before))) → Typed.Mo T14
-      m13 = λ before given. s12 (before .before .before .before .before .before .before .before .before .blocks) .next (m12 (before .before)
-          (After-passed-on·gave before)) given
+      Need-asking-requires = (c : After-passed-on) → s7 (c .before .before .before .before .blocks) .asks (m7 (c .before) (After-passed-on·gave c))
+      abbrev pub m8 : (before : After-passed-on) → (given : s7 (before .before .before .before .before .blocks) .gives (m7 (before .before)
+          (After-passed-on·gave before))) → Typed.Mo T9
+      m8 = λ before given. s7 (before .before .before .before .before .blocks) .next (m7 (before .before) (After-passed-on·gave before)) given
       module _ (before· : After-passed-on) where
         abbrev pub After-asking·own : Type 0
-        After-asking·own = Called.Called ps·5 r·5 (claims· .11) T13 (record { pos = 3; st = List.[]; d = 0; at = λ x. x }, (record { pos = 14; st =
-            List.[]; d = 0; at = λ x. x }, tt),) (m12 (before· .before) (After-passed-on·gave before·))
+        After-asking·own = Called.Called ps·2 r·2 (claims· .5) T8 (record { pos = 2; st = List.[]; d = 0; at = λ x. x }, (record { pos = 11; st =
+            List.[]; d = 0; at = λ x. x }, tt),) (m7 (before· .before) (After-passed-on·gave before·))
       pub record After-asking : Type 0 where
         pub before : After-passed-on
         pub asking : After-asking·own before
-      abbrev pub After-asking·gave : (c : After-asking) → s12 (c .before .before .before .before .before .before .before .before .before .blocks)
-          .gives (m12 (c .before .before) (After-passed-on·gave (c .before)))
-      After-asking·gave = λ c. Called.given ps·5 r·5 (claims· .11) T13 (record { pos = 3; st = List.[]; d = 0; at = λ x. x }, (record { pos = 14; st =
-          List.[]; d = 0; at = λ x. x }, tt),) (m12 (c .before .before) (After-passed-on·gave (c .before))) (c .asking)
-      abbrev pub m14 : (before : After-passed-on) → (given : s12 (before .before .before .before .before .before .before .before .before .blocks)
-          .gives (m12 (before .before) (After-passed-on·gave before))) → Typed.Mo T15
-      m14 = λ before given. s13 (before .before .before .before .before .before .before .before .before .blocks) (m13 before given)
+      abbrev pub After-asking·gave : (c : After-asking) → s7 (c .before .before .before .before .before .blocks) .gives (m7 (c .before .before)
+          (After-passed-on·gave (c .before)))
+      After-asking·gave = λ c. Called.given ps·2 r·2 (claims· .5) T8 (record { pos = 2; st = List.[]; d = 0; at = λ x. x }, (record { pos = 11; st =
+          List.[]; d = 0; at = λ x. x }, tt),) (m7 (c .before .before) (After-passed-on·gave (c .before))) (c .asking)
+      abbrev pub m9 : (before : After-passed-on) → (given : s7 (before .before .before .before .before .blocks) .gives (m7 (before .before)
+          (After-passed-on·gave before))) → Typed.Mo T10
+      m9 = λ before given. s8 (before .before .before .before .before .blocks) (m8 before given)
       abbrev pub Need-scan-actions-requires : Type 0
-      Need-scan-actions-requires = (c : After-asking) → s14 (c .before .before .before .before .before .before .before .before .before .blocks) .asks
-          (m14 (c .before) (After-asking·gave c))
-      abbrev pub m15 : (before : After-asking) → (given : s14 (before .before .before .before .before .before .before .before .before .before .blocks)
-          .gives (m14 (before .before) (After-asking·gave before))) → Typed.Mo T16
-      m15 = λ before given. s14 (before .before .before .before .before .before .before .before .before .before .blocks) .next (m14 (before .before)
-          (After-asking·gave before)) given
+      Need-scan-actions-requires = (c : After-asking) → s9 (c .before .before .before .before .before .blocks) .asks (m9 (c .before)
+          (After-asking·gave c))
+      abbrev pub m10 : (before : After-asking) → (given : s9 (before .before .before .before .before .before .blocks) .gives (m9 (before .before)
+          (After-asking·gave before))) → Typed.Mo T11
+      m10 = λ before given. s9 (before .before .before .before .before .before .blocks) .next (m9 (before .before) (After-asking·gave before)) given
       module _ (before· : After-asking) where
         abbrev pub After-scan-actions·own : Type 0
-        After-scan-actions·own = Called.Called ps·6 r·6 (claims· .13) T15 (record { pos = 2; ty = Syntax.tyRef (Syntax.named 1) Syntax.imm
-            InflightAction.to; ref = λ x. x; }, (record { pos = 4; st = List.[]; d = 0; at = λ x. x }, (record { pos = 15; st = List.[]; d = 0; at = λ
-            x. x }, tt),),) (m14 (before· .before) (After-asking·gave before·))
+        After-scan-actions·own = Called.Called ps·3 r·3 (claims· .7) T10 (record { pos = 1; ty = Syntax.tyRef (Syntax.named 0) Syntax.imm
+            InflightAction.to; ref = λ x. x; }, (record { pos = 3; st = List.[]; d = 0; at = λ x. x }, (record { pos = 12; st = List.[]; d = 0; at = λ
+            x. x }, tt),),) (m9 (before· .before) (After-asking·gave before·))
       pub record After-scan-actions : Type 0 where
         pub before : After-asking
         pub scan-actions : After-scan-actions·own before
-      abbrev pub After-scan-actions·gave : (c : After-scan-actions) → s14 (c .before .before .before .before .before .before .before .before .before
-          .before .blocks) .gives (m14 (c .before .before) (After-asking·gave (c .before)))
-      After-scan-actions·gave = λ c. Called.given ps·6 r·6 (claims· .13) T15 (record { pos = 2; ty = Syntax.tyRef (Syntax.named 1) Syntax.imm
-          InflightAction.to; ref = λ x. x; }, (record { pos = 4; st = List.[]; d = 0; at = λ x. x }, (record { pos = 15; st = List.[]; d = 0; at = λ
-          x. x }, tt),),) (m14 (c .before .before) (After-asking·gave (c .before))) (c .scan-actions)
-      abbrev pub m16 : (before : After-asking) → (given : s14 (before .before .before .before .before .before .before .before .before .before .blocks)
-          .gives (m14 (before .before) (After-asking·gave before))) → Typed.Mo T17
-      m16 = λ before given. s15 (before .before .before .before .before .before .before .before .before .before .blocks) (m15 before given)
-      abbrev pub m17 : (before : After-asking) → (given : s14 (before .before .before .before .before .before .before .before .before .before .blocks)
-          .gives (m14 (before .before) (After-asking·gave before))) → Typed.Mo T18
-      m17 = λ before given. s16 (before .before .before .before .before .before .before .before .before .before .blocks) (m16 before given)
+      abbrev pub After-scan-actions·gave : (c : After-scan-actions) → s9 (c .before .before .before .before .before .before .blocks) .gives (m9 (c
+          .before .before) (After-asking·gave (c .before)))
+      After-scan-actions·gave = λ c. Called.given ps·3 r·3 (claims· .7) T10 (record { pos = 1; ty = Syntax.tyRef (Syntax.named 0) Syntax.imm
+          InflightAction.to; ref = λ x. x; }, (record { pos = 3; st = List.[]; d = 0; at = λ x. x }, (record { pos = 12; st = List.[]; d = 0; at = λ
+          x. x }, tt),),) (m9 (c .before .before) (After-asking·gave (c .before))) (c .scan-actions)
+      abbrev pub m11 : (before : After-asking) → (given : s9 (before .before .before .before .before .before .blocks) .gives (m9 (before .before)
+          (After-asking·gave before))) → Typed.Mo T12
+      m11 = λ before given. s10 (before .before .before .before .before .before .blocks) (m10 before given)
+      abbrev pub m12 : (before : After-asking) → (given : s9 (before .before .before .before .before .before .blocks) .gives (m9 (before .before)
+          (After-asking·gave before))) → Typed.Mo T13
+      m12 = λ before given. s11 (before .before .before .before .before .before .blocks) (m11 before given)
       abbrev pub Need-window-plan-requires : Type 0
-      Need-window-plan-requires = (c : After-scan-actions) → s17 (c .before .before .before .before .before .before .before .before .before .before
-          .blocks) .asks (m17 (c .before) (After-scan-actions·gave c))
-      abbrev pub m18 : (before : After-scan-actions) → (given : s17 (before .before .before .before .before .before .before .before .before .before
-          .before .blocks) .gives (m17 (before .before) (After-scan-actions·gave before))) → Typed.Mo T19
-      m18 = λ before given. s17 (before .before .before .before .before .before .before .before .before .before .before .blocks) .next (m17 (before
-          .before) (After-scan-actions·gave before)) given
+      Need-window-plan-requires = (c : After-scan-actions) → s12 (c .before .before .before .before .before .before .blocks) .asks (m12 (c .before)
+          (After-scan-actions·gave c))
+      abbrev pub m13 : (before : After-scan-actions) → (given : s12 (before .before .before .before .before .before .before .blocks) .gives (m12
+          (before .before) (After-scan-actions·gave before))) → Typed.Mo T14
+      m13 = λ before given. s12 (before .before .before .before .before .before .before .blocks) .next (m12 (before .before) (After-scan-actions·gave
+          before)) given
       module _ (before· : After-scan-actions) where
         abbrev pub After-window-plan·own : Type 0
-        After-window-plan·own = Called.Called ps·7 r·7 (claims· .15) T18 (record { pos = 8; st = List.[]; d = 0; at = λ x. x }, (record { pos = 11; st
-            = List.[]; d = 0; at = λ x. x }, (record { pos = 13; st = List.[]; d = 0; at = λ x. x }, (record { pos = 16; st = List.[]; d = 0; at = λ
-            x. x }, (record { pos = 10; st = List.[]; d = 0; at = λ x. x }, (record { pos = 14; st = List.[]; d = 0; at = λ x. x }, tt),),),),),) (m17
+        After-window-plan·own = Called.Called ps·4 r·4 (claims· .9) T13 (record { pos = 8; st = List.[]; d = 0; at = λ x. x }, (record { pos = 5; st =
+            List.[]; d = 0; at = λ x. x }, (record { pos = 6; st = List.[]; d = 0; at = λ x. x }, (record { pos = 13; st = List.[]; d = 0; at = λ x. x
+            }, (record { pos = 10; st = List.[]; d = 0; at = λ x. x }, (record { pos = 11; st = List.[]; d = 0; at = λ x. x }, tt),),),),),) (m12
             (before· .before) (After-scan-actions·gave before·))
       pub record After-window-plan : Type 0 where
         pub before : After-scan-actions
         pub window-plan : After-window-plan·own before
-      abbrev pub After-window-plan·gave : (c : After-window-plan) → s17 (c .before .before .before .before .before .before .before .before .before
-          .before .before .blocks) .gives (m17 (c .before .before) (After-scan-actions·gave (c .before)))
-      After-window-plan·gave = λ c. Called.given ps·7 r·7 (claims· .15) T18 (record { pos = 8; st = List.[]; d = 0; at = λ x. x }, (record { pos = 11;
-          st = List.[]; d = 0; at = λ x. x }, (record { pos = 13; st = List.[]; d = 0; at = λ x. x }, (record { pos = 16; st = List.[]; d = 0; at = λ
-          x. x }, (record { pos = 10; st = List.[]; d = 0; at = λ x. x }, (record { pos = 14; st = List.[]; d = 0; at = λ x. x }, tt),),),),),) (m17
+      abbrev pub After-window-plan·gave : (c : After-window-plan) → s12 (c .before .before .before .before .before .before .before .blocks) .gives
+          (m12 (c .before .before) (After-scan-actions·gave (c .before)))
+      After-window-plan·gave = λ c. Called.given ps·4 r·4 (claims· .9) T13 (record { pos = 8; st = List.[]; d = 0; at = λ x. x }, (record { pos = 5;
+          st = List.[]; d = 0; at = λ x. x }, (record { pos = 6; st = List.[]; d = 0; at = λ x. x }, (record { pos = 13; st = List.[]; d = 0; at = λ
+          x. x }, (record { pos = 10; st = List.[]; d = 0; at = λ x. x }, (record { pos = 11; st = List.[]; d = 0; at = λ x. x }, tt),),),),),) (m12
           (c .before .before) (After-scan-actions·gave (c .before))) (c .window-plan)
-      abbrev pub m19 : (before : After-scan-actions) → (given : s17 (before .before .before .before .before .before .before .before .before .before
-          .before .blocks) .gives (m17 (before .before) (After-scan-actions·gave before))) → Typed.Mo T20
-      m19 = λ before given. s18 (before .before .before .before .before .before .before .before .before .before .before .blocks) (m18 before given)
-      abbrev pub m20 : (before : After-scan-actions) → (given : s17 (before .before .before .before .before .before .before .before .before .before
-          .before .blocks) .gives (m17 (before .before) (After-scan-actions·gave before))) → Typed.Mo T21
-      m20 = λ before given. s19 (before .before .before .before .before .before .before .before .before .before .before .blocks) (m19 before given)
-      abbrev pub m21 : (before : After-scan-actions) → (given : s17 (before .before .before .before .before .before .before .before .before .before
-          .before .blocks) .gives (m17 (before .before) (After-scan-actions·gave before))) → Typed.Mo T22
-      m21 = λ before given. s20 (before .before .before .before .before .before .before .before .before .before .before .blocks) (m20 before given)
-      abbrev pub m22 : (before : After-scan-actions) → (given : s17 (before .before .before .before .before .before .before .before .before .before
-          .before .blocks) .gives (m17 (before .before) (After-scan-actions·gave before))) → Typed.Mo T23
-      m22 = λ before given. s21 (before .before .before .before .before .before .before .before .before .before .before .blocks) (m21 before given)
-      abbrev pub m23 : (before : After-scan-actions) → (given : s17 (before .before .before .before .before .before .before .before .before .before
-          .before .blocks) .gives (m17 (before .before) (After-scan-actions·gave before))) → Typed.Mo T24
-      m23 = λ before given. s22 (before .before .before .before .before .before .before .before .before .before .before .blocks) (m22 before given)
-      abbrev pub m24 : (before : After-scan-actions) → (given : s17 (before .before .before .before .before .before .before .before .before .before
-          .before .blocks) .gives (m17 (before .before) (After-scan-actions·gave before))) → Typed.Mo T25
-      m24 = λ before given. s23 (before .before .before .before .before .before .before .before .before .before .before .blocks) (m23 before given)
+      abbrev pub m14 : (before : After-scan-actions) → (given : s12 (before .before .before .before .before .before .before .blocks) .gives (m12
+          (before .before) (After-scan-actions·gave before))) → Typed.Mo T15
+      m14 = λ before given. s13 (before .before .before .before .before .before .before .blocks) (m13 before given)
+      abbrev pub m15 : (before : After-scan-actions) → (given : s12 (before .before .before .before .before .before .before .blocks) .gives (m12
+          (before .before) (After-scan-actions·gave before))) → Typed.Mo T16
+      m15 = λ before given. s14 (before .before .before .before .before .before .before .blocks) (m14 before given)
+      abbrev pub m16 : (before : After-scan-actions) → (given : s12 (before .before .before .before .before .before .before .blocks) .gives (m12
+          (before .before) (After-scan-actions·gave before))) → Typed.Mo T17
+      m16 = λ before given. s15 (before .before .before .before .before .before .before .blocks) (m15 before given)
+      abbrev pub m17 : (before : After-scan-actions) → (given : s12 (before .before .before .before .before .before .before .blocks) .gives (m12
+          (before .before) (After-scan-actions·gave before))) → Typed.Mo T18
+      m17 = λ before given. s16 (before .before .before .before .before .before .before .blocks) (m16 before given)
+      abbrev pub m18 : (before : After-scan-actions) → (given : s12 (before .before .before .before .before .before .before .blocks) .gives (m12
+          (before .before) (After-scan-actions·gave before))) → Typed.Mo T19
+      m18 = λ before given. s17 (before .before .before .before .before .before .before .blocks) (m17 before given)
+      abbrev pub m19 : (before : After-scan-actions) → (given : s12 (before .before .before .before .before .before .before .blocks) .gives (m12
+          (before .before) (After-scan-actions·gave before))) → Typed.Mo T20
+      m19 = λ before given. s18 (before .before .before .before .before .before .before .blocks) (m18 before given)
       abbrev pub Need-returns : Type 0
-      Need-returns = (c : After-window-plan) → Post· (c .before .before .before .before .before .before .before .before .before .before .before .κs)
-          (dens (c .before .before .before .before .before .before .before .before .before .before .before .κs) (c .before .before .before .before
-          .before .before .before .before .before .before .before .args)) (Function.resV r (c .before .before .before .before .before .before .before
-          .before .before .before .before .κs) (m24 (c .before) (After-window-plan·gave c) .0)) (Clauses.atExit (Kinds.endedOf 4 ps r) (c .before
-          .before .before .before .before .before .before .before .before .before .before .κs) (dens (c .before .before .before .before .before
-          .before .before .before .before .before .before .κs) (c .before .before .before .before .before .before .before .before .before .before
-          .before .args)) (Enter.lastsP (c .before .before .before .before .before .before .before .before .before .before .before .κs) 1 ps xs (dens
-          (c .before .before .before .before .before .before .before .before .before .before .before .κs) (c .before .before .before .before .before
-          .before .before .before .before .before .before .args)) (m24 (c .before) (After-window-plan·gave c) .1)))
-      module _ (peer-of-requires : Need-peer-of-requires) (decode-requires : Need-decode-requires) (at-requires : Need-at-requires)
-          (look-up-circuit-requires : Need-look-up-circuit-requires) (passed-on-requires : Need-passed-on-requires) (asking-requires :
-          Need-asking-requires) (scan-actions-requires : Need-scan-actions-requires) (window-plan-requires : Need-window-plan-requires) (returns :
-          Need-returns) where
-        lay8 : (c : After-window-plan) → at6 (c .before .before .before .before .before .before .before .before .before .before .before .blocks) (W0
-            (c .before .before .before .before .before .before .before .before .before .before .before .κs) (c .before .before .before .before .before
-            .before .before .before .before .before .before .args) (c .before .before .before .before .before .before .before .before .before .before
-            .before .blocks)) (m18 (c .before) (After-window-plan·gave c))
-        lay8 = λ c. ((Path.refl, (Path.refl, (tt, (tt, (tt, (Path.refl, (Path.refl, tt))))))), returns record { before = c .before; window-plan = c
-            .window-plan },)
-        lay7 : (c : After-scan-actions) → at9 (c .before .before .before .before .before .before .before .before .before .before .blocks) (W0 (c
-            .before .before .before .before .before .before .before .before .before .before .κs) (c .before .before .before .before .before .before
-            .before .before .before .before .args) (c .before .before .before .before .before .before .before .before .before .before .blocks)) (m15
-            (c .before) (After-scan-actions·gave c))
-        lay7 = λ c. (window-plan-requires record { before = c .before; scan-actions = c .scan-actions }, λ g. lay8 record { before = record { before =
-            c .before; scan-actions = c .scan-actions }; window-plan = Called.called ps·7 r·7 (claims· .15) T18 (record { pos = 8; st = List.[]; d =
-            0; at = λ x. x }, (record { pos = 11; st = List.[]; d = 0; at = λ x. x }, (record { pos = 13; st = List.[]; d = 0; at = λ x. x }, (record
-            { pos = 16; st = List.[]; d = 0; at = λ x. x }, (record { pos = 10; st = List.[]; d = 0; at = λ x. x }, (record { pos = 14; st = List.[];
-            d = 0; at = λ x. x }, tt),),),),),) (m17 (c .before) (After-scan-actions·gave c)) g; },)
-        lay6 : (c : After-asking) → at11 (c .before .before .before .before .before .before .before .before .before .blocks) (W0 (c .before .before
-            .before .before .before .before .before .before .before .κs) (c .before .before .before .before .before .before .before .before .before
-            .args) (c .before .before .before .before .before .before .before .before .before .blocks)) (m13 (c .before) (After-asking·gave c))
-        lay6 = λ c. (scan-actions-requires record { before = c .before; asking = c .asking }, λ g. lay7 record { before = record { before = c .before;
-            asking = c .asking }; scan-actions = Called.called ps·6 r·6 (claims· .13) T15 (record { pos = 2; ty = Syntax.tyRef (Syntax.named 1)
-            Syntax.imm InflightAction.to; ref = λ x. x; }, (record { pos = 4; st = List.[]; d = 0; at = λ x. x }, (record { pos = 15; st = List.[]; d
-            = 0; at = λ x. x }, tt),),) (m14 (c .before) (After-asking·gave c)) g; },)
-        lay5 : (c : After-passed-on) → at14 (c .before .before .before .before .before .before .before .before .blocks) (W0 (c .before .before .before
-            .before .before .before .before .before .κs) (c .before .before .before .before .before .before .before .before .args) (c .before .before
-            .before .before .before .before .before .before .blocks)) (m10 (c .before) (After-passed-on·gave c))
-        lay5 = λ c. (asking-requires record { before = c .before; passed-on = c .passed-on }, λ g. lay6 record { before = record { before = c .before;
-            passed-on = c .passed-on }; asking = Called.called ps·5 r·5 (claims· .11) T13 (record { pos = 3; st = List.[]; d = 0; at = λ x. x },
-            (record { pos = 14; st = List.[]; d = 0; at = λ x. x }, tt),) (m12 (c .before) (After-passed-on·gave c)) g; },)
-        lay4 : (c : After-look-up-circuit) → at16 (c .before .before .before .before .before .before .before .blocks) (W0 (c .before .before .before
+      Need-returns = (c : After-window-plan) → Post· (c .before .before .before .before .before .before .before .κs) (dens (c .before .before .before
+          .before .before .before .before .κs) (c .before .before .before .before .before .before .before .args)) (Function.resV r (c .before .before
+          .before .before .before .before .before .κs) (m19 (c .before) (After-window-plan·gave c) .0)) (Clauses.atExit (Kinds.endedOf 2 ps r) (c
+          .before .before .before .before .before .before .before .κs) (dens (c .before .before .before .before .before .before .before .κs) (c
+          .before .before .before .before .before .before .before .args)) (Enter.lastsP (c .before .before .before .before .before .before .before
+          .κs) 1 ps xs (dens (c .before .before .before .before .before .before .before .κs) (c .before .before .before .before .before .before
+          .before .args)) (m19 (c .before) (After-window-plan·gave c) .1)))
+      module _ (peer-of-requires : Need-peer-of-requires) (passed-on-requires : Need-passed-on-requires) (asking-requires : Need-asking-requires)
+          (scan-actions-requires : Need-scan-actions-requires) (window-plan-requires : Need-window-plan-requires) (returns : Need-returns) where
+        lay5 : (c : After-window-plan) → at6 (c .before .before .before .before .before .before .before .blocks) (W0 (c .before .before .before
             .before .before .before .before .κs) (c .before .before .before .before .before .before .before .args) (c .before .before .before .before
-            .before .before .before .blocks)) (m8 (c .before) (After-look-up-circuit·gave c))
-        lay4 = λ c. (passed-on-requires record { before = c .before; look-up-circuit = c .look-up-circuit }, λ g. lay5 record { before = record {
-            before = c .before; look-up-circuit = c .look-up-circuit }; passed-on = Called.called ps·4 r·4 (claims· .9) T10 (record { pos = 5; st =
-            List.[]; d = 0; at = λ x. x }, (record { pos = 13; st = List.[]; d = 0; at = λ x. x }, (record { pos = 10; st = List.[]; d = 0; at = λ x.
-            x }, (record { pos = 9; st = List.[]; d = 0; at = λ x. x }, tt),),),) (m9 (c .before) (After-look-up-circuit·gave c)) g; },)
-        lay3 : (c : After-at) → at17 (c .before .before .before .before .before .before .blocks) (W0 (c .before .before .before .before .before
-            .before .κs) (c .before .before .before .before .before .before .args) (c .before .before .before .before .before .before .blocks)) (m7 (c
-            .before) (After-at·gave c))
-        lay3 = λ c. (look-up-circuit-requires record { before = c .before; at = c .at }, λ g. lay4 record { before = record { before = c .before; at =
-            c .at }; look-up-circuit = Called.called ps·3 r·3 (claims· .7) T8 (record { pos = 1; ty = Syntax.tyRef (Syntax.named 0) Syntax.imm
-            RelayCircuit.to; ref = λ x. x; }, (record { pos = 4; st = List.[]; d = 0; at = λ x. x }, (record { pos = 12; st = List.[]; d = 0; at = λ
-            x. x }, tt),),) (m7 (c .before) (After-at·gave c)) g; },)
-        lay2 : (c : After-decode) → at18 (c .before .before .before .before .before .blocks) (W0 (c .before .before .before .before .before .κs) (c
-            .before .before .before .before .before .args) (c .before .before .before .before .before .blocks)) (m6 (c .before) (After-decode·gave c))
-        lay2 = λ c. (at-requires record { before = c .before; decode = c .decode }, λ g. lay3 record { before = record { before = c .before; decode =
-            c .decode }; at = Called.called ps·2 r·2 (claims· .5) T7 (Num.vFld 5 ((Syntax.field 1) ∷ List.[]) 8 λ x. RelayPacket.struct .as-values x
-            .1 .0, (Num.vLit 0, tt),) (m6 (c .before) (After-decode·gave c)) g; },)
-        lay1 : (c : After-peer-of) → at19 (c .before .before .before .before .blocks) (W0 (c .before .before .before .before .κs) (c .before .before
-            .before .before .args) (c .before .before .before .before .blocks)) (m5 (c .before) (After-peer-of·gave c))
-        lay1 = λ c. (decode-requires record { before = c .before; peer-of = c .peer-of }, λ g. lay2 record { before = record { before = c .before;
-            peer-of = c .peer-of }; decode = Called.called ps·1 r·1 (claims· .3) T6 (record { pos = 7; ty = Syntax.tyRef (Syntax.named 3) Syntax.imm
-            (Syntax.tyInt Syntax.w8); ref = λ x. x; }, tt,) (m5 (c .before) (After-peer-of·gave c)) g; },)
-        pub laid : (c : Start) → at24 (c .blocks) (W0 (c .κs) (c .args) (c .blocks)) (m0 (c .κs) (c .args) (c .blocks))
-        laid = λ c. λ g. λ g'. (tt, λ g''. (peer-of-requires record { before = record { before = record { before = c; shared-slice-known = record {
-            given = g } }; shared-slice-known2 = record { given = g' }; }; config = record { given = g'' }; }, λ g'3. lay1 record { before = record {
-            before = record { before = record { before = c; shared-slice-known = record { given = g } }; shared-slice-known2 = record { given = g' };
-            }; config = record { given = g'' }; }; peer-of = Called.called ps·0 r·0 (claims· .1) T5 (record { pos = 6; ty = Syntax.tyRef (Syntax.named
-            2) Syntax.imm (Syntax.tyInt Syntax.w8); ref = λ x. x; }, tt,) (m4 record { before = record { before = c; shared-slice-known = record {
-            given = g } }; shared-slice-known2 = record { given = g' }; } g'') g'3; },),)
-        module _ (κs : Lifetimes.Lfts 4) (qs : Lifetimes.Shares 4) where
-          pub asked : (a : Kinds.Dens κs ps) → (good : Kinds.GoodsP κs ps a) → (pre : Pre· κs a) → (bs : List.List Nat.ℕ) → Φ bs (Any.wantQ 4 ps r xs
-              m κs qs a (Post· κs a)) (Function.init 4 ps r xs m κs qs a)
-          asked = λ a good pre bs. laid record { κs = κs; args = record { circuits = a .0; inflight = a .1 .0; runtime = a .1 .1 .0; places = a .1 .1
-              .1 .0; packet = a .1 .1 .1 .1 .0; source = a .1 .1 .1 .1 .1 .0; body = a .1 .1 .1 .1 .1 .1 .0; }; blocks = bs; good = good; pre = pre; }
+            .before .before .before .blocks)) (m13 (c .before) (After-window-plan·gave c))
+        lay5 = λ c. ((Path.refl, (tt, (tt, (tt, (tt, (tt, (Path.refl, tt))))))), returns record { before = c .before; window-plan = c .window-plan },)
+        lay4 : (c : After-scan-actions) → at9 (c .before .before .before .before .before .before .blocks) (W0 (c .before .before .before .before
+            .before .before .κs) (c .before .before .before .before .before .before .args) (c .before .before .before .before .before .before
+            .blocks)) (m10 (c .before) (After-scan-actions·gave c))
+        lay4 = λ c. (window-plan-requires record { before = c .before; scan-actions = c .scan-actions }, λ g. lay5 record { before = record { before =
+            c .before; scan-actions = c .scan-actions }; window-plan = Called.called ps·4 r·4 (claims· .9) T13 (record { pos = 8; st = List.[]; d = 0;
+            at = λ x. x }, (record { pos = 5; st = List.[]; d = 0; at = λ x. x }, (record { pos = 6; st = List.[]; d = 0; at = λ x. x }, (record { pos
+            = 13; st = List.[]; d = 0; at = λ x. x }, (record { pos = 10; st = List.[]; d = 0; at = λ x. x }, (record { pos = 11; st = List.[]; d = 0;
+            at = λ x. x }, tt),),),),),) (m12 (c .before) (After-scan-actions·gave c)) g; },)
+        lay3 : (c : After-asking) → at11 (c .before .before .before .before .before .blocks) (W0 (c .before .before .before .before .before .κs) (c
+            .before .before .before .before .before .args) (c .before .before .before .before .before .blocks)) (m8 (c .before) (After-asking·gave c))
+        lay3 = λ c. (scan-actions-requires record { before = c .before; asking = c .asking }, λ g. lay4 record { before = record { before = c .before;
+            asking = c .asking }; scan-actions = Called.called ps·3 r·3 (claims· .7) T10 (record { pos = 1; ty = Syntax.tyRef (Syntax.named 0)
+            Syntax.imm InflightAction.to; ref = λ x. x; }, (record { pos = 3; st = List.[]; d = 0; at = λ x. x }, (record { pos = 12; st = List.[]; d
+            = 0; at = λ x. x }, tt),),) (m9 (c .before) (After-asking·gave c)) g; },)
+        lay2 : (c : After-passed-on) → at14 (c .before .before .before .before .blocks) (W0 (c .before .before .before .before .κs) (c .before .before
+            .before .before .args) (c .before .before .before .before .blocks)) (m5 (c .before) (After-passed-on·gave c))
+        lay2 = λ c. (asking-requires record { before = c .before; passed-on = c .passed-on }, λ g. lay3 record { before = record { before = c .before;
+            passed-on = c .passed-on }; asking = Called.called ps·2 r·2 (claims· .5) T8 (record { pos = 2; st = List.[]; d = 0; at = λ x. x }, (record
+            { pos = 11; st = List.[]; d = 0; at = λ x. x }, tt),) (m7 (c .before) (After-passed-on·gave c)) g; },)
+        lay1 : (c : After-peer-of) → at15 (c .before .before .before .blocks) (W0 (c .before .before .before .κs) (c .before .before .before .args) (c
+            .before .before .before .blocks)) (m4 (c .before) (After-peer-of·gave c))
+        lay1 = λ c. (passed-on-requires record { before = c .before; peer-of = c .peer-of }, λ g. lay2 record { before = record { before = c .before;
+            peer-of = c .peer-of }; passed-on = Called.called ps·1 r·1 (claims· .3) T5 (record { pos = 4; st = List.[]; d = 0; at = λ x. x }, (record
+            { pos = 6; st = List.[]; d = 0; at = λ x. x }, (record { pos = 10; st = List.[]; d = 0; at = λ x. x }, (record { pos = 9; st = List.[]; d
+            = 0; at = λ x. x }, tt),),),) (m4 (c .before) (After-peer-of·gave c)) g; },)
+        pub laid : (c : Start) → at19 (c .blocks) (W0 (c .κs) (c .args) (c .blocks)) (m0 (c .κs) (c .args) (c .blocks))
+        laid = λ c. λ g. (tt, λ g'. (peer-of-requires record { before = record { before = c; shared-slice-known = record { given = g } }; config =
+            record { given = g' }; }, λ g''. lay1 record { before = record { before = record { before = c; shared-slice-known = record { given = g }
+            }; config = record { given = g' }; }; peer-of = Called.called ps·0 r·0 (claims· .1) T4 (record { pos = 7; ty = Syntax.tyRef (Syntax.named
+            1) Syntax.imm (Syntax.tyInt Syntax.w8); ref = λ x. x; }, tt,) (m3 record { before = c; shared-slice-known = record { given = g } } g')
+            g''; },),)
+        module _ (κs : Lifetimes.Lfts 2) (qs : Lifetimes.Shares 2) where
+          pub asked : (a : Kinds.Dens κs ps) → (good : Kinds.GoodsP κs ps a) → (pre : Pre· κs a) → (bs : List.List Nat.ℕ) → Φ bs (Any.wantQ 2 ps r xs
+              m κs qs a (Post· κs a)) (Function.init 2 ps r xs m κs qs a)
+          asked = λ a good pre bs. laid record { κs = κs; args = record { inflight = a .0; runtime = a .1 .0; places = a .1 .1 .0; packet = a .1 .1 .1
+              .0; read = a .1 .1 .1 .1 .0; named = a .1 .1 .1 .1 .1 .0; source = a .1 .1 .1 .1 .1 .1 .0; }; blocks = bs; good = good; pre = pre; }
         module _ { M : Type 1 } (𝓤 : URA.URA M) (H : Wp.Heap 𝓤) (A : Atoms.Atoms 𝓤) (W : Kit.Given 𝓤 H A) (𝓣 : Wp.Tables 𝓤 H) (known0 : Plain.Known 𝓤
-            H A W 𝓣 1 ps·0 r·0 (claims· .0) (claims· .1) "hnsr_circuit::peer::peer_of") (known1 : Plain.Known 𝓤 H A W 𝓣 1 ps·1 r·1 (claims· .2)
-            (claims· .3) "hnsr_body::data_body::WindowBody::decode") (known2 : Plain.Known 𝓤 H A W 𝓣 0 ps·2 r·2 (claims· .4) (claims· .5)
-            "hnsr_circuit::question::at") (known3 : Plain.Known 𝓤 H A W 𝓣 1 ps·3 r·3 (claims· .6) (claims· .7)
-            "hnsr_circuit::lookup::look_up_circuit") (known4 : Plain.Known 𝓤 H A W 𝓣 0 ps·4 r·4 (claims· .8) (claims· .9)
-            "hnsr_circuit::message::passed_on") (known5 : Plain.Known 𝓤 H A W 𝓣 0 ps·5 r·5 (claims· .10) (claims· .11) "hnsr_circuit::queue::asking")
-            (known6 : Plain.Known 𝓤 H A W 𝓣 1 ps·6 r·6 (claims· .12) (claims· .13) "hnsr_circuit::tables::inflight::scan_actions") (known7 :
-            Plain.Known 𝓤 H A W 𝓣 0 ps·7 r·7 (claims· .14) (claims· .15) "hnsr_circuit::window::window_plan") where
-          pub spec : Statement.Triple 𝓤 (Wp.WpFn 𝓤 H (𝓣 .C) (𝓣 .Λ) (Function.fnOf 4 ps r xs m hs body)) (Function.plainOf 𝓤 H A 4 ps r Pre· Post·)
-          spec = Plain.t-fn-plain 𝓤 H A W 𝓣 4 ps r xs m hs body (λ κs qs bs. Φ bs) (λ κs qs bs bd. typed κs qs 𝓤 H A W 𝓣 (known0, known1, known2,
-              known3, known4, known5, known6, known7,) bs bd) Pre· Post· asked
+            H A W 𝓣 1 ps·0 r·0 (claims· .0) (claims· .1) "hnsr_circuit::peer::peer_of") (known1 : Plain.Known 𝓤 H A W 𝓣 0 ps·1 r·1 (claims· .2)
+            (claims· .3) "hnsr_circuit::message::passed_on") (known2 : Plain.Known 𝓤 H A W 𝓣 0 ps·2 r·2 (claims· .4) (claims· .5)
+            "hnsr_circuit::queue::asking") (known3 : Plain.Known 𝓤 H A W 𝓣 1 ps·3 r·3 (claims· .6) (claims· .7)
+            "hnsr_circuit::tables::inflight::scan_actions") (known4 : Plain.Known 𝓤 H A W 𝓣 0 ps·4 r·4 (claims· .8) (claims· .9)
+            "hnsr_circuit::window::window_plan") where
+          pub spec : Statement.Triple 𝓤 (Wp.WpFn 𝓤 H (𝓣 .C) (𝓣 .Λ) (Function.fnOf 2 ps r xs m hs body)) (Function.plainOf 𝓤 H A 2 ps r Pre· Post·)
+          spec = Plain.t-fn-plain 𝓤 H A W 𝓣 2 ps r xs m hs body (λ κs qs bs. Φ bs) (λ κs qs bs bd. typed κs qs 𝓤 H A W 𝓣 (known0, known1, known2,
+              known3, known4) bs bd) Pre· Post· asked

@@ -5,8 +5,6 @@ use Rattle.hnsr_circuit.proofs.places.Places
 use Rattle.hnsr_circuit.proofs.places.Places.Laws
 use Rattle.hnsr_circuit.proofs.records.ActionFound
 use Rattle.hnsr_circuit.proofs.records.ActionFound.Laws as Laws'
-use Rattle.hnsr_circuit.proofs.records.Question
-use Rattle.hnsr_circuit.proofs.records.Question.Laws as Laws''
 use borrow.Author.Called
 use borrow.Fn.Any
 use borrow.Fn.Call
@@ -30,7 +28,7 @@ use borrow.Table.Typed
 use contract.Lifetimes
 use denote.Exit
 use denote.Struct.Declared
-use denote.Struct.Laws as Laws'''
+use denote.Struct.Laws as Laws''
 use denote.Triple.Clauses
 use denote.Triple.Statement
 use ghost.Atoms
@@ -39,6 +37,7 @@ use mathlib.Core.List
 use mathlib.Core.Option
 use mathlib.Core.Path
 use mir.Syntax
+use mir.Val
 use prog.Wp
 use types.Kit
 use mathlib.Core.List.{_∷_}
@@ -46,44 +45,36 @@ use mathlib.Core.List.{_∷_}
 abbrev ref0 : Syntax.Ty
 ref0 = Syntax.tyRef (Syntax.named 0) Syntax.imm InflightAction.to
 abbrev pub ps : List.List (Kinds.PK 1)
-ps = (ShrSlice.pShrS InflightAction.row 0 tt) ∷ (Value.pVal record { ty = Declared.row Places.the-type; one = Path.refl; val = Laws'''.val
-    Places.the-type Laws.the-laws; tells = Laws'''.tells Places.the-type Laws.the-laws; still = Laws'''.still Places.the-type Laws.the-copy Exit.yes;
-    row = Rows.whole (Declared.row Places.the-type); rd = λ x. x; mk = λ x. x; } λ M 𝓤 H A W. record { copies = Laws'''.copy Places.the-type
-    Laws.the-copy 𝓤 H A W; lawful = Laws'''.lawful Places.the-type Laws.the-laws 𝓤 H A W; makes = Laws'''.makes Places.the-type Laws.the-plain 𝓤 H A;
-    in-mem = Local.mem-whole 𝓤 H A W (Declared.row Places.the-type); of-mem = Local.whole-mem 𝓤 H A W (Declared.row Places.the-type); }) ∷ (Value.pVal
-    record { ty = Declared.row Question.the-type; one = Path.refl; val = Laws'''.val Question.the-type Laws''.the-laws; tells = Laws'''.tells
-    Question.the-type Laws''.the-laws; still = Laws'''.still Question.the-type Laws''.the-copy Exit.yes; row = Rows.whole (Declared.row
-    Question.the-type); rd = λ x. x; mk = λ x. x; } λ M 𝓤 H A W. record { copies = Laws'''.copy Question.the-type Laws''.the-copy 𝓤 H A W; lawful =
-    Laws'''.lawful Question.the-type Laws''.the-laws 𝓤 H A W; makes = Laws'''.makes Question.the-type Laws''.the-plain 𝓤 H A; in-mem = Local.mem-whole
-    𝓤 H A W (Declared.row Question.the-type); of-mem = Local.whole-mem 𝓤 H A W (Declared.row Question.the-type); }) ∷ List.[]
+ps = (ShrSlice.pShrS InflightAction.row 0 tt) ∷ (Value.pVal record { ty = Declared.row Places.the-type; one = Path.refl; val = Laws''.val
+    Places.the-type Laws.the-laws; tells = Laws''.tells Places.the-type Laws.the-laws; still = Laws''.still Places.the-type Laws.the-copy Exit.yes;
+    row = Rows.whole (Declared.row Places.the-type); rd = λ x. x; mk = λ x. x; } λ M 𝓤 H A W. record { copies = Laws''.copy Places.the-type
+    Laws.the-copy 𝓤 H A W; lawful = Laws''.lawful Places.the-type Laws.the-laws 𝓤 H A W; makes = Laws''.makes Places.the-type Laws.the-plain 𝓤 H A;
+    in-mem = Local.mem-whole 𝓤 H A W (Declared.row Places.the-type); of-mem = Local.whole-mem 𝓤 H A W (Declared.row Places.the-type); }) ∷ (Num.pNum
+    Syntax.w64) ∷ (Num.pNum Syntax.w64) ∷ List.[]
 abbrev pub r : Kinds.RK 1
-r = Value.rVal record { ty = Declared.row ActionFound.the-type; one = Path.refl; val = Laws'''.val ActionFound.the-type Laws'.the-laws; tells =
-    Laws'''.tells ActionFound.the-type Laws'.the-laws; still = Laws'''.still ActionFound.the-type Laws'.the-copy Exit.yes; row = Rows.whole
-    (Declared.row ActionFound.the-type); rd = λ x. x; mk = λ x. x; } λ M 𝓤 H A W. record { copies = Laws'''.copy ActionFound.the-type Laws'.the-copy 𝓤
-    H A W; lawful = Laws'''.lawful ActionFound.the-type Laws'.the-laws 𝓤 H A W; makes = Laws'''.makes ActionFound.the-type Laws'.the-plain 𝓤 H A;
-    in-mem = Local.mem-whole 𝓤 H A W (Declared.row ActionFound.the-type); of-mem = Local.whole-mem 𝓤 H A W (Declared.row ActionFound.the-type); }
+r = Value.rVal record { ty = Declared.row ActionFound.the-type; one = Path.refl; val = Laws''.val ActionFound.the-type Laws'.the-laws; tells =
+    Laws''.tells ActionFound.the-type Laws'.the-laws; still = Laws''.still ActionFound.the-type Laws'.the-copy Exit.yes; row = Rows.whole
+    (Declared.row ActionFound.the-type); rd = λ x. x; mk = λ x. x; } λ M 𝓤 H A W. record { copies = Laws''.copy ActionFound.the-type Laws'.the-copy 𝓤
+    H A W; lawful = Laws''.lawful ActionFound.the-type Laws'.the-laws 𝓤 H A W; makes = Laws''.makes ActionFound.the-type Laws'.the-plain 𝓤 H A; in-mem
+    = Local.mem-whole 𝓤 H A W (Declared.row ActionFound.the-type); of-mem = Local.whole-mem 𝓤 H A W (Declared.row ActionFound.the-type); }
 abbrev pub xs : List.List Syntax.Ty
 xs = (Syntax.tyInt Syntax.w64) ∷ InflightAction.ty ∷ (Syntax.tyInt Syntax.w64) ∷ List.[]
 abbrev pub m : Nat.ℕ
 m = 0
 abbrev pub ps·0 : List.List (Kinds.PK 1)
-ps·0 = (ShrSlice.pShrS InflightAction.row 0 tt) ∷ (Value.pVal record { ty = Declared.row Places.the-type; one = Path.refl; val = Laws'''.val
-    Places.the-type Laws.the-laws; tells = Laws'''.tells Places.the-type Laws.the-laws; still = Laws'''.still Places.the-type Laws.the-copy Exit.yes;
-    row = Rows.whole (Declared.row Places.the-type); rd = λ x. x; mk = λ x. x; } λ M 𝓤 H A W. record { copies = Laws'''.copy Places.the-type
-    Laws.the-copy 𝓤 H A W; lawful = Laws'''.lawful Places.the-type Laws.the-laws 𝓤 H A W; makes = Laws'''.makes Places.the-type Laws.the-plain 𝓤 H A;
-    in-mem = Local.mem-whole 𝓤 H A W (Declared.row Places.the-type); of-mem = Local.whole-mem 𝓤 H A W (Declared.row Places.the-type); }) ∷ (Value.pVal
-    record { ty = Declared.row Question.the-type; one = Path.refl; val = Laws'''.val Question.the-type Laws''.the-laws; tells = Laws'''.tells
-    Question.the-type Laws''.the-laws; still = Laws'''.still Question.the-type Laws''.the-copy Exit.yes; row = Rows.whole (Declared.row
-    Question.the-type); rd = λ x. x; mk = λ x. x; } λ M 𝓤 H A W. record { copies = Laws'''.copy Question.the-type Laws''.the-copy 𝓤 H A W; lawful =
-    Laws'''.lawful Question.the-type Laws''.the-laws 𝓤 H A W; makes = Laws'''.makes Question.the-type Laws''.the-plain 𝓤 H A; in-mem = Local.mem-whole
-    𝓤 H A W (Declared.row Question.the-type); of-mem = Local.whole-mem 𝓤 H A W (Declared.row Question.the-type); }) ∷ List.[]
+ps·0 = (ShrSlice.pShrS InflightAction.row 0 tt) ∷ (Value.pVal record { ty = Declared.row Places.the-type; one = Path.refl; val = Laws''.val
+    Places.the-type Laws.the-laws; tells = Laws''.tells Places.the-type Laws.the-laws; still = Laws''.still Places.the-type Laws.the-copy Exit.yes;
+    row = Rows.whole (Declared.row Places.the-type); rd = λ x. x; mk = λ x. x; } λ M 𝓤 H A W. record { copies = Laws''.copy Places.the-type
+    Laws.the-copy 𝓤 H A W; lawful = Laws''.lawful Places.the-type Laws.the-laws 𝓤 H A W; makes = Laws''.makes Places.the-type Laws.the-plain 𝓤 H A;
+    in-mem = Local.mem-whole 𝓤 H A W (Declared.row Places.the-type); of-mem = Local.whole-mem 𝓤 H A W (Declared.row Places.the-type); }) ∷ (Num.pNum
+    Syntax.w64) ∷ (Num.pNum Syntax.w64) ∷ List.[]
 abbrev pub r·0 : Kinds.RK 1
 r·0 = Num.rNum Syntax.w64
 abbrev pub ps·1 : List.List (Kinds.PK 1)
-ps·1 = (ShrSlice.pShrS InflightAction.row 0 tt) ∷ (Value.pVal record { ty = Declared.row Places.the-type; one = Path.refl; val = Laws'''.val
-    Places.the-type Laws.the-laws; tells = Laws'''.tells Places.the-type Laws.the-laws; still = Laws'''.still Places.the-type Laws.the-copy Exit.yes;
-    row = Rows.whole (Declared.row Places.the-type); rd = λ x. x; mk = λ x. x; } λ M 𝓤 H A W. record { copies = Laws'''.copy Places.the-type
-    Laws.the-copy 𝓤 H A W; lawful = Laws'''.lawful Places.the-type Laws.the-laws 𝓤 H A W; makes = Laws'''.makes Places.the-type Laws.the-plain 𝓤 H A;
+ps·1 = (ShrSlice.pShrS InflightAction.row 0 tt) ∷ (Value.pVal record { ty = Declared.row Places.the-type; one = Path.refl; val = Laws''.val
+    Places.the-type Laws.the-laws; tells = Laws''.tells Places.the-type Laws.the-laws; still = Laws''.still Places.the-type Laws.the-copy Exit.yes;
+    row = Rows.whole (Declared.row Places.the-type); rd = λ x. x; mk = λ x. x; } λ M 𝓤 H A W. record { copies = Laws''.copy Places.the-type
+    Laws.the-copy 𝓤 H A W; lawful = Laws''.lawful Places.the-type Laws.the-laws 𝓤 H A W; makes = Laws''.makes Places.the-type Laws.the-plain 𝓤 H A;
     in-mem = Local.mem-whole 𝓤 H A W (Declared.row Places.the-type); of-mem = Local.whole-mem 𝓤 H A W (Declared.row Places.the-type); }) ∷ (Num.pNum
     Syntax.w64) ∷ List.[]
 abbrev pub r·1 : Kinds.RK 1
@@ -91,25 +82,25 @@ r·1 = InflightAction.result
 abbrev pub ps·2 : List.List (Kinds.PK 0)
 ps·2 = (Num.pNum Syntax.w64) ∷ (Num.pNum Syntax.w64) ∷ InflightAction.param ∷ List.[]
 abbrev pub r·2 : Kinds.RK 0
-r·2 = Value.rVal record { ty = Declared.row ActionFound.the-type; one = Path.refl; val = Laws'''.val ActionFound.the-type Laws'.the-laws; tells =
-    Laws'''.tells ActionFound.the-type Laws'.the-laws; still = Laws'''.still ActionFound.the-type Laws'.the-copy Exit.yes; row = Rows.whole
-    (Declared.row ActionFound.the-type); rd = λ x. x; mk = λ x. x; } λ M 𝓤 H A W. record { copies = Laws'''.copy ActionFound.the-type Laws'.the-copy 𝓤
-    H A W; lawful = Laws'''.lawful ActionFound.the-type Laws'.the-laws 𝓤 H A W; makes = Laws'''.makes ActionFound.the-type Laws'.the-plain 𝓤 H A;
-    in-mem = Local.mem-whole 𝓤 H A W (Declared.row ActionFound.the-type); of-mem = Local.whole-mem 𝓤 H A W (Declared.row ActionFound.the-type); }
+r·2 = Value.rVal record { ty = Declared.row ActionFound.the-type; one = Path.refl; val = Laws''.val ActionFound.the-type Laws'.the-laws; tells =
+    Laws''.tells ActionFound.the-type Laws'.the-laws; still = Laws''.still ActionFound.the-type Laws'.the-copy Exit.yes; row = Rows.whole
+    (Declared.row ActionFound.the-type); rd = λ x. x; mk = λ x. x; } λ M 𝓤 H A W. record { copies = Laws''.copy ActionFound.the-type Laws'.the-copy 𝓤
+    H A W; lawful = Laws''.lawful ActionFound.the-type Laws'.the-laws 𝓤 H A W; makes = Laws''.makes ActionFound.the-type Laws'.the-plain 𝓤 H A; in-mem
+    = Local.mem-whole 𝓤 H A W (Declared.row ActionFound.the-type); of-mem = Local.whole-mem 𝓤 H A W (Declared.row ActionFound.the-type); }
 abbrev pub hs : List.List Syntax.Home
 hs = Syntax.valueLocal ∷ Syntax.valueLocal ∷ Syntax.valueLocal ∷ Syntax.valueLocal ∷ Syntax.valueLocal ∷ Syntax.valueLocal ∷ Syntax.valueLocal ∷
-    List.[]
+    Syntax.valueLocal ∷ List.[]
 abbrev b0 : Syntax.Body
 b0 = Syntax.call "hnsr_circuit::tables::inflight::find_action" ((Syntax.copy (Syntax.place 1 List.[])) ∷ (Syntax.copy (Syntax.place 2 List.[])) ∷
-    (Syntax.copy (Syntax.place 3 List.[])) ∷ List.[]) (Syntax.place 4 List.[])
+    (Syntax.copy (Syntax.place 3 List.[])) ∷ (Syntax.copy (Syntax.place 4 List.[])) ∷ List.[]) (Syntax.place 5 List.[])
 abbrev b1 : Syntax.Body
 b1 = Syntax.call "hnsr_circuit::tables::inflight::action_at" ((Syntax.copy (Syntax.place 1 List.[])) ∷ (Syntax.copy (Syntax.place 2 List.[])) ∷
-    (Syntax.copy (Syntax.place 4 List.[])) ∷ List.[]) (Syntax.place 5 List.[])
+    (Syntax.copy (Syntax.place 5 List.[])) ∷ List.[]) (Syntax.place 6 List.[])
 abbrev b2 : Syntax.Body
-b2 = Syntax.assign (Syntax.place 6 List.[]) (Syntax.rvOpd (Syntax.copy (Syntax.place 1 ((Syntax.field 1) ∷ List.[]))))
+b2 = Syntax.assign (Syntax.place 7 List.[]) (Syntax.rvOpd (Syntax.copy (Syntax.place 1 ((Syntax.field 1) ∷ List.[]))))
 abbrev b3 : Syntax.Body
-b3 = Syntax.call "hnsr_circuit::lookup::action_found" ((Syntax.copy (Syntax.place 4 List.[])) ∷ (Syntax.copy (Syntax.place 6 List.[])) ∷ (Syntax.copy
-    (Syntax.place 5 List.[])) ∷ List.[]) (Syntax.place 0 List.[])
+b3 = Syntax.call "hnsr_circuit::lookup::action_found" ((Syntax.copy (Syntax.place 5 List.[])) ∷ (Syntax.copy (Syntax.place 7 List.[])) ∷ (Syntax.copy
+    (Syntax.place 6 List.[])) ∷ List.[]) (Syntax.place 0 List.[])
 abbrev b4 : Syntax.Body
 b4 = Syntax.return
 abbrev b5 : Syntax.Body
@@ -131,45 +122,51 @@ e1 = (1, Rows.sslice InflightAction.row ref0 0)
 abbrev e2 : Row.Entry
 e2 = (2, Rows.whole (Declared.row Places.the-type))
 abbrev e3 : Row.Entry
-e3 = (3, Rows.whole (Declared.row Question.the-type))
+e3 = (3, Rows.sc-here (Row.sInt Syntax.w64))
 abbrev e4 : Row.Entry
-e4 = (4, Rows.any-gone (Syntax.tyInt Syntax.w64))
+e4 = (4, Rows.sc-here (Row.sInt Syntax.w64))
 abbrev e5 : Row.Entry
-e5 = (5, Rows.any-gone InflightAction.ty)
+e5 = (5, Rows.any-gone (Syntax.tyInt Syntax.w64))
 abbrev e6 : Row.Entry
-e6 = (6, Rows.any-gone (Syntax.tyInt Syntax.w64))
+e6 = (6, Rows.any-gone InflightAction.ty)
+abbrev e7 : Row.Entry
+e7 = (7, Rows.any-gone (Syntax.tyInt Syntax.w64))
 abbrev e0·1 : Row.Entry
 e0·1 = (0, Rows.whole (Declared.row ActionFound.the-type))
 abbrev e2·1 : Row.Entry
 e2·1 = (2, Rows.any-gone Laws.mir)
 abbrev e3·1 : Row.Entry
-e3·1 = (3, Rows.any-gone Laws''.mir)
+e3·1 = (3, Rows.any-gone (Syntax.tyInt Syntax.w64))
 abbrev e4·1 : Row.Entry
-e4·1 = (4, Rows.sc-here (Row.sInt Syntax.w64))
+e4·1 = (4, Rows.any-gone (Syntax.tyInt Syntax.w64))
 abbrev e5·1 : Row.Entry
-e5·1 = (5, InflightAction.held)
+e5·1 = (5, Rows.sc-here (Row.sInt Syntax.w64))
 abbrev e6·1 : Row.Entry
-e6·1 = (6, Rows.sc-here (Row.sInt Syntax.w64))
+e6·1 = (6, InflightAction.held)
+abbrev e7·1 : Row.Entry
+e7·1 = (7, Rows.sc-here (Row.sInt Syntax.w64))
 abbrev pub t0 : List.List Row.Entry
-t0 = e0 ∷ e1 ∷ e2 ∷ e3 ∷ e4 ∷ e5 ∷ e6 ∷ List.[]
+t0 = e0 ∷ e1 ∷ e2 ∷ e3 ∷ e4 ∷ e5 ∷ e6 ∷ e7 ∷ List.[]
 abbrev pub t1 : List.List Row.Entry
-t1 = e0·1 ∷ e1 ∷ e2·1 ∷ e3·1 ∷ e4 ∷ e5 ∷ e6 ∷ List.[]
+t1 = e0·1 ∷ e1 ∷ e2·1 ∷ e3·1 ∷ e4·1 ∷ e5 ∷ e6 ∷ e7 ∷ List.[]
 abbrev pub t2 : List.List Row.Entry
-t2 = e0 ∷ e1 ∷ e2 ∷ e3 ∷ e4·1 ∷ e5 ∷ e6 ∷ List.[]
+t2 = e0 ∷ e1 ∷ e2 ∷ e3 ∷ e4 ∷ e5·1 ∷ e6 ∷ e7 ∷ List.[]
 abbrev pub t3 : List.List Row.Entry
-t3 = e0 ∷ e1 ∷ e2 ∷ e3·1 ∷ e4·1 ∷ e5 ∷ e6 ∷ List.[]
+t3 = e0 ∷ e1 ∷ e2 ∷ e3 ∷ e4 ∷ e5·1 ∷ e6·1 ∷ e7 ∷ List.[]
 abbrev pub t4 : List.List Row.Entry
-t4 = e0 ∷ e1 ∷ e2 ∷ e3·1 ∷ e4·1 ∷ e5·1 ∷ e6 ∷ List.[]
+t4 = e0 ∷ e1 ∷ e2·1 ∷ e3 ∷ e4 ∷ e5·1 ∷ e6·1 ∷ e7 ∷ List.[]
 abbrev pub t5 : List.List Row.Entry
-t5 = e0 ∷ e1 ∷ e2·1 ∷ e3·1 ∷ e4·1 ∷ e5·1 ∷ e6 ∷ List.[]
+t5 = e0 ∷ e1 ∷ e2·1 ∷ e3 ∷ e4 ∷ e5·1 ∷ e6·1 ∷ e7·1 ∷ List.[]
 abbrev pub t6 : List.List Row.Entry
-t6 = e0 ∷ e1 ∷ e2·1 ∷ e3·1 ∷ e4·1 ∷ e5·1 ∷ e6·1 ∷ List.[]
+t6 = e0·1 ∷ e1 ∷ e2·1 ∷ e3 ∷ e4 ∷ e5·1 ∷ e6·1 ∷ e7·1 ∷ List.[]
 abbrev pub t7 : List.List Row.Entry
-t7 = e0·1 ∷ e1 ∷ e2·1 ∷ e3·1 ∷ e4·1 ∷ e5·1 ∷ e6·1 ∷ List.[]
+t7 = e0·1 ∷ e1 ∷ e2·1 ∷ e3 ∷ e4 ∷ e5 ∷ e6·1 ∷ e7·1 ∷ List.[]
 abbrev pub t8 : List.List Row.Entry
-t8 = e0·1 ∷ e1 ∷ e2·1 ∷ e3·1 ∷ e4 ∷ e5·1 ∷ e6·1 ∷ List.[]
+t8 = e0·1 ∷ e1 ∷ e2·1 ∷ e3 ∷ e4 ∷ e5 ∷ e6 ∷ e7·1 ∷ List.[]
 abbrev pub t9 : List.List Row.Entry
-t9 = e0·1 ∷ e1 ∷ e2·1 ∷ e3·1 ∷ e4 ∷ e5 ∷ e6·1 ∷ List.[]
+t9 = e0·1 ∷ e1 ∷ e2·1 ∷ e3 ∷ e4 ∷ e5 ∷ e6 ∷ e7 ∷ List.[]
+abbrev pub t10 : List.List Row.Entry
+t10 = e0·1 ∷ e1 ∷ e2·1 ∷ e3·1 ∷ e4 ∷ e5 ∷ e6 ∷ e7 ∷ List.[]
 abbrev pub T0 : Row.Cx
 T0 = record { locals = t0; slots = List.[] }
 abbrev pub T1 : Row.Cx
@@ -191,33 +188,37 @@ T8 = record { locals = t8; slots = List.[] }
 abbrev pub T9 : Row.Cx
 T9 = record { locals = t9; slots = List.[] }
 abbrev pub T10 : Row.Cx
-T10 = record { locals = t1; slots = List.[] }
+T10 = record { locals = t10; slots = List.[] }
+abbrev pub T11 : Row.Cx
+T11 = record { locals = t1; slots = List.[] }
 abbrev pub O0 : Typed.Outs
 O0 = record { next = Option.none; exits = List.[]; returns = Option.some T1 }
 module _ (claims· : Claims) where
   abbrev s0 : Typed.Both T0 T2
   s0 = Call.callB ps·0 r·0 (claims· .0) (claims· .1) T0 (record { pos = 1; ty = Syntax.tyRef (Syntax.named 0) Syntax.imm InflightAction.to; ref = λ x.
-      x; }, (record { pos = 2; st = List.[]; d = 0; at = λ x. x }, (record { pos = 3; st = List.[]; d = 0; at = λ x. x }, tt),),) 4 (0 ∷ List.[])
-      (Syntax.tyInt Syntax.w64)
-  abbrev s1 : Typed.Mo T2 → Typed.Mo T3
-  s1 = Scalar.n-room T2 3 Laws''.mir
-  abbrev s2 : Typed.Both T3 T4
-  s2 = Call.callB ps·1 r·1 (claims· .2) (claims· .3) T3 (record { pos = 1; ty = Syntax.tyRef (Syntax.named 0) Syntax.imm InflightAction.to; ref = λ x.
-      x; }, (record { pos = 2; st = List.[]; d = 0; at = λ x. x }, (Num.vAt 4 λ x. x, tt)),) 5 (0 ∷ List.[]) InflightAction.ty
+      x; }, (record { pos = 2; st = List.[]; d = 0; at = λ x. x }, (Num.vAt 3 λ x. x, (Num.vAt 4 λ x. x, tt)),),) 5 (0 ∷ List.[]) (Syntax.tyInt
+      Syntax.w64)
+  abbrev s1 : Typed.Both T2 T3
+  s1 = Call.callB ps·1 r·1 (claims· .2) (claims· .3) T2 (record { pos = 1; ty = Syntax.tyRef (Syntax.named 0) Syntax.imm InflightAction.to; ref = λ x.
+      x; }, (record { pos = 2; st = List.[]; d = 0; at = λ x. x }, (Num.vAt 5 λ x. x, tt)),) 6 (0 ∷ List.[]) InflightAction.ty
+  abbrev s2 : Typed.Mo T3 → Typed.Mo T4
+  s2 = Scalar.n-room T3 2 Laws.mir
   abbrev s3 : Typed.Mo T4 → Typed.Mo T5
-  s3 = Scalar.n-room T4 2 Laws.mir
-  abbrev s4 : Typed.Mo T5 → Typed.Mo T6
-  s4 = Scalar.n-use T5 (Scalar.oFld 1 ((Syntax.field 1) ∷ List.[]) (Syntax.tyInt Syntax.w64) 8 Shared.lenV) 6 (Rows.sc-here (Row.sInt Syntax.w64))
+  s3 = Scalar.n-use T4 (Scalar.oFld 1 ((Syntax.field 1) ∷ List.[]) (Syntax.tyInt Syntax.w64) 8 Shared.lenV) 7 (Rows.sc-here (Row.sInt Syntax.w64))
       (Row.sInt Syntax.w64 .of)
-  abbrev s5 : Typed.Both T6 T7
-  s5 = Call.callB ps·2 r·2 (claims· .4) (claims· .5) T6 (Num.vAt 4 λ x. x, (Num.vAt 6 λ x. x, (record { pos = 5; st = List.[]; d = 0; at = λ x. x },
+  abbrev s4 : Typed.Both T5 T6
+  s4 = Call.callB ps·2 r·2 (claims· .4) (claims· .5) T5 (Num.vAt 5 λ x. x, (Num.vAt 7 λ x. x, (record { pos = 6; st = List.[]; d = 0; at = λ x. x },
       tt)),) 0 List.[] Laws'.mir
+  abbrev s5 : Typed.Mo T6 → Typed.Mo T7
+  s5 = Scalar.n-room T6 5 (Syntax.tyInt Syntax.w64)
   abbrev s6 : Typed.Mo T7 → Typed.Mo T8
-  s6 = Scalar.n-room T7 4 (Syntax.tyInt Syntax.w64)
+  s6 = Scalar.n-room T7 6 InflightAction.ty
   abbrev s7 : Typed.Mo T8 → Typed.Mo T9
-  s7 = Scalar.n-room T8 5 InflightAction.ty
+  s7 = Scalar.n-room T8 7 (Syntax.tyInt Syntax.w64)
   abbrev s8 : Typed.Mo T9 → Typed.Mo T10
-  s8 = Scalar.n-room T9 6 (Syntax.tyInt Syntax.w64)
+  s8 = Scalar.n-room T9 3 (Syntax.tyInt Syntax.w64)
+  abbrev s9 : Typed.Mo T10 → Typed.Mo T11
+  s9 = Scalar.n-room T10 4 (Syntax.tyInt Syntax.w64)
   module _ (Pre· : (κs : Lifetimes.Lfts 1) → Kinds.Dens κs ps → Type 0) (Post· : (κs : Lifetimes.Lfts 1) → (a : Kinds.Dens κs ps) → Kinds.Plain 1 ps r
       κs) where
     module _ (M : Type 1) where
@@ -228,28 +229,30 @@ module _ (claims· : Claims) where
           "hnsr_circuit::lookup::action_found") → Statement.Triple 𝓤 (Wp.WpFn 𝓤 H (𝓣 .C) (𝓣 .Λ) (Function.fnOf 1 ps r xs m hs body)) (Function.plainOf
           𝓤 H A 1 ps r Pre· Post·)
     module _ where
-      abbrev at0 : Typed.TF T10 O0
+      abbrev at0 : Typed.TF T11 O0
       at0 = Typed.atRet O0
-      abbrev at1 : Typed.TF T9 O0
-      at1 = λ Ψ. Typed.pass T9 T10 s8 (at0 Ψ)
-      abbrev at2 : Typed.TF T8 O0
-      at2 = λ Ψ. Typed.pass T8 T9 s7 (at1 Ψ)
-      abbrev at3 : Typed.TF T7 O0
-      at3 = λ Ψ. Typed.pass T7 T8 s6 (at2 Ψ)
-      abbrev at4 : Typed.TF T6 O0
-      at4 = λ Ψ. Typed.both s5 (at3 Ψ)
-      abbrev at5 : Typed.TF T5 O0
-      at5 = λ Ψ. Typed.pass T5 T6 s4 (at4 Ψ)
-      abbrev at6 : Typed.TF T4 O0
-      at6 = λ Ψ. Typed.pass T4 T5 s3 (at5 Ψ)
-      abbrev at7 : Typed.TF T3 O0
-      at7 = λ Ψ. Typed.both s2 (at6 Ψ)
-      abbrev at8 : Typed.TF T2 O0
-      at8 = λ Ψ. Typed.pass T2 T3 s1 (at7 Ψ)
-      abbrev at9 : Typed.TF T0 O0
-      at9 = λ Ψ. Typed.both s0 (at8 Ψ)
+      abbrev at1 : Typed.TF T10 O0
+      at1 = λ Ψ. Typed.pass T10 T11 s9 (at0 Ψ)
+      abbrev at2 : Typed.TF T9 O0
+      at2 = λ Ψ. Typed.pass T9 T10 s8 (at1 Ψ)
+      abbrev at3 : Typed.TF T8 O0
+      at3 = λ Ψ. Typed.pass T8 T9 s7 (at2 Ψ)
+      abbrev at4 : Typed.TF T7 O0
+      at4 = λ Ψ. Typed.pass T7 T8 s6 (at3 Ψ)
+      abbrev at5 : Typed.TF T6 O0
+      at5 = λ Ψ. Typed.pass T6 T7 s5 (at4 Ψ)
+      abbrev at6 : Typed.TF T5 O0
+      at6 = λ Ψ. Typed.both s4 (at5 Ψ)
+      abbrev at7 : Typed.TF T4 O0
+      at7 = λ Ψ. Typed.pass T4 T5 s3 (at6 Ψ)
+      abbrev at8 : Typed.TF T3 O0
+      at8 = λ Ψ. Typed.pass T3 T4 s2 (at7 Ψ)
+      abbrev at9 : Typed.TF T2 O0
+      at9 = λ Ψ. Typed.both s1 (at8 Ψ)
+      abbrev at10 : Typed.TF T0 O0
+      at10 = λ Ψ. Typed.both s0 (at9 Ψ)
       abbrev pub Φ : Typed.TF T0 O0
-      Φ = at9
+      Φ = at10
       module _ { M : Type 1 } (𝓤 : URA.URA M) (H : Wp.Heap 𝓤) (A : Atoms.Atoms 𝓤) (W : Kit.Given 𝓤 H A) (𝓣 : Wp.Tables 𝓤 H) where
         abbrev Knowns : Type 1
         Knowns = Plain.Known 𝓤 H A W 𝓣 1 ps·0 r·0 (claims· .0) (claims· .1) "hnsr_circuit::tables::inflight::find_action" × Plain.Known 𝓤 H A W 𝓣 1
@@ -279,83 +282,86 @@ module _ (claims· : Claims) where
         abbrev G9 : Row.Cx
         G9 = record { locals = t9; slots = life0 ∷ List.[] }
         abbrev G10 : Row.Cx
-        G10 = record { locals = t1; slots = life0 ∷ List.[] }
+        G10 = record { locals = t10; slots = life0 ∷ List.[] }
+        abbrev G11 : Row.Cx
+        G11 = record { locals = t1; slots = life0 ∷ List.[] }
         abbrev Δ0 : Typed.Outs
         Δ0 = record { next = Option.none; exits = List.[]; returns = Option.some G1 }
         module _ { M : Type 1 } (𝓤 : URA.URA M) (H : Wp.Heap 𝓤) (A : Atoms.Atoms 𝓤) (W : Kit.Given 𝓤 H A) (𝓣 : Wp.Tables 𝓤 H) (known : Knowns 𝓤 H A W
             𝓣) (bs : List.List Nat.ℕ) (bd : Lifetimes.AllOutlive 1 (Kinds.osR r) κs) where
           abbrev E : Wp.Env 𝓤 H
           E = Frame.EnvOf 𝓤 H ((Kinds.tyR r) ∷ (Enter.tysP ps xs)) bs
-          d0 : Typed.Typed 𝓤 H A 𝓣 E G10 b4 Δ0 at0
+          d0 : Typed.Typed 𝓤 H A 𝓣 E G11 b4 Δ0 at0
           d0 = Typed.t-return 𝓤 H A W 𝓣 E Δ0 tt
-          d1 : Typed.Typed 𝓤 H A 𝓣 E G9 b4 Δ0 at1
-          d1 = Typed.g-pre 𝓤 H A W 𝓣 E G9 G10 b4 Δ0 (Typed.pass T9 T10 s8) at0 (Scalar.g-room 𝓤 H A W E G9 6 (Syntax.tyInt Syntax.w64) (Scalar.room-sc
-              𝓤 H A W (Row.sInt Syntax.w64))) d0
-          d2 : Typed.Typed 𝓤 H A 𝓣 E G8 b4 Δ0 at2
-          d2 = Typed.g-pre 𝓤 H A W 𝓣 E G8 G9 b4 Δ0 (Typed.pass T8 T9 s7) at1 (Scalar.g-room 𝓤 H A W E G8 5 InflightAction.ty (Local.room-whole 𝓤 H A W
-              InflightAction.row InflightAction.ty Path.refl)) d1
-          d3 : Typed.Typed 𝓤 H A 𝓣 E G7 b4 Δ0 at3
-          d3 = Typed.g-pre 𝓤 H A W 𝓣 E G7 G8 b4 Δ0 (Typed.pass T7 T8 s6) at2 (Scalar.g-room 𝓤 H A W E G7 4 (Syntax.tyInt Syntax.w64) (Scalar.room-sc 𝓤
+          d1 : Typed.Typed 𝓤 H A 𝓣 E G10 b4 Δ0 at1
+          d1 = Typed.g-pre 𝓤 H A W 𝓣 E G10 G11 b4 Δ0 (Typed.pass T10 T11 s9) at0 (Scalar.g-room 𝓤 H A W E G10 4 (Syntax.tyInt Syntax.w64)
+              (Scalar.room-sc 𝓤 H A W (Row.sInt Syntax.w64))) d0
+          d2 : Typed.Typed 𝓤 H A 𝓣 E G9 b4 Δ0 at2
+          d2 = Typed.g-pre 𝓤 H A W 𝓣 E G9 G10 b4 Δ0 (Typed.pass T9 T10 s8) at1 (Scalar.g-room 𝓤 H A W E G9 3 (Syntax.tyInt Syntax.w64) (Scalar.room-sc
+              𝓤 H A W (Row.sInt Syntax.w64))) d1
+          d3 : Typed.Typed 𝓤 H A 𝓣 E G8 b4 Δ0 at3
+          d3 = Typed.g-pre 𝓤 H A W 𝓣 E G8 G9 b4 Δ0 (Typed.pass T8 T9 s7) at2 (Scalar.g-room 𝓤 H A W E G8 7 (Syntax.tyInt Syntax.w64) (Scalar.room-sc 𝓤
               H A W (Row.sInt Syntax.w64))) d2
-          d4 : Typed.Typed 𝓤 H A 𝓣 E G6 b5 Δ0 at4
-          d4 = Typed.s-seq 𝓤 H A W 𝓣 E G6 G7 b3 b4 Δ0 (Typed.both s5) at3 (Plain.t-call-plain 𝓤 H A W 𝓣 0 ps·2 r·2 (claims· .4) (claims· .5)
-              "hnsr_circuit::lookup::action_found" (known .2) E (λ pos β. β) G6 (Num.vAt 4 λ x. x, (Num.vAt 6 λ x. x, (record { pos = 5; st = List.[];
-              d = 0; at = λ x. x }, tt)),) 0 List.[] (Call.sub-id 𝓤 H A W (G6 .slots)) ((Scalar.reads-sc 𝓤 H A W (Row.sInt Syntax.w64), Path.refl),
+          d4 : Typed.Typed 𝓤 H A 𝓣 E G7 b4 Δ0 at4
+          d4 = Typed.g-pre 𝓤 H A W 𝓣 E G7 G8 b4 Δ0 (Typed.pass T7 T8 s6) at3 (Scalar.g-room 𝓤 H A W E G7 6 InflightAction.ty (Local.room-whole 𝓤 H A W
+              InflightAction.row InflightAction.ty Path.refl)) d3
+          d5 : Typed.Typed 𝓤 H A 𝓣 E G6 b4 Δ0 at5
+          d5 = Typed.g-pre 𝓤 H A W 𝓣 E G6 G7 b4 Δ0 (Typed.pass T6 T7 s5) at4 (Scalar.g-room 𝓤 H A W E G6 5 (Syntax.tyInt Syntax.w64) (Scalar.room-sc 𝓤
+              H A W (Row.sInt Syntax.w64))) d4
+          d6 : Typed.Typed 𝓤 H A 𝓣 E G5 b5 Δ0 at6
+          d6 = Typed.s-seq 𝓤 H A W 𝓣 E G5 G6 b3 b4 Δ0 (Typed.both s4) at5 (Plain.t-call-plain 𝓤 H A W 𝓣 0 ps·2 r·2 (claims· .4) (claims· .5)
+              "hnsr_circuit::lookup::action_found" (known .2) E (λ pos β. β) G5 (Num.vAt 5 λ x. x, (Num.vAt 7 λ x. x, (record { pos = 6; st = List.[];
+              d = 0; at = λ x. x }, tt)),) 0 List.[] (Call.sub-id 𝓤 H A W (G5 .slots)) ((Scalar.reads-sc 𝓤 H A W (Row.sInt Syntax.w64), Path.refl),
               ((Scalar.reads-sc 𝓤 H A W (Row.sInt Syntax.w64), Path.refl), ((Yields.yields-copy 𝓤 H A W (λ ρ. Unit) InflightAction.row Path.refl
               (InflightAction.copies .copy 𝓤 H A W) InflightAction.held (λ x. x) (λ x. x) (λ ρ told. Local.mem-whole 𝓤 H A W InflightAction.row ρ) λ ρ
-              told. Local.whole-mem 𝓤 H A W InflightAction.row ρ, Path.refl,), tt,),),) (Reads.room-gone 𝓤 H A Laws'.mir) tt Path.refl) d3
-          d5 : Typed.Typed 𝓤 H A 𝓣 E G5 b6 Δ0 at5
-          d5 = Typed.s-seq 𝓤 H A W 𝓣 E G5 G6 b2 b5 Δ0 (Typed.pass T5 T6 s4) at4 (Scalar.t-use 𝓤 H A W E 𝓣 G5 (Scalar.oFld 1 ((Syntax.field 1) ∷
-              List.[]) (Syntax.tyInt Syntax.w64) 8 Shared.lenV) 6 (Rows.sc-here (Row.sInt Syntax.w64)) (Syntax.tyInt Syntax.w64) (Row.valS (Row.sInt
+              told. Local.whole-mem 𝓤 H A W InflightAction.row ρ, Path.refl,), tt,),),) (Reads.room-gone 𝓤 H A Laws'.mir) tt Path.refl) d5
+          d7 : Typed.Typed 𝓤 H A 𝓣 E G4 b6 Δ0 at7
+          d7 = Typed.s-seq 𝓤 H A W 𝓣 E G4 G5 b2 b5 Δ0 (Typed.pass T4 T5 s3) at6 (Scalar.t-use 𝓤 H A W E 𝓣 G4 (Scalar.oFld 1 ((Syntax.field 1) ∷
+              List.[]) (Syntax.tyInt Syntax.w64) 8 Shared.lenV) 7 (Rows.sc-here (Row.sInt Syntax.w64)) (Syntax.tyInt Syntax.w64) (Row.valS (Row.sInt
               Syntax.w64)) (Row.sInt Syntax.w64 .of) (Shared.reads-sslice-len 𝓤 H A W InflightAction.row ref0 0 8 Path.refl, Path.refl,)
-              (Reads.room-gone 𝓤 H A (Syntax.tyInt Syntax.w64)) (Scalar.holds-sc 𝓤 H A W (Row.sInt Syntax.w64)) Path.refl (λ u. Path.refl) λ u. tt) d4
-          d6 : Typed.Typed 𝓤 H A 𝓣 E G4 b6 Δ0 at6
-          d6 = Typed.g-pre 𝓤 H A W 𝓣 E G4 G5 b6 Δ0 (Typed.pass T4 T5 s3) at5 (Scalar.g-room 𝓤 H A W E G4 2 Laws.mir (Local.room-whole 𝓤 H A W
-              (Declared.row Places.the-type) Laws.mir Path.refl)) d5
-          d7 : Typed.Typed 𝓤 H A 𝓣 E G3 b7 Δ0 at7
-          d7 = Typed.s-seq 𝓤 H A W 𝓣 E G3 G4 b1 b6 Δ0 (Typed.both s2) at6 (Plain.t-call-plain 𝓤 H A W 𝓣 1 ps·1 r·1 (claims· .2) (claims· .3)
-              "hnsr_circuit::tables::inflight::action_at" (known .1) E (λ pos β. β) G3 (record { pos = 1; ty = Syntax.tyRef (Syntax.named 0)
-              Syntax.imm InflightAction.to; ref = λ x. x; }, (record { pos = 2; st = List.[]; d = 0; at = λ x. x }, (Num.vAt 4 λ x. x, tt)),) 5 (0 ∷
-              List.[]) (Call.sub-id 𝓤 H A W (G3 .slots)) (ShrSlice.spares-sslice 𝓤 H A W InflightAction.row ref0 0, Shared.reads-sslice 𝓤 H A W
+              (Reads.room-gone 𝓤 H A (Syntax.tyInt Syntax.w64)) (Scalar.holds-sc 𝓤 H A W (Row.sInt Syntax.w64)) Path.refl (λ u. Path.refl) λ u. tt) d6
+          d8 : Typed.Typed 𝓤 H A 𝓣 E G3 b6 Δ0 at8
+          d8 = Typed.g-pre 𝓤 H A W 𝓣 E G3 G4 b6 Δ0 (Typed.pass T3 T4 s2) at7 (Scalar.g-room 𝓤 H A W E G3 2 Laws.mir (Local.room-whole 𝓤 H A W
+              (Declared.row Places.the-type) Laws.mir Path.refl)) d7
+          d9 : Typed.Typed 𝓤 H A 𝓣 E G2 b7 Δ0 at9
+          d9 = Typed.s-seq 𝓤 H A W 𝓣 E G2 G3 b1 b6 Δ0 (Typed.both s1) at8 (Plain.t-call-plain 𝓤 H A W 𝓣 1 ps·1 r·1 (claims· .2) (claims· .3)
+              "hnsr_circuit::tables::inflight::action_at" (known .1) E (λ pos β. β) G2 (record { pos = 1; ty = Syntax.tyRef (Syntax.named 0)
+              Syntax.imm InflightAction.to; ref = λ x. x; }, (record { pos = 2; st = List.[]; d = 0; at = λ x. x }, (Num.vAt 5 λ x. x, tt)),) 6 (0 ∷
+              List.[]) (Call.sub-id 𝓤 H A W (G2 .slots)) (ShrSlice.spares-sslice 𝓤 H A W InflightAction.row ref0 0, Shared.reads-sslice 𝓤 H A W
               InflightAction.row ref0 0, Path.refl, ((Yields.yields-copy 𝓤 H A W (λ ρ. Unit) (Declared.row Places.the-type) Path.refl (Copies.cStruct
               Places.the-type Laws.the-laws Laws.the-copy .copy 𝓤 H A W) (Rows.whole (Declared.row Places.the-type)) (λ x. x) (λ x. x) (λ ρ told.
               Local.mem-whole 𝓤 H A W (Declared.row Places.the-type) ρ) λ ρ told. Local.whole-mem 𝓤 H A W (Declared.row Places.the-type) ρ,
               Path.refl,), ((Scalar.reads-sc 𝓤 H A W (Row.sInt Syntax.w64), Path.refl), tt),),) (Reads.room-gone 𝓤 H A InflightAction.ty) (tt, tt)
-              Path.refl) d6
-          d8 : Typed.Typed 𝓤 H A 𝓣 E G2 b7 Δ0 at8
-          d8 = Typed.g-pre 𝓤 H A W 𝓣 E G2 G3 b7 Δ0 (Typed.pass T2 T3 s1) at7 (Scalar.g-room 𝓤 H A W E G2 3 Laws''.mir (Local.room-whole 𝓤 H A W
-              (Declared.row Question.the-type) Laws''.mir Path.refl)) d7
-          d9 : Typed.Typed 𝓤 H A 𝓣 E G0 b8 Δ0 at9
-          d9 = Typed.s-seq 𝓤 H A W 𝓣 E G0 G2 b0 b7 Δ0 (Typed.both s0) at8 (Plain.t-call-plain 𝓤 H A W 𝓣 1 ps·0 r·0 (claims· .0) (claims· .1)
+              Path.refl) d8
+          d10 : Typed.Typed 𝓤 H A 𝓣 E G0 b8 Δ0 at10
+          d10 = Typed.s-seq 𝓤 H A W 𝓣 E G0 G2 b0 b7 Δ0 (Typed.both s0) at9 (Plain.t-call-plain 𝓤 H A W 𝓣 1 ps·0 r·0 (claims· .0) (claims· .1)
               "hnsr_circuit::tables::inflight::find_action" (known .0) E (λ pos β. β) G0 (record { pos = 1; ty = Syntax.tyRef (Syntax.named 0)
-              Syntax.imm InflightAction.to; ref = λ x. x; }, (record { pos = 2; st = List.[]; d = 0; at = λ x. x }, (record { pos = 3; st = List.[]; d
-              = 0; at = λ x. x }, tt),),) 4 (0 ∷ List.[]) (Call.sub-id 𝓤 H A W (G0 .slots)) (ShrSlice.spares-sslice 𝓤 H A W InflightAction.row ref0 0,
+              Syntax.imm InflightAction.to; ref = λ x. x; }, (record { pos = 2; st = List.[]; d = 0; at = λ x. x }, (Num.vAt 3 λ x. x, (Num.vAt 4 λ x.
+              x, tt)),),) 5 (0 ∷ List.[]) (Call.sub-id 𝓤 H A W (G0 .slots)) (ShrSlice.spares-sslice 𝓤 H A W InflightAction.row ref0 0,
               Shared.reads-sslice 𝓤 H A W InflightAction.row ref0 0, Path.refl, ((Yields.yields-copy 𝓤 H A W (λ ρ. Unit) (Declared.row
               Places.the-type) Path.refl (Copies.cStruct Places.the-type Laws.the-laws Laws.the-copy .copy 𝓤 H A W) (Rows.whole (Declared.row
               Places.the-type)) (λ x. x) (λ x. x) (λ ρ told. Local.mem-whole 𝓤 H A W (Declared.row Places.the-type) ρ) λ ρ told. Local.whole-mem 𝓤 H A
-              W (Declared.row Places.the-type) ρ, Path.refl,), ((Yields.yields-copy 𝓤 H A W (λ ρ. Unit) (Declared.row Question.the-type) Path.refl
-              (Copies.cStruct Question.the-type Laws''.the-laws Laws''.the-copy .copy 𝓤 H A W) (Rows.whole (Declared.row Question.the-type)) (λ x. x)
-              (λ x. x) (λ ρ told. Local.mem-whole 𝓤 H A W (Declared.row Question.the-type) ρ) λ ρ told. Local.whole-mem 𝓤 H A W (Declared.row
-              Question.the-type) ρ, Path.refl,), tt,),),) (Reads.room-gone 𝓤 H A (Syntax.tyInt Syntax.w64)) (tt, tt) Path.refl) d8
+              W (Declared.row Places.the-type) ρ, Path.refl,), ((Scalar.reads-sc 𝓤 H A W (Row.sInt Syntax.w64), Path.refl), ((Scalar.reads-sc 𝓤 H A W
+              (Row.sInt Syntax.w64), Path.refl), tt),),),) (Reads.room-gone 𝓤 H A (Syntax.tyInt Syntax.w64)) (tt, tt) Path.refl) d9
           pub typed : Typed.Typed 𝓤 H A 𝓣 E (Function.Γin 1 ps r xs m κs qs) b8 (Function.Δret 1 ps r xs m κs qs) Φ
-          typed = d9
+          typed = d10
       module _ (κs : Lifetimes.Lfts 1) where
         pub record Args : Type 0 where
           pub inflight : Kinds.Den { n = 1 } κs (ShrSlice.pShrS InflightAction.row 0 tt)
-          pub places : Kinds.Den { n = 1 } κs (Value.pVal record { ty = Declared.row Places.the-type; one = Path.refl; val = Laws'''.val
-              Places.the-type Laws.the-laws; tells = Laws'''.tells Places.the-type Laws.the-laws; still = Laws'''.still Places.the-type Laws.the-copy
-              Exit.yes; row = Rows.whole (Declared.row Places.the-type); rd = λ x. x; mk = λ x. x; } λ M 𝓤 H A W. record { copies = Laws'''.copy
-              Places.the-type Laws.the-copy 𝓤 H A W; lawful = Laws'''.lawful Places.the-type Laws.the-laws 𝓤 H A W; makes = Laws'''.makes
+          pub places : Kinds.Den { n = 1 } κs (Value.pVal record { ty = Declared.row Places.the-type; one = Path.refl; val = Laws''.val
+              Places.the-type Laws.the-laws; tells = Laws''.tells Places.the-type Laws.the-laws; still = Laws''.still Places.the-type Laws.the-copy
+              Exit.yes; row = Rows.whole (Declared.row Places.the-type); rd = λ x. x; mk = λ x. x; } λ M 𝓤 H A W. record { copies = Laws''.copy
+              Places.the-type Laws.the-copy 𝓤 H A W; lawful = Laws''.lawful Places.the-type Laws.the-laws 𝓤 H A W; makes = Laws''.makes
               Places.the-type Laws.the-plain 𝓤 H A; in-mem = Local.mem-whole 𝓤 H A W (Declared.row Places.the-type); of-mem = Local.whole-mem 𝓤 H A W
               (Declared.row Places.the-type); })
-          pub question : Kinds.Den { n = 1 } κs (Value.pVal record { ty = Declared.row Question.the-type; one = Path.refl; val = Laws'''.val
-              Question.the-type Laws''.the-laws; tells = Laws'''.tells Question.the-type Laws''.the-laws; still = Laws'''.still Question.the-type
-              Laws''.the-copy Exit.yes; row = Rows.whole (Declared.row Question.the-type); rd = λ x. x; mk = λ x. x; } λ M 𝓤 H A W. record { copies =
-              Laws'''.copy Question.the-type Laws''.the-copy 𝓤 H A W; lawful = Laws'''.lawful Question.the-type Laws''.the-laws 𝓤 H A W; makes =
-              Laws'''.makes Question.the-type Laws''.the-plain 𝓤 H A; in-mem = Local.mem-whole 𝓤 H A W (Declared.row Question.the-type); of-mem =
-              Local.whole-mem 𝓤 H A W (Declared.row Question.the-type); })
+          pub generation : Kinds.Den { n = 1 } κs (Num.pNum Syntax.w64)
+          pub sequence : Kinds.Den { n = 1 } κs (Num.pNum Syntax.w64)
         abbrev pub dens : (a : Args) → Kinds.Dens κs ps
-        dens = λ a. (a .inflight, (a .places, (a .question, tt)))
+        dens = λ a. (a .inflight, (a .places, (a .generation, (a .sequence, tt))))
+        module _ (args· : Args) where
+          pub record Ranges : Type 0 where
+            pub generation : Val.Fits Syntax.w64 (args· .generation)
+            pub sequence : Val.Fits Syntax.w64 (args· .sequence)
       abbrev pub m0 : (κs : Lifetimes.Lfts 1) → (args : Args κs) → Typed.Mo T0
       m0 = λ κs args. (tt, Enter.partsP κs 1 ps xs (dens κs args))
       abbrev W0 : (κs : Lifetimes.Lfts 1) → (args : Args κs) → Typed.Want O0
@@ -365,6 +371,7 @@ module _ (claims· : Claims) where
         pub κs : Lifetimes.Lfts 1
         pub args : Args κs
         pub good : Kinds.GoodsP κs ps (dens κs args)
+        pub fits : Ranges κs args
         pub pre : Pre· κs (dens κs args)
       abbrev pub Need-find-action-requires : Type 0
       Need-find-action-requires = (c : Start) → s0 .asks (m0 (c .κs) (c .args))
@@ -373,86 +380,89 @@ module _ (claims· : Claims) where
       module _ (before· : Start) where
         abbrev pub After-find-action·own : Type 0
         After-find-action·own = Called.Called ps·0 r·0 (claims· .1) T0 (record { pos = 1; ty = Syntax.tyRef (Syntax.named 0) Syntax.imm
-            InflightAction.to; ref = λ x. x; }, (record { pos = 2; st = List.[]; d = 0; at = λ x. x }, (record { pos = 3; st = List.[]; d = 0; at = λ
-            x. x }, tt),),) (m0 (before· .κs) (before· .args))
+            InflightAction.to; ref = λ x. x; }, (record { pos = 2; st = List.[]; d = 0; at = λ x. x }, (Num.vAt 3 λ x. x, (Num.vAt 4 λ x. x, tt)),),)
+            (m0 (before· .κs) (before· .args))
       pub record After-find-action : Type 0 where
         pub before : Start
         pub find-action : After-find-action·own before
       abbrev pub After-find-action·gave : (c : After-find-action) → s0 .gives (m0 (c .before .κs) (c .before .args))
       After-find-action·gave = λ c. Called.given ps·0 r·0 (claims· .1) T0 (record { pos = 1; ty = Syntax.tyRef (Syntax.named 0) Syntax.imm
-          InflightAction.to; ref = λ x. x; }, (record { pos = 2; st = List.[]; d = 0; at = λ x. x }, (record { pos = 3; st = List.[]; d = 0; at = λ x.
-          x }, tt),),) (m0 (c .before .κs) (c .before .args)) (c .find-action)
-      abbrev pub m2 : (before : Start) → (given : s0 .gives (m0 (before .κs) (before .args))) → Typed.Mo T3
-      m2 = λ before given. s1 (m1 before given)
+          InflightAction.to; ref = λ x. x; }, (record { pos = 2; st = List.[]; d = 0; at = λ x. x }, (Num.vAt 3 λ x. x, (Num.vAt 4 λ x. x, tt)),),)
+          (m0 (c .before .κs) (c .before .args)) (c .find-action)
       abbrev pub Need-action-at-requires : Type 0
-      Need-action-at-requires = (c : After-find-action) → s2 .asks (m2 (c .before) (After-find-action·gave c))
-      abbrev pub m3 : (before : After-find-action) → (given : s2 .gives (m2 (before .before) (After-find-action·gave before))) → Typed.Mo T4
-      m3 = λ before given. s2 .next (m2 (before .before) (After-find-action·gave before)) given
+      Need-action-at-requires = (c : After-find-action) → s1 .asks (m1 (c .before) (After-find-action·gave c))
+      abbrev pub m2 : (before : After-find-action) → (given : s1 .gives (m1 (before .before) (After-find-action·gave before))) → Typed.Mo T3
+      m2 = λ before given. s1 .next (m1 (before .before) (After-find-action·gave before)) given
       module _ (before· : After-find-action) where
         abbrev pub After-action-at·own : Type 0
-        After-action-at·own = Called.Called ps·1 r·1 (claims· .3) T3 (record { pos = 1; ty = Syntax.tyRef (Syntax.named 0) Syntax.imm
-            InflightAction.to; ref = λ x. x; }, (record { pos = 2; st = List.[]; d = 0; at = λ x. x }, (Num.vAt 4 λ x. x, tt)),) (m2 (before· .before)
+        After-action-at·own = Called.Called ps·1 r·1 (claims· .3) T2 (record { pos = 1; ty = Syntax.tyRef (Syntax.named 0) Syntax.imm
+            InflightAction.to; ref = λ x. x; }, (record { pos = 2; st = List.[]; d = 0; at = λ x. x }, (Num.vAt 5 λ x. x, tt)),) (m1 (before· .before)
             (After-find-action·gave before·))
       pub record After-action-at : Type 0 where
         pub before : After-find-action
         pub action-at : After-action-at·own before
-      abbrev pub After-action-at·gave : (c : After-action-at) → s2 .gives (m2 (c .before .before) (After-find-action·gave (c .before)))
-      After-action-at·gave = λ c. Called.given ps·1 r·1 (claims· .3) T3 (record { pos = 1; ty = Syntax.tyRef (Syntax.named 0) Syntax.imm
-          InflightAction.to; ref = λ x. x; }, (record { pos = 2; st = List.[]; d = 0; at = λ x. x }, (Num.vAt 4 λ x. x, tt)),) (m2 (c .before .before)
+      abbrev pub After-action-at·gave : (c : After-action-at) → s1 .gives (m1 (c .before .before) (After-find-action·gave (c .before)))
+      After-action-at·gave = λ c. Called.given ps·1 r·1 (claims· .3) T2 (record { pos = 1; ty = Syntax.tyRef (Syntax.named 0) Syntax.imm
+          InflightAction.to; ref = λ x. x; }, (record { pos = 2; st = List.[]; d = 0; at = λ x. x }, (Num.vAt 5 λ x. x, tt)),) (m1 (c .before .before)
           (After-find-action·gave (c .before))) (c .action-at)
-      abbrev pub m4 : (before : After-find-action) → (given : s2 .gives (m2 (before .before) (After-find-action·gave before))) → Typed.Mo T5
+      abbrev pub m3 : (before : After-find-action) → (given : s1 .gives (m1 (before .before) (After-find-action·gave before))) → Typed.Mo T4
+      m3 = λ before given. s2 (m2 before given)
+      abbrev pub m4 : (before : After-find-action) → (given : s1 .gives (m1 (before .before) (After-find-action·gave before))) → Typed.Mo T5
       m4 = λ before given. s3 (m3 before given)
-      abbrev pub m5 : (before : After-find-action) → (given : s2 .gives (m2 (before .before) (After-find-action·gave before))) → Typed.Mo T6
-      m5 = λ before given. s4 (m4 before given)
       abbrev pub Need-action-found-requires : Type 0
-      Need-action-found-requires = (c : After-action-at) → s5 .asks (m5 (c .before) (After-action-at·gave c))
-      abbrev pub m6 : (before : After-action-at) → (given : s5 .gives (m5 (before .before) (After-action-at·gave before))) → Typed.Mo T7
-      m6 = λ before given. s5 .next (m5 (before .before) (After-action-at·gave before)) given
+      Need-action-found-requires = (c : After-action-at) → s4 .asks (m4 (c .before) (After-action-at·gave c))
+      abbrev pub m5 : (before : After-action-at) → (given : s4 .gives (m4 (before .before) (After-action-at·gave before))) → Typed.Mo T6
+      m5 = λ before given. s4 .next (m4 (before .before) (After-action-at·gave before)) given
       module _ (before· : After-action-at) where
         abbrev pub After-action-found·own : Type 0
-        After-action-found·own = Called.Called ps·2 r·2 (claims· .5) T6 (Num.vAt 4 λ x. x, (Num.vAt 6 λ x. x, (record { pos = 5; st = List.[]; d = 0;
-            at = λ x. x }, tt)),) (m5 (before· .before) (After-action-at·gave before·))
+        After-action-found·own = Called.Called ps·2 r·2 (claims· .5) T5 (Num.vAt 5 λ x. x, (Num.vAt 7 λ x. x, (record { pos = 6; st = List.[]; d = 0;
+            at = λ x. x }, tt)),) (m4 (before· .before) (After-action-at·gave before·))
       pub record After-action-found : Type 0 where
         pub before : After-action-at
         pub action-found : After-action-found·own before
-      abbrev pub After-action-found·gave : (c : After-action-found) → s5 .gives (m5 (c .before .before) (After-action-at·gave (c .before)))
-      After-action-found·gave = λ c. Called.given ps·2 r·2 (claims· .5) T6 (Num.vAt 4 λ x. x, (Num.vAt 6 λ x. x, (record { pos = 5; st = List.[]; d =
-          0; at = λ x. x }, tt)),) (m5 (c .before .before) (After-action-at·gave (c .before))) (c .action-found)
-      abbrev pub m7 : (before : After-action-at) → (given : s5 .gives (m5 (before .before) (After-action-at·gave before))) → Typed.Mo T8
+      abbrev pub After-action-found·gave : (c : After-action-found) → s4 .gives (m4 (c .before .before) (After-action-at·gave (c .before)))
+      After-action-found·gave = λ c. Called.given ps·2 r·2 (claims· .5) T5 (Num.vAt 5 λ x. x, (Num.vAt 7 λ x. x, (record { pos = 6; st = List.[]; d =
+          0; at = λ x. x }, tt)),) (m4 (c .before .before) (After-action-at·gave (c .before))) (c .action-found)
+      abbrev pub m6 : (before : After-action-at) → (given : s4 .gives (m4 (before .before) (After-action-at·gave before))) → Typed.Mo T7
+      m6 = λ before given. s5 (m5 before given)
+      abbrev pub m7 : (before : After-action-at) → (given : s4 .gives (m4 (before .before) (After-action-at·gave before))) → Typed.Mo T8
       m7 = λ before given. s6 (m6 before given)
-      abbrev pub m8 : (before : After-action-at) → (given : s5 .gives (m5 (before .before) (After-action-at·gave before))) → Typed.Mo T9
+      abbrev pub m8 : (before : After-action-at) → (given : s4 .gives (m4 (before .before) (After-action-at·gave before))) → Typed.Mo T9
       m8 = λ before given. s7 (m7 before given)
-      abbrev pub m9 : (before : After-action-at) → (given : s5 .gives (m5 (before .before) (After-action-at·gave before))) → Typed.Mo T10
+      abbrev pub m9 : (before : After-action-at) → (given : s4 .gives (m4 (before .before) (After-action-at·gave before))) → Typed.Mo T10
       m9 = λ before given. s8 (m8 before given)
+      abbrev pub m10 : (before : After-action-at) → (given : s4 .gives (m4 (before .before) (After-action-at·gave before))) → Typed.Mo T11
+      m10 = λ before given. s9 (m9 before given)
       abbrev pub Need-returns : Type 0
       Need-returns = (c : After-action-found) → Post· (c .before .before .before .κs) (dens (c .before .before .before .κs) (c .before .before .before
-          .args)) (Function.resV r (c .before .before .before .κs) (m9 (c .before) (After-action-found·gave c) .0)) (Clauses.atExit (Kinds.endedOf 1
+          .args)) (Function.resV r (c .before .before .before .κs) (m10 (c .before) (After-action-found·gave c) .0)) (Clauses.atExit (Kinds.endedOf 1
           ps r) (c .before .before .before .κs) (dens (c .before .before .before .κs) (c .before .before .before .args)) (Enter.lastsP (c .before
-          .before .before .κs) 1 ps xs (dens (c .before .before .before .κs) (c .before .before .before .args)) (m9 (c .before)
+          .before .before .κs) 1 ps xs (dens (c .before .before .before .κs) (c .before .before .before .args)) (m10 (c .before)
           (After-action-found·gave c) .1)))
       module _ (find-action-requires : Need-find-action-requires) (action-at-requires : Need-action-at-requires) (action-found-requires :
           Need-action-found-requires) (returns : Need-returns) where
-        lay3 : (c : After-action-found) → at3 (W0 (c .before .before .before .κs) (c .before .before .before .args)) (m6 (c .before)
+        lay3 : (c : After-action-found) → at5 (W0 (c .before .before .before .κs) (c .before .before .before .args)) (m5 (c .before)
             (After-action-found·gave c))
-        lay3 = λ c. ((Path.refl, (tt, (tt, tt))), returns record { before = c .before; action-found = c .action-found },)
-        lay2 : (c : After-action-at) → at6 (W0 (c .before .before .κs) (c .before .before .args)) (m3 (c .before) (After-action-at·gave c))
+        lay3 = λ c. ((Path.refl, (tt, (tt, (tt, tt)))), returns record { before = c .before; action-found = c .action-found },)
+        lay2 : (c : After-action-at) → at8 (W0 (c .before .before .κs) (c .before .before .args)) (m2 (c .before) (After-action-at·gave c))
         lay2 = λ c. (action-found-requires record { before = c .before; action-at = c .action-at }, λ g. lay3 record { before = record { before = c
-            .before; action-at = c .action-at }; action-found = Called.called ps·2 r·2 (claims· .5) T6 (Num.vAt 4 λ x. x, (Num.vAt 6 λ x. x, (record {
-            pos = 5; st = List.[]; d = 0; at = λ x. x }, tt)),) (m5 (c .before) (After-action-at·gave c)) g; },)
-        lay1 : (c : After-find-action) → at8 (W0 (c .before .κs) (c .before .args)) (m1 (c .before) (After-find-action·gave c))
+            .before; action-at = c .action-at }; action-found = Called.called ps·2 r·2 (claims· .5) T5 (Num.vAt 5 λ x. x, (Num.vAt 7 λ x. x, (record {
+            pos = 6; st = List.[]; d = 0; at = λ x. x }, tt)),) (m4 (c .before) (After-action-at·gave c)) g; },)
+        lay1 : (c : After-find-action) → at9 (W0 (c .before .κs) (c .before .args)) (m1 (c .before) (After-find-action·gave c))
         lay1 = λ c. (action-at-requires record { before = c .before; find-action = c .find-action }, λ g. lay2 record { before = record { before = c
-            .before; find-action = c .find-action }; action-at = Called.called ps·1 r·1 (claims· .3) T3 (record { pos = 1; ty = Syntax.tyRef
-            (Syntax.named 0) Syntax.imm InflightAction.to; ref = λ x. x; }, (record { pos = 2; st = List.[]; d = 0; at = λ x. x }, (Num.vAt 4 λ x. x,
-            tt)),) (m2 (c .before) (After-find-action·gave c)) g; },)
-        pub laid : (c : Start) → at9 (W0 (c .κs) (c .args)) (m0 (c .κs) (c .args))
+            .before; find-action = c .find-action }; action-at = Called.called ps·1 r·1 (claims· .3) T2 (record { pos = 1; ty = Syntax.tyRef
+            (Syntax.named 0) Syntax.imm InflightAction.to; ref = λ x. x; }, (record { pos = 2; st = List.[]; d = 0; at = λ x. x }, (Num.vAt 5 λ x. x,
+            tt)),) (m1 (c .before) (After-find-action·gave c)) g; },)
+        pub laid : (c : Start) → at10 (W0 (c .κs) (c .args)) (m0 (c .κs) (c .args))
         laid = λ c. (find-action-requires c, λ g. lay1 record { before = c; find-action = Called.called ps·0 r·0 (claims· .1) T0 (record { pos = 1; ty
             = Syntax.tyRef (Syntax.named 0) Syntax.imm InflightAction.to; ref = λ x. x; }, (record { pos = 2; st = List.[]; d = 0; at = λ x. x },
-            (record { pos = 3; st = List.[]; d = 0; at = λ x. x }, tt),),) (m0 (c .κs) (c .args)) g; },)
+            (Num.vAt 3 λ x. x, (Num.vAt 4 λ x. x, tt)),),) (m0 (c .κs) (c .args)) g; },)
         module _ (κs : Lifetimes.Lfts 1) (qs : Lifetimes.Shares 1) where
           pub asked : (a : Kinds.Dens κs ps) → (good : Kinds.GoodsP κs ps a) → (pre : Pre· κs a) → (bs : List.List Nat.ℕ) → Φ (Any.wantQ 1 ps r xs m
               κs qs a (Post· κs a)) (Function.init 1 ps r xs m κs qs a)
-          asked = λ a good pre bs. laid record { κs = κs; args = record { inflight = a .0; places = a .1 .0; question = a .1 .1 .0 }; good = good; pre
-              = pre; }
+          asked = λ a good pre bs. laid record { κs = κs; args = record { inflight = a .0; places = a .1 .0; generation = a .1 .1 .0; sequence = a .1
+              .1 .1 .0; }; good = good; fits = record { generation = record { fits = good .1 .1 .0 .1 }; sequence = record { fits = good .1 .1 .1 .0
+              .1 }; }; pre = pre; }
         module _ { M : Type 1 } (𝓤 : URA.URA M) (H : Wp.Heap 𝓤) (A : Atoms.Atoms 𝓤) (W : Kit.Given 𝓤 H A) (𝓣 : Wp.Tables 𝓤 H) (known0 : Plain.Known 𝓤
             H A W 𝓣 1 ps·0 r·0 (claims· .0) (claims· .1) "hnsr_circuit::tables::inflight::find_action") (known1 : Plain.Known 𝓤 H A W 𝓣 1 ps·1 r·1
             (claims· .2) (claims· .3) "hnsr_circuit::tables::inflight::action_at") (known2 : Plain.Known 𝓤 H A W 𝓣 0 ps·2 r·2 (claims· .4) (claims·

@@ -3,83 +3,52 @@ use Rattle.hnsr_circuit.proofs.By.handle_accept.accept_written.Kinds
 use Rattle.hnsr_circuit.proofs.By.handle_accept.accept_written.Lts
 use Rattle.hnsr_circuit.proofs.By.handle_accept.accept_written.Reads
 use Rattle.hnsr_circuit.proofs.By.handle_accept.put_circuit.Reads as Reads'
-use Rattle.hnsr_circuit.proofs.By.lookup.drop_actions.Reads as Reads''
-use Rattle.hnsr_circuit.proofs.By.tables.pending.set_pending.Reads as Reads'''
+use Rattle.hnsr_circuit.proofs.By.tables.pending.set_pending.Reads as Reads''
 use Rattle.hnsr_circuit.proofs.handle_accept.accept_written.Code
 use Rattle.hnsr_circuit.proofs.handle_accept.accept_written.Key
 use Rattle.hnsr_circuit.proofs.handle_accept.accept_written.Statement
 use Rattle.hnsr_circuit.proofs.handle_accept.put_circuit.Met
 use Rattle.hnsr_circuit.proofs.handle_accept.put_circuit.Symbol
-use Rattle.hnsr_circuit.proofs.lookup.drop_actions.Met as Met'
-use Rattle.hnsr_circuit.proofs.lookup.drop_actions.Symbol as Symbol'
-use Rattle.hnsr_circuit.proofs.tables.pending.set_pending.Met as Met''
-use Rattle.hnsr_circuit.proofs.tables.pending.set_pending.Symbol as Symbol''
+use Rattle.hnsr_circuit.proofs.tables.pending.set_pending.Met as Met'
+use Rattle.hnsr_circuit.proofs.tables.pending.set_pending.Symbol as Symbol'
 use borrow.Fn.Run
 use borrow.Fn.Written
 use contract.Running
 
 abbrev pub Start : Type 0
-Start = Lts.Start (Reads'''.Asked, Reads'''.Learnt, Reads'.Asked, Reads'.Learnt, Reads''.Asked, Reads''.Learnt,) Reads.Pre Reads.Post
+Start = Lts.Start (Reads''.Asked, Reads''.Learnt, Reads'.Asked, Reads'.Learnt) Reads.Pre Reads.Post
 abbrev pub After-set-pending-arg : Type 0
-After-set-pending-arg = Lts.After-set-pending-arg (Reads'''.Asked, Reads'''.Learnt, Reads'.Asked, Reads'.Learnt, Reads''.Asked, Reads''.Learnt,)
-    Reads.Pre Reads.Post
+After-set-pending-arg = Lts.After-set-pending-arg (Reads''.Asked, Reads''.Learnt, Reads'.Asked, Reads'.Learnt,) Reads.Pre Reads.Post
 abbrev pub After-set-pending : Type 0
-After-set-pending = Lts.After-set-pending (Reads'''.Asked, Reads'''.Learnt, Reads'.Asked, Reads'.Learnt, Reads''.Asked, Reads''.Learnt,) Reads.Pre
-    Reads.Post
+After-set-pending = Lts.After-set-pending (Reads''.Asked, Reads''.Learnt, Reads'.Asked, Reads'.Learnt,) Reads.Pre Reads.Post
 abbrev pub After-pending : Type 0
-After-pending = Lts.After-pending (Reads'''.Asked, Reads'''.Learnt, Reads'.Asked, Reads'.Learnt, Reads''.Asked, Reads''.Learnt,) Reads.Pre Reads.Post
+After-pending = Lts.After-pending (Reads''.Asked, Reads''.Learnt, Reads'.Asked, Reads'.Learnt) Reads.Pre Reads.Post
 abbrev pub After-put-circuit-arg : Type 0
-After-put-circuit-arg = Lts.After-put-circuit-arg (Reads'''.Asked, Reads'''.Learnt, Reads'.Asked, Reads'.Learnt, Reads''.Asked, Reads''.Learnt,)
-    Reads.Pre Reads.Post
+After-put-circuit-arg = Lts.After-put-circuit-arg (Reads''.Asked, Reads''.Learnt, Reads'.Asked, Reads'.Learnt,) Reads.Pre Reads.Post
 abbrev pub After-put-circuit : Type 0
-After-put-circuit = Lts.After-put-circuit (Reads'''.Asked, Reads'''.Learnt, Reads'.Asked, Reads'.Learnt, Reads''.Asked, Reads''.Learnt,) Reads.Pre
-    Reads.Post
+After-put-circuit = Lts.After-put-circuit (Reads''.Asked, Reads''.Learnt, Reads'.Asked, Reads'.Learnt,) Reads.Pre Reads.Post
 abbrev pub After-circuits : Type 0
-After-circuits = Lts.After-circuits (Reads'''.Asked, Reads'''.Learnt, Reads'.Asked, Reads'.Learnt, Reads''.Asked, Reads''.Learnt,) Reads.Pre
-    Reads.Post
-abbrev pub After-drop-actions-arg : Type 0
-After-drop-actions-arg = Lts.After-drop-actions-arg (Reads'''.Asked, Reads'''.Learnt, Reads'.Asked, Reads'.Learnt, Reads''.Asked, Reads''.Learnt,)
-    Reads.Pre Reads.Post
-abbrev pub After-drop-actions : Type 0
-After-drop-actions = Lts.After-drop-actions (Reads'''.Asked, Reads'''.Learnt, Reads'.Asked, Reads'.Learnt, Reads''.Asked, Reads''.Learnt,) Reads.Pre
-    Reads.Post
-abbrev pub After-inflight : Type 0
-After-inflight = Lts.After-inflight (Reads'''.Asked, Reads'''.Learnt, Reads'.Asked, Reads'.Learnt, Reads''.Asked, Reads''.Learnt,) Reads.Pre
-    Reads.Post
+After-circuits = Lts.After-circuits (Reads''.Asked, Reads''.Learnt, Reads'.Asked, Reads'.Learnt) Reads.Pre Reads.Post
 abbrev pub Need-set-pending-requires : Type 0
-Need-set-pending-requires = Lts.Need-set-pending-requires (Reads'''.Asked, Reads'''.Learnt, Reads'.Asked, Reads'.Learnt, Reads''.Asked,
-    Reads''.Learnt,) Reads.Pre Reads.Post
+Need-set-pending-requires = Lts.Need-set-pending-requires (Reads''.Asked, Reads''.Learnt, Reads'.Asked, Reads'.Learnt,) Reads.Pre Reads.Post
 abbrev pub Need-put-circuit-requires : Type 0
-Need-put-circuit-requires = Lts.Need-put-circuit-requires (Reads'''.Asked, Reads'''.Learnt, Reads'.Asked, Reads'.Learnt, Reads''.Asked,
-    Reads''.Learnt,) Reads.Pre Reads.Post
-abbrev pub Need-drop-actions-requires : Type 0
-Need-drop-actions-requires = Lts.Need-drop-actions-requires (Reads'''.Asked, Reads'''.Learnt, Reads'.Asked, Reads'.Learnt, Reads''.Asked,
-    Reads''.Learnt,) Reads.Pre Reads.Post
+Need-put-circuit-requires = Lts.Need-put-circuit-requires (Reads''.Asked, Reads''.Learnt, Reads'.Asked, Reads'.Learnt,) Reads.Pre Reads.Post
 abbrev pub Need-same-length : Type 0
-Need-same-length = Lts.Need-same-length (Reads'''.Asked, Reads'''.Learnt, Reads'.Asked, Reads'.Learnt, Reads''.Asked, Reads''.Learnt,) Reads.Pre
-    Reads.Post
+Need-same-length = Lts.Need-same-length (Reads''.Asked, Reads''.Learnt, Reads'.Asked, Reads'.Learnt,) Reads.Pre Reads.Post
 abbrev pub Need-same-length-2 : Type 0
-Need-same-length-2 = Lts.Need-same-length-2 (Reads'''.Asked, Reads'''.Learnt, Reads'.Asked, Reads'.Learnt, Reads''.Asked, Reads''.Learnt,) Reads.Pre
-    Reads.Post
-abbrev pub Need-same-length-3 : Type 0
-Need-same-length-3 = Lts.Need-same-length-3 (Reads'''.Asked, Reads'''.Learnt, Reads'.Asked, Reads'.Learnt, Reads''.Asked, Reads''.Learnt,) Reads.Pre
-    Reads.Post
+Need-same-length-2 = Lts.Need-same-length-2 (Reads''.Asked, Reads''.Learnt, Reads'.Asked, Reads'.Learnt,) Reads.Pre Reads.Post
 abbrev pub Need-returns : Type 0
-Need-returns = Lts.Need-returns (Reads'''.Asked, Reads'''.Learnt, Reads'.Asked, Reads'.Learnt, Reads''.Asked, Reads''.Learnt,) Reads.Pre Reads.Post
+Need-returns = Lts.Need-returns (Reads''.Asked, Reads''.Learnt, Reads'.Asked, Reads'.Learnt) Reads.Pre Reads.Post
 module _ { M : Type 1 } where
-  pub spec : (answer : Need-set-pending-requires) → (answer : Need-put-circuit-requires) → (answer : Need-drop-actions-requires) → (answer :
-      Need-same-length) → (answer : Need-same-length-2) → (answer : Need-same-length-3) → (answer : Need-returns) → Lts.Closed (Reads'''.Asked,
-      Reads'''.Learnt, Reads'.Asked, Reads'.Learnt, Reads''.Asked, Reads''.Learnt,) Reads.Pre Reads.Post M
-  spec = λ answer answer' answer'' answer'3 answer'4 answer'5 answer'6. Lts.spec (Reads'''.Asked, Reads'''.Learnt, Reads'.Asked, Reads'.Learnt,
-      Reads''.Asked, Reads''.Learnt,) Reads.Pre Reads.Post answer answer' answer'' answer'3 answer'4 answer'5 answer'6
-  pub close : Lts.Closed (Reads'''.Asked, Reads'''.Learnt, Reads'.Asked, Reads'.Learnt, Reads''.Asked, Reads''.Learnt,) Reads.Pre Reads.Post M →
-      Statement.statement M
+  pub spec : (answer : Need-set-pending-requires) → (answer : Need-put-circuit-requires) → (answer : Need-same-length) → (answer : Need-same-length-2)
+      → (answer : Need-returns) → Lts.Closed (Reads''.Asked, Reads''.Learnt, Reads'.Asked, Reads'.Learnt) Reads.Pre Reads.Post M
+  spec = λ answer answer' answer'' answer'3 answer'4. Lts.spec (Reads''.Asked, Reads''.Learnt, Reads'.Asked, Reads'.Learnt,) Reads.Pre Reads.Post
+      answer answer' answer'' answer'3 answer'4
+  pub close : Lts.Closed (Reads''.Asked, Reads''.Learnt, Reads'.Asked, Reads'.Learnt) Reads.Pre Reads.Post M → Statement.statement M
   unfolding Code.routine Running.tablesOf
-  close = λ closed 𝓤 H 𝓜 𝓖 𝓡. Written.close 3 Kinds.ps Kinds.r Reads.Ghost Reads.requires Reads.ensures Reads.pre-read Reads.Pinned Reads.Owned
+  close = λ closed 𝓤 H 𝓜 𝓖 𝓡. Written.close 2 Kinds.ps Kinds.r Reads.Ghost Reads.requires Reads.ensures Reads.pre-read Reads.Pinned Reads.Owned
       Reads.post-read record { M = M; 𝓤 = 𝓤; H = H; 𝓜 = 𝓜; 𝓖 = 𝓖; 𝓡 = 𝓡 } Code.env Key.name Code.function (Code.unfolded 𝓤 H 𝓜 𝓡) (λ κs a g. tt) (λ
       κs. Reads.owns κs record { M = M; 𝓤 = 𝓤; H = H; 𝓜 = 𝓜; 𝓖 = 𝓖; 𝓡 = 𝓡 }) (Reads.passes record { M = M; 𝓤 = 𝓤; H = H; 𝓜 = 𝓜; 𝓖 = 𝓖; 𝓡 = 𝓡 }) λ g.
-      closed 𝓤 H (𝓖 .A) (Running.givenOf 𝓤 H 𝓜 𝓖) (Run.Over 𝓤 H 𝓜 𝓖 𝓡 Code.env) (Reads'''.known record { M = M; 𝓤 = 𝓤; H = H; 𝓜 = 𝓜; 𝓖 = 𝓖; 𝓡 = 𝓡 }
-      Code.env Symbol''.name Symbol''.routine Code.calls-hnsr-circuit·tables·pending·set-pending (Met''.met 𝓤 H 𝓜 𝓖 𝓡)) (Reads'.known record { M = M;
-      𝓤 = 𝓤; H = H; 𝓜 = 𝓜; 𝓖 = 𝓖; 𝓡 = 𝓡 } Code.env Symbol.name Symbol.routine Code.calls-hnsr-circuit·handle-accept·put-circuit (Met.met 𝓤 H 𝓜 𝓖 𝓡))
-      (Reads''.known record { M = M; 𝓤 = 𝓤; H = H; 𝓜 = 𝓜; 𝓖 = 𝓖; 𝓡 = 𝓡 } Code.env Symbol'.name Symbol'.routine
-      Code.calls-hnsr-circuit·lookup·drop-actions (Met'.met 𝓤 H 𝓜 𝓖 𝓡))
+      closed 𝓤 H (𝓖 .A) (Running.givenOf 𝓤 H 𝓜 𝓖) (Run.Over 𝓤 H 𝓜 𝓖 𝓡 Code.env) (Reads''.known record { M = M; 𝓤 = 𝓤; H = H; 𝓜 = 𝓜; 𝓖 = 𝓖; 𝓡 = 𝓡 }
+      Code.env Symbol'.name Symbol'.routine Code.calls-hnsr-circuit·tables·pending·set-pending (Met'.met 𝓤 H 𝓜 𝓖 𝓡)) (Reads'.known record { M = M; 𝓤 =
+      𝓤; H = H; 𝓜 = 𝓜; 𝓖 = 𝓖; 𝓡 = 𝓡 } Code.env Symbol.name Symbol.routine Code.calls-hnsr-circuit·handle-accept·put-circuit (Met.met 𝓤 H 𝓜 𝓖 𝓡))

@@ -2,315 +2,207 @@
 use Rattle.hnsr_body.proofs.accept_body.AcceptBody.decode.Met
 use Rattle.hnsr_body.proofs.accept_body.AcceptBody.decode.Reads
 use Rattle.hnsr_body.proofs.accept_body.AcceptBody.decode.Symbol
-use Rattle.hnsr_circuit.proofs.By.handle_accept.accept_answered.Reads as Reads'
-use Rattle.hnsr_circuit.proofs.By.handle_accept.accept_written.Reads as Reads''
+use Rattle.hnsr_circuit.proofs.By.handle_accept.accept_found.Reads as Reads'
 use Rattle.hnsr_circuit.proofs.By.handle_accept.handle_accept.Kinds
 use Rattle.hnsr_circuit.proofs.By.handle_accept.handle_accept.Lts
-use Rattle.hnsr_circuit.proofs.By.handle_accept.handle_accept.Reads as Reads'''
-use Rattle.hnsr_circuit.proofs.By.handle_accept.send_opened.Reads as Reads''''
-use Rattle.hnsr_circuit.proofs.By.lookup.look_up_pending.Reads as Reads'''''
-use Rattle.hnsr_circuit.proofs.accept.accept_plan.Met as Met'
-use Rattle.hnsr_circuit.proofs.accept.accept_plan.Reads as Reads''''''
-use Rattle.hnsr_circuit.proofs.accept.accept_plan.Symbol as Symbol'
-use Rattle.hnsr_circuit.proofs.accept.circuit_for.Met as Met''
-use Rattle.hnsr_circuit.proofs.accept.circuit_for.Reads as Reads'''''''
-use Rattle.hnsr_circuit.proofs.accept.circuit_for.Symbol as Symbol''
-use Rattle.hnsr_circuit.proofs.accept.found_unmarked.Met as Met'''
-use Rattle.hnsr_circuit.proofs.accept.found_unmarked.Reads as Reads''''''''
-use Rattle.hnsr_circuit.proofs.accept.found_unmarked.Symbol as Symbol'''
-use Rattle.hnsr_circuit.proofs.handle_accept.accept_answered.Met as Met''''
-use Rattle.hnsr_circuit.proofs.handle_accept.accept_answered.Symbol as Symbol''''
-use Rattle.hnsr_circuit.proofs.handle_accept.accept_written.Met as Met'''''
-use Rattle.hnsr_circuit.proofs.handle_accept.accept_written.Symbol as Symbol'''''
+use Rattle.hnsr_circuit.proofs.By.handle_accept.handle_accept.Reads as Reads''
+use Rattle.hnsr_circuit.proofs.By.lookup.pending_by_id.Reads as Reads'''
+use Rattle.hnsr_circuit.proofs.accept.accept_entry.Met as Met'
+use Rattle.hnsr_circuit.proofs.accept.accept_entry.Reads as Reads''''
+use Rattle.hnsr_circuit.proofs.accept.accept_entry.Symbol as Symbol'
+use Rattle.hnsr_circuit.proofs.answer.is_taken.Met as Met''
+use Rattle.hnsr_circuit.proofs.answer.is_taken.Reads as Reads'''''
+use Rattle.hnsr_circuit.proofs.answer.is_taken.Symbol as Symbol''
+use Rattle.hnsr_circuit.proofs.handle_accept.accept_found.Met as Met'''
+use Rattle.hnsr_circuit.proofs.handle_accept.accept_found.Symbol as Symbol'''
 use Rattle.hnsr_circuit.proofs.handle_accept.handle_accept.Code
 use Rattle.hnsr_circuit.proofs.handle_accept.handle_accept.Key
 use Rattle.hnsr_circuit.proofs.handle_accept.handle_accept.Statement
-use Rattle.hnsr_circuit.proofs.handle_accept.send_opened.Met as Met''''''
-use Rattle.hnsr_circuit.proofs.handle_accept.send_opened.Symbol as Symbol''''''
-use Rattle.hnsr_circuit.proofs.lookup.look_up_pending.Met as Met'''''''
-use Rattle.hnsr_circuit.proofs.lookup.look_up_pending.Symbol as Symbol'''''''
-use Rattle.hnsr_circuit.proofs.places.with_circuits.Met as Met''''''''
-use Rattle.hnsr_circuit.proofs.places.with_circuits.Reads as Reads'''''''''
-use Rattle.hnsr_circuit.proofs.places.with_circuits.Symbol as Symbol''''''''
-use Rattle.hnsr_circuit.proofs.question.at.Met as Met'''''''''
-use Rattle.hnsr_circuit.proofs.question.at.Reads as Reads''''''''''
-use Rattle.hnsr_circuit.proofs.question.at.Symbol as Symbol'''''''''
+use Rattle.hnsr_circuit.proofs.lookup.pending_by_id.Met as Met''''
+use Rattle.hnsr_circuit.proofs.lookup.pending_by_id.Symbol as Symbol''''
+use Rattle.hnsr_circuit.proofs.peer.peer_of.Met as Met'''''
+use Rattle.hnsr_circuit.proofs.peer.peer_of.Reads as Reads''''''
+use Rattle.hnsr_circuit.proofs.peer.peer_of.Symbol as Symbol'''''
+use Rattle.hnsr_circuit.proofs.revoking_calls.refused.Met as Met''''''
+use Rattle.hnsr_circuit.proofs.revoking_calls.refused.Reads as Reads'''''''
+use Rattle.hnsr_circuit.proofs.revoking_calls.refused.Symbol as Symbol''''''
 use borrow.Fn.Run
 use borrow.Fn.Written
 use contract.Running
 
 abbrev pub Start : Type 0
-Start = Lts.Start (Reads''''''''''.Asked, Reads''''''''''.Learnt, Reads'''''.Asked, Reads'''''.Learnt, Reads.Asked, Reads.Learnt, Reads'.Asked,
-    Reads'.Learnt, Reads''''''.Asked, Reads''''''.Learnt, Reads''''''''.Asked, Reads''''''''.Learnt, Reads'''''''.Asked, Reads'''''''.Learnt,
-    Reads''.Asked, Reads''.Learnt, Reads'''''''''.Asked, Reads'''''''''.Learnt, Reads''''.Asked, Reads''''.Learnt,) Reads'''.Pre Reads'''.Post
+Start = Lts.Start (Reads'''.Asked, Reads'''.Learnt, Reads.Asked, Reads.Learnt, Reads''''''.Asked, Reads''''''.Learnt, Reads''''.Asked,
+    Reads''''.Learnt, Reads'''''.Asked, Reads'''''.Learnt, Reads'.Asked, Reads'.Learnt, Reads'''''''.Asked, Reads'''''''.Learnt,) Reads''.Pre
+    Reads''.Post
 abbrev pub After-slice-known : Type 0
-After-slice-known = Lts.After-slice-known (Reads''''''''''.Asked, Reads''''''''''.Learnt, Reads'''''.Asked, Reads'''''.Learnt, Reads.Asked,
-    Reads.Learnt, Reads'.Asked, Reads'.Learnt, Reads''''''.Asked, Reads''''''.Learnt, Reads''''''''.Asked, Reads''''''''.Learnt, Reads'''''''.Asked,
-    Reads'''''''.Learnt, Reads''.Asked, Reads''.Learnt, Reads'''''''''.Asked, Reads'''''''''.Learnt, Reads''''.Asked, Reads''''.Learnt,) Reads'''.Pre
-    Reads'''.Post
+After-slice-known = Lts.After-slice-known (Reads'''.Asked, Reads'''.Learnt, Reads.Asked, Reads.Learnt, Reads''''''.Asked, Reads''''''.Learnt,
+    Reads''''.Asked, Reads''''.Learnt, Reads'''''.Asked, Reads'''''.Learnt, Reads'.Asked, Reads'.Learnt, Reads'''''''.Asked, Reads'''''''.Learnt,)
+    Reads''.Pre Reads''.Post
 abbrev pub After-shared-slice-known : Type 0
-After-shared-slice-known = Lts.After-shared-slice-known (Reads''''''''''.Asked, Reads''''''''''.Learnt, Reads'''''.Asked, Reads'''''.Learnt,
-    Reads.Asked, Reads.Learnt, Reads'.Asked, Reads'.Learnt, Reads''''''.Asked, Reads''''''.Learnt, Reads''''''''.Asked, Reads''''''''.Learnt,
-    Reads'''''''.Asked, Reads'''''''.Learnt, Reads''.Asked, Reads''.Learnt, Reads'''''''''.Asked, Reads'''''''''.Learnt, Reads''''.Asked,
-    Reads''''.Learnt,) Reads'''.Pre Reads'''.Post
+After-shared-slice-known = Lts.After-shared-slice-known (Reads'''.Asked, Reads'''.Learnt, Reads.Asked, Reads.Learnt, Reads''''''.Asked,
+    Reads''''''.Learnt, Reads''''.Asked, Reads''''.Learnt, Reads'''''.Asked, Reads'''''.Learnt, Reads'.Asked, Reads'.Learnt, Reads'''''''.Asked,
+    Reads'''''''.Learnt,) Reads''.Pre Reads''.Post
 abbrev pub After-shared-slice-known2 : Type 0
-After-shared-slice-known2 = Lts.After-shared-slice-known2 (Reads''''''''''.Asked, Reads''''''''''.Learnt, Reads'''''.Asked, Reads'''''.Learnt,
-    Reads.Asked, Reads.Learnt, Reads'.Asked, Reads'.Learnt, Reads''''''.Asked, Reads''''''.Learnt, Reads''''''''.Asked, Reads''''''''.Learnt,
-    Reads'''''''.Asked, Reads'''''''.Learnt, Reads''.Asked, Reads''.Learnt, Reads'''''''''.Asked, Reads'''''''''.Learnt, Reads''''.Asked,
-    Reads''''.Learnt,) Reads'''.Pre Reads'''.Post
-abbrev pub After-at : Type 0
-After-at = Lts.After-at (Reads''''''''''.Asked, Reads''''''''''.Learnt, Reads'''''.Asked, Reads'''''.Learnt, Reads.Asked, Reads.Learnt, Reads'.Asked,
-    Reads'.Learnt, Reads''''''.Asked, Reads''''''.Learnt, Reads''''''''.Asked, Reads''''''''.Learnt, Reads'''''''.Asked, Reads'''''''.Learnt,
-    Reads''.Asked, Reads''.Learnt, Reads'''''''''.Asked, Reads'''''''''.Learnt, Reads''''.Asked, Reads''''.Learnt,) Reads'''.Pre Reads'''.Post
-abbrev pub After-look-up-pending-arg : Type 0
-After-look-up-pending-arg = Lts.After-look-up-pending-arg (Reads''''''''''.Asked, Reads''''''''''.Learnt, Reads'''''.Asked, Reads'''''.Learnt,
-    Reads.Asked, Reads.Learnt, Reads'.Asked, Reads'.Learnt, Reads''''''.Asked, Reads''''''.Learnt, Reads''''''''.Asked, Reads''''''''.Learnt,
-    Reads'''''''.Asked, Reads'''''''.Learnt, Reads''.Asked, Reads''.Learnt, Reads'''''''''.Asked, Reads'''''''''.Learnt, Reads''''.Asked,
-    Reads''''.Learnt,) Reads'''.Pre Reads'''.Post
-abbrev pub After-look-up-pending : Type 0
-After-look-up-pending = Lts.After-look-up-pending (Reads''''''''''.Asked, Reads''''''''''.Learnt, Reads'''''.Asked, Reads'''''.Learnt, Reads.Asked,
-    Reads.Learnt, Reads'.Asked, Reads'.Learnt, Reads''''''.Asked, Reads''''''.Learnt, Reads''''''''.Asked, Reads''''''''.Learnt, Reads'''''''.Asked,
-    Reads'''''''.Learnt, Reads''.Asked, Reads''.Learnt, Reads'''''''''.Asked, Reads'''''''''.Learnt, Reads''''.Asked, Reads''''.Learnt,) Reads'''.Pre
-    Reads'''.Post
+After-shared-slice-known2 = Lts.After-shared-slice-known2 (Reads'''.Asked, Reads'''.Learnt, Reads.Asked, Reads.Learnt, Reads''''''.Asked,
+    Reads''''''.Learnt, Reads''''.Asked, Reads''''.Learnt, Reads'''''.Asked, Reads'''''.Learnt, Reads'.Asked, Reads'.Learnt, Reads'''''''.Asked,
+    Reads'''''''.Learnt,) Reads''.Pre Reads''.Post
+abbrev pub After-pending-by-id-arg : Type 0
+After-pending-by-id-arg = Lts.After-pending-by-id-arg (Reads'''.Asked, Reads'''.Learnt, Reads.Asked, Reads.Learnt, Reads''''''.Asked,
+    Reads''''''.Learnt, Reads''''.Asked, Reads''''.Learnt, Reads'''''.Asked, Reads'''''.Learnt, Reads'.Asked, Reads'.Learnt, Reads'''''''.Asked,
+    Reads'''''''.Learnt,) Reads''.Pre Reads''.Post
+abbrev pub After-pending-by-id : Type 0
+After-pending-by-id = Lts.After-pending-by-id (Reads'''.Asked, Reads'''.Learnt, Reads.Asked, Reads.Learnt, Reads''''''.Asked, Reads''''''.Learnt,
+    Reads''''.Asked, Reads''''.Learnt, Reads'''''.Asked, Reads'''''.Learnt, Reads'.Asked, Reads'.Learnt, Reads'''''''.Asked, Reads'''''''.Learnt,)
+    Reads''.Pre Reads''.Post
 abbrev pub After-decode : Type 0
-After-decode = Lts.After-decode (Reads''''''''''.Asked, Reads''''''''''.Learnt, Reads'''''.Asked, Reads'''''.Learnt, Reads.Asked, Reads.Learnt,
-    Reads'.Asked, Reads'.Learnt, Reads''''''.Asked, Reads''''''.Learnt, Reads''''''''.Asked, Reads''''''''.Learnt, Reads'''''''.Asked,
-    Reads'''''''.Learnt, Reads''.Asked, Reads''.Learnt, Reads'''''''''.Asked, Reads'''''''''.Learnt, Reads''''.Asked, Reads''''.Learnt,) Reads'''.Pre
-    Reads'''.Post
-abbrev pub After-config : Type 0
-After-config = Lts.After-config (Reads''''''''''.Asked, Reads''''''''''.Learnt, Reads'''''.Asked, Reads'''''.Learnt, Reads.Asked, Reads.Learnt,
-    Reads'.Asked, Reads'.Learnt, Reads''''''.Asked, Reads''''''.Learnt, Reads''''''''.Asked, Reads''''''''.Learnt, Reads'''''''.Asked,
-    Reads'''''''.Learnt, Reads''.Asked, Reads''.Learnt, Reads'''''''''.Asked, Reads'''''''''.Learnt, Reads''''.Asked, Reads''''.Learnt,) Reads'''.Pre
-    Reads'''.Post
-abbrev pub After-accept-answered-arg : Type 0
-After-accept-answered-arg = Lts.After-accept-answered-arg (Reads''''''''''.Asked, Reads''''''''''.Learnt, Reads'''''.Asked, Reads'''''.Learnt,
-    Reads.Asked, Reads.Learnt, Reads'.Asked, Reads'.Learnt, Reads''''''.Asked, Reads''''''.Learnt, Reads''''''''.Asked, Reads''''''''.Learnt,
-    Reads'''''''.Asked, Reads'''''''.Learnt, Reads''.Asked, Reads''.Learnt, Reads'''''''''.Asked, Reads'''''''''.Learnt, Reads''''.Asked,
-    Reads''''.Learnt,) Reads'''.Pre Reads'''.Post
-abbrev pub After-accept-answered-arg2 : Type 0
-After-accept-answered-arg2 = Lts.After-accept-answered-arg2 (Reads''''''''''.Asked, Reads''''''''''.Learnt, Reads'''''.Asked, Reads'''''.Learnt,
-    Reads.Asked, Reads.Learnt, Reads'.Asked, Reads'.Learnt, Reads''''''.Asked, Reads''''''.Learnt, Reads''''''''.Asked, Reads''''''''.Learnt,
-    Reads'''''''.Asked, Reads'''''''.Learnt, Reads''.Asked, Reads''.Learnt, Reads'''''''''.Asked, Reads'''''''''.Learnt, Reads''''.Asked,
-    Reads''''.Learnt,) Reads'''.Pre Reads'''.Post
-abbrev pub After-accept-answered-arg3 : Type 0
-After-accept-answered-arg3 = Lts.After-accept-answered-arg3 (Reads''''''''''.Asked, Reads''''''''''.Learnt, Reads'''''.Asked, Reads'''''.Learnt,
-    Reads.Asked, Reads.Learnt, Reads'.Asked, Reads'.Learnt, Reads''''''.Asked, Reads''''''.Learnt, Reads''''''''.Asked, Reads''''''''.Learnt,
-    Reads'''''''.Asked, Reads'''''''.Learnt, Reads''.Asked, Reads''.Learnt, Reads'''''''''.Asked, Reads'''''''''.Learnt, Reads''''.Asked,
-    Reads''''.Learnt,) Reads'''.Pre Reads'''.Post
-abbrev pub After-accept-answered : Type 0
-After-accept-answered = Lts.After-accept-answered (Reads''''''''''.Asked, Reads''''''''''.Learnt, Reads'''''.Asked, Reads'''''.Learnt, Reads.Asked,
-    Reads.Learnt, Reads'.Asked, Reads'.Learnt, Reads''''''.Asked, Reads''''''.Learnt, Reads''''''''.Asked, Reads''''''''.Learnt, Reads'''''''.Asked,
-    Reads'''''''.Learnt, Reads''.Asked, Reads''.Learnt, Reads'''''''''.Asked, Reads'''''''''.Learnt, Reads''''.Asked, Reads''''.Learnt,) Reads'''.Pre
-    Reads'''.Post
-abbrev pub After-accept-plan : Type 0
-After-accept-plan = Lts.After-accept-plan (Reads''''''''''.Asked, Reads''''''''''.Learnt, Reads'''''.Asked, Reads'''''.Learnt, Reads.Asked,
-    Reads.Learnt, Reads'.Asked, Reads'.Learnt, Reads''''''.Asked, Reads''''''.Learnt, Reads''''''''.Asked, Reads''''''''.Learnt, Reads'''''''.Asked,
-    Reads'''''''.Learnt, Reads''.Asked, Reads''.Learnt, Reads'''''''''.Asked, Reads'''''''''.Learnt, Reads''''.Asked, Reads''''.Learnt,) Reads'''.Pre
-    Reads'''.Post
-abbrev pub After-found-unmarked : Type 0
-After-found-unmarked = Lts.After-found-unmarked (Reads''''''''''.Asked, Reads''''''''''.Learnt, Reads'''''.Asked, Reads'''''.Learnt, Reads.Asked,
-    Reads.Learnt, Reads'.Asked, Reads'.Learnt, Reads''''''.Asked, Reads''''''.Learnt, Reads''''''''.Asked, Reads''''''''.Learnt, Reads'''''''.Asked,
-    Reads'''''''.Learnt, Reads''.Asked, Reads''.Learnt, Reads'''''''''.Asked, Reads'''''''''.Learnt, Reads''''.Asked, Reads''''.Learnt,) Reads'''.Pre
-    Reads'''.Post
-abbrev pub After-circuit-for : Type 0
-After-circuit-for = Lts.After-circuit-for (Reads''''''''''.Asked, Reads''''''''''.Learnt, Reads'''''.Asked, Reads'''''.Learnt, Reads.Asked,
-    Reads.Learnt, Reads'.Asked, Reads'.Learnt, Reads''''''.Asked, Reads''''''.Learnt, Reads''''''''.Asked, Reads''''''''.Learnt, Reads'''''''.Asked,
-    Reads'''''''.Learnt, Reads''.Asked, Reads''.Learnt, Reads'''''''''.Asked, Reads'''''''''.Learnt, Reads''''.Asked, Reads''''.Learnt,) Reads'''.Pre
-    Reads'''.Post
-abbrev pub After-counted : Type 0
-After-counted = Lts.After-counted (Reads''''''''''.Asked, Reads''''''''''.Learnt, Reads'''''.Asked, Reads'''''.Learnt, Reads.Asked, Reads.Learnt,
-    Reads'.Asked, Reads'.Learnt, Reads''''''.Asked, Reads''''''.Learnt, Reads''''''''.Asked, Reads''''''''.Learnt, Reads'''''''.Asked,
-    Reads'''''''.Learnt, Reads''.Asked, Reads''.Learnt, Reads'''''''''.Asked, Reads'''''''''.Learnt, Reads''''.Asked, Reads''''.Learnt,) Reads'''.Pre
-    Reads'''.Post
-abbrev pub After-message : Type 0
-After-message = Lts.After-message (Reads''''''''''.Asked, Reads''''''''''.Learnt, Reads'''''.Asked, Reads'''''.Learnt, Reads.Asked, Reads.Learnt,
-    Reads'.Asked, Reads'.Learnt, Reads''''''.Asked, Reads''''''.Learnt, Reads''''''''.Asked, Reads''''''''.Learnt, Reads'''''''.Asked,
-    Reads'''''''.Learnt, Reads''.Asked, Reads''.Learnt, Reads'''''''''.Asked, Reads'''''''''.Learnt, Reads''''.Asked, Reads''''.Learnt,) Reads'''.Pre
-    Reads'''.Post
-abbrev pub After-opened : Type 0
-After-opened = Lts.After-opened (Reads''''''''''.Asked, Reads''''''''''.Learnt, Reads'''''.Asked, Reads'''''.Learnt, Reads.Asked, Reads.Learnt,
-    Reads'.Asked, Reads'.Learnt, Reads''''''.Asked, Reads''''''.Learnt, Reads''''''''.Asked, Reads''''''''.Learnt, Reads'''''''.Asked,
-    Reads'''''''.Learnt, Reads''.Asked, Reads''.Learnt, Reads'''''''''.Asked, Reads'''''''''.Learnt, Reads''''.Asked, Reads''''.Learnt,) Reads'''.Pre
-    Reads'''.Post
-abbrev pub After-accept-written-arg : Type 0
-After-accept-written-arg = Lts.After-accept-written-arg (Reads''''''''''.Asked, Reads''''''''''.Learnt, Reads'''''.Asked, Reads'''''.Learnt,
-    Reads.Asked, Reads.Learnt, Reads'.Asked, Reads'.Learnt, Reads''''''.Asked, Reads''''''.Learnt, Reads''''''''.Asked, Reads''''''''.Learnt,
-    Reads'''''''.Asked, Reads'''''''.Learnt, Reads''.Asked, Reads''.Learnt, Reads'''''''''.Asked, Reads'''''''''.Learnt, Reads''''.Asked,
-    Reads''''.Learnt,) Reads'''.Pre Reads'''.Post
-abbrev pub After-accept-written-arg2 : Type 0
-After-accept-written-arg2 = Lts.After-accept-written-arg2 (Reads''''''''''.Asked, Reads''''''''''.Learnt, Reads'''''.Asked, Reads'''''.Learnt,
-    Reads.Asked, Reads.Learnt, Reads'.Asked, Reads'.Learnt, Reads''''''.Asked, Reads''''''.Learnt, Reads''''''''.Asked, Reads''''''''.Learnt,
-    Reads'''''''.Asked, Reads'''''''.Learnt, Reads''.Asked, Reads''.Learnt, Reads'''''''''.Asked, Reads'''''''''.Learnt, Reads''''.Asked,
-    Reads''''.Learnt,) Reads'''.Pre Reads'''.Post
-abbrev pub After-accept-written-arg3 : Type 0
-After-accept-written-arg3 = Lts.After-accept-written-arg3 (Reads''''''''''.Asked, Reads''''''''''.Learnt, Reads'''''.Asked, Reads'''''.Learnt,
-    Reads.Asked, Reads.Learnt, Reads'.Asked, Reads'.Learnt, Reads''''''.Asked, Reads''''''.Learnt, Reads''''''''.Asked, Reads''''''''.Learnt,
-    Reads'''''''.Asked, Reads'''''''.Learnt, Reads''.Asked, Reads''.Learnt, Reads'''''''''.Asked, Reads'''''''''.Learnt, Reads''''.Asked,
-    Reads''''.Learnt,) Reads'''.Pre Reads'''.Post
-abbrev pub After-accept-written : Type 0
-After-accept-written = Lts.After-accept-written (Reads''''''''''.Asked, Reads''''''''''.Learnt, Reads'''''.Asked, Reads'''''.Learnt, Reads.Asked,
-    Reads.Learnt, Reads'.Asked, Reads'.Learnt, Reads''''''.Asked, Reads''''''.Learnt, Reads''''''''.Asked, Reads''''''''.Learnt, Reads'''''''.Asked,
-    Reads'''''''.Learnt, Reads''.Asked, Reads''.Learnt, Reads'''''''''.Asked, Reads'''''''''.Learnt, Reads''''.Asked, Reads''''.Learnt,) Reads'''.Pre
-    Reads'''.Post
+After-decode = Lts.After-decode (Reads'''.Asked, Reads'''.Learnt, Reads.Asked, Reads.Learnt, Reads''''''.Asked, Reads''''''.Learnt, Reads''''.Asked,
+    Reads''''.Learnt, Reads'''''.Asked, Reads'''''.Learnt, Reads'.Asked, Reads'.Learnt, Reads'''''''.Asked, Reads'''''''.Learnt,) Reads''.Pre
+    Reads''.Post
+abbrev pub After-peer-of : Type 0
+After-peer-of = Lts.After-peer-of (Reads'''.Asked, Reads'''.Learnt, Reads.Asked, Reads.Learnt, Reads''''''.Asked, Reads''''''.Learnt, Reads''''.Asked,
+    Reads''''.Learnt, Reads'''''.Asked, Reads'''''.Learnt, Reads'.Asked, Reads'.Learnt, Reads'''''''.Asked, Reads'''''''.Learnt,) Reads''.Pre
+    Reads''.Post
+abbrev pub After-accept-entry : Type 0
+After-accept-entry = Lts.After-accept-entry (Reads'''.Asked, Reads'''.Learnt, Reads.Asked, Reads.Learnt, Reads''''''.Asked, Reads''''''.Learnt,
+    Reads''''.Asked, Reads''''.Learnt, Reads'''''.Asked, Reads'''''.Learnt, Reads'.Asked, Reads'.Learnt, Reads'''''''.Asked, Reads'''''''.Learnt,)
+    Reads''.Pre Reads''.Post
+abbrev pub After-is-taken : Type 0
+After-is-taken = Lts.After-is-taken (Reads'''.Asked, Reads'''.Learnt, Reads.Asked, Reads.Learnt, Reads''''''.Asked, Reads''''''.Learnt,
+    Reads''''.Asked, Reads''''.Learnt, Reads'''''.Asked, Reads'''''.Learnt, Reads'.Asked, Reads'.Learnt, Reads'''''''.Asked, Reads'''''''.Learnt,)
+    Reads''.Pre Reads''.Post
+abbrev pub Then1 : Type 0
+Then1 = Lts.Then1 (Reads'''.Asked, Reads'''.Learnt, Reads.Asked, Reads.Learnt, Reads''''''.Asked, Reads''''''.Learnt, Reads''''.Asked,
+    Reads''''.Learnt, Reads'''''.Asked, Reads'''''.Learnt, Reads'.Asked, Reads'.Learnt, Reads'''''''.Asked, Reads'''''''.Learnt,) Reads''.Pre
+    Reads''.Post
+abbrev pub After-accept-found-arg : Type 0
+After-accept-found-arg = Lts.After-accept-found-arg (Reads'''.Asked, Reads'''.Learnt, Reads.Asked, Reads.Learnt, Reads''''''.Asked,
+    Reads''''''.Learnt, Reads''''.Asked, Reads''''.Learnt, Reads'''''.Asked, Reads'''''.Learnt, Reads'.Asked, Reads'.Learnt, Reads'''''''.Asked,
+    Reads'''''''.Learnt,) Reads''.Pre Reads''.Post
+abbrev pub After-accept-found-arg2 : Type 0
+After-accept-found-arg2 = Lts.After-accept-found-arg2 (Reads'''.Asked, Reads'''.Learnt, Reads.Asked, Reads.Learnt, Reads''''''.Asked,
+    Reads''''''.Learnt, Reads''''.Asked, Reads''''.Learnt, Reads'''''.Asked, Reads'''''.Learnt, Reads'.Asked, Reads'.Learnt, Reads'''''''.Asked,
+    Reads'''''''.Learnt,) Reads''.Pre Reads''.Post
+abbrev pub After-accept-found-arg3 : Type 0
+After-accept-found-arg3 = Lts.After-accept-found-arg3 (Reads'''.Asked, Reads'''.Learnt, Reads.Asked, Reads.Learnt, Reads''''''.Asked,
+    Reads''''''.Learnt, Reads''''.Asked, Reads''''.Learnt, Reads'''''.Asked, Reads'''''.Learnt, Reads'.Asked, Reads'.Learnt, Reads'''''''.Asked,
+    Reads'''''''.Learnt,) Reads''.Pre Reads''.Post
+abbrev pub After-accept-found-arg4 : Type 0
+After-accept-found-arg4 = Lts.After-accept-found-arg4 (Reads'''.Asked, Reads'''.Learnt, Reads.Asked, Reads.Learnt, Reads''''''.Asked,
+    Reads''''''.Learnt, Reads''''.Asked, Reads''''.Learnt, Reads'''''.Asked, Reads'''''.Learnt, Reads'.Asked, Reads'.Learnt, Reads'''''''.Asked,
+    Reads'''''''.Learnt,) Reads''.Pre Reads''.Post
+abbrev pub After-accept-found : Type 0
+After-accept-found = Lts.After-accept-found (Reads'''.Asked, Reads'''.Learnt, Reads.Asked, Reads.Learnt, Reads''''''.Asked, Reads''''''.Learnt,
+    Reads''''.Asked, Reads''''.Learnt, Reads'''''.Asked, Reads'''''.Learnt, Reads'.Asked, Reads'.Learnt, Reads'''''''.Asked, Reads'''''''.Learnt,)
+    Reads''.Pre Reads''.Post
 abbrev pub After-pending : Type 0
-After-pending = Lts.After-pending (Reads''''''''''.Asked, Reads''''''''''.Learnt, Reads'''''.Asked, Reads'''''.Learnt, Reads.Asked, Reads.Learnt,
-    Reads'.Asked, Reads'.Learnt, Reads''''''.Asked, Reads''''''.Learnt, Reads''''''''.Asked, Reads''''''''.Learnt, Reads'''''''.Asked,
-    Reads'''''''.Learnt, Reads''.Asked, Reads''.Learnt, Reads'''''''''.Asked, Reads'''''''''.Learnt, Reads''''.Asked, Reads''''.Learnt,) Reads'''.Pre
-    Reads'''.Post
+After-pending = Lts.After-pending (Reads'''.Asked, Reads'''.Learnt, Reads.Asked, Reads.Learnt, Reads''''''.Asked, Reads''''''.Learnt, Reads''''.Asked,
+    Reads''''.Learnt, Reads'''''.Asked, Reads'''''.Learnt, Reads'.Asked, Reads'.Learnt, Reads'''''''.Asked, Reads'''''''.Learnt,) Reads''.Pre
+    Reads''.Post
 abbrev pub After-circuits : Type 0
-After-circuits = Lts.After-circuits (Reads''''''''''.Asked, Reads''''''''''.Learnt, Reads'''''.Asked, Reads'''''.Learnt, Reads.Asked, Reads.Learnt,
-    Reads'.Asked, Reads'.Learnt, Reads''''''.Asked, Reads''''''.Learnt, Reads''''''''.Asked, Reads''''''''.Learnt, Reads'''''''.Asked,
-    Reads'''''''.Learnt, Reads''.Asked, Reads''.Learnt, Reads'''''''''.Asked, Reads'''''''''.Learnt, Reads''''.Asked, Reads''''.Learnt,) Reads'''.Pre
-    Reads'''.Post
+After-circuits = Lts.After-circuits (Reads'''.Asked, Reads'''.Learnt, Reads.Asked, Reads.Learnt, Reads''''''.Asked, Reads''''''.Learnt,
+    Reads''''.Asked, Reads''''.Learnt, Reads'''''.Asked, Reads'''''.Learnt, Reads'.Asked, Reads'.Learnt, Reads'''''''.Asked, Reads'''''''.Learnt,)
+    Reads''.Pre Reads''.Post
 abbrev pub After-inflight : Type 0
-After-inflight = Lts.After-inflight (Reads''''''''''.Asked, Reads''''''''''.Learnt, Reads'''''.Asked, Reads'''''.Learnt, Reads.Asked, Reads.Learnt,
-    Reads'.Asked, Reads'.Learnt, Reads''''''.Asked, Reads''''''.Learnt, Reads''''''''.Asked, Reads''''''''.Learnt, Reads'''''''.Asked,
-    Reads'''''''.Learnt, Reads''.Asked, Reads''.Learnt, Reads'''''''''.Asked, Reads'''''''''.Learnt, Reads''''.Asked, Reads''''.Learnt,) Reads'''.Pre
-    Reads'''.Post
-abbrev pub After-with-circuits : Type 0
-After-with-circuits = Lts.After-with-circuits (Reads''''''''''.Asked, Reads''''''''''.Learnt, Reads'''''.Asked, Reads'''''.Learnt, Reads.Asked,
-    Reads.Learnt, Reads'.Asked, Reads'.Learnt, Reads''''''.Asked, Reads''''''.Learnt, Reads''''''''.Asked, Reads''''''''.Learnt, Reads'''''''.Asked,
-    Reads'''''''.Learnt, Reads''.Asked, Reads''.Learnt, Reads'''''''''.Asked, Reads'''''''''.Learnt, Reads''''.Asked, Reads''''.Learnt,) Reads'''.Pre
-    Reads'''.Post
-abbrev pub After-send-opened-arg : Type 0
-After-send-opened-arg = Lts.After-send-opened-arg (Reads''''''''''.Asked, Reads''''''''''.Learnt, Reads'''''.Asked, Reads'''''.Learnt, Reads.Asked,
-    Reads.Learnt, Reads'.Asked, Reads'.Learnt, Reads''''''.Asked, Reads''''''.Learnt, Reads''''''''.Asked, Reads''''''''.Learnt, Reads'''''''.Asked,
-    Reads'''''''.Learnt, Reads''.Asked, Reads''.Learnt, Reads'''''''''.Asked, Reads'''''''''.Learnt, Reads''''.Asked, Reads''''.Learnt,) Reads'''.Pre
-    Reads'''.Post
-abbrev pub After-send-opened-arg2 : Type 0
-After-send-opened-arg2 = Lts.After-send-opened-arg2 (Reads''''''''''.Asked, Reads''''''''''.Learnt, Reads'''''.Asked, Reads'''''.Learnt, Reads.Asked,
-    Reads.Learnt, Reads'.Asked, Reads'.Learnt, Reads''''''.Asked, Reads''''''.Learnt, Reads''''''''.Asked, Reads''''''''.Learnt, Reads'''''''.Asked,
-    Reads'''''''.Learnt, Reads''.Asked, Reads''.Learnt, Reads'''''''''.Asked, Reads'''''''''.Learnt, Reads''''.Asked, Reads''''.Learnt,) Reads'''.Pre
-    Reads'''.Post
-abbrev pub After-send-opened : Type 0
-After-send-opened = Lts.After-send-opened (Reads''''''''''.Asked, Reads''''''''''.Learnt, Reads'''''.Asked, Reads'''''.Learnt, Reads.Asked,
-    Reads.Learnt, Reads'.Asked, Reads'.Learnt, Reads''''''.Asked, Reads''''''.Learnt, Reads''''''''.Asked, Reads''''''''.Learnt, Reads'''''''.Asked,
-    Reads'''''''.Learnt, Reads''.Asked, Reads''.Learnt, Reads'''''''''.Asked, Reads'''''''''.Learnt, Reads''''.Asked, Reads''''.Learnt,) Reads'''.Pre
-    Reads'''.Post
-abbrev pub After-inflight2 : Type 0
-After-inflight2 = Lts.After-inflight2 (Reads''''''''''.Asked, Reads''''''''''.Learnt, Reads'''''.Asked, Reads'''''.Learnt, Reads.Asked, Reads.Learnt,
-    Reads'.Asked, Reads'.Learnt, Reads''''''.Asked, Reads''''''.Learnt, Reads''''''''.Asked, Reads''''''''.Learnt, Reads'''''''.Asked,
-    Reads'''''''.Learnt, Reads''.Asked, Reads''.Learnt, Reads'''''''''.Asked, Reads'''''''''.Learnt, Reads''''.Asked, Reads''''.Learnt,) Reads'''.Pre
-    Reads'''.Post
+After-inflight = Lts.After-inflight (Reads'''.Asked, Reads'''.Learnt, Reads.Asked, Reads.Learnt, Reads''''''.Asked, Reads''''''.Learnt,
+    Reads''''.Asked, Reads''''.Learnt, Reads'''''.Asked, Reads'''''.Learnt, Reads'.Asked, Reads'.Learnt, Reads'''''''.Asked, Reads'''''''.Learnt,)
+    Reads''.Pre Reads''.Post
 abbrev pub After-out : Type 0
-After-out = Lts.After-out (Reads''''''''''.Asked, Reads''''''''''.Learnt, Reads'''''.Asked, Reads'''''.Learnt, Reads.Asked, Reads.Learnt,
-    Reads'.Asked, Reads'.Learnt, Reads''''''.Asked, Reads''''''.Learnt, Reads''''''''.Asked, Reads''''''''.Learnt, Reads'''''''.Asked,
-    Reads'''''''.Learnt, Reads''.Asked, Reads''.Learnt, Reads'''''''''.Asked, Reads'''''''''.Learnt, Reads''''.Asked, Reads''''.Learnt,) Reads'''.Pre
-    Reads'''.Post
+After-out = Lts.After-out (Reads'''.Asked, Reads'''.Learnt, Reads.Asked, Reads.Learnt, Reads''''''.Asked, Reads''''''.Learnt, Reads''''.Asked,
+    Reads''''.Learnt, Reads'''''.Asked, Reads'''''.Learnt, Reads'.Asked, Reads'.Learnt, Reads'''''''.Asked, Reads'''''''.Learnt,) Reads''.Pre
+    Reads''.Post
 abbrev pub After-slice-known2 : Type 0
-After-slice-known2 = Lts.After-slice-known2 (Reads''''''''''.Asked, Reads''''''''''.Learnt, Reads'''''.Asked, Reads'''''.Learnt, Reads.Asked,
-    Reads.Learnt, Reads'.Asked, Reads'.Learnt, Reads''''''.Asked, Reads''''''.Learnt, Reads''''''''.Asked, Reads''''''''.Learnt, Reads'''''''.Asked,
-    Reads'''''''.Learnt, Reads''.Asked, Reads''.Learnt, Reads'''''''''.Asked, Reads'''''''''.Learnt, Reads''''.Asked, Reads''''.Learnt,) Reads'''.Pre
-    Reads'''.Post
-abbrev pub Need-at-requires : Type 0
-Need-at-requires = Lts.Need-at-requires (Reads''''''''''.Asked, Reads''''''''''.Learnt, Reads'''''.Asked, Reads'''''.Learnt, Reads.Asked,
-    Reads.Learnt, Reads'.Asked, Reads'.Learnt, Reads''''''.Asked, Reads''''''.Learnt, Reads''''''''.Asked, Reads''''''''.Learnt, Reads'''''''.Asked,
-    Reads'''''''.Learnt, Reads''.Asked, Reads''.Learnt, Reads'''''''''.Asked, Reads'''''''''.Learnt, Reads''''.Asked, Reads''''.Learnt,) Reads'''.Pre
-    Reads'''.Post
-abbrev pub Need-look-up-pending-requires : Type 0
-Need-look-up-pending-requires = Lts.Need-look-up-pending-requires (Reads''''''''''.Asked, Reads''''''''''.Learnt, Reads'''''.Asked, Reads'''''.Learnt,
-    Reads.Asked, Reads.Learnt, Reads'.Asked, Reads'.Learnt, Reads''''''.Asked, Reads''''''.Learnt, Reads''''''''.Asked, Reads''''''''.Learnt,
-    Reads'''''''.Asked, Reads'''''''.Learnt, Reads''.Asked, Reads''.Learnt, Reads'''''''''.Asked, Reads'''''''''.Learnt, Reads''''.Asked,
-    Reads''''.Learnt,) Reads'''.Pre Reads'''.Post
+After-slice-known2 = Lts.After-slice-known2 (Reads'''.Asked, Reads'''.Learnt, Reads.Asked, Reads.Learnt, Reads''''''.Asked, Reads''''''.Learnt,
+    Reads''''.Asked, Reads''''.Learnt, Reads'''''.Asked, Reads'''''.Learnt, Reads'.Asked, Reads'.Learnt, Reads'''''''.Asked, Reads'''''''.Learnt,)
+    Reads''.Pre Reads''.Post
+abbrev pub Else1 : Type 0
+Else1 = Lts.Else1 (Reads'''.Asked, Reads'''.Learnt, Reads.Asked, Reads.Learnt, Reads''''''.Asked, Reads''''''.Learnt, Reads''''.Asked,
+    Reads''''.Learnt, Reads'''''.Asked, Reads'''''.Learnt, Reads'.Asked, Reads'.Learnt, Reads'''''''.Asked, Reads'''''''.Learnt,) Reads''.Pre
+    Reads''.Post
+abbrev pub After-refused : Type 0
+After-refused = Lts.After-refused (Reads'''.Asked, Reads'''.Learnt, Reads.Asked, Reads.Learnt, Reads''''''.Asked, Reads''''''.Learnt, Reads''''.Asked,
+    Reads''''.Learnt, Reads'''''.Asked, Reads'''''.Learnt, Reads'.Asked, Reads'.Learnt, Reads'''''''.Asked, Reads'''''''.Learnt,) Reads''.Pre
+    Reads''.Post
+abbrev pub Need-pending-by-id-requires : Type 0
+Need-pending-by-id-requires = Lts.Need-pending-by-id-requires (Reads'''.Asked, Reads'''.Learnt, Reads.Asked, Reads.Learnt, Reads''''''.Asked,
+    Reads''''''.Learnt, Reads''''.Asked, Reads''''.Learnt, Reads'''''.Asked, Reads'''''.Learnt, Reads'.Asked, Reads'.Learnt, Reads'''''''.Asked,
+    Reads'''''''.Learnt,) Reads''.Pre Reads''.Post
 abbrev pub Need-decode-requires : Type 0
-Need-decode-requires = Lts.Need-decode-requires (Reads''''''''''.Asked, Reads''''''''''.Learnt, Reads'''''.Asked, Reads'''''.Learnt, Reads.Asked,
-    Reads.Learnt, Reads'.Asked, Reads'.Learnt, Reads''''''.Asked, Reads''''''.Learnt, Reads''''''''.Asked, Reads''''''''.Learnt, Reads'''''''.Asked,
-    Reads'''''''.Learnt, Reads''.Asked, Reads''.Learnt, Reads'''''''''.Asked, Reads'''''''''.Learnt, Reads''''.Asked, Reads''''.Learnt,) Reads'''.Pre
-    Reads'''.Post
-abbrev pub Need-accept-answered-requires : Type 0
-Need-accept-answered-requires = Lts.Need-accept-answered-requires (Reads''''''''''.Asked, Reads''''''''''.Learnt, Reads'''''.Asked, Reads'''''.Learnt,
-    Reads.Asked, Reads.Learnt, Reads'.Asked, Reads'.Learnt, Reads''''''.Asked, Reads''''''.Learnt, Reads''''''''.Asked, Reads''''''''.Learnt,
-    Reads'''''''.Asked, Reads'''''''.Learnt, Reads''.Asked, Reads''.Learnt, Reads'''''''''.Asked, Reads'''''''''.Learnt, Reads''''.Asked,
-    Reads''''.Learnt,) Reads'''.Pre Reads'''.Post
-abbrev pub Need-accept-plan-requires : Type 0
-Need-accept-plan-requires = Lts.Need-accept-plan-requires (Reads''''''''''.Asked, Reads''''''''''.Learnt, Reads'''''.Asked, Reads'''''.Learnt,
-    Reads.Asked, Reads.Learnt, Reads'.Asked, Reads'.Learnt, Reads''''''.Asked, Reads''''''.Learnt, Reads''''''''.Asked, Reads''''''''.Learnt,
-    Reads'''''''.Asked, Reads'''''''.Learnt, Reads''.Asked, Reads''.Learnt, Reads'''''''''.Asked, Reads'''''''''.Learnt, Reads''''.Asked,
-    Reads''''.Learnt,) Reads'''.Pre Reads'''.Post
-abbrev pub Need-found-unmarked-requires : Type 0
-Need-found-unmarked-requires = Lts.Need-found-unmarked-requires (Reads''''''''''.Asked, Reads''''''''''.Learnt, Reads'''''.Asked, Reads'''''.Learnt,
-    Reads.Asked, Reads.Learnt, Reads'.Asked, Reads'.Learnt, Reads''''''.Asked, Reads''''''.Learnt, Reads''''''''.Asked, Reads''''''''.Learnt,
-    Reads'''''''.Asked, Reads'''''''.Learnt, Reads''.Asked, Reads''.Learnt, Reads'''''''''.Asked, Reads'''''''''.Learnt, Reads''''.Asked,
-    Reads''''.Learnt,) Reads'''.Pre Reads'''.Post
-abbrev pub Need-circuit-for-requires : Type 0
-Need-circuit-for-requires = Lts.Need-circuit-for-requires (Reads''''''''''.Asked, Reads''''''''''.Learnt, Reads'''''.Asked, Reads'''''.Learnt,
-    Reads.Asked, Reads.Learnt, Reads'.Asked, Reads'.Learnt, Reads''''''.Asked, Reads''''''.Learnt, Reads''''''''.Asked, Reads''''''''.Learnt,
-    Reads'''''''.Asked, Reads'''''''.Learnt, Reads''.Asked, Reads''.Learnt, Reads'''''''''.Asked, Reads'''''''''.Learnt, Reads''''.Asked,
-    Reads''''.Learnt,) Reads'''.Pre Reads'''.Post
-abbrev pub Need-accept-written-requires : Type 0
-Need-accept-written-requires = Lts.Need-accept-written-requires (Reads''''''''''.Asked, Reads''''''''''.Learnt, Reads'''''.Asked, Reads'''''.Learnt,
-    Reads.Asked, Reads.Learnt, Reads'.Asked, Reads'.Learnt, Reads''''''.Asked, Reads''''''.Learnt, Reads''''''''.Asked, Reads''''''''.Learnt,
-    Reads'''''''.Asked, Reads'''''''.Learnt, Reads''.Asked, Reads''.Learnt, Reads'''''''''.Asked, Reads'''''''''.Learnt, Reads''''.Asked,
-    Reads''''.Learnt,) Reads'''.Pre Reads'''.Post
-abbrev pub Need-with-circuits-requires : Type 0
-Need-with-circuits-requires = Lts.Need-with-circuits-requires (Reads''''''''''.Asked, Reads''''''''''.Learnt, Reads'''''.Asked, Reads'''''.Learnt,
-    Reads.Asked, Reads.Learnt, Reads'.Asked, Reads'.Learnt, Reads''''''.Asked, Reads''''''.Learnt, Reads''''''''.Asked, Reads''''''''.Learnt,
-    Reads'''''''.Asked, Reads'''''''.Learnt, Reads''.Asked, Reads''.Learnt, Reads'''''''''.Asked, Reads'''''''''.Learnt, Reads''''.Asked,
-    Reads''''.Learnt,) Reads'''.Pre Reads'''.Post
-abbrev pub Need-send-opened-requires : Type 0
-Need-send-opened-requires = Lts.Need-send-opened-requires (Reads''''''''''.Asked, Reads''''''''''.Learnt, Reads'''''.Asked, Reads'''''.Learnt,
-    Reads.Asked, Reads.Learnt, Reads'.Asked, Reads'.Learnt, Reads''''''.Asked, Reads''''''.Learnt, Reads''''''''.Asked, Reads''''''''.Learnt,
-    Reads'''''''.Asked, Reads'''''''.Learnt, Reads''.Asked, Reads''.Learnt, Reads'''''''''.Asked, Reads'''''''''.Learnt, Reads''''.Asked,
-    Reads''''.Learnt,) Reads'''.Pre Reads'''.Post
+Need-decode-requires = Lts.Need-decode-requires (Reads'''.Asked, Reads'''.Learnt, Reads.Asked, Reads.Learnt, Reads''''''.Asked, Reads''''''.Learnt,
+    Reads''''.Asked, Reads''''.Learnt, Reads'''''.Asked, Reads'''''.Learnt, Reads'.Asked, Reads'.Learnt, Reads'''''''.Asked, Reads'''''''.Learnt,)
+    Reads''.Pre Reads''.Post
+abbrev pub Need-peer-of-requires : Type 0
+Need-peer-of-requires = Lts.Need-peer-of-requires (Reads'''.Asked, Reads'''.Learnt, Reads.Asked, Reads.Learnt, Reads''''''.Asked, Reads''''''.Learnt,
+    Reads''''.Asked, Reads''''.Learnt, Reads'''''.Asked, Reads'''''.Learnt, Reads'.Asked, Reads'.Learnt, Reads'''''''.Asked, Reads'''''''.Learnt,)
+    Reads''.Pre Reads''.Post
+abbrev pub Need-accept-entry-requires : Type 0
+Need-accept-entry-requires = Lts.Need-accept-entry-requires (Reads'''.Asked, Reads'''.Learnt, Reads.Asked, Reads.Learnt, Reads''''''.Asked,
+    Reads''''''.Learnt, Reads''''.Asked, Reads''''.Learnt, Reads'''''.Asked, Reads'''''.Learnt, Reads'.Asked, Reads'.Learnt, Reads'''''''.Asked,
+    Reads'''''''.Learnt,) Reads''.Pre Reads''.Post
+abbrev pub Need-is-taken-requires : Type 0
+Need-is-taken-requires = Lts.Need-is-taken-requires (Reads'''.Asked, Reads'''.Learnt, Reads.Asked, Reads.Learnt, Reads''''''.Asked,
+    Reads''''''.Learnt, Reads''''.Asked, Reads''''.Learnt, Reads'''''.Asked, Reads'''''.Learnt, Reads'.Asked, Reads'.Learnt, Reads'''''''.Asked,
+    Reads'''''''.Learnt,) Reads''.Pre Reads''.Post
+abbrev pub Need-accept-found-requires : Type 0
+Need-accept-found-requires = Lts.Need-accept-found-requires (Reads'''.Asked, Reads'''.Learnt, Reads.Asked, Reads.Learnt, Reads''''''.Asked,
+    Reads''''''.Learnt, Reads''''.Asked, Reads''''.Learnt, Reads'''''.Asked, Reads'''''.Learnt, Reads'.Asked, Reads'.Learnt, Reads'''''''.Asked,
+    Reads'''''''.Learnt,) Reads''.Pre Reads''.Post
 abbrev pub Need-same-length : Type 0
-Need-same-length = Lts.Need-same-length (Reads''''''''''.Asked, Reads''''''''''.Learnt, Reads'''''.Asked, Reads'''''.Learnt, Reads.Asked,
-    Reads.Learnt, Reads'.Asked, Reads'.Learnt, Reads''''''.Asked, Reads''''''.Learnt, Reads''''''''.Asked, Reads''''''''.Learnt, Reads'''''''.Asked,
-    Reads'''''''.Learnt, Reads''.Asked, Reads''.Learnt, Reads'''''''''.Asked, Reads'''''''''.Learnt, Reads''''.Asked, Reads''''.Learnt,) Reads'''.Pre
-    Reads'''.Post
+Need-same-length = Lts.Need-same-length (Reads'''.Asked, Reads'''.Learnt, Reads.Asked, Reads.Learnt, Reads''''''.Asked, Reads''''''.Learnt,
+    Reads''''.Asked, Reads''''.Learnt, Reads'''''.Asked, Reads'''''.Learnt, Reads'.Asked, Reads'.Learnt, Reads'''''''.Asked, Reads'''''''.Learnt,)
+    Reads''.Pre Reads''.Post
 abbrev pub Need-same-length-2 : Type 0
-Need-same-length-2 = Lts.Need-same-length-2 (Reads''''''''''.Asked, Reads''''''''''.Learnt, Reads'''''.Asked, Reads'''''.Learnt, Reads.Asked,
-    Reads.Learnt, Reads'.Asked, Reads'.Learnt, Reads''''''.Asked, Reads''''''.Learnt, Reads''''''''.Asked, Reads''''''''.Learnt, Reads'''''''.Asked,
-    Reads'''''''.Learnt, Reads''.Asked, Reads''.Learnt, Reads'''''''''.Asked, Reads'''''''''.Learnt, Reads''''.Asked, Reads''''.Learnt,) Reads'''.Pre
-    Reads'''.Post
+Need-same-length-2 = Lts.Need-same-length-2 (Reads'''.Asked, Reads'''.Learnt, Reads.Asked, Reads.Learnt, Reads''''''.Asked, Reads''''''.Learnt,
+    Reads''''.Asked, Reads''''.Learnt, Reads'''''.Asked, Reads'''''.Learnt, Reads'.Asked, Reads'.Learnt, Reads'''''''.Asked, Reads'''''''.Learnt,)
+    Reads''.Pre Reads''.Post
 abbrev pub Need-same-length-3 : Type 0
-Need-same-length-3 = Lts.Need-same-length-3 (Reads''''''''''.Asked, Reads''''''''''.Learnt, Reads'''''.Asked, Reads'''''.Learnt, Reads.Asked,
-    Reads.Learnt, Reads'.Asked, Reads'.Learnt, Reads''''''.Asked, Reads''''''.Learnt, Reads''''''''.Asked, Reads''''''''.Learnt, Reads'''''''.Asked,
-    Reads'''''''.Learnt, Reads''.Asked, Reads''.Learnt, Reads'''''''''.Asked, Reads'''''''''.Learnt, Reads''''.Asked, Reads''''.Learnt,) Reads'''.Pre
-    Reads'''.Post
+Need-same-length-3 = Lts.Need-same-length-3 (Reads'''.Asked, Reads'''.Learnt, Reads.Asked, Reads.Learnt, Reads''''''.Asked, Reads''''''.Learnt,
+    Reads''''.Asked, Reads''''.Learnt, Reads'''''.Asked, Reads'''''.Learnt, Reads'.Asked, Reads'.Learnt, Reads'''''''.Asked, Reads'''''''.Learnt,)
+    Reads''.Pre Reads''.Post
 abbrev pub Need-same-length-4 : Type 0
-Need-same-length-4 = Lts.Need-same-length-4 (Reads''''''''''.Asked, Reads''''''''''.Learnt, Reads'''''.Asked, Reads'''''.Learnt, Reads.Asked,
-    Reads.Learnt, Reads'.Asked, Reads'.Learnt, Reads''''''.Asked, Reads''''''.Learnt, Reads''''''''.Asked, Reads''''''''.Learnt, Reads'''''''.Asked,
-    Reads'''''''.Learnt, Reads''.Asked, Reads''.Learnt, Reads'''''''''.Asked, Reads'''''''''.Learnt, Reads''''.Asked, Reads''''.Learnt,) Reads'''.Pre
-    Reads'''.Post
+Need-same-length-4 = Lts.Need-same-length-4 (Reads'''.Asked, Reads'''.Learnt, Reads.Asked, Reads.Learnt, Reads''''''.Asked, Reads''''''.Learnt,
+    Reads''''.Asked, Reads''''.Learnt, Reads'''''.Asked, Reads'''''.Learnt, Reads'.Asked, Reads'.Learnt, Reads'''''''.Asked, Reads'''''''.Learnt,)
+    Reads''.Pre Reads''.Post
 abbrev pub Need-returns : Type 0
-Need-returns = Lts.Need-returns (Reads''''''''''.Asked, Reads''''''''''.Learnt, Reads'''''.Asked, Reads'''''.Learnt, Reads.Asked, Reads.Learnt,
-    Reads'.Asked, Reads'.Learnt, Reads''''''.Asked, Reads''''''.Learnt, Reads''''''''.Asked, Reads''''''''.Learnt, Reads'''''''.Asked,
-    Reads'''''''.Learnt, Reads''.Asked, Reads''.Learnt, Reads'''''''''.Asked, Reads'''''''''.Learnt, Reads''''.Asked, Reads''''.Learnt,) Reads'''.Pre
-    Reads'''.Post
+Need-returns = Lts.Need-returns (Reads'''.Asked, Reads'''.Learnt, Reads.Asked, Reads.Learnt, Reads''''''.Asked, Reads''''''.Learnt, Reads''''.Asked,
+    Reads''''.Learnt, Reads'''''.Asked, Reads'''''.Learnt, Reads'.Asked, Reads'.Learnt, Reads'''''''.Asked, Reads'''''''.Learnt,) Reads''.Pre
+    Reads''.Post
+abbrev pub Need-refused-requires : Type 0
+Need-refused-requires = Lts.Need-refused-requires (Reads'''.Asked, Reads'''.Learnt, Reads.Asked, Reads.Learnt, Reads''''''.Asked, Reads''''''.Learnt,
+    Reads''''.Asked, Reads''''.Learnt, Reads'''''.Asked, Reads'''''.Learnt, Reads'.Asked, Reads'.Learnt, Reads'''''''.Asked, Reads'''''''.Learnt,)
+    Reads''.Pre Reads''.Post
+abbrev pub Need-same-length-5 : Type 0
+Need-same-length-5 = Lts.Need-same-length-5 (Reads'''.Asked, Reads'''.Learnt, Reads.Asked, Reads.Learnt, Reads''''''.Asked, Reads''''''.Learnt,
+    Reads''''.Asked, Reads''''.Learnt, Reads'''''.Asked, Reads'''''.Learnt, Reads'.Asked, Reads'.Learnt, Reads'''''''.Asked, Reads'''''''.Learnt,)
+    Reads''.Pre Reads''.Post
+abbrev pub Need-returns-2 : Type 0
+Need-returns-2 = Lts.Need-returns-2 (Reads'''.Asked, Reads'''.Learnt, Reads.Asked, Reads.Learnt, Reads''''''.Asked, Reads''''''.Learnt,
+    Reads''''.Asked, Reads''''.Learnt, Reads'''''.Asked, Reads'''''.Learnt, Reads'.Asked, Reads'.Learnt, Reads'''''''.Asked, Reads'''''''.Learnt,)
+    Reads''.Pre Reads''.Post
 module _ { M : Type 1 } where
-  pub spec : (answer : Need-at-requires) → (answer : Need-look-up-pending-requires) → (answer : Need-decode-requires) → (answer :
-      Need-accept-answered-requires) → (answer : Need-accept-plan-requires) → (answer : Need-found-unmarked-requires) → (answer :
-      Need-circuit-for-requires) → (answer : Need-accept-written-requires) → (answer : Need-with-circuits-requires) → (answer :
-      Need-send-opened-requires) → (answer : Need-same-length) → (answer : Need-same-length-2) → (answer : Need-same-length-3) → (answer :
-      Need-same-length-4) → (answer : Need-returns) → Lts.Closed (Reads''''''''''.Asked, Reads''''''''''.Learnt, Reads'''''.Asked, Reads'''''.Learnt,
-      Reads.Asked, Reads.Learnt, Reads'.Asked, Reads'.Learnt, Reads''''''.Asked, Reads''''''.Learnt, Reads''''''''.Asked, Reads''''''''.Learnt,
-      Reads'''''''.Asked, Reads'''''''.Learnt, Reads''.Asked, Reads''.Learnt, Reads'''''''''.Asked, Reads'''''''''.Learnt, Reads''''.Asked,
-      Reads''''.Learnt,) Reads'''.Pre Reads'''.Post M
-  spec = λ answer answer' answer'' answer'3 answer'4 answer'5 answer'6 answer'7 answer'8 answer'9 answer'10 answer'11 answer'12 answer'13 answer'14.
-      Lts.spec (Reads''''''''''.Asked, Reads''''''''''.Learnt, Reads'''''.Asked, Reads'''''.Learnt, Reads.Asked, Reads.Learnt, Reads'.Asked,
-      Reads'.Learnt, Reads''''''.Asked, Reads''''''.Learnt, Reads''''''''.Asked, Reads''''''''.Learnt, Reads'''''''.Asked, Reads'''''''.Learnt,
-      Reads''.Asked, Reads''.Learnt, Reads'''''''''.Asked, Reads'''''''''.Learnt, Reads''''.Asked, Reads''''.Learnt,) Reads'''.Pre Reads'''.Post
-      answer answer' answer'' answer'3 answer'4 answer'5 answer'6 answer'7 answer'8 answer'9 answer'10 answer'11 answer'12 answer'13 answer'14
-  pub close : Lts.Closed (Reads''''''''''.Asked, Reads''''''''''.Learnt, Reads'''''.Asked, Reads'''''.Learnt, Reads.Asked, Reads.Learnt, Reads'.Asked,
-      Reads'.Learnt, Reads''''''.Asked, Reads''''''.Learnt, Reads''''''''.Asked, Reads''''''''.Learnt, Reads'''''''.Asked, Reads'''''''.Learnt,
-      Reads''.Asked, Reads''.Learnt, Reads'''''''''.Asked, Reads'''''''''.Learnt, Reads''''.Asked, Reads''''.Learnt,) Reads'''.Pre Reads'''.Post M →
-      Statement.statement M
+  pub spec : (answer : Need-pending-by-id-requires) → (answer : Need-decode-requires) → (answer : Need-peer-of-requires) → (answer :
+      Need-accept-entry-requires) → (answer : Need-is-taken-requires) → (answer : Need-accept-found-requires) → (answer : Need-same-length) → (answer
+      : Need-same-length-2) → (answer : Need-same-length-3) → (answer : Need-same-length-4) → (answer : Need-returns) → (answer :
+      Need-refused-requires) → (answer : Need-same-length-5) → (answer : Need-returns-2) → Lts.Closed (Reads'''.Asked, Reads'''.Learnt, Reads.Asked,
+      Reads.Learnt, Reads''''''.Asked, Reads''''''.Learnt, Reads''''.Asked, Reads''''.Learnt, Reads'''''.Asked, Reads'''''.Learnt, Reads'.Asked,
+      Reads'.Learnt, Reads'''''''.Asked, Reads'''''''.Learnt,) Reads''.Pre Reads''.Post M
+  spec = λ answer answer' answer'' answer'3 answer'4 answer'5 answer'6 answer'7 answer'8 answer'9 answer'10 answer'11 answer'12 answer'13. Lts.spec
+      (Reads'''.Asked, Reads'''.Learnt, Reads.Asked, Reads.Learnt, Reads''''''.Asked, Reads''''''.Learnt, Reads''''.Asked, Reads''''.Learnt,
+      Reads'''''.Asked, Reads'''''.Learnt, Reads'.Asked, Reads'.Learnt, Reads'''''''.Asked, Reads'''''''.Learnt,) Reads''.Pre Reads''.Post answer
+      answer' answer'' answer'3 answer'4 answer'5 answer'6 answer'7 answer'8 answer'9 answer'10 answer'11 answer'12 answer'13
+  pub close : Lts.Closed (Reads'''.Asked, Reads'''.Learnt, Reads.Asked, Reads.Learnt, Reads''''''.Asked, Reads''''''.Learnt, Reads''''.Asked,
+      Reads''''.Learnt, Reads'''''.Asked, Reads'''''.Learnt, Reads'.Asked, Reads'.Learnt, Reads'''''''.Asked, Reads'''''''.Learnt,) Reads''.Pre
+      Reads''.Post M → Statement.statement M
   unfolding Code.routine Running.tablesOf
-  close = λ closed 𝓤 H 𝓜 𝓖 𝓡. Written.close 6 Kinds.ps Kinds.r Reads'''.Ghost Reads'''.requires Reads'''.ensures Reads'''.pre-read Reads'''.Pinned
-      Reads'''.Owned Reads'''.post-read record { M = M; 𝓤 = 𝓤; H = H; 𝓜 = 𝓜; 𝓖 = 𝓖; 𝓡 = 𝓡 } Code.env Key.name Code.function (Code.unfolded 𝓤 H 𝓜 𝓡) (λ
-      κs a g. tt) (λ κs. Reads'''.owns κs record { M = M; 𝓤 = 𝓤; H = H; 𝓜 = 𝓜; 𝓖 = 𝓖; 𝓡 = 𝓡 }) (Reads'''.passes record { M = M; 𝓤 = 𝓤; H = H; 𝓜 = 𝓜; 𝓖
-      = 𝓖; 𝓡 = 𝓡 }) λ g. closed 𝓤 H (𝓖 .A) (Running.givenOf 𝓤 H 𝓜 𝓖) (Run.Over 𝓤 H 𝓜 𝓖 𝓡 Code.env) (Reads''''''''''.known record { M = M; 𝓤 = 𝓤; H =
-      H; 𝓜 = 𝓜; 𝓖 = 𝓖; 𝓡 = 𝓡 } Code.env Symbol'''''''''.name Symbol'''''''''.routine Code.calls-hnsr-circuit·question·at (Met'''''''''.met 𝓤 H 𝓜 𝓖 𝓡))
-      (Reads'''''.known record { M = M; 𝓤 = 𝓤; H = H; 𝓜 = 𝓜; 𝓖 = 𝓖; 𝓡 = 𝓡 } Code.env Symbol'''''''.name Symbol'''''''.routine
-      Code.calls-hnsr-circuit·lookup·look-up-pending (Met'''''''.met 𝓤 H 𝓜 𝓖 𝓡)) (Reads.known record { M = M; 𝓤 = 𝓤; H = H; 𝓜 = 𝓜; 𝓖 = 𝓖; 𝓡 = 𝓡 }
-      Code.env Symbol.name Symbol.routine Code.calls-hnsr-body·accept-body·AcceptBody·decode (Met.met 𝓤 H 𝓜 𝓖 𝓡)) (Reads'.known record { M = M; 𝓤 = 𝓤;
-      H = H; 𝓜 = 𝓜; 𝓖 = 𝓖; 𝓡 = 𝓡 } Code.env Symbol''''.name Symbol''''.routine Code.calls-hnsr-circuit·handle-accept·accept-answered (Met''''.met 𝓤 H
-      𝓜 𝓖 𝓡)) (Reads''''''.known record { M = M; 𝓤 = 𝓤; H = H; 𝓜 = 𝓜; 𝓖 = 𝓖; 𝓡 = 𝓡 } Code.env Symbol'.name Symbol'.routine
-      Code.calls-hnsr-circuit·accept·accept-plan (Met'.met 𝓤 H 𝓜 𝓖 𝓡)) (Reads''''''''.known record { M = M; 𝓤 = 𝓤; H = H; 𝓜 = 𝓜; 𝓖 = 𝓖; 𝓡 = 𝓡 }
-      Code.env Symbol'''.name Symbol'''.routine Code.calls-hnsr-circuit·accept·found-unmarked (Met'''.met 𝓤 H 𝓜 𝓖 𝓡)) (Reads'''''''.known record { M =
-      M; 𝓤 = 𝓤; H = H; 𝓜 = 𝓜; 𝓖 = 𝓖; 𝓡 = 𝓡 } Code.env Symbol''.name Symbol''.routine Code.calls-hnsr-circuit·accept·circuit-for (Met''.met 𝓤 H 𝓜 𝓖 𝓡))
-      (Reads''.known record { M = M; 𝓤 = 𝓤; H = H; 𝓜 = 𝓜; 𝓖 = 𝓖; 𝓡 = 𝓡 } Code.env Symbol'''''.name Symbol'''''.routine
-      Code.calls-hnsr-circuit·handle-accept·accept-written (Met'''''.met 𝓤 H 𝓜 𝓖 𝓡)) (Reads'''''''''.known record { M = M; 𝓤 = 𝓤; H = H; 𝓜 = 𝓜; 𝓖 = 𝓖;
-      𝓡 = 𝓡 } Code.env Symbol''''''''.name Symbol''''''''.routine Code.calls-hnsr-circuit·places·with-circuits (Met''''''''.met 𝓤 H 𝓜 𝓖 𝓡))
-      (Reads''''.known record { M = M; 𝓤 = 𝓤; H = H; 𝓜 = 𝓜; 𝓖 = 𝓖; 𝓡 = 𝓡 } Code.env Symbol''''''.name Symbol''''''.routine
-      Code.calls-hnsr-circuit·handle-accept·send-opened (Met''''''.met 𝓤 H 𝓜 𝓖 𝓡))
+  close = λ closed 𝓤 H 𝓜 𝓖 𝓡. Written.close 6 Kinds.ps Kinds.r Reads''.Ghost Reads''.requires Reads''.ensures Reads''.pre-read Reads''.Pinned
+      Reads''.Owned Reads''.post-read record { M = M; 𝓤 = 𝓤; H = H; 𝓜 = 𝓜; 𝓖 = 𝓖; 𝓡 = 𝓡 } Code.env Key.name Code.function (Code.unfolded 𝓤 H 𝓜 𝓡) (λ
+      κs a g. tt) (λ κs. Reads''.owns κs record { M = M; 𝓤 = 𝓤; H = H; 𝓜 = 𝓜; 𝓖 = 𝓖; 𝓡 = 𝓡 }) (Reads''.passes record { M = M; 𝓤 = 𝓤; H = H; 𝓜 = 𝓜; 𝓖 =
+      𝓖; 𝓡 = 𝓡 }) λ g. closed 𝓤 H (𝓖 .A) (Running.givenOf 𝓤 H 𝓜 𝓖) (Run.Over 𝓤 H 𝓜 𝓖 𝓡 Code.env) (Reads'''.known record { M = M; 𝓤 = 𝓤; H = H; 𝓜 = 𝓜;
+      𝓖 = 𝓖; 𝓡 = 𝓡 } Code.env Symbol''''.name Symbol''''.routine Code.calls-hnsr-circuit·lookup·pending-by-id (Met''''.met 𝓤 H 𝓜 𝓖 𝓡)) (Reads.known
+      record { M = M; 𝓤 = 𝓤; H = H; 𝓜 = 𝓜; 𝓖 = 𝓖; 𝓡 = 𝓡 } Code.env Symbol.name Symbol.routine Code.calls-hnsr-body·accept-body·AcceptBody·decode
+      (Met.met 𝓤 H 𝓜 𝓖 𝓡)) (Reads''''''.known record { M = M; 𝓤 = 𝓤; H = H; 𝓜 = 𝓜; 𝓖 = 𝓖; 𝓡 = 𝓡 } Code.env Symbol'''''.name Symbol'''''.routine
+      Code.calls-hnsr-circuit·peer·peer-of (Met'''''.met 𝓤 H 𝓜 𝓖 𝓡)) (Reads''''.known record { M = M; 𝓤 = 𝓤; H = H; 𝓜 = 𝓜; 𝓖 = 𝓖; 𝓡 = 𝓡 } Code.env
+      Symbol'.name Symbol'.routine Code.calls-hnsr-circuit·accept·accept-entry (Met'.met 𝓤 H 𝓜 𝓖 𝓡)) (Reads'''''.known record { M = M; 𝓤 = 𝓤; H = H; 𝓜
+      = 𝓜; 𝓖 = 𝓖; 𝓡 = 𝓡 } Code.env Symbol''.name Symbol''.routine Code.calls-hnsr-circuit·answer·is-taken (Met''.met 𝓤 H 𝓜 𝓖 𝓡)) (Reads'.known record
+      { M = M; 𝓤 = 𝓤; H = H; 𝓜 = 𝓜; 𝓖 = 𝓖; 𝓡 = 𝓡 } Code.env Symbol'''.name Symbol'''.routine Code.calls-hnsr-circuit·handle-accept·accept-found
+      (Met'''.met 𝓤 H 𝓜 𝓖 𝓡)) (Reads'''''''.known record { M = M; 𝓤 = 𝓤; H = H; 𝓜 = 𝓜; 𝓖 = 𝓖; 𝓡 = 𝓡 } Code.env Symbol''''''.name Symbol''''''.routine
+      Code.calls-hnsr-circuit·revoking-calls·refused (Met''''''.met 𝓤 H 𝓜 𝓖 𝓡))

@@ -2,138 +2,158 @@
 use Rattle.hnsr_circuit.proofs.By.handle_data.handle_data.Kinds
 use Rattle.hnsr_circuit.proofs.By.handle_data.handle_data.Lts
 use Rattle.hnsr_circuit.proofs.By.handle_data.handle_data.Reads
-use Rattle.hnsr_circuit.proofs.By.handle_data.plan_data.Reads as Reads'
-use Rattle.hnsr_circuit.proofs.By.lookup.spend.Reads as Reads''
-use Rattle.hnsr_circuit.proofs.By.queue.send.Reads as Reads'''
-use Rattle.hnsr_circuit.proofs.By.tables.circuits.charge_circuit.Reads as Reads''''
+use Rattle.hnsr_circuit.proofs.By.handle_data.pass_data.Reads as Reads'
+use Rattle.hnsr_circuit.proofs.By.lookup.circuit_by_id.Reads as Reads''
+use Rattle.hnsr_circuit.proofs.answer.is_taken.Met
+use Rattle.hnsr_circuit.proofs.answer.is_taken.Reads as Reads'''
+use Rattle.hnsr_circuit.proofs.answer.is_taken.Symbol
+use Rattle.hnsr_circuit.proofs.data.data_entry.Met as Met'
+use Rattle.hnsr_circuit.proofs.data.data_entry.Reads as Reads''''
+use Rattle.hnsr_circuit.proofs.data.data_entry.Symbol as Symbol'
 use Rattle.hnsr_circuit.proofs.handle_data.handle_data.Code
 use Rattle.hnsr_circuit.proofs.handle_data.handle_data.Key
 use Rattle.hnsr_circuit.proofs.handle_data.handle_data.Statement
-use Rattle.hnsr_circuit.proofs.handle_data.plan_data.Met
-use Rattle.hnsr_circuit.proofs.handle_data.plan_data.Symbol
-use Rattle.hnsr_circuit.proofs.lookup.spend.Met as Met'
-use Rattle.hnsr_circuit.proofs.lookup.spend.Symbol as Symbol'
-use Rattle.hnsr_circuit.proofs.queue.send.Met as Met''
-use Rattle.hnsr_circuit.proofs.queue.send.Symbol as Symbol''
-use Rattle.hnsr_circuit.proofs.tables.circuits.charge_circuit.Met as Met'''
-use Rattle.hnsr_circuit.proofs.tables.circuits.charge_circuit.Symbol as Symbol'''
+use Rattle.hnsr_circuit.proofs.handle_data.pass_data.Met as Met''
+use Rattle.hnsr_circuit.proofs.handle_data.pass_data.Symbol as Symbol''
+use Rattle.hnsr_circuit.proofs.lookup.circuit_by_id.Met as Met'''
+use Rattle.hnsr_circuit.proofs.lookup.circuit_by_id.Symbol as Symbol'''
+use Rattle.hnsr_circuit.proofs.peer.peer_of.Met as Met''''
+use Rattle.hnsr_circuit.proofs.peer.peer_of.Reads as Reads'''''
+use Rattle.hnsr_circuit.proofs.peer.peer_of.Symbol as Symbol''''
+use Rattle.hnsr_circuit.proofs.revoking_calls.refused.Met as Met'''''
+use Rattle.hnsr_circuit.proofs.revoking_calls.refused.Reads as Reads''''''
+use Rattle.hnsr_circuit.proofs.revoking_calls.refused.Symbol as Symbol'''''
 use borrow.Fn.Run
 use borrow.Fn.Written
 use contract.Running
 
 abbrev pub Start : Type 0
-Start = Lts.Start (Reads'.Asked, Reads'.Learnt, Reads''''.Asked, Reads''''.Learnt, Reads''.Asked, Reads''.Learnt, Reads'''.Asked, Reads'''.Learnt,)
-    Reads.Pre Reads.Post
+Start = Lts.Start (Reads''.Asked, Reads''.Learnt, Reads'''''.Asked, Reads'''''.Learnt, Reads''''.Asked, Reads''''.Learnt, Reads'''.Asked,
+    Reads'''.Learnt, Reads'.Asked, Reads'.Learnt, Reads''''''.Asked, Reads''''''.Learnt,) Reads.Pre Reads.Post
 abbrev pub After-slice-known : Type 0
-After-slice-known = Lts.After-slice-known (Reads'.Asked, Reads'.Learnt, Reads''''.Asked, Reads''''.Learnt, Reads''.Asked, Reads''.Learnt,
-    Reads'''.Asked, Reads'''.Learnt,) Reads.Pre Reads.Post
+After-slice-known = Lts.After-slice-known (Reads''.Asked, Reads''.Learnt, Reads'''''.Asked, Reads'''''.Learnt, Reads''''.Asked, Reads''''.Learnt,
+    Reads'''.Asked, Reads'''.Learnt, Reads'.Asked, Reads'.Learnt, Reads''''''.Asked, Reads''''''.Learnt,) Reads.Pre Reads.Post
 abbrev pub After-shared-slice-known : Type 0
-After-shared-slice-known = Lts.After-shared-slice-known (Reads'.Asked, Reads'.Learnt, Reads''''.Asked, Reads''''.Learnt, Reads''.Asked,
-    Reads''.Learnt, Reads'''.Asked, Reads'''.Learnt,) Reads.Pre Reads.Post
+After-shared-slice-known = Lts.After-shared-slice-known (Reads''.Asked, Reads''.Learnt, Reads'''''.Asked, Reads'''''.Learnt, Reads''''.Asked,
+    Reads''''.Learnt, Reads'''.Asked, Reads'''.Learnt, Reads'.Asked, Reads'.Learnt, Reads''''''.Asked, Reads''''''.Learnt,) Reads.Pre Reads.Post
 abbrev pub After-shared-slice-known2 : Type 0
-After-shared-slice-known2 = Lts.After-shared-slice-known2 (Reads'.Asked, Reads'.Learnt, Reads''''.Asked, Reads''''.Learnt, Reads''.Asked,
-    Reads''.Learnt, Reads'''.Asked, Reads'''.Learnt,) Reads.Pre Reads.Post
-abbrev pub After-plan-data-arg : Type 0
-After-plan-data-arg = Lts.After-plan-data-arg (Reads'.Asked, Reads'.Learnt, Reads''''.Asked, Reads''''.Learnt, Reads''.Asked, Reads''.Learnt,
-    Reads'''.Asked, Reads'''.Learnt,) Reads.Pre Reads.Post
-abbrev pub After-plan-data-arg2 : Type 0
-After-plan-data-arg2 = Lts.After-plan-data-arg2 (Reads'.Asked, Reads'.Learnt, Reads''''.Asked, Reads''''.Learnt, Reads''.Asked, Reads''.Learnt,
-    Reads'''.Asked, Reads'''.Learnt,) Reads.Pre Reads.Post
-abbrev pub After-plan-data-arg3 : Type 0
-After-plan-data-arg3 = Lts.After-plan-data-arg3 (Reads'.Asked, Reads'.Learnt, Reads''''.Asked, Reads''''.Learnt, Reads''.Asked, Reads''.Learnt,
-    Reads'''.Asked, Reads'''.Learnt,) Reads.Pre Reads.Post
-abbrev pub After-plan-data : Type 0
-After-plan-data = Lts.After-plan-data (Reads'.Asked, Reads'.Learnt, Reads''''.Asked, Reads''''.Learnt, Reads''.Asked, Reads''.Learnt, Reads'''.Asked,
-    Reads'''.Learnt,) Reads.Pre Reads.Post
-abbrev pub After-counted : Type 0
-After-counted = Lts.After-counted (Reads'.Asked, Reads'.Learnt, Reads''''.Asked, Reads''''.Learnt, Reads''.Asked, Reads''.Learnt, Reads'''.Asked,
-    Reads'''.Learnt,) Reads.Pre Reads.Post
-abbrev pub After-message : Type 0
-After-message = Lts.After-message (Reads'.Asked, Reads'.Learnt, Reads''''.Asked, Reads''''.Learnt, Reads''.Asked, Reads''.Learnt, Reads'''.Asked,
-    Reads'''.Learnt,) Reads.Pre Reads.Post
-abbrev pub After-scan : Type 0
-After-scan = Lts.After-scan (Reads'.Asked, Reads'.Learnt, Reads''''.Asked, Reads''''.Learnt, Reads''.Asked, Reads''.Learnt, Reads'''.Asked,
-    Reads'''.Learnt,) Reads.Pre Reads.Post
-abbrev pub After-charge-circuit-arg : Type 0
-After-charge-circuit-arg = Lts.After-charge-circuit-arg (Reads'.Asked, Reads'.Learnt, Reads''''.Asked, Reads''''.Learnt, Reads''.Asked,
-    Reads''.Learnt, Reads'''.Asked, Reads'''.Learnt,) Reads.Pre Reads.Post
-abbrev pub After-charge-circuit : Type 0
-After-charge-circuit = Lts.After-charge-circuit (Reads'.Asked, Reads'.Learnt, Reads''''.Asked, Reads''''.Learnt, Reads''.Asked, Reads''.Learnt,
-    Reads'''.Asked, Reads'''.Learnt,) Reads.Pre Reads.Post
+After-shared-slice-known2 = Lts.After-shared-slice-known2 (Reads''.Asked, Reads''.Learnt, Reads'''''.Asked, Reads'''''.Learnt, Reads''''.Asked,
+    Reads''''.Learnt, Reads'''.Asked, Reads'''.Learnt, Reads'.Asked, Reads'.Learnt, Reads''''''.Asked, Reads''''''.Learnt,) Reads.Pre Reads.Post
+abbrev pub After-circuit-by-id-arg : Type 0
+After-circuit-by-id-arg = Lts.After-circuit-by-id-arg (Reads''.Asked, Reads''.Learnt, Reads'''''.Asked, Reads'''''.Learnt, Reads''''.Asked,
+    Reads''''.Learnt, Reads'''.Asked, Reads'''.Learnt, Reads'.Asked, Reads'.Learnt, Reads''''''.Asked, Reads''''''.Learnt,) Reads.Pre Reads.Post
+abbrev pub After-circuit-by-id : Type 0
+After-circuit-by-id = Lts.After-circuit-by-id (Reads''.Asked, Reads''.Learnt, Reads'''''.Asked, Reads'''''.Learnt, Reads''''.Asked, Reads''''.Learnt,
+    Reads'''.Asked, Reads'''.Learnt, Reads'.Asked, Reads'.Learnt, Reads''''''.Asked, Reads''''''.Learnt,) Reads.Pre Reads.Post
+abbrev pub After-peer-of : Type 0
+After-peer-of = Lts.After-peer-of (Reads''.Asked, Reads''.Learnt, Reads'''''.Asked, Reads'''''.Learnt, Reads''''.Asked, Reads''''.Learnt,
+    Reads'''.Asked, Reads'''.Learnt, Reads'.Asked, Reads'.Learnt, Reads''''''.Asked, Reads''''''.Learnt,) Reads.Pre Reads.Post
+abbrev pub After-data-entry : Type 0
+After-data-entry = Lts.After-data-entry (Reads''.Asked, Reads''.Learnt, Reads'''''.Asked, Reads'''''.Learnt, Reads''''.Asked, Reads''''.Learnt,
+    Reads'''.Asked, Reads'''.Learnt, Reads'.Asked, Reads'.Learnt, Reads''''''.Asked, Reads''''''.Learnt,) Reads.Pre Reads.Post
+abbrev pub After-is-taken : Type 0
+After-is-taken = Lts.After-is-taken (Reads''.Asked, Reads''.Learnt, Reads'''''.Asked, Reads'''''.Learnt, Reads''''.Asked, Reads''''.Learnt,
+    Reads'''.Asked, Reads'''.Learnt, Reads'.Asked, Reads'.Learnt, Reads''''''.Asked, Reads''''''.Learnt,) Reads.Pre Reads.Post
+abbrev pub Then1 : Type 0
+Then1 = Lts.Then1 (Reads''.Asked, Reads''.Learnt, Reads'''''.Asked, Reads'''''.Learnt, Reads''''.Asked, Reads''''.Learnt, Reads'''.Asked,
+    Reads'''.Learnt, Reads'.Asked, Reads'.Learnt, Reads''''''.Asked, Reads''''''.Learnt,) Reads.Pre Reads.Post
+abbrev pub After-pass-data-arg : Type 0
+After-pass-data-arg = Lts.After-pass-data-arg (Reads''.Asked, Reads''.Learnt, Reads'''''.Asked, Reads'''''.Learnt, Reads''''.Asked, Reads''''.Learnt,
+    Reads'''.Asked, Reads'''.Learnt, Reads'.Asked, Reads'.Learnt, Reads''''''.Asked, Reads''''''.Learnt,) Reads.Pre Reads.Post
+abbrev pub After-pass-data-arg2 : Type 0
+After-pass-data-arg2 = Lts.After-pass-data-arg2 (Reads''.Asked, Reads''.Learnt, Reads'''''.Asked, Reads'''''.Learnt, Reads''''.Asked,
+    Reads''''.Learnt, Reads'''.Asked, Reads'''.Learnt, Reads'.Asked, Reads'.Learnt, Reads''''''.Asked, Reads''''''.Learnt,) Reads.Pre Reads.Post
+abbrev pub After-pass-data-arg3 : Type 0
+After-pass-data-arg3 = Lts.After-pass-data-arg3 (Reads''.Asked, Reads''.Learnt, Reads'''''.Asked, Reads'''''.Learnt, Reads''''.Asked,
+    Reads''''.Learnt, Reads'''.Asked, Reads'''.Learnt, Reads'.Asked, Reads'.Learnt, Reads''''''.Asked, Reads''''''.Learnt,) Reads.Pre Reads.Post
+abbrev pub After-pass-data-arg4 : Type 0
+After-pass-data-arg4 = Lts.After-pass-data-arg4 (Reads''.Asked, Reads''.Learnt, Reads'''''.Asked, Reads'''''.Learnt, Reads''''.Asked,
+    Reads''''.Learnt, Reads'''.Asked, Reads'''.Learnt, Reads'.Asked, Reads'.Learnt, Reads''''''.Asked, Reads''''''.Learnt,) Reads.Pre Reads.Post
+abbrev pub After-pass-data : Type 0
+After-pass-data = Lts.After-pass-data (Reads''.Asked, Reads''.Learnt, Reads'''''.Asked, Reads'''''.Learnt, Reads''''.Asked, Reads''''.Learnt,
+    Reads'''.Asked, Reads'''.Learnt, Reads'.Asked, Reads'.Learnt, Reads''''''.Asked, Reads''''''.Learnt,) Reads.Pre Reads.Post
 abbrev pub After-circuits : Type 0
-After-circuits = Lts.After-circuits (Reads'.Asked, Reads'.Learnt, Reads''''.Asked, Reads''''.Learnt, Reads''.Asked, Reads''.Learnt, Reads'''.Asked,
-    Reads'''.Learnt,) Reads.Pre Reads.Post
-abbrev pub After-spend-arg : Type 0
-After-spend-arg = Lts.After-spend-arg (Reads'.Asked, Reads'.Learnt, Reads''''.Asked, Reads''''.Learnt, Reads''.Asked, Reads''.Learnt, Reads'''.Asked,
-    Reads'''.Learnt,) Reads.Pre Reads.Post
-abbrev pub After-spend : Type 0
-After-spend = Lts.After-spend (Reads'.Asked, Reads'.Learnt, Reads''''.Asked, Reads''''.Learnt, Reads''.Asked, Reads''.Learnt, Reads'''.Asked,
-    Reads'''.Learnt,) Reads.Pre Reads.Post
+After-circuits = Lts.After-circuits (Reads''.Asked, Reads''.Learnt, Reads'''''.Asked, Reads'''''.Learnt, Reads''''.Asked, Reads''''.Learnt,
+    Reads'''.Asked, Reads'''.Learnt, Reads'.Asked, Reads'.Learnt, Reads''''''.Asked, Reads''''''.Learnt,) Reads.Pre Reads.Post
 abbrev pub After-ledger : Type 0
-After-ledger = Lts.After-ledger (Reads'.Asked, Reads'.Learnt, Reads''''.Asked, Reads''''.Learnt, Reads''.Asked, Reads''.Learnt, Reads'''.Asked,
-    Reads'''.Learnt,) Reads.Pre Reads.Post
-abbrev pub After-send-arg : Type 0
-After-send-arg = Lts.After-send-arg (Reads'.Asked, Reads'.Learnt, Reads''''.Asked, Reads''''.Learnt, Reads''.Asked, Reads''.Learnt, Reads'''.Asked,
-    Reads'''.Learnt,) Reads.Pre Reads.Post
-abbrev pub After-send-arg2 : Type 0
-After-send-arg2 = Lts.After-send-arg2 (Reads'.Asked, Reads'.Learnt, Reads''''.Asked, Reads''''.Learnt, Reads''.Asked, Reads''.Learnt, Reads'''.Asked,
-    Reads'''.Learnt,) Reads.Pre Reads.Post
-abbrev pub After-send : Type 0
-After-send = Lts.After-send (Reads'.Asked, Reads'.Learnt, Reads''''.Asked, Reads''''.Learnt, Reads''.Asked, Reads''.Learnt, Reads'''.Asked,
-    Reads'''.Learnt,) Reads.Pre Reads.Post
+After-ledger = Lts.After-ledger (Reads''.Asked, Reads''.Learnt, Reads'''''.Asked, Reads'''''.Learnt, Reads''''.Asked, Reads''''.Learnt,
+    Reads'''.Asked, Reads'''.Learnt, Reads'.Asked, Reads'.Learnt, Reads''''''.Asked, Reads''''''.Learnt,) Reads.Pre Reads.Post
 abbrev pub After-inflight : Type 0
-After-inflight = Lts.After-inflight (Reads'.Asked, Reads'.Learnt, Reads''''.Asked, Reads''''.Learnt, Reads''.Asked, Reads''.Learnt, Reads'''.Asked,
-    Reads'''.Learnt,) Reads.Pre Reads.Post
+After-inflight = Lts.After-inflight (Reads''.Asked, Reads''.Learnt, Reads'''''.Asked, Reads'''''.Learnt, Reads''''.Asked, Reads''''.Learnt,
+    Reads'''.Asked, Reads'''.Learnt, Reads'.Asked, Reads'.Learnt, Reads''''''.Asked, Reads''''''.Learnt,) Reads.Pre Reads.Post
 abbrev pub After-out : Type 0
-After-out = Lts.After-out (Reads'.Asked, Reads'.Learnt, Reads''''.Asked, Reads''''.Learnt, Reads''.Asked, Reads''.Learnt, Reads'''.Asked,
-    Reads'''.Learnt,) Reads.Pre Reads.Post
+After-out = Lts.After-out (Reads''.Asked, Reads''.Learnt, Reads'''''.Asked, Reads'''''.Learnt, Reads''''.Asked, Reads''''.Learnt, Reads'''.Asked,
+    Reads'''.Learnt, Reads'.Asked, Reads'.Learnt, Reads''''''.Asked, Reads''''''.Learnt,) Reads.Pre Reads.Post
 abbrev pub After-slice-known2 : Type 0
-After-slice-known2 = Lts.After-slice-known2 (Reads'.Asked, Reads'.Learnt, Reads''''.Asked, Reads''''.Learnt, Reads''.Asked, Reads''.Learnt,
-    Reads'''.Asked, Reads'''.Learnt,) Reads.Pre Reads.Post
-abbrev pub Need-plan-data-requires : Type 0
-Need-plan-data-requires = Lts.Need-plan-data-requires (Reads'.Asked, Reads'.Learnt, Reads''''.Asked, Reads''''.Learnt, Reads''.Asked, Reads''.Learnt,
-    Reads'''.Asked, Reads'''.Learnt,) Reads.Pre Reads.Post
-abbrev pub Need-charge-circuit-requires : Type 0
-Need-charge-circuit-requires = Lts.Need-charge-circuit-requires (Reads'.Asked, Reads'.Learnt, Reads''''.Asked, Reads''''.Learnt, Reads''.Asked,
-    Reads''.Learnt, Reads'''.Asked, Reads'''.Learnt,) Reads.Pre Reads.Post
-abbrev pub Need-spend-requires : Type 0
-Need-spend-requires = Lts.Need-spend-requires (Reads'.Asked, Reads'.Learnt, Reads''''.Asked, Reads''''.Learnt, Reads''.Asked, Reads''.Learnt,
-    Reads'''.Asked, Reads'''.Learnt,) Reads.Pre Reads.Post
-abbrev pub Need-send-requires : Type 0
-Need-send-requires = Lts.Need-send-requires (Reads'.Asked, Reads'.Learnt, Reads''''.Asked, Reads''''.Learnt, Reads''.Asked, Reads''.Learnt,
-    Reads'''.Asked, Reads'''.Learnt,) Reads.Pre Reads.Post
+After-slice-known2 = Lts.After-slice-known2 (Reads''.Asked, Reads''.Learnt, Reads'''''.Asked, Reads'''''.Learnt, Reads''''.Asked, Reads''''.Learnt,
+    Reads'''.Asked, Reads'''.Learnt, Reads'.Asked, Reads'.Learnt, Reads''''''.Asked, Reads''''''.Learnt,) Reads.Pre Reads.Post
+abbrev pub Else1 : Type 0
+Else1 = Lts.Else1 (Reads''.Asked, Reads''.Learnt, Reads'''''.Asked, Reads'''''.Learnt, Reads''''.Asked, Reads''''.Learnt, Reads'''.Asked,
+    Reads'''.Learnt, Reads'.Asked, Reads'.Learnt, Reads''''''.Asked, Reads''''''.Learnt,) Reads.Pre Reads.Post
+abbrev pub After-refused : Type 0
+After-refused = Lts.After-refused (Reads''.Asked, Reads''.Learnt, Reads'''''.Asked, Reads'''''.Learnt, Reads''''.Asked, Reads''''.Learnt,
+    Reads'''.Asked, Reads'''.Learnt, Reads'.Asked, Reads'.Learnt, Reads''''''.Asked, Reads''''''.Learnt,) Reads.Pre Reads.Post
+abbrev pub Need-circuit-by-id-requires : Type 0
+Need-circuit-by-id-requires = Lts.Need-circuit-by-id-requires (Reads''.Asked, Reads''.Learnt, Reads'''''.Asked, Reads'''''.Learnt, Reads''''.Asked,
+    Reads''''.Learnt, Reads'''.Asked, Reads'''.Learnt, Reads'.Asked, Reads'.Learnt, Reads''''''.Asked, Reads''''''.Learnt,) Reads.Pre Reads.Post
+abbrev pub Need-peer-of-requires : Type 0
+Need-peer-of-requires = Lts.Need-peer-of-requires (Reads''.Asked, Reads''.Learnt, Reads'''''.Asked, Reads'''''.Learnt, Reads''''.Asked,
+    Reads''''.Learnt, Reads'''.Asked, Reads'''.Learnt, Reads'.Asked, Reads'.Learnt, Reads''''''.Asked, Reads''''''.Learnt,) Reads.Pre Reads.Post
+abbrev pub Need-data-entry-requires : Type 0
+Need-data-entry-requires = Lts.Need-data-entry-requires (Reads''.Asked, Reads''.Learnt, Reads'''''.Asked, Reads'''''.Learnt, Reads''''.Asked,
+    Reads''''.Learnt, Reads'''.Asked, Reads'''.Learnt, Reads'.Asked, Reads'.Learnt, Reads''''''.Asked, Reads''''''.Learnt,) Reads.Pre Reads.Post
+abbrev pub Need-is-taken-requires : Type 0
+Need-is-taken-requires = Lts.Need-is-taken-requires (Reads''.Asked, Reads''.Learnt, Reads'''''.Asked, Reads'''''.Learnt, Reads''''.Asked,
+    Reads''''.Learnt, Reads'''.Asked, Reads'''.Learnt, Reads'.Asked, Reads'.Learnt, Reads''''''.Asked, Reads''''''.Learnt,) Reads.Pre Reads.Post
+abbrev pub Need-pass-data-requires : Type 0
+Need-pass-data-requires = Lts.Need-pass-data-requires (Reads''.Asked, Reads''.Learnt, Reads'''''.Asked, Reads'''''.Learnt, Reads''''.Asked,
+    Reads''''.Learnt, Reads'''.Asked, Reads'''.Learnt, Reads'.Asked, Reads'.Learnt, Reads''''''.Asked, Reads''''''.Learnt,) Reads.Pre Reads.Post
 abbrev pub Need-same-length : Type 0
-Need-same-length = Lts.Need-same-length (Reads'.Asked, Reads'.Learnt, Reads''''.Asked, Reads''''.Learnt, Reads''.Asked, Reads''.Learnt,
-    Reads'''.Asked, Reads'''.Learnt,) Reads.Pre Reads.Post
+Need-same-length = Lts.Need-same-length (Reads''.Asked, Reads''.Learnt, Reads'''''.Asked, Reads'''''.Learnt, Reads''''.Asked, Reads''''.Learnt,
+    Reads'''.Asked, Reads'''.Learnt, Reads'.Asked, Reads'.Learnt, Reads''''''.Asked, Reads''''''.Learnt,) Reads.Pre Reads.Post
 abbrev pub Need-same-length-2 : Type 0
-Need-same-length-2 = Lts.Need-same-length-2 (Reads'.Asked, Reads'.Learnt, Reads''''.Asked, Reads''''.Learnt, Reads''.Asked, Reads''.Learnt,
-    Reads'''.Asked, Reads'''.Learnt,) Reads.Pre Reads.Post
+Need-same-length-2 = Lts.Need-same-length-2 (Reads''.Asked, Reads''.Learnt, Reads'''''.Asked, Reads'''''.Learnt, Reads''''.Asked, Reads''''.Learnt,
+    Reads'''.Asked, Reads'''.Learnt, Reads'.Asked, Reads'.Learnt, Reads''''''.Asked, Reads''''''.Learnt,) Reads.Pre Reads.Post
 abbrev pub Need-same-length-3 : Type 0
-Need-same-length-3 = Lts.Need-same-length-3 (Reads'.Asked, Reads'.Learnt, Reads''''.Asked, Reads''''.Learnt, Reads''.Asked, Reads''.Learnt,
-    Reads'''.Asked, Reads'''.Learnt,) Reads.Pre Reads.Post
+Need-same-length-3 = Lts.Need-same-length-3 (Reads''.Asked, Reads''.Learnt, Reads'''''.Asked, Reads'''''.Learnt, Reads''''.Asked, Reads''''.Learnt,
+    Reads'''.Asked, Reads'''.Learnt, Reads'.Asked, Reads'.Learnt, Reads''''''.Asked, Reads''''''.Learnt,) Reads.Pre Reads.Post
 abbrev pub Need-same-length-4 : Type 0
-Need-same-length-4 = Lts.Need-same-length-4 (Reads'.Asked, Reads'.Learnt, Reads''''.Asked, Reads''''.Learnt, Reads''.Asked, Reads''.Learnt,
-    Reads'''.Asked, Reads'''.Learnt,) Reads.Pre Reads.Post
+Need-same-length-4 = Lts.Need-same-length-4 (Reads''.Asked, Reads''.Learnt, Reads'''''.Asked, Reads'''''.Learnt, Reads''''.Asked, Reads''''.Learnt,
+    Reads'''.Asked, Reads'''.Learnt, Reads'.Asked, Reads'.Learnt, Reads''''''.Asked, Reads''''''.Learnt,) Reads.Pre Reads.Post
 abbrev pub Need-returns : Type 0
-Need-returns = Lts.Need-returns (Reads'.Asked, Reads'.Learnt, Reads''''.Asked, Reads''''.Learnt, Reads''.Asked, Reads''.Learnt, Reads'''.Asked,
-    Reads'''.Learnt,) Reads.Pre Reads.Post
+Need-returns = Lts.Need-returns (Reads''.Asked, Reads''.Learnt, Reads'''''.Asked, Reads'''''.Learnt, Reads''''.Asked, Reads''''.Learnt,
+    Reads'''.Asked, Reads'''.Learnt, Reads'.Asked, Reads'.Learnt, Reads''''''.Asked, Reads''''''.Learnt,) Reads.Pre Reads.Post
+abbrev pub Need-refused-requires : Type 0
+Need-refused-requires = Lts.Need-refused-requires (Reads''.Asked, Reads''.Learnt, Reads'''''.Asked, Reads'''''.Learnt, Reads''''.Asked,
+    Reads''''.Learnt, Reads'''.Asked, Reads'''.Learnt, Reads'.Asked, Reads'.Learnt, Reads''''''.Asked, Reads''''''.Learnt,) Reads.Pre Reads.Post
+abbrev pub Need-same-length-5 : Type 0
+Need-same-length-5 = Lts.Need-same-length-5 (Reads''.Asked, Reads''.Learnt, Reads'''''.Asked, Reads'''''.Learnt, Reads''''.Asked, Reads''''.Learnt,
+    Reads'''.Asked, Reads'''.Learnt, Reads'.Asked, Reads'.Learnt, Reads''''''.Asked, Reads''''''.Learnt,) Reads.Pre Reads.Post
+abbrev pub Need-returns-2 : Type 0
+Need-returns-2 = Lts.Need-returns-2 (Reads''.Asked, Reads''.Learnt, Reads'''''.Asked, Reads'''''.Learnt, Reads''''.Asked, Reads''''.Learnt,
+    Reads'''.Asked, Reads'''.Learnt, Reads'.Asked, Reads'.Learnt, Reads''''''.Asked, Reads''''''.Learnt,) Reads.Pre Reads.Post
 module _ { M : Type 1 } where
-  pub spec : (answer : Need-plan-data-requires) → (answer : Need-charge-circuit-requires) → (answer : Need-spend-requires) → (answer :
-      Need-send-requires) → (answer : Need-same-length) → (answer : Need-same-length-2) → (answer : Need-same-length-3) → (answer :
-      Need-same-length-4) → (answer : Need-returns) → Lts.Closed (Reads'.Asked, Reads'.Learnt, Reads''''.Asked, Reads''''.Learnt, Reads''.Asked,
-      Reads''.Learnt, Reads'''.Asked, Reads'''.Learnt,) Reads.Pre Reads.Post M
-  spec = λ answer answer' answer'' answer'3 answer'4 answer'5 answer'6 answer'7 answer'8. Lts.spec (Reads'.Asked, Reads'.Learnt, Reads''''.Asked,
-      Reads''''.Learnt, Reads''.Asked, Reads''.Learnt, Reads'''.Asked, Reads'''.Learnt,) Reads.Pre Reads.Post answer answer' answer'' answer'3
-      answer'4 answer'5 answer'6 answer'7 answer'8
-  pub close : Lts.Closed (Reads'.Asked, Reads'.Learnt, Reads''''.Asked, Reads''''.Learnt, Reads''.Asked, Reads''.Learnt, Reads'''.Asked,
-      Reads'''.Learnt,) Reads.Pre Reads.Post M → Statement.statement M
+  pub spec : (answer : Need-circuit-by-id-requires) → (answer : Need-peer-of-requires) → (answer : Need-data-entry-requires) → (answer :
+      Need-is-taken-requires) → (answer : Need-pass-data-requires) → (answer : Need-same-length) → (answer : Need-same-length-2) → (answer :
+      Need-same-length-3) → (answer : Need-same-length-4) → (answer : Need-returns) → (answer : Need-refused-requires) → (answer : Need-same-length-5)
+      → (answer : Need-returns-2) → Lts.Closed (Reads''.Asked, Reads''.Learnt, Reads'''''.Asked, Reads'''''.Learnt, Reads''''.Asked, Reads''''.Learnt,
+      Reads'''.Asked, Reads'''.Learnt, Reads'.Asked, Reads'.Learnt, Reads''''''.Asked, Reads''''''.Learnt,) Reads.Pre Reads.Post M
+  spec = λ answer answer' answer'' answer'3 answer'4 answer'5 answer'6 answer'7 answer'8 answer'9 answer'10 answer'11 answer'12. Lts.spec
+      (Reads''.Asked, Reads''.Learnt, Reads'''''.Asked, Reads'''''.Learnt, Reads''''.Asked, Reads''''.Learnt, Reads'''.Asked, Reads'''.Learnt,
+      Reads'.Asked, Reads'.Learnt, Reads''''''.Asked, Reads''''''.Learnt,) Reads.Pre Reads.Post answer answer' answer'' answer'3 answer'4 answer'5
+      answer'6 answer'7 answer'8 answer'9 answer'10 answer'11 answer'12
+  pub close : Lts.Closed (Reads''.Asked, Reads''.Learnt, Reads'''''.Asked, Reads'''''.Learnt, Reads''''.Asked, Reads''''.Learnt, Reads'''.Asked,
+      Reads'''.Learnt, Reads'.Asked, Reads'.Learnt, Reads''''''.Asked, Reads''''''.Learnt,) Reads.Pre Reads.Post M → Statement.statement M
   unfolding Code.routine Running.tablesOf
   close = λ closed 𝓤 H 𝓜 𝓖 𝓡. Written.close 6 Kinds.ps Kinds.r Reads.Ghost Reads.requires Reads.ensures Reads.pre-read Reads.Pinned Reads.Owned
       Reads.post-read record { M = M; 𝓤 = 𝓤; H = H; 𝓜 = 𝓜; 𝓖 = 𝓖; 𝓡 = 𝓡 } Code.env Key.name Code.function (Code.unfolded 𝓤 H 𝓜 𝓡) (λ κs a g. tt) (λ
       κs. Reads.owns κs record { M = M; 𝓤 = 𝓤; H = H; 𝓜 = 𝓜; 𝓖 = 𝓖; 𝓡 = 𝓡 }) (Reads.passes record { M = M; 𝓤 = 𝓤; H = H; 𝓜 = 𝓜; 𝓖 = 𝓖; 𝓡 = 𝓡 }) λ g.
-      closed 𝓤 H (𝓖 .A) (Running.givenOf 𝓤 H 𝓜 𝓖) (Run.Over 𝓤 H 𝓜 𝓖 𝓡 Code.env) (Reads'.known record { M = M; 𝓤 = 𝓤; H = H; 𝓜 = 𝓜; 𝓖 = 𝓖; 𝓡 = 𝓡 }
-      Code.env Symbol.name Symbol.routine Code.calls-hnsr-circuit·handle-data·plan-data (Met.met 𝓤 H 𝓜 𝓖 𝓡)) (Reads''''.known record { M = M; 𝓤 = 𝓤; H
-      = H; 𝓜 = 𝓜; 𝓖 = 𝓖; 𝓡 = 𝓡 } Code.env Symbol'''.name Symbol'''.routine Code.calls-hnsr-circuit·tables·circuits·charge-circuit (Met'''.met 𝓤 H 𝓜 𝓖
-      𝓡)) (Reads''.known record { M = M; 𝓤 = 𝓤; H = H; 𝓜 = 𝓜; 𝓖 = 𝓖; 𝓡 = 𝓡 } Code.env Symbol'.name Symbol'.routine
-      Code.calls-hnsr-circuit·lookup·spend (Met'.met 𝓤 H 𝓜 𝓖 𝓡)) (Reads'''.known record { M = M; 𝓤 = 𝓤; H = H; 𝓜 = 𝓜; 𝓖 = 𝓖; 𝓡 = 𝓡 } Code.env
-      Symbol''.name Symbol''.routine Code.calls-hnsr-circuit·queue·send (Met''.met 𝓤 H 𝓜 𝓖 𝓡))
+      closed 𝓤 H (𝓖 .A) (Running.givenOf 𝓤 H 𝓜 𝓖) (Run.Over 𝓤 H 𝓜 𝓖 𝓡 Code.env) (Reads''.known record { M = M; 𝓤 = 𝓤; H = H; 𝓜 = 𝓜; 𝓖 = 𝓖; 𝓡 = 𝓡 }
+      Code.env Symbol'''.name Symbol'''.routine Code.calls-hnsr-circuit·lookup·circuit-by-id (Met'''.met 𝓤 H 𝓜 𝓖 𝓡)) (Reads'''''.known record { M = M;
+      𝓤 = 𝓤; H = H; 𝓜 = 𝓜; 𝓖 = 𝓖; 𝓡 = 𝓡 } Code.env Symbol''''.name Symbol''''.routine Code.calls-hnsr-circuit·peer·peer-of (Met''''.met 𝓤 H 𝓜 𝓖 𝓡))
+      (Reads''''.known record { M = M; 𝓤 = 𝓤; H = H; 𝓜 = 𝓜; 𝓖 = 𝓖; 𝓡 = 𝓡 } Code.env Symbol'.name Symbol'.routine
+      Code.calls-hnsr-circuit·data·data-entry (Met'.met 𝓤 H 𝓜 𝓖 𝓡)) (Reads'''.known record { M = M; 𝓤 = 𝓤; H = H; 𝓜 = 𝓜; 𝓖 = 𝓖; 𝓡 = 𝓡 } Code.env
+      Symbol.name Symbol.routine Code.calls-hnsr-circuit·answer·is-taken (Met.met 𝓤 H 𝓜 𝓖 𝓡)) (Reads'.known record { M = M; 𝓤 = 𝓤; H = H; 𝓜 = 𝓜; 𝓖 =
+      𝓖; 𝓡 = 𝓡 } Code.env Symbol''.name Symbol''.routine Code.calls-hnsr-circuit·handle-data·pass-data (Met''.met 𝓤 H 𝓜 𝓖 𝓡)) (Reads''''''.known
+      record { M = M; 𝓤 = 𝓤; H = H; 𝓜 = 𝓜; 𝓖 = 𝓖; 𝓡 = 𝓡 } Code.env Symbol'''''.name Symbol'''''.routine Code.calls-hnsr-circuit·revoking-calls·refused
+      (Met'''''.met 𝓤 H 𝓜 𝓖 𝓡))

@@ -2,70 +2,57 @@
 use Rattle.hnsr_circuit.proofs.By.handle_open.id_taken.Kinds
 use Rattle.hnsr_circuit.proofs.By.handle_open.id_taken.Lts
 use Rattle.hnsr_circuit.proofs.By.handle_open.id_taken.Reads
-use Rattle.hnsr_circuit.proofs.By.tables.circuits.find_circuit.Reads as Reads'
-use Rattle.hnsr_circuit.proofs.By.tables.pending.find_pending.Reads as Reads''
+use Rattle.hnsr_circuit.proofs.By.tables.circuits.find_circuit_id.Reads as Reads'
+use Rattle.hnsr_circuit.proofs.By.tables.pending.find_pending_id.Reads as Reads''
 use Rattle.hnsr_circuit.proofs.draw.either_found.Met
 use Rattle.hnsr_circuit.proofs.draw.either_found.Reads as Reads'''
 use Rattle.hnsr_circuit.proofs.draw.either_found.Symbol
 use Rattle.hnsr_circuit.proofs.handle_open.id_taken.Code
 use Rattle.hnsr_circuit.proofs.handle_open.id_taken.Key
 use Rattle.hnsr_circuit.proofs.handle_open.id_taken.Statement
-use Rattle.hnsr_circuit.proofs.question.at.Met as Met'
-use Rattle.hnsr_circuit.proofs.question.at.Reads as Reads''''
-use Rattle.hnsr_circuit.proofs.question.at.Symbol as Symbol'
-use Rattle.hnsr_circuit.proofs.tables.circuits.find_circuit.Met as Met''
-use Rattle.hnsr_circuit.proofs.tables.circuits.find_circuit.Symbol as Symbol''
-use Rattle.hnsr_circuit.proofs.tables.pending.find_pending.Met as Met'''
-use Rattle.hnsr_circuit.proofs.tables.pending.find_pending.Symbol as Symbol'''
+use Rattle.hnsr_circuit.proofs.tables.circuits.find_circuit_id.Met as Met'
+use Rattle.hnsr_circuit.proofs.tables.circuits.find_circuit_id.Symbol as Symbol'
+use Rattle.hnsr_circuit.proofs.tables.pending.find_pending_id.Met as Met''
+use Rattle.hnsr_circuit.proofs.tables.pending.find_pending_id.Symbol as Symbol''
 use borrow.Fn.Run
 use borrow.Fn.Written
 use contract.Running
 
 abbrev pub Start : Type 0
-Start = Lts.Start (Reads''''.Asked, Reads''''.Learnt, Reads''.Asked, Reads''.Learnt, Reads'.Asked, Reads'.Learnt, Reads'''.Asked, Reads'''.Learnt,)
+Start = Lts.Start (Reads''.Asked, Reads''.Learnt, Reads'.Asked, Reads'.Learnt, Reads'''.Asked, Reads'''.Learnt,) Reads.Pre Reads.Post
+abbrev pub After-find-pending-id : Type 0
+After-find-pending-id = Lts.After-find-pending-id (Reads''.Asked, Reads''.Learnt, Reads'.Asked, Reads'.Learnt, Reads'''.Asked, Reads'''.Learnt,)
     Reads.Pre Reads.Post
-abbrev pub After-at : Type 0
-After-at = Lts.After-at (Reads''''.Asked, Reads''''.Learnt, Reads''.Asked, Reads''.Learnt, Reads'.Asked, Reads'.Learnt, Reads'''.Asked,
-    Reads'''.Learnt,) Reads.Pre Reads.Post
-abbrev pub After-find-pending : Type 0
-After-find-pending = Lts.After-find-pending (Reads''''.Asked, Reads''''.Learnt, Reads''.Asked, Reads''.Learnt, Reads'.Asked, Reads'.Learnt,
-    Reads'''.Asked, Reads'''.Learnt,) Reads.Pre Reads.Post
-abbrev pub After-find-circuit : Type 0
-After-find-circuit = Lts.After-find-circuit (Reads''''.Asked, Reads''''.Learnt, Reads''.Asked, Reads''.Learnt, Reads'.Asked, Reads'.Learnt,
-    Reads'''.Asked, Reads'''.Learnt,) Reads.Pre Reads.Post
+abbrev pub After-find-circuit-id : Type 0
+After-find-circuit-id = Lts.After-find-circuit-id (Reads''.Asked, Reads''.Learnt, Reads'.Asked, Reads'.Learnt, Reads'''.Asked, Reads'''.Learnt,)
+    Reads.Pre Reads.Post
 abbrev pub After-either-found : Type 0
-After-either-found = Lts.After-either-found (Reads''''.Asked, Reads''''.Learnt, Reads''.Asked, Reads''.Learnt, Reads'.Asked, Reads'.Learnt,
-    Reads'''.Asked, Reads'''.Learnt,) Reads.Pre Reads.Post
-abbrev pub Need-at-requires : Type 0
-Need-at-requires = Lts.Need-at-requires (Reads''''.Asked, Reads''''.Learnt, Reads''.Asked, Reads''.Learnt, Reads'.Asked, Reads'.Learnt,
-    Reads'''.Asked, Reads'''.Learnt,) Reads.Pre Reads.Post
-abbrev pub Need-find-pending-requires : Type 0
-Need-find-pending-requires = Lts.Need-find-pending-requires (Reads''''.Asked, Reads''''.Learnt, Reads''.Asked, Reads''.Learnt, Reads'.Asked,
-    Reads'.Learnt, Reads'''.Asked, Reads'''.Learnt,) Reads.Pre Reads.Post
-abbrev pub Need-find-circuit-requires : Type 0
-Need-find-circuit-requires = Lts.Need-find-circuit-requires (Reads''''.Asked, Reads''''.Learnt, Reads''.Asked, Reads''.Learnt, Reads'.Asked,
-    Reads'.Learnt, Reads'''.Asked, Reads'''.Learnt,) Reads.Pre Reads.Post
-abbrev pub Need-either-found-requires : Type 0
-Need-either-found-requires = Lts.Need-either-found-requires (Reads''''.Asked, Reads''''.Learnt, Reads''.Asked, Reads''.Learnt, Reads'.Asked,
-    Reads'.Learnt, Reads'''.Asked, Reads'''.Learnt,) Reads.Pre Reads.Post
-abbrev pub Need-returns : Type 0
-Need-returns = Lts.Need-returns (Reads''''.Asked, Reads''''.Learnt, Reads''.Asked, Reads''.Learnt, Reads'.Asked, Reads'.Learnt, Reads'''.Asked,
+After-either-found = Lts.After-either-found (Reads''.Asked, Reads''.Learnt, Reads'.Asked, Reads'.Learnt, Reads'''.Asked, Reads'''.Learnt,) Reads.Pre
+    Reads.Post
+abbrev pub Need-find-pending-id-requires : Type 0
+Need-find-pending-id-requires = Lts.Need-find-pending-id-requires (Reads''.Asked, Reads''.Learnt, Reads'.Asked, Reads'.Learnt, Reads'''.Asked,
     Reads'''.Learnt,) Reads.Pre Reads.Post
+abbrev pub Need-find-circuit-id-requires : Type 0
+Need-find-circuit-id-requires = Lts.Need-find-circuit-id-requires (Reads''.Asked, Reads''.Learnt, Reads'.Asked, Reads'.Learnt, Reads'''.Asked,
+    Reads'''.Learnt,) Reads.Pre Reads.Post
+abbrev pub Need-either-found-requires : Type 0
+Need-either-found-requires = Lts.Need-either-found-requires (Reads''.Asked, Reads''.Learnt, Reads'.Asked, Reads'.Learnt, Reads'''.Asked,
+    Reads'''.Learnt,) Reads.Pre Reads.Post
+abbrev pub Need-returns : Type 0
+Need-returns = Lts.Need-returns (Reads''.Asked, Reads''.Learnt, Reads'.Asked, Reads'.Learnt, Reads'''.Asked, Reads'''.Learnt,) Reads.Pre Reads.Post
 module _ { M : Type 1 } where
-  pub spec : (answer : Need-at-requires) → (answer : Need-find-pending-requires) → (answer : Need-find-circuit-requires) → (answer :
-      Need-either-found-requires) → (answer : Need-returns) → Lts.Closed (Reads''''.Asked, Reads''''.Learnt, Reads''.Asked, Reads''.Learnt,
-      Reads'.Asked, Reads'.Learnt, Reads'''.Asked, Reads'''.Learnt,) Reads.Pre Reads.Post M
-  spec = λ answer answer' answer'' answer'3 answer'4. Lts.spec (Reads''''.Asked, Reads''''.Learnt, Reads''.Asked, Reads''.Learnt, Reads'.Asked,
-      Reads'.Learnt, Reads'''.Asked, Reads'''.Learnt,) Reads.Pre Reads.Post answer answer' answer'' answer'3 answer'4
-  pub close : Lts.Closed (Reads''''.Asked, Reads''''.Learnt, Reads''.Asked, Reads''.Learnt, Reads'.Asked, Reads'.Learnt, Reads'''.Asked,
-      Reads'''.Learnt,) Reads.Pre Reads.Post M → Statement.statement M
+  pub spec : (answer : Need-find-pending-id-requires) → (answer : Need-find-circuit-id-requires) → (answer : Need-either-found-requires) → (answer :
+      Need-returns) → Lts.Closed (Reads''.Asked, Reads''.Learnt, Reads'.Asked, Reads'.Learnt, Reads'''.Asked, Reads'''.Learnt,) Reads.Pre Reads.Post M
+  spec = λ answer answer' answer'' answer'3. Lts.spec (Reads''.Asked, Reads''.Learnt, Reads'.Asked, Reads'.Learnt, Reads'''.Asked, Reads'''.Learnt,)
+      Reads.Pre Reads.Post answer answer' answer'' answer'3
+  pub close : Lts.Closed (Reads''.Asked, Reads''.Learnt, Reads'.Asked, Reads'.Learnt, Reads'''.Asked, Reads'''.Learnt,) Reads.Pre Reads.Post M →
+      Statement.statement M
   unfolding Code.routine Running.tablesOf
   close = λ closed 𝓤 H 𝓜 𝓖 𝓡. Written.close 2 Kinds.ps Kinds.r Reads.Ghost Reads.requires Reads.ensures Reads.pre-read Reads.Pinned Reads.Owned
       Reads.post-read record { M = M; 𝓤 = 𝓤; H = H; 𝓜 = 𝓜; 𝓖 = 𝓖; 𝓡 = 𝓡 } Code.env Key.name Code.function (Code.unfolded 𝓤 H 𝓜 𝓡) (λ κs a g. tt) (λ
       κs. Reads.owns κs record { M = M; 𝓤 = 𝓤; H = H; 𝓜 = 𝓜; 𝓖 = 𝓖; 𝓡 = 𝓡 }) (Reads.passes record { M = M; 𝓤 = 𝓤; H = H; 𝓜 = 𝓜; 𝓖 = 𝓖; 𝓡 = 𝓡 }) λ g.
-      closed 𝓤 H (𝓖 .A) (Running.givenOf 𝓤 H 𝓜 𝓖) (Run.Over 𝓤 H 𝓜 𝓖 𝓡 Code.env) (Reads''''.known record { M = M; 𝓤 = 𝓤; H = H; 𝓜 = 𝓜; 𝓖 = 𝓖; 𝓡 = 𝓡 }
-      Code.env Symbol'.name Symbol'.routine Code.calls-hnsr-circuit·question·at (Met'.met 𝓤 H 𝓜 𝓖 𝓡)) (Reads''.known record { M = M; 𝓤 = 𝓤; H = H; 𝓜 =
-      𝓜; 𝓖 = 𝓖; 𝓡 = 𝓡 } Code.env Symbol'''.name Symbol'''.routine Code.calls-hnsr-circuit·tables·pending·find-pending (Met'''.met 𝓤 H 𝓜 𝓖 𝓡))
-      (Reads'.known record { M = M; 𝓤 = 𝓤; H = H; 𝓜 = 𝓜; 𝓖 = 𝓖; 𝓡 = 𝓡 } Code.env Symbol''.name Symbol''.routine
-      Code.calls-hnsr-circuit·tables·circuits·find-circuit (Met''.met 𝓤 H 𝓜 𝓖 𝓡)) (Reads'''.known record { M = M; 𝓤 = 𝓤; H = H; 𝓜 = 𝓜; 𝓖 = 𝓖; 𝓡 = 𝓡 }
-      Code.env Symbol.name Symbol.routine Code.calls-hnsr-circuit·draw·either-found (Met.met 𝓤 H 𝓜 𝓖 𝓡))
+      closed 𝓤 H (𝓖 .A) (Running.givenOf 𝓤 H 𝓜 𝓖) (Run.Over 𝓤 H 𝓜 𝓖 𝓡 Code.env) (Reads''.known record { M = M; 𝓤 = 𝓤; H = H; 𝓜 = 𝓜; 𝓖 = 𝓖; 𝓡 = 𝓡 }
+      Code.env Symbol''.name Symbol''.routine Code.calls-hnsr-circuit·tables·pending·find-pending-id (Met''.met 𝓤 H 𝓜 𝓖 𝓡)) (Reads'.known record { M =
+      M; 𝓤 = 𝓤; H = H; 𝓜 = 𝓜; 𝓖 = 𝓖; 𝓡 = 𝓡 } Code.env Symbol'.name Symbol'.routine Code.calls-hnsr-circuit·tables·circuits·find-circuit-id (Met'.met 𝓤
+      H 𝓜 𝓖 𝓡)) (Reads'''.known record { M = M; 𝓤 = 𝓤; H = H; 𝓜 = 𝓜; 𝓖 = 𝓖; 𝓡 = 𝓡 } Code.env Symbol.name Symbol.routine
+      Code.calls-hnsr-circuit·draw·either-found (Met.met 𝓤 H 𝓜 𝓖 𝓡))

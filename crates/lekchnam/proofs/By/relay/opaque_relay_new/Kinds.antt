@@ -8,7 +8,7 @@ use Rattle.lekchnam.proofs.By.ReservationUsage
 use Rattle.lekchnam.proofs.relay.RelayReply
 use Rattle.lekchnam.proofs.relay.RelayReply.Laws as Laws'
 use borrow.Fn.Kinds
-use borrow.Kind.MutSlice
+use borrow.Kind.ShrSlice
 use borrow.Kind.Value
 use borrow.Rule.Local
 use borrow.Table.Referent
@@ -23,7 +23,7 @@ use mir.Syntax
 use mathlib.Core.List.{_∷_}
 
 abbrev pub ps : List.List (Kinds.PK 5)
-ps = (MutSlice.pMutS RelayPending.row 0 tt) ∷ (MutSlice.pMutS RelayCircuit.row 1 tt) ∷ (MutSlice.pMutS ReservationUsage.row 2 tt) ∷ (MutSlice.pMutS
+ps = (ShrSlice.pShrS RelayPending.row 0 tt) ∷ (ShrSlice.pShrS RelayCircuit.row 1 tt) ∷ (ShrSlice.pShrS ReservationUsage.row 2 tt) ∷ (ShrSlice.pShrS
     InflightAction.row 3 tt) ∷ (Kinds.pShr (Array.Array (Referent.rtF (Referent.fInt Syntax.w8)) 16) 4 tt) ∷ (Kinds.pNum Syntax.w64) ∷ (Value.pVal
     record { ty = Declared.row OpaqueRelayConfig.the-type; one = Path.refl; val = Laws''.val OpaqueRelayConfig.the-type Laws.the-laws; tells =
     Laws''.tells OpaqueRelayConfig.the-type Laws.the-laws; still = Laws''.still OpaqueRelayConfig.the-type Laws.the-copy Exit.yes; row = Rows.whole

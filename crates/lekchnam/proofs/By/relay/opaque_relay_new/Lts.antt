@@ -19,19 +19,16 @@ use borrow.Fn.Function
 use borrow.Fn.Kinds
 use borrow.Fn.Plain
 use borrow.Kind.Array
-use borrow.Kind.MutSlice
 use borrow.Kind.Num
 use borrow.Kind.ShrRef
+use borrow.Kind.ShrSlice
 use borrow.Kind.Value
 use borrow.Rule.Array.Init
 use borrow.Rule.Array.Rows
 use borrow.Rule.Array.Whole
 use borrow.Rule.DerefMove
-use borrow.Rule.Lifetime
 use borrow.Rule.Local
 use borrow.Rule.Scalar
-use borrow.Rule.Slice.Mut
-use borrow.Rule.Slice.Relend
 use borrow.Rule.Slice.Shared
 use borrow.Rule.Yields
 use borrow.Table.Copies
@@ -60,25 +57,17 @@ use types.Kit
 use mathlib.Core.List.{_∷_}
 
 abbrev ref0 : Syntax.Ty
-ref0 = Syntax.tyRef Syntax.erased Syntax.mut RelayPending.to
+ref0 = Syntax.tyRef (Syntax.named 0) Syntax.imm RelayPending.to
 abbrev ref1 : Syntax.Ty
-ref1 = Syntax.tyRef Syntax.erased Syntax.mut RelayCircuit.to
+ref1 = Syntax.tyRef (Syntax.named 1) Syntax.imm RelayCircuit.to
 abbrev ref2 : Syntax.Ty
-ref2 = Syntax.tyRef Syntax.erased Syntax.mut ReservationUsage.to
+ref2 = Syntax.tyRef (Syntax.named 2) Syntax.imm ReservationUsage.to
 abbrev ref3 : Syntax.Ty
-ref3 = Syntax.tyRef Syntax.erased Syntax.mut InflightAction.to
+ref3 = Syntax.tyRef (Syntax.named 3) Syntax.imm InflightAction.to
 abbrev ref4 : Syntax.Ty
-ref4 = Syntax.tyRef (Syntax.named 0) Syntax.mut RelayPending.to
-abbrev ref5 : Syntax.Ty
-ref5 = Syntax.tyRef (Syntax.named 1) Syntax.mut RelayCircuit.to
-abbrev ref6 : Syntax.Ty
-ref6 = Syntax.tyRef (Syntax.named 2) Syntax.mut ReservationUsage.to
-abbrev ref7 : Syntax.Ty
-ref7 = Syntax.tyRef (Syntax.named 3) Syntax.mut InflightAction.to
-abbrev ref8 : Syntax.Ty
-ref8 = Syntax.tyRef (Syntax.named 4) Syntax.imm (Syntax.tyArray (Syntax.tyInt Syntax.w8) 16)
+ref4 = Syntax.tyRef (Syntax.named 4) Syntax.imm (Syntax.tyArray (Syntax.tyInt Syntax.w8) 16)
 abbrev pub ps : List.List (Kinds.PK 5)
-ps = (MutSlice.pMutS RelayPending.row 0 tt) ∷ (MutSlice.pMutS RelayCircuit.row 1 tt) ∷ (MutSlice.pMutS ReservationUsage.row 2 tt) ∷ (MutSlice.pMutS
+ps = (ShrSlice.pShrS RelayPending.row 0 tt) ∷ (ShrSlice.pShrS RelayCircuit.row 1 tt) ∷ (ShrSlice.pShrS ReservationUsage.row 2 tt) ∷ (ShrSlice.pShrS
     InflightAction.row 3 tt) ∷ (ShrRef.pShr (Array'.Array (Referent.rtF (Referent.fInt Syntax.w8)) 16) 4 tt) ∷ (Num.pNum Syntax.w64) ∷ (Value.pVal
     record { ty = Declared.row OpaqueRelayConfig.the-type; one = Path.refl; val = Laws'''.val OpaqueRelayConfig.the-type Laws.the-laws; tells =
     Laws'''.tells OpaqueRelayConfig.the-type Laws.the-laws; still = Laws'''.still OpaqueRelayConfig.the-type Laws.the-copy Exit.yes; row = Rows'.whole
@@ -93,15 +82,11 @@ r = Value.rVal record { ty = Declared.row RelayReply.the-type; one = Path.refl; 
     H A W; lawful = Laws'''.lawful RelayReply.the-type Laws''.the-laws 𝓤 H A W; makes = Laws'''.makes RelayReply.the-type Laws''.the-plain 𝓤 H A;
     in-mem = Local.mem-whole 𝓤 H A W (Declared.row RelayReply.the-type); of-mem = Local.whole-mem 𝓤 H A W (Declared.row RelayReply.the-type); }
 abbrev pub xs : List.List Syntax.Ty
-xs = (Syntax.tyArray (Syntax.tyInt Syntax.w8) 16) ∷ Laws'.mir ∷ ref0 ∷ (Syntax.tyStruct (38 ∷ 91 ∷ 93 ∷ List.[]) (Syntax.tcons ref0 (Syntax.tcons
-    (Syntax.tyInt Syntax.w64) Syntax.tnil))) ∷ ref1 ∷ (Syntax.tyStruct (38 ∷ 91 ∷ 93 ∷ List.[]) (Syntax.tcons ref1 (Syntax.tcons (Syntax.tyInt
-    Syntax.w64) Syntax.tnil))) ∷ ref2 ∷ (Syntax.tyStruct (38 ∷ 91 ∷ 93 ∷ List.[]) (Syntax.tcons ref2 (Syntax.tcons (Syntax.tyInt Syntax.w64)
-    Syntax.tnil))) ∷ ref3 ∷ (Syntax.tyStruct (38 ∷ 91 ∷ 93 ∷ List.[]) (Syntax.tcons ref3 (Syntax.tcons (Syntax.tyInt Syntax.w64) Syntax.tnil))) ∷
-    List.[]
+xs = (Syntax.tyArray (Syntax.tyInt Syntax.w8) 16) ∷ Laws'.mir ∷ List.[]
 abbrev pub m : Nat.ℕ
-m = 4
+m = 0
 abbrev pub ps·0 : List.List (Kinds.PK 4)
-ps·0 = (MutSlice.pMutS RelayPending.row 0 tt) ∷ (MutSlice.pMutS RelayCircuit.row 1 tt) ∷ (MutSlice.pMutS ReservationUsage.row 2 tt) ∷ (MutSlice.pMutS
+ps·0 = (ShrSlice.pShrS RelayPending.row 0 tt) ∷ (ShrSlice.pShrS RelayCircuit.row 1 tt) ∷ (ShrSlice.pShrS ReservationUsage.row 2 tt) ∷ (ShrSlice.pShrS
     InflightAction.row 3 tt) ∷ (Array.pArr (Array.eInt Syntax.w8) (Array.eInt-laws Syntax.w8) 16) ∷ (Num.pNum Syntax.w64) ∷ (Value.pVal record { ty =
     Declared.row OpaqueRelayConfig.the-type; one = Path.refl; val = Laws'''.val OpaqueRelayConfig.the-type Laws.the-laws; tells = Laws'''.tells
     OpaqueRelayConfig.the-type Laws.the-laws; still = Laws'''.still OpaqueRelayConfig.the-type Laws.the-copy Exit.yes; row = Rows'.whole (Declared.row
@@ -129,77 +114,40 @@ r·1 = Value.rVal record { ty = Declared.row RelayReply.the-type; one = Path.ref
     in-mem = Local.mem-whole 𝓤 H A W (Declared.row RelayReply.the-type); of-mem = Local.whole-mem 𝓤 H A W (Declared.row RelayReply.the-type); }
 abbrev pub hs : List.List Syntax.Home
 hs = Syntax.valueLocal ∷ Syntax.valueLocal ∷ Syntax.valueLocal ∷ Syntax.valueLocal ∷ Syntax.valueLocal ∷ Syntax.valueLocal ∷ Syntax.valueLocal ∷
-    Syntax.valueLocal ∷ Syntax.valueLocal ∷ Syntax.valueLocal ∷ Syntax.valueLocal ∷ Syntax.valueLocal ∷ Syntax.valueLocal ∷ Syntax.valueLocal ∷
-    Syntax.valueLocal ∷ Syntax.valueLocal ∷ Syntax.valueLocal ∷ Syntax.valueLocal ∷ Syntax.valueLocal ∷ List.[]
+    Syntax.valueLocal ∷ Syntax.valueLocal ∷ Syntax.valueLocal ∷ Syntax.valueLocal ∷ List.[]
 abbrev b0 : Syntax.Body
 b0 = Syntax.assign (Syntax.place 9 List.[]) (Syntax.rvOpd (Syntax.copy (Syntax.place 5 ((Syntax.deref (Syntax.tyArray (Syntax.tyInt Syntax.w8) 16)) ∷
     List.[]))))
 abbrev b1 : Syntax.Body
-b1 = Syntax.assign (Syntax.place 11 List.[]) (Syntax.addrOf (Syntax.place 1 ((Syntax.field 0) ∷ (Syntax.deref RelayPending.ty) ∷ List.[])))
-abbrev b2 : Syntax.Body
-b2 = Syntax.assign (Syntax.place 12 List.[]) (Syntax.aggregate ((Syntax.copy (Syntax.place 11 List.[])) ∷ (Syntax.copy (Syntax.place 1 ((Syntax.field
-    1) ∷ List.[]))) ∷ List.[]))
-abbrev b3 : Syntax.Body
-b3 = Syntax.assign (Syntax.place 13 List.[]) (Syntax.addrOf (Syntax.place 2 ((Syntax.field 0) ∷ (Syntax.deref RelayCircuit.ty) ∷ List.[])))
-abbrev b4 : Syntax.Body
-b4 = Syntax.assign (Syntax.place 14 List.[]) (Syntax.aggregate ((Syntax.copy (Syntax.place 13 List.[])) ∷ (Syntax.copy (Syntax.place 2 ((Syntax.field
-    1) ∷ List.[]))) ∷ List.[]))
-abbrev b5 : Syntax.Body
-b5 = Syntax.assign (Syntax.place 15 List.[]) (Syntax.addrOf (Syntax.place 3 ((Syntax.field 0) ∷ (Syntax.deref ReservationUsage.ty) ∷ List.[])))
-abbrev b6 : Syntax.Body
-b6 = Syntax.assign (Syntax.place 16 List.[]) (Syntax.aggregate ((Syntax.copy (Syntax.place 15 List.[])) ∷ (Syntax.copy (Syntax.place 3 ((Syntax.field
-    1) ∷ List.[]))) ∷ List.[]))
-abbrev b7 : Syntax.Body
-b7 = Syntax.assign (Syntax.place 17 List.[]) (Syntax.addrOf (Syntax.place 4 ((Syntax.field 0) ∷ (Syntax.deref InflightAction.ty) ∷ List.[])))
-abbrev b8 : Syntax.Body
-b8 = Syntax.assign (Syntax.place 18 List.[]) (Syntax.aggregate ((Syntax.copy (Syntax.place 17 List.[])) ∷ (Syntax.copy (Syntax.place 4 ((Syntax.field
-    1) ∷ List.[]))) ∷ List.[]))
-abbrev b9 : Syntax.Body
-b9 = Syntax.call "hnsr_circuit::calls::new" ((Syntax.copy (Syntax.place 12 List.[])) ∷ (Syntax.copy (Syntax.place 14 List.[])) ∷ (Syntax.copy
-    (Syntax.place 16 List.[])) ∷ (Syntax.copy (Syntax.place 18 List.[])) ∷ (Syntax.copy (Syntax.place 9 List.[])) ∷ (Syntax.copy (Syntax.place 6
+b1 = Syntax.call "hnsr_circuit::calls::new" ((Syntax.copy (Syntax.place 1 List.[])) ∷ (Syntax.copy (Syntax.place 2 List.[])) ∷ (Syntax.copy
+    (Syntax.place 3 List.[])) ∷ (Syntax.copy (Syntax.place 4 List.[])) ∷ (Syntax.copy (Syntax.place 9 List.[])) ∷ (Syntax.copy (Syntax.place 6
     List.[])) ∷ (Syntax.copy (Syntax.place 7 List.[])) ∷ (Syntax.copy (Syntax.place 8 List.[])) ∷ List.[]) (Syntax.place 10 List.[])
-abbrev b10 : Syntax.Body
-b10 = Syntax.call "lekchnam::relay::reply" ((Syntax.copy (Syntax.place 10 List.[])) ∷ List.[]) (Syntax.place 0 List.[])
-abbrev b11 : Syntax.Body
-b11 = Syntax.return
-abbrev b12 : Syntax.Body
-b12 = Syntax.seq b10 b11
-abbrev b13 : Syntax.Body
-b13 = Syntax.seq b9 b12
-abbrev b14 : Syntax.Body
-b14 = Syntax.seq b8 b13
-abbrev b15 : Syntax.Body
-b15 = Syntax.seq b7 b14
-abbrev b16 : Syntax.Body
-b16 = Syntax.seq b6 b15
-abbrev b17 : Syntax.Body
-b17 = Syntax.seq b5 b16
-abbrev b18 : Syntax.Body
-b18 = Syntax.seq b4 b17
-abbrev b19 : Syntax.Body
-b19 = Syntax.seq b3 b18
-abbrev b20 : Syntax.Body
-b20 = Syntax.seq b2 b19
-abbrev b21 : Syntax.Body
-b21 = Syntax.seq b1 b20
-abbrev b22 : Syntax.Body
-b22 = Syntax.seq b0 b21
+abbrev b2 : Syntax.Body
+b2 = Syntax.call "lekchnam::relay::reply" ((Syntax.copy (Syntax.place 10 List.[])) ∷ List.[]) (Syntax.place 0 List.[])
+abbrev b3 : Syntax.Body
+b3 = Syntax.return
+abbrev b4 : Syntax.Body
+b4 = Syntax.seq b2 b3
+abbrev b5 : Syntax.Body
+b5 = Syntax.seq b1 b4
+abbrev b6 : Syntax.Body
+b6 = Syntax.seq b0 b5
 abbrev pub body : Syntax.Body
-body = b22
+body = b6
 abbrev pub Claims : Type 1
 Claims = Kinds.In 4 ps·0 × Kinds.Out 4 ps·0 r·0 × Kinds.In 0 ps·1 × Kinds.Out 0 ps·1 r·1
 abbrev e0 : Row.Entry
 e0 = (0, Rows'.any-gone Laws''.mir)
 abbrev e1 : Row.Entry
-e1 = (1, Mut.mslice RelayPending.row ref4 0)
+e1 = (1, Rows'.sslice RelayPending.row ref0 0)
 abbrev e2 : Row.Entry
-e2 = (2, Mut.mslice RelayCircuit.row ref5 1)
+e2 = (2, Rows'.sslice RelayCircuit.row ref1 1)
 abbrev e3 : Row.Entry
-e3 = (3, Mut.mslice ReservationUsage.row ref6 2)
+e3 = (3, Rows'.sslice ReservationUsage.row ref2 2)
 abbrev e4 : Row.Entry
-e4 = (4, Mut.mslice InflightAction.row ref7 3)
+e4 = (4, Rows'.sslice InflightAction.row ref3 3)
 abbrev e5 : Row.Entry
-e5 = (5, Rows'.sref (Array'.Array (Referent.rtF (Referent.fInt Syntax.w8)) 16) ref8 4)
+e5 = (5, Rows'.sref (Array'.Array (Referent.rtF (Referent.fInt Syntax.w8)) 16) ref4 4)
 abbrev e6 : Row.Entry
 e6 = (6, Rows'.sc-here (Row.sInt Syntax.w64))
 abbrev e7 : Row.Entry
@@ -210,22 +158,6 @@ abbrev e9 : Row.Entry
 e9 = (9, Rows'.any-gone (Syntax.tyArray (Syntax.tyInt Syntax.w8) 16))
 abbrev e10 : Row.Entry
 e10 = (10, Rows'.any-gone Laws'.mir)
-abbrev e11 : Row.Entry
-e11 = (11, Rows'.any-gone ref0)
-abbrev e12 : Row.Entry
-e12 = (12, Rows'.any-gone (Syntax.tyStruct (38 ∷ 91 ∷ 93 ∷ List.[]) (Syntax.tcons ref0 (Syntax.tcons (Syntax.tyInt Syntax.w64) Syntax.tnil))))
-abbrev e13 : Row.Entry
-e13 = (13, Rows'.any-gone ref1)
-abbrev e14 : Row.Entry
-e14 = (14, Rows'.any-gone (Syntax.tyStruct (38 ∷ 91 ∷ 93 ∷ List.[]) (Syntax.tcons ref1 (Syntax.tcons (Syntax.tyInt Syntax.w64) Syntax.tnil))))
-abbrev e15 : Row.Entry
-e15 = (15, Rows'.any-gone ref2)
-abbrev e16 : Row.Entry
-e16 = (16, Rows'.any-gone (Syntax.tyStruct (38 ∷ 91 ∷ 93 ∷ List.[]) (Syntax.tcons ref2 (Syntax.tcons (Syntax.tyInt Syntax.w64) Syntax.tnil))))
-abbrev e17 : Row.Entry
-e17 = (17, Rows'.any-gone ref3)
-abbrev e18 : Row.Entry
-e18 = (18, Rows'.any-gone (Syntax.tyStruct (38 ∷ 91 ∷ 93 ∷ List.[]) (Syntax.tcons ref3 (Syntax.tcons (Syntax.tyInt Syntax.w64) Syntax.tnil))))
 abbrev e0·1 : Row.Entry
 e0·1 = (0, Rows'.whole (Declared.row RelayReply.the-type))
 abbrev e6·1 : Row.Entry
@@ -236,188 +168,70 @@ abbrev e8·1 : Row.Entry
 e8·1 = (8, Rows'.any-gone (Syntax.tyInt Syntax.w64))
 abbrev e9·1 : Row.Entry
 e9·1 = (9, Rows.arrF (Referent.rtF (Referent.fInt Syntax.w8)) 16 0)
-abbrev e1·1 : Row.Entry
-e1·1 = (1, Relend.mslice-owed RelayPending.row ref4 0 5 Row.off)
-abbrev e11·1 : Row.Entry
-e11·1 = (11, Relend.msptr RelayPending.row ref0 5)
-abbrev e12·1 : Row.Entry
-e12·1 = (12, Mut.mslice RelayPending.row ref0 5)
-abbrev e2·1 : Row.Entry
-e2·1 = (2, Relend.mslice-owed RelayCircuit.row ref5 1 6 Row.off)
-abbrev e13·1 : Row.Entry
-e13·1 = (13, Relend.msptr RelayCircuit.row ref1 6)
-abbrev e14·1 : Row.Entry
-e14·1 = (14, Mut.mslice RelayCircuit.row ref1 6)
-abbrev e3·1 : Row.Entry
-e3·1 = (3, Relend.mslice-owed ReservationUsage.row ref6 2 7 Row.off)
-abbrev e15·1 : Row.Entry
-e15·1 = (15, Relend.msptr ReservationUsage.row ref2 7)
-abbrev e16·1 : Row.Entry
-e16·1 = (16, Mut.mslice ReservationUsage.row ref2 7)
-abbrev e4·1 : Row.Entry
-e4·1 = (4, Relend.mslice-owed InflightAction.row ref7 3 8 Row.off)
-abbrev e17·1 : Row.Entry
-e17·1 = (17, Relend.msptr InflightAction.row ref3 8)
-abbrev e18·1 : Row.Entry
-e18·1 = (18, Mut.mslice InflightAction.row ref3 8)
 abbrev e10·1 : Row.Entry
 e10·1 = (10, Rows'.whole (Declared.row Relayed.the-type))
-abbrev e12·2 : Row.Entry
-e12·2 = (12, Mut.msleft RelayPending.row ref0)
-abbrev e14·2 : Row.Entry
-e14·2 = (14, Mut.msleft RelayCircuit.row ref1)
-abbrev e16·2 : Row.Entry
-e16·2 = (16, Mut.msleft ReservationUsage.row ref2)
-abbrev e18·2 : Row.Entry
-e18·2 = (18, Mut.msleft InflightAction.row ref3)
 abbrev pub t0 : List.List Row.Entry
-t0 = e0 ∷ e1 ∷ e2 ∷ e3 ∷ e4 ∷ e5 ∷ e6 ∷ e7 ∷ e8 ∷ e9 ∷ e10 ∷ e11 ∷ e12 ∷ e13 ∷ e14 ∷ e15 ∷ List.[]
+t0 = e0 ∷ e1 ∷ e2 ∷ e3 ∷ e4 ∷ e5 ∷ e6 ∷ e7 ∷ e8 ∷ e9 ∷ e10 ∷ List.[]
 abbrev pub t1 : List.List Row.Entry
-t1 = e16 ∷ e17 ∷ e18 ∷ List.[]
+t1 = e0·1 ∷ e1 ∷ e2 ∷ e3 ∷ e4 ∷ e5 ∷ e6·1 ∷ e7·1 ∷ e8·1 ∷ e9 ∷ e10 ∷ List.[]
 abbrev pub t2 : List.List Row.Entry
-t2 = e0·1 ∷ e1 ∷ e2 ∷ e3 ∷ e4 ∷ e5 ∷ e6·1 ∷ e7·1 ∷ e8·1 ∷ e9 ∷ e10 ∷ e11 ∷ e12 ∷ e13 ∷ e14 ∷ e15 ∷ List.[]
+t2 = e0 ∷ e1 ∷ e2 ∷ e3 ∷ e4 ∷ e5 ∷ e6 ∷ e7 ∷ e8 ∷ e9·1 ∷ e10 ∷ List.[]
 abbrev pub t3 : List.List Row.Entry
-t3 = e0 ∷ e1 ∷ e2 ∷ e3 ∷ e4 ∷ e5 ∷ e6 ∷ e7 ∷ e8 ∷ e9·1 ∷ e10 ∷ e11 ∷ e12 ∷ e13 ∷ e14 ∷ e15 ∷ List.[]
+t3 = e0 ∷ e1 ∷ e2 ∷ e3 ∷ e4 ∷ e5 ∷ e6 ∷ e7 ∷ e8 ∷ e9·1 ∷ e10·1 ∷ List.[]
 abbrev pub t4 : List.List Row.Entry
-t4 = e0 ∷ e1·1 ∷ e2 ∷ e3 ∷ e4 ∷ e5 ∷ e6 ∷ e7 ∷ e8 ∷ e9·1 ∷ e10 ∷ e11·1 ∷ e12 ∷ e13 ∷ e14 ∷ e15 ∷ List.[]
+t4 = e0 ∷ e1 ∷ e2 ∷ e3 ∷ e4 ∷ e5 ∷ e6 ∷ e7·1 ∷ e8 ∷ e9·1 ∷ e10·1 ∷ List.[]
 abbrev pub t5 : List.List Row.Entry
-t5 = e0 ∷ e1·1 ∷ e2 ∷ e3 ∷ e4 ∷ e5 ∷ e6 ∷ e7 ∷ e8 ∷ e9·1 ∷ e10 ∷ e11 ∷ e12·1 ∷ e13 ∷ e14 ∷ e15 ∷ List.[]
+t5 = e0 ∷ e1 ∷ e2 ∷ e3 ∷ e4 ∷ e5 ∷ e6 ∷ e7·1 ∷ e8 ∷ e9 ∷ e10·1 ∷ List.[]
 abbrev pub t6 : List.List Row.Entry
-t6 = e0 ∷ e1·1 ∷ e2·1 ∷ e3 ∷ e4 ∷ e5 ∷ e6 ∷ e7 ∷ e8 ∷ e9·1 ∷ e10 ∷ e11 ∷ e12·1 ∷ e13·1 ∷ e14 ∷ e15 ∷ List.[]
+t6 = e0·1 ∷ e1 ∷ e2 ∷ e3 ∷ e4 ∷ e5 ∷ e6 ∷ e7·1 ∷ e8 ∷ e9 ∷ e10·1 ∷ List.[]
 abbrev pub t7 : List.List Row.Entry
-t7 = e0 ∷ e1·1 ∷ e2·1 ∷ e3 ∷ e4 ∷ e5 ∷ e6 ∷ e7 ∷ e8 ∷ e9·1 ∷ e10 ∷ e11 ∷ e12·1 ∷ e13 ∷ e14·1 ∷ e15 ∷ List.[]
+t7 = e0·1 ∷ e1 ∷ e2 ∷ e3 ∷ e4 ∷ e5 ∷ e6 ∷ e7·1 ∷ e8 ∷ e9 ∷ e10 ∷ List.[]
 abbrev pub t8 : List.List Row.Entry
-t8 = e0 ∷ e1·1 ∷ e2·1 ∷ e3·1 ∷ e4 ∷ e5 ∷ e6 ∷ e7 ∷ e8 ∷ e9·1 ∷ e10 ∷ e11 ∷ e12·1 ∷ e13 ∷ e14·1 ∷ e15·1 ∷ List.[]
-abbrev pub t9 : List.List Row.Entry
-t9 = e0 ∷ e1·1 ∷ e2·1 ∷ e3·1 ∷ e4 ∷ e5 ∷ e6 ∷ e7 ∷ e8 ∷ e9·1 ∷ e10 ∷ e11 ∷ e12·1 ∷ e13 ∷ e14·1 ∷ e15 ∷ List.[]
-abbrev pub t10 : List.List Row.Entry
-t10 = e16·1 ∷ e17 ∷ e18 ∷ List.[]
-abbrev pub t11 : List.List Row.Entry
-t11 = e0 ∷ e1·1 ∷ e2·1 ∷ e3·1 ∷ e4·1 ∷ e5 ∷ e6 ∷ e7 ∷ e8 ∷ e9·1 ∷ e10 ∷ e11 ∷ e12·1 ∷ e13 ∷ e14·1 ∷ e15 ∷ List.[]
-abbrev pub t12 : List.List Row.Entry
-t12 = e16·1 ∷ e17·1 ∷ e18 ∷ List.[]
-abbrev pub t13 : List.List Row.Entry
-t13 = e16·1 ∷ e17 ∷ e18·1 ∷ List.[]
-abbrev pub t14 : List.List Row.Entry
-t14 = e0 ∷ e1·1 ∷ e2·1 ∷ e3·1 ∷ e4·1 ∷ e5 ∷ e6 ∷ e7 ∷ e8 ∷ e9·1 ∷ e10·1 ∷ e11 ∷ e12·2 ∷ e13 ∷ e14·2 ∷ e15 ∷ List.[]
-abbrev pub t15 : List.List Row.Entry
-t15 = e16·2 ∷ e17 ∷ e18·2 ∷ List.[]
-abbrev pub t16 : List.List Row.Entry
-t16 = e0 ∷ e1·1 ∷ e2·1 ∷ e3·1 ∷ e4·1 ∷ e5 ∷ e6 ∷ e7·1 ∷ e8 ∷ e9·1 ∷ e10·1 ∷ e11 ∷ e12·2 ∷ e13 ∷ e14·2 ∷ e15 ∷ List.[]
-abbrev pub t17 : List.List Row.Entry
-t17 = e0 ∷ e1·1 ∷ e2·1 ∷ e3·1 ∷ e4·1 ∷ e5 ∷ e6 ∷ e7·1 ∷ e8 ∷ e9 ∷ e10·1 ∷ e11 ∷ e12·2 ∷ e13 ∷ e14·2 ∷ e15 ∷ List.[]
-abbrev pub t18 : List.List Row.Entry
-t18 = e0 ∷ e1 ∷ e2·1 ∷ e3·1 ∷ e4·1 ∷ e5 ∷ e6 ∷ e7·1 ∷ e8 ∷ e9 ∷ e10·1 ∷ e11 ∷ e12 ∷ e13 ∷ e14·2 ∷ e15 ∷ List.[]
-abbrev pub t19 : List.List Row.Entry
-t19 = e0 ∷ e1 ∷ e2 ∷ e3·1 ∷ e4·1 ∷ e5 ∷ e6 ∷ e7·1 ∷ e8 ∷ e9 ∷ e10·1 ∷ e11 ∷ e12 ∷ e13 ∷ e14 ∷ e15 ∷ List.[]
-abbrev pub t20 : List.List Row.Entry
-t20 = e0 ∷ e1 ∷ e2 ∷ e3 ∷ e4·1 ∷ e5 ∷ e6 ∷ e7·1 ∷ e8 ∷ e9 ∷ e10·1 ∷ e11 ∷ e12 ∷ e13 ∷ e14 ∷ e15 ∷ List.[]
-abbrev pub t21 : List.List Row.Entry
-t21 = e16 ∷ e17 ∷ e18·2 ∷ List.[]
-abbrev pub t22 : List.List Row.Entry
-t22 = e0 ∷ e1 ∷ e2 ∷ e3 ∷ e4 ∷ e5 ∷ e6 ∷ e7·1 ∷ e8 ∷ e9 ∷ e10·1 ∷ e11 ∷ e12 ∷ e13 ∷ e14 ∷ e15 ∷ List.[]
-abbrev pub t23 : List.List Row.Entry
-t23 = e0·1 ∷ e1 ∷ e2 ∷ e3 ∷ e4 ∷ e5 ∷ e6 ∷ e7·1 ∷ e8 ∷ e9 ∷ e10·1 ∷ e11 ∷ e12 ∷ e13 ∷ e14 ∷ e15 ∷ List.[]
-abbrev pub t24 : List.List Row.Entry
-t24 = e0·1 ∷ e1 ∷ e2 ∷ e3 ∷ e4 ∷ e5 ∷ e6 ∷ e7·1 ∷ e8 ∷ e9 ∷ e10 ∷ e11 ∷ e12 ∷ e13 ∷ e14 ∷ e15 ∷ List.[]
-abbrev pub t25 : List.List Row.Entry
-t25 = e0·1 ∷ e1 ∷ e2 ∷ e3 ∷ e4 ∷ e5 ∷ e6·1 ∷ e7·1 ∷ e8 ∷ e9 ∷ e10 ∷ e11 ∷ e12 ∷ e13 ∷ e14 ∷ e15 ∷ List.[]
+t8 = e0·1 ∷ e1 ∷ e2 ∷ e3 ∷ e4 ∷ e5 ∷ e6·1 ∷ e7·1 ∷ e8 ∷ e9 ∷ e10 ∷ List.[]
 abbrev pub T0 : Row.Cx
-T0 = record { locals = List._++_ t0 t1; slots = List.[] }
+T0 = record { locals = t0; slots = List.[] }
 abbrev pub T1 : Row.Cx
-T1 = record { locals = List._++_ t2 t1; slots = List.[] }
+T1 = record { locals = t1; slots = List.[] }
 abbrev pub T2 : Row.Cx
-T2 = record { locals = List._++_ t3 t1; slots = List.[] }
+T2 = record { locals = t2; slots = List.[] }
+abbrev pub T3 : Row.Cx
+T3 = record { locals = t3; slots = List.[] }
 abbrev pub T4 : Row.Cx
-T4 = record { locals = List._++_ t4 t1; slots = List.[] }
+T4 = record { locals = t4; slots = List.[] }
 abbrev pub T5 : Row.Cx
-T5 = record { locals = List._++_ t5 t1; slots = List.[] }
+T5 = record { locals = t5; slots = List.[] }
+abbrev pub T6 : Row.Cx
+T6 = record { locals = t6; slots = List.[] }
 abbrev pub T7 : Row.Cx
-T7 = record { locals = List._++_ t6 t1; slots = List.[] }
+T7 = record { locals = t7; slots = List.[] }
 abbrev pub T8 : Row.Cx
-T8 = record { locals = List._++_ t7 t1; slots = List.[] }
-abbrev pub T10 : Row.Cx
-T10 = record { locals = List._++_ t8 t1; slots = List.[] }
-abbrev pub T11 : Row.Cx
-T11 = record { locals = List._++_ t9 t10; slots = List.[] }
-abbrev pub T13 : Row.Cx
-T13 = record { locals = List._++_ t11 t12; slots = List.[] }
-abbrev pub T14 : Row.Cx
-T14 = record { locals = List._++_ t11 t13; slots = List.[] }
-abbrev pub T15 : Row.Cx
-T15 = record { locals = List._++_ t14 t15; slots = List.[] }
-abbrev pub T16 : Row.Cx
-T16 = record { locals = List._++_ t16 t15; slots = List.[] }
-abbrev pub T17 : Row.Cx
-T17 = record { locals = List._++_ t17 t15; slots = List.[] }
-abbrev pub T19 : Row.Cx
-T19 = record { locals = List._++_ t18 t15; slots = List.[] }
-abbrev pub T22 : Row.Cx
-T22 = record { locals = List._++_ t19 t15; slots = List.[] }
-abbrev pub T25 : Row.Cx
-T25 = record { locals = List._++_ t20 t21; slots = List.[] }
-abbrev pub T28 : Row.Cx
-T28 = record { locals = List._++_ t22 t1; slots = List.[] }
-abbrev pub T30 : Row.Cx
-T30 = record { locals = List._++_ t23 t1; slots = List.[] }
-abbrev pub T31 : Row.Cx
-T31 = record { locals = List._++_ t24 t1; slots = List.[] }
-abbrev pub T32 : Row.Cx
-T32 = record { locals = List._++_ t25 t1; slots = List.[] }
-abbrev pub T33 : Row.Cx
-T33 = record { locals = List._++_ t2 t1; slots = List.[] }
+T8 = record { locals = t8; slots = List.[] }
+abbrev pub T9 : Row.Cx
+T9 = record { locals = t1; slots = List.[] }
 abbrev pub O0 : Typed.Outs
 O0 = record { next = Option.none; exits = List.[]; returns = Option.some T1 }
 module _ (claims· : Claims) where
   abbrev s0 : Typed.Gives T0 T2
   s0 = DerefMove.k-ref-read-copy T0 5 9 4 (Array'.Array (Referent.rtF (Referent.fInt Syntax.w8)) 16) (Rows'.sref (Array'.Array (Referent.rtF
-      (Referent.fInt Syntax.w8)) 16) ref8 4) Row.off (Rows.arrF (Referent.rtF (Referent.fInt Syntax.w8)) 16 0) (λ x. x) (λ x. x) (λ x. x) λ x. Unit
-  abbrev s2 : Typed.Gives T2 T4
-  s2 = Relend.k-sl-relend RelayPending.row T2 1 11 0 5 ref4 ref0 Row.off λ x. x
-  abbrev s3 : Typed.Asks T4 T5
-  s3 = Relend.k-sl-aggregate RelayPending.row (Relend.asMut RelayPending.row) T4 11 12 5 ref0 ref0 (λ x. x) (Scalar.oFld 1 ((Syntax.field 1) ∷
-      List.[]) (Syntax.tyInt Syntax.w64) 8 λ v. Shared.lenV (v .0))
-  abbrev s5 : Typed.Gives T5 T7
-  s5 = Relend.k-sl-relend RelayCircuit.row T5 2 13 1 6 ref5 ref1 Row.off λ x. x
-  abbrev s6 : Typed.Asks T7 T8
-  s6 = Relend.k-sl-aggregate RelayCircuit.row (Relend.asMut RelayCircuit.row) T7 13 14 6 ref1 ref1 (λ x. x) (Scalar.oFld 2 ((Syntax.field 1) ∷
-      List.[]) (Syntax.tyInt Syntax.w64) 8 λ v. Shared.lenV (v .0))
-  abbrev s8 : Typed.Gives T8 T10
-  s8 = Relend.k-sl-relend ReservationUsage.row T8 3 15 2 7 ref6 ref2 Row.off λ x. x
-  abbrev s9 : Typed.Asks T10 T11
-  s9 = Relend.k-sl-aggregate ReservationUsage.row (Relend.asMut ReservationUsage.row) T10 15 16 7 ref2 ref2 (λ x. x) (Scalar.oFld 3 ((Syntax.field 1)
-      ∷ List.[]) (Syntax.tyInt Syntax.w64) 8 λ v. Shared.lenV (v .0))
-  abbrev s11 : Typed.Gives T11 T13
-  s11 = Relend.k-sl-relend InflightAction.row T11 4 17 3 8 ref7 ref3 Row.off λ x. x
-  abbrev s12 : Typed.Asks T13 T14
-  s12 = Relend.k-sl-aggregate InflightAction.row (Relend.asMut InflightAction.row) T13 17 18 8 ref3 ref3 (λ x. x) (Scalar.oFld 4 ((Syntax.field 1) ∷
-      List.[]) (Syntax.tyInt Syntax.w64) 8 λ v. Shared.lenV (v .0))
-  abbrev s13 : Typed.Both T14 T15
-  s13 = Call.callB ps·0 r·0 (claims· .0) (claims· .1) T14 (record { pos = 12; ty = Syntax.tyRef Syntax.erased Syntax.mut RelayPending.to; ref = λ x.
-      x; }, (record { pos = 14; ty = Syntax.tyRef Syntax.erased Syntax.mut RelayCircuit.to; ref = λ x. x; }, (record { pos = 16; ty = Syntax.tyRef
-      Syntax.erased Syntax.mut ReservationUsage.to; ref = λ x. x; }, (record { pos = 18; ty = Syntax.tyRef Syntax.erased Syntax.mut InflightAction.to;
-      ref = λ x. x; }, (record { pos = 9; st = List.[]; d = 0; at = λ x. x }, (Num.vAt 6 λ x. x, (record { pos = 7; st = List.[]; d = 0; at = λ x. x
-      }, (Num.vAt 8 λ x. x, tt)),),),),),),) 10 (5 ∷ 6 ∷ 7 ∷ 8 ∷ List.[]) Laws'.mir
-  abbrev s14 : Typed.Mo T15 → Typed.Mo T16
-  s14 = Scalar.n-room T15 7 Laws.mir
-  abbrev s15 : Typed.Mo T16 → Typed.Mo T17
-  s15 = Scalar.n-room T16 9 (Syntax.tyArray (Syntax.tyInt Syntax.w8) 16)
-  abbrev s17 : Typed.Both T17 T19
-  s17 = Relend.k-back-sl RelayPending.row T17 12 1 0 5 ref4 ref0 Row.off (λ x. x) λ x. x
-  abbrev s20 : Typed.Both T19 T22
-  s20 = Relend.k-back-sl RelayCircuit.row T19 14 2 1 6 ref5 ref1 Row.off (λ x. x) λ x. x
-  abbrev s23 : Typed.Both T22 T25
-  s23 = Relend.k-back-sl ReservationUsage.row T22 16 3 2 7 ref6 ref2 Row.off (λ x. x) λ x. x
-  abbrev s26 : Typed.Both T25 T28
-  s26 = Relend.k-back-sl InflightAction.row T25 18 4 3 8 ref7 ref3 Row.off (λ x. x) λ x. x
-  abbrev s28 : Typed.Both T28 T30
-  s28 = Call.callB ps·1 r·1 (claims· .2) (claims· .3) T28 (record { pos = 10; st = List.[]; d = 0; at = λ x. x }, tt,) 0 List.[] Laws''.mir
-  abbrev s29 : Typed.Mo T30 → Typed.Mo T31
-  s29 = Scalar.n-room T30 10 Laws'.mir
-  abbrev s30 : Typed.Mo T31 → Typed.Mo T32
-  s30 = Scalar.n-room T31 6 (Syntax.tyInt Syntax.w64)
-  abbrev s31 : Typed.Mo T32 → Typed.Mo T33
-  s31 = Scalar.n-room T32 8 (Syntax.tyInt Syntax.w64)
+      (Referent.fInt Syntax.w8)) 16) ref4 4) Row.off (Rows.arrF (Referent.rtF (Referent.fInt Syntax.w8)) 16 0) (λ x. x) (λ x. x) (λ x. x) λ x. Unit
+  abbrev s1 : Typed.Both T2 T3
+  s1 = Call.callB ps·0 r·0 (claims· .0) (claims· .1) T2 (record { pos = 1; ty = Syntax.tyRef (Syntax.named 0) Syntax.imm RelayPending.to; ref = λ x.
+      x; }, (record { pos = 2; ty = Syntax.tyRef (Syntax.named 1) Syntax.imm RelayCircuit.to; ref = λ x. x; }, (record { pos = 3; ty = Syntax.tyRef
+      (Syntax.named 2) Syntax.imm ReservationUsage.to; ref = λ x. x; }, (record { pos = 4; ty = Syntax.tyRef (Syntax.named 3) Syntax.imm
+      InflightAction.to; ref = λ x. x; }, (record { pos = 9; st = List.[]; d = 0; at = λ x. x }, (Num.vAt 6 λ x. x, (record { pos = 7; st = List.[]; d
+      = 0; at = λ x. x }, (Num.vAt 8 λ x. x, tt)),),),),),),) 10 (0 ∷ 1 ∷ 2 ∷ 3 ∷ List.[]) Laws'.mir
+  abbrev s2 : Typed.Mo T3 → Typed.Mo T4
+  s2 = Scalar.n-room T3 7 Laws.mir
+  abbrev s3 : Typed.Mo T4 → Typed.Mo T5
+  s3 = Scalar.n-room T4 9 (Syntax.tyArray (Syntax.tyInt Syntax.w8) 16)
+  abbrev s4 : Typed.Both T5 T6
+  s4 = Call.callB ps·1 r·1 (claims· .2) (claims· .3) T5 (record { pos = 10; st = List.[]; d = 0; at = λ x. x }, tt,) 0 List.[] Laws''.mir
+  abbrev s5 : Typed.Mo T6 → Typed.Mo T7
+  s5 = Scalar.n-room T6 10 Laws'.mir
+  abbrev s6 : Typed.Mo T7 → Typed.Mo T8
+  s6 = Scalar.n-room T7 6 (Syntax.tyInt Syntax.w64)
+  abbrev s7 : Typed.Mo T8 → Typed.Mo T9
+  s7 = Scalar.n-room T8 8 (Syntax.tyInt Syntax.w64)
   module _ (Pre· : (κs : Lifetimes.Lfts 5) → Kinds.Dens κs ps → Type 0) (Post· : (κs : Lifetimes.Lfts 5) → (a : Kinds.Dens κs ps) → Kinds.Plain 5 ps r
       κs) where
     module _ (M : Type 1) where
@@ -427,74 +241,26 @@ module _ (claims· : Claims) where
           "lekchnam::relay::reply") → Statement.Triple 𝓤 (Wp.WpFn 𝓤 H (𝓣 .C) (𝓣 .Λ) (Function.fnOf 5 ps r xs m hs body)) (Function.plainOf 𝓤 H A 5 ps
           r Pre· Post·)
     module _ where
-      abbrev at0 : Typed.TF T33 O0
+      abbrev at0 : Typed.TF T9 O0
       at0 = Typed.atRet O0
-      abbrev at1 : Typed.TF T32 O0
-      at1 = λ Ψ. Typed.pass T32 T33 s31 (at0 Ψ)
-      abbrev at2 : Typed.TF T31 O0
-      at2 = λ Ψ. Typed.pass T31 T32 s30 (at1 Ψ)
-      abbrev at3 : Typed.TF T30 O0
-      at3 = λ Ψ. Typed.pass T30 T31 s29 (at2 Ψ)
-      abbrev at4 : Typed.TF T28 O0
-      at4 = λ Ψ. Typed.both s28 (at3 Ψ)
-      abbrev at5 : Typed.TF T28 O0
-      at5 = λ Ψ. at4 Ψ
-      abbrev at6 : Typed.TF T25 O0
-      at6 = λ Ψ. Typed.both s26 (at5 Ψ)
-      abbrev at7 : Typed.TF T25 O0
-      at7 = λ Ψ. at6 Ψ
-      abbrev at8 : Typed.TF T25 O0
-      at8 = λ Ψ. at7 Ψ
-      abbrev at9 : Typed.TF T22 O0
-      at9 = λ Ψ. Typed.both s23 (at8 Ψ)
-      abbrev at10 : Typed.TF T22 O0
-      at10 = λ Ψ. at9 Ψ
-      abbrev at11 : Typed.TF T22 O0
-      at11 = λ Ψ. at10 Ψ
-      abbrev at12 : Typed.TF T19 O0
-      at12 = λ Ψ. Typed.both s20 (at11 Ψ)
-      abbrev at13 : Typed.TF T19 O0
-      at13 = λ Ψ. at12 Ψ
-      abbrev at14 : Typed.TF T19 O0
-      at14 = λ Ψ. at13 Ψ
-      abbrev at15 : Typed.TF T17 O0
-      at15 = λ Ψ. Typed.both s17 (at14 Ψ)
-      abbrev at16 : Typed.TF T17 O0
-      at16 = λ Ψ. at15 Ψ
-      abbrev at17 : Typed.TF T16 O0
-      at17 = λ Ψ. Typed.pass T16 T17 s15 (at16 Ψ)
-      abbrev at18 : Typed.TF T15 O0
-      at18 = λ Ψ. Typed.pass T15 T16 s14 (at17 Ψ)
-      abbrev at19 : Typed.TF T14 O0
-      at19 = λ Ψ. Typed.both s13 (at18 Ψ)
-      abbrev at20 : Typed.TF T13 O0
-      at20 = λ Ψ. Typed.ask s12 (at19 Ψ)
-      abbrev at21 : Typed.TF T11 O0
-      at21 = λ Ψ. Typed.give s11 (at20 Ψ)
-      abbrev at22 : Typed.TF T11 O0
-      at22 = λ Ψ. at21 Ψ
-      abbrev at23 : Typed.TF T10 O0
-      at23 = λ Ψ. Typed.ask s9 (at22 Ψ)
-      abbrev at24 : Typed.TF T8 O0
-      at24 = λ Ψ. Typed.give s8 (at23 Ψ)
-      abbrev at25 : Typed.TF T8 O0
-      at25 = λ Ψ. at24 Ψ
-      abbrev at26 : Typed.TF T7 O0
-      at26 = λ Ψ. Typed.ask s6 (at25 Ψ)
-      abbrev at27 : Typed.TF T5 O0
-      at27 = λ Ψ. Typed.give s5 (at26 Ψ)
-      abbrev at28 : Typed.TF T5 O0
-      at28 = λ Ψ. at27 Ψ
-      abbrev at29 : Typed.TF T4 O0
-      at29 = λ Ψ. Typed.ask s3 (at28 Ψ)
-      abbrev at30 : Typed.TF T2 O0
-      at30 = λ Ψ. Typed.give s2 (at29 Ψ)
-      abbrev at31 : Typed.TF T2 O0
-      at31 = λ Ψ. at30 Ψ
-      abbrev at32 : Typed.TF T0 O0
-      at32 = λ Ψ. Typed.give s0 (at31 Ψ)
+      abbrev at1 : Typed.TF T8 O0
+      at1 = λ Ψ. Typed.pass T8 T9 s7 (at0 Ψ)
+      abbrev at2 : Typed.TF T7 O0
+      at2 = λ Ψ. Typed.pass T7 T8 s6 (at1 Ψ)
+      abbrev at3 : Typed.TF T6 O0
+      at3 = λ Ψ. Typed.pass T6 T7 s5 (at2 Ψ)
+      abbrev at4 : Typed.TF T5 O0
+      at4 = λ Ψ. Typed.both s4 (at3 Ψ)
+      abbrev at5 : Typed.TF T4 O0
+      at5 = λ Ψ. Typed.pass T4 T5 s3 (at4 Ψ)
+      abbrev at6 : Typed.TF T3 O0
+      at6 = λ Ψ. Typed.pass T3 T4 s2 (at5 Ψ)
+      abbrev at7 : Typed.TF T2 O0
+      at7 = λ Ψ. Typed.both s1 (at6 Ψ)
+      abbrev at8 : Typed.TF T0 O0
+      at8 = λ Ψ. Typed.give s0 (at7 Ψ)
       abbrev pub Φ : Typed.TF T0 O0
-      Φ = at32
+      Φ = at8
       module _ { M : Type 1 } (𝓤 : URA.URA M) (H : Wp.Heap 𝓤) (A : Atoms.Atoms 𝓤) (W : Kit.Given 𝓤 H A) (𝓣 : Wp.Tables 𝓤 H) where
         abbrev Knowns : Type 1
         Knowns = Plain.Known 𝓤 H A W 𝓣 4 ps·0 r·0 (claims· .0) (claims· .1) "hnsr_circuit::calls::new" × Plain.Known 𝓤 H A W 𝓣 0 ps·1 r·1 (claims· .2)
@@ -510,345 +276,93 @@ module _ (claims· : Claims) where
         life3 = Row.lease (κs .1 .1 .1 .0) (qs .1 .1 .1 .0)
         abbrev life4 : Row.Life
         life4 = Row.lease (κs .1 .1 .1 .1 .0) (qs .1 .1 .1 .1 .0)
-        abbrev g4 : List.List Row.Entry
-        g4 = (0, Rows'.any-gone Laws''.mir,) ∷ (1, Relend.mslice-owed RelayPending.row ref4 0 5 life0,) ∷ (2, Mut.mslice RelayCircuit.row ref5 1,) ∷
-            (3, Mut.mslice ReservationUsage.row ref6 2,) ∷ (4, Mut.mslice InflightAction.row ref7 3,) ∷ (5, Rows'.sref (Array'.Array (Referent.rtF
-            (Referent.fInt Syntax.w8)) 16) ref8 4,) ∷ (6, Rows'.sc-here (Row.sInt Syntax.w64)) ∷ (7, Rows'.whole (Declared.row
-            OpaqueRelayConfig.the-type),) ∷ (8, Rows'.sc-here (Row.sInt Syntax.w64)) ∷ (9, Rows.arrF (Referent.rtF (Referent.fInt Syntax.w8)) 16 0,) ∷
-            (10, Rows'.any-gone Laws'.mir,) ∷ (11, Relend.msptr RelayPending.row ref0 5,) ∷ (12, Rows'.any-gone (Syntax.tyStruct (38 ∷ 91 ∷ 93 ∷
-            List.[]) (Syntax.tcons ref0 (Syntax.tcons (Syntax.tyInt Syntax.w64) Syntax.tnil))),) ∷ (13, Rows'.any-gone ref1,) ∷ (14, Rows'.any-gone
-            (Syntax.tyStruct (38 ∷ 91 ∷ 93 ∷ List.[]) (Syntax.tcons ref1 (Syntax.tcons (Syntax.tyInt Syntax.w64) Syntax.tnil))),) ∷ (15,
-            Rows'.any-gone ref2,) ∷ List.[]
-        abbrev g5 : List.List Row.Entry
-        g5 = (0, Rows'.any-gone Laws''.mir,) ∷ (1, Relend.mslice-owed RelayPending.row ref4 0 5 life0,) ∷ (2, Mut.mslice RelayCircuit.row ref5 1,) ∷
-            (3, Mut.mslice ReservationUsage.row ref6 2,) ∷ (4, Mut.mslice InflightAction.row ref7 3,) ∷ (5, Rows'.sref (Array'.Array (Referent.rtF
-            (Referent.fInt Syntax.w8)) 16) ref8 4,) ∷ (6, Rows'.sc-here (Row.sInt Syntax.w64)) ∷ (7, Rows'.whole (Declared.row
-            OpaqueRelayConfig.the-type),) ∷ (8, Rows'.sc-here (Row.sInt Syntax.w64)) ∷ (9, Rows.arrF (Referent.rtF (Referent.fInt Syntax.w8)) 16 0,) ∷
-            (10, Rows'.any-gone Laws'.mir,) ∷ (11, Rows'.any-gone ref0,) ∷ (12, Mut.mslice RelayPending.row ref0 5,) ∷ (13, Rows'.any-gone ref1,) ∷
-            (14, Rows'.any-gone (Syntax.tyStruct (38 ∷ 91 ∷ 93 ∷ List.[]) (Syntax.tcons ref1 (Syntax.tcons (Syntax.tyInt Syntax.w64) Syntax.tnil))),)
-            ∷ (15, Rows'.any-gone ref2,) ∷ List.[]
-        abbrev g6 : List.List Row.Entry
-        g6 = (0, Rows'.any-gone Laws''.mir,) ∷ (1, Relend.mslice-owed RelayPending.row ref4 0 5 life0,) ∷ (2, Relend.mslice-owed RelayCircuit.row ref5
-            1 6 life1,) ∷ (3, Mut.mslice ReservationUsage.row ref6 2,) ∷ (4, Mut.mslice InflightAction.row ref7 3,) ∷ (5, Rows'.sref (Array'.Array
-            (Referent.rtF (Referent.fInt Syntax.w8)) 16) ref8 4,) ∷ (6, Rows'.sc-here (Row.sInt Syntax.w64)) ∷ (7, Rows'.whole (Declared.row
-            OpaqueRelayConfig.the-type),) ∷ (8, Rows'.sc-here (Row.sInt Syntax.w64)) ∷ (9, Rows.arrF (Referent.rtF (Referent.fInt Syntax.w8)) 16 0,) ∷
-            (10, Rows'.any-gone Laws'.mir,) ∷ (11, Rows'.any-gone ref0,) ∷ (12, Mut.mslice RelayPending.row ref0 5,) ∷ (13, Relend.msptr
-            RelayCircuit.row ref1 6,) ∷ (14, Rows'.any-gone (Syntax.tyStruct (38 ∷ 91 ∷ 93 ∷ List.[]) (Syntax.tcons ref1 (Syntax.tcons (Syntax.tyInt
-            Syntax.w64) Syntax.tnil))),) ∷ (15, Rows'.any-gone ref2,) ∷ List.[]
-        abbrev g7 : List.List Row.Entry
-        g7 = (0, Rows'.any-gone Laws''.mir,) ∷ (1, Relend.mslice-owed RelayPending.row ref4 0 5 life0,) ∷ (2, Relend.mslice-owed RelayCircuit.row ref5
-            1 6 life1,) ∷ (3, Mut.mslice ReservationUsage.row ref6 2,) ∷ (4, Mut.mslice InflightAction.row ref7 3,) ∷ (5, Rows'.sref (Array'.Array
-            (Referent.rtF (Referent.fInt Syntax.w8)) 16) ref8 4,) ∷ (6, Rows'.sc-here (Row.sInt Syntax.w64)) ∷ (7, Rows'.whole (Declared.row
-            OpaqueRelayConfig.the-type),) ∷ (8, Rows'.sc-here (Row.sInt Syntax.w64)) ∷ (9, Rows.arrF (Referent.rtF (Referent.fInt Syntax.w8)) 16 0,) ∷
-            (10, Rows'.any-gone Laws'.mir,) ∷ (11, Rows'.any-gone ref0,) ∷ (12, Mut.mslice RelayPending.row ref0 5,) ∷ (13, Rows'.any-gone ref1,) ∷
-            (14, Mut.mslice RelayCircuit.row ref1 6,) ∷ (15, Rows'.any-gone ref2,) ∷ List.[]
-        abbrev g8 : List.List Row.Entry
-        g8 = (0, Rows'.any-gone Laws''.mir,) ∷ (1, Relend.mslice-owed RelayPending.row ref4 0 5 life0,) ∷ (2, Relend.mslice-owed RelayCircuit.row ref5
-            1 6 life1,) ∷ (3, Relend.mslice-owed ReservationUsage.row ref6 2 7 life2,) ∷ (4, Mut.mslice InflightAction.row ref7 3,) ∷ (5, Rows'.sref
-            (Array'.Array (Referent.rtF (Referent.fInt Syntax.w8)) 16) ref8 4,) ∷ (6, Rows'.sc-here (Row.sInt Syntax.w64)) ∷ (7, Rows'.whole
-            (Declared.row OpaqueRelayConfig.the-type),) ∷ (8, Rows'.sc-here (Row.sInt Syntax.w64)) ∷ (9, Rows.arrF (Referent.rtF (Referent.fInt
-            Syntax.w8)) 16 0,) ∷ (10, Rows'.any-gone Laws'.mir,) ∷ (11, Rows'.any-gone ref0,) ∷ (12, Mut.mslice RelayPending.row ref0 5,) ∷ (13,
-            Rows'.any-gone ref1,) ∷ (14, Mut.mslice RelayCircuit.row ref1 6,) ∷ (15, Relend.msptr ReservationUsage.row ref2 7,) ∷ List.[]
-        abbrev g9 : List.List Row.Entry
-        g9 = (0, Rows'.any-gone Laws''.mir,) ∷ (1, Relend.mslice-owed RelayPending.row ref4 0 5 life0,) ∷ (2, Relend.mslice-owed RelayCircuit.row ref5
-            1 6 life1,) ∷ (3, Relend.mslice-owed ReservationUsage.row ref6 2 7 life2,) ∷ (4, Mut.mslice InflightAction.row ref7 3,) ∷ (5, Rows'.sref
-            (Array'.Array (Referent.rtF (Referent.fInt Syntax.w8)) 16) ref8 4,) ∷ (6, Rows'.sc-here (Row.sInt Syntax.w64)) ∷ (7, Rows'.whole
-            (Declared.row OpaqueRelayConfig.the-type),) ∷ (8, Rows'.sc-here (Row.sInt Syntax.w64)) ∷ (9, Rows.arrF (Referent.rtF (Referent.fInt
-            Syntax.w8)) 16 0,) ∷ (10, Rows'.any-gone Laws'.mir,) ∷ (11, Rows'.any-gone ref0,) ∷ (12, Mut.mslice RelayPending.row ref0 5,) ∷ (13,
-            Rows'.any-gone ref1,) ∷ (14, Mut.mslice RelayCircuit.row ref1 6,) ∷ (15, Rows'.any-gone ref2,) ∷ List.[]
-        abbrev g11 : List.List Row.Entry
-        g11 = (0, Rows'.any-gone Laws''.mir,) ∷ (1, Relend.mslice-owed RelayPending.row ref4 0 5 life0,) ∷ (2, Relend.mslice-owed RelayCircuit.row
-            ref5 1 6 life1,) ∷ (3, Relend.mslice-owed ReservationUsage.row ref6 2 7 life2,) ∷ (4, Relend.mslice-owed InflightAction.row ref7 3 8
-            life3,) ∷ (5, Rows'.sref (Array'.Array (Referent.rtF (Referent.fInt Syntax.w8)) 16) ref8 4,) ∷ (6, Rows'.sc-here (Row.sInt Syntax.w64)) ∷
-            (7, Rows'.whole (Declared.row OpaqueRelayConfig.the-type),) ∷ (8, Rows'.sc-here (Row.sInt Syntax.w64)) ∷ (9, Rows.arrF (Referent.rtF
-            (Referent.fInt Syntax.w8)) 16 0,) ∷ (10, Rows'.any-gone Laws'.mir,) ∷ (11, Rows'.any-gone ref0,) ∷ (12, Mut.mslice RelayPending.row ref0
-            5,) ∷ (13, Rows'.any-gone ref1,) ∷ (14, Mut.mslice RelayCircuit.row ref1 6,) ∷ (15, Rows'.any-gone ref2,) ∷ List.[]
-        abbrev g14 : List.List Row.Entry
-        g14 = (0, Rows'.any-gone Laws''.mir,) ∷ (1, Relend.mslice-owed RelayPending.row ref4 0 5 life0,) ∷ (2, Relend.mslice-owed RelayCircuit.row
-            ref5 1 6 life1,) ∷ (3, Relend.mslice-owed ReservationUsage.row ref6 2 7 life2,) ∷ (4, Relend.mslice-owed InflightAction.row ref7 3 8
-            life3,) ∷ (5, Rows'.sref (Array'.Array (Referent.rtF (Referent.fInt Syntax.w8)) 16) ref8 4,) ∷ (6, Rows'.sc-here (Row.sInt Syntax.w64)) ∷
-            (7, Rows'.whole (Declared.row OpaqueRelayConfig.the-type),) ∷ (8, Rows'.sc-here (Row.sInt Syntax.w64)) ∷ (9, Rows.arrF (Referent.rtF
-            (Referent.fInt Syntax.w8)) 16 0,) ∷ (10, Rows'.whole (Declared.row Relayed.the-type)) ∷ (11, Rows'.any-gone ref0,) ∷ (12, Mut.msleft
-            RelayPending.row ref0,) ∷ (13, Rows'.any-gone ref1,) ∷ (14, Mut.msleft RelayCircuit.row ref1,) ∷ (15, Rows'.any-gone ref2,) ∷ List.[]
-        abbrev g16 : List.List Row.Entry
-        g16 = (0, Rows'.any-gone Laws''.mir,) ∷ (1, Relend.mslice-owed RelayPending.row ref4 0 5 life0,) ∷ (2, Relend.mslice-owed RelayCircuit.row
-            ref5 1 6 life1,) ∷ (3, Relend.mslice-owed ReservationUsage.row ref6 2 7 life2,) ∷ (4, Relend.mslice-owed InflightAction.row ref7 3 8
-            life3,) ∷ (5, Rows'.sref (Array'.Array (Referent.rtF (Referent.fInt Syntax.w8)) 16) ref8 4,) ∷ (6, Rows'.sc-here (Row.sInt Syntax.w64)) ∷
-            (7, Rows'.any-gone Laws.mir,) ∷ (8, Rows'.sc-here (Row.sInt Syntax.w64)) ∷ (9, Rows.arrF (Referent.rtF (Referent.fInt Syntax.w8)) 16 0,) ∷
-            (10, Rows'.whole (Declared.row Relayed.the-type)) ∷ (11, Rows'.any-gone ref0,) ∷ (12, Mut.msleft RelayPending.row ref0,) ∷ (13,
-            Rows'.any-gone ref1,) ∷ (14, Mut.msleft RelayCircuit.row ref1,) ∷ (15, Rows'.any-gone ref2,) ∷ List.[]
-        abbrev g17 : List.List Row.Entry
-        g17 = (0, Rows'.any-gone Laws''.mir,) ∷ (1, Relend.mslice-owed RelayPending.row ref4 0 5 life0,) ∷ (2, Relend.mslice-owed RelayCircuit.row
-            ref5 1 6 life1,) ∷ (3, Relend.mslice-owed ReservationUsage.row ref6 2 7 life2,) ∷ (4, Relend.mslice-owed InflightAction.row ref7 3 8
-            life3,) ∷ (5, Rows'.sref (Array'.Array (Referent.rtF (Referent.fInt Syntax.w8)) 16) ref8 4,) ∷ (6, Rows'.sc-here (Row.sInt Syntax.w64)) ∷
-            (7, Rows'.any-gone Laws.mir,) ∷ (8, Rows'.sc-here (Row.sInt Syntax.w64)) ∷ (9, Rows'.any-gone (Syntax.tyArray (Syntax.tyInt Syntax.w8)
-            16),) ∷ (10, Rows'.whole (Declared.row Relayed.the-type)) ∷ (11, Rows'.any-gone ref0,) ∷ (12, Mut.msleft RelayPending.row ref0,) ∷ (13,
-            Rows'.any-gone ref1,) ∷ (14, Mut.msleft RelayCircuit.row ref1,) ∷ (15, Rows'.any-gone ref2,) ∷ List.[]
-        abbrev g18 : List.List Row.Entry
-        g18 = (0, Rows'.any-gone Laws''.mir,) ∷ (1, Mut.mslice RelayPending.row ref4 0,) ∷ (2, Relend.mslice-owed RelayCircuit.row ref5 1 6 life1,) ∷
-            (3, Relend.mslice-owed ReservationUsage.row ref6 2 7 life2,) ∷ (4, Relend.mslice-owed InflightAction.row ref7 3 8 life3,) ∷ (5, Rows'.sref
-            (Array'.Array (Referent.rtF (Referent.fInt Syntax.w8)) 16) ref8 4,) ∷ (6, Rows'.sc-here (Row.sInt Syntax.w64)) ∷ (7, Rows'.any-gone
-            Laws.mir,) ∷ (8, Rows'.sc-here (Row.sInt Syntax.w64)) ∷ (9, Rows'.any-gone (Syntax.tyArray (Syntax.tyInt Syntax.w8) 16),) ∷ (10,
-            Rows'.whole (Declared.row Relayed.the-type)) ∷ (11, Rows'.any-gone ref0,) ∷ (12, Rows'.any-gone (Syntax.tyStruct (38 ∷ 91 ∷ 93 ∷ List.[])
-            (Syntax.tcons ref0 (Syntax.tcons (Syntax.tyInt Syntax.w64) Syntax.tnil))),) ∷ (13, Rows'.any-gone ref1,) ∷ (14, Mut.msleft
-            RelayCircuit.row ref1,) ∷ (15, Rows'.any-gone ref2,) ∷ List.[]
-        abbrev g19 : List.List Row.Entry
-        g19 = (0, Rows'.any-gone Laws''.mir,) ∷ (1, Mut.mslice RelayPending.row ref4 0,) ∷ (2, Mut.mslice RelayCircuit.row ref5 1,) ∷ (3,
-            Relend.mslice-owed ReservationUsage.row ref6 2 7 life2,) ∷ (4, Relend.mslice-owed InflightAction.row ref7 3 8 life3,) ∷ (5, Rows'.sref
-            (Array'.Array (Referent.rtF (Referent.fInt Syntax.w8)) 16) ref8 4,) ∷ (6, Rows'.sc-here (Row.sInt Syntax.w64)) ∷ (7, Rows'.any-gone
-            Laws.mir,) ∷ (8, Rows'.sc-here (Row.sInt Syntax.w64)) ∷ (9, Rows'.any-gone (Syntax.tyArray (Syntax.tyInt Syntax.w8) 16),) ∷ (10,
-            Rows'.whole (Declared.row Relayed.the-type)) ∷ (11, Rows'.any-gone ref0,) ∷ (12, Rows'.any-gone (Syntax.tyStruct (38 ∷ 91 ∷ 93 ∷ List.[])
-            (Syntax.tcons ref0 (Syntax.tcons (Syntax.tyInt Syntax.w64) Syntax.tnil))),) ∷ (13, Rows'.any-gone ref1,) ∷ (14, Rows'.any-gone
-            (Syntax.tyStruct (38 ∷ 91 ∷ 93 ∷ List.[]) (Syntax.tcons ref1 (Syntax.tcons (Syntax.tyInt Syntax.w64) Syntax.tnil))),) ∷ (15,
-            Rows'.any-gone ref2,) ∷ List.[]
-        abbrev g20 : List.List Row.Entry
-        g20 = (0, Rows'.any-gone Laws''.mir,) ∷ (1, Mut.mslice RelayPending.row ref4 0,) ∷ (2, Mut.mslice RelayCircuit.row ref5 1,) ∷ (3, Mut.mslice
-            ReservationUsage.row ref6 2,) ∷ (4, Relend.mslice-owed InflightAction.row ref7 3 8 life3,) ∷ (5, Rows'.sref (Array'.Array (Referent.rtF
-            (Referent.fInt Syntax.w8)) 16) ref8 4,) ∷ (6, Rows'.sc-here (Row.sInt Syntax.w64)) ∷ (7, Rows'.any-gone Laws.mir,) ∷ (8, Rows'.sc-here
-            (Row.sInt Syntax.w64)) ∷ (9, Rows'.any-gone (Syntax.tyArray (Syntax.tyInt Syntax.w8) 16),) ∷ (10, Rows'.whole (Declared.row
-            Relayed.the-type)) ∷ (11, Rows'.any-gone ref0,) ∷ (12, Rows'.any-gone (Syntax.tyStruct (38 ∷ 91 ∷ 93 ∷ List.[]) (Syntax.tcons ref0
-            (Syntax.tcons (Syntax.tyInt Syntax.w64) Syntax.tnil))),) ∷ (13, Rows'.any-gone ref1,) ∷ (14, Rows'.any-gone (Syntax.tyStruct (38 ∷ 91 ∷ 93
-            ∷ List.[]) (Syntax.tcons ref1 (Syntax.tcons (Syntax.tyInt Syntax.w64) Syntax.tnil))),) ∷ (15, Rows'.any-gone ref2,) ∷ List.[]
         abbrev G0 : Row.Cx
-        G0 = record { locals = List._++_ t0 t1; slots = life0 ∷ life1 ∷ life2 ∷ life3 ∷ life4 ∷ Row.off ∷ Row.off ∷ Row.off ∷ Row.off ∷ List.[]; }
+        G0 = record { locals = t0; slots = life0 ∷ life1 ∷ life2 ∷ life3 ∷ life4 ∷ List.[]; }
         abbrev G1 : Row.Cx
-        G1 = record { locals = List._++_ t2 t1; slots = life0 ∷ life1 ∷ life2 ∷ life3 ∷ life4 ∷ Row.off ∷ Row.off ∷ Row.off ∷ Row.off ∷ List.[]; }
+        G1 = record { locals = t1; slots = life0 ∷ life1 ∷ life2 ∷ life3 ∷ life4 ∷ List.[]; }
         abbrev G2 : Row.Cx
-        G2 = record { locals = List._++_ t3 t1; slots = life0 ∷ life1 ∷ life2 ∷ life3 ∷ life4 ∷ Row.off ∷ Row.off ∷ Row.off ∷ Row.off ∷ List.[]; }
+        G2 = record { locals = t2; slots = life0 ∷ life1 ∷ life2 ∷ life3 ∷ life4 ∷ List.[]; }
         abbrev G3 : Row.Cx
-        G3 = record { locals = List._++_ t3 t1; slots = life0 ∷ life1 ∷ life2 ∷ life3 ∷ life4 ∷ Row.alive ∷ Row.off ∷ Row.off ∷ Row.off ∷ List.[]; }
+        G3 = record { locals = t3; slots = life0 ∷ life1 ∷ life2 ∷ life3 ∷ life4 ∷ List.[]; }
         abbrev G4 : Row.Cx
-        G4 = record { locals = List._++_ g4 t1; slots = Row.off ∷ life1 ∷ life2 ∷ life3 ∷ life4 ∷ Row.alive ∷ Row.off ∷ Row.off ∷ Row.off ∷ List.[]; }
+        G4 = record { locals = t4; slots = life0 ∷ life1 ∷ life2 ∷ life3 ∷ life4 ∷ List.[]; }
         abbrev G5 : Row.Cx
-        G5 = record { locals = List._++_ g5 t1; slots = Row.off ∷ life1 ∷ life2 ∷ life3 ∷ life4 ∷ Row.alive ∷ Row.off ∷ Row.off ∷ Row.off ∷ List.[]; }
+        G5 = record { locals = t5; slots = life0 ∷ life1 ∷ life2 ∷ life3 ∷ life4 ∷ List.[]; }
         abbrev G6 : Row.Cx
-        G6 = record { locals = List._++_ g5 t1; slots = Row.off ∷ life1 ∷ life2 ∷ life3 ∷ life4 ∷ Row.alive ∷ Row.alive ∷ Row.off ∷ Row.off ∷ List.[];
-            }
+        G6 = record { locals = t6; slots = life0 ∷ life1 ∷ life2 ∷ life3 ∷ life4 ∷ List.[]; }
         abbrev G7 : Row.Cx
-        G7 = record { locals = List._++_ g6 t1; slots = Row.off ∷ Row.off ∷ life2 ∷ life3 ∷ life4 ∷ Row.alive ∷ Row.alive ∷ Row.off ∷ Row.off ∷
-            List.[]; }
+        G7 = record { locals = t7; slots = life0 ∷ life1 ∷ life2 ∷ life3 ∷ life4 ∷ List.[]; }
         abbrev G8 : Row.Cx
-        G8 = record { locals = List._++_ g7 t1; slots = Row.off ∷ Row.off ∷ life2 ∷ life3 ∷ life4 ∷ Row.alive ∷ Row.alive ∷ Row.off ∷ Row.off ∷
-            List.[]; }
+        G8 = record { locals = t8; slots = life0 ∷ life1 ∷ life2 ∷ life3 ∷ life4 ∷ List.[]; }
         abbrev G9 : Row.Cx
-        G9 = record { locals = List._++_ g7 t1; slots = Row.off ∷ Row.off ∷ life2 ∷ life3 ∷ life4 ∷ Row.alive ∷ Row.alive ∷ Row.alive ∷ Row.off ∷
-            List.[]; }
-        abbrev G10 : Row.Cx
-        G10 = record { locals = List._++_ g8 t1; slots = Row.off ∷ Row.off ∷ Row.off ∷ life3 ∷ life4 ∷ Row.alive ∷ Row.alive ∷ Row.alive ∷ Row.off ∷
-            List.[]; }
-        abbrev G11 : Row.Cx
-        G11 = record { locals = List._++_ g9 t10; slots = Row.off ∷ Row.off ∷ Row.off ∷ life3 ∷ life4 ∷ Row.alive ∷ Row.alive ∷ Row.alive ∷ Row.off ∷
-            List.[]; }
-        abbrev G12 : Row.Cx
-        G12 = record { locals = List._++_ g9 t10; slots = Row.off ∷ Row.off ∷ Row.off ∷ life3 ∷ life4 ∷ Row.alive ∷ Row.alive ∷ Row.alive ∷ Row.alive
-            ∷ List.[]; }
-        abbrev G13 : Row.Cx
-        G13 = record { locals = List._++_ g11 t12; slots = Row.off ∷ Row.off ∷ Row.off ∷ Row.off ∷ life4 ∷ Row.alive ∷ Row.alive ∷ Row.alive ∷
-            Row.alive ∷ List.[]; }
-        abbrev G14 : Row.Cx
-        G14 = record { locals = List._++_ g11 t13; slots = Row.off ∷ Row.off ∷ Row.off ∷ Row.off ∷ life4 ∷ Row.alive ∷ Row.alive ∷ Row.alive ∷
-            Row.alive ∷ List.[]; }
-        abbrev G15 : Row.Cx
-        G15 = record { locals = List._++_ g14 t15; slots = Row.off ∷ Row.off ∷ Row.off ∷ Row.off ∷ life4 ∷ Row.alive ∷ Row.alive ∷ Row.alive ∷
-            Row.alive ∷ List.[]; }
-        abbrev G16 : Row.Cx
-        G16 = record { locals = List._++_ g16 t15; slots = Row.off ∷ Row.off ∷ Row.off ∷ Row.off ∷ life4 ∷ Row.alive ∷ Row.alive ∷ Row.alive ∷
-            Row.alive ∷ List.[]; }
-        abbrev G17 : Row.Cx
-        G17 = record { locals = List._++_ g17 t15; slots = Row.off ∷ Row.off ∷ Row.off ∷ Row.off ∷ life4 ∷ Row.alive ∷ Row.alive ∷ Row.alive ∷
-            Row.alive ∷ List.[]; }
-        abbrev G18 : Row.Cx
-        G18 = record { locals = List._++_ g17 t15; slots = Row.off ∷ Row.off ∷ Row.off ∷ Row.off ∷ life4 ∷ Row.dead ∷ Row.alive ∷ Row.alive ∷
-            Row.alive ∷ List.[]; }
-        abbrev G19 : Row.Cx
-        G19 = record { locals = List._++_ g18 t15; slots = life0 ∷ Row.off ∷ Row.off ∷ Row.off ∷ life4 ∷ Row.dead ∷ Row.alive ∷ Row.alive ∷ Row.alive
-            ∷ List.[]; }
-        abbrev G20 : Row.Cx
-        G20 = record { locals = List._++_ g18 t15; slots = life0 ∷ Row.off ∷ Row.off ∷ Row.off ∷ life4 ∷ Row.off ∷ Row.alive ∷ Row.alive ∷ Row.alive ∷
-            List.[]; }
-        abbrev G21 : Row.Cx
-        G21 = record { locals = List._++_ g18 t15; slots = life0 ∷ Row.off ∷ Row.off ∷ Row.off ∷ life4 ∷ Row.off ∷ Row.dead ∷ Row.alive ∷ Row.alive ∷
-            List.[]; }
-        abbrev G22 : Row.Cx
-        G22 = record { locals = List._++_ g19 t15; slots = life0 ∷ life1 ∷ Row.off ∷ Row.off ∷ life4 ∷ Row.off ∷ Row.dead ∷ Row.alive ∷ Row.alive ∷
-            List.[]; }
-        abbrev G23 : Row.Cx
-        G23 = record { locals = List._++_ g19 t15; slots = life0 ∷ life1 ∷ Row.off ∷ Row.off ∷ life4 ∷ Row.off ∷ Row.off ∷ Row.alive ∷ Row.alive ∷
-            List.[]; }
-        abbrev G24 : Row.Cx
-        G24 = record { locals = List._++_ g19 t15; slots = life0 ∷ life1 ∷ Row.off ∷ Row.off ∷ life4 ∷ Row.off ∷ Row.off ∷ Row.dead ∷ Row.alive ∷
-            List.[]; }
-        abbrev G25 : Row.Cx
-        G25 = record { locals = List._++_ g20 t21; slots = life0 ∷ life1 ∷ life2 ∷ Row.off ∷ life4 ∷ Row.off ∷ Row.off ∷ Row.dead ∷ Row.alive ∷
-            List.[]; }
-        abbrev G26 : Row.Cx
-        G26 = record { locals = List._++_ g20 t21; slots = life0 ∷ life1 ∷ life2 ∷ Row.off ∷ life4 ∷ Row.off ∷ Row.off ∷ Row.off ∷ Row.alive ∷
-            List.[]; }
-        abbrev G27 : Row.Cx
-        G27 = record { locals = List._++_ g20 t21; slots = life0 ∷ life1 ∷ life2 ∷ Row.off ∷ life4 ∷ Row.off ∷ Row.off ∷ Row.off ∷ Row.dead ∷ List.[];
-            }
-        abbrev G28 : Row.Cx
-        G28 = record { locals = List._++_ t22 t1; slots = life0 ∷ life1 ∷ life2 ∷ life3 ∷ life4 ∷ Row.off ∷ Row.off ∷ Row.off ∷ Row.dead ∷ List.[]; }
-        abbrev G29 : Row.Cx
-        G29 = record { locals = List._++_ t22 t1; slots = life0 ∷ life1 ∷ life2 ∷ life3 ∷ life4 ∷ Row.off ∷ Row.off ∷ Row.off ∷ Row.off ∷ List.[]; }
-        abbrev G30 : Row.Cx
-        G30 = record { locals = List._++_ t23 t1; slots = life0 ∷ life1 ∷ life2 ∷ life3 ∷ life4 ∷ Row.off ∷ Row.off ∷ Row.off ∷ Row.off ∷ List.[]; }
-        abbrev G31 : Row.Cx
-        G31 = record { locals = List._++_ t24 t1; slots = life0 ∷ life1 ∷ life2 ∷ life3 ∷ life4 ∷ Row.off ∷ Row.off ∷ Row.off ∷ Row.off ∷ List.[]; }
-        abbrev G32 : Row.Cx
-        G32 = record { locals = List._++_ t25 t1; slots = life0 ∷ life1 ∷ life2 ∷ life3 ∷ life4 ∷ Row.off ∷ Row.off ∷ Row.off ∷ Row.off ∷ List.[]; }
-        abbrev G33 : Row.Cx
-        G33 = record { locals = List._++_ t2 t1; slots = life0 ∷ life1 ∷ life2 ∷ life3 ∷ life4 ∷ Row.off ∷ Row.off ∷ Row.off ∷ Row.off ∷ List.[]; }
+        G9 = record { locals = t1; slots = life0 ∷ life1 ∷ life2 ∷ life3 ∷ life4 ∷ List.[]; }
         abbrev Δ0 : Typed.Outs
         Δ0 = record { next = Option.none; exits = List.[]; returns = Option.some G1 }
         module _ { M : Type 1 } (𝓤 : URA.URA M) (H : Wp.Heap 𝓤) (A : Atoms.Atoms 𝓤) (W : Kit.Given 𝓤 H A) (𝓣 : Wp.Tables 𝓤 H) (known : Knowns 𝓤 H A W
             𝓣) (bs : List.List Nat.ℕ) (bd : Lifetimes.AllOutlive 5 (Kinds.osR r) κs) where
           abbrev E : Wp.Env 𝓤 H
           E = Frame.EnvOf 𝓤 H ((Kinds.tyR r) ∷ (Enter.tysP ps xs)) bs
-          d0 : Typed.Typed 𝓤 H A 𝓣 E G33 b11 Δ0 at0
+          d0 : Typed.Typed 𝓤 H A 𝓣 E G9 b3 Δ0 at0
           d0 = Typed.t-return 𝓤 H A W 𝓣 E Δ0 tt
-          d1 : Typed.Typed 𝓤 H A 𝓣 E G32 b11 Δ0 at1
-          d1 = Typed.g-pre 𝓤 H A W 𝓣 E G32 G33 b11 Δ0 (Typed.pass T32 T33 s31) at0 (Scalar.g-room 𝓤 H A W E G32 8 (Syntax.tyInt Syntax.w64)
-              (Scalar.room-sc 𝓤 H A W (Row.sInt Syntax.w64))) d0
-          d2 : Typed.Typed 𝓤 H A 𝓣 E G31 b11 Δ0 at2
-          d2 = Typed.g-pre 𝓤 H A W 𝓣 E G31 G32 b11 Δ0 (Typed.pass T31 T32 s30) at1 (Scalar.g-room 𝓤 H A W E G31 6 (Syntax.tyInt Syntax.w64)
-              (Scalar.room-sc 𝓤 H A W (Row.sInt Syntax.w64))) d1
-          d3 : Typed.Typed 𝓤 H A 𝓣 E G30 b11 Δ0 at3
-          d3 = Typed.g-pre 𝓤 H A W 𝓣 E G30 G31 b11 Δ0 (Typed.pass T30 T31 s29) at2 (Scalar.g-room 𝓤 H A W E G30 10 Laws'.mir (Local.room-whole 𝓤 H A W
+          d1 : Typed.Typed 𝓤 H A 𝓣 E G8 b3 Δ0 at1
+          d1 = Typed.g-pre 𝓤 H A W 𝓣 E G8 G9 b3 Δ0 (Typed.pass T8 T9 s7) at0 (Scalar.g-room 𝓤 H A W E G8 8 (Syntax.tyInt Syntax.w64) (Scalar.room-sc 𝓤
+              H A W (Row.sInt Syntax.w64))) d0
+          d2 : Typed.Typed 𝓤 H A 𝓣 E G7 b3 Δ0 at2
+          d2 = Typed.g-pre 𝓤 H A W 𝓣 E G7 G8 b3 Δ0 (Typed.pass T7 T8 s6) at1 (Scalar.g-room 𝓤 H A W E G7 6 (Syntax.tyInt Syntax.w64) (Scalar.room-sc 𝓤
+              H A W (Row.sInt Syntax.w64))) d1
+          d3 : Typed.Typed 𝓤 H A 𝓣 E G6 b3 Δ0 at3
+          d3 = Typed.g-pre 𝓤 H A W 𝓣 E G6 G7 b3 Δ0 (Typed.pass T6 T7 s5) at2 (Scalar.g-room 𝓤 H A W E G6 10 Laws'.mir (Local.room-whole 𝓤 H A W
               (Declared.row Relayed.the-type) Laws'.mir Path.refl)) d2
-          d4 : Typed.Typed 𝓤 H A 𝓣 E G29 b12 Δ0 at4
-          d4 = Typed.s-seq 𝓤 H A W 𝓣 E G29 G30 b10 b11 Δ0 (Typed.both s28) at3 (Plain.t-call-plain 𝓤 H A W 𝓣 0 ps·1 r·1 (claims· .2) (claims· .3)
-              "lekchnam::relay::reply" (known .1) E (λ pos β. β) G29 (record { pos = 10; st = List.[]; d = 0; at = λ x. x }, tt) 0 List.[]
-              (Call.sub-id 𝓤 H A W (G29 .slots)) ((Yields.yields-copy 𝓤 H A W (λ ρ. Unit) (Declared.row Relayed.the-type) Path.refl (Copies.cStruct
-              Relayed.the-type Laws'.the-laws Laws'.the-copy .copy 𝓤 H A W) (Rows'.whole (Declared.row Relayed.the-type)) (λ x. x) (λ x. x) (λ ρ told.
-              Local.mem-whole 𝓤 H A W (Declared.row Relayed.the-type) ρ) λ ρ told. Local.whole-mem 𝓤 H A W (Declared.row Relayed.the-type) ρ,
-              Path.refl,), tt,) (Reads.room-gone 𝓤 H A Laws''.mir) tt Path.refl) d3
-          d5 : Typed.Typed 𝓤 H A 𝓣 E G28 b12 Δ0 at5
-          d5 = Typed.g-pre 𝓤 H A W 𝓣 E G28 G29 b12 Δ0 (λ Ψ. Ψ) at4 (Lifetime.g-forget 𝓤 H A W E G28 8 Row.dead Path.refl) d4
-          d6 : Typed.Typed 𝓤 H A 𝓣 E G27 b12 Δ0 at6
-          d6 = Typed.g-pre 𝓤 H A W 𝓣 E G27 G28 b12 Δ0 (Typed.both s26) at5 (Relend.g-back-sl 𝓤 H A W E InflightAction.row G27 18 4 3 8 ref7 ref3 life3
-              (λ x. x) (λ x. x) (Reads.as-is 𝓤 H A (Mut.msleft InflightAction.row ref3)) (Reads.as-is 𝓤 H A (Relend.mslice-owed InflightAction.row
-              ref7 3 8 life3)) Path.refl Path.refl) d5
-          d7 : Typed.Typed 𝓤 H A 𝓣 E G26 b12 Δ0 at7
-          d7 = Typed.g-pre 𝓤 H A W 𝓣 E G26 G27 b12 Δ0 (λ Ψ. Ψ) at6 (Lifetime.g-end 𝓤 H A W E G26 8 Path.refl) d6
-          d8 : Typed.Typed 𝓤 H A 𝓣 E G25 b12 Δ0 at8
-          d8 = Typed.g-pre 𝓤 H A W 𝓣 E G25 G26 b12 Δ0 (λ Ψ. Ψ) at7 (Lifetime.g-forget 𝓤 H A W E G25 7 Row.dead Path.refl) d7
-          d9 : Typed.Typed 𝓤 H A 𝓣 E G24 b12 Δ0 at9
-          d9 = Typed.g-pre 𝓤 H A W 𝓣 E G24 G25 b12 Δ0 (Typed.both s23) at8 (Relend.g-back-sl 𝓤 H A W E ReservationUsage.row G24 16 3 2 7 ref6 ref2
-              life2 (λ x. x) (λ x. x) (Reads.as-is 𝓤 H A (Mut.msleft ReservationUsage.row ref2)) (Reads.as-is 𝓤 H A (Relend.mslice-owed
-              ReservationUsage.row ref6 2 7 life2)) Path.refl Path.refl) d8
-          d10 : Typed.Typed 𝓤 H A 𝓣 E G23 b12 Δ0 at10
-          d10 = Typed.g-pre 𝓤 H A W 𝓣 E G23 G24 b12 Δ0 (λ Ψ. Ψ) at9 (Lifetime.g-end 𝓤 H A W E G23 7 Path.refl) d9
-          d11 : Typed.Typed 𝓤 H A 𝓣 E G22 b12 Δ0 at11
-          d11 = Typed.g-pre 𝓤 H A W 𝓣 E G22 G23 b12 Δ0 (λ Ψ. Ψ) at10 (Lifetime.g-forget 𝓤 H A W E G22 6 Row.dead Path.refl) d10
-          d12 : Typed.Typed 𝓤 H A 𝓣 E G21 b12 Δ0 at12
-          d12 = Typed.g-pre 𝓤 H A W 𝓣 E G21 G22 b12 Δ0 (Typed.both s20) at11 (Relend.g-back-sl 𝓤 H A W E RelayCircuit.row G21 14 2 1 6 ref5 ref1 life1
-              (λ x. x) (λ x. x) (Reads.as-is 𝓤 H A (Mut.msleft RelayCircuit.row ref1)) (Reads.as-is 𝓤 H A (Relend.mslice-owed RelayCircuit.row ref5 1
-              6 life1)) Path.refl Path.refl) d11
-          d13 : Typed.Typed 𝓤 H A 𝓣 E G20 b12 Δ0 at13
-          d13 = Typed.g-pre 𝓤 H A W 𝓣 E G20 G21 b12 Δ0 (λ Ψ. Ψ) at12 (Lifetime.g-end 𝓤 H A W E G20 6 Path.refl) d12
-          d14 : Typed.Typed 𝓤 H A 𝓣 E G19 b12 Δ0 at14
-          d14 = Typed.g-pre 𝓤 H A W 𝓣 E G19 G20 b12 Δ0 (λ Ψ. Ψ) at13 (Lifetime.g-forget 𝓤 H A W E G19 5 Row.dead Path.refl) d13
-          d15 : Typed.Typed 𝓤 H A 𝓣 E G18 b12 Δ0 at15
-          d15 = Typed.g-pre 𝓤 H A W 𝓣 E G18 G19 b12 Δ0 (Typed.both s17) at14 (Relend.g-back-sl 𝓤 H A W E RelayPending.row G18 12 1 0 5 ref4 ref0 life0
-              (λ x. x) (λ x. x) (Reads.as-is 𝓤 H A (Mut.msleft RelayPending.row ref0)) (Reads.as-is 𝓤 H A (Relend.mslice-owed RelayPending.row ref4 0
-              5 life0)) Path.refl Path.refl) d14
-          d16 : Typed.Typed 𝓤 H A 𝓣 E G17 b12 Δ0 at16
-          d16 = Typed.g-pre 𝓤 H A W 𝓣 E G17 G18 b12 Δ0 (λ Ψ. Ψ) at15 (Lifetime.g-end 𝓤 H A W E G17 5 Path.refl) d15
-          d17 : Typed.Typed 𝓤 H A 𝓣 E G16 b12 Δ0 at17
-          d17 = Typed.g-pre 𝓤 H A W 𝓣 E G16 G17 b12 Δ0 (Typed.pass T16 T17 s15) at16 (Scalar.g-room 𝓤 H A W E G16 9 (Syntax.tyArray (Syntax.tyInt
-              Syntax.w8) 16) (Init.room-arr 𝓤 H A W (Referent.rtF (Referent.fInt Syntax.w8)) 16 0 16 Path.refl)) d16
-          d18 : Typed.Typed 𝓤 H A 𝓣 E G15 b12 Δ0 at18
-          d18 = Typed.g-pre 𝓤 H A W 𝓣 E G15 G16 b12 Δ0 (Typed.pass T15 T16 s14) at17 (Scalar.g-room 𝓤 H A W E G15 7 Laws.mir (Local.room-whole 𝓤 H A W
-              (Declared.row OpaqueRelayConfig.the-type) Laws.mir Path.refl)) d17
-          d19 : Typed.Typed 𝓤 H A 𝓣 E G14 b13 Δ0 at19
-          d19 = Typed.s-seq 𝓤 H A W 𝓣 E G14 G15 b9 b12 Δ0 (Typed.both s13) at18 (Plain.t-call-plain 𝓤 H A W 𝓣 4 ps·0 r·0 (claims· .0) (claims· .1)
-              "hnsr_circuit::calls::new" (known .0) E (λ pos β. β) G14 (record { pos = 12; ty = Syntax.tyRef Syntax.erased Syntax.mut RelayPending.to;
-              ref = λ x. x; }, (record { pos = 14; ty = Syntax.tyRef Syntax.erased Syntax.mut RelayCircuit.to; ref = λ x. x; }, (record { pos = 16; ty
-              = Syntax.tyRef Syntax.erased Syntax.mut ReservationUsage.to; ref = λ x. x; }, (record { pos = 18; ty = Syntax.tyRef Syntax.erased
-              Syntax.mut InflightAction.to; ref = λ x. x; }, (record { pos = 9; st = List.[]; d = 0; at = λ x. x }, (Num.vAt 6 λ x. x, (record { pos =
-              7; st = List.[]; d = 0; at = λ x. x }, (Num.vAt 8 λ x. x, tt),),),),),),),) 10 (5 ∷ 6 ∷ 7 ∷ 8 ∷ List.[]) (Call.sub-id 𝓤 H A W (G14
-              .slots)) (Reads.as-is 𝓤 H A (Mut.mslice RelayPending.row ref0 5), Mut.reads-mslice 𝓤 H A W RelayPending.row ref0 5, Path.refl,
-              (Reads.as-is 𝓤 H A (Mut.mslice RelayCircuit.row ref1 6), Mut.reads-mslice 𝓤 H A W RelayCircuit.row ref1 6, Path.refl, (Reads.as-is 𝓤 H A
-              (Mut.mslice ReservationUsage.row ref2 7), Mut.reads-mslice 𝓤 H A W ReservationUsage.row ref2 7, Path.refl, (Reads.as-is 𝓤 H A
-              (Mut.mslice InflightAction.row ref3 8), Mut.reads-mslice 𝓤 H A W InflightAction.row ref3 8, Path.refl, ((Array.arr-yields 𝓤 H A W
-              (Array.eInt Syntax.w8) (Array.eInt-laws Syntax.w8) 16, Path.refl,), ((Scalar.reads-sc 𝓤 H A W (Row.sInt Syntax.w64), Path.refl),
-              ((Yields.yields-copy 𝓤 H A W (λ ρ. Unit) (Declared.row OpaqueRelayConfig.the-type) Path.refl (Copies.cStruct OpaqueRelayConfig.the-type
-              Laws.the-laws Laws.the-copy .copy 𝓤 H A W) (Rows'.whole (Declared.row OpaqueRelayConfig.the-type)) (λ x. x) (λ x. x) (λ ρ told.
-              Local.mem-whole 𝓤 H A W (Declared.row OpaqueRelayConfig.the-type) ρ) λ ρ told. Local.whole-mem 𝓤 H A W (Declared.row
-              OpaqueRelayConfig.the-type) ρ, Path.refl,), ((Scalar.reads-sc 𝓤 H A W (Row.sInt Syntax.w64), Path.refl), tt),),),),),),),)
-              (Reads.room-gone 𝓤 H A Laws'.mir) (tt, (tt, (tt, (tt, tt)))) Path.refl) d18
-          d20 : Typed.Typed 𝓤 H A 𝓣 E G13 b14 Δ0 at20
-          d20 = Typed.s-seq 𝓤 H A W 𝓣 E G13 G14 b8 b13 Δ0 (Typed.ask s12) at19 (Relend.t-sl-aggregate 𝓤 H A W E InflightAction.row 𝓣 (Relend.asMut
-              InflightAction.row) G13 17 18 8 ref3 ref3 (λ x. x) (Scalar.oFld 4 ((Syntax.field 1) ∷ List.[]) (Syntax.tyInt Syntax.w64) 8 λ v.
-              Shared.lenV (v .0)) (Reads.as-is 𝓤 H A (Relend.msptr InflightAction.row ref3 8)) (Reads.room-gone 𝓤 H A (Syntax.tyStruct (38 ∷ 91 ∷ 93 ∷
-              List.[]) (Syntax.tcons ref3 (Syntax.tcons (Syntax.tyInt Syntax.w64) Syntax.tnil)))) (Relend.reads-owed-len 𝓤 H A W InflightAction.row
-              ref7 3 8 life3 8 Path.refl, Path.refl,) Path.refl Path.refl λ b o k. tt) d19
-          d21 : Typed.Typed 𝓤 H A 𝓣 E G12 b15 Δ0 at21
-          d21 = Typed.s-seq 𝓤 H A W 𝓣 E G12 G13 b7 b14 Δ0 (Typed.give s11) at20 (Relend.t-sl-relend 𝓤 H A W E InflightAction.row 𝓣 G12 4 17 3 8 ref7
-              ref3 life3 0 (λ x. x) (Reads.as-is 𝓤 H A (Mut.mslice InflightAction.row ref7 3)) (Reads.room-gone 𝓤 H A ref3) Path.refl tt Path.refl
-              Path.refl Path.refl λ b o. tt) d20
-          d22 : Typed.Typed 𝓤 H A 𝓣 E G11 b15 Δ0 at22
-          d22 = Typed.g-pre 𝓤 H A W 𝓣 E G11 G12 b15 Δ0 (λ Ψ. Ψ) at21 (Lifetime.g-begin 𝓤 H A W E G11 8 (tt, ((tt, tt), ((tt, tt), ((tt, tt), (tt, (tt,
-              (tt, (tt, (tt, (tt, (tt, (tt, (tt, (tt, (tt, (tt, (tt, (tt, (tt, tt))))))))),),),),),),),),),),)) d21
-          d23 : Typed.Typed 𝓤 H A 𝓣 E G10 b16 Δ0 at23
-          d23 = Typed.s-seq 𝓤 H A W 𝓣 E G10 G11 b6 b15 Δ0 (Typed.ask s9) at22 (Relend.t-sl-aggregate 𝓤 H A W E ReservationUsage.row 𝓣 (Relend.asMut
-              ReservationUsage.row) G10 15 16 7 ref2 ref2 (λ x. x) (Scalar.oFld 3 ((Syntax.field 1) ∷ List.[]) (Syntax.tyInt Syntax.w64) 8 λ v.
-              Shared.lenV (v .0)) (Reads.as-is 𝓤 H A (Relend.msptr ReservationUsage.row ref2 7)) (Reads.room-gone 𝓤 H A (Syntax.tyStruct (38 ∷ 91 ∷ 93
-              ∷ List.[]) (Syntax.tcons ref2 (Syntax.tcons (Syntax.tyInt Syntax.w64) Syntax.tnil)))) (Relend.reads-owed-len 𝓤 H A W
-              ReservationUsage.row ref6 2 7 life2 8 Path.refl, Path.refl,) Path.refl Path.refl λ b o k. tt) d22
-          d24 : Typed.Typed 𝓤 H A 𝓣 E G9 b17 Δ0 at24
-          d24 = Typed.s-seq 𝓤 H A W 𝓣 E G9 G10 b5 b16 Δ0 (Typed.give s8) at23 (Relend.t-sl-relend 𝓤 H A W E ReservationUsage.row 𝓣 G9 3 15 2 7 ref6
-              ref2 life2 0 (λ x. x) (Reads.as-is 𝓤 H A (Mut.mslice ReservationUsage.row ref6 2)) (Reads.room-gone 𝓤 H A ref2) Path.refl tt Path.refl
-              Path.refl Path.refl λ b o. tt) d23
-          d25 : Typed.Typed 𝓤 H A 𝓣 E G8 b17 Δ0 at25
-          d25 = Typed.g-pre 𝓤 H A W 𝓣 E G8 G9 b17 Δ0 (λ Ψ. Ψ) at24 (Lifetime.g-begin 𝓤 H A W E G8 7 (tt, ((tt, tt), ((tt, tt), (tt, (tt, (tt, (tt,
-              (tt, (tt, (tt, (tt, (tt, (tt, (tt, (tt, (tt, (tt, (tt, (tt, tt))))))))),),),),),),),),),),)) d24
-          d26 : Typed.Typed 𝓤 H A 𝓣 E G7 b18 Δ0 at26
-          d26 = Typed.s-seq 𝓤 H A W 𝓣 E G7 G8 b4 b17 Δ0 (Typed.ask s6) at25 (Relend.t-sl-aggregate 𝓤 H A W E RelayCircuit.row 𝓣 (Relend.asMut
-              RelayCircuit.row) G7 13 14 6 ref1 ref1 (λ x. x) (Scalar.oFld 2 ((Syntax.field 1) ∷ List.[]) (Syntax.tyInt Syntax.w64) 8 λ v. Shared.lenV
-              (v .0)) (Reads.as-is 𝓤 H A (Relend.msptr RelayCircuit.row ref1 6)) (Reads.room-gone 𝓤 H A (Syntax.tyStruct (38 ∷ 91 ∷ 93 ∷ List.[])
-              (Syntax.tcons ref1 (Syntax.tcons (Syntax.tyInt Syntax.w64) Syntax.tnil)))) (Relend.reads-owed-len 𝓤 H A W RelayCircuit.row ref5 1 6
-              life1 8 Path.refl, Path.refl,) Path.refl Path.refl λ b o k. tt) d25
-          d27 : Typed.Typed 𝓤 H A 𝓣 E G6 b19 Δ0 at27
-          d27 = Typed.s-seq 𝓤 H A W 𝓣 E G6 G7 b3 b18 Δ0 (Typed.give s5) at26 (Relend.t-sl-relend 𝓤 H A W E RelayCircuit.row 𝓣 G6 2 13 1 6 ref5 ref1
-              life1 0 (λ x. x) (Reads.as-is 𝓤 H A (Mut.mslice RelayCircuit.row ref5 1)) (Reads.room-gone 𝓤 H A ref1) Path.refl tt Path.refl Path.refl
-              Path.refl λ b o. tt) d26
-          d28 : Typed.Typed 𝓤 H A 𝓣 E G5 b19 Δ0 at28
-          d28 = Typed.g-pre 𝓤 H A W 𝓣 E G5 G6 b19 Δ0 (λ Ψ. Ψ) at27 (Lifetime.g-begin 𝓤 H A W E G5 6 (tt, ((tt, tt), (tt, (tt, (tt, (tt, (tt, (tt, (tt,
-              (tt, (tt, (tt, (tt, (tt, (tt, (tt, (tt, (tt, (tt, tt))))))))),),),),),),),),),),)) d27
-          d29 : Typed.Typed 𝓤 H A 𝓣 E G4 b20 Δ0 at29
-          d29 = Typed.s-seq 𝓤 H A W 𝓣 E G4 G5 b2 b19 Δ0 (Typed.ask s3) at28 (Relend.t-sl-aggregate 𝓤 H A W E RelayPending.row 𝓣 (Relend.asMut
-              RelayPending.row) G4 11 12 5 ref0 ref0 (λ x. x) (Scalar.oFld 1 ((Syntax.field 1) ∷ List.[]) (Syntax.tyInt Syntax.w64) 8 λ v. Shared.lenV
-              (v .0)) (Reads.as-is 𝓤 H A (Relend.msptr RelayPending.row ref0 5)) (Reads.room-gone 𝓤 H A (Syntax.tyStruct (38 ∷ 91 ∷ 93 ∷ List.[])
-              (Syntax.tcons ref0 (Syntax.tcons (Syntax.tyInt Syntax.w64) Syntax.tnil)))) (Relend.reads-owed-len 𝓤 H A W RelayPending.row ref4 0 5
-              life0 8 Path.refl, Path.refl,) Path.refl Path.refl λ b o k. tt) d28
-          d30 : Typed.Typed 𝓤 H A 𝓣 E G3 b21 Δ0 at30
-          d30 = Typed.s-seq 𝓤 H A W 𝓣 E G3 G4 b1 b20 Δ0 (Typed.give s2) at29 (Relend.t-sl-relend 𝓤 H A W E RelayPending.row 𝓣 G3 1 11 0 5 ref4 ref0
-              life0 0 (λ x. x) (Reads.as-is 𝓤 H A (Mut.mslice RelayPending.row ref4 0)) (Reads.room-gone 𝓤 H A ref0) Path.refl tt Path.refl Path.refl
-              Path.refl λ b o. tt) d29
-          d31 : Typed.Typed 𝓤 H A 𝓣 E G2 b21 Δ0 at31
-          d31 = Typed.g-pre 𝓤 H A W 𝓣 E G2 G3 b21 Δ0 (λ Ψ. Ψ) at30 (Lifetime.g-begin 𝓤 H A W E G2 5 (tt, (tt, (tt, (tt, (tt, (tt, (tt, (tt, (tt, (tt,
-              (tt, (tt, (tt, (tt, (tt, (tt, (tt, (tt, (tt, tt))))))))),),),),),),),),),),)) d30
-          d32 : Typed.Typed 𝓤 H A 𝓣 E G0 b22 Δ0 at32
-          d32 = Typed.s-seq 𝓤 H A W 𝓣 E G0 G2 b0 b21 Δ0 (Typed.give s0) at31 (DerefMove.t-sref-read-copy 𝓤 H A W E 𝓣 (λ ρ. Unit) G0 5 9 4
-              (Array'.Array (Referent.rtF (Referent.fInt Syntax.w8)) 16) ref8 (Syntax.tyArray (Syntax.tyInt Syntax.w8) 16) (Syntax.tyArray
-              (Syntax.tyInt Syntax.w8) 16) life4 (λ x. x) (Rows.arrF (Referent.rtF (Referent.fInt Syntax.w8)) 16 0) (λ x. x) (λ x. Unit) Path.refl
-              Path.refl Path.refl (Copies.cArr (Referent.rtF (Referent.fInt Syntax.w8)) (Copies.cRf (Referent.fInt Syntax.w8)) 16 .copy 𝓤 H A W)
-              (DerefMove.learns-nothing 𝓤 H A (Array'.Array (Referent.rtF (Referent.fInt Syntax.w8)) 16)) (Own.told-none 𝓤 H A (G0 .slots))
-              (Copies.halves 𝓤 H A W (Copies.cArr (Referent.rtF (Referent.fInt Syntax.w8)) (Copies.cRf (Referent.fInt Syntax.w8)) 16)) (Reads.as-is 𝓤
-              H A (Rows'.sref (Array'.Array (Referent.rtF (Referent.fInt Syntax.w8)) 16) ref8 4)) (Reads.room-gone 𝓤 H A (Syntax.tyArray (Syntax.tyInt
-              Syntax.w8) 16)) (Yields.makes-mem 𝓤 H A W (λ ρ. Unit) (Array'.Array (Referent.rtF (Referent.fInt Syntax.w8)) 16) Path.refl (Rows.arrF
-              (Referent.rtF (Referent.fInt Syntax.w8)) 16 0) (λ x. x) λ ρ told. Whole.arr-mem 𝓤 H A W (Referent.rtF (Referent.fInt Syntax.w8)) 16 tt
-              ρ) Path.refl tt Path.refl Path.refl) d31
-          pub typed : Typed.Typed 𝓤 H A 𝓣 E (Function.Γin 5 ps r xs m κs qs) b22 (Function.Δret 5 ps r xs m κs qs) Φ
-          typed = d32
+          d4 : Typed.Typed 𝓤 H A 𝓣 E G5 b4 Δ0 at4
+          d4 = Typed.s-seq 𝓤 H A W 𝓣 E G5 G6 b2 b3 Δ0 (Typed.both s4) at3 (Plain.t-call-plain 𝓤 H A W 𝓣 0 ps·1 r·1 (claims· .2) (claims· .3)
+              "lekchnam::relay::reply" (known .1) E (λ pos β. β) G5 (record { pos = 10; st = List.[]; d = 0; at = λ x. x }, tt) 0 List.[] (Call.sub-id
+              𝓤 H A W (G5 .slots)) ((Yields.yields-copy 𝓤 H A W (λ ρ. Unit) (Declared.row Relayed.the-type) Path.refl (Copies.cStruct Relayed.the-type
+              Laws'.the-laws Laws'.the-copy .copy 𝓤 H A W) (Rows'.whole (Declared.row Relayed.the-type)) (λ x. x) (λ x. x) (λ ρ told. Local.mem-whole
+              𝓤 H A W (Declared.row Relayed.the-type) ρ) λ ρ told. Local.whole-mem 𝓤 H A W (Declared.row Relayed.the-type) ρ, Path.refl,), tt,)
+              (Reads.room-gone 𝓤 H A Laws''.mir) tt Path.refl) d3
+          d5 : Typed.Typed 𝓤 H A 𝓣 E G4 b4 Δ0 at5
+          d5 = Typed.g-pre 𝓤 H A W 𝓣 E G4 G5 b4 Δ0 (Typed.pass T4 T5 s3) at4 (Scalar.g-room 𝓤 H A W E G4 9 (Syntax.tyArray (Syntax.tyInt Syntax.w8)
+              16) (Init.room-arr 𝓤 H A W (Referent.rtF (Referent.fInt Syntax.w8)) 16 0 16 Path.refl)) d4
+          d6 : Typed.Typed 𝓤 H A 𝓣 E G3 b4 Δ0 at6
+          d6 = Typed.g-pre 𝓤 H A W 𝓣 E G3 G4 b4 Δ0 (Typed.pass T3 T4 s2) at5 (Scalar.g-room 𝓤 H A W E G3 7 Laws.mir (Local.room-whole 𝓤 H A W
+              (Declared.row OpaqueRelayConfig.the-type) Laws.mir Path.refl)) d5
+          d7 : Typed.Typed 𝓤 H A 𝓣 E G2 b5 Δ0 at7
+          d7 = Typed.s-seq 𝓤 H A W 𝓣 E G2 G3 b1 b4 Δ0 (Typed.both s1) at6 (Plain.t-call-plain 𝓤 H A W 𝓣 4 ps·0 r·0 (claims· .0) (claims· .1)
+              "hnsr_circuit::calls::new" (known .0) E (λ pos β. β) G2 (record { pos = 1; ty = Syntax.tyRef (Syntax.named 0) Syntax.imm
+              RelayPending.to; ref = λ x. x; }, (record { pos = 2; ty = Syntax.tyRef (Syntax.named 1) Syntax.imm RelayCircuit.to; ref = λ x. x; },
+              (record { pos = 3; ty = Syntax.tyRef (Syntax.named 2) Syntax.imm ReservationUsage.to; ref = λ x. x; }, (record { pos = 4; ty =
+              Syntax.tyRef (Syntax.named 3) Syntax.imm InflightAction.to; ref = λ x. x; }, (record { pos = 9; st = List.[]; d = 0; at = λ x. x },
+              (Num.vAt 6 λ x. x, (record { pos = 7; st = List.[]; d = 0; at = λ x. x }, (Num.vAt 8 λ x. x, tt),),),),),),),) 10 (0 ∷ 1 ∷ 2 ∷ 3 ∷
+              List.[]) (Call.sub-id 𝓤 H A W (G2 .slots)) (ShrSlice.spares-sslice 𝓤 H A W RelayPending.row ref0 0, Shared.reads-sslice 𝓤 H A W
+              RelayPending.row ref0 0, Path.refl, (ShrSlice.spares-sslice 𝓤 H A W RelayCircuit.row ref1 1, Shared.reads-sslice 𝓤 H A W
+              RelayCircuit.row ref1 1, Path.refl, (ShrSlice.spares-sslice 𝓤 H A W ReservationUsage.row ref2 2, Shared.reads-sslice 𝓤 H A W
+              ReservationUsage.row ref2 2, Path.refl, (ShrSlice.spares-sslice 𝓤 H A W InflightAction.row ref3 3, Shared.reads-sslice 𝓤 H A W
+              InflightAction.row ref3 3, Path.refl, ((Array.arr-yields 𝓤 H A W (Array.eInt Syntax.w8) (Array.eInt-laws Syntax.w8) 16, Path.refl,),
+              ((Scalar.reads-sc 𝓤 H A W (Row.sInt Syntax.w64), Path.refl), ((Yields.yields-copy 𝓤 H A W (λ ρ. Unit) (Declared.row
+              OpaqueRelayConfig.the-type) Path.refl (Copies.cStruct OpaqueRelayConfig.the-type Laws.the-laws Laws.the-copy .copy 𝓤 H A W) (Rows'.whole
+              (Declared.row OpaqueRelayConfig.the-type)) (λ x. x) (λ x. x) (λ ρ told. Local.mem-whole 𝓤 H A W (Declared.row
+              OpaqueRelayConfig.the-type) ρ) λ ρ told. Local.whole-mem 𝓤 H A W (Declared.row OpaqueRelayConfig.the-type) ρ, Path.refl,),
+              ((Scalar.reads-sc 𝓤 H A W (Row.sInt Syntax.w64), Path.refl), tt),),),),),),),) (Reads.room-gone 𝓤 H A Laws'.mir) (tt, (tt, (tt, (tt,
+              tt)))) Path.refl) d6
+          d8 : Typed.Typed 𝓤 H A 𝓣 E G0 b6 Δ0 at8
+          d8 = Typed.s-seq 𝓤 H A W 𝓣 E G0 G2 b0 b5 Δ0 (Typed.give s0) at7 (DerefMove.t-sref-read-copy 𝓤 H A W E 𝓣 (λ ρ. Unit) G0 5 9 4 (Array'.Array
+              (Referent.rtF (Referent.fInt Syntax.w8)) 16) ref4 (Syntax.tyArray (Syntax.tyInt Syntax.w8) 16) (Syntax.tyArray (Syntax.tyInt Syntax.w8)
+              16) life4 (λ x. x) (Rows.arrF (Referent.rtF (Referent.fInt Syntax.w8)) 16 0) (λ x. x) (λ x. Unit) Path.refl Path.refl Path.refl
+              (Copies.cArr (Referent.rtF (Referent.fInt Syntax.w8)) (Copies.cRf (Referent.fInt Syntax.w8)) 16 .copy 𝓤 H A W) (DerefMove.learns-nothing
+              𝓤 H A (Array'.Array (Referent.rtF (Referent.fInt Syntax.w8)) 16)) (Own.told-none 𝓤 H A (G0 .slots)) (Copies.halves 𝓤 H A W (Copies.cArr
+              (Referent.rtF (Referent.fInt Syntax.w8)) (Copies.cRf (Referent.fInt Syntax.w8)) 16)) (Reads.as-is 𝓤 H A (Rows'.sref (Array'.Array
+              (Referent.rtF (Referent.fInt Syntax.w8)) 16) ref4 4)) (Reads.room-gone 𝓤 H A (Syntax.tyArray (Syntax.tyInt Syntax.w8) 16))
+              (Yields.makes-mem 𝓤 H A W (λ ρ. Unit) (Array'.Array (Referent.rtF (Referent.fInt Syntax.w8)) 16) Path.refl (Rows.arrF (Referent.rtF
+              (Referent.fInt Syntax.w8)) 16 0) (λ x. x) λ ρ told. Whole.arr-mem 𝓤 H A W (Referent.rtF (Referent.fInt Syntax.w8)) 16 tt ρ) Path.refl tt
+              Path.refl Path.refl) d7
+          pub typed : Typed.Typed 𝓤 H A 𝓣 E (Function.Γin 5 ps r xs m κs qs) b6 (Function.Δret 5 ps r xs m κs qs) Φ
+          typed = d8
       module _ (κs : Lifetimes.Lfts 5) where
         pub record Args : Type 0 where
-          pub pending : Kinds.Den { n = 5 } κs (MutSlice.pMutS RelayPending.row 0 tt)
-          pub circuits : Kinds.Den { n = 5 } κs (MutSlice.pMutS RelayCircuit.row 1 tt)
-          pub ledger : Kinds.Den { n = 5 } κs (MutSlice.pMutS ReservationUsage.row 2 tt)
-          pub inflight : Kinds.Den { n = 5 } κs (MutSlice.pMutS InflightAction.row 3 tt)
+          pub pending : Kinds.Den { n = 5 } κs (ShrSlice.pShrS RelayPending.row 0 tt)
+          pub circuits : Kinds.Den { n = 5 } κs (ShrSlice.pShrS RelayCircuit.row 1 tt)
+          pub ledger : Kinds.Den { n = 5 } κs (ShrSlice.pShrS ReservationUsage.row 2 tt)
+          pub inflight : Kinds.Den { n = 5 } κs (ShrSlice.pShrS InflightAction.row 3 tt)
           pub session : Kinds.Den { n = 5 } κs (ShrRef.pShr (Array'.Array (Referent.rtF (Referent.fInt Syntax.w8)) 16) 4 tt)
           pub generation : Kinds.Den { n = 5 } κs (Num.pNum Syntax.w64)
           pub config : Kinds.Den { n = 5 } κs (Value.pVal record { ty = Declared.row OpaqueRelayConfig.the-type; one = Path.refl; val = Laws'''.val
@@ -884,191 +398,70 @@ module _ (claims· : Claims) where
       pub record After-name : Type 0 where
         pub before : Start
         pub name : After-name·own before
-      abbrev pub m2 : (before : After-name) → (given : s2 .gives (m1 (before .before) (before .name .given))) → Typed.Mo T4
-      m2 = λ before given. s2 .next (m1 (before .before) (before .name .given)) given
-      abbrev pub m3 : (before : After-name) → (given : s2 .gives (m1 (before .before) (before .name .given))) → Typed.Mo T5
-      m3 = λ before given. s3 .next (m2 before given)
-      module _ (before· : After-name) where
-        pub record After-new-arg·own : Type 0 where
-          pub given : s2 .gives (m1 (before· .before) (before· .name .given))
-      pub record After-new-arg : Type 0 where
-        pub before : After-name
-        pub new-arg : After-new-arg·own before
-      abbrev pub m4 : (before : After-new-arg) → (given : s5 .gives (m3 (before .before) (before .new-arg .given))) → Typed.Mo T7
-      m4 = λ before given. s5 .next (m3 (before .before) (before .new-arg .given)) given
-      abbrev pub m5 : (before : After-new-arg) → (given : s5 .gives (m3 (before .before) (before .new-arg .given))) → Typed.Mo T8
-      m5 = λ before given. s6 .next (m4 before given)
-      module _ (before· : After-new-arg) where
-        pub record After-new-arg2·own : Type 0 where
-          pub given : s5 .gives (m3 (before· .before) (before· .new-arg .given))
-      pub record After-new-arg2 : Type 0 where
-        pub before : After-new-arg
-        pub new-arg2 : After-new-arg2·own before
-      abbrev pub m6 : (before : After-new-arg2) → (given : s8 .gives (m5 (before .before) (before .new-arg2 .given))) → Typed.Mo T10
-      m6 = λ before given. s8 .next (m5 (before .before) (before .new-arg2 .given)) given
-      abbrev pub m7 : (before : After-new-arg2) → (given : s8 .gives (m5 (before .before) (before .new-arg2 .given))) → Typed.Mo T11
-      m7 = λ before given. s9 .next (m6 before given)
-      module _ (before· : After-new-arg2) where
-        pub record After-new-arg3·own : Type 0 where
-          pub given : s8 .gives (m5 (before· .before) (before· .new-arg2 .given))
-      pub record After-new-arg3 : Type 0 where
-        pub before : After-new-arg2
-        pub new-arg3 : After-new-arg3·own before
-      abbrev pub m8 : (before : After-new-arg3) → (given : s11 .gives (m7 (before .before) (before .new-arg3 .given))) → Typed.Mo T13
-      m8 = λ before given. s11 .next (m7 (before .before) (before .new-arg3 .given)) given
-      abbrev pub m9 : (before : After-new-arg3) → (given : s11 .gives (m7 (before .before) (before .new-arg3 .given))) → Typed.Mo T14
-      m9 = λ before given. s12 .next (m8 before given)
-      module _ (before· : After-new-arg3) where
-        pub record After-new-arg4·own : Type 0 where
-          pub given : s11 .gives (m7 (before· .before) (before· .new-arg3 .given))
-      pub record After-new-arg4 : Type 0 where
-        pub before : After-new-arg3
-        pub new-arg4 : After-new-arg4·own before
       abbrev pub Need-new-requires : Type 0
-      Need-new-requires = (c : After-new-arg4) → s13 .asks (m9 (c .before) (c .new-arg4 .given))
-      abbrev pub m10 : (before : After-new-arg4) → (given : s13 .gives (m9 (before .before) (before .new-arg4 .given))) → Typed.Mo T15
-      m10 = λ before given. s13 .next (m9 (before .before) (before .new-arg4 .given)) given
-      module _ (before· : After-new-arg4) where
+      Need-new-requires = (c : After-name) → s1 .asks (m1 (c .before) (c .name .given))
+      abbrev pub m2 : (before : After-name) → (given : s1 .gives (m1 (before .before) (before .name .given))) → Typed.Mo T3
+      m2 = λ before given. s1 .next (m1 (before .before) (before .name .given)) given
+      module _ (before· : After-name) where
         abbrev pub After-new·own : Type 0
-        After-new·own = Called.Called ps·0 r·0 (claims· .1) T14 (record { pos = 12; ty = Syntax.tyRef Syntax.erased Syntax.mut RelayPending.to; ref =
-            λ x. x; }, (record { pos = 14; ty = Syntax.tyRef Syntax.erased Syntax.mut RelayCircuit.to; ref = λ x. x; }, (record { pos = 16; ty =
-            Syntax.tyRef Syntax.erased Syntax.mut ReservationUsage.to; ref = λ x. x; }, (record { pos = 18; ty = Syntax.tyRef Syntax.erased Syntax.mut
-            InflightAction.to; ref = λ x. x; }, (record { pos = 9; st = List.[]; d = 0; at = λ x. x }, (Num.vAt 6 λ x. x, (record { pos = 7; st =
-            List.[]; d = 0; at = λ x. x }, (Num.vAt 8 λ x. x, tt),),),),),),),) (m9 (before· .before) (before· .new-arg4 .given))
+        After-new·own = Called.Called ps·0 r·0 (claims· .1) T2 (record { pos = 1; ty = Syntax.tyRef (Syntax.named 0) Syntax.imm RelayPending.to; ref =
+            λ x. x; }, (record { pos = 2; ty = Syntax.tyRef (Syntax.named 1) Syntax.imm RelayCircuit.to; ref = λ x. x; }, (record { pos = 3; ty =
+            Syntax.tyRef (Syntax.named 2) Syntax.imm ReservationUsage.to; ref = λ x. x; }, (record { pos = 4; ty = Syntax.tyRef (Syntax.named 3)
+            Syntax.imm InflightAction.to; ref = λ x. x; }, (record { pos = 9; st = List.[]; d = 0; at = λ x. x }, (Num.vAt 6 λ x. x, (record { pos =
+            7; st = List.[]; d = 0; at = λ x. x }, (Num.vAt 8 λ x. x, tt),),),),),),),) (m1 (before· .before) (before· .name .given))
       pub record After-new : Type 0 where
-        pub before : After-new-arg4
+        pub before : After-name
         pub new : After-new·own before
-      abbrev pub After-new·gave : (c : After-new) → s13 .gives (m9 (c .before .before) (c .before .new-arg4 .given))
-      After-new·gave = λ c. Called.given ps·0 r·0 (claims· .1) T14 (record { pos = 12; ty = Syntax.tyRef Syntax.erased Syntax.mut RelayPending.to; ref
-          = λ x. x; }, (record { pos = 14; ty = Syntax.tyRef Syntax.erased Syntax.mut RelayCircuit.to; ref = λ x. x; }, (record { pos = 16; ty =
-          Syntax.tyRef Syntax.erased Syntax.mut ReservationUsage.to; ref = λ x. x; }, (record { pos = 18; ty = Syntax.tyRef Syntax.erased Syntax.mut
-          InflightAction.to; ref = λ x. x; }, (record { pos = 9; st = List.[]; d = 0; at = λ x. x }, (Num.vAt 6 λ x. x, (record { pos = 7; st =
-          List.[]; d = 0; at = λ x. x }, (Num.vAt 8 λ x. x, tt)),),),),),),) (m9 (c .before .before) (c .before .new-arg4 .given)) (c .new)
-      abbrev pub m11 : (before : After-new-arg4) → (given : s13 .gives (m9 (before .before) (before .new-arg4 .given))) → Typed.Mo T16
-      m11 = λ before given. s14 (m10 before given)
-      abbrev pub m12 : (before : After-new-arg4) → (given : s13 .gives (m9 (before .before) (before .new-arg4 .given))) → Typed.Mo T17
-      m12 = λ before given. s15 (m11 before given)
-      abbrev pub m13 : (before : After-new) → (given : s17 .gives (m12 (before .before) (After-new·gave before))) → Typed.Mo T19
-      m13 = λ before given. s17 .next (m12 (before .before) (After-new·gave before)) given
-      module _ (before· : After-new) where
-        pub record After-pending·own : Type 0 where
-          pub given : s17 .gives (m12 (before· .before) (After-new·gave before·))
-      pub record After-pending : Type 0 where
-        pub before : After-new
-        pub pending : After-pending·own before
-      abbrev pub m14 : (before : After-pending) → (given : s20 .gives (m13 (before .before) (before .pending .given))) → Typed.Mo T22
-      m14 = λ before given. s20 .next (m13 (before .before) (before .pending .given)) given
-      module _ (before· : After-pending) where
-        pub record After-circuits·own : Type 0 where
-          pub given : s20 .gives (m13 (before· .before) (before· .pending .given))
-      pub record After-circuits : Type 0 where
-        pub before : After-pending
-        pub circuits : After-circuits·own before
-      abbrev pub m15 : (before : After-circuits) → (given : s23 .gives (m14 (before .before) (before .circuits .given))) → Typed.Mo T25
-      m15 = λ before given. s23 .next (m14 (before .before) (before .circuits .given)) given
-      module _ (before· : After-circuits) where
-        pub record After-ledger·own : Type 0 where
-          pub given : s23 .gives (m14 (before· .before) (before· .circuits .given))
-      pub record After-ledger : Type 0 where
-        pub before : After-circuits
-        pub ledger : After-ledger·own before
-      abbrev pub m16 : (before : After-ledger) → (given : s26 .gives (m15 (before .before) (before .ledger .given))) → Typed.Mo T28
-      m16 = λ before given. s26 .next (m15 (before .before) (before .ledger .given)) given
-      module _ (before· : After-ledger) where
-        pub record After-inflight·own : Type 0 where
-          pub given : s26 .gives (m15 (before· .before) (before· .ledger .given))
-      pub record After-inflight : Type 0 where
-        pub before : After-ledger
-        pub inflight : After-inflight·own before
+      abbrev pub After-new·gave : (c : After-new) → s1 .gives (m1 (c .before .before) (c .before .name .given))
+      After-new·gave = λ c. Called.given ps·0 r·0 (claims· .1) T2 (record { pos = 1; ty = Syntax.tyRef (Syntax.named 0) Syntax.imm RelayPending.to;
+          ref = λ x. x; }, (record { pos = 2; ty = Syntax.tyRef (Syntax.named 1) Syntax.imm RelayCircuit.to; ref = λ x. x; }, (record { pos = 3; ty =
+          Syntax.tyRef (Syntax.named 2) Syntax.imm ReservationUsage.to; ref = λ x. x; }, (record { pos = 4; ty = Syntax.tyRef (Syntax.named 3)
+          Syntax.imm InflightAction.to; ref = λ x. x; }, (record { pos = 9; st = List.[]; d = 0; at = λ x. x }, (Num.vAt 6 λ x. x, (record { pos = 7;
+          st = List.[]; d = 0; at = λ x. x }, (Num.vAt 8 λ x. x, tt)),),),),),),) (m1 (c .before .before) (c .before .name .given)) (c .new)
+      abbrev pub m3 : (before : After-name) → (given : s1 .gives (m1 (before .before) (before .name .given))) → Typed.Mo T4
+      m3 = λ before given. s2 (m2 before given)
+      abbrev pub m4 : (before : After-name) → (given : s1 .gives (m1 (before .before) (before .name .given))) → Typed.Mo T5
+      m4 = λ before given. s3 (m3 before given)
       abbrev pub Need-reply-requires : Type 0
-      Need-reply-requires = (c : After-inflight) → s28 .asks (m16 (c .before) (c .inflight .given))
-      abbrev pub m17 : (before : After-inflight) → (given : s28 .gives (m16 (before .before) (before .inflight .given))) → Typed.Mo T30
-      m17 = λ before given. s28 .next (m16 (before .before) (before .inflight .given)) given
-      module _ (before· : After-inflight) where
+      Need-reply-requires = (c : After-new) → s4 .asks (m4 (c .before) (After-new·gave c))
+      abbrev pub m5 : (before : After-new) → (given : s4 .gives (m4 (before .before) (After-new·gave before))) → Typed.Mo T6
+      m5 = λ before given. s4 .next (m4 (before .before) (After-new·gave before)) given
+      module _ (before· : After-new) where
         abbrev pub After-reply·own : Type 0
-        After-reply·own = Called.Called ps·1 r·1 (claims· .3) T28 (record { pos = 10; st = List.[]; d = 0; at = λ x. x }, tt,) (m16 (before· .before)
-            (before· .inflight .given))
+        After-reply·own = Called.Called ps·1 r·1 (claims· .3) T5 (record { pos = 10; st = List.[]; d = 0; at = λ x. x }, tt,) (m4 (before· .before)
+            (After-new·gave before·))
       pub record After-reply : Type 0 where
-        pub before : After-inflight
+        pub before : After-new
         pub reply : After-reply·own before
-      abbrev pub After-reply·gave : (c : After-reply) → s28 .gives (m16 (c .before .before) (c .before .inflight .given))
-      After-reply·gave = λ c. Called.given ps·1 r·1 (claims· .3) T28 (record { pos = 10; st = List.[]; d = 0; at = λ x. x }, tt,) (m16 (c .before
-          .before) (c .before .inflight .given)) (c .reply)
-      abbrev pub m18 : (before : After-inflight) → (given : s28 .gives (m16 (before .before) (before .inflight .given))) → Typed.Mo T31
-      m18 = λ before given. s29 (m17 before given)
-      abbrev pub m19 : (before : After-inflight) → (given : s28 .gives (m16 (before .before) (before .inflight .given))) → Typed.Mo T32
-      m19 = λ before given. s30 (m18 before given)
-      abbrev pub m20 : (before : After-inflight) → (given : s28 .gives (m16 (before .before) (before .inflight .given))) → Typed.Mo T33
-      m20 = λ before given. s31 (m19 before given)
-      abbrev pub Need-same-length : Type 0
-      Need-same-length = (c : After-reply) → MutSlice.SameLen (Row.get 1 (T33 .locals) (m20 (c .before) (After-reply·gave c))) (dens (c .before
-          .before .before .before .before .before .before .before .before .before .before .κs) (c .before .before .before .before .before .before
-          .before .before .before .before .before .args) .0)
-      abbrev pub Need-same-length-2 : Type 0
-      Need-same-length-2 = (c : After-reply) → MutSlice.SameLen (Row.get 2 (T33 .locals) (m20 (c .before) (After-reply·gave c))) (dens (c .before
-          .before .before .before .before .before .before .before .before .before .before .κs) (c .before .before .before .before .before .before
-          .before .before .before .before .before .args) .1 .0)
-      abbrev pub Need-same-length-3 : Type 0
-      Need-same-length-3 = (c : After-reply) → MutSlice.SameLen (Row.get 3 (T33 .locals) (m20 (c .before) (After-reply·gave c))) (dens (c .before
-          .before .before .before .before .before .before .before .before .before .before .κs) (c .before .before .before .before .before .before
-          .before .before .before .before .before .args) .1 .1 .0)
-      abbrev pub Need-same-length-4 : Type 0
-      Need-same-length-4 = (c : After-reply) → MutSlice.SameLen (Row.get 4 (T33 .locals) (m20 (c .before) (After-reply·gave c))) (dens (c .before
-          .before .before .before .before .before .before .before .before .before .before .κs) (c .before .before .before .before .before .before
-          .before .before .before .before .before .args) .1 .1 .1 .0)
+      abbrev pub After-reply·gave : (c : After-reply) → s4 .gives (m4 (c .before .before) (After-new·gave (c .before)))
+      After-reply·gave = λ c. Called.given ps·1 r·1 (claims· .3) T5 (record { pos = 10; st = List.[]; d = 0; at = λ x. x }, tt,) (m4 (c .before
+          .before) (After-new·gave (c .before))) (c .reply)
+      abbrev pub m6 : (before : After-new) → (given : s4 .gives (m4 (before .before) (After-new·gave before))) → Typed.Mo T7
+      m6 = λ before given. s5 (m5 before given)
+      abbrev pub m7 : (before : After-new) → (given : s4 .gives (m4 (before .before) (After-new·gave before))) → Typed.Mo T8
+      m7 = λ before given. s6 (m6 before given)
+      abbrev pub m8 : (before : After-new) → (given : s4 .gives (m4 (before .before) (After-new·gave before))) → Typed.Mo T9
+      m8 = λ before given. s7 (m7 before given)
       abbrev pub Need-returns : Type 0
-      Need-returns = (c : After-reply) → Post· (c .before .before .before .before .before .before .before .before .before .before .before .κs) (dens
-          (c .before .before .before .before .before .before .before .before .before .before .before .κs) (c .before .before .before .before .before
-          .before .before .before .before .before .before .args)) (Function.resV r (c .before .before .before .before .before .before .before .before
-          .before .before .before .κs) (m20 (c .before) (After-reply·gave c) .0)) (Clauses.atExit (Kinds.endedOf 5 ps r) (c .before .before .before
-          .before .before .before .before .before .before .before .before .κs) (dens (c .before .before .before .before .before .before .before
-          .before .before .before .before .κs) (c .before .before .before .before .before .before .before .before .before .before .before .args))
-          (Enter.lastsP (c .before .before .before .before .before .before .before .before .before .before .before .κs) 1 ps xs (dens (c .before
-          .before .before .before .before .before .before .before .before .before .before .κs) (c .before .before .before .before .before .before
-          .before .before .before .before .before .args)) (m20 (c .before) (After-reply·gave c) .1)))
-      module _ (new-requires : Need-new-requires) (reply-requires : Need-reply-requires) (same-length : Need-same-length) (same-length-2 :
-          Need-same-length-2) (same-length-3 : Need-same-length-3) (same-length-4 : Need-same-length-4) (returns : Need-returns) where
-        lay2 : (c : After-reply) → at3 (W0 (c .before .before .before .before .before .before .before .before .before .before .before .κs) (c .before
-            .before .before .before .before .before .before .before .before .before .before .args)) (m17 (c .before) (After-reply·gave c))
-        lay2 = λ c. ((MutSlice.fix-len (Row.get 1 (T33 .locals) (m20 (c .before) (After-reply·gave c)) .ptr) (Row.get 1 (T33 .locals) (m20 (c .before)
-            (After-reply·gave c)) .name) (Row.get 1 (T33 .locals) (m20 (c .before) (After-reply·gave c)) .now) (dens (c .before .before .before
-            .before .before .before .before .before .before .before .before .κs) (c .before .before .before .before .before .before .before .before
-            .before .before .before .args) .0 .now) (same-length record { before = c .before; reply = c .reply }), (MutSlice.fix-len (Row.get 2 (T33
-            .locals) (m20 (c .before) (After-reply·gave c)) .ptr) (Row.get 2 (T33 .locals) (m20 (c .before) (After-reply·gave c)) .name) (Row.get 2
-            (T33 .locals) (m20 (c .before) (After-reply·gave c)) .now) (dens (c .before .before .before .before .before .before .before .before
-            .before .before .before .κs) (c .before .before .before .before .before .before .before .before .before .before .before .args) .1 .0 .now)
-            (same-length-2 record { before = c .before; reply = c .reply }), (MutSlice.fix-len (Row.get 3 (T33 .locals) (m20 (c .before)
-            (After-reply·gave c)) .ptr) (Row.get 3 (T33 .locals) (m20 (c .before) (After-reply·gave c)) .name) (Row.get 3 (T33 .locals) (m20 (c
-            .before) (After-reply·gave c)) .now) (dens (c .before .before .before .before .before .before .before .before .before .before .before .κs)
-            (c .before .before .before .before .before .before .before .before .before .before .before .args) .1 .1 .0 .now) (same-length-3 record {
-            before = c .before; reply = c .reply }), (MutSlice.fix-len (Row.get 4 (T33 .locals) (m20 (c .before) (After-reply·gave c)) .ptr) (Row.get
-            4 (T33 .locals) (m20 (c .before) (After-reply·gave c)) .name) (Row.get 4 (T33 .locals) (m20 (c .before) (After-reply·gave c)) .now) (dens
-            (c .before .before .before .before .before .before .before .before .before .before .before .κs) (c .before .before .before .before .before
-            .before .before .before .before .before .before .args) .1 .1 .1 .0 .now) (same-length-4 record { before = c .before; reply = c .reply }),
-            (Path.refl, (tt, (tt, (tt, tt)))),),),),), returns record { before = c .before; reply = c .reply },)
-        lay1 : (c : After-new) → at18 (W0 (c .before .before .before .before .before .before .κs) (c .before .before .before .before .before .before
-            .args)) (m10 (c .before) (After-new·gave c))
-        lay1 = λ c. (Path.refl, λ g. (Path.refl, λ g'. (Path.refl, λ g''. (Path.refl, λ g'3. (reply-requires record { before = record { before =
-            record { before = record { before = record { before = c .before; new = c .new }; pending = record { given = g }; }; circuits = record {
-            given = g' }; }; ledger = record { given = g'' }; }; inflight = record { given = g'3 }; }, λ g'4. lay2 record { before = record { before =
-            record { before = record { before = record { before = record { before = c .before; new = c .new }; pending = record { given = g }; };
-            circuits = record { given = g' }; }; ledger = record { given = g'' }; }; inflight = record { given = g'3 }; }; reply = Called.called ps·1
-            r·1 (claims· .3) T28 (record { pos = 10; st = List.[]; d = 0; at = λ x. x }, tt,) (m16 record { before = record { before = record { before
-            = record { before = c .before; new = c .new }; pending = record { given = g }; }; circuits = record { given = g' }; }; ledger = record {
-            given = g'' }; } g'3) g'4; },),),),),)
-        pub laid : (c : Start) → at32 (W0 (c .κs) (c .args)) (m0 (c .κs) (c .args))
-        laid = λ c. λ g. λ g'. (Path.refl, λ g''. (Path.refl, λ g'3. (Path.refl, λ g'4. (Path.refl, (new-requires record { before = record { before =
-            record { before = record { before = record { before = c; name = record { given = g } }; new-arg = record { given = g' }; }; new-arg2 =
-            record { given = g'' }; }; new-arg3 = record { given = g'3 }; }; new-arg4 = record { given = g'4 }; }, λ g'5. lay1 record { before =
-            record { before = record { before = record { before = record { before = record { before = c; name = record { given = g } }; new-arg =
-            record { given = g' }; }; new-arg2 = record { given = g'' }; }; new-arg3 = record { given = g'3 }; }; new-arg4 = record { given = g'4 };
-            }; new = Called.called ps·0 r·0 (claims· .1) T14 (record { pos = 12; ty = Syntax.tyRef Syntax.erased Syntax.mut RelayPending.to; ref = λ
-            x. x; }, (record { pos = 14; ty = Syntax.tyRef Syntax.erased Syntax.mut RelayCircuit.to; ref = λ x. x; }, (record { pos = 16; ty =
-            Syntax.tyRef Syntax.erased Syntax.mut ReservationUsage.to; ref = λ x. x; }, (record { pos = 18; ty = Syntax.tyRef Syntax.erased Syntax.mut
-            InflightAction.to; ref = λ x. x; }, (record { pos = 9; st = List.[]; d = 0; at = λ x. x }, (Num.vAt 6 λ x. x, (record { pos = 7; st =
-            List.[]; d = 0; at = λ x. x }, (Num.vAt 8 λ x. x, tt),),),),),),),) (m9 record { before = record { before = record { before = record {
-            before = c; name = record { given = g } }; new-arg = record { given = g' }; }; new-arg2 = record { given = g'' }; }; new-arg3 = record {
-            given = g'3 }; } g'4) g'5; },),),),),)
+      Need-returns = (c : After-reply) → Post· (c .before .before .before .κs) (dens (c .before .before .before .κs) (c .before .before .before
+          .args)) (Function.resV r (c .before .before .before .κs) (m8 (c .before) (After-reply·gave c) .0)) (Clauses.atExit (Kinds.endedOf 5 ps r) (c
+          .before .before .before .κs) (dens (c .before .before .before .κs) (c .before .before .before .args)) (Enter.lastsP (c .before .before
+          .before .κs) 1 ps xs (dens (c .before .before .before .κs) (c .before .before .before .args)) (m8 (c .before) (After-reply·gave c) .1)))
+      module _ (new-requires : Need-new-requires) (reply-requires : Need-reply-requires) (returns : Need-returns) where
+        lay2 : (c : After-reply) → at3 (W0 (c .before .before .before .κs) (c .before .before .before .args)) (m5 (c .before) (After-reply·gave c))
+        lay2 = λ c. ((Path.refl, (Path.refl, (Path.refl, (Path.refl, (Path.refl, (tt, (tt, (tt, tt))))))),), returns record { before = c .before;
+            reply = c .reply },)
+        lay1 : (c : After-new) → at6 (W0 (c .before .before .κs) (c .before .before .args)) (m2 (c .before) (After-new·gave c))
+        lay1 = λ c. (reply-requires record { before = c .before; new = c .new }, λ g. lay2 record { before = record { before = c .before; new = c .new
+            }; reply = Called.called ps·1 r·1 (claims· .3) T5 (record { pos = 10; st = List.[]; d = 0; at = λ x. x }, tt,) (m4 (c .before)
+            (After-new·gave c)) g; },)
+        pub laid : (c : Start) → at8 (W0 (c .κs) (c .args)) (m0 (c .κs) (c .args))
+        laid = λ c. λ g. (new-requires record { before = c; name = record { given = g } }, λ g'. lay1 record { before = record { before = c; name =
+            record { given = g } }; new = Called.called ps·0 r·0 (claims· .1) T2 (record { pos = 1; ty = Syntax.tyRef (Syntax.named 0) Syntax.imm
+            RelayPending.to; ref = λ x. x; }, (record { pos = 2; ty = Syntax.tyRef (Syntax.named 1) Syntax.imm RelayCircuit.to; ref = λ x. x; },
+            (record { pos = 3; ty = Syntax.tyRef (Syntax.named 2) Syntax.imm ReservationUsage.to; ref = λ x. x; }, (record { pos = 4; ty =
+            Syntax.tyRef (Syntax.named 3) Syntax.imm InflightAction.to; ref = λ x. x; }, (record { pos = 9; st = List.[]; d = 0; at = λ x. x },
+            (Num.vAt 6 λ x. x, (record { pos = 7; st = List.[]; d = 0; at = λ x. x }, (Num.vAt 8 λ x. x, tt),),),),),),),) (m1 c g) g'; },)
         module _ (κs : Lifetimes.Lfts 5) (qs : Lifetimes.Shares 5) where
           pub asked : (a : Kinds.Dens κs ps) → (good : Kinds.GoodsP κs ps a) → (pre : Pre· κs a) → (bs : List.List Nat.ℕ) → Φ (Any.wantQ 5 ps r xs m
               κs qs a (Post· κs a)) (Function.init 5 ps r xs m κs qs a)

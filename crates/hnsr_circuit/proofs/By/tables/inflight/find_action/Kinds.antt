@@ -2,8 +2,6 @@
 use Rattle.hnsr_circuit.proofs.By.InflightAction
 use Rattle.hnsr_circuit.proofs.places.Places
 use Rattle.hnsr_circuit.proofs.places.Places.Laws
-use Rattle.hnsr_circuit.proofs.records.Question
-use Rattle.hnsr_circuit.proofs.records.Question.Laws as Laws'
 use borrow.Fn.Kinds
 use borrow.Kind.ShrSlice
 use borrow.Kind.Value
@@ -11,22 +9,18 @@ use borrow.Rule.Local
 use borrow.Table.Rows
 use denote.Exit
 use denote.Struct.Declared
-use denote.Struct.Laws as Laws''
+use denote.Struct.Laws as Laws'
 use mathlib.Core.List
 use mathlib.Core.Path
 use mir.Syntax
 use mathlib.Core.List.{_∷_}
 
 abbrev pub ps : List.List (Kinds.PK 1)
-ps = (ShrSlice.pShrS InflightAction.row 0 tt) ∷ (Value.pVal record { ty = Declared.row Places.the-type; one = Path.refl; val = Laws''.val
-    Places.the-type Laws.the-laws; tells = Laws''.tells Places.the-type Laws.the-laws; still = Laws''.still Places.the-type Laws.the-copy Exit.yes;
-    row = Rows.whole (Declared.row Places.the-type); rd = λ x. x; mk = λ x. x; } λ M 𝓤 H A W. record { copies = Laws''.copy Places.the-type
-    Laws.the-copy 𝓤 H A W; lawful = Laws''.lawful Places.the-type Laws.the-laws 𝓤 H A W; makes = Laws''.makes Places.the-type Laws.the-plain 𝓤 H A;
-    in-mem = Local.mem-whole 𝓤 H A W (Declared.row Places.the-type); of-mem = Local.whole-mem 𝓤 H A W (Declared.row Places.the-type); }) ∷ (Value.pVal
-    record { ty = Declared.row Question.the-type; one = Path.refl; val = Laws''.val Question.the-type Laws'.the-laws; tells = Laws''.tells
-    Question.the-type Laws'.the-laws; still = Laws''.still Question.the-type Laws'.the-copy Exit.yes; row = Rows.whole (Declared.row
-    Question.the-type); rd = λ x. x; mk = λ x. x; } λ M 𝓤 H A W. record { copies = Laws''.copy Question.the-type Laws'.the-copy 𝓤 H A W; lawful =
-    Laws''.lawful Question.the-type Laws'.the-laws 𝓤 H A W; makes = Laws''.makes Question.the-type Laws'.the-plain 𝓤 H A; in-mem = Local.mem-whole 𝓤 H
-    A W (Declared.row Question.the-type); of-mem = Local.whole-mem 𝓤 H A W (Declared.row Question.the-type); }) ∷ List.[]
+ps = (ShrSlice.pShrS InflightAction.row 0 tt) ∷ (Value.pVal record { ty = Declared.row Places.the-type; one = Path.refl; val = Laws'.val
+    Places.the-type Laws.the-laws; tells = Laws'.tells Places.the-type Laws.the-laws; still = Laws'.still Places.the-type Laws.the-copy Exit.yes; row
+    = Rows.whole (Declared.row Places.the-type); rd = λ x. x; mk = λ x. x; } λ M 𝓤 H A W. record { copies = Laws'.copy Places.the-type Laws.the-copy 𝓤
+    H A W; lawful = Laws'.lawful Places.the-type Laws.the-laws 𝓤 H A W; makes = Laws'.makes Places.the-type Laws.the-plain 𝓤 H A; in-mem =
+    Local.mem-whole 𝓤 H A W (Declared.row Places.the-type); of-mem = Local.whole-mem 𝓤 H A W (Declared.row Places.the-type); }) ∷ (Kinds.pNum
+    Syntax.w64) ∷ (Kinds.pNum Syntax.w64) ∷ List.[]
 abbrev pub r : Kinds.RK 1
 r = Kinds.rNum Syntax.w64

@@ -3,8 +3,6 @@ use Prim.Native.Nat
 use Rattle.hnsr_circuit.proofs.By.InflightAction
 use Rattle.hnsr_circuit.proofs.places.Places
 use Rattle.hnsr_circuit.proofs.places.Places.Laws
-use Rattle.hnsr_circuit.proofs.records.Question
-use Rattle.hnsr_circuit.proofs.records.Question.Laws as Laws'
 use borrow.Author.Called
 use borrow.Author.Tests
 use borrow.Fn.Any
@@ -36,7 +34,7 @@ use borrow.Table.Typed
 use contract.Lifetimes
 use denote.Exit
 use denote.Struct.Declared
-use denote.Struct.Laws as Laws''
+use denote.Struct.Laws as Laws'
 use denote.Triple.Clauses
 use denote.Triple.Statement
 use ghost.Atoms
@@ -46,6 +44,7 @@ use mathlib.Core.List
 use mathlib.Core.Option
 use mathlib.Core.Path
 use mir.Syntax
+use mir.Val
 use prog.Wp
 use types.Kit
 use mathlib.Core.List.{_∷_}
@@ -53,21 +52,17 @@ use mathlib.Core.List.{_∷_}
 abbrev ref0 : Syntax.Ty
 ref0 = Syntax.tyRef (Syntax.named 0) Syntax.imm InflightAction.to
 abbrev pub ps : List.List (Kinds.PK 1)
-ps = (ShrSlice.pShrS InflightAction.row 0 tt) ∷ (Value.pVal record { ty = Declared.row Places.the-type; one = Path.refl; val = Laws''.val
-    Places.the-type Laws.the-laws; tells = Laws''.tells Places.the-type Laws.the-laws; still = Laws''.still Places.the-type Laws.the-copy Exit.yes;
-    row = Rows.whole (Declared.row Places.the-type); rd = λ x. x; mk = λ x. x; } λ M 𝓤 H A W. record { copies = Laws''.copy Places.the-type
-    Laws.the-copy 𝓤 H A W; lawful = Laws''.lawful Places.the-type Laws.the-laws 𝓤 H A W; makes = Laws''.makes Places.the-type Laws.the-plain 𝓤 H A;
-    in-mem = Local.mem-whole 𝓤 H A W (Declared.row Places.the-type); of-mem = Local.whole-mem 𝓤 H A W (Declared.row Places.the-type); }) ∷ (Value.pVal
-    record { ty = Declared.row Question.the-type; one = Path.refl; val = Laws''.val Question.the-type Laws'.the-laws; tells = Laws''.tells
-    Question.the-type Laws'.the-laws; still = Laws''.still Question.the-type Laws'.the-copy Exit.yes; row = Rows.whole (Declared.row
-    Question.the-type); rd = λ x. x; mk = λ x. x; } λ M 𝓤 H A W. record { copies = Laws''.copy Question.the-type Laws'.the-copy 𝓤 H A W; lawful =
-    Laws''.lawful Question.the-type Laws'.the-laws 𝓤 H A W; makes = Laws''.makes Question.the-type Laws'.the-plain 𝓤 H A; in-mem = Local.mem-whole 𝓤 H
-    A W (Declared.row Question.the-type); of-mem = Local.whole-mem 𝓤 H A W (Declared.row Question.the-type); }) ∷ List.[]
+ps = (ShrSlice.pShrS InflightAction.row 0 tt) ∷ (Value.pVal record { ty = Declared.row Places.the-type; one = Path.refl; val = Laws'.val
+    Places.the-type Laws.the-laws; tells = Laws'.tells Places.the-type Laws.the-laws; still = Laws'.still Places.the-type Laws.the-copy Exit.yes; row
+    = Rows.whole (Declared.row Places.the-type); rd = λ x. x; mk = λ x. x; } λ M 𝓤 H A W. record { copies = Laws'.copy Places.the-type Laws.the-copy 𝓤
+    H A W; lawful = Laws'.lawful Places.the-type Laws.the-laws 𝓤 H A W; makes = Laws'.makes Places.the-type Laws.the-plain 𝓤 H A; in-mem =
+    Local.mem-whole 𝓤 H A W (Declared.row Places.the-type); of-mem = Local.whole-mem 𝓤 H A W (Declared.row Places.the-type); }) ∷ (Num.pNum
+    Syntax.w64) ∷ (Num.pNum Syntax.w64) ∷ List.[]
 abbrev pub r : Kinds.RK 1
 r = Num.rNum Syntax.w64
 abbrev pub xs : List.List Syntax.Ty
-xs = (Syntax.tyInt Syntax.w64) ∷ (Syntax.tyInt Syntax.w64) ∷ Syntax.tyBool ∷ (Syntax.tyInt Syntax.w64) ∷ InflightAction.ty ∷ Syntax.tyBool ∷
-    (Syntax.tyInt Syntax.w64) ∷ Syntax.tyPtr ∷ InflightAction.ty ∷ Syntax.tyBool ∷ List.[]
+xs = (Syntax.tyInt Syntax.w64) ∷ (Syntax.tyInt Syntax.w64) ∷ (Syntax.tyInt Syntax.w64) ∷ InflightAction.ty ∷ Syntax.tyBool ∷ (Syntax.tyInt Syntax.w64)
+    ∷ Syntax.tyPtr ∷ InflightAction.ty ∷ Syntax.tyBool ∷ List.[]
 abbrev pub m : Nat.ℕ
 m = 0
 abbrev pub ps·0 : List.List (Kinds.PK 0)
@@ -75,116 +70,93 @@ ps·0 = (Num.pNum Syntax.w64) ∷ (Num.pNum Syntax.w64) ∷ List.[]
 abbrev pub r·0 : Kinds.RK 0
 r·0 = Num.rNum Syntax.w64
 abbrev pub ps·1 : List.List (Kinds.PK 0)
-ps·1 = (Value.pVal record { ty = Declared.row Question.the-type; one = Path.refl; val = Laws''.val Question.the-type Laws'.the-laws; tells =
-    Laws''.tells Question.the-type Laws'.the-laws; still = Laws''.still Question.the-type Laws'.the-copy Exit.yes; row = Rows.whole (Declared.row
-    Question.the-type); rd = λ x. x; mk = λ x. x; } λ M 𝓤 H A W. record { copies = Laws''.copy Question.the-type Laws'.the-copy 𝓤 H A W; lawful =
-    Laws''.lawful Question.the-type Laws'.the-laws 𝓤 H A W; makes = Laws''.makes Question.the-type Laws'.the-plain 𝓤 H A; in-mem = Local.mem-whole 𝓤 H
-    A W (Declared.row Question.the-type); of-mem = Local.whole-mem 𝓤 H A W (Declared.row Question.the-type); }) ∷ List.[]
+ps·1 = InflightAction.param ∷ (Num.pNum Syntax.w64) ∷ (Num.pNum Syntax.w64) ∷ List.[]
 abbrev pub r·1 : Kinds.RK 0
 r·1 = Bool.rBool
-abbrev pub ps·2 : List.List (Kinds.PK 0)
-ps·2 = InflightAction.param ∷ (Value.pVal record { ty = Declared.row Question.the-type; one = Path.refl; val = Laws''.val Question.the-type
-    Laws'.the-laws; tells = Laws''.tells Question.the-type Laws'.the-laws; still = Laws''.still Question.the-type Laws'.the-copy Exit.yes; row =
-    Rows.whole (Declared.row Question.the-type); rd = λ x. x; mk = λ x. x; } λ M 𝓤 H A W. record { copies = Laws''.copy Question.the-type
-    Laws'.the-copy 𝓤 H A W; lawful = Laws''.lawful Question.the-type Laws'.the-laws 𝓤 H A W; makes = Laws''.makes Question.the-type Laws'.the-plain 𝓤
-    H A; in-mem = Local.mem-whole 𝓤 H A W (Declared.row Question.the-type); of-mem = Local.whole-mem 𝓤 H A W (Declared.row Question.the-type); }) ∷
-    List.[]
-abbrev pub r·2 : Kinds.RK 0
-r·2 = Bool.rBool
-abbrev pub ps·3 : List.List (Kinds.PK 0)
-ps·3 = Bool.pBool ∷ (Num.pNum Syntax.w64) ∷ (Num.pNum Syntax.w64) ∷ List.[]
-abbrev pub r·3 : Kinds.RK 0
-r·3 = Num.rNum Syntax.w64
 abbrev pub hs : List.List Syntax.Home
 hs = Syntax.valueLocal ∷ Syntax.valueLocal ∷ Syntax.valueLocal ∷ Syntax.valueLocal ∷ Syntax.valueLocal ∷ Syntax.valueLocal ∷ Syntax.valueLocal ∷
     Syntax.valueLocal ∷ Syntax.valueLocal ∷ Syntax.valueLocal ∷ Syntax.valueLocal ∷ Syntax.valueLocal ∷ Syntax.valueLocal ∷ Syntax.valueLocal ∷
     List.[]
 abbrev b0 : Syntax.Body
-b0 = Syntax.assign (Syntax.place 4 List.[]) (Syntax.rvOpd (Syntax.copy (Syntax.place 1 ((Syntax.field 1) ∷ List.[]))))
+b0 = Syntax.assign (Syntax.place 5 List.[]) (Syntax.rvOpd (Syntax.copy (Syntax.place 1 ((Syntax.field 1) ∷ List.[]))))
 abbrev b1 : Syntax.Body
-b1 = Syntax.call "hns_encoding::numbers::min_usize" ((Syntax.copy (Syntax.place 2 ((Syntax.field 3) ∷ List.[]))) ∷ (Syntax.copy (Syntax.place 4
-    List.[])) ∷ List.[]) (Syntax.place 5 List.[])
+b1 = Syntax.call "hns_encoding::numbers::min_usize" ((Syntax.copy (Syntax.place 2 ((Syntax.field 3) ∷ List.[]))) ∷ (Syntax.copy (Syntax.place 5
+    List.[])) ∷ List.[]) (Syntax.place 6 List.[])
 abbrev b2 : Syntax.Body
-b2 = Syntax.call "hnsr_circuit::places::asks_unused" ((Syntax.copy (Syntax.place 3 List.[])) ∷ List.[]) (Syntax.place 6 List.[])
+b2 = Syntax.assign (Syntax.place 7 List.[]) (Syntax.rvOpd (Syntax.int Syntax.w64 0))
 abbrev b3 : Syntax.Body
-b3 = Syntax.assign (Syntax.place 7 List.[]) (Syntax.rvOpd (Syntax.int Syntax.w64 0))
+b3 = Syntax.assign (Syntax.place 9 List.[]) (Syntax.op2 (Syntax.lt Syntax.unsigned) (Syntax.copy (Syntax.place 7 List.[])) (Syntax.copy (Syntax.place
+    6 List.[])))
 abbrev b4 : Syntax.Body
-b4 = Syntax.assign (Syntax.place 9 List.[]) (Syntax.op2 (Syntax.lt Syntax.unsigned) (Syntax.copy (Syntax.place 7 List.[])) (Syntax.copy (Syntax.place
-    5 List.[])))
+b4 = Syntax.skip
 abbrev b5 : Syntax.Body
-b5 = Syntax.skip
+b5 = Syntax.exit 1
 abbrev b6 : Syntax.Body
-b6 = Syntax.exit 1
+b6 = Syntax.cond (Syntax.copy (Syntax.place 9 List.[])) b4 b5
 abbrev b7 : Syntax.Body
-b7 = Syntax.cond (Syntax.copy (Syntax.place 9 List.[])) b5 b6
-abbrev b8 : Syntax.Body
-b8 = Syntax.assign (Syntax.place 10 List.[]) (Syntax.op2 (Syntax.mul Syntax.unsigned) (Syntax.copy (Syntax.place 7 List.[])) (Syntax.int Syntax.w64
+b7 = Syntax.assign (Syntax.place 10 List.[]) (Syntax.op2 (Syntax.mul Syntax.unsigned) (Syntax.copy (Syntax.place 7 List.[])) (Syntax.int Syntax.w64
     184))
-abbrev b9 : Syntax.Body
-b9 = Syntax.assign (Syntax.place 11 List.[]) (Syntax.op2 Syntax.offset (Syntax.copy (Syntax.place 1 ((Syntax.field 0) ∷ List.[]))) (Syntax.copy
+abbrev b8 : Syntax.Body
+b8 = Syntax.assign (Syntax.place 11 List.[]) (Syntax.op2 Syntax.offset (Syntax.copy (Syntax.place 1 ((Syntax.field 0) ∷ List.[]))) (Syntax.copy
     (Syntax.place 10 List.[])))
+abbrev b9 : Syntax.Body
+b9 = Syntax.assign (Syntax.place 12 List.[]) (Syntax.rvOpd (Syntax.copy (Syntax.place 11 ((Syntax.deref InflightAction.ty) ∷ List.[]))))
 abbrev b10 : Syntax.Body
-b10 = Syntax.assign (Syntax.place 12 List.[]) (Syntax.rvOpd (Syntax.copy (Syntax.place 11 ((Syntax.deref InflightAction.ty) ∷ List.[]))))
+b10 = Syntax.assign (Syntax.place 8 List.[]) (Syntax.rvOpd (Syntax.copy (Syntax.place 12 List.[])))
 abbrev b11 : Syntax.Body
-b11 = Syntax.assign (Syntax.place 8 List.[]) (Syntax.rvOpd (Syntax.copy (Syntax.place 12 List.[])))
+b11 = Syntax.call "hnsr_circuit::inflight::action_is" ((Syntax.copy (Syntax.place 8 List.[])) ∷ (Syntax.copy (Syntax.place 3 List.[])) ∷ (Syntax.copy
+    (Syntax.place 4 List.[])) ∷ List.[]) (Syntax.place 13 List.[])
 abbrev b12 : Syntax.Body
-b12 = Syntax.call "hnsr_circuit::question::action_has" ((Syntax.copy (Syntax.place 8 List.[])) ∷ (Syntax.copy (Syntax.place 3 List.[])) ∷ List.[])
-    (Syntax.place 13 List.[])
+b12 = Syntax.assign (Syntax.place 0 List.[]) (Syntax.rvOpd (Syntax.copy (Syntax.place 7 List.[])))
 abbrev b13 : Syntax.Body
-b13 = Syntax.assign (Syntax.place 0 List.[]) (Syntax.rvOpd (Syntax.copy (Syntax.place 7 List.[])))
+b13 = Syntax.return
 abbrev b14 : Syntax.Body
-b14 = Syntax.return
+b14 = Syntax.seq b12 b13
 abbrev b15 : Syntax.Body
-b15 = Syntax.seq b13 b14
+b15 = Syntax.skip
 abbrev b16 : Syntax.Body
-b16 = Syntax.skip
+b16 = Syntax.cond (Syntax.copy (Syntax.place 13 List.[])) b14 b15
 abbrev b17 : Syntax.Body
-b17 = Syntax.cond (Syntax.copy (Syntax.place 13 List.[])) b15 b16
-abbrev b18 : Syntax.Body
-b18 = Syntax.assign (Syntax.place 7 List.[]) (Syntax.op2 (Syntax.add Syntax.unsigned) (Syntax.copy (Syntax.place 7 List.[])) (Syntax.int Syntax.w64
+b17 = Syntax.assign (Syntax.place 7 List.[]) (Syntax.op2 (Syntax.add Syntax.unsigned) (Syntax.copy (Syntax.place 7 List.[])) (Syntax.int Syntax.w64
     1))
+abbrev b18 : Syntax.Body
+b18 = Syntax.seq b16 b17
 abbrev b19 : Syntax.Body
-b19 = Syntax.seq b17 b18
+b19 = Syntax.seq b11 b18
 abbrev b20 : Syntax.Body
-b20 = Syntax.seq b12 b19
+b20 = Syntax.seq b10 b19
 abbrev b21 : Syntax.Body
-b21 = Syntax.seq b11 b20
+b21 = Syntax.seq b9 b20
 abbrev b22 : Syntax.Body
-b22 = Syntax.seq b10 b21
+b22 = Syntax.seq b8 b21
 abbrev b23 : Syntax.Body
-b23 = Syntax.seq b9 b22
+b23 = Syntax.seq b7 b22
 abbrev b24 : Syntax.Body
-b24 = Syntax.seq b8 b23
+b24 = Syntax.seq b6 b23
 abbrev b25 : Syntax.Body
-b25 = Syntax.seq b7 b24
+b25 = Syntax.seq b3 b24
 abbrev b26 : Syntax.Body
-b26 = Syntax.seq b4 b25
+b26 = Syntax.loop b25
 abbrev b27 : Syntax.Body
-b27 = Syntax.loop b26
+b27 = Syntax.block b26
 abbrev b28 : Syntax.Body
-b28 = Syntax.block b27
+b28 = Syntax.assign (Syntax.place 0 List.[]) (Syntax.rvOpd (Syntax.copy (Syntax.place 5 List.[])))
 abbrev b29 : Syntax.Body
-b29 = Syntax.call "hnsr_circuit::places::or_else" ((Syntax.copy (Syntax.place 6 List.[])) ∷ (Syntax.copy (Syntax.place 7 List.[])) ∷ (Syntax.copy
-    (Syntax.place 4 List.[])) ∷ List.[]) (Syntax.place 0 List.[])
+b29 = Syntax.return
 abbrev b30 : Syntax.Body
-b30 = Syntax.return
+b30 = Syntax.seq b28 b29
 abbrev b31 : Syntax.Body
-b31 = Syntax.seq b29 b30
+b31 = Syntax.seq b27 b30
 abbrev b32 : Syntax.Body
-b32 = Syntax.seq b28 b31
+b32 = Syntax.seq b2 b31
 abbrev b33 : Syntax.Body
-b33 = Syntax.seq b3 b32
+b33 = Syntax.seq b1 b32
 abbrev b34 : Syntax.Body
-b34 = Syntax.seq b2 b33
-abbrev b35 : Syntax.Body
-b35 = Syntax.seq b1 b34
-abbrev b36 : Syntax.Body
-b36 = Syntax.seq b0 b35
+b34 = Syntax.seq b0 b33
 abbrev pub body : Syntax.Body
-body = b36
+body = b34
 abbrev pub Claims : Type 1
-Claims = Kinds.In 0 ps·0 × Kinds.Out 0 ps·0 r·0 × Kinds.In 0 ps·1 × Kinds.Out 0 ps·1 r·1 × Kinds.In 0 ps·2 × Kinds.Out 0 ps·2 r·2 × Kinds.In 0 ps·3 ×
-    Kinds.Out 0 ps·3 r·3
+Claims = Kinds.In 0 ps·0 × Kinds.Out 0 ps·0 r·0 × Kinds.In 0 ps·1 × Kinds.Out 0 ps·1 r·1
 abbrev e0 : Row.Entry
 e0 = (0, Rows.any-gone (Syntax.tyInt Syntax.w64))
 abbrev e1 : Row.Entry
@@ -192,13 +164,13 @@ e1 = (1, Rows.sslice InflightAction.row ref0 0)
 abbrev e2 : Row.Entry
 e2 = (2, Rows.whole (Declared.row Places.the-type))
 abbrev e3 : Row.Entry
-e3 = (3, Rows.whole (Declared.row Question.the-type))
+e3 = (3, Rows.sc-here (Row.sInt Syntax.w64))
 abbrev e4 : Row.Entry
-e4 = (4, Rows.any-gone (Syntax.tyInt Syntax.w64))
+e4 = (4, Rows.sc-here (Row.sInt Syntax.w64))
 abbrev e5 : Row.Entry
 e5 = (5, Rows.any-gone (Syntax.tyInt Syntax.w64))
 abbrev e6 : Row.Entry
-e6 = (6, Rows.any-gone Syntax.tyBool)
+e6 = (6, Rows.any-gone (Syntax.tyInt Syntax.w64))
 abbrev e7 : Row.Entry
 e7 = (7, Rows.any-gone (Syntax.tyInt Syntax.w64))
 abbrev e8 : Row.Entry
@@ -218,13 +190,13 @@ e0·1 = (0, Rows.sc-here (Row.sInt Syntax.w64))
 abbrev e2·1 : Row.Entry
 e2·1 = (2, Rows.any-gone Laws.mir)
 abbrev e3·1 : Row.Entry
-e3·1 = (3, Rows.any-gone Laws'.mir)
+e3·1 = (3, Rows.any-gone (Syntax.tyInt Syntax.w64))
 abbrev e4·1 : Row.Entry
-e4·1 = (4, Rows.sc-here (Row.sInt Syntax.w64))
+e4·1 = (4, Rows.any-gone (Syntax.tyInt Syntax.w64))
 abbrev e5·1 : Row.Entry
 e5·1 = (5, Rows.sc-here (Row.sInt Syntax.w64))
 abbrev e6·1 : Row.Entry
-e6·1 = (6, Rows.sc-here Row.sBool)
+e6·1 = (6, Rows.sc-here (Row.sInt Syntax.w64))
 abbrev e7·1 : Row.Entry
 e7·1 = (7, Rows.sc-here (Row.sInt Syntax.w64))
 abbrev e9·1 : Row.Entry
@@ -242,51 +214,53 @@ e13·1 = (13, Rows.sc-here Row.sBool)
 abbrev pub t0 : List.List Row.Entry
 t0 = e0 ∷ e1 ∷ e2 ∷ e3 ∷ e4 ∷ e5 ∷ e6 ∷ e7 ∷ e8 ∷ e9 ∷ e10 ∷ e11 ∷ e12 ∷ e13 ∷ List.[]
 abbrev pub t1 : List.List Row.Entry
-t1 = e0·1 ∷ e1 ∷ e2·1 ∷ e3·1 ∷ e4 ∷ e5 ∷ e6 ∷ e7 ∷ e8 ∷ e9 ∷ e10 ∷ e11 ∷ e12 ∷ e13 ∷ List.[]
+t1 = e0·1 ∷ e1 ∷ e2·1 ∷ e3·1 ∷ e4·1 ∷ e5 ∷ e6 ∷ e7 ∷ e8 ∷ e9 ∷ e10 ∷ e11 ∷ e12 ∷ e13 ∷ List.[]
 abbrev pub t2 : List.List Row.Entry
-t2 = e0 ∷ e1 ∷ e2 ∷ e3 ∷ e4·1 ∷ e5 ∷ e6 ∷ e7 ∷ e8 ∷ e9 ∷ e10 ∷ e11 ∷ e12 ∷ e13 ∷ List.[]
+t2 = e0 ∷ e1 ∷ e2 ∷ e3 ∷ e4 ∷ e5·1 ∷ e6 ∷ e7 ∷ e8 ∷ e9 ∷ e10 ∷ e11 ∷ e12 ∷ e13 ∷ List.[]
 abbrev pub t3 : List.List Row.Entry
-t3 = e0 ∷ e1 ∷ e2 ∷ e3 ∷ e4·1 ∷ e5·1 ∷ e6 ∷ e7 ∷ e8 ∷ e9 ∷ e10 ∷ e11 ∷ e12 ∷ e13 ∷ List.[]
+t3 = e0 ∷ e1 ∷ e2 ∷ e3 ∷ e4 ∷ e5·1 ∷ e6·1 ∷ e7 ∷ e8 ∷ e9 ∷ e10 ∷ e11 ∷ e12 ∷ e13 ∷ List.[]
 abbrev pub t4 : List.List Row.Entry
-t4 = e0 ∷ e1 ∷ e2·1 ∷ e3 ∷ e4·1 ∷ e5·1 ∷ e6 ∷ e7 ∷ e8 ∷ e9 ∷ e10 ∷ e11 ∷ e12 ∷ e13 ∷ List.[]
+t4 = e0 ∷ e1 ∷ e2·1 ∷ e3 ∷ e4 ∷ e5·1 ∷ e6·1 ∷ e7 ∷ e8 ∷ e9 ∷ e10 ∷ e11 ∷ e12 ∷ e13 ∷ List.[]
 abbrev pub t5 : List.List Row.Entry
-t5 = e0 ∷ e1 ∷ e2·1 ∷ e3 ∷ e4·1 ∷ e5·1 ∷ e6·1 ∷ e7 ∷ e8 ∷ e9 ∷ e10 ∷ e11 ∷ e12 ∷ e13 ∷ List.[]
+t5 = e0 ∷ e1 ∷ e2·1 ∷ e3 ∷ e4 ∷ e5·1 ∷ e6·1 ∷ e7·1 ∷ e8 ∷ e9 ∷ e10 ∷ e11 ∷ e12 ∷ e13 ∷ List.[]
 abbrev pub t6 : List.List Row.Entry
-t6 = e0 ∷ e1 ∷ e2·1 ∷ e3 ∷ e4·1 ∷ e5·1 ∷ e6·1 ∷ e7·1 ∷ e8 ∷ e9 ∷ e10 ∷ e11 ∷ e12 ∷ e13 ∷ List.[]
+t6 = e0 ∷ e1 ∷ e2·1 ∷ e3 ∷ e4 ∷ e5·1 ∷ e6·1 ∷ e7·1 ∷ e8 ∷ e9·1 ∷ e10 ∷ e11 ∷ e12 ∷ e13 ∷ List.[]
 abbrev pub t7 : List.List Row.Entry
-t7 = e0 ∷ e1 ∷ e2·1 ∷ e3·1 ∷ e4·1 ∷ e5·1 ∷ e6·1 ∷ e7·1 ∷ e8 ∷ e9 ∷ e10 ∷ e11 ∷ e12 ∷ e13 ∷ List.[]
+t7 = e0 ∷ e1 ∷ e2·1 ∷ e3 ∷ e4 ∷ e5·1 ∷ e6·1 ∷ e7·1 ∷ e8 ∷ e9 ∷ e10·1 ∷ e11 ∷ e12 ∷ e13 ∷ List.[]
 abbrev pub t8 : List.List Row.Entry
-t8 = e0 ∷ e1 ∷ e2·1 ∷ e3 ∷ e4·1 ∷ e5·1 ∷ e6·1 ∷ e7·1 ∷ e8 ∷ e9·1 ∷ e10 ∷ e11 ∷ e12 ∷ e13 ∷ List.[]
+t8 = e0 ∷ e1 ∷ e2·1 ∷ e3 ∷ e4 ∷ e5·1 ∷ e6·1 ∷ e7·1 ∷ e8 ∷ e9 ∷ e10·1 ∷ e11·1 ∷ e12 ∷ e13 ∷ List.[]
 abbrev pub t9 : List.List Row.Entry
-t9 = e0 ∷ e1 ∷ e2·1 ∷ e3·1 ∷ e4·1 ∷ e5·1 ∷ e6·1 ∷ e7·1 ∷ e8 ∷ e9·1 ∷ e10 ∷ e11 ∷ e12 ∷ e13 ∷ List.[]
+t9 = e0 ∷ e1 ∷ e2·1 ∷ e3 ∷ e4 ∷ e5·1 ∷ e6·1 ∷ e7·1 ∷ e8 ∷ e9 ∷ e10·1 ∷ e11·1 ∷ e12·1 ∷ e13 ∷ List.[]
 abbrev pub t10 : List.List Row.Entry
-t10 = e0 ∷ e1 ∷ e2·1 ∷ e3 ∷ e4·1 ∷ e5·1 ∷ e6·1 ∷ e7·1 ∷ e8 ∷ e9 ∷ e10·1 ∷ e11 ∷ e12 ∷ e13 ∷ List.[]
+t10 = e0 ∷ e1 ∷ e2·1 ∷ e3 ∷ e4 ∷ e5·1 ∷ e6·1 ∷ e7·1 ∷ e8 ∷ e9 ∷ e10 ∷ e11·1 ∷ e12·1 ∷ e13 ∷ List.[]
 abbrev pub t11 : List.List Row.Entry
-t11 = e0 ∷ e1 ∷ e2·1 ∷ e3 ∷ e4·1 ∷ e5·1 ∷ e6·1 ∷ e7·1 ∷ e8 ∷ e9 ∷ e10·1 ∷ e11·1 ∷ e12 ∷ e13 ∷ List.[]
+t11 = e0 ∷ e1 ∷ e2·1 ∷ e3 ∷ e4 ∷ e5·1 ∷ e6·1 ∷ e7·1 ∷ e8 ∷ e9 ∷ e10 ∷ e11 ∷ e12·1 ∷ e13 ∷ List.[]
 abbrev pub t12 : List.List Row.Entry
-t12 = e0 ∷ e1 ∷ e2·1 ∷ e3 ∷ e4·1 ∷ e5·1 ∷ e6·1 ∷ e7·1 ∷ e8 ∷ e9 ∷ e10·1 ∷ e11·1 ∷ e12·1 ∷ e13 ∷ List.[]
+t12 = e0 ∷ e1 ∷ e2·1 ∷ e3 ∷ e4 ∷ e5·1 ∷ e6·1 ∷ e7·1 ∷ e8·1 ∷ e9 ∷ e10 ∷ e11 ∷ e12·1 ∷ e13 ∷ List.[]
 abbrev pub t13 : List.List Row.Entry
-t13 = e0 ∷ e1 ∷ e2·1 ∷ e3 ∷ e4·1 ∷ e5·1 ∷ e6·1 ∷ e7·1 ∷ e8 ∷ e9 ∷ e10 ∷ e11·1 ∷ e12·1 ∷ e13 ∷ List.[]
+t13 = e0 ∷ e1 ∷ e2·1 ∷ e3 ∷ e4 ∷ e5·1 ∷ e6·1 ∷ e7·1 ∷ e8·1 ∷ e9 ∷ e10 ∷ e11 ∷ e12 ∷ e13 ∷ List.[]
 abbrev pub t14 : List.List Row.Entry
-t14 = e0 ∷ e1 ∷ e2·1 ∷ e3 ∷ e4·1 ∷ e5·1 ∷ e6·1 ∷ e7·1 ∷ e8 ∷ e9 ∷ e10 ∷ e11 ∷ e12·1 ∷ e13 ∷ List.[]
+t14 = e0 ∷ e1 ∷ e2·1 ∷ e3 ∷ e4 ∷ e5·1 ∷ e6·1 ∷ e7·1 ∷ e8·1 ∷ e9 ∷ e10 ∷ e11 ∷ e12 ∷ e13·1 ∷ List.[]
 abbrev pub t15 : List.List Row.Entry
-t15 = e0 ∷ e1 ∷ e2·1 ∷ e3 ∷ e4·1 ∷ e5·1 ∷ e6·1 ∷ e7·1 ∷ e8·1 ∷ e9 ∷ e10 ∷ e11 ∷ e12·1 ∷ e13 ∷ List.[]
+t15 = e0 ∷ e1 ∷ e2·1 ∷ e3 ∷ e4 ∷ e5·1 ∷ e6·1 ∷ e7·1 ∷ e8 ∷ e9 ∷ e10 ∷ e11 ∷ e12 ∷ e13·1 ∷ List.[]
 abbrev pub t16 : List.List Row.Entry
-t16 = e0 ∷ e1 ∷ e2·1 ∷ e3 ∷ e4·1 ∷ e5·1 ∷ e6·1 ∷ e7·1 ∷ e8·1 ∷ e9 ∷ e10 ∷ e11 ∷ e12 ∷ e13 ∷ List.[]
+t16 = e0·1 ∷ e1 ∷ e2·1 ∷ e3 ∷ e4 ∷ e5·1 ∷ e6·1 ∷ e7·1 ∷ e8 ∷ e9 ∷ e10 ∷ e11 ∷ e12 ∷ e13 ∷ List.[]
 abbrev pub t17 : List.List Row.Entry
-t17 = e0 ∷ e1 ∷ e2·1 ∷ e3 ∷ e4·1 ∷ e5·1 ∷ e6·1 ∷ e7·1 ∷ e8·1 ∷ e9 ∷ e10 ∷ e11 ∷ e12 ∷ e13·1 ∷ List.[]
+t17 = e0·1 ∷ e1 ∷ e2·1 ∷ e3·1 ∷ e4 ∷ e5·1 ∷ e6·1 ∷ e7·1 ∷ e8 ∷ e9 ∷ e10 ∷ e11 ∷ e12 ∷ e13 ∷ List.[]
 abbrev pub t18 : List.List Row.Entry
-t18 = e0 ∷ e1 ∷ e2·1 ∷ e3 ∷ e4·1 ∷ e5·1 ∷ e6·1 ∷ e7·1 ∷ e8 ∷ e9 ∷ e10 ∷ e11 ∷ e12 ∷ e13·1 ∷ List.[]
+t18 = e0·1 ∷ e1 ∷ e2·1 ∷ e3·1 ∷ e4·1 ∷ e5·1 ∷ e6·1 ∷ e7·1 ∷ e8 ∷ e9 ∷ e10 ∷ e11 ∷ e12 ∷ e13 ∷ List.[]
 abbrev pub t19 : List.List Row.Entry
-t19 = e0 ∷ e1 ∷ e2·1 ∷ e3·1 ∷ e4·1 ∷ e5·1 ∷ e6·1 ∷ e7·1 ∷ e8 ∷ e9 ∷ e10 ∷ e11 ∷ e12 ∷ e13·1 ∷ List.[]
+t19 = e0·1 ∷ e1 ∷ e2·1 ∷ e3·1 ∷ e4·1 ∷ e5 ∷ e6·1 ∷ e7·1 ∷ e8 ∷ e9 ∷ e10 ∷ e11 ∷ e12 ∷ e13 ∷ List.[]
 abbrev pub t20 : List.List Row.Entry
-t20 = e0·1 ∷ e1 ∷ e2·1 ∷ e3·1 ∷ e4·1 ∷ e5·1 ∷ e6·1 ∷ e7·1 ∷ e8 ∷ e9 ∷ e10 ∷ e11 ∷ e12 ∷ e13 ∷ List.[]
+t20 = e0·1 ∷ e1 ∷ e2·1 ∷ e3·1 ∷ e4·1 ∷ e5 ∷ e6 ∷ e7·1 ∷ e8 ∷ e9 ∷ e10 ∷ e11 ∷ e12 ∷ e13 ∷ List.[]
 abbrev pub t21 : List.List Row.Entry
-t21 = e0·1 ∷ e1 ∷ e2·1 ∷ e3·1 ∷ e4 ∷ e5·1 ∷ e6·1 ∷ e7·1 ∷ e8 ∷ e9 ∷ e10 ∷ e11 ∷ e12 ∷ e13 ∷ List.[]
+t21 = e0·1 ∷ e1 ∷ e2·1 ∷ e3 ∷ e4 ∷ e5 ∷ e6·1 ∷ e7·1 ∷ e8 ∷ e9 ∷ e10 ∷ e11 ∷ e12 ∷ e13 ∷ List.[]
 abbrev pub t22 : List.List Row.Entry
-t22 = e0·1 ∷ e1 ∷ e2·1 ∷ e3·1 ∷ e4 ∷ e5 ∷ e6·1 ∷ e7·1 ∷ e8 ∷ e9 ∷ e10 ∷ e11 ∷ e12 ∷ e13 ∷ List.[]
+t22 = e0·1 ∷ e1 ∷ e2·1 ∷ e3 ∷ e4 ∷ e5 ∷ e6 ∷ e7·1 ∷ e8 ∷ e9 ∷ e10 ∷ e11 ∷ e12 ∷ e13 ∷ List.[]
 abbrev pub t23 : List.List Row.Entry
-t23 = e0·1 ∷ e1 ∷ e2·1 ∷ e3·1 ∷ e4 ∷ e5 ∷ e6 ∷ e7·1 ∷ e8 ∷ e9 ∷ e10 ∷ e11 ∷ e12 ∷ e13 ∷ List.[]
+t23 = e0·1 ∷ e1 ∷ e2·1 ∷ e3 ∷ e4 ∷ e5 ∷ e6 ∷ e7 ∷ e8 ∷ e9 ∷ e10 ∷ e11 ∷ e12 ∷ e13 ∷ List.[]
+abbrev pub t24 : List.List Row.Entry
+t24 = e0·1 ∷ e1 ∷ e2·1 ∷ e3·1 ∷ e4 ∷ e5 ∷ e6 ∷ e7 ∷ e8 ∷ e9 ∷ e10 ∷ e11 ∷ e12 ∷ e13 ∷ List.[]
 abbrev pub T0 : Row.Cx
 T0 = record { locals = t0; slots = List.[] }
 abbrev pub T1 : Row.Cx
@@ -300,271 +274,263 @@ T4 = record { locals = t4; slots = List.[] }
 abbrev pub T5 : Row.Cx
 T5 = record { locals = t5; slots = List.[] }
 abbrev pub T6 : Row.Cx
-T6 = record { locals = t6; slots = List.[] }
+T6 = record { locals = t5; slots = List.[] }
 abbrev pub T7 : Row.Cx
-T7 = record { locals = t7; slots = List.[] }
+T7 = record { locals = t6; slots = List.[] }
 abbrev pub T8 : Row.Cx
-T8 = record { locals = t8; slots = List.[] }
+T8 = record { locals = t5; slots = List.[] }
 abbrev pub T9 : Row.Cx
-T9 = record { locals = t6; slots = List.[] }
+T9 = record { locals = t5; slots = List.[] }
 abbrev pub T10 : Row.Cx
-T10 = record { locals = t6; slots = List.[] }
+T10 = record { locals = t5; slots = List.[] }
 abbrev pub T11 : Row.Cx
-T11 = record { locals = t9; slots = List.[] }
+T11 = record { locals = t7; slots = List.[] }
 abbrev pub T12 : Row.Cx
-T12 = record { locals = t7; slots = List.[] }
+T12 = record { locals = t8; slots = List.[] }
 abbrev pub T13 : Row.Cx
-T13 = record { locals = t10; slots = List.[] }
+T13 = record { locals = t9; slots = List.[] }
 abbrev pub T14 : Row.Cx
-T14 = record { locals = t11; slots = List.[] }
+T14 = record { locals = t10; slots = List.[] }
 abbrev pub T15 : Row.Cx
-T15 = record { locals = t12; slots = List.[] }
+T15 = record { locals = t11; slots = List.[] }
 abbrev pub T16 : Row.Cx
-T16 = record { locals = t13; slots = List.[] }
+T16 = record { locals = t12; slots = List.[] }
 abbrev pub T17 : Row.Cx
-T17 = record { locals = t14; slots = List.[] }
+T17 = record { locals = t13; slots = List.[] }
 abbrev pub T18 : Row.Cx
-T18 = record { locals = t15; slots = List.[] }
+T18 = record { locals = t14; slots = List.[] }
 abbrev pub T19 : Row.Cx
-T19 = record { locals = t16; slots = List.[] }
+T19 = record { locals = t5; slots = List.[] }
 abbrev pub T20 : Row.Cx
-T20 = record { locals = t17; slots = List.[] }
+T20 = record { locals = t15; slots = List.[] }
 abbrev pub T21 : Row.Cx
-T21 = record { locals = t6; slots = List.[] }
+T21 = record { locals = t5; slots = List.[] }
 abbrev pub T22 : Row.Cx
-T22 = record { locals = t18; slots = List.[] }
+T22 = record { locals = t16; slots = List.[] }
 abbrev pub T23 : Row.Cx
-T23 = record { locals = t19; slots = List.[] }
+T23 = record { locals = t17; slots = List.[] }
 abbrev pub T24 : Row.Cx
-T24 = record { locals = t7; slots = List.[] }
+T24 = record { locals = t18; slots = List.[] }
 abbrev pub T25 : Row.Cx
-T25 = record { locals = t20; slots = List.[] }
+T25 = record { locals = t19; slots = List.[] }
 abbrev pub T26 : Row.Cx
-T26 = record { locals = t21; slots = List.[] }
+T26 = record { locals = t20; slots = List.[] }
 abbrev pub T27 : Row.Cx
-T27 = record { locals = t22; slots = List.[] }
+T27 = record { locals = t1; slots = List.[] }
 abbrev pub T28 : Row.Cx
-T28 = record { locals = t23; slots = List.[] }
+T28 = record { locals = t5; slots = List.[] }
 abbrev pub T29 : Row.Cx
-T29 = record { locals = t1; slots = List.[] }
+T29 = record { locals = t5; slots = List.[] }
 abbrev pub T30 : Row.Cx
-T30 = record { locals = t6; slots = List.[] }
+T30 = record { locals = t16; slots = List.[] }
 abbrev pub T31 : Row.Cx
-T31 = record { locals = t6; slots = List.[] }
+T31 = record { locals = t21; slots = List.[] }
 abbrev pub T32 : Row.Cx
-T32 = record { locals = t20; slots = List.[] }
+T32 = record { locals = t22; slots = List.[] }
 abbrev pub T33 : Row.Cx
-T33 = record { locals = t21; slots = List.[] }
+T33 = record { locals = t23; slots = List.[] }
 abbrev pub T34 : Row.Cx
-T34 = record { locals = t22; slots = List.[] }
+T34 = record { locals = t24; slots = List.[] }
 abbrev pub T35 : Row.Cx
-T35 = record { locals = t23; slots = List.[] }
-abbrev pub T36 : Row.Cx
-T36 = record { locals = t1; slots = List.[] }
+T35 = record { locals = t1; slots = List.[] }
 abbrev pub O0 : Typed.Outs
 O0 = record { next = Option.none; exits = List.[]; returns = Option.some T1 }
 abbrev pub O1 : Typed.Outs
-O1 = Typed.withNext (Option.some T7) O0
+O1 = Typed.withNext (Option.some T6) O0
 abbrev pub O2 : Typed.Outs
 O2 = Typed.inBlock₀ O1
 abbrev pub O3 : Typed.Outs
-O3 = Typed.inLoop₀ T6 O2
+O3 = Typed.inLoop₀ T5 O2
 abbrev pub O4 : Typed.Outs
-O4 = Typed.withNext (Option.some T9) O3
+O4 = Typed.withNext (Option.some T8) O3
 abbrev pub O5 : Typed.Outs
-O5 = Typed.withNext (Option.some T21) O3
+O5 = Typed.withNext (Option.some T19) O3
 abbrev pub InvT-loop : Type 1
-InvT-loop = List.List (InflightAction.row .Denot) → Rows.whole (Declared.row Question.the-type) .Mod → Rows.sc-here (Row.sInt Syntax.w64) .Mod →
-    Rows.sc-here (Row.sInt Syntax.w64) .Mod → Rows.sc-here Row.sBool .Mod → Rows.sc-here (Row.sInt Syntax.w64) .Mod → Rows.sc-here (Row.sInt
+InvT-loop = List.List (InflightAction.row .Denot) → Rows.sc-here (Row.sInt Syntax.w64) .Mod → Rows.sc-here (Row.sInt Syntax.w64) .Mod → Rows.sc-here
+    (Row.sInt Syntax.w64) .Mod → Rows.sc-here (Row.sInt Syntax.w64) .Mod → Rows.sc-here (Row.sInt Syntax.w64) .Mod → Rows.sc-here (Row.sInt
     Syntax.w64) .Mod → Type 0
 abbrev pub MeasureT-loop : Type 0
-MeasureT-loop = List.List (InflightAction.row .Denot) → Rows.whole (Declared.row Question.the-type) .Mod → Rows.sc-here (Row.sInt Syntax.w64) .Mod →
-    Rows.sc-here (Row.sInt Syntax.w64) .Mod → Rows.sc-here Row.sBool .Mod → Rows.sc-here (Row.sInt Syntax.w64) .Mod → Rows.sc-here (Row.sInt
-    Syntax.w64) .Mod → Nat.ℕ
+MeasureT-loop = List.List (InflightAction.row .Denot) → Rows.sc-here (Row.sInt Syntax.w64) .Mod → Rows.sc-here (Row.sInt Syntax.w64) .Mod →
+    Rows.sc-here (Row.sInt Syntax.w64) .Mod → Rows.sc-here (Row.sInt Syntax.w64) .Mod → Rows.sc-here (Row.sInt Syntax.w64) .Mod → Rows.sc-here
+    (Row.sInt Syntax.w64) .Mod → Nat.ℕ
 module _ (claims· : Claims) where
   abbrev s0 : Typed.Mo T0 → Typed.Mo T2
-  s0 = Scalar.n-use T0 (Scalar.oFld 1 ((Syntax.field 1) ∷ List.[]) (Syntax.tyInt Syntax.w64) 8 Shared.lenV) 4 (Rows.sc-here (Row.sInt Syntax.w64))
+  s0 = Scalar.n-use T0 (Scalar.oFld 1 ((Syntax.field 1) ∷ List.[]) (Syntax.tyInt Syntax.w64) 8 Shared.lenV) 5 (Rows.sc-here (Row.sInt Syntax.w64))
       (Row.sInt Syntax.w64 .of)
   abbrev s1 : Typed.Both T2 T3
   s1 = Call.callB ps·0 r·0 (claims· .0) (claims· .1) T2 (Num.vFld 2 ((Syntax.field 3) ∷ List.[]) 24 λ x. Places.struct .as-values x .1 .1 .1 .0,
-      (Num.vAt 4 λ x. x, tt),) 5 List.[] (Syntax.tyInt Syntax.w64)
+      (Num.vAt 5 λ x. x, tt),) 6 List.[] (Syntax.tyInt Syntax.w64)
   abbrev s2 : Typed.Mo T3 → Typed.Mo T4
   s2 = Scalar.n-room T3 2 Laws.mir
-  abbrev s3 : Typed.Both T4 T5
-  s3 = Call.callB ps·1 r·1 (claims· .2) (claims· .3) T4 (record { pos = 3; st = List.[]; d = 0; at = λ x. x }, tt,) 6 List.[] Syntax.tyBool
-  abbrev s4 : Typed.Mo T5 → Typed.Mo T6
-  s4 = Scalar.n-use T5 (Scalar.oInt Syntax.w64 0) 7 (Rows.sc-here (Row.sInt Syntax.w64)) (Row.sInt Syntax.w64 .of)
-  abbrev s5 : Typed.Asks T6 T8
-  s5 = Scalar.k-op2 T6 (Syntax.lt Syntax.unsigned) (Scalar.oAt 7 (Syntax.tyInt Syntax.w64) (Row.valS (Row.sInt Syntax.w64))) (Scalar.oAt 5
+  abbrev s3 : Typed.Mo T4 → Typed.Mo T5
+  s3 = Scalar.n-use T4 (Scalar.oInt Syntax.w64 0) 7 (Rows.sc-here (Row.sInt Syntax.w64)) (Row.sInt Syntax.w64 .of)
+  abbrev s4 : Typed.Asks T5 T7
+  s4 = Scalar.k-op2 T5 (Syntax.lt Syntax.unsigned) (Scalar.oAt 7 (Syntax.tyInt Syntax.w64) (Row.valS (Row.sInt Syntax.w64))) (Scalar.oAt 6
       (Syntax.tyInt Syntax.w64) (Row.valS (Row.sInt Syntax.w64))) 9 (Rows.sc-here Row.sBool) (Row.sBool .of)
-  abbrev s6 : Typed.Mo T8 → Typed.Mo T10
-  s6 = Scalar.n-room T8 9 Syntax.tyBool
-  abbrev s7 : Typed.Mo T8 → Typed.Mo T11
-  s7 = Scalar.n-room T8 3 Laws'.mir
-  abbrev s8 : Typed.Mo T11 → Typed.Mo T12
-  s8 = Scalar.n-room T11 9 Syntax.tyBool
-  abbrev s9 : Typed.Asks T9 T13
-  s9 = Scalar.k-op2 T9 (Syntax.mul Syntax.unsigned) (Scalar.oAt 7 (Syntax.tyInt Syntax.w64) (Row.valS (Row.sInt Syntax.w64))) (Scalar.oInt Syntax.w64
+  abbrev s5 : Typed.Mo T7 → Typed.Mo T9
+  s5 = Scalar.n-room T7 9 Syntax.tyBool
+  abbrev s6 : Typed.Mo T7 → Typed.Mo T10
+  s6 = Scalar.n-room T7 9 Syntax.tyBool
+  abbrev s7 : Typed.Asks T8 T11
+  s7 = Scalar.k-op2 T8 (Syntax.mul Syntax.unsigned) (Scalar.oAt 7 (Syntax.tyInt Syntax.w64) (Row.valS (Row.sInt Syntax.w64))) (Scalar.oInt Syntax.w64
       184) 10 (Rows.sc-here (Row.sInt Syntax.w64)) (Row.sInt Syntax.w64 .of)
-  abbrev s10 : Typed.Asks T13 T14
-  s10 = Scalar.k-op2 T13 Syntax.offset (Scalar.oFld 1 ((Syntax.field 0) ∷ List.[]) ref0 0 Reads'.ptrVal) (Scalar.oAt 10 (Syntax.tyInt Syntax.w64)
+  abbrev s8 : Typed.Asks T11 T12
+  s8 = Scalar.k-op2 T11 Syntax.offset (Scalar.oFld 1 ((Syntax.field 0) ∷ List.[]) ref0 0 Reads'.ptrVal) (Scalar.oAt 10 (Syntax.tyInt Syntax.w64)
       (Row.valS (Row.sInt Syntax.w64))) 11 (Rows.sc-here Row.sPtr) (Row.sPtr .of)
-  abbrev s11 : Typed.Both T14 T15
-  s11 = Move.k-shs-copy-out InflightAction.row T14 1 11 12 0 ref0 Row.off InflightAction.held (Shared.bySize 184) (λ u. u .1 .1 .1 .1 .1 .1 .1 .0) (λ
+  abbrev s9 : Typed.Both T12 T13
+  s9 = Move.k-shs-copy-out InflightAction.row T12 1 11 12 0 ref0 Row.off InflightAction.held (Shared.bySize 184) (λ u. u .1 .1 .1 .1 .1 .1 .1 .0) (λ
       x. x) InflightAction.none (λ x. Unit) (λ x. x) λ x. x
+  abbrev s10 : Typed.Mo T13 → Typed.Mo T14
+  s10 = Scalar.n-room T13 10 (Syntax.tyInt Syntax.w64)
+  abbrev s11 : Typed.Mo T14 → Typed.Mo T15
+  s11 = Scalar.n-room T14 11 Syntax.tyPtr
   abbrev s12 : Typed.Mo T15 → Typed.Mo T16
-  s12 = Scalar.n-room T15 10 (Syntax.tyInt Syntax.w64)
+  s12 = LocalCopy.n-val-copy T15 12 8 InflightAction.row InflightAction.held InflightAction.held (λ x. x) (λ x. x) λ x. x
   abbrev s13 : Typed.Mo T16 → Typed.Mo T17
-  s13 = Scalar.n-room T16 11 Syntax.tyPtr
-  abbrev s14 : Typed.Mo T17 → Typed.Mo T18
-  s14 = LocalCopy.n-val-copy T17 12 8 InflightAction.row InflightAction.held InflightAction.held (λ x. x) (λ x. x) λ x. x
-  abbrev s15 : Typed.Mo T18 → Typed.Mo T19
-  s15 = Scalar.n-room T18 12 InflightAction.ty
-  abbrev s16 : Typed.Both T19 T20
-  s16 = Call.callB ps·2 r·2 (claims· .4) (claims· .5) T19 (record { pos = 8; st = List.[]; d = 0; at = λ x. x }, (record { pos = 3; st = List.[]; d =
-      0; at = λ x. x }, tt),) 13 List.[] Syntax.tyBool
-  abbrev s17 : Typed.Mo T20 → Typed.Mo T22
-  s17 = Scalar.n-room T20 8 InflightAction.ty
-  abbrev s18 : Typed.Mo T22 → Typed.Mo T23
-  s18 = Scalar.n-room T22 3 Laws'.mir
-  abbrev s19 : Typed.Mo T23 → Typed.Mo T24
-  s19 = Scalar.n-room T23 13 Syntax.tyBool
-  abbrev s20 : Typed.Mo T24 → Typed.Mo T25
-  s20 = Scalar.n-use T24 (Scalar.oAt 7 (Syntax.tyInt Syntax.w64) (Row.valS (Row.sInt Syntax.w64))) 0 (Rows.sc-here (Row.sInt Syntax.w64)) (Row.sInt
+  s13 = Scalar.n-room T16 12 InflightAction.ty
+  abbrev s14 : Typed.Both T17 T18
+  s14 = Call.callB ps·1 r·1 (claims· .2) (claims· .3) T17 (record { pos = 8; st = List.[]; d = 0; at = λ x. x }, (Num.vAt 3 λ x. x, (Num.vAt 4 λ x. x,
+      tt)),) 13 List.[] Syntax.tyBool
+  abbrev s15 : Typed.Mo T18 → Typed.Mo T20
+  s15 = Scalar.n-room T18 8 InflightAction.ty
+  abbrev s16 : Typed.Mo T20 → Typed.Mo T21
+  s16 = Scalar.n-room T20 13 Syntax.tyBool
+  abbrev s17 : Typed.Mo T21 → Typed.Mo T22
+  s17 = Scalar.n-use T21 (Scalar.oAt 7 (Syntax.tyInt Syntax.w64) (Row.valS (Row.sInt Syntax.w64))) 0 (Rows.sc-here (Row.sInt Syntax.w64)) (Row.sInt
       Syntax.w64 .of)
+  abbrev s18 : Typed.Mo T22 → Typed.Mo T23
+  s18 = Scalar.n-room T22 3 (Syntax.tyInt Syntax.w64)
+  abbrev s19 : Typed.Mo T23 → Typed.Mo T24
+  s19 = Scalar.n-room T23 4 (Syntax.tyInt Syntax.w64)
+  abbrev s20 : Typed.Mo T24 → Typed.Mo T25
+  s20 = Scalar.n-room T24 5 (Syntax.tyInt Syntax.w64)
   abbrev s21 : Typed.Mo T25 → Typed.Mo T26
-  s21 = Scalar.n-room T25 4 (Syntax.tyInt Syntax.w64)
+  s21 = Scalar.n-room T25 6 (Syntax.tyInt Syntax.w64)
   abbrev s22 : Typed.Mo T26 → Typed.Mo T27
-  s22 = Scalar.n-room T26 5 (Syntax.tyInt Syntax.w64)
-  abbrev s23 : Typed.Mo T27 → Typed.Mo T28
-  s23 = Scalar.n-room T27 6 Syntax.tyBool
-  abbrev s24 : Typed.Mo T28 → Typed.Mo T29
-  s24 = Scalar.n-room T28 7 (Syntax.tyInt Syntax.w64)
-  abbrev s25 : Typed.Mo T22 → Typed.Mo T30
-  s25 = Scalar.n-room T22 13 Syntax.tyBool
-  abbrev s26 : Typed.Asks T21 T31
-  s26 = Scalar.k-op2 T21 (Syntax.add Syntax.unsigned) (Scalar.oAt 7 (Syntax.tyInt Syntax.w64) (Row.valS (Row.sInt Syntax.w64))) (Scalar.oInt
+  s22 = Scalar.n-room T26 7 (Syntax.tyInt Syntax.w64)
+  abbrev s23 : Typed.Mo T20 → Typed.Mo T28
+  s23 = Scalar.n-room T20 13 Syntax.tyBool
+  abbrev s24 : Typed.Asks T19 T29
+  s24 = Scalar.k-op2 T19 (Syntax.add Syntax.unsigned) (Scalar.oAt 7 (Syntax.tyInt Syntax.w64) (Row.valS (Row.sInt Syntax.w64))) (Scalar.oInt
       Syntax.w64 1) 7 (Rows.sc-here (Row.sInt Syntax.w64)) (Row.sInt Syntax.w64 .of)
-  abbrev s27 : Typed.Both T7 T32
-  s27 = Call.callB ps·3 r·3 (claims· .6) (claims· .7) T7 (Bool.bAt 6 λ x. x, (Num.vAt 7 λ x. x, (Num.vAt 4 λ x. x, tt)),) 0 List.[] (Syntax.tyInt
-      Syntax.w64)
+  abbrev s25 : Typed.Mo T6 → Typed.Mo T30
+  s25 = Scalar.n-use T6 (Scalar.oAt 5 (Syntax.tyInt Syntax.w64) (Row.valS (Row.sInt Syntax.w64))) 0 (Rows.sc-here (Row.sInt Syntax.w64)) (Row.sInt
+      Syntax.w64 .of)
+  abbrev s26 : Typed.Mo T30 → Typed.Mo T31
+  s26 = Scalar.n-room T30 5 (Syntax.tyInt Syntax.w64)
+  abbrev s27 : Typed.Mo T31 → Typed.Mo T32
+  s27 = Scalar.n-room T31 6 (Syntax.tyInt Syntax.w64)
   abbrev s28 : Typed.Mo T32 → Typed.Mo T33
-  s28 = Scalar.n-room T32 4 (Syntax.tyInt Syntax.w64)
+  s28 = Scalar.n-room T32 7 (Syntax.tyInt Syntax.w64)
   abbrev s29 : Typed.Mo T33 → Typed.Mo T34
-  s29 = Scalar.n-room T33 5 (Syntax.tyInt Syntax.w64)
+  s29 = Scalar.n-room T33 3 (Syntax.tyInt Syntax.w64)
   abbrev s30 : Typed.Mo T34 → Typed.Mo T35
-  s30 = Scalar.n-room T34 6 Syntax.tyBool
-  abbrev s31 : Typed.Mo T35 → Typed.Mo T36
-  s31 = Scalar.n-room T35 7 (Syntax.tyInt Syntax.w64)
-  abbrev put0 : Rows.sc-here (Row.sInt Syntax.w64) .Mod → Typed.Mo T6 → Typed.Mo T6
-  put0 = λ vs u. Row.set 7 (7, Rows.sc-here (Row.sInt Syntax.w64)) vs (T6 .locals) u
+  s30 = Scalar.n-room T34 4 (Syntax.tyInt Syntax.w64)
+  abbrev put0 : Rows.sc-here (Row.sInt Syntax.w64) .Mod → Typed.Mo T5 → Typed.Mo T5
+  put0 = λ vs u. Row.set 7 (7, Rows.sc-here (Row.sInt Syntax.w64)) vs (T5 .locals) u
   module _ (Pre· : (κs : Lifetimes.Lfts 1) → Kinds.Dens κs ps → Type 0) (Post· : (κs : Lifetimes.Lfts 1) → (a : Kinds.Dens κs ps) → Kinds.Plain 1 ps r
       κs) where
     module _ (M : Type 1) where
       abbrev pub Closed : Type 2
       Closed = (𝓤 : URA.URA M) (H : Wp.Heap 𝓤) (A : Atoms.Atoms 𝓤) (W : Kit.Given 𝓤 H A) (𝓣 : Wp.Tables 𝓤 H) (known0 : Plain.Known 𝓤 H A W 𝓣 0 ps·0
           r·0 (claims· .0) (claims· .1) "hns_encoding::numbers::min_usize") (known1 : Plain.Known 𝓤 H A W 𝓣 0 ps·1 r·1 (claims· .2) (claims· .3)
-          "hnsr_circuit::places::asks_unused") (known2 : Plain.Known 𝓤 H A W 𝓣 0 ps·2 r·2 (claims· .4) (claims· .5)
-          "hnsr_circuit::question::action_has") (known3 : Plain.Known 𝓤 H A W 𝓣 0 ps·3 r·3 (claims· .6) (claims· .7) "hnsr_circuit::places::or_else")
-          → Statement.Triple 𝓤 (Wp.WpFn 𝓤 H (𝓣 .C) (𝓣 .Λ) (Function.fnOf 1 ps r xs m hs body)) (Function.plainOf 𝓤 H A 1 ps r Pre· Post·)
+          "hnsr_circuit::inflight::action_is") → Statement.Triple 𝓤 (Wp.WpFn 𝓤 H (𝓣 .C) (𝓣 .Λ) (Function.fnOf 1 ps r xs m hs body)) (Function.plainOf
+          𝓤 H A 1 ps r Pre· Post·)
     module _ (Inv·0 : InvT-loop) (μ·0 : MeasureT-loop) where
-      abbrev at0 : Typed.TF T10 O4
+      abbrev at0 : Typed.TF T9 O4
       at0 = Typed.atNext O4
-      abbrev at1 : Typed.TF T8 O4
-      at1 = λ Ψ. Typed.pass T8 T10 s6 (at0 Ψ)
-      abbrev at2 : Typed.TF T12 O4
+      abbrev at1 : Typed.TF T7 O4
+      at1 = λ Ψ. Typed.pass T7 T9 s5 (at0 Ψ)
+      abbrev at2 : Typed.TF T10 O4
       at2 = Typed.atExit 1 O4
-      abbrev at3 : Typed.TF T11 O4
-      at3 = λ Ψ. Typed.pass T11 T12 s8 (at2 Ψ)
-      abbrev at4 : Typed.TF T8 O4
-      at4 = λ Ψ. Typed.pass T8 T11 s7 (at3 Ψ)
-      abbrev at5 : Typed.TF T8 O4
-      at5 = Scalar.Φcond T8 O4 9 (λ x. x) at1 at4
-      abbrev at6 : Typed.TF T29 O5
-      at6 = Typed.atRet O5
-      abbrev at7 : Typed.TF T28 O5
-      at7 = λ Ψ. Typed.pass T28 T29 s24 (at6 Ψ)
-      abbrev at8 : Typed.TF T27 O5
-      at8 = λ Ψ. Typed.pass T27 T28 s23 (at7 Ψ)
-      abbrev at9 : Typed.TF T26 O5
-      at9 = λ Ψ. Typed.pass T26 T27 s22 (at8 Ψ)
-      abbrev at10 : Typed.TF T25 O5
-      at10 = λ Ψ. Typed.pass T25 T26 s21 (at9 Ψ)
-      abbrev at11 : Typed.TF T24 O5
-      at11 = λ Ψ. Typed.pass T24 T25 s20 (at10 Ψ)
-      abbrev at12 : Typed.TF T23 O5
-      at12 = λ Ψ. Typed.pass T23 T24 s19 (at11 Ψ)
-      abbrev at13 : Typed.TF T22 O5
-      at13 = λ Ψ. Typed.pass T22 T23 s18 (at12 Ψ)
-      abbrev at14 : Typed.TF T30 O5
-      at14 = Typed.atNext O5
-      abbrev at15 : Typed.TF T22 O5
-      at15 = λ Ψ. Typed.pass T22 T30 s25 (at14 Ψ)
-      abbrev at16 : Typed.TF T22 O5
-      at16 = Scalar.Φcond T22 O5 13 (λ x. x) at13 at15
-      abbrev at17 : Typed.TF T20 O5
-      at17 = λ Ψ. Typed.pass T20 T22 s17 (at16 Ψ)
-      abbrev at18 : Typed.TF T21 O3
-      at18 = λ Ψ. Typed.ask s26 (Typed.atNext O3 Ψ)
-      abbrev at19 : Typed.TF T20 O3
-      at19 = λ Ψ. at17 (Typed.wantNext T21 O3 (at18 Ψ) Ψ)
-      abbrev at20 : Typed.TF T19 O3
-      at20 = λ Ψ. Typed.both s16 (at19 Ψ)
-      abbrev at21 : Typed.TF T18 O3
-      at21 = λ Ψ. Typed.pass T18 T19 s15 (at20 Ψ)
-      abbrev at22 : Typed.TF T17 O3
-      at22 = λ Ψ. Typed.pass T17 T18 s14 (at21 Ψ)
-      abbrev at23 : Typed.TF T16 O3
-      at23 = λ Ψ. Typed.pass T16 T17 s13 (at22 Ψ)
-      abbrev at24 : Typed.TF T15 O3
-      at24 = λ Ψ. Typed.pass T15 T16 s12 (at23 Ψ)
-      abbrev at25 : Typed.TF T14 O3
-      at25 = λ Ψ. Typed.both s11 (at24 Ψ)
-      abbrev at26 : Typed.TF T13 O3
-      at26 = λ Ψ. Typed.ask s10 (at25 Ψ)
-      abbrev at27 : Typed.TF T9 O3
-      at27 = λ Ψ. Typed.ask s9 (at26 Ψ)
-      abbrev at28 : Typed.TF T8 O3
-      at28 = λ Ψ. at5 (Typed.wantNext T9 O3 (at27 Ψ) Ψ)
-      abbrev at29 : Typed.TF T6 O3
-      at29 = λ Ψ. Typed.ask s5 (at28 Ψ)
-      abbrev at30 : Typed.TF T6 O2
-      at30 = Typed.LoopBy T6 O2 put0 (λ u vs. Inv·0 (Row.get 1 (T6 .locals) u .now) (Row.get 3 (T6 .locals) u) (Row.get 4 (T6 .locals) u) (Row.get 5
-          (T6 .locals) u) (Row.get 6 (T6 .locals) u) (Row.get 7 (T6 .locals) u) vs) (λ u vs. μ·0 (Row.get 1 (T6 .locals) u .now) (Row.get 3 (T6
-          .locals) u) (Row.get 4 (T6 .locals) u) (Row.get 5 (T6 .locals) u) (Row.get 6 (T6 .locals) u) (Row.get 7 (T6 .locals) u) vs) at29
-      abbrev at31 : Typed.TF T6 O1
-      at31 = λ Ψ. at30 (Typed.inBlock O1 Ψ)
-      abbrev at32 : Typed.TF T36 O0
-      at32 = Typed.atRet O0
-      abbrev at33 : Typed.TF T35 O0
-      at33 = λ Ψ. Typed.pass T35 T36 s31 (at32 Ψ)
-      abbrev at34 : Typed.TF T34 O0
-      at34 = λ Ψ. Typed.pass T34 T35 s30 (at33 Ψ)
-      abbrev at35 : Typed.TF T33 O0
-      at35 = λ Ψ. Typed.pass T33 T34 s29 (at34 Ψ)
-      abbrev at36 : Typed.TF T32 O0
-      at36 = λ Ψ. Typed.pass T32 T33 s28 (at35 Ψ)
-      abbrev at37 : Typed.TF T7 O0
-      at37 = λ Ψ. Typed.both s27 (at36 Ψ)
-      abbrev at38 : Typed.TF T6 O0
-      at38 = λ Ψ. at31 (Typed.wantNext T7 O0 (at37 Ψ) Ψ)
-      abbrev at39 : Typed.TF T5 O0
-      at39 = λ Ψ. Typed.pass T5 T6 s4 (at38 Ψ)
-      abbrev at40 : Typed.TF T4 O0
-      at40 = λ Ψ. Typed.both s3 (at39 Ψ)
-      abbrev at41 : Typed.TF T3 O0
-      at41 = λ Ψ. Typed.pass T3 T4 s2 (at40 Ψ)
-      abbrev at42 : Typed.TF T2 O0
-      at42 = λ Ψ. Typed.both s1 (at41 Ψ)
-      abbrev at43 : Typed.TF T0 O0
-      at43 = λ Ψ. Typed.pass T0 T2 s0 (at42 Ψ)
+      abbrev at3 : Typed.TF T7 O4
+      at3 = λ Ψ. Typed.pass T7 T10 s6 (at2 Ψ)
+      abbrev at4 : Typed.TF T7 O4
+      at4 = Scalar.Φcond T7 O4 9 (λ x. x) at1 at3
+      abbrev at5 : Typed.TF T27 O5
+      at5 = Typed.atRet O5
+      abbrev at6 : Typed.TF T26 O5
+      at6 = λ Ψ. Typed.pass T26 T27 s22 (at5 Ψ)
+      abbrev at7 : Typed.TF T25 O5
+      at7 = λ Ψ. Typed.pass T25 T26 s21 (at6 Ψ)
+      abbrev at8 : Typed.TF T24 O5
+      at8 = λ Ψ. Typed.pass T24 T25 s20 (at7 Ψ)
+      abbrev at9 : Typed.TF T23 O5
+      at9 = λ Ψ. Typed.pass T23 T24 s19 (at8 Ψ)
+      abbrev at10 : Typed.TF T22 O5
+      at10 = λ Ψ. Typed.pass T22 T23 s18 (at9 Ψ)
+      abbrev at11 : Typed.TF T21 O5
+      at11 = λ Ψ. Typed.pass T21 T22 s17 (at10 Ψ)
+      abbrev at12 : Typed.TF T20 O5
+      at12 = λ Ψ. Typed.pass T20 T21 s16 (at11 Ψ)
+      abbrev at13 : Typed.TF T28 O5
+      at13 = Typed.atNext O5
+      abbrev at14 : Typed.TF T20 O5
+      at14 = λ Ψ. Typed.pass T20 T28 s23 (at13 Ψ)
+      abbrev at15 : Typed.TF T20 O5
+      at15 = Scalar.Φcond T20 O5 13 (λ x. x) at12 at14
+      abbrev at16 : Typed.TF T18 O5
+      at16 = λ Ψ. Typed.pass T18 T20 s15 (at15 Ψ)
+      abbrev at17 : Typed.TF T19 O3
+      at17 = λ Ψ. Typed.ask s24 (Typed.atNext O3 Ψ)
+      abbrev at18 : Typed.TF T18 O3
+      at18 = λ Ψ. at16 (Typed.wantNext T19 O3 (at17 Ψ) Ψ)
+      abbrev at19 : Typed.TF T17 O3
+      at19 = λ Ψ. Typed.both s14 (at18 Ψ)
+      abbrev at20 : Typed.TF T16 O3
+      at20 = λ Ψ. Typed.pass T16 T17 s13 (at19 Ψ)
+      abbrev at21 : Typed.TF T15 O3
+      at21 = λ Ψ. Typed.pass T15 T16 s12 (at20 Ψ)
+      abbrev at22 : Typed.TF T14 O3
+      at22 = λ Ψ. Typed.pass T14 T15 s11 (at21 Ψ)
+      abbrev at23 : Typed.TF T13 O3
+      at23 = λ Ψ. Typed.pass T13 T14 s10 (at22 Ψ)
+      abbrev at24 : Typed.TF T12 O3
+      at24 = λ Ψ. Typed.both s9 (at23 Ψ)
+      abbrev at25 : Typed.TF T11 O3
+      at25 = λ Ψ. Typed.ask s8 (at24 Ψ)
+      abbrev at26 : Typed.TF T8 O3
+      at26 = λ Ψ. Typed.ask s7 (at25 Ψ)
+      abbrev at27 : Typed.TF T7 O3
+      at27 = λ Ψ. at4 (Typed.wantNext T8 O3 (at26 Ψ) Ψ)
+      abbrev at28 : Typed.TF T5 O3
+      at28 = λ Ψ. Typed.ask s4 (at27 Ψ)
+      abbrev at29 : Typed.TF T5 O2
+      at29 = Typed.LoopBy T5 O2 put0 (λ u vs. Inv·0 (Row.get 1 (T5 .locals) u .now) (Row.get 3 (T5 .locals) u) (Row.get 4 (T5 .locals) u) (Row.get 5
+          (T5 .locals) u) (Row.get 6 (T5 .locals) u) (Row.get 7 (T5 .locals) u) vs) (λ u vs. μ·0 (Row.get 1 (T5 .locals) u .now) (Row.get 3 (T5
+          .locals) u) (Row.get 4 (T5 .locals) u) (Row.get 5 (T5 .locals) u) (Row.get 6 (T5 .locals) u) (Row.get 7 (T5 .locals) u) vs) at28
+      abbrev at30 : Typed.TF T5 O1
+      at30 = λ Ψ. at29 (Typed.inBlock O1 Ψ)
+      abbrev at31 : Typed.TF T35 O0
+      at31 = Typed.atRet O0
+      abbrev at32 : Typed.TF T34 O0
+      at32 = λ Ψ. Typed.pass T34 T35 s30 (at31 Ψ)
+      abbrev at33 : Typed.TF T33 O0
+      at33 = λ Ψ. Typed.pass T33 T34 s29 (at32 Ψ)
+      abbrev at34 : Typed.TF T32 O0
+      at34 = λ Ψ. Typed.pass T32 T33 s28 (at33 Ψ)
+      abbrev at35 : Typed.TF T31 O0
+      at35 = λ Ψ. Typed.pass T31 T32 s27 (at34 Ψ)
+      abbrev at36 : Typed.TF T30 O0
+      at36 = λ Ψ. Typed.pass T30 T31 s26 (at35 Ψ)
+      abbrev at37 : Typed.TF T6 O0
+      at37 = λ Ψ. Typed.pass T6 T30 s25 (at36 Ψ)
+      abbrev at38 : Typed.TF T5 O0
+      at38 = λ Ψ. at30 (Typed.wantNext T6 O0 (at37 Ψ) Ψ)
+      abbrev at39 : Typed.TF T4 O0
+      at39 = λ Ψ. Typed.pass T4 T5 s3 (at38 Ψ)
+      abbrev at40 : Typed.TF T3 O0
+      at40 = λ Ψ. Typed.pass T3 T4 s2 (at39 Ψ)
+      abbrev at41 : Typed.TF T2 O0
+      at41 = λ Ψ. Typed.both s1 (at40 Ψ)
+      abbrev at42 : Typed.TF T0 O0
+      at42 = λ Ψ. Typed.pass T0 T2 s0 (at41 Ψ)
       abbrev pub Φ : Typed.TF T0 O0
-      Φ = at43
+      Φ = at42
       module _ { M : Type 1 } (𝓤 : URA.URA M) (H : Wp.Heap 𝓤) (A : Atoms.Atoms 𝓤) (W : Kit.Given 𝓤 H A) (𝓣 : Wp.Tables 𝓤 H) where
         abbrev Knowns : Type 1
         Knowns = Plain.Known 𝓤 H A W 𝓣 0 ps·0 r·0 (claims· .0) (claims· .1) "hns_encoding::numbers::min_usize" × Plain.Known 𝓤 H A W 𝓣 0 ps·1 r·1
-            (claims· .2) (claims· .3) "hnsr_circuit::places::asks_unused" × Plain.Known 𝓤 H A W 𝓣 0 ps·2 r·2 (claims· .4) (claims· .5)
-            "hnsr_circuit::question::action_has" × Plain.Known 𝓤 H A W 𝓣 0 ps·3 r·3 (claims· .6) (claims· .7) "hnsr_circuit::places::or_else"
+            (claims· .2) (claims· .3) "hnsr_circuit::inflight::action_is"
       module _ (κs : Lifetimes.Lfts 1) (qs : Lifetimes.Shares 1) where
         abbrev life0 : Row.Life
         life0 = Row.lease (κs .0) (qs .0)
@@ -581,269 +547,258 @@ module _ (claims· : Claims) where
         abbrev G5 : Row.Cx
         G5 = record { locals = t5; slots = life0 ∷ List.[] }
         abbrev G6 : Row.Cx
-        G6 = record { locals = t6; slots = life0 ∷ List.[] }
+        G6 = record { locals = t5; slots = life0 ∷ List.[] }
         abbrev G7 : Row.Cx
-        G7 = record { locals = t7; slots = life0 ∷ List.[] }
+        G7 = record { locals = t6; slots = life0 ∷ List.[] }
         abbrev G8 : Row.Cx
-        G8 = record { locals = t8; slots = life0 ∷ List.[] }
+        G8 = record { locals = t5; slots = life0 ∷ List.[] }
         abbrev G9 : Row.Cx
-        G9 = record { locals = t6; slots = life0 ∷ List.[] }
+        G9 = record { locals = t5; slots = life0 ∷ List.[] }
         abbrev G10 : Row.Cx
-        G10 = record { locals = t6; slots = life0 ∷ List.[] }
+        G10 = record { locals = t5; slots = life0 ∷ List.[] }
         abbrev G11 : Row.Cx
-        G11 = record { locals = t9; slots = life0 ∷ List.[] }
+        G11 = record { locals = t7; slots = life0 ∷ List.[] }
         abbrev G12 : Row.Cx
-        G12 = record { locals = t7; slots = life0 ∷ List.[] }
+        G12 = record { locals = t8; slots = life0 ∷ List.[] }
         abbrev G13 : Row.Cx
-        G13 = record { locals = t10; slots = life0 ∷ List.[] }
+        G13 = record { locals = t9; slots = life0 ∷ List.[] }
         abbrev G14 : Row.Cx
-        G14 = record { locals = t11; slots = life0 ∷ List.[] }
+        G14 = record { locals = t10; slots = life0 ∷ List.[] }
         abbrev G15 : Row.Cx
-        G15 = record { locals = t12; slots = life0 ∷ List.[] }
+        G15 = record { locals = t11; slots = life0 ∷ List.[] }
         abbrev G16 : Row.Cx
-        G16 = record { locals = t13; slots = life0 ∷ List.[] }
+        G16 = record { locals = t12; slots = life0 ∷ List.[] }
         abbrev G17 : Row.Cx
-        G17 = record { locals = t14; slots = life0 ∷ List.[] }
+        G17 = record { locals = t13; slots = life0 ∷ List.[] }
         abbrev G18 : Row.Cx
-        G18 = record { locals = t15; slots = life0 ∷ List.[] }
+        G18 = record { locals = t14; slots = life0 ∷ List.[] }
         abbrev G19 : Row.Cx
-        G19 = record { locals = t16; slots = life0 ∷ List.[] }
+        G19 = record { locals = t5; slots = life0 ∷ List.[] }
         abbrev G20 : Row.Cx
-        G20 = record { locals = t17; slots = life0 ∷ List.[] }
+        G20 = record { locals = t15; slots = life0 ∷ List.[] }
         abbrev G21 : Row.Cx
-        G21 = record { locals = t6; slots = life0 ∷ List.[] }
+        G21 = record { locals = t5; slots = life0 ∷ List.[] }
         abbrev G22 : Row.Cx
-        G22 = record { locals = t18; slots = life0 ∷ List.[] }
+        G22 = record { locals = t16; slots = life0 ∷ List.[] }
         abbrev G23 : Row.Cx
-        G23 = record { locals = t19; slots = life0 ∷ List.[] }
+        G23 = record { locals = t17; slots = life0 ∷ List.[] }
         abbrev G24 : Row.Cx
-        G24 = record { locals = t7; slots = life0 ∷ List.[] }
+        G24 = record { locals = t18; slots = life0 ∷ List.[] }
         abbrev G25 : Row.Cx
-        G25 = record { locals = t20; slots = life0 ∷ List.[] }
+        G25 = record { locals = t19; slots = life0 ∷ List.[] }
         abbrev G26 : Row.Cx
-        G26 = record { locals = t21; slots = life0 ∷ List.[] }
+        G26 = record { locals = t20; slots = life0 ∷ List.[] }
         abbrev G27 : Row.Cx
-        G27 = record { locals = t22; slots = life0 ∷ List.[] }
+        G27 = record { locals = t1; slots = life0 ∷ List.[] }
         abbrev G28 : Row.Cx
-        G28 = record { locals = t23; slots = life0 ∷ List.[] }
+        G28 = record { locals = t5; slots = life0 ∷ List.[] }
         abbrev G29 : Row.Cx
-        G29 = record { locals = t1; slots = life0 ∷ List.[] }
+        G29 = record { locals = t5; slots = life0 ∷ List.[] }
         abbrev G30 : Row.Cx
-        G30 = record { locals = t6; slots = life0 ∷ List.[] }
+        G30 = record { locals = t16; slots = life0 ∷ List.[] }
         abbrev G31 : Row.Cx
-        G31 = record { locals = t6; slots = life0 ∷ List.[] }
+        G31 = record { locals = t21; slots = life0 ∷ List.[] }
         abbrev G32 : Row.Cx
-        G32 = record { locals = t20; slots = life0 ∷ List.[] }
+        G32 = record { locals = t22; slots = life0 ∷ List.[] }
         abbrev G33 : Row.Cx
-        G33 = record { locals = t21; slots = life0 ∷ List.[] }
+        G33 = record { locals = t23; slots = life0 ∷ List.[] }
         abbrev G34 : Row.Cx
-        G34 = record { locals = t22; slots = life0 ∷ List.[] }
+        G34 = record { locals = t24; slots = life0 ∷ List.[] }
         abbrev G35 : Row.Cx
-        G35 = record { locals = t23; slots = life0 ∷ List.[] }
-        abbrev G36 : Row.Cx
-        G36 = record { locals = t1; slots = life0 ∷ List.[] }
+        G35 = record { locals = t1; slots = life0 ∷ List.[] }
         abbrev Δ0 : Typed.Outs
         Δ0 = record { next = Option.none; exits = List.[]; returns = Option.some G1 }
         abbrev Δ1 : Typed.Outs
-        Δ1 = Typed.withNext (Option.some G7) Δ0
+        Δ1 = Typed.withNext (Option.some G6) Δ0
         abbrev Δ2 : Typed.Outs
         Δ2 = Typed.inBlock₀ Δ1
         abbrev Δ3 : Typed.Outs
-        Δ3 = Typed.inLoop₀ G6 Δ2
+        Δ3 = Typed.inLoop₀ G5 Δ2
         abbrev Δ4 : Typed.Outs
-        Δ4 = Typed.withNext (Option.some G9) Δ3
+        Δ4 = Typed.withNext (Option.some G8) Δ3
         abbrev Δ5 : Typed.Outs
-        Δ5 = Typed.withNext (Option.some G21) Δ3
+        Δ5 = Typed.withNext (Option.some G19) Δ3
         module _ { M : Type 1 } (𝓤 : URA.URA M) (H : Wp.Heap 𝓤) (A : Atoms.Atoms 𝓤) (W : Kit.Given 𝓤 H A) (𝓣 : Wp.Tables 𝓤 H) (known : Knowns 𝓤 H A W
             𝓣) (bs : List.List Nat.ℕ) (bd : Lifetimes.AllOutlive 1 (Kinds.osR r) κs) where
           abbrev E : Wp.Env 𝓤 H
           E = Frame.EnvOf 𝓤 H ((Kinds.tyR r) ∷ (Enter.tysP ps xs)) bs
-          d0 : Typed.Typed 𝓤 H A 𝓣 E G10 b5 Δ4 at0
+          d0 : Typed.Typed 𝓤 H A 𝓣 E G9 b4 Δ4 at0
           d0 = Typed.t-skip 𝓤 H A W 𝓣 E Δ4 tt
-          d1 : Typed.Typed 𝓤 H A 𝓣 E G8 b5 Δ4 at1
-          d1 = Typed.g-pre 𝓤 H A W 𝓣 E G8 G10 b5 Δ4 (Typed.pass T8 T10 s6) at0 (Scalar.g-room 𝓤 H A W E G8 9 Syntax.tyBool (Scalar.room-sc 𝓤 H A W
+          d1 : Typed.Typed 𝓤 H A 𝓣 E G7 b4 Δ4 at1
+          d1 = Typed.g-pre 𝓤 H A W 𝓣 E G7 G9 b4 Δ4 (Typed.pass T7 T9 s5) at0 (Scalar.g-room 𝓤 H A W E G7 9 Syntax.tyBool (Scalar.room-sc 𝓤 H A W
               Row.sBool)) d0
-          d2 : Typed.Typed 𝓤 H A 𝓣 E G12 b6 Δ4 at2
+          d2 : Typed.Typed 𝓤 H A 𝓣 E G10 b5 Δ4 at2
           d2 = Typed.t-exit 𝓤 H A W 𝓣 E 1 Δ4 tt
-          d3 : Typed.Typed 𝓤 H A 𝓣 E G11 b6 Δ4 at3
-          d3 = Typed.g-pre 𝓤 H A W 𝓣 E G11 G12 b6 Δ4 (Typed.pass T11 T12 s8) at2 (Scalar.g-room 𝓤 H A W E G11 9 Syntax.tyBool (Scalar.room-sc 𝓤 H A W
+          d3 : Typed.Typed 𝓤 H A 𝓣 E G7 b5 Δ4 at3
+          d3 = Typed.g-pre 𝓤 H A W 𝓣 E G7 G10 b5 Δ4 (Typed.pass T7 T10 s6) at2 (Scalar.g-room 𝓤 H A W E G7 9 Syntax.tyBool (Scalar.room-sc 𝓤 H A W
               Row.sBool)) d2
-          d4 : Typed.Typed 𝓤 H A 𝓣 E G8 b6 Δ4 at4
-          d4 = Typed.g-pre 𝓤 H A W 𝓣 E G8 G11 b6 Δ4 (Typed.pass T8 T11 s7) at3 (Scalar.g-room 𝓤 H A W E G8 3 Laws'.mir (Local.room-whole 𝓤 H A W
-              (Declared.row Question.the-type) Laws'.mir Path.refl)) d3
-          d5 : Typed.Typed 𝓤 H A 𝓣 E G8 b7 Δ4 at5
-          d5 = Scalar.t-cond 𝓤 H A W E 𝓣 G8 9 (λ x. x) b5 b6 Δ4 at1 at4 (Scalar.reads-sc 𝓤 H A W Row.sBool) Path.refl d1 d4
-          d6 : Typed.Typed 𝓤 H A 𝓣 E G29 b14 Δ5 at6
-          d6 = Typed.t-return 𝓤 H A W 𝓣 E Δ5 tt
-          d7 : Typed.Typed 𝓤 H A 𝓣 E G28 b14 Δ5 at7
-          d7 = Typed.g-pre 𝓤 H A W 𝓣 E G28 G29 b14 Δ5 (Typed.pass T28 T29 s24) at6 (Scalar.g-room 𝓤 H A W E G28 7 (Syntax.tyInt Syntax.w64)
+          d4 : Typed.Typed 𝓤 H A 𝓣 E G7 b6 Δ4 at4
+          d4 = Scalar.t-cond 𝓤 H A W E 𝓣 G7 9 (λ x. x) b4 b5 Δ4 at1 at3 (Scalar.reads-sc 𝓤 H A W Row.sBool) Path.refl d1 d3
+          d5 : Typed.Typed 𝓤 H A 𝓣 E G27 b13 Δ5 at5
+          d5 = Typed.t-return 𝓤 H A W 𝓣 E Δ5 tt
+          d6 : Typed.Typed 𝓤 H A 𝓣 E G26 b13 Δ5 at6
+          d6 = Typed.g-pre 𝓤 H A W 𝓣 E G26 G27 b13 Δ5 (Typed.pass T26 T27 s22) at5 (Scalar.g-room 𝓤 H A W E G26 7 (Syntax.tyInt Syntax.w64)
+              (Scalar.room-sc 𝓤 H A W (Row.sInt Syntax.w64))) d5
+          d7 : Typed.Typed 𝓤 H A 𝓣 E G25 b13 Δ5 at7
+          d7 = Typed.g-pre 𝓤 H A W 𝓣 E G25 G26 b13 Δ5 (Typed.pass T25 T26 s21) at6 (Scalar.g-room 𝓤 H A W E G25 6 (Syntax.tyInt Syntax.w64)
               (Scalar.room-sc 𝓤 H A W (Row.sInt Syntax.w64))) d6
-          d8 : Typed.Typed 𝓤 H A 𝓣 E G27 b14 Δ5 at8
-          d8 = Typed.g-pre 𝓤 H A W 𝓣 E G27 G28 b14 Δ5 (Typed.pass T27 T28 s23) at7 (Scalar.g-room 𝓤 H A W E G27 6 Syntax.tyBool (Scalar.room-sc 𝓤 H A
-              W Row.sBool)) d7
-          d9 : Typed.Typed 𝓤 H A 𝓣 E G26 b14 Δ5 at9
-          d9 = Typed.g-pre 𝓤 H A W 𝓣 E G26 G27 b14 Δ5 (Typed.pass T26 T27 s22) at8 (Scalar.g-room 𝓤 H A W E G26 5 (Syntax.tyInt Syntax.w64)
+          d8 : Typed.Typed 𝓤 H A 𝓣 E G24 b13 Δ5 at8
+          d8 = Typed.g-pre 𝓤 H A W 𝓣 E G24 G25 b13 Δ5 (Typed.pass T24 T25 s20) at7 (Scalar.g-room 𝓤 H A W E G24 5 (Syntax.tyInt Syntax.w64)
+              (Scalar.room-sc 𝓤 H A W (Row.sInt Syntax.w64))) d7
+          d9 : Typed.Typed 𝓤 H A 𝓣 E G23 b13 Δ5 at9
+          d9 = Typed.g-pre 𝓤 H A W 𝓣 E G23 G24 b13 Δ5 (Typed.pass T23 T24 s19) at8 (Scalar.g-room 𝓤 H A W E G23 4 (Syntax.tyInt Syntax.w64)
               (Scalar.room-sc 𝓤 H A W (Row.sInt Syntax.w64))) d8
-          d10 : Typed.Typed 𝓤 H A 𝓣 E G25 b14 Δ5 at10
-          d10 = Typed.g-pre 𝓤 H A W 𝓣 E G25 G26 b14 Δ5 (Typed.pass T25 T26 s21) at9 (Scalar.g-room 𝓤 H A W E G25 4 (Syntax.tyInt Syntax.w64)
+          d10 : Typed.Typed 𝓤 H A 𝓣 E G22 b13 Δ5 at10
+          d10 = Typed.g-pre 𝓤 H A W 𝓣 E G22 G23 b13 Δ5 (Typed.pass T22 T23 s18) at9 (Scalar.g-room 𝓤 H A W E G22 3 (Syntax.tyInt Syntax.w64)
               (Scalar.room-sc 𝓤 H A W (Row.sInt Syntax.w64))) d9
-          d11 : Typed.Typed 𝓤 H A 𝓣 E G24 b15 Δ5 at11
-          d11 = Typed.s-seq 𝓤 H A W 𝓣 E G24 G25 b13 b14 Δ5 (Typed.pass T24 T25 s20) at10 (Scalar.t-use 𝓤 H A W E 𝓣 G24 (Scalar.oAt 7 (Syntax.tyInt
+          d11 : Typed.Typed 𝓤 H A 𝓣 E G21 b14 Δ5 at11
+          d11 = Typed.s-seq 𝓤 H A W 𝓣 E G21 G22 b12 b13 Δ5 (Typed.pass T21 T22 s17) at10 (Scalar.t-use 𝓤 H A W E 𝓣 G21 (Scalar.oAt 7 (Syntax.tyInt
               Syntax.w64) (Row.valS (Row.sInt Syntax.w64))) 0 (Rows.sc-here (Row.sInt Syntax.w64)) (Syntax.tyInt Syntax.w64) (Row.valS (Row.sInt
               Syntax.w64)) (Row.sInt Syntax.w64 .of) (Scalar.reads-sc 𝓤 H A W (Row.sInt Syntax.w64), Path.refl) (Reads'.room-gone 𝓤 H A (Syntax.tyInt
               Syntax.w64)) (Scalar.holds-sc 𝓤 H A W (Row.sInt Syntax.w64)) Path.refl (λ u. Path.refl) λ u. tt) d10
-          d12 : Typed.Typed 𝓤 H A 𝓣 E G23 b15 Δ5 at12
-          d12 = Typed.g-pre 𝓤 H A W 𝓣 E G23 G24 b15 Δ5 (Typed.pass T23 T24 s19) at11 (Scalar.g-room 𝓤 H A W E G23 13 Syntax.tyBool (Scalar.room-sc 𝓤 H
+          d12 : Typed.Typed 𝓤 H A 𝓣 E G20 b14 Δ5 at12
+          d12 = Typed.g-pre 𝓤 H A W 𝓣 E G20 G21 b14 Δ5 (Typed.pass T20 T21 s16) at11 (Scalar.g-room 𝓤 H A W E G20 13 Syntax.tyBool (Scalar.room-sc 𝓤 H
               A W Row.sBool)) d11
-          d13 : Typed.Typed 𝓤 H A 𝓣 E G22 b15 Δ5 at13
-          d13 = Typed.g-pre 𝓤 H A W 𝓣 E G22 G23 b15 Δ5 (Typed.pass T22 T23 s18) at12 (Scalar.g-room 𝓤 H A W E G22 3 Laws'.mir (Local.room-whole 𝓤 H A
-              W (Declared.row Question.the-type) Laws'.mir Path.refl)) d12
-          d14 : Typed.Typed 𝓤 H A 𝓣 E G30 b16 Δ5 at14
-          d14 = Typed.t-skip 𝓤 H A W 𝓣 E Δ5 tt
-          d15 : Typed.Typed 𝓤 H A 𝓣 E G22 b16 Δ5 at15
-          d15 = Typed.g-pre 𝓤 H A W 𝓣 E G22 G30 b16 Δ5 (Typed.pass T22 T30 s25) at14 (Scalar.g-room 𝓤 H A W E G22 13 Syntax.tyBool (Scalar.room-sc 𝓤 H
-              A W Row.sBool)) d14
-          d16 : Typed.Typed 𝓤 H A 𝓣 E G22 b17 Δ5 at16
-          d16 = Scalar.t-cond 𝓤 H A W E 𝓣 G22 13 (λ x. x) b15 b16 Δ5 at13 at15 (Scalar.reads-sc 𝓤 H A W Row.sBool) Path.refl d13 d15
-          d17 : Typed.Typed 𝓤 H A 𝓣 E G20 b17 Δ5 at17
-          d17 = Typed.g-pre 𝓤 H A W 𝓣 E G20 G22 b17 Δ5 (Typed.pass T20 T22 s17) at16 (Scalar.g-room 𝓤 H A W E G20 8 InflightAction.ty
-              (Local.room-whole 𝓤 H A W InflightAction.row InflightAction.ty Path.refl)) d16
-          d18 : Typed.Typed 𝓤 H A 𝓣 E G21 b18 Δ3 at18
-          d18 = Typed.s-typed 𝓤 H A W 𝓣 E G21 b18 Δ3 (Typed.ask s26) tt (Scalar.t-op2 𝓤 H A W E 𝓣 G21 (Syntax.add Syntax.unsigned) (Scalar.oAt 7
+          d13 : Typed.Typed 𝓤 H A 𝓣 E G28 b15 Δ5 at13
+          d13 = Typed.t-skip 𝓤 H A W 𝓣 E Δ5 tt
+          d14 : Typed.Typed 𝓤 H A 𝓣 E G20 b15 Δ5 at14
+          d14 = Typed.g-pre 𝓤 H A W 𝓣 E G20 G28 b15 Δ5 (Typed.pass T20 T28 s23) at13 (Scalar.g-room 𝓤 H A W E G20 13 Syntax.tyBool (Scalar.room-sc 𝓤 H
+              A W Row.sBool)) d13
+          d15 : Typed.Typed 𝓤 H A 𝓣 E G20 b16 Δ5 at15
+          d15 = Scalar.t-cond 𝓤 H A W E 𝓣 G20 13 (λ x. x) b14 b15 Δ5 at12 at14 (Scalar.reads-sc 𝓤 H A W Row.sBool) Path.refl d12 d14
+          d16 : Typed.Typed 𝓤 H A 𝓣 E G18 b16 Δ5 at16
+          d16 = Typed.g-pre 𝓤 H A W 𝓣 E G18 G20 b16 Δ5 (Typed.pass T18 T20 s15) at15 (Scalar.g-room 𝓤 H A W E G18 8 InflightAction.ty
+              (Local.room-whole 𝓤 H A W InflightAction.row InflightAction.ty Path.refl)) d15
+          d17 : Typed.Typed 𝓤 H A 𝓣 E G19 b17 Δ3 at17
+          d17 = Typed.s-typed 𝓤 H A W 𝓣 E G19 b17 Δ3 (Typed.ask s24) tt (Scalar.t-op2 𝓤 H A W E 𝓣 G19 (Syntax.add Syntax.unsigned) (Scalar.oAt 7
               (Syntax.tyInt Syntax.w64) (Row.valS (Row.sInt Syntax.w64))) (Scalar.oInt Syntax.w64 1) 7 (Rows.sc-here (Row.sInt Syntax.w64))
               (Syntax.tyInt Syntax.w64) (Row.valS (Row.sInt Syntax.w64)) (Row.sInt Syntax.w64 .of) (Scalar.reads-sc 𝓤 H A W (Row.sInt Syntax.w64),
               Path.refl) tt (Scalar.room-sc 𝓤 H A W (Row.sInt Syntax.w64)) (Scalar.holds-sc 𝓤 H A W (Row.sInt Syntax.w64)) Path.refl (λ u. Path.refl)
               λ u. tt)
-          d19 : Typed.Typed 𝓤 H A 𝓣 E G20 b19 Δ3 at19
-          d19 = Typed.t-seq 𝓤 H A W 𝓣 E G20 G21 b17 b18 Δ3 at17 at18 d17 d18
-          d20 : Typed.Typed 𝓤 H A 𝓣 E G19 b20 Δ3 at20
-          d20 = Typed.s-seq 𝓤 H A W 𝓣 E G19 G20 b12 b19 Δ3 (Typed.both s16) at19 (Plain.t-call-plain 𝓤 H A W 𝓣 0 ps·2 r·2 (claims· .4) (claims· .5)
-              "hnsr_circuit::question::action_has" (known .2) E (λ pos β. β) G19 (record { pos = 8; st = List.[]; d = 0; at = λ x. x }, (record { pos
-              = 3; st = List.[]; d = 0; at = λ x. x }, tt),) 13 List.[] (Call.sub-id 𝓤 H A W (G19 .slots)) ((Yields.yields-copy 𝓤 H A W (λ ρ. Unit)
-              InflightAction.row Path.refl (InflightAction.copies .copy 𝓤 H A W) InflightAction.held (λ x. x) (λ x. x) (λ ρ told. Local.mem-whole 𝓤 H
-              A W InflightAction.row ρ) λ ρ told. Local.whole-mem 𝓤 H A W InflightAction.row ρ, Path.refl,), ((Yields.yields-copy 𝓤 H A W (λ ρ. Unit)
-              (Declared.row Question.the-type) Path.refl (Copies.cStruct Question.the-type Laws'.the-laws Laws'.the-copy .copy 𝓤 H A W) (Rows.whole
-              (Declared.row Question.the-type)) (λ x. x) (λ x. x) (λ ρ told. Local.mem-whole 𝓤 H A W (Declared.row Question.the-type) ρ) λ ρ told.
-              Local.whole-mem 𝓤 H A W (Declared.row Question.the-type) ρ, Path.refl,), tt,),) (Reads'.room-gone 𝓤 H A Syntax.tyBool) tt Path.refl) d19
-          d21 : Typed.Typed 𝓤 H A 𝓣 E G18 b20 Δ3 at21
-          d21 = Typed.g-pre 𝓤 H A W 𝓣 E G18 G19 b20 Δ3 (Typed.pass T18 T19 s15) at20 (Scalar.g-room 𝓤 H A W E G18 12 InflightAction.ty
-              (Local.room-whole 𝓤 H A W InflightAction.row InflightAction.ty Path.refl)) d20
-          d22 : Typed.Typed 𝓤 H A 𝓣 E G17 b21 Δ3 at22
-          d22 = Typed.s-seq 𝓤 H A W 𝓣 E G17 G18 b11 b20 Δ3 (Typed.pass T17 T18 s14) at21 (LocalCopy.t-val-copy 𝓤 H A W E 𝓣 (λ ρ. Unit) G17 12 8
+          d18 : Typed.Typed 𝓤 H A 𝓣 E G18 b18 Δ3 at18
+          d18 = Typed.t-seq 𝓤 H A W 𝓣 E G18 G19 b16 b17 Δ3 at16 at17 d16 d17
+          d19 : Typed.Typed 𝓤 H A 𝓣 E G17 b19 Δ3 at19
+          d19 = Typed.s-seq 𝓤 H A W 𝓣 E G17 G18 b11 b18 Δ3 (Typed.both s14) at18 (Plain.t-call-plain 𝓤 H A W 𝓣 0 ps·1 r·1 (claims· .2) (claims· .3)
+              "hnsr_circuit::inflight::action_is" (known .1) E (λ pos β. β) G17 (record { pos = 8; st = List.[]; d = 0; at = λ x. x }, (Num.vAt 3 λ x.
+              x, (Num.vAt 4 λ x. x, tt)),) 13 List.[] (Call.sub-id 𝓤 H A W (G17 .slots)) ((Yields.yields-copy 𝓤 H A W (λ ρ. Unit) InflightAction.row
+              Path.refl (InflightAction.copies .copy 𝓤 H A W) InflightAction.held (λ x. x) (λ x. x) (λ ρ told. Local.mem-whole 𝓤 H A W
+              InflightAction.row ρ) λ ρ told. Local.whole-mem 𝓤 H A W InflightAction.row ρ, Path.refl,), ((Scalar.reads-sc 𝓤 H A W (Row.sInt
+              Syntax.w64), Path.refl), ((Scalar.reads-sc 𝓤 H A W (Row.sInt Syntax.w64), Path.refl), tt),),) (Reads'.room-gone 𝓤 H A Syntax.tyBool) tt
+              Path.refl) d18
+          d20 : Typed.Typed 𝓤 H A 𝓣 E G16 b19 Δ3 at20
+          d20 = Typed.g-pre 𝓤 H A W 𝓣 E G16 G17 b19 Δ3 (Typed.pass T16 T17 s13) at19 (Scalar.g-room 𝓤 H A W E G16 12 InflightAction.ty
+              (Local.room-whole 𝓤 H A W InflightAction.row InflightAction.ty Path.refl)) d19
+          d21 : Typed.Typed 𝓤 H A 𝓣 E G15 b20 Δ3 at21
+          d21 = Typed.s-seq 𝓤 H A W 𝓣 E G15 G16 b10 b19 Δ3 (Typed.pass T15 T16 s12) at20 (LocalCopy.t-val-copy 𝓤 H A W E 𝓣 (λ ρ. Unit) G15 12 8
               InflightAction.row InflightAction.ty InflightAction.ty InflightAction.held InflightAction.held (λ x. x) (λ x. x) (λ x. x) Path.refl
-              (Own.told-none 𝓤 H A (G17 .slots)) (Yields.yields-copy 𝓤 H A W (λ ρ. Unit) InflightAction.row Path.refl (InflightAction.copies .copy 𝓤 H
+              (Own.told-none 𝓤 H A (G15 .slots)) (Yields.yields-copy 𝓤 H A W (λ ρ. Unit) InflightAction.row Path.refl (InflightAction.copies .copy 𝓤 H
               A W) InflightAction.held (λ x. x) (λ x. x) (λ ρ told. Local.mem-whole 𝓤 H A W InflightAction.row ρ) λ ρ told. Local.whole-mem 𝓤 H A W
               InflightAction.row ρ) (Reads'.room-gone 𝓤 H A InflightAction.ty) (Yields.makes-mem 𝓤 H A W (λ ρ. Unit) InflightAction.row Path.refl
-              InflightAction.held (λ x. x) λ ρ told. Local.whole-mem 𝓤 H A W InflightAction.row ρ) Path.refl Path.refl) d21
-          d23 : Typed.Typed 𝓤 H A 𝓣 E G16 b21 Δ3 at23
-          d23 = Typed.g-pre 𝓤 H A W 𝓣 E G16 G17 b21 Δ3 (Typed.pass T16 T17 s13) at22 (Scalar.g-room 𝓤 H A W E G16 11 Syntax.tyPtr (Scalar.room-sc 𝓤 H
-              A W Row.sPtr)) d22
-          d24 : Typed.Typed 𝓤 H A 𝓣 E G15 b21 Δ3 at24
-          d24 = Typed.g-pre 𝓤 H A W 𝓣 E G15 G16 b21 Δ3 (Typed.pass T15 T16 s12) at23 (Scalar.g-room 𝓤 H A W E G15 10 (Syntax.tyInt Syntax.w64)
-              (Scalar.room-sc 𝓤 H A W (Row.sInt Syntax.w64))) d23
-          d25 : Typed.Typed 𝓤 H A 𝓣 E G14 b22 Δ3 at25
-          d25 = Typed.s-seq 𝓤 H A W 𝓣 E G14 G15 b10 b21 Δ3 (Typed.both s11) at24 (Move.t-shs-copy-out 𝓤 H A W E InflightAction.row 𝓣 Path.refl
-              (InflightAction.copies .copy 𝓤 H A W) (Copies.halved 𝓤 H A W InflightAction.copies) (λ ρ. Unit) G14 1 11 12 0 ref0 life0
+              InflightAction.held (λ x. x) λ ρ told. Local.whole-mem 𝓤 H A W InflightAction.row ρ) Path.refl Path.refl) d20
+          d22 : Typed.Typed 𝓤 H A 𝓣 E G14 b20 Δ3 at22
+          d22 = Typed.g-pre 𝓤 H A W 𝓣 E G14 G15 b20 Δ3 (Typed.pass T14 T15 s11) at21 (Scalar.g-room 𝓤 H A W E G14 11 Syntax.tyPtr (Scalar.room-sc 𝓤 H
+              A W Row.sPtr)) d21
+          d23 : Typed.Typed 𝓤 H A 𝓣 E G13 b20 Δ3 at23
+          d23 = Typed.g-pre 𝓤 H A W 𝓣 E G13 G14 b20 Δ3 (Typed.pass T13 T14 s10) at22 (Scalar.g-room 𝓤 H A W E G13 10 (Syntax.tyInt Syntax.w64)
+              (Scalar.room-sc 𝓤 H A W (Row.sInt Syntax.w64))) d22
+          d24 : Typed.Typed 𝓤 H A 𝓣 E G12 b21 Δ3 at24
+          d24 = Typed.s-seq 𝓤 H A W 𝓣 E G12 G13 b9 b20 Δ3 (Typed.both s9) at23 (Move.t-shs-copy-out 𝓤 H A W E InflightAction.row 𝓣 Path.refl
+              (InflightAction.copies .copy 𝓤 H A W) (Copies.halved 𝓤 H A W InflightAction.copies) (λ ρ. Unit) G12 1 11 12 0 ref0 life0
               InflightAction.ty InflightAction.ty InflightAction.held (Shared.bySize 184) (λ u. u .1 .1 .1 .1 .1 .1 .1 .0) (λ x. x)
-              InflightAction.none (λ x. Unit) (λ x. x) (λ x. x) (λ i o. Elements.at-mul o 184 i) Path.refl Path.refl (Own.told-none 𝓤 H A (G14
+              InflightAction.none (λ x. Unit) (λ x. x) (λ x. x) (λ i o. Elements.at-mul o 184 i) Path.refl Path.refl (Own.told-none 𝓤 H A (G12
               .slots)) (DerefMove.learns-nothing 𝓤 H A InflightAction.row) (Reads'.as-is 𝓤 H A (Rows.sslice InflightAction.row ref0 0)) (Reads'.as-is
               𝓤 H A (Rows.sc-here Row.sPtr)) (Reads'.room-gone 𝓤 H A InflightAction.ty) (Yields.makes-mem 𝓤 H A W (λ ρ. Unit) InflightAction.row
-              Path.refl InflightAction.held (λ x. x) λ ρ told. Local.whole-mem 𝓤 H A W InflightAction.row ρ) Path.refl tt Path.refl Path.refl) d24
-          d26 : Typed.Typed 𝓤 H A 𝓣 E G13 b23 Δ3 at26
-          d26 = Typed.s-seq 𝓤 H A W 𝓣 E G13 G14 b9 b22 Δ3 (Typed.ask s10) at25 (Scalar.t-op2 𝓤 H A W E 𝓣 G13 Syntax.offset (Scalar.oFld 1
+              Path.refl InflightAction.held (λ x. x) λ ρ told. Local.whole-mem 𝓤 H A W InflightAction.row ρ) Path.refl tt Path.refl Path.refl) d23
+          d25 : Typed.Typed 𝓤 H A 𝓣 E G11 b22 Δ3 at25
+          d25 = Typed.s-seq 𝓤 H A W 𝓣 E G11 G12 b8 b21 Δ3 (Typed.ask s8) at24 (Scalar.t-op2 𝓤 H A W E 𝓣 G11 Syntax.offset (Scalar.oFld 1
               ((Syntax.field 0) ∷ List.[]) ref0 0 Reads'.ptrVal) (Scalar.oAt 10 (Syntax.tyInt Syntax.w64) (Row.valS (Row.sInt Syntax.w64))) 11
               (Rows.sc-here Row.sPtr) Syntax.tyPtr (Row.valS Row.sPtr) (Row.sPtr .of) (Shared.reads-sslice-ptr 𝓤 H A W InflightAction.row ref0 0 0
               Path.refl, Path.refl,) (Scalar.reads-sc 𝓤 H A W (Row.sInt Syntax.w64), Path.refl) (Reads'.room-gone 𝓤 H A Syntax.tyPtr) (Scalar.holds-sc
-              𝓤 H A W Row.sPtr) Path.refl (λ u. Path.refl) λ u. tt) d25
-          d27 : Typed.Typed 𝓤 H A 𝓣 E G9 b24 Δ3 at27
-          d27 = Typed.s-seq 𝓤 H A W 𝓣 E G9 G13 b8 b23 Δ3 (Typed.ask s9) at26 (Scalar.t-op2 𝓤 H A W E 𝓣 G9 (Syntax.mul Syntax.unsigned) (Scalar.oAt 7
+              𝓤 H A W Row.sPtr) Path.refl (λ u. Path.refl) λ u. tt) d24
+          d26 : Typed.Typed 𝓤 H A 𝓣 E G8 b23 Δ3 at26
+          d26 = Typed.s-seq 𝓤 H A W 𝓣 E G8 G11 b7 b22 Δ3 (Typed.ask s7) at25 (Scalar.t-op2 𝓤 H A W E 𝓣 G8 (Syntax.mul Syntax.unsigned) (Scalar.oAt 7
               (Syntax.tyInt Syntax.w64) (Row.valS (Row.sInt Syntax.w64))) (Scalar.oInt Syntax.w64 184) 10 (Rows.sc-here (Row.sInt Syntax.w64))
               (Syntax.tyInt Syntax.w64) (Row.valS (Row.sInt Syntax.w64)) (Row.sInt Syntax.w64 .of) (Scalar.reads-sc 𝓤 H A W (Row.sInt Syntax.w64),
               Path.refl) tt (Reads'.room-gone 𝓤 H A (Syntax.tyInt Syntax.w64)) (Scalar.holds-sc 𝓤 H A W (Row.sInt Syntax.w64)) Path.refl (λ u.
-              Path.refl) λ u. tt) d26
-          d28 : Typed.Typed 𝓤 H A 𝓣 E G8 b25 Δ3 at28
-          d28 = Typed.t-seq 𝓤 H A W 𝓣 E G8 G9 b7 b24 Δ3 at5 at27 d5 d27
-          d29 : Typed.Typed 𝓤 H A 𝓣 E G6 b26 Δ3 at29
-          d29 = Typed.s-seq 𝓤 H A W 𝓣 E G6 G8 b4 b25 Δ3 (Typed.ask s5) at28 (Scalar.t-op2 𝓤 H A W E 𝓣 G6 (Syntax.lt Syntax.unsigned) (Scalar.oAt 7
-              (Syntax.tyInt Syntax.w64) (Row.valS (Row.sInt Syntax.w64))) (Scalar.oAt 5 (Syntax.tyInt Syntax.w64) (Row.valS (Row.sInt Syntax.w64))) 9
+              Path.refl) λ u. tt) d25
+          d27 : Typed.Typed 𝓤 H A 𝓣 E G7 b24 Δ3 at27
+          d27 = Typed.t-seq 𝓤 H A W 𝓣 E G7 G8 b6 b23 Δ3 at4 at26 d4 d26
+          d28 : Typed.Typed 𝓤 H A 𝓣 E G5 b25 Δ3 at28
+          d28 = Typed.s-seq 𝓤 H A W 𝓣 E G5 G7 b3 b24 Δ3 (Typed.ask s4) at27 (Scalar.t-op2 𝓤 H A W E 𝓣 G5 (Syntax.lt Syntax.unsigned) (Scalar.oAt 7
+              (Syntax.tyInt Syntax.w64) (Row.valS (Row.sInt Syntax.w64))) (Scalar.oAt 6 (Syntax.tyInt Syntax.w64) (Row.valS (Row.sInt Syntax.w64))) 9
               (Rows.sc-here Row.sBool) Syntax.tyBool (Row.valS Row.sBool) (Row.sBool .of) (Scalar.reads-sc 𝓤 H A W (Row.sInt Syntax.w64), Path.refl)
               (Scalar.reads-sc 𝓤 H A W (Row.sInt Syntax.w64), Path.refl) (Reads'.room-gone 𝓤 H A Syntax.tyBool) (Scalar.holds-sc 𝓤 H A W Row.sBool)
-              Path.refl (λ u. Path.refl) λ u. tt) d28
-          d30 : Typed.Typed 𝓤 H A 𝓣 E G6 b27 Δ2 at30
-          d30 = Typed.t-loop-by 𝓤 H A W 𝓣 E G6 b26 Δ2 put0 (λ u vs. Inv·0 (Row.get 1 (T6 .locals) u .now) (Row.get 3 (T6 .locals) u) (Row.get 4 (T6
-              .locals) u) (Row.get 5 (T6 .locals) u) (Row.get 6 (T6 .locals) u) (Row.get 7 (T6 .locals) u) vs) (λ u vs. μ·0 (Row.get 1 (T6 .locals) u
-              .now) (Row.get 3 (T6 .locals) u) (Row.get 4 (T6 .locals) u) (Row.get 5 (T6 .locals) u) (Row.get 6 (T6 .locals) u) (Row.get 7 (T6
-              .locals) u) vs) at29 d29
-          d31 : Typed.Typed 𝓤 H A 𝓣 E G6 b28 Δ1 at31
-          d31 = Typed.t-block 𝓤 H A W 𝓣 E G6 b27 Δ1 at30 d30
-          d32 : Typed.Typed 𝓤 H A 𝓣 E G36 b30 Δ0 at32
-          d32 = Typed.t-return 𝓤 H A W 𝓣 E Δ0 tt
-          d33 : Typed.Typed 𝓤 H A 𝓣 E G35 b30 Δ0 at33
-          d33 = Typed.g-pre 𝓤 H A W 𝓣 E G35 G36 b30 Δ0 (Typed.pass T35 T36 s31) at32 (Scalar.g-room 𝓤 H A W E G35 7 (Syntax.tyInt Syntax.w64)
+              Path.refl (λ u. Path.refl) λ u. tt) d27
+          d29 : Typed.Typed 𝓤 H A 𝓣 E G5 b26 Δ2 at29
+          d29 = Typed.t-loop-by 𝓤 H A W 𝓣 E G5 b25 Δ2 put0 (λ u vs. Inv·0 (Row.get 1 (T5 .locals) u .now) (Row.get 3 (T5 .locals) u) (Row.get 4 (T5
+              .locals) u) (Row.get 5 (T5 .locals) u) (Row.get 6 (T5 .locals) u) (Row.get 7 (T5 .locals) u) vs) (λ u vs. μ·0 (Row.get 1 (T5 .locals) u
+              .now) (Row.get 3 (T5 .locals) u) (Row.get 4 (T5 .locals) u) (Row.get 5 (T5 .locals) u) (Row.get 6 (T5 .locals) u) (Row.get 7 (T5
+              .locals) u) vs) at28 d28
+          d30 : Typed.Typed 𝓤 H A 𝓣 E G5 b27 Δ1 at30
+          d30 = Typed.t-block 𝓤 H A W 𝓣 E G5 b26 Δ1 at29 d29
+          d31 : Typed.Typed 𝓤 H A 𝓣 E G35 b29 Δ0 at31
+          d31 = Typed.t-return 𝓤 H A W 𝓣 E Δ0 tt
+          d32 : Typed.Typed 𝓤 H A 𝓣 E G34 b29 Δ0 at32
+          d32 = Typed.g-pre 𝓤 H A W 𝓣 E G34 G35 b29 Δ0 (Typed.pass T34 T35 s30) at31 (Scalar.g-room 𝓤 H A W E G34 4 (Syntax.tyInt Syntax.w64)
+              (Scalar.room-sc 𝓤 H A W (Row.sInt Syntax.w64))) d31
+          d33 : Typed.Typed 𝓤 H A 𝓣 E G33 b29 Δ0 at33
+          d33 = Typed.g-pre 𝓤 H A W 𝓣 E G33 G34 b29 Δ0 (Typed.pass T33 T34 s29) at32 (Scalar.g-room 𝓤 H A W E G33 3 (Syntax.tyInt Syntax.w64)
               (Scalar.room-sc 𝓤 H A W (Row.sInt Syntax.w64))) d32
-          d34 : Typed.Typed 𝓤 H A 𝓣 E G34 b30 Δ0 at34
-          d34 = Typed.g-pre 𝓤 H A W 𝓣 E G34 G35 b30 Δ0 (Typed.pass T34 T35 s30) at33 (Scalar.g-room 𝓤 H A W E G34 6 Syntax.tyBool (Scalar.room-sc 𝓤 H
-              A W Row.sBool)) d33
-          d35 : Typed.Typed 𝓤 H A 𝓣 E G33 b30 Δ0 at35
-          d35 = Typed.g-pre 𝓤 H A W 𝓣 E G33 G34 b30 Δ0 (Typed.pass T33 T34 s29) at34 (Scalar.g-room 𝓤 H A W E G33 5 (Syntax.tyInt Syntax.w64)
+          d34 : Typed.Typed 𝓤 H A 𝓣 E G32 b29 Δ0 at34
+          d34 = Typed.g-pre 𝓤 H A W 𝓣 E G32 G33 b29 Δ0 (Typed.pass T32 T33 s28) at33 (Scalar.g-room 𝓤 H A W E G32 7 (Syntax.tyInt Syntax.w64)
+              (Scalar.room-sc 𝓤 H A W (Row.sInt Syntax.w64))) d33
+          d35 : Typed.Typed 𝓤 H A 𝓣 E G31 b29 Δ0 at35
+          d35 = Typed.g-pre 𝓤 H A W 𝓣 E G31 G32 b29 Δ0 (Typed.pass T31 T32 s27) at34 (Scalar.g-room 𝓤 H A W E G31 6 (Syntax.tyInt Syntax.w64)
               (Scalar.room-sc 𝓤 H A W (Row.sInt Syntax.w64))) d34
-          d36 : Typed.Typed 𝓤 H A 𝓣 E G32 b30 Δ0 at36
-          d36 = Typed.g-pre 𝓤 H A W 𝓣 E G32 G33 b30 Δ0 (Typed.pass T32 T33 s28) at35 (Scalar.g-room 𝓤 H A W E G32 4 (Syntax.tyInt Syntax.w64)
+          d36 : Typed.Typed 𝓤 H A 𝓣 E G30 b29 Δ0 at36
+          d36 = Typed.g-pre 𝓤 H A W 𝓣 E G30 G31 b29 Δ0 (Typed.pass T30 T31 s26) at35 (Scalar.g-room 𝓤 H A W E G30 5 (Syntax.tyInt Syntax.w64)
               (Scalar.room-sc 𝓤 H A W (Row.sInt Syntax.w64))) d35
-          d37 : Typed.Typed 𝓤 H A 𝓣 E G7 b31 Δ0 at37
-          d37 = Typed.s-seq 𝓤 H A W 𝓣 E G7 G32 b29 b30 Δ0 (Typed.both s27) at36 (Plain.t-call-plain 𝓤 H A W 𝓣 0 ps·3 r·3 (claims· .6) (claims· .7)
-              "hnsr_circuit::places::or_else" (known .3) E (λ pos β. β) G7 (Bool.bAt 6 λ x. x, (Num.vAt 7 λ x. x, (Num.vAt 4 λ x. x, tt))) 0 List.[]
-              (Call.sub-id 𝓤 H A W (G7 .slots)) ((Scalar.reads-sc 𝓤 H A W Row.sBool, Path.refl), ((Scalar.reads-sc 𝓤 H A W (Row.sInt Syntax.w64),
-              Path.refl), ((Scalar.reads-sc 𝓤 H A W (Row.sInt Syntax.w64), Path.refl), tt),),) (Reads'.room-gone 𝓤 H A (Syntax.tyInt Syntax.w64)) tt
-              Path.refl) d36
-          d38 : Typed.Typed 𝓤 H A 𝓣 E G6 b32 Δ0 at38
-          d38 = Typed.t-seq 𝓤 H A W 𝓣 E G6 G7 b28 b31 Δ0 at31 at37 d31 d37
-          d39 : Typed.Typed 𝓤 H A 𝓣 E G5 b33 Δ0 at39
-          d39 = Typed.s-seq 𝓤 H A W 𝓣 E G5 G6 b3 b32 Δ0 (Typed.pass T5 T6 s4) at38 (Scalar.t-use 𝓤 H A W E 𝓣 G5 (Scalar.oInt Syntax.w64 0) 7
+          d37 : Typed.Typed 𝓤 H A 𝓣 E G6 b30 Δ0 at37
+          d37 = Typed.s-seq 𝓤 H A W 𝓣 E G6 G30 b28 b29 Δ0 (Typed.pass T6 T30 s25) at36 (Scalar.t-use 𝓤 H A W E 𝓣 G6 (Scalar.oAt 5 (Syntax.tyInt
+              Syntax.w64) (Row.valS (Row.sInt Syntax.w64))) 0 (Rows.sc-here (Row.sInt Syntax.w64)) (Syntax.tyInt Syntax.w64) (Row.valS (Row.sInt
+              Syntax.w64)) (Row.sInt Syntax.w64 .of) (Scalar.reads-sc 𝓤 H A W (Row.sInt Syntax.w64), Path.refl) (Reads'.room-gone 𝓤 H A (Syntax.tyInt
+              Syntax.w64)) (Scalar.holds-sc 𝓤 H A W (Row.sInt Syntax.w64)) Path.refl (λ u. Path.refl) λ u. tt) d36
+          d38 : Typed.Typed 𝓤 H A 𝓣 E G5 b31 Δ0 at38
+          d38 = Typed.t-seq 𝓤 H A W 𝓣 E G5 G6 b27 b30 Δ0 at30 at37 d30 d37
+          d39 : Typed.Typed 𝓤 H A 𝓣 E G4 b32 Δ0 at39
+          d39 = Typed.s-seq 𝓤 H A W 𝓣 E G4 G5 b2 b31 Δ0 (Typed.pass T4 T5 s3) at38 (Scalar.t-use 𝓤 H A W E 𝓣 G4 (Scalar.oInt Syntax.w64 0) 7
               (Rows.sc-here (Row.sInt Syntax.w64)) (Syntax.tyInt Syntax.w64) (Row.valS (Row.sInt Syntax.w64)) (Row.sInt Syntax.w64 .of) tt
               (Reads'.room-gone 𝓤 H A (Syntax.tyInt Syntax.w64)) (Scalar.holds-sc 𝓤 H A W (Row.sInt Syntax.w64)) Path.refl (λ u. Path.refl) λ u. tt)
               d38
-          d40 : Typed.Typed 𝓤 H A 𝓣 E G4 b34 Δ0 at40
-          d40 = Typed.s-seq 𝓤 H A W 𝓣 E G4 G5 b2 b33 Δ0 (Typed.both s3) at39 (Plain.t-call-plain 𝓤 H A W 𝓣 0 ps·1 r·1 (claims· .2) (claims· .3)
-              "hnsr_circuit::places::asks_unused" (known .1) E (λ pos β. β) G4 (record { pos = 3; st = List.[]; d = 0; at = λ x. x }, tt) 6 List.[]
-              (Call.sub-id 𝓤 H A W (G4 .slots)) ((Yields.yields-copy 𝓤 H A W (λ ρ. Unit) (Declared.row Question.the-type) Path.refl (Copies.cStruct
-              Question.the-type Laws'.the-laws Laws'.the-copy .copy 𝓤 H A W) (Rows.whole (Declared.row Question.the-type)) (λ x. x) (λ x. x) (λ ρ
-              told. Local.mem-whole 𝓤 H A W (Declared.row Question.the-type) ρ) λ ρ told. Local.whole-mem 𝓤 H A W (Declared.row Question.the-type) ρ,
-              Path.refl,), tt,) (Reads'.room-gone 𝓤 H A Syntax.tyBool) tt Path.refl) d39
-          d41 : Typed.Typed 𝓤 H A 𝓣 E G3 b34 Δ0 at41
-          d41 = Typed.g-pre 𝓤 H A W 𝓣 E G3 G4 b34 Δ0 (Typed.pass T3 T4 s2) at40 (Scalar.g-room 𝓤 H A W E G3 2 Laws.mir (Local.room-whole 𝓤 H A W
-              (Declared.row Places.the-type) Laws.mir Path.refl)) d40
-          d42 : Typed.Typed 𝓤 H A 𝓣 E G2 b35 Δ0 at42
-          d42 = Typed.s-seq 𝓤 H A W 𝓣 E G2 G3 b1 b34 Δ0 (Typed.both s1) at41 (Plain.t-call-plain 𝓤 H A W 𝓣 0 ps·0 r·0 (claims· .0) (claims· .1)
+          d40 : Typed.Typed 𝓤 H A 𝓣 E G3 b32 Δ0 at40
+          d40 = Typed.g-pre 𝓤 H A W 𝓣 E G3 G4 b32 Δ0 (Typed.pass T3 T4 s2) at39 (Scalar.g-room 𝓤 H A W E G3 2 Laws.mir (Local.room-whole 𝓤 H A W
+              (Declared.row Places.the-type) Laws.mir Path.refl)) d39
+          d41 : Typed.Typed 𝓤 H A 𝓣 E G2 b33 Δ0 at41
+          d41 = Typed.s-seq 𝓤 H A W 𝓣 E G2 G3 b1 b32 Δ0 (Typed.both s1) at40 (Plain.t-call-plain 𝓤 H A W 𝓣 0 ps·0 r·0 (claims· .0) (claims· .1)
               "hns_encoding::numbers::min_usize" (known .0) E (λ pos β. β) G2 (Num.vFld 2 ((Syntax.field 3) ∷ List.[]) 24 λ x. Places.struct
-              .as-values x .1 .1 .1 .0, (Num.vAt 4 λ x. x, tt),) 5 List.[] (Call.sub-id 𝓤 H A W (G2 .slots)) ((Reads.reads-field 𝓤 H A W
+              .as-values x .1 .1 .1 .0, (Num.vAt 5 λ x. x, tt),) 6 List.[] (Call.sub-id 𝓤 H A W (G2 .slots)) ((Reads.reads-field 𝓤 H A W
               Places.the-type Laws.the-laws 3 (Syntax.tyInt Syntax.w64) 24 Path.refl, Path.refl,), ((Scalar.reads-sc 𝓤 H A W (Row.sInt Syntax.w64),
-              Path.refl), tt),) (Reads'.room-gone 𝓤 H A (Syntax.tyInt Syntax.w64)) tt Path.refl) d41
-          d43 : Typed.Typed 𝓤 H A 𝓣 E G0 b36 Δ0 at43
-          d43 = Typed.s-seq 𝓤 H A W 𝓣 E G0 G2 b0 b35 Δ0 (Typed.pass T0 T2 s0) at42 (Scalar.t-use 𝓤 H A W E 𝓣 G0 (Scalar.oFld 1 ((Syntax.field 1) ∷
-              List.[]) (Syntax.tyInt Syntax.w64) 8 Shared.lenV) 4 (Rows.sc-here (Row.sInt Syntax.w64)) (Syntax.tyInt Syntax.w64) (Row.valS (Row.sInt
+              Path.refl), tt),) (Reads'.room-gone 𝓤 H A (Syntax.tyInt Syntax.w64)) tt Path.refl) d40
+          d42 : Typed.Typed 𝓤 H A 𝓣 E G0 b34 Δ0 at42
+          d42 = Typed.s-seq 𝓤 H A W 𝓣 E G0 G2 b0 b33 Δ0 (Typed.pass T0 T2 s0) at41 (Scalar.t-use 𝓤 H A W E 𝓣 G0 (Scalar.oFld 1 ((Syntax.field 1) ∷
+              List.[]) (Syntax.tyInt Syntax.w64) 8 Shared.lenV) 5 (Rows.sc-here (Row.sInt Syntax.w64)) (Syntax.tyInt Syntax.w64) (Row.valS (Row.sInt
               Syntax.w64)) (Row.sInt Syntax.w64 .of) (Shared.reads-sslice-len 𝓤 H A W InflightAction.row ref0 0 8 Path.refl, Path.refl,)
               (Reads'.room-gone 𝓤 H A (Syntax.tyInt Syntax.w64)) (Scalar.holds-sc 𝓤 H A W (Row.sInt Syntax.w64)) Path.refl (λ u. Path.refl) λ u. tt)
-              d42
-          pub typed : Typed.Typed 𝓤 H A 𝓣 E (Function.Γin 1 ps r xs m κs qs) b36 (Function.Δret 1 ps r xs m κs qs) Φ
-          typed = d43
+              d41
+          pub typed : Typed.Typed 𝓤 H A 𝓣 E (Function.Γin 1 ps r xs m κs qs) b34 (Function.Δret 1 ps r xs m κs qs) Φ
+          typed = d42
       module _ (κs : Lifetimes.Lfts 1) where
         pub record Args : Type 0 where
           pub inflight : Kinds.Den { n = 1 } κs (ShrSlice.pShrS InflightAction.row 0 tt)
-          pub places : Kinds.Den { n = 1 } κs (Value.pVal record { ty = Declared.row Places.the-type; one = Path.refl; val = Laws''.val
-              Places.the-type Laws.the-laws; tells = Laws''.tells Places.the-type Laws.the-laws; still = Laws''.still Places.the-type Laws.the-copy
-              Exit.yes; row = Rows.whole (Declared.row Places.the-type); rd = λ x. x; mk = λ x. x; } λ M 𝓤 H A W. record { copies = Laws''.copy
-              Places.the-type Laws.the-copy 𝓤 H A W; lawful = Laws''.lawful Places.the-type Laws.the-laws 𝓤 H A W; makes = Laws''.makes
-              Places.the-type Laws.the-plain 𝓤 H A; in-mem = Local.mem-whole 𝓤 H A W (Declared.row Places.the-type); of-mem = Local.whole-mem 𝓤 H A W
-              (Declared.row Places.the-type); })
-          pub question : Kinds.Den { n = 1 } κs (Value.pVal record { ty = Declared.row Question.the-type; one = Path.refl; val = Laws''.val
-              Question.the-type Laws'.the-laws; tells = Laws''.tells Question.the-type Laws'.the-laws; still = Laws''.still Question.the-type
-              Laws'.the-copy Exit.yes; row = Rows.whole (Declared.row Question.the-type); rd = λ x. x; mk = λ x. x; } λ M 𝓤 H A W. record { copies =
-              Laws''.copy Question.the-type Laws'.the-copy 𝓤 H A W; lawful = Laws''.lawful Question.the-type Laws'.the-laws 𝓤 H A W; makes =
-              Laws''.makes Question.the-type Laws'.the-plain 𝓤 H A; in-mem = Local.mem-whole 𝓤 H A W (Declared.row Question.the-type); of-mem =
-              Local.whole-mem 𝓤 H A W (Declared.row Question.the-type); })
+          pub places : Kinds.Den { n = 1 } κs (Value.pVal record { ty = Declared.row Places.the-type; one = Path.refl; val = Laws'.val Places.the-type
+              Laws.the-laws; tells = Laws'.tells Places.the-type Laws.the-laws; still = Laws'.still Places.the-type Laws.the-copy Exit.yes; row =
+              Rows.whole (Declared.row Places.the-type); rd = λ x. x; mk = λ x. x; } λ M 𝓤 H A W. record { copies = Laws'.copy Places.the-type
+              Laws.the-copy 𝓤 H A W; lawful = Laws'.lawful Places.the-type Laws.the-laws 𝓤 H A W; makes = Laws'.makes Places.the-type Laws.the-plain 𝓤
+              H A; in-mem = Local.mem-whole 𝓤 H A W (Declared.row Places.the-type); of-mem = Local.whole-mem 𝓤 H A W (Declared.row Places.the-type);
+              })
+          pub generation : Kinds.Den { n = 1 } κs (Num.pNum Syntax.w64)
+          pub sequence : Kinds.Den { n = 1 } κs (Num.pNum Syntax.w64)
         abbrev pub dens : (a : Args) → Kinds.Dens κs ps
-        dens = λ a. (a .inflight, (a .places, (a .question, tt)))
+        dens = λ a. (a .inflight, (a .places, (a .generation, (a .sequence, tt))))
+        module _ (args· : Args) where
+          pub record Ranges : Type 0 where
+            pub generation : Val.Fits Syntax.w64 (args· .generation)
+            pub sequence : Val.Fits Syntax.w64 (args· .sequence)
       abbrev pub m0 : (κs : Lifetimes.Lfts 1) → (args : Args κs) → Typed.Mo T0
       m0 = λ κs args. (tt, Enter.partsP κs 1 ps xs (dens κs args))
       abbrev W0 : (κs : Lifetimes.Lfts 1) → (args : Args κs) → Typed.Want O0
@@ -853,6 +808,7 @@ module _ (claims· : Claims) where
         pub κs : Lifetimes.Lfts 1
         pub args : Args κs
         pub good : Kinds.GoodsP κs ps (dens κs args)
+        pub fits : Ranges κs args
         pub pre : Pre· κs (dens κs args)
       abbrev pub m1 : (κs : Lifetimes.Lfts 1) → (args : Args κs) → Typed.Mo T2
       m1 = λ κs args. s0 (m0 κs args)
@@ -863,289 +819,247 @@ module _ (claims· : Claims) where
       module _ (before· : Start) where
         abbrev pub After-min-usize·own : Type 0
         After-min-usize·own = Called.Called ps·0 r·0 (claims· .1) T2 (Num.vFld 2 ((Syntax.field 3) ∷ List.[]) 24 λ x. Places.struct .as-values x .1 .1
-            .1 .0, (Num.vAt 4 λ x. x, tt),) (m1 (before· .κs) (before· .args))
+            .1 .0, (Num.vAt 5 λ x. x, tt),) (m1 (before· .κs) (before· .args))
       pub record After-min-usize : Type 0 where
         pub before : Start
         pub min-usize : After-min-usize·own before
       abbrev pub After-min-usize·gave : (c : After-min-usize) → s1 .gives (m1 (c .before .κs) (c .before .args))
       After-min-usize·gave = λ c. Called.given ps·0 r·0 (claims· .1) T2 (Num.vFld 2 ((Syntax.field 3) ∷ List.[]) 24 λ x. Places.struct .as-values x .1
-          .1 .1 .0, (Num.vAt 4 λ x. x, tt),) (m1 (c .before .κs) (c .before .args)) (c .min-usize)
+          .1 .1 .0, (Num.vAt 5 λ x. x, tt),) (m1 (c .before .κs) (c .before .args)) (c .min-usize)
       abbrev pub m3 : (before : Start) → (given : s1 .gives (m1 (before .κs) (before .args))) → Typed.Mo T4
       m3 = λ before given. s2 (m2 before given)
-      abbrev pub Need-asks-unused-requires : Type 0
-      Need-asks-unused-requires = (c : After-min-usize) → s3 .asks (m3 (c .before) (After-min-usize·gave c))
-      abbrev pub m4 : (before : After-min-usize) → (given : s3 .gives (m3 (before .before) (After-min-usize·gave before))) → Typed.Mo T5
-      m4 = λ before given. s3 .next (m3 (before .before) (After-min-usize·gave before)) given
-      module _ (before· : After-min-usize) where
-        abbrev pub After-asks-unused·own : Type 0
-        After-asks-unused·own = Called.Called ps·1 r·1 (claims· .3) T4 (record { pos = 3; st = List.[]; d = 0; at = λ x. x }, tt,) (m3 (before·
-            .before) (After-min-usize·gave before·))
-      pub record After-asks-unused : Type 0 where
-        pub before : After-min-usize
-        pub asks-unused : After-asks-unused·own before
-      abbrev pub After-asks-unused·gave : (c : After-asks-unused) → s3 .gives (m3 (c .before .before) (After-min-usize·gave (c .before)))
-      After-asks-unused·gave = λ c. Called.given ps·1 r·1 (claims· .3) T4 (record { pos = 3; st = List.[]; d = 0; at = λ x. x }, tt,) (m3 (c .before
-          .before) (After-min-usize·gave (c .before))) (c .asks-unused)
-      abbrev pub m5 : (before : After-min-usize) → (given : s3 .gives (m3 (before .before) (After-min-usize·gave before))) → Typed.Mo T6
-      m5 = λ before given. s4 (m4 before given)
-      abbrev W1 : (before : After-min-usize) → (given : s3 .gives (m3 (before .before) (After-min-usize·gave before))) → Typed.Want O1
-      W1 = λ before given. Typed.wantNext T7 O0 (at37 (W0 (before .before .κs) (before .before .args))) (W0 (before .before .κs) (before .before
-          .args))
-      abbrev W2 : (before : After-min-usize) → (given : s3 .gives (m3 (before .before) (After-min-usize·gave before))) → Typed.Want O2
+      abbrev pub m4 : (before : Start) → (given : s1 .gives (m1 (before .κs) (before .args))) → Typed.Mo T5
+      m4 = λ before given. s3 (m3 before given)
+      abbrev W1 : (before : Start) → (given : s1 .gives (m1 (before .κs) (before .args))) → Typed.Want O1
+      W1 = λ before given. Typed.wantNext T6 O0 (at37 (W0 (before .κs) (before .args))) (W0 (before .κs) (before .args))
+      abbrev W2 : (before : Start) → (given : s1 .gives (m1 (before .κs) (before .args))) → Typed.Want O2
       W2 = λ before given. Typed.inBlock O1 (W1 before given)
       abbrev pub Need-loop-holds : Type 0
-      Need-loop-holds = (c : After-asks-unused) → Inv·0 (Row.get 1 (T6 .locals) (m5 (c .before) (After-asks-unused·gave c)) .now) (Row.get 3 (T6
-          .locals) (m5 (c .before) (After-asks-unused·gave c))) (Row.get 4 (T6 .locals) (m5 (c .before) (After-asks-unused·gave c))) (Row.get 5 (T6
-          .locals) (m5 (c .before) (After-asks-unused·gave c))) (Row.get 6 (T6 .locals) (m5 (c .before) (After-asks-unused·gave c))) (Row.get 7 (T6
-          .locals) (m5 (c .before) (After-asks-unused·gave c))) (Row.get 7 (T6 .locals) (m5 (c .before) (After-asks-unused·gave c)))
-      abbrev pub m6 : (before : After-asks-unused) → (i : Rows.sc-here (Row.sInt Syntax.w64) .Mod) → Typed.Mo T6
-      m6 = λ before i. Row.set 7 (7, Rows.sc-here (Row.sInt Syntax.w64)) i (T6 .locals) (m5 (before .before) (After-asks-unused·gave before))
-      abbrev W3 : (before : After-asks-unused) → (i : Rows.sc-here (Row.sInt Syntax.w64) .Mod) → Typed.Want O3
-      W3 = λ before i. Typed.inLoop T6 O2 (Typed.Round T6 O2 put0 (λ u vs. Inv·0 (Row.get 1 (T6 .locals) u .now) (Row.get 3 (T6 .locals) u) (Row.get 4
-          (T6 .locals) u) (Row.get 5 (T6 .locals) u) (Row.get 6 (T6 .locals) u) (Row.get 7 (T6 .locals) u) vs) (λ u vs. μ·0 (Row.get 1 (T6 .locals) u
-          .now) (Row.get 3 (T6 .locals) u) (Row.get 4 (T6 .locals) u) (Row.get 5 (T6 .locals) u) (Row.get 6 (T6 .locals) u) (Row.get 7 (T6 .locals) u)
-          vs) at29 (m5 (before .before) (After-asks-unused·gave before)) i) (W2 (before .before) (After-asks-unused·gave before))
-      abbrev pub m7 : (before : After-asks-unused) → (i : Rows.sc-here (Row.sInt Syntax.w64) .Mod) → Typed.Mo T8
-      m7 = λ before i. s5 .next (m6 before i)
-      abbrev W4 : (before : After-asks-unused) → (i : Rows.sc-here (Row.sInt Syntax.w64) .Mod) → Typed.Want O4
-      W4 = λ before i. Typed.wantNext T9 O3 (at27 (W3 before i)) (W3 before i)
-      module _ (before· : After-asks-unused) where
+      Need-loop-holds = (c : After-min-usize) → Inv·0 (Row.get 1 (T5 .locals) (m4 (c .before) (After-min-usize·gave c)) .now) (Row.get 3 (T5 .locals)
+          (m4 (c .before) (After-min-usize·gave c))) (Row.get 4 (T5 .locals) (m4 (c .before) (After-min-usize·gave c))) (Row.get 5 (T5 .locals) (m4 (c
+          .before) (After-min-usize·gave c))) (Row.get 6 (T5 .locals) (m4 (c .before) (After-min-usize·gave c))) (Row.get 7 (T5 .locals) (m4 (c
+          .before) (After-min-usize·gave c))) (Row.get 7 (T5 .locals) (m4 (c .before) (After-min-usize·gave c)))
+      abbrev pub m5 : (before : After-min-usize) → (i : Rows.sc-here (Row.sInt Syntax.w64) .Mod) → Typed.Mo T5
+      m5 = λ before i. Row.set 7 (7, Rows.sc-here (Row.sInt Syntax.w64)) i (T5 .locals) (m4 (before .before) (After-min-usize·gave before))
+      abbrev W3 : (before : After-min-usize) → (i : Rows.sc-here (Row.sInt Syntax.w64) .Mod) → Typed.Want O3
+      W3 = λ before i. Typed.inLoop T5 O2 (Typed.Round T5 O2 put0 (λ u vs. Inv·0 (Row.get 1 (T5 .locals) u .now) (Row.get 3 (T5 .locals) u) (Row.get 4
+          (T5 .locals) u) (Row.get 5 (T5 .locals) u) (Row.get 6 (T5 .locals) u) (Row.get 7 (T5 .locals) u) vs) (λ u vs. μ·0 (Row.get 1 (T5 .locals) u
+          .now) (Row.get 3 (T5 .locals) u) (Row.get 4 (T5 .locals) u) (Row.get 5 (T5 .locals) u) (Row.get 6 (T5 .locals) u) (Row.get 7 (T5 .locals) u)
+          vs) at28 (m4 (before .before) (After-min-usize·gave before)) i) (W2 (before .before) (After-min-usize·gave before))
+      abbrev pub m6 : (before : After-min-usize) → (i : Rows.sc-here (Row.sInt Syntax.w64) .Mod) → Typed.Mo T7
+      m6 = λ before i. s4 .next (m5 before i)
+      abbrev W4 : (before : After-min-usize) → (i : Rows.sc-here (Row.sInt Syntax.w64) .Mod) → Typed.Want O4
+      W4 = λ before i. Typed.wantNext T8 O3 (at26 (W3 before i)) (W3 before i)
+      module _ (before· : After-min-usize) where
         pub record At-loop·own : Type 0 where
           pub i : Rows.sc-here (Row.sInt Syntax.w64) .Mod
-          pub inv : Inv·0 (Row.get 1 (T6 .locals) (m5 (before· .before) (After-asks-unused·gave before·)) .now) (Row.get 3 (T6 .locals) (m5 (before·
-              .before) (After-asks-unused·gave before·))) (Row.get 4 (T6 .locals) (m5 (before· .before) (After-asks-unused·gave before·))) (Row.get 5
-              (T6 .locals) (m5 (before· .before) (After-asks-unused·gave before·))) (Row.get 6 (T6 .locals) (m5 (before· .before)
-              (After-asks-unused·gave before·))) (Row.get 7 (T6 .locals) (m5 (before· .before) (After-asks-unused·gave before·))) i
+          pub inv : Inv·0 (Row.get 1 (T5 .locals) (m4 (before· .before) (After-min-usize·gave before·)) .now) (Row.get 3 (T5 .locals) (m4 (before·
+              .before) (After-min-usize·gave before·))) (Row.get 4 (T5 .locals) (m4 (before· .before) (After-min-usize·gave before·))) (Row.get 5 (T5
+              .locals) (m4 (before· .before) (After-min-usize·gave before·))) (Row.get 6 (T5 .locals) (m4 (before· .before) (After-min-usize·gave
+              before·))) (Row.get 7 (T5 .locals) (m4 (before· .before) (After-min-usize·gave before·))) i
       pub record At-loop : Type 0 where
-        pub before : After-asks-unused
+        pub before : After-min-usize
         pub loop : At-loop·own before
       module _ (before· : At-loop) where
         pub record In-loop·own : Type 0 where
-          pub taken : Nat._<_ (Row.get 7 (T6 .locals) (m6 (before· .before) (before· .loop .i))) (Row.get 5 (T6 .locals) (m6 (before· .before)
+          pub taken : Nat._<_ (Row.get 7 (T5 .locals) (m5 (before· .before) (before· .loop .i))) (Row.get 6 (T5 .locals) (m5 (before· .before)
               (before· .loop .i)))
       pub record In-loop : Type 0 where
         pub before : At-loop
         pub loop-test : In-loop·own before
-      abbrev pub m8 : (before : At-loop) → Typed.Mo T10
-      m8 = λ before. s6 (m7 (before .before) (before .loop .i))
+      abbrev pub m7 : (before : At-loop) → Typed.Mo T9
+      m7 = λ before. s5 (m6 (before .before) (before .loop .i))
       module _ (before· : At-loop) where
         pub record After-loop·own : Type 0 where
-          pub left : Nat._≤_ (Row.get 5 (T6 .locals) (m6 (before· .before) (before· .loop .i))) (Row.get 7 (T6 .locals) (m6 (before· .before) (before·
+          pub left : Nat._≤_ (Row.get 6 (T5 .locals) (m5 (before· .before) (before· .loop .i))) (Row.get 7 (T5 .locals) (m5 (before· .before) (before·
               .loop .i)))
       pub record After-loop : Type 0 where
         pub before : At-loop
         pub loop-test : After-loop·own before
-      abbrev pub m9 : (before : At-loop) → Typed.Mo T11
-      m9 = λ before. s7 (m7 (before .before) (before .loop .i))
-      abbrev pub m10 : (before : At-loop) → Typed.Mo T12
-      m10 = λ before. s8 (m9 before)
+      abbrev pub m8 : (before : At-loop) → Typed.Mo T10
+      m8 = λ before. s6 (m6 (before .before) (before .loop .i))
       abbrev pub Need-mul-row : Type 0
-      Need-mul-row = (c : In-loop) → s9 .asks (m8 (c .before))
-      abbrev pub m11 : (before : At-loop) → Typed.Mo T13
-      m11 = λ before. s9 .next (m8 before)
-      abbrev pub m12 : (before : At-loop) → Typed.Mo T14
-      m12 = λ before. s10 .next (m11 before)
+      Need-mul-row = (c : In-loop) → s7 .asks (m7 (c .before))
+      abbrev pub m9 : (before : At-loop) → Typed.Mo T11
+      m9 = λ before. s7 .next (m7 before)
+      abbrev pub m10 : (before : At-loop) → Typed.Mo T12
+      m10 = λ before. s8 .next (m9 before)
       abbrev pub Need-shared-slice-copy-out-row : Type 0
-      Need-shared-slice-copy-out-row = (c : In-loop) → Shared.InSlice T14 1 11 (λ x. x) (λ u. u .1 .1 .1 .1 .1 .1 .1 .0) (m12 (c .before))
-      abbrev pub m13 : (before : In-loop) → (given : s11 .gives (m12 (before .before))) → Typed.Mo T15
-      m13 = λ before given. s11 .next (m12 (before .before)) given
-      abbrev pub m14 : (before : In-loop) → (given : s11 .gives (m12 (before .before))) → Typed.Mo T16
+      Need-shared-slice-copy-out-row = (c : In-loop) → Shared.InSlice T12 1 11 (λ x. x) (λ u. u .1 .1 .1 .1 .1 .1 .1 .0) (m10 (c .before))
+      abbrev pub m11 : (before : In-loop) → (given : s9 .gives (m10 (before .before))) → Typed.Mo T13
+      m11 = λ before given. s9 .next (m10 (before .before)) given
+      abbrev pub m12 : (before : In-loop) → (given : s9 .gives (m10 (before .before))) → Typed.Mo T14
+      m12 = λ before given. s10 (m11 before given)
+      abbrev pub m13 : (before : In-loop) → (given : s9 .gives (m10 (before .before))) → Typed.Mo T15
+      m13 = λ before given. s11 (m12 before given)
+      abbrev pub m14 : (before : In-loop) → (given : s9 .gives (m10 (before .before))) → Typed.Mo T16
       m14 = λ before given. s12 (m13 before given)
-      abbrev pub m15 : (before : In-loop) → (given : s11 .gives (m12 (before .before))) → Typed.Mo T17
+      abbrev pub m15 : (before : In-loop) → (given : s9 .gives (m10 (before .before))) → Typed.Mo T17
       m15 = λ before given. s13 (m14 before given)
-      abbrev pub m16 : (before : In-loop) → (given : s11 .gives (m12 (before .before))) → Typed.Mo T18
-      m16 = λ before given. s14 (m15 before given)
-      abbrev pub m17 : (before : In-loop) → (given : s11 .gives (m12 (before .before))) → Typed.Mo T19
-      m17 = λ before given. s15 (m16 before given)
       module _ (before· : In-loop) where
         pub record After-row·own : Type 0 where
-          pub given : s11 .gives (m12 (before· .before))
+          pub given : s9 .gives (m10 (before· .before))
       pub record After-row : Type 0 where
         pub before : In-loop
         pub row : After-row·own before
-      abbrev pub Need-action-has-requires : Type 0
-      Need-action-has-requires = (c : After-row) → s16 .asks (m17 (c .before) (c .row .given))
-      abbrev pub m18 : (before : After-row) → (given : s16 .gives (m17 (before .before) (before .row .given))) → Typed.Mo T20
-      m18 = λ before given. s16 .next (m17 (before .before) (before .row .given)) given
+      abbrev pub Need-action-is-requires : Type 0
+      Need-action-is-requires = (c : After-row) → s14 .asks (m15 (c .before) (c .row .given))
+      abbrev pub m16 : (before : After-row) → (given : s14 .gives (m15 (before .before) (before .row .given))) → Typed.Mo T18
+      m16 = λ before given. s14 .next (m15 (before .before) (before .row .given)) given
       module _ (before· : After-row) where
-        abbrev pub After-action-has·own : Type 0
-        After-action-has·own = Called.Called ps·2 r·2 (claims· .5) T19 (record { pos = 8; st = List.[]; d = 0; at = λ x. x }, (record { pos = 3; st =
-            List.[]; d = 0; at = λ x. x }, tt),) (m17 (before· .before) (before· .row .given))
-      pub record After-action-has : Type 0 where
+        abbrev pub After-action-is·own : Type 0
+        After-action-is·own = Called.Called ps·1 r·1 (claims· .3) T17 (record { pos = 8; st = List.[]; d = 0; at = λ x. x }, (Num.vAt 3 λ x. x,
+            (Num.vAt 4 λ x. x, tt)),) (m15 (before· .before) (before· .row .given))
+      pub record After-action-is : Type 0 where
         pub before : After-row
-        pub action-has : After-action-has·own before
-      abbrev pub After-action-has·gave : (c : After-action-has) → s16 .gives (m17 (c .before .before) (c .before .row .given))
-      After-action-has·gave = λ c. Called.given ps·2 r·2 (claims· .5) T19 (record { pos = 8; st = List.[]; d = 0; at = λ x. x }, (record { pos = 3; st
-          = List.[]; d = 0; at = λ x. x }, tt),) (m17 (c .before .before) (c .before .row .given)) (c .action-has)
-      abbrev W5 : (before : After-row) → (given : s16 .gives (m17 (before .before) (before .row .given))) → Typed.Want O5
-      W5 = λ before given. Typed.wantNext T21 O3 (at18 (W3 (before .before .before .before) (before .before .before .loop .i))) (W3 (before .before
+        pub action-is : After-action-is·own before
+      abbrev pub After-action-is·gave : (c : After-action-is) → s14 .gives (m15 (c .before .before) (c .before .row .given))
+      After-action-is·gave = λ c. Called.given ps·1 r·1 (claims· .3) T17 (record { pos = 8; st = List.[]; d = 0; at = λ x. x }, (Num.vAt 3 λ x. x,
+          (Num.vAt 4 λ x. x, tt)),) (m15 (c .before .before) (c .before .row .given)) (c .action-is)
+      abbrev W5 : (before : After-row) → (given : s14 .gives (m15 (before .before) (before .row .given))) → Typed.Want O5
+      W5 = λ before given. Typed.wantNext T19 O3 (at17 (W3 (before .before .before .before) (before .before .before .loop .i))) (W3 (before .before
           .before .before) (before .before .before .loop .i))
-      abbrev pub m19 : (before : After-row) → (given : s16 .gives (m17 (before .before) (before .row .given))) → Typed.Mo T22
-      m19 = λ before given. s17 (m18 before given)
-      abbrev pub m20 : (before : After-action-has) → Typed.Mo T23
-      m20 = λ before. s18 (m19 (before .before) (After-action-has·gave before))
-      abbrev pub m21 : (before : After-action-has) → Typed.Mo T24
+      abbrev pub m17 : (before : After-row) → (given : s14 .gives (m15 (before .before) (before .row .given))) → Typed.Mo T20
+      m17 = λ before given. s15 (m16 before given)
+      abbrev pub m18 : (before : After-action-is) → Typed.Mo T21
+      m18 = λ before. s16 (m17 (before .before) (After-action-is·gave before))
+      abbrev pub m19 : (before : After-action-is) → Typed.Mo T22
+      m19 = λ before. s17 (m18 before)
+      abbrev pub m20 : (before : After-action-is) → Typed.Mo T23
+      m20 = λ before. s18 (m19 before)
+      abbrev pub m21 : (before : After-action-is) → Typed.Mo T24
       m21 = λ before. s19 (m20 before)
-      abbrev pub m22 : (before : After-action-has) → Typed.Mo T25
+      abbrev pub m22 : (before : After-action-is) → Typed.Mo T25
       m22 = λ before. s20 (m21 before)
-      abbrev pub m23 : (before : After-action-has) → Typed.Mo T26
+      abbrev pub m23 : (before : After-action-is) → Typed.Mo T26
       m23 = λ before. s21 (m22 before)
-      abbrev pub m24 : (before : After-action-has) → Typed.Mo T27
+      abbrev pub m24 : (before : After-action-is) → Typed.Mo T27
       m24 = λ before. s22 (m23 before)
-      abbrev pub m25 : (before : After-action-has) → Typed.Mo T28
-      m25 = λ before. s23 (m24 before)
-      abbrev pub m26 : (before : After-action-has) → Typed.Mo T29
-      m26 = λ before. s24 (m25 before)
-      module _ (before· : After-action-has) where
+      module _ (before· : After-action-is) where
         pub record Then1·own : Type 0 where
-          pub taken : Path._≡_ (Row.get 13 (T22 .locals) (m19 (before· .before) (After-action-has·gave before·))) Bool'.true
+          pub taken : Path._≡_ (Row.get 13 (T20 .locals) (m17 (before· .before) (After-action-is·gave before·))) Bool'.true
       pub record Then1 : Type 0 where
-        pub before : After-action-has
+        pub before : After-action-is
         pub if1 : Then1·own before
       abbrev pub Need-returns : Type 0
-      Need-returns = (c : Then1) → Post· (c .before .before .before .before .before .before .before .κs) (dens (c .before .before .before .before
-          .before .before .before .κs) (c .before .before .before .before .before .before .before .args)) (Function.resV r (c .before .before .before
-          .before .before .before .before .κs) (m26 (c .before) .0)) (Clauses.atExit (Kinds.endedOf 1 ps r) (c .before .before .before .before .before
-          .before .before .κs) (dens (c .before .before .before .before .before .before .before .κs) (c .before .before .before .before .before
-          .before .before .args)) (Enter.lastsP (c .before .before .before .before .before .before .before .κs) 1 ps xs (dens (c .before .before
-          .before .before .before .before .before .κs) (c .before .before .before .before .before .before .before .args)) (m26 (c .before) .1)))
-      abbrev pub m27 : (before : After-action-has) → Typed.Mo T30
-      m27 = λ before. s25 (m19 (before .before) (After-action-has·gave before))
-      module _ (before· : After-action-has) where
+      Need-returns = (c : Then1) → Post· (c .before .before .before .before .before .before .κs) (dens (c .before .before .before .before .before
+          .before .κs) (c .before .before .before .before .before .before .args)) (Function.resV r (c .before .before .before .before .before .before
+          .κs) (m24 (c .before) .0)) (Clauses.atExit (Kinds.endedOf 1 ps r) (c .before .before .before .before .before .before .κs) (dens (c .before
+          .before .before .before .before .before .κs) (c .before .before .before .before .before .before .args)) (Enter.lastsP (c .before .before
+          .before .before .before .before .κs) 1 ps xs (dens (c .before .before .before .before .before .before .κs) (c .before .before .before
+          .before .before .before .args)) (m24 (c .before) .1)))
+      abbrev pub m25 : (before : After-action-is) → Typed.Mo T28
+      m25 = λ before. s23 (m17 (before .before) (After-action-is·gave before))
+      module _ (before· : After-action-is) where
         pub record Else1·own : Type 0 where
-          pub left : Path._≡_ (Row.get 13 (T22 .locals) (m19 (before· .before) (After-action-has·gave before·))) Bool'.false
+          pub left : Path._≡_ (Row.get 13 (T20 .locals) (m17 (before· .before) (After-action-is·gave before·))) Bool'.false
       pub record Else1 : Type 0 where
-        pub before : After-action-has
+        pub before : After-action-is
         pub if1 : Else1·own before
       abbrev pub Need-add-i : Type 0
-      Need-add-i = (c : Else1) → s26 .asks (m27 (c .before))
-      abbrev pub m28 : (before : After-action-has) → Typed.Mo T31
-      m28 = λ before. s26 .next (m27 before)
+      Need-add-i = (c : Else1) → s24 .asks (m25 (c .before))
+      abbrev pub m26 : (before : After-action-is) → Typed.Mo T29
+      m26 = λ before. s24 .next (m25 before)
       abbrev pub Need-loop-less : Type 0
-      Need-loop-less = (c : Else1) → Nat._<_ (μ·0 (Row.get 1 (T6 .locals) (m5 (c .before .before .before .before .before .before)
-          (After-asks-unused·gave (c .before .before .before .before .before))) .now) (Row.get 3 (T6 .locals) (m5 (c .before .before .before .before
-          .before .before) (After-asks-unused·gave (c .before .before .before .before .before)))) (Row.get 4 (T6 .locals) (m5 (c .before .before
-          .before .before .before .before) (After-asks-unused·gave (c .before .before .before .before .before)))) (Row.get 5 (T6 .locals) (m5 (c
-          .before .before .before .before .before .before) (After-asks-unused·gave (c .before .before .before .before .before)))) (Row.get 6 (T6
-          .locals) (m5 (c .before .before .before .before .before .before) (After-asks-unused·gave (c .before .before .before .before .before))))
-          (Row.get 7 (T6 .locals) (m5 (c .before .before .before .before .before .before) (After-asks-unused·gave (c .before .before .before .before
-          .before)))) (Row.get 7 (T6 .locals) (m28 (c .before)))) (μ·0 (Row.get 1 (T6 .locals) (m5 (c .before .before .before .before .before .before)
-          (After-asks-unused·gave (c .before .before .before .before .before))) .now) (Row.get 3 (T6 .locals) (m5 (c .before .before .before .before
-          .before .before) (After-asks-unused·gave (c .before .before .before .before .before)))) (Row.get 4 (T6 .locals) (m5 (c .before .before
-          .before .before .before .before) (After-asks-unused·gave (c .before .before .before .before .before)))) (Row.get 5 (T6 .locals) (m5 (c
-          .before .before .before .before .before .before) (After-asks-unused·gave (c .before .before .before .before .before)))) (Row.get 6 (T6
-          .locals) (m5 (c .before .before .before .before .before .before) (After-asks-unused·gave (c .before .before .before .before .before))))
-          (Row.get 7 (T6 .locals) (m5 (c .before .before .before .before .before .before) (After-asks-unused·gave (c .before .before .before .before
-          .before)))) (c .before .before .before .before .loop .i))
+      Need-loop-less = (c : Else1) → Nat._<_ (μ·0 (Row.get 1 (T5 .locals) (m4 (c .before .before .before .before .before .before)
+          (After-min-usize·gave (c .before .before .before .before .before))) .now) (Row.get 3 (T5 .locals) (m4 (c .before .before .before .before
+          .before .before) (After-min-usize·gave (c .before .before .before .before .before)))) (Row.get 4 (T5 .locals) (m4 (c .before .before .before
+          .before .before .before) (After-min-usize·gave (c .before .before .before .before .before)))) (Row.get 5 (T5 .locals) (m4 (c .before .before
+          .before .before .before .before) (After-min-usize·gave (c .before .before .before .before .before)))) (Row.get 6 (T5 .locals) (m4 (c .before
+          .before .before .before .before .before) (After-min-usize·gave (c .before .before .before .before .before)))) (Row.get 7 (T5 .locals) (m4 (c
+          .before .before .before .before .before .before) (After-min-usize·gave (c .before .before .before .before .before)))) (Row.get 7 (T5
+          .locals) (m26 (c .before)))) (μ·0 (Row.get 1 (T5 .locals) (m4 (c .before .before .before .before .before .before) (After-min-usize·gave (c
+          .before .before .before .before .before))) .now) (Row.get 3 (T5 .locals) (m4 (c .before .before .before .before .before .before)
+          (After-min-usize·gave (c .before .before .before .before .before)))) (Row.get 4 (T5 .locals) (m4 (c .before .before .before .before .before
+          .before) (After-min-usize·gave (c .before .before .before .before .before)))) (Row.get 5 (T5 .locals) (m4 (c .before .before .before .before
+          .before .before) (After-min-usize·gave (c .before .before .before .before .before)))) (Row.get 6 (T5 .locals) (m4 (c .before .before .before
+          .before .before .before) (After-min-usize·gave (c .before .before .before .before .before)))) (Row.get 7 (T5 .locals) (m4 (c .before .before
+          .before .before .before .before) (After-min-usize·gave (c .before .before .before .before .before)))) (c .before .before .before .before
+          .loop .i))
       abbrev pub Need-loop-again : Type 0
-      Need-loop-again = (c : Else1) → Inv·0 (Row.get 1 (T6 .locals) (m5 (c .before .before .before .before .before .before) (After-asks-unused·gave (c
-          .before .before .before .before .before))) .now) (Row.get 3 (T6 .locals) (m5 (c .before .before .before .before .before .before)
-          (After-asks-unused·gave (c .before .before .before .before .before)))) (Row.get 4 (T6 .locals) (m5 (c .before .before .before .before
-          .before .before) (After-asks-unused·gave (c .before .before .before .before .before)))) (Row.get 5 (T6 .locals) (m5 (c .before .before
-          .before .before .before .before) (After-asks-unused·gave (c .before .before .before .before .before)))) (Row.get 6 (T6 .locals) (m5 (c
-          .before .before .before .before .before .before) (After-asks-unused·gave (c .before .before .before .before .before)))) (Row.get 7 (T6
-          .locals) (m5 (c .before .before .before .before .before .before) (After-asks-unused·gave (c .before .before .before .before .before))))
-          (Row.get 7 (T6 .locals) (m28 (c .before)))
-      abbrev pub Need-or-else-requires : Type 0
-      Need-or-else-requires = (c : After-loop) → s27 .asks (m10 (c .before))
-      abbrev pub m29 : (before : After-loop) → (given : s27 .gives (m10 (before .before))) → Typed.Mo T32
-      m29 = λ before given. s27 .next (m10 (before .before)) given
-      module _ (before· : After-loop) where
-        abbrev pub After-or-else·own : Type 0
-        After-or-else·own = Called.Called ps·3 r·3 (claims· .7) T7 (Bool.bAt 6 λ x. x, (Num.vAt 7 λ x. x, (Num.vAt 4 λ x. x, tt)),) (m10 (before·
-            .before))
-      pub record After-or-else : Type 0 where
-        pub before : After-loop
-        pub or-else : After-or-else·own before
-      abbrev pub After-or-else·gave : (c : After-or-else) → s27 .gives (m10 (c .before .before))
-      After-or-else·gave = λ c. Called.given ps·3 r·3 (claims· .7) T7 (Bool.bAt 6 λ x. x, (Num.vAt 7 λ x. x, (Num.vAt 4 λ x. x, tt)),) (m10 (c .before
-          .before)) (c .or-else)
-      abbrev pub m30 : (before : After-loop) → (given : s27 .gives (m10 (before .before))) → Typed.Mo T33
-      m30 = λ before given. s28 (m29 before given)
-      abbrev pub m31 : (before : After-loop) → (given : s27 .gives (m10 (before .before))) → Typed.Mo T34
-      m31 = λ before given. s29 (m30 before given)
-      abbrev pub m32 : (before : After-loop) → (given : s27 .gives (m10 (before .before))) → Typed.Mo T35
-      m32 = λ before given. s30 (m31 before given)
-      abbrev pub m33 : (before : After-loop) → (given : s27 .gives (m10 (before .before))) → Typed.Mo T36
-      m33 = λ before given. s31 (m32 before given)
+      Need-loop-again = (c : Else1) → Inv·0 (Row.get 1 (T5 .locals) (m4 (c .before .before .before .before .before .before) (After-min-usize·gave (c
+          .before .before .before .before .before))) .now) (Row.get 3 (T5 .locals) (m4 (c .before .before .before .before .before .before)
+          (After-min-usize·gave (c .before .before .before .before .before)))) (Row.get 4 (T5 .locals) (m4 (c .before .before .before .before .before
+          .before) (After-min-usize·gave (c .before .before .before .before .before)))) (Row.get 5 (T5 .locals) (m4 (c .before .before .before .before
+          .before .before) (After-min-usize·gave (c .before .before .before .before .before)))) (Row.get 6 (T5 .locals) (m4 (c .before .before .before
+          .before .before .before) (After-min-usize·gave (c .before .before .before .before .before)))) (Row.get 7 (T5 .locals) (m4 (c .before .before
+          .before .before .before .before) (After-min-usize·gave (c .before .before .before .before .before)))) (Row.get 7 (T5 .locals) (m26 (c
+          .before)))
+      abbrev pub m27 : (before : At-loop) → Typed.Mo T30
+      m27 = λ before. s25 (m8 before)
+      abbrev pub m28 : (before : At-loop) → Typed.Mo T31
+      m28 = λ before. s26 (m27 before)
+      abbrev pub m29 : (before : At-loop) → Typed.Mo T32
+      m29 = λ before. s27 (m28 before)
+      abbrev pub m30 : (before : At-loop) → Typed.Mo T33
+      m30 = λ before. s28 (m29 before)
+      abbrev pub m31 : (before : At-loop) → Typed.Mo T34
+      m31 = λ before. s29 (m30 before)
+      abbrev pub m32 : (before : At-loop) → Typed.Mo T35
+      m32 = λ before. s30 (m31 before)
       abbrev pub Need-returns-2 : Type 0
-      Need-returns-2 = (c : After-or-else) → Post· (c .before .before .before .before .before .κs) (dens (c .before .before .before .before .before
-          .κs) (c .before .before .before .before .before .args)) (Function.resV r (c .before .before .before .before .before .κs) (m33 (c .before)
-          (After-or-else·gave c) .0)) (Clauses.atExit (Kinds.endedOf 1 ps r) (c .before .before .before .before .before .κs) (dens (c .before .before
-          .before .before .before .κs) (c .before .before .before .before .before .args)) (Enter.lastsP (c .before .before .before .before .before
-          .κs) 1 ps xs (dens (c .before .before .before .before .before .κs) (c .before .before .before .before .before .args)) (m33 (c .before)
-          (After-or-else·gave c) .1)))
-      module _ (min-usize-requires : Need-min-usize-requires) (asks-unused-requires : Need-asks-unused-requires) (loop-holds : Need-loop-holds)
-          (mul-row : Need-mul-row) (shared-slice-copy-out-row : Need-shared-slice-copy-out-row) (action-has-requires : Need-action-has-requires)
-          (returns : Need-returns) (add-i : Need-add-i) (loop-less : Need-loop-less) (loop-again : Need-loop-again) (or-else-requires :
-          Need-or-else-requires) (returns-2 : Need-returns-2) where
-        lay9 : (c : After-or-else) → at36 (W0 (c .before .before .before .before .before .κs) (c .before .before .before .before .before .args)) (m29
-            (c .before) (After-or-else·gave c))
-        lay9 = λ c. ((Path.refl, (tt, (tt, tt))), returns-2 record { before = c .before; or-else = c .or-else },)
-        lay8 : (c : After-loop) → at37 (W0 (c .before .before .before .before .κs) (c .before .before .before .before .args)) (m10 (c .before))
-        lay8 = λ c. (or-else-requires record { before = c .before; loop-test = c .loop-test }, λ g. lay9 record { before = record { before = c
-            .before; loop-test = c .loop-test }; or-else = Called.called ps·3 r·3 (claims· .7) T7 (Bool.bAt 6 λ x. x, (Num.vAt 7 λ x. x, (Num.vAt 4 λ
-            x. x, tt)),) (m10 (c .before)) g; },)
-        lay7 : (c : Else1) → at18 (W3 (c .before .before .before .before .before) (c .before .before .before .before .loop .i)) (m27 (c .before))
-        lay7 = λ c. (add-i record { before = c .before; if1 = c .if1 }, (μ·0 (Row.get 1 (T6 .locals) (m5 (c .before .before .before .before .before
-            .before) (After-asks-unused·gave (c .before .before .before .before .before))) .now) (Row.get 3 (T6 .locals) (m5 (c .before .before
-            .before .before .before .before) (After-asks-unused·gave (c .before .before .before .before .before)))) (Row.get 4 (T6 .locals) (m5 (c
-            .before .before .before .before .before .before) (After-asks-unused·gave (c .before .before .before .before .before)))) (Row.get 5 (T6
-            .locals) (m5 (c .before .before .before .before .before .before) (After-asks-unused·gave (c .before .before .before .before .before))))
-            (Row.get 6 (T6 .locals) (m5 (c .before .before .before .before .before .before) (After-asks-unused·gave (c .before .before .before .before
-            .before)))) (Row.get 7 (T6 .locals) (m5 (c .before .before .before .before .before .before) (After-asks-unused·gave (c .before .before
-            .before .before .before)))) (Row.get 7 (T6 .locals) (m28 (c .before))), loop-less record { before = c .before; if1 = c .if1 }, (Row.get 7
-            (T6 .locals) (m28 (c .before)), Path.refl { a = m28 (c .before) }, loop-again record { before = c .before; if1 = c .if1 }, Path.refl { a =
-            μ·0 (Row.get 1 (T6 .locals) (m5 (c .before .before .before .before .before .before) (After-asks-unused·gave (c .before .before .before
-            .before .before))) .now) (Row.get 3 (T6 .locals) (m5 (c .before .before .before .before .before .before) (After-asks-unused·gave (c
-            .before .before .before .before .before)))) (Row.get 4 (T6 .locals) (m5 (c .before .before .before .before .before .before)
-            (After-asks-unused·gave (c .before .before .before .before .before)))) (Row.get 5 (T6 .locals) (m5 (c .before .before .before .before
-            .before .before) (After-asks-unused·gave (c .before .before .before .before .before)))) (Row.get 6 (T6 .locals) (m5 (c .before .before
-            .before .before .before .before) (After-asks-unused·gave (c .before .before .before .before .before)))) (Row.get 7 (T6 .locals) (m5 (c
-            .before .before .before .before .before .before) (After-asks-unused·gave (c .before .before .before .before .before)))) (Row.get 7 (T6
-            .locals) (m28 (c .before))) },),),)
-        lay6 : (c : After-action-has) → at19 (W3 (c .before .before .before .before) (c .before .before .before .loop .i)) (m18 (c .before)
-            (After-action-has·gave c))
-        lay6 = λ c. (λ taken. ((Path.refl, (tt, (tt, tt))), returns record { before = record { before = c .before; action-has = c .action-has }; if1 =
-            record { taken = taken }; },), λ left. lay7 record { before = record { before = c .before; action-has = c .action-has }; if1 = record {
-            left = left }; },)
-        lay5 : (c : In-loop) → at27 (W3 (c .before .before) (c .before .loop .i)) (m8 (c .before))
-        lay5 = λ c. (mul-row record { before = c .before; loop-test = c .loop-test }, (tt, ((Path.refl, Path.refl, shared-slice-copy-out-row record {
-            before = c .before; loop-test = c .loop-test },), λ g. (action-has-requires record { before = record { before = c .before; loop-test = c
-            .loop-test }; row = record { given = g }; }, λ g'. lay6 record { before = record { before = record { before = c .before; loop-test = c
-            .loop-test }; row = record { given = g }; }; action-has = Called.called ps·2 r·2 (claims· .5) T19 (record { pos = 8; st = List.[]; d = 0;
-            at = λ x. x }, (record { pos = 3; st = List.[]; d = 0; at = λ x. x }, tt),) (m17 record { before = c .before; loop-test = c .loop-test }
-            g) g'; },),),),)
-        lay4 : (c : After-loop) → at4 (W4 (c .before .before) (c .before .loop .i)) (m7 (c .before .before) (c .before .loop .i))
-        lay4 = λ c. lay8 record { before = c .before; loop-test = c .loop-test }
-        lay3 : (c : In-loop) → at1 (W4 (c .before .before) (c .before .loop .i)) (m7 (c .before .before) (c .before .loop .i))
-        lay3 = λ c. lay5 record { before = c .before; loop-test = c .loop-test }
-        lay2 : (c : After-asks-unused) → at39 (W0 (c .before .before .κs) (c .before .before .args)) (m4 (c .before) (After-asks-unused·gave c))
-        lay2 = λ c. ((Row.get 7 (T6 .locals) (m5 (c .before) (After-asks-unused·gave c)), Path.refl { a = m5 (c .before) (After-asks-unused·gave c) },
-            loop-holds record { before = c .before; asks-unused = c .asks-unused },), λ vs inv. (tt, (λ taken. lay3 record { before = record { before
-            = record { before = c .before; asks-unused = c .asks-unused }; loop = record { i = vs; inv = inv }; }; loop-test = record { taken =
-            Tests.ltb-true (Row.get 7 (T6 .locals) (m6 record { before = c .before; asks-unused = c .asks-unused; } vs)) (Row.get 5 (T6 .locals) (m6
-            record { before = c .before; asks-unused = c .asks-unused; } vs)) taken; }; }, λ left. lay4 record { before = record { before = record {
-            before = c .before; asks-unused = c .asks-unused }; loop = record { i = vs; inv = inv }; }; loop-test = record { left = Tests.ltb-false
-            (Row.get 7 (T6 .locals) (m6 record { before = c .before; asks-unused = c .asks-unused; } vs)) (Row.get 5 (T6 .locals) (m6 record { before
-            = c .before; asks-unused = c .asks-unused; } vs)) left; }; },),),)
-        lay1 : (c : After-min-usize) → at41 (W0 (c .before .κs) (c .before .args)) (m2 (c .before) (After-min-usize·gave c))
-        lay1 = λ c. (asks-unused-requires record { before = c .before; min-usize = c .min-usize }, λ g. lay2 record { before = record { before = c
-            .before; min-usize = c .min-usize }; asks-unused = Called.called ps·1 r·1 (claims· .3) T4 (record { pos = 3; st = List.[]; d = 0; at = λ
-            x. x }, tt,) (m3 (c .before) (After-min-usize·gave c)) g; },)
-        pub laid : (c : Start) → at43 (W0 (c .κs) (c .args)) (m0 (c .κs) (c .args))
+      Need-returns-2 = (c : After-loop) → Post· (c .before .before .before .κs) (dens (c .before .before .before .κs) (c .before .before .before
+          .args)) (Function.resV r (c .before .before .before .κs) (m32 (c .before) .0)) (Clauses.atExit (Kinds.endedOf 1 ps r) (c .before .before
+          .before .κs) (dens (c .before .before .before .κs) (c .before .before .before .args)) (Enter.lastsP (c .before .before .before .κs) 1 ps xs
+          (dens (c .before .before .before .κs) (c .before .before .before .args)) (m32 (c .before) .1)))
+      module _ (min-usize-requires : Need-min-usize-requires) (loop-holds : Need-loop-holds) (mul-row : Need-mul-row) (shared-slice-copy-out-row :
+          Need-shared-slice-copy-out-row) (action-is-requires : Need-action-is-requires) (returns : Need-returns) (add-i : Need-add-i) (loop-less :
+          Need-loop-less) (loop-again : Need-loop-again) (returns-2 : Need-returns-2) where
+        lay7 : (c : After-loop) → at37 (W0 (c .before .before .before .κs) (c .before .before .before .args)) (m8 (c .before))
+        lay7 = λ c. ((Path.refl, (tt, (tt, (tt, tt)))), returns-2 record { before = c .before; loop-test = c .loop-test },)
+        lay6 : (c : Else1) → at17 (W3 (c .before .before .before .before .before) (c .before .before .before .before .loop .i)) (m25 (c .before))
+        lay6 = λ c. (add-i record { before = c .before; if1 = c .if1 }, (μ·0 (Row.get 1 (T5 .locals) (m4 (c .before .before .before .before .before
+            .before) (After-min-usize·gave (c .before .before .before .before .before))) .now) (Row.get 3 (T5 .locals) (m4 (c .before .before .before
+            .before .before .before) (After-min-usize·gave (c .before .before .before .before .before)))) (Row.get 4 (T5 .locals) (m4 (c .before
+            .before .before .before .before .before) (After-min-usize·gave (c .before .before .before .before .before)))) (Row.get 5 (T5 .locals) (m4
+            (c .before .before .before .before .before .before) (After-min-usize·gave (c .before .before .before .before .before)))) (Row.get 6 (T5
+            .locals) (m4 (c .before .before .before .before .before .before) (After-min-usize·gave (c .before .before .before .before .before))))
+            (Row.get 7 (T5 .locals) (m4 (c .before .before .before .before .before .before) (After-min-usize·gave (c .before .before .before .before
+            .before)))) (Row.get 7 (T5 .locals) (m26 (c .before))), loop-less record { before = c .before; if1 = c .if1 }, (Row.get 7 (T5 .locals)
+            (m26 (c .before)), Path.refl { a = m26 (c .before) }, loop-again record { before = c .before; if1 = c .if1 }, Path.refl { a = μ·0 (Row.get
+            1 (T5 .locals) (m4 (c .before .before .before .before .before .before) (After-min-usize·gave (c .before .before .before .before .before)))
+            .now) (Row.get 3 (T5 .locals) (m4 (c .before .before .before .before .before .before) (After-min-usize·gave (c .before .before .before
+            .before .before)))) (Row.get 4 (T5 .locals) (m4 (c .before .before .before .before .before .before) (After-min-usize·gave (c .before
+            .before .before .before .before)))) (Row.get 5 (T5 .locals) (m4 (c .before .before .before .before .before .before) (After-min-usize·gave
+            (c .before .before .before .before .before)))) (Row.get 6 (T5 .locals) (m4 (c .before .before .before .before .before .before)
+            (After-min-usize·gave (c .before .before .before .before .before)))) (Row.get 7 (T5 .locals) (m4 (c .before .before .before .before
+            .before .before) (After-min-usize·gave (c .before .before .before .before .before)))) (Row.get 7 (T5 .locals) (m26 (c .before))) },),),)
+        lay5 : (c : After-action-is) → at18 (W3 (c .before .before .before .before) (c .before .before .before .loop .i)) (m16 (c .before)
+            (After-action-is·gave c))
+        lay5 = λ c. (λ taken. ((Path.refl, (tt, (tt, (tt, tt)))), returns record { before = record { before = c .before; action-is = c .action-is };
+            if1 = record { taken = taken }; },), λ left. lay6 record { before = record { before = c .before; action-is = c .action-is }; if1 = record
+            { left = left }; },)
+        lay4 : (c : In-loop) → at26 (W3 (c .before .before) (c .before .loop .i)) (m7 (c .before))
+        lay4 = λ c. (mul-row record { before = c .before; loop-test = c .loop-test }, (tt, ((Path.refl, Path.refl, shared-slice-copy-out-row record {
+            before = c .before; loop-test = c .loop-test },), λ g. (action-is-requires record { before = record { before = c .before; loop-test = c
+            .loop-test }; row = record { given = g }; }, λ g'. lay5 record { before = record { before = record { before = c .before; loop-test = c
+            .loop-test }; row = record { given = g }; }; action-is = Called.called ps·1 r·1 (claims· .3) T17 (record { pos = 8; st = List.[]; d = 0;
+            at = λ x. x }, (Num.vAt 3 λ x. x, (Num.vAt 4 λ x. x, tt)),) (m15 record { before = c .before; loop-test = c .loop-test } g) g'; },),),),)
+        lay3 : (c : After-loop) → at3 (W4 (c .before .before) (c .before .loop .i)) (m6 (c .before .before) (c .before .loop .i))
+        lay3 = λ c. lay7 record { before = c .before; loop-test = c .loop-test }
+        lay2 : (c : In-loop) → at1 (W4 (c .before .before) (c .before .loop .i)) (m6 (c .before .before) (c .before .loop .i))
+        lay2 = λ c. lay4 record { before = c .before; loop-test = c .loop-test }
+        lay1 : (c : After-min-usize) → at40 (W0 (c .before .κs) (c .before .args)) (m2 (c .before) (After-min-usize·gave c))
+        lay1 = λ c. ((Row.get 7 (T5 .locals) (m4 (c .before) (After-min-usize·gave c)), Path.refl { a = m4 (c .before) (After-min-usize·gave c) },
+            loop-holds record { before = c .before; min-usize = c .min-usize },), λ vs inv. (tt, (λ taken. lay2 record { before = record { before =
+            record { before = c .before; min-usize = c .min-usize }; loop = record { i = vs; inv = inv }; }; loop-test = record { taken =
+            Tests.ltb-true (Row.get 7 (T5 .locals) (m5 record { before = c .before; min-usize = c .min-usize; } vs)) (Row.get 6 (T5 .locals) (m5
+            record { before = c .before; min-usize = c .min-usize; } vs)) taken; }; }, λ left. lay3 record { before = record { before = record {
+            before = c .before; min-usize = c .min-usize }; loop = record { i = vs; inv = inv }; }; loop-test = record { left = Tests.ltb-false
+            (Row.get 7 (T5 .locals) (m5 record { before = c .before; min-usize = c .min-usize; } vs)) (Row.get 6 (T5 .locals) (m5 record { before = c
+            .before; min-usize = c .min-usize; } vs)) left; }; },),),)
+        pub laid : (c : Start) → at42 (W0 (c .κs) (c .args)) (m0 (c .κs) (c .args))
         laid = λ c. (min-usize-requires c, λ g. lay1 record { before = c; min-usize = Called.called ps·0 r·0 (claims· .1) T2 (Num.vFld 2
-            ((Syntax.field 3) ∷ List.[]) 24 λ x. Places.struct .as-values x .1 .1 .1 .0, (Num.vAt 4 λ x. x, tt),) (m1 (c .κs) (c .args)) g; },)
+            ((Syntax.field 3) ∷ List.[]) 24 λ x. Places.struct .as-values x .1 .1 .1 .0, (Num.vAt 5 λ x. x, tt),) (m1 (c .κs) (c .args)) g; },)
         module _ (κs : Lifetimes.Lfts 1) (qs : Lifetimes.Shares 1) where
           pub asked : (a : Kinds.Dens κs ps) → (good : Kinds.GoodsP κs ps a) → (pre : Pre· κs a) → (bs : List.List Nat.ℕ) → Φ (Any.wantQ 1 ps r xs m
               κs qs a (Post· κs a)) (Function.init 1 ps r xs m κs qs a)
-          asked = λ a good pre bs. laid record { κs = κs; args = record { inflight = a .0; places = a .1 .0; question = a .1 .1 .0 }; good = good; pre
-              = pre; }
+          asked = λ a good pre bs. laid record { κs = κs; args = record { inflight = a .0; places = a .1 .0; generation = a .1 .1 .0; sequence = a .1
+              .1 .1 .0; }; good = good; fits = record { generation = record { fits = good .1 .1 .0 .1 }; sequence = record { fits = good .1 .1 .1 .0
+              .1 }; }; pre = pre; }
         module _ { M : Type 1 } (𝓤 : URA.URA M) (H : Wp.Heap 𝓤) (A : Atoms.Atoms 𝓤) (W : Kit.Given 𝓤 H A) (𝓣 : Wp.Tables 𝓤 H) (known0 : Plain.Known 𝓤
             H A W 𝓣 0 ps·0 r·0 (claims· .0) (claims· .1) "hns_encoding::numbers::min_usize") (known1 : Plain.Known 𝓤 H A W 𝓣 0 ps·1 r·1 (claims· .2)
-            (claims· .3) "hnsr_circuit::places::asks_unused") (known2 : Plain.Known 𝓤 H A W 𝓣 0 ps·2 r·2 (claims· .4) (claims· .5)
-            "hnsr_circuit::question::action_has") (known3 : Plain.Known 𝓤 H A W 𝓣 0 ps·3 r·3 (claims· .6) (claims· .7)
-            "hnsr_circuit::places::or_else") where
+            (claims· .3) "hnsr_circuit::inflight::action_is") where
           pub spec : Statement.Triple 𝓤 (Wp.WpFn 𝓤 H (𝓣 .C) (𝓣 .Λ) (Function.fnOf 1 ps r xs m hs body)) (Function.plainOf 𝓤 H A 1 ps r Pre· Post·)
-          spec = Plain.t-fn-plain 𝓤 H A W 𝓣 1 ps r xs m hs body (λ κs qs bs. Φ) (λ κs qs bs bd. typed κs qs 𝓤 H A W 𝓣 (known0, known1, known2, known3)
-              bs bd) Pre· Post· asked
+          spec = Plain.t-fn-plain 𝓤 H A W 𝓣 1 ps r xs m hs body (λ κs qs bs. Φ) (λ κs qs bs bd. typed κs qs 𝓤 H A W 𝓣 (known0, known1) bs bd) Pre·
+              Post· asked

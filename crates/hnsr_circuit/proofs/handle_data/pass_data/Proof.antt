@@ -1,0 +1,60 @@
+-- The plan decides; what is charged and sent by it is what the definition leaves.
+mod Tie
+use Rattle.hnsr_circuit.specs.Laws.Handlers.{data-scanned, data-handled}
+use borrow.Author.Needs.{needs}
+use Rattle.hnsr_circuit.specs.Question.{at, circuitHas}
+use Rattle.hnsr_circuit.specs.Circuits.{charged, noCircuit, clearCircuit}
+use Rattle.hnsr_circuit.specs.declared.«data».DataPlan.{DataPlan}
+use Rattle.hnsr_circuit.specs.Plans.{dataPlannedOn}
+use Rattle.hnsr_circuit.specs.declared.records.CircuitFound.{CircuitFound}
+use mathlib.Core.Path.{ap, _∙_}
+use lib.ListN.{length}
+use Rattle.hnsr_circuit.specs.Held.{heldPending, heldCircuits, heldLedger, heldActions}
+use Rattle.hnsr_circuit.specs.Laws.HeldTables.{circuit-unmarked}
+use Rattle.hnsr_circuit.specs.Laws.Held.{edited-held, place-below}
+use Rattle.hnsr_circuit.proofs.handle_data.pass_data.Statement.{statement}
+use Rattle.hnsr_circuit.proofs.handle_data.pass_data.Proof.Tie as tie
+
+plan-data-requires : tie.Need-plan-data-requires
+plan-data-requires c = search needs
+
+charge-circuit-requires : tie.Need-charge-circuit-requires
+charge-circuit-requires c = search needs
+
+spend-requires : tie.Need-spend-requires
+spend-requires c = search needs
+
+send-requires : tie.Need-send-requires
+send-requires c κs =
+    let s = c .before .before .before .before .before .before .before .before .before .before .before .before .before .before .before .before .before in
+    let a = s .args in
+    let plan = c .before .before .before .before .before .before .before .before .before .before .before .plan-data in
+    let ep = plan .ensures ∙ ap (λ (f : CircuitFound). dataPlannedOn (a .runtime) f (heldLedger (a .places) (a .ledger .now)) (heldActions (a .places) (a .inflight .now)) (a .packet) (a .source .now) (length (a .body .now))) (s .pre .0) in
+    (data-scanned (a .runtime) (heldCircuits (a .places) (a .circuits .now)) (heldLedger (a .places) (a .ledger .now)) (heldActions (a .places) (a .inflight .now)) (a .packet) (a .source .now) (a .body .now) (plan .result) ep, s .pre .1)
+
+same-length : tie.Need-same-length
+same-length c = search needs
+
+same-length-2 : tie.Need-same-length-2
+same-length-2 c = search needs
+
+same-length-3 : tie.Need-same-length-3
+same-length-3 c = search needs
+
+same-length-4 : tie.Need-same-length-4
+same-length-4 c = search needs
+
+returns : tie.Need-returns
+returns c = λ p₀ e rs.
+    let s = c .before .before .before .before .before .before .before .before .before .before .before .before .before .before .before .before .before .before .before .before .before in
+    let a = s .args in
+    let p = heldPending (a .places) p₀ in
+    let plan = c .before .before .before .before .before .before .before .before .before .before .before .before .before .before .before .plan-data in
+    let ep = plan .ensures ∙ ap (λ (f : CircuitFound). dataPlannedOn (a .runtime) f (heldLedger (a .places) (a .ledger .now)) (heldActions (a .places) (a .inflight .now)) (a .packet) (a .source .now) (length (a .body .now))) (s .pre .0) in
+    let named = at (a .packet .«context_id») 0 in
+    let place = ap (λ (x : DataPlan). x .place) ep in
+    let after = edited-held clearCircuit (a .places .circuits) (a .circuits .now) _ (plan .result .go) (plan .result .place) noCircuit (charged (plan .result .side) (length (a .body .now))) (λ h. rw place (place-below clearCircuit (circuitHas named) (circuit-unmarked named) (a .places .circuits) (a .circuits .now) (rw place at h))) (c .before .before .before .before .before .before .before .before .before .before .charge-circuit .ensures) in
+    data-handled (a .runtime) (heldCircuits (a .places) (a .circuits .now)) (heldLedger (a .places) (a .ledger .now)) (heldActions (a .places) (a .inflight .now)) (a .packet) (a .source .now) (a .body .now) (plan .result) ep (a .out .now) p e rs _ _ _ after (c .before .before .before .before .before .before .before .spend .ensures) (c .before .before .before .send .ensures p₀ (c .before .before .before .before .before .before .before .before .before .before .charge-circuit .last .0) (c .before .before .before .before .before .before .before .spend .last .0))
+
+pub pass-data-spec : {M : Type 1} → statement M
+pass-data-spec = tie.close (tie.spec plan-data-requires charge-circuit-requires spend-requires send-requires same-length same-length-2 same-length-3 same-length-4 returns)

@@ -1,0 +1,74 @@
+-- `find_pending_id` meets its contract: the first `i` records have another id, and past the number no record is marked.
+mod Tie
+use mathlib.Core.Path.{_≡_, refl, sym, ap, _∙_}
+use mathlib.Core.Bool.{false}
+use Prim.Native.Nat.{ℕ, _+_, _-_, _≤_}
+use native.Mathlib.Nat.{zero-add}
+use native.Mathlib.Omega.{arith}
+use lib.ListN.{length, drop}
+use borrow.Author.Needs.{needs}
+use Rattle.hnsr_circuit.specs.Table.{placeOf}
+use Rattle.hnsr_circuit.specs.Pending.{noPending, clearPending, pendingAt}
+use Rattle.hnsr_circuit.specs.Held.{held}
+use Rattle.hnsr_circuit.specs.Laws.Held.{held-min, find-rest, held-find-next, held-find-here}
+use Rattle.hnsr_circuit.proofs.tables.pending.find_pending_id.Statement.{statement}
+use Rattle.hnsr_circuit.proofs.tables.pending.find_pending_id.Proof.Tie as tie
+
+abbrev Inv-loop : tie.InvT-loop
+Inv-loop pending id size₀ end₀ i₀ i = (i ≤ end₀) × (end₀ ≤ length pending) × (i + placeOf (pendingAt id) (drop i (held clearPending end₀ pending)) ≡ placeOf (pendingAt id) (held clearPending end₀ pending))
+
+abbrev μ-loop : tie.MeasureT-loop
+μ-loop pending id size₀ end₀ i₀ i = length pending - i
+
+min-usize-requires : tie.Need-min-usize-requires Inv-loop μ-loop
+min-usize-requires c = search needs
+
+loop-holds : tie.Need-loop-holds Inv-loop μ-loop
+loop-holds c = let a = c .before .args in (omega arith, omega arith, zero-add (placeOf (pendingAt (a .id)) (held clearPending (c .min-usize .result) (a .pending .now))))
+
+mul-row : tie.Need-mul-row Inv-loop μ-loop
+mul-row c = search needs
+
+shared-slice-copy-out-row : tie.Need-shared-slice-copy-out-row Inv-loop μ-loop
+shared-slice-copy-out-row c = search needs
+
+pending-is-requires : tie.Need-pending-is-requires Inv-loop μ-loop
+pending-is-requires c = search needs
+
+returns : tie.Need-returns Inv-loop μ-loop
+returns c =
+    let a = c .before .before .before .before .before .before .args in
+    let t = a .pending .now in
+    let n = c .before .before .before .before .before .min-usize .result in
+    let l = c .before .before .before .before .loop in
+    let seen = ap (λ (m : ℕ). held clearPending m t) (c .before .before .before .before .before .min-usize .ensures) ∙ held-min clearPending (a .places .pending) t in
+    held-find-here clearPending n t noPending (l .i) (omega arith) (omega arith) (pendingAt (a .id)) (placeOf (pendingAt (a .id)) (held clearPending n t)) (sym (c .before .pending-is .ensures) ∙ c .if1 .taken) (l .inv .2)
+    ∙ ap (placeOf (pendingAt (a .id))) seen
+
+add-i : tie.Need-add-i Inv-loop μ-loop
+add-i c = search needs
+
+loop-less : tie.Need-loop-less Inv-loop μ-loop
+loop-less c = search needs
+
+loop-again : tie.Need-loop-again Inv-loop μ-loop
+loop-again c =
+    let a = c .before .before .before .before .before .before .args in
+    let t = a .pending .now in
+    let n = c .before .before .before .before .before .min-usize .result in
+    let l = c .before .before .before .before .loop in
+    (omega arith, l .inv .1, held-find-next clearPending n t noPending (l .i) (omega arith) (omega arith) (pendingAt (a .id)) (placeOf (pendingAt (a .id)) (held clearPending n t)) (sym (c .before .pending-is .ensures) ∙ c .if1 .left) (l .inv .2))
+
+returns-2 : tie.Need-returns-2 Inv-loop μ-loop
+unfolding pendingAt
+returns-2 c =
+    let a = c .before .before .before .args in
+    let t = a .pending .now in
+    let n = c .before .before .min-usize .result in
+    let l = c .before .loop in
+    let seen = ap (λ (m : ℕ). held clearPending m t) (c .before .before .min-usize .ensures) ∙ held-min clearPending (a .places .pending) t in
+    find-rest clearPending (pendingAt (a .id)) false (λ x. refl) n t (l .i) (placeOf (pendingAt (a .id)) (held clearPending n t)) (λ h. omega arith) (omega arith) (l .inv .2)
+    ∙ ap (placeOf (pendingAt (a .id))) seen
+
+pub find-pending-id-spec : {M : Type 1} → statement M
+find-pending-id-spec = tie.close (tie.spec Inv-loop μ-loop min-usize-requires loop-holds mul-row shared-slice-copy-out-row pending-is-requires returns add-i loop-less loop-again returns-2)

@@ -16,7 +16,7 @@ use Rattle.hnsr_circuit.specs.Queue.{opClose, opError}
 use Rattle.hnsr_circuit.specs.Call.{callStatus, callNextDue, callObserveTime, callAcknowledge, callDisconnect, callExpire, start}
 use Rattle.hnsr_circuit.specs.All.{machine}
 use Rattle.hnsr_circuit.specs.Cases.{lent, newAt, requesterPeer, endpointPeer, openCall, acceptCall, packetCall}
-use Rattle.hnsr_circuit.specs.FoundWorlds.{peer, pendingBetween, pendingOn, circuitOn, usageOn, actionOn, found, free, answerOf, toldOf, routes, pendingAfter, firstCircuit, firstAction}
+use Rattle.hnsr_circuit.specs.FoundWorlds.{peer, pendingBetween, pendingOn, until, circuitOn, usageOn, actionOn, found, free, answerOf, toldOf, dueAfter, routes, pendingAfter, firstCircuit, firstAction}
 
 -- ---- "22 output words too few or a table shorter than its maximum"
 unfoldable pub quiet : World
@@ -137,18 +137,31 @@ pub close-names-one : pendingAfter twins (packetCall requesterPeer opClose 11 (0
 unfolding pendingAfter twins packetCall requesterPeer
 close-names-one = refl
 
--- a walk goes by the property, and ends what the lookup of the id then finds: here the lower place, a stranger's
+-- a walk ends the record that has the property, at its place: not the one that a lookup of its id finds, here a stranger's at the lower place
 unfoldable pub strangers : World
 unfolding found pendingOn pendingBetween usageOn free peer
 strangers = found (pendingBetween 7 13 (peer 3) (peer 4) ∷ pendingOn 7 9 ∷ []) (replicate 2 noCircuit) (usageOn 5 0 ∷ []) (free 8)
 
-pub walk-ends-the-lowest : pendingAfter strangers (callDisconnect requesterPeer 192) ≡ false ∷ true ∷ []
+pub walk-ends-its-own : pendingAfter strangers (callDisconnect requesterPeer 192) ≡ true ∷ false ∷ []
 unfolding pendingAfter strangers requesterPeer
-walk-ends-the-lowest = refl
+walk-ends-its-own = refl
 
-pub walk-tells-the-lowest : routes strangers (callDisconnect requesterPeer 192) ≡ (1 ∷ 3 ∷ opClose ∷ 13 ∷ []) ∷ []
+pub walk-tells-its-own : routes strangers (callDisconnect requesterPeer 192) ≡ (1 ∷ 2 ∷ opClose ∷ 7 ∷ []) ∷ []
 unfolding routes strangers requesterPeer
-walk-tells-the-lowest = refl
+walk-tells-its-own = refl
+
+-- one of two is over: that one ends, and what is due next lies ahead
+unfoldable pub oneOver : World
+unfolding found pendingOn until usageOn free
+oneOver = found (until 200 (pendingOn 7 13) ∷ pendingOn 7 9 ∷ []) (replicate 2 noCircuit) (usageOn 5 0 ∷ []) (free 8)
+
+pub expire-ends-its-own : pendingAfter oneOver (callExpire 110 192) ≡ true ∷ false ∷ []
+unfolding pendingAfter oneOver
+expire-ends-its-own = refl
+
+pub due-lies-ahead : dueAfter oneOver (callExpire 110 192) ≡ dueIs (At 200)
+unfolding dueAfter oneOver
+due-lies-ahead = refl
 
 -- ---- "a new record replaces the one its lookup finds": a circuit of the pending's id, an action of the next sequence number
 unfoldable pub already : World

@@ -18,7 +18,7 @@ use Rattle.hnsr_circuit.specs.Inflight.{noAction}
 use Rattle.hnsr_circuit.specs.Header.{newHeader, withSequence}
 use Rattle.hnsr_circuit.specs.Route.{Route, outWords, output}
 use Rattle.hnsr_circuit.specs.World.{World, Told, silent, statusIs, dueIs, withHeader}
-use Rattle.hnsr_circuit.specs.Call.{Call, callStatus, step}
+use Rattle.hnsr_circuit.specs.Call.{Call, callStatus, callNextDue, step}
 use Rattle.hnsr_circuit.specs.All.{machine}
 use Rattle.hnsr_circuit.specs.Cases.{caseConfig}
 
@@ -51,6 +51,18 @@ pendingBetween id context requester endpoint = record {
 unfoldable pub pendingOn : (id context : ℕ) → RelayPending
 unfolding peer pendingBetween
 pendingOn id context = pendingBetween id context (peer 1) (peer 2)
+
+unfoldable pub until : (deadline : ℕ) → RelayPending → RelayPending
+until deadline p = record {
+  used = p .used;
+  «circuit_id» = p .«circuit_id»;
+  requester = p .requester;
+  endpoint = p .endpoint;
+  «requester_context» = p .«requester_context»;
+  ticket = p .ticket;
+  «initial_window» = p .«initial_window»;
+  deadline = deadline;
+}
 
 unfoldable pub circuitOn : (id : ℕ) → (requester endpoint : HnsrPeerId) → (forwarded queued : ℕ) → RelayCircuit
 circuitOn id requester endpoint forwarded queued = record {
@@ -102,6 +114,10 @@ answerOf w c = step w c .answer
 unfoldable pub toldOf : World → Call → Told
 unfolding machine
 toldOf w c = step w c .told
+
+unfoldable pub dueAfter : World → Call → Told
+unfolding machine
+dueAfter w c = step (step w c .world) callNextDue .told
 
 unfoldable pub wordsOf : World → Call → List ℕ
 unfolding machine

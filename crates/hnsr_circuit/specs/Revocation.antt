@@ -1,29 +1,30 @@
 -- The end of a record, and revocation (document 01, "Down through the call"): it ends the record, drops its actions, then tells both sides.
--- A walk revokes what has a property, by ascending id.
+-- A walk revokes what has a property, by ascending id, each record at its place.
 use Prim.Native.Nat.{ℕ, zero, suc}
 use mathlib.Core.Bool.{Bool}
 use mathlib.Core.List.{List}
-use lib.ListN.{length}
+use lib.ListN.{length, getD, set}
 use Rattle.hnsr_body.specs.declared.messages.Notice.{Notice}
 use Rattle.hnsr_body.specs.Messages.{noticeBody}
 use Rattle.hnsr_circuit.specs.declared.peer.HnsrPeerId.{HnsrPeerId}
 use Rattle.hnsr_circuit.specs.declared.records.RelayPending.{RelayPending}
 use Rattle.hnsr_circuit.specs.declared.records.RelayCircuit.{RelayCircuit}
 use Rattle.hnsr_circuit.specs.declared.records.Walked.{Walked}
-use Rattle.hnsr_circuit.specs.Table.{any, pick, edit, notYet, next}
+use Rattle.hnsr_circuit.specs.Table.{any, pick, placeOf, edit, notYet, next}
 use Rattle.hnsr_circuit.specs.Pending.{noPending, pendingId, pendingAt, clearPending}
-use Rattle.hnsr_circuit.specs.Circuits.{circuitId, circuitAt, clearCircuit}
+use Rattle.hnsr_circuit.specs.Circuits.{noCircuit, circuitId, circuitAt, clearCircuit}
 use Rattle.hnsr_circuit.specs.declared.records.InflightKind.the-variants.{Close}
 use Rattle.hnsr_circuit.specs.Inflight.{actionUnder, dropped}
 use Rattle.hnsr_circuit.specs.Header.{countRevoked}
 use Rattle.hnsr_circuit.specs.World.{World, Outcome, withPending, withCircuits, withInflight, counting}
 use Rattle.hnsr_circuit.specs.Queue.{Message, message, Sent, silently, andThen, when, finished, tell, opClose, opError}
-use Rattle.hnsr_circuit.specs.Packet.{hasCircuit, circuitIn}
+use Rattle.hnsr_circuit.specs.Packet.{hasCircuit}
 
--- ---- the end of the record that a lookup finds: its mark is cleared, its actions are dropped, revoked_work counts
+-- ---- the end of a record: its mark is cleared, the actions under its id are dropped, revoked_work counts
 unfoldable pub withoutActions : World → (id : ℕ) → World
 withoutActions w id = withInflight w (dropped (actionUnder id) (w .inflight))
 
+-- the record that a lookup finds
 unfoldable pub withoutPending : World → (RelayPending → Bool) → World
 withoutPending w p = withPending w (edit p clearPending (w .pending))
 
@@ -32,6 +33,23 @@ endPending w p id = counting countRevoked (withoutActions (withoutPending w p) i
 
 unfoldable pub endCircuit : World → (id : ℕ) → World
 endCircuit w id = counting countRevoked (withoutActions (withCircuits w (edit (circuitAt id) clearCircuit (w .circuits))) id)
+
+-- the record at a place
+abbrev pub pendingThere : World → (place : ℕ) → RelayPending
+pendingThere w place = getD (w .pending) place noPending
+
+abbrev pub circuitThere : World → (place : ℕ) → RelayCircuit
+circuitThere w place = getD (w .circuits) place noCircuit
+
+unfoldable pub endPendingThere : World → (place : ℕ) → World
+endPendingThere w place =
+    let p = pendingThere w place in
+    counting countRevoked (withoutActions (withPending w (set (w .pending) place (clearPending p))) (p .«circuit_id»))
+
+unfoldable pub endCircuitThere : World → (place : ℕ) → World
+endCircuitThere w place =
+    let c = circuitThere w place in
+    counting countRevoked (withoutActions (withCircuits w (set (w .circuits) place (clearCircuit c))) (c .«circuit_id»))
 
 -- ---- a CLOSE or ERROR of the relay's own: stored as Close under the circuit id
 abbrev pub closing : HnsrPeerId → (circuit opcode context : ℕ) → Notice → Message
@@ -51,35 +69,37 @@ closeToEndpoint n p = closing (p .endpoint) (p .«circuit_id») opClose (p .«ci
 unfoldable pub closeTo : Notice → HnsrPeerId → (id : ℕ) → Message
 closeTo n peer id = closing peer id opClose id n
 
--- ---- revocation, by id; a record no longer there is nothing to revoke
+-- ---- revocation of the record at a place
+-- a pending record revoked gives ERROR to the requester, CLOSE to the endpoint
+unfoldable pub revokePending : Notice → World → (place : ℕ) → Sent
+revokePending n w place =
+    let p = pendingThere w place in
+    andThen (tell (errorToRequester n p) (endPendingThere w place)) (tell (closeToEndpoint n p))
+
+-- a circuit revoked sends CLOSE to requester, then endpoint
+unfoldable pub revokeCircuitThere : Notice → World → (place : ℕ) → Sent
+revokeCircuitThere n w place =
+    let c = circuitThere w place in
+    andThen (tell (closeTo n (c .requester) (c .«circuit_id»)) (endCircuitThere w place)) (tell (closeTo n (c .endpoint) (c .«circuit_id»)))
+
+-- ---- by id: the record that a lookup finds; one no longer there is nothing to revoke
 abbrev pub hasPending : World → (id : ℕ) → Bool
 hasPending w id = any (pendingAt id) (w .pending)
 
 abbrev pub pendingIn : World → (id : ℕ) → RelayPending
 pendingIn w id = pick (pendingAt id) noPending (w .pending)
 
--- a pending record revoked gives ERROR to the requester, CLOSE to the endpoint
-unfoldable pub revokedPending : Notice → (id : ℕ) → RelayPending → World → Sent
-revokedPending n id p w = andThen (tell (errorToRequester n p) (endPending w (pendingAt id) id)) (tell (closeToEndpoint n p))
-
-unfoldable pub revokePending : Notice → World → (id : ℕ) → Sent
-revokePending n w id = when (hasPending w id) (revokedPending n id (pendingIn w id)) w
-
--- a circuit revoked sends CLOSE to requester, then endpoint
-unfoldable pub revokedCircuit : Notice → (id : ℕ) → RelayCircuit → World → Sent
-revokedCircuit n id c w = andThen (tell (closeTo n (c .requester) id) (endCircuit w id)) (tell (closeTo n (c .endpoint) id))
-
 unfoldable pub revokeCircuit : Notice → World → (id : ℕ) → Sent
-revokeCircuit n w id = when (hasCircuit w id) (revokedCircuit n id (circuitIn w id)) w
+revokeCircuit n w id = when (hasCircuit w id) (λ v. revokeCircuitThere n v (placeOf (circuitAt id) (v .circuits))) w
 
--- ---- a walk: again and again the least (id, place) above the last that has the property; the record that a lookup of that id then finds
--- is ended. It takes at most as many turns as there are places
-module _ {A : Type 0} (idOf : A → ℕ) (table : World → List A) (p : A → Bool) (end : World → ℕ → Sent) where
+-- ---- a walk: again and again the least (id, place) above the last that has the property; the record at that place is ended. It takes at
+-- most as many turns as there are places
+module _ {A : Type 0} (idOf : A → ℕ) (table : World → List A) (p : A → Bool) (end : World → (place : ℕ) → Sent) where
   unfoldable pub walkFrom : (turns : ℕ) → Walked → World → Sent
   walkFrom zero c w = silently w
   walkFrom (suc turns) c w =
       let n = next idOf p c (table w) in
-      when (n .taken) (λ v. andThen (end v (n .id)) (walkFrom turns n)) w
+      when (n .taken) (λ v. andThen (end v (n .place)) (walkFrom turns n)) w
 
   unfoldable pub walk : World → Sent
   walk w = walkFrom (length (table w)) notYet w

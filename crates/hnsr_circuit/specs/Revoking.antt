@@ -17,7 +17,7 @@ use Rattle.hnsr_circuit.specs.Header.{countRevoked, withCounters}
 use Rattle.hnsr_circuit.specs.World.{World, Outcome}
 use Rattle.hnsr_circuit.specs.Queue.{Sent, opClose, opError}
 use Rattle.hnsr_circuit.specs.Question.{ofPeer, pendingHas, circuitHas}
-use Rattle.hnsr_circuit.specs.Revocation.{revokePending, revokeCircuit, revokeAll}
+use Rattle.hnsr_circuit.specs.Revocation.{revokePending, revokeCircuitThere, revokeAll}
 use Rattle.hnsr_circuit.specs.RevokingCalls.{disconnectPending}
 
 -- ---- a CLOSE or ERROR of the relay's own, but for its body
@@ -38,6 +38,10 @@ errorOut p = closingOut (p .requester) (p .«circuit_id») opError (p .«request
 abbrev pub closeOut : RelayPending → Outgoing
 closeOut p = closingOut (p .endpoint) (p .«circuit_id») opClose (p .«circuit_id»)
 
+-- to a side of a circuit
+abbrev pub closeSide : RelayCircuit → HnsrPeerId → Outgoing
+closeSide c side = closingOut side (c .«circuit_id») opClose (c .«circuit_id»)
+
 -- on disconnect only the other peer of a pending record hears, by CLOSE
 abbrev pub otherOut : HnsrPeerId → RelayPending → Outgoing
 otherOut peer p =
@@ -51,12 +55,12 @@ abbrev pub revokedIf : Bool → OpaqueRelayRuntime → OpaqueRelayRuntime
 revokedIf go h = cond go (withCounters h (countRevoked (h .counters))) h
 
 -- ---- the end of a pending record in a walk
-unfoldable pub endingPending : Revoking → World → (id : ℕ) → Sent
-endingPending v w id = cond (v .disconnecting) (disconnectPending (v .question .peer) w id) (revokePending (v .notice) w id)
+unfoldable pub endingPending : Revoking → World → (place : ℕ) → Sent
+endingPending v w place = cond (v .disconnecting) (disconnectPending (v .question .peer) w place) (revokePending (v .notice) w place)
 
 -- what the walks of a revoking call do
 abbrev pub revokingAll : Revoking → World → Outcome
-revokingAll v w = revokeAll (endingPending v) (pendingHas (v .question)) (revokeCircuit (v .«circuit_notice»)) (circuitHas (v .question)) w
+revokingAll v w = revokeAll (endingPending v) (pendingHas (v .question)) (revokeCircuitThere (v .«circuit_notice»)) (circuitHas (v .question)) w
 
 -- ---- what each call revokes
 abbrev pub disconnectingAll : HnsrPeerId → Revoking

@@ -14,15 +14,15 @@ use Rattle.hnsr_circuit.specs.declared.answer.HnsrRuntimeError.the-varia
 use Rattle.hnsr_circuit.specs.Table.{edit}
 use Rattle.hnsr_circuit.specs.Answers.{check, _then_}
 use Rattle.hnsr_circuit.specs.Peer.{peerOf, samePeer}
-use Rattle.hnsr_circuit.specs.Pending.{isPending, pendingAt, pendingOf, pendingUnder, pendingOver}
+use Rattle.hnsr_circuit.specs.Pending.{isPending, pendingOf, pendingUnder, pendingOver}
 use Rattle.hnsr_circuit.specs.Circuits.{isCircuit, circuitOf, circuitUnder, circuitOver}
 use Rattle.hnsr_circuit.specs.Ledger.{usageAt, clearUsage, lapsed}
 use Rattle.hnsr_circuit.specs.Inflight.{isAction, actionToward, dropped}
 use Rattle.hnsr_circuit.specs.Header.{withEnabled}
 use Rattle.hnsr_circuit.specs.World.{World, Outcome, done, proceed, withHeader, withLedger, withInflight, atTime}
-use Rattle.hnsr_circuit.specs.Queue.{Message, Sent, when, tell, generationOf}
+use Rattle.hnsr_circuit.specs.Queue.{Message, Sent, tell, generationOf}
 use Rattle.hnsr_circuit.specs.Entry.{roomAnswer, revokingWords, peerAnswer, clockAnswer}
-use Rattle.hnsr_circuit.specs.Revocation.{endPending, closeToRequester, closeToEndpoint, hasPending, pendingIn, revokePending, revokeCircuit, revokeAll}
+use Rattle.hnsr_circuit.specs.Revocation.{endPendingThere, closeToRequester, closeToEndpoint, pendingThere, revokePending, revokeCircuitThere, revokeAll}
 use Rattle.hnsr_circuit.specs.Acknowledge.{generationAnswer}
 
 -- ---- disconnect: first drops every action toward that peer, then revokes the records it is a side of
@@ -33,15 +33,12 @@ withoutActionsToward w peer = withInflight w (dropped (actionToward peer) (w .in
 unfoldable pub closeToOther : HnsrPeerId → RelayPending → Message
 closeToOther peer p = cond (samePeer (p .requester) peer) (closeToEndpoint PeerDisconnected p) (closeToRequester PeerDisconnected p)
 
-unfoldable pub disconnectedPending : HnsrPeerId → (id : ℕ) → RelayPending → World → Sent
-disconnectedPending peer id p w = tell (closeToOther peer p) (endPending w (pendingAt id) id)
-
-unfoldable pub disconnectPending : HnsrPeerId → World → (id : ℕ) → Sent
-disconnectPending peer w id = when (hasPending w id) (disconnectedPending peer id (pendingIn w id)) w
+unfoldable pub disconnectPending : HnsrPeerId → World → (place : ℕ) → Sent
+disconnectPending peer w place = tell (closeToOther peer (pendingThere w place)) (endPendingThere w place)
 
 unfoldable pub disconnectPeer : World → HnsrPeerId → Outcome
 disconnectPeer w peer =
-    revokeAll (disconnectPending peer) (pendingOf peer) (revokeCircuit PeerDisconnected) (circuitOf peer) (withoutActionsToward w peer)
+    revokeAll (disconnectPending peer) (pendingOf peer) (revokeCircuitThere PeerDisconnected) (circuitOf peer) (withoutActionsToward w peer)
 
 unfoldable pub disconnect : World → (peer : List ℕ) → (room : ℕ) → Outcome
 disconnect w peer room = proceed w (roomAnswer w room (revokingWords w) then peerAnswer (length peer)) (disconnectPeer w (peerOf peer))
@@ -52,7 +49,7 @@ withoutUsage w id = withLedger w (edit (usageAt id) clearUsage (w .ledger))
 
 unfoldable pub revokeUnder : World → ReservationId → Outcome
 revokeUnder w id =
-    revokeAll (revokePending ReservationRevoked) (pendingUnder id) (revokeCircuit ReservationRevoked) (circuitUnder id) (withoutUsage w id)
+    revokeAll (revokePending ReservationRevoked) (pendingUnder id) (revokeCircuitThere ReservationRevoked) (circuitUnder id) (withoutUsage w id)
 
 unfoldable pub revokeReservation : World → ReservationId → (room : ℕ) → Outcome
 revokeReservation w id room = proceed w (roomAnswer w room (revokingWords w)) (revokeUnder w id)
@@ -64,7 +61,7 @@ withoutLapsed w now = withLedger w (lapsed now (w .ledger))
 
 unfoldable pub expireAt : World → (now : ℕ) → Outcome
 expireAt w now =
-    revokeAll (revokePending AcceptanceExpired) (pendingOver now) (revokeCircuit TicketExpired) (circuitOver now)
+    revokeAll (revokePending AcceptanceExpired) (pendingOver now) (revokeCircuitThere TicketExpired) (circuitOver now)
     (withoutLapsed (atTime w now) now)
 
 unfoldable pub expire : World → (now room : ℕ) → Outcome
@@ -85,7 +82,7 @@ switched w on = withHeader (withInflight w (dropped isAction (w .inflight))) (wi
 
 unfoldable pub switchTo : World → Bool → Outcome
 switchTo w true = done (switched w true) []
-switchTo w false = revokeAll (revokePending RelayDisabled) isPending (revokeCircuit RelayDisabled) isCircuit (switched w false)
+switchTo w false = revokeAll (revokePending RelayDisabled) isPending (revokeCircuitThere RelayDisabled) isCircuit (switched w false)
 
 unfoldable pub replaceEnabled : World → (expected : ℕ) → Bool → (room : ℕ) → Outcome
 replaceEnabled w expected on room =

@@ -1,7 +1,7 @@
 // The end of a record, and revocation: it ends the record, drops its actions, then tells both sides; a walk revokes what has a property, by
-// ascending id (document 01, "Down through the call").
+// ascending id, each record at its place (document 01, "Down through the call").
 ghost use mathlib.Core.Path.{_≡_};
-ghost use mathlib.Core.Bool.{cond, false, not, _&&_};
+ghost use mathlib.Core.Bool.{cond, true, false, not};
 ghost use mathlib.Core.List.{List};
 ghost use Rattle.hnsr_circuit.specs.Held.{asksUnused, worldSeen, handedSeen, underwaySeen};
 ghost use Rattle.hnsr_circuit.specs.declared.records.RelayPending.{RelayPending};
@@ -9,26 +9,23 @@ ghost use Rattle.hnsr_circuit.specs.declared.records.RelayCircuit.{Relay
 ghost use Rattle.hnsr_circuit.specs.declared.records.ReservationUsage.{ReservationUsage};
 ghost use Rattle.hnsr_body.specs.declared.messages.Notice.the-variants.{PeerDisconnected};
 ghost use Rattle.hnsr_circuit.specs.Pending.{clearPending, pendingId};
-ghost use Rattle.hnsr_circuit.specs.Circuits.{clearCircuit, circuitId};
+ghost use Rattle.hnsr_circuit.specs.Circuits.{circuitId};
 ghost use Rattle.hnsr_circuit.specs.Question.{pendingHas, circuitHas};
-ghost use Rattle.hnsr_circuit.specs.Queue.{opClose, finished};
+ghost use Rattle.hnsr_circuit.specs.Queue.{finished};
 ghost use Rattle.hnsr_circuit.specs.declared.answer.HnsrAnswer.the-variants.{Taken};
 ghost use Rattle.hnsr_circuit.specs.Progress.{advance, ending};
-ghost use Rattle.hnsr_circuit.specs.Revocation.{revokeCircuit, walk, pendingTable, circuitTable};
-ghost use Rattle.hnsr_circuit.specs.Revoking.{closingOut, errorOut, closeOut, otherOut, firstOut, revokedIf, endingPending, revokingAll};
+ghost use Rattle.hnsr_circuit.specs.Revocation.{revokeCircuitThere, revokeCircuit, walk, pendingTable, circuitTable};
+ghost use Rattle.hnsr_circuit.specs.Revoking.{closingOut, closeSide, errorOut, closeOut, otherOut, firstOut, revokedIf, endingPending, revokingAll};
 use crate::answer::HnsrAnswer;
 use crate::circuits::circuit_unmarked;
 use crate::header::revoked;
 use crate::lookup::drop_actions;
-use crate::lookup::look_up_circuit;
-use crate::lookup::look_up_pending;
 use crate::peer::HnsrPeerId;
 use crate::peer::same_peer;
 use crate::pending::pending_unmarked;
 use crate::places::Places;
 use crate::question::at;
 use crate::queue::tell_notice;
-use crate::records::CircuitFound;
 use crate::records::InflightAction;
 use crate::records::InflightKind;
 use crate::records::Outgoing;
@@ -40,11 +37,13 @@ use crate::runtime::OpaqueRelayRuntime;
 use crate::runtime::Relayed;
 use crate::runtime::Sending;
 use crate::scan::not_yet;
+use crate::tables::circuits::circuit_at;
+use crate::tables::circuits::find_circuit;
 use crate::tables::circuits::next_circuit;
 use crate::tables::circuits::set_circuit;
 use crate::tables::pending::next_pending;
+use crate::tables::pending::pending_at;
 use crate::tables::pending::set_pending;
-use hns_encoding::logic::both;
 use hns_encoding::logic::no;
 use hnsr_body::messages::Notice;
 
@@ -60,10 +59,9 @@ pub struct Revoking {
     pub disconnecting: bool,
 }
 
-// How a record ends: whether there is one and where, the runtime that has counted it, and the messages.
+// How a record ends: its id, the runtime that has counted it, and the messages.
 pub struct EndPlan {
-    pub go: bool,
-    pub place: usize,
+    pub id: u64,
     pub sending: Sending,
     pub first: Outgoing,
     pub also: bool,
@@ -140,12 +138,12 @@ fn first_message(revoking: Revoking, pending: RelayPending) -> Outgoing
 
 // ---- one record
 
-fn counted(go: bool, sending: Sending) -> Sending
-    ensures { λ r. ⌜ (r .runtime ≡ revokedIf go (sending .runtime)) × (r .position ≡ sending .position) × (r .places ≡ sending .places) ⌝ }
+fn counted(sending: Sending) -> Sending
+    ensures { λ r. ⌜ (r .runtime ≡ revokedIf true (sending .runtime)) × (r .position ≡ sending .position) × (r .places ≡ sending .places) ⌝ }
 {
     let runtime = sending.runtime;
     let places = sending.places;
-    let after = revoked(go, runtime);
+    let after = revoked(true, runtime);
     Sending {
         runtime: after,
         position: sending.position,
@@ -153,18 +151,15 @@ fn counted(go: bool, sending: Sending) -> Sending
     }
 }
 
-fn plan_pending(found: PendingFound, sending: Sending, revoking: Revoking) -> EndPlan
-    ensures { λ r. ⌜ (r .go ≡ found .found) × (r .place ≡ found .place) × (r .sending .runtime ≡ revokedIf (found .found) (sending .runtime)) × (r .sending .position ≡ sending .position) × (r .first ≡ firstOut revoking (found .pending)) × (r .also ≡ (found .found && not (revoking .disconnecting))) × (r .second ≡ closeOut (found .pending)) × (r .sending .places ≡ sending .places) ⌝ }
+fn plan_pending(pending: RelayPending, sending: Sending, revoking: Revoking) -> EndPlan
+    ensures { λ r. ⌜ (r .id ≡ pending .«circuit_id») × (r .sending .runtime ≡ revokedIf true (sending .runtime)) × (r .sending .position ≡ sending .position) × (r .first ≡ firstOut revoking pending) × (r .also ≡ not (revoking .disconnecting)) × (r .second ≡ closeOut pending) × (r .sending .places ≡ sending .places) ⌝ }
 {
-    let pending = found.pending;
     let first = first_message(revoking, pending);
     let second = close_to_endpoint(pending);
-    let both_hear = no(revoking.disconnecting);
-    let also = both(found.found, both_hear);
-    let after = counted(found.found, sending);
+    let also = no(revoking.disconnecting);
+    let after = counted(sending);
     EndPlan {
-        go: found.found,
-        place: found.place,
+        id: pending.circuit_id,
         sending: after,
         first,
         also,
@@ -189,86 +184,75 @@ pub(crate) fn pending_gone(found: PendingFound) -> RelayPending
     pending_unmarked(pending)
 }
 
-// A pending record revoked gives ERROR to the requester, CLOSE to the endpoint; on disconnect CLOSE to the other peer.
+// The pending record at a place: revoked it gives ERROR to the requester, CLOSE to the endpoint; on disconnect CLOSE to the other peer.
 pub(crate) fn revoke_pending(
     pending: &mut [RelayPending],
     inflight: &mut [InflightAction],
     out: &mut [u32],
     sending: Sending,
     revoking: Revoking,
-    id: u64,
+    place: usize,
 ) -> Sending
-    ensures { λ r. ⌜ ((c : List RelayCircuit) (l : List ReservationUsage) → underwaySeen r (now (pending .exit)) c l (now (inflight .exit)) (now (out .exit)) ≡ advance (λ w. endingPending revoking w id) (underwaySeen sending (now (pending .entry)) c l (now (inflight .entry)) (now (out .entry)))) ⌝ }
+    ensures { λ r. ⌜ ((c : List RelayCircuit) (l : List ReservationUsage) → underwaySeen r (now (pending .exit)) c l (now (inflight .exit)) (now (out .exit)) ≡ advance (λ w. endingPending revoking w place) (underwaySeen sending (now (pending .entry)) c l (now (inflight .entry)) (now (out .entry)))) ⌝ }
 {
     let places = sending.places;
     let notice = pending_notice(revoking);
-    let question = at(id, 0);
-    let found = look_up_pending(pending, places, question);
-    let gone = pending_gone(found);
-    let plan = plan_pending(found, sending, revoking);
-    let go = plan.go;
+    let row = pending_at(pending, places, place);
+    let gone = pending_unmarked(row);
+    let plan = plan_pending(row, sending, revoking);
     let after = plan.sending;
     let first = plan.first;
     let second = plan.second;
-    set_pending(pending, go, plan.place, gone);
-    drop_actions(inflight, places, go, id);
-    let told = tell_notice(inflight, out, go, after, first, notice);
+    set_pending(pending, true, place, gone);
+    drop_actions(inflight, places, true, plan.id);
+    let told = tell_notice(inflight, out, true, after, first, notice);
     tell_notice(inflight, out, plan.also, told, second, notice)
 }
 
-fn plan_circuit(found: CircuitFound, sending: Sending, id: u64) -> EndPlan
-    ensures { λ r. ⌜ (r .go ≡ found .found) × (r .place ≡ found .place) × (r .sending .runtime ≡ revokedIf (found .found) (sending .runtime)) × (r .sending .position ≡ sending .position) × (r .first ≡ closingOut (found .circuit .requester) id opClose id) × (r .also ≡ found .found) × (r .second ≡ closingOut (found .circuit .endpoint) id opClose id) × (r .sending .places ≡ sending .places) ⌝ }
+fn plan_circuit(circuit: RelayCircuit, sending: Sending) -> EndPlan
+    ensures { λ r. ⌜ (r .id ≡ circuit .«circuit_id») × (r .sending .runtime ≡ revokedIf true (sending .runtime)) × (r .sending .position ≡ sending .position) × (r .first ≡ closeSide circuit (circuit .requester)) × (r .also ≡ true) × (r .second ≡ closeSide circuit (circuit .endpoint)) × (r .sending .places ≡ sending .places) ⌝ }
 {
-    let circuit = found.circuit;
+    let id = circuit.circuit_id;
     let requester = circuit.requester;
     let endpoint = circuit.endpoint;
     let first = closing(requester, id, CLOSE, id);
     let second = closing(endpoint, id, CLOSE, id);
-    let after = counted(found.found, sending);
+    let after = counted(sending);
     EndPlan {
-        go: found.found,
-        place: found.place,
+        id,
         sending: after,
         first,
-        also: found.found,
+        also: true,
         second,
     }
 }
 
-fn circuit_gone(found: CircuitFound) -> RelayCircuit
-    ensures { λ r. ⌜ r ≡ clearCircuit (found .circuit) ⌝ }
-{
-    let circuit = found.circuit;
-    circuit_unmarked(circuit)
-}
-
-// A circuit revoked sends CLOSE to requester, then endpoint.
+// The circuit at a place: revoked it sends CLOSE to requester, then endpoint.
 pub(crate) fn revoke_circuit(
     circuits: &mut [RelayCircuit],
     inflight: &mut [InflightAction],
     out: &mut [u32],
     sending: Sending,
     notice: Notice,
-    id: u64,
+    place: usize,
 ) -> Sending
-    ensures { λ r. ⌜ ((p : List RelayPending) (l : List ReservationUsage) → underwaySeen r p (now (circuits .exit)) l (now (inflight .exit)) (now (out .exit)) ≡ advance (λ w. revokeCircuit notice w id) (underwaySeen sending p (now (circuits .entry)) l (now (inflight .entry)) (now (out .entry)))) ⌝ }
+    ensures { λ r. ⌜ ((p : List RelayPending) (l : List ReservationUsage) → underwaySeen r p (now (circuits .exit)) l (now (inflight .exit)) (now (out .exit)) ≡ advance (λ w. revokeCircuitThere notice w place) (underwaySeen sending p (now (circuits .entry)) l (now (inflight .entry)) (now (out .entry)))) ⌝ }
 {
     let places = sending.places;
-    let question = at(id, 0);
-    let found = look_up_circuit(circuits, places, question);
-    let gone = circuit_gone(found);
-    let plan = plan_circuit(found, sending, id);
-    let go = plan.go;
+    let row = circuit_at(circuits, places, place);
+    let gone = circuit_unmarked(row);
+    let plan = plan_circuit(row, sending);
     let after = plan.sending;
     let first = plan.first;
     let second = plan.second;
-    set_circuit(circuits, go, plan.place, gone);
-    drop_actions(inflight, places, go, id);
-    let told = tell_notice(inflight, out, go, after, first, notice);
+    set_circuit(circuits, true, place, gone);
+    drop_actions(inflight, places, true, plan.id);
+    let told = tell_notice(inflight, out, true, after, first, notice);
     tell_notice(inflight, out, plan.also, told, second, notice)
 }
 
-// ---- walks: again and again the least id and place above the last that has the property; it takes at most as many turns as there are places
+// ---- walks: again and again the least id and place above the last that has the property, whose record is ended; it takes at most as many
+// turns as there are places
 
 pub(crate) fn walk_pending(
     pending: &mut [RelayPending],
@@ -290,7 +274,7 @@ pub(crate) fn walk_pending(
         if no(next.taken) {
             return told;
         }
-        told = revoke_pending(pending, inflight, out, told, revoking, next.id);
+        told = revoke_pending(pending, inflight, out, told, revoking, next.place);
         cursor = next;
         turn += 1;
     }
@@ -305,7 +289,7 @@ pub(crate) fn walk_circuits(
     revoking: Revoking,
 ) -> Sending
     requires { ⌜ asksUnused (revoking .question .ask) ≡ false ⌝ }
-    ensures { λ r. ⌜ ((p : List RelayPending) (l : List ReservationUsage) → underwaySeen r p (now (circuits .exit)) l (now (inflight .exit)) (now (out .exit)) ≡ advance (walk circuitId circuitTable (circuitHas (revoking .question)) (revokeCircuit (revoking .«circuit_notice»))) (underwaySeen sending p (now (circuits .entry)) l (now (inflight .entry)) (now (out .entry)))) ⌝ }
+    ensures { λ r. ⌜ ((p : List RelayPending) (l : List ReservationUsage) → underwaySeen r p (now (circuits .exit)) l (now (inflight .exit)) (now (out .exit)) ≡ advance (walk circuitId circuitTable (circuitHas (revoking .question)) (revokeCircuitThere (revoking .«circuit_notice»))) (underwaySeen sending p (now (circuits .entry)) l (now (inflight .entry)) (now (out .entry)))) ⌝ }
 {
     let question = revoking.question;
     let notice = revoking.circuit_notice;
@@ -318,7 +302,7 @@ pub(crate) fn walk_circuits(
         if no(next.taken) {
             return told;
         }
-        told = revoke_circuit(circuits, inflight, out, told, notice, next.id);
+        told = revoke_circuit(circuits, inflight, out, told, notice, next.place);
         cursor = next;
         turn += 1;
     }
@@ -368,7 +352,7 @@ pub(crate) fn revoke_all(
     finished(second)
 }
 
-// A circuit alone, at the end of a call.
+// The circuit of an id alone, at the end of a call: none where there is none.
 pub(crate) fn revoke_one(
     circuits: &mut [RelayCircuit],
     inflight: &mut [InflightAction],
@@ -381,6 +365,11 @@ pub(crate) fn revoke_one(
     ensures { λ r. ⌜ ((p : List RelayPending) (l : List ReservationUsage) → handedSeen r p (now (circuits .exit)) l (now (inflight .exit)) (now (out .exit)) ≡ ending (now (out .entry)) (finished (revokeCircuit notice (worldSeen runtime places p (now (circuits .entry)) l (now (inflight .entry))) id))) ⌝ }
 {
     let start = started(runtime, places);
-    let told = revoke_circuit(circuits, inflight, out, start, notice, id);
-    finished(told)
+    let question = at(id, 0);
+    let place = find_circuit(circuits, places, question);
+    if place < circuits.len() {
+        let told = revoke_circuit(circuits, inflight, out, start, notice, place);
+        return finished(told);
+    }
+    finished(start)
 }

@@ -1,4 +1,4 @@
--- No call moves the number of places of a table, whatever the world: each change is a `put`, an `edit` or a `clear`.
+-- No call moves the number of places of a table, whatever the world: each change is a `put`, an `edit`, a `set` or a `clear`.
 use Prim.Native.Nat.{ℕ, zero, suc}
 use mathlib.Core.Path.{_≡_, refl, _∙_}
 use mathlib.Core.Bool.{Bool, true, false}
@@ -16,13 +16,13 @@ use Rattle.hnsr_circuit.specs.declared.answer.HnsrAnswer.the-variants.{T
 use Rattle.hnsr_circuit.specs.Table.{notYet}
 use Rattle.hnsr_circuit.specs.Laws.Edits.{length-edit}
 use Rattle.hnsr_body.specs.declared.messages.Notice.{Notice}
-use Rattle.hnsr_circuit.specs.Pending.{pendingId, pendingAt, clearPending}
+use Rattle.hnsr_circuit.specs.Pending.{pendingId, clearPending}
 use Rattle.hnsr_circuit.specs.Circuits.{circuitId, circuitAt, clearCircuit}
 use Rattle.hnsr_circuit.specs.Inflight.{dropped}
 use Rattle.hnsr_circuit.specs.World.{World, withHeader, withPending, withCircuits, withLedger, withInflight}
 use Rattle.hnsr_circuit.specs.Queue.{Message, queued, canQueue, Sent, when, tellIf, tell}
-use Rattle.hnsr_circuit.specs.RevokingCalls.{disconnectedPending, disconnectPending}
-use Rattle.hnsr_circuit.specs.Revocation.{withoutActions, pendingTable, circuitTable, withoutPending, endPending, endCircuit, revokedPending, revokePending, revokedCircuit, revokeCircuit, walkFrom, walk, revokeAll}
+use Rattle.hnsr_circuit.specs.RevokingCalls.{disconnectPending}
+use Rattle.hnsr_circuit.specs.Revocation.{withoutActions, pendingTable, circuitTable, withoutPending, endPending, endCircuit, endPendingThere, endCircuitThere, revokePending, revokeCircuitThere, revokeCircuit, walkFrom, walk, revokeAll}
 
 -- w has as many places of each table as v
 pub record AsMany (v w : World) : Type 0 where
@@ -81,6 +81,14 @@ unfolding endCircuit
 end-circuit-kept w id =
     header-kept (without-actions-kept _ id (circuits-kept (as-many w) _ (length-edit (circuitAt id) clearCircuit (w .circuits)))) _
 
+pub end-pending-there-kept : (w : World) (place : ℕ) → AsMany w (endPendingThere w place)
+unfolding endPendingThere
+end-pending-there-kept w place = header-kept (without-actions-kept _ _ (pending-kept (as-many w) _ (simp length-set))) _
+
+pub end-circuit-there-kept : (w : World) (place : ℕ) → AsMany w (endCircuitThere w place)
+unfolding endCircuitThere
+end-circuit-there-kept w place = header-kept (without-actions-kept _ _ (circuits-kept (as-many w) _ (simp length-set))) _
+
 -- ---- queueing, telling, walking
 pub queued-kept : (m : Message) (w : World) → AsMany w (queued m w)
 unfolding queued
@@ -100,21 +108,23 @@ unfolding when
 when-kept v true part w s t = t
 when-kept v false part w s t = s
 
-pub revoke-pending-kept : (n : Notice) (w : World) (id : ℕ) → AsMany w (revokePending n w id .world)
-unfolding revokePending revokedPending
-revoke-pending-kept n w id =
-    when-kept w _ _ w (as-many w) (onward (onward (end-pending-kept w (pendingAt id) id) (tell-kept _ _)) (tell-kept _ _))
+pub revoke-pending-kept : (n : Notice) (w : World) (place : ℕ) → AsMany w (revokePending n w place .world)
+unfolding revokePending
+revoke-pending-kept n w place = onward (onward (end-pending-there-kept w place) (tell-kept _ _)) (tell-kept _ _)
 
-pub disconnect-pending-kept : (peer : HnsrPeerId) (w : World) (id : ℕ) → AsMany w (disconnectPending peer w id .world)
-unfolding disconnectPending disconnectedPending
-disconnect-pending-kept peer w id = when-kept w _ _ w (as-many w) (onward (end-pending-kept w (pendingAt id) id) (tell-kept _ _))
+pub disconnect-pending-kept : (peer : HnsrPeerId) (w : World) (place : ℕ) → AsMany w (disconnectPending peer w place .world)
+unfolding disconnectPending
+disconnect-pending-kept peer w place = onward (end-pending-there-kept w place) (tell-kept _ _)
+
+pub revoke-there-kept : (n : Notice) (w : World) (place : ℕ) → AsMany w (revokeCircuitThere n w place .world)
+unfolding revokeCircuitThere
+revoke-there-kept n w place = onward (onward (end-circuit-there-kept w place) (tell-kept _ _)) (tell-kept _ _)
 
 pub revoke-circuit-kept : (n : Notice) (w : World) (id : ℕ) → AsMany w (revokeCircuit n w id .world)
-unfolding revokeCircuit revokedCircuit
-revoke-circuit-kept n w id =
-    when-kept w _ _ w (as-many w) (onward (onward (end-circuit-kept w id) (tell-kept _ _)) (tell-kept _ _))
+unfolding revokeCircuit
+revoke-circuit-kept n w id = when-kept w _ _ w (as-many w) (revoke-there-kept n w _)
 
-module _ {A : Type 0} (idOf : A → ℕ) (table : World → List A) (p : A → Bool) (end : World → ℕ → Sent) (kept : (w : World) (id : ℕ) → AsMany w (end w id .world)) where
+module _ {A : Type 0} (idOf : A → ℕ) (table : World → List A) (p : A → Bool) (end : World → ℕ → Sent) (kept : (w : World) (place : ℕ) → AsMany w (end w place .world)) where
   walk-from-kept : (turns : ℕ) (c : Walked) (w : World) → AsMany w (walkFrom idOf table p end turns c w .world)
   unfolding walkFrom
   walk-from-kept zero c w = as-many w
@@ -125,7 +135,7 @@ module _ {A : Type 0} (idOf : A → ℕ) (table : World → List A) (p : A → B
   walk-kept w = walk-from-kept (length (table w)) notYet w
 
 pub revoke-all-kept : (endP : World → ℕ → Sent) (p : RelayPending → Bool) (endC : World → ℕ → Sent) (c : RelayCircuit → Bool) (v w : World)
-    → ((w : World) (id : ℕ) → AsMany w (endP w id .world)) → ((w : World) (id : ℕ) → AsMany w (endC w id .world)) → AsMany v w
+    → ((w : World) (place : ℕ) → AsMany w (endP w place .world)) → ((w : World) (place : ℕ) → AsMany w (endC w place .world)) → AsMany v w
     → AsMany v (revokeAll endP p endC c w .world)
 unfolding revokeAll
 revoke-all-kept endP p endC c v w kp kc s =

@@ -2,21 +2,19 @@
 -- as many words as its routes can fill. Here the parts: a message, two closings, a walk that ends one used record at each turn.
 --
 use Prim.Native.Nat.{ℕ, zero, suc, _+_, _*_, _≤_, _<_}
-use native.Mathlib.Nat.{not-suc-le-zero, le-of-suc-le-suc}
 use native.Mathlib.Omega.{arith}
-use mathlib.Core.Path.{_≡_, refl, sym, ap, _∙_}
-use mathlib.Core.Bool.{Bool, true, false, cond, or-true}
+use mathlib.Core.Path.{_≡_, refl, ap}
+use mathlib.Core.Bool.{Bool, true, false, cond}
 use mathlib.Core.List.{List, [], _∷_, _++_}
-use lib.ListN.{length, getD, length-append}
+use lib.ListN.{length, getD, set, length-append}
 use Rattle.hnsr_body.specs.declared.messages.Notice.{Notice}
 use Rattle.hnsr_body.specs.Messages.{noticeBody, noticeSize}
 use Rattle.hnsr_circuit.specs.declared.records.Walked.{Walked}
 use Rattle.hnsr_circuit.specs.declared.answer.HnsrAnswer.{HnsrAnswer}
 use Rattle.hnsr_circuit.specs.declared.answer.HnsrAnswer.the-variants.{Taken, Refused}
 use Rattle.hns_encoding.specs.Sums.{one, count}
-use Rattle.hnsr_circuit.specs.Table.{any, pick, edit, notYet, next}
-use Rattle.hnsr_circuit.specs.Laws.Lookups.{pick-has}
-use Rattle.hnsr_circuit.specs.Laws.Edits.{edit-total}
+use Rattle.hnsr_circuit.specs.Table.{notYet, next}
+use Rattle.hns_encoding.specs.Laws.Sums.{total-set}
 use Rattle.hnsr_circuit.specs.Laws.Walks.{Stands, next-stands}
 use Rattle.hns_encoding.specs.Words.{wordCount}
 use Rattle.hnsr_circuit.specs.Route.{Route, headWords, outWords}
@@ -63,43 +61,35 @@ unfolding when outWords
 when-fits true part w n h = h refl
 when-fits false part w n h = omega arith
 
--- ---- what a lookup at a place finds
-any-at : {A : Type 0} (q : A → Bool) (d : A) (t : List A) (k : ℕ) → k < length t → q (getD t k d) ≡ true → any q t ≡ true
-any-at q d [] k l h = absurd (not-suc-le-zero l)
-any-at q d (x ∷ xs) zero l h = rw h
-any-at q d (x ∷ xs) (suc k) l h = rw (any-at q d xs k (le-of-suc-le-suc l) h, or-true)
-
--- the one record that is cleared is counted no more
-pub one-fewer : {A : Type 0} (used p : A → Bool) (unmark : A → A) (d : A) (t : List A) → ((a : A) → p a ≡ true → used a ≡ true)
-    → ((a : A) → used (unmark a) ≡ false) → any p t ≡ true → count used (edit p unmark t) + 1 ≡ count used t
-one-fewer used p unmark d t h off e =
-    let k = edit-total p unmark (one used) d t e in
-    let u = ap (λ b. cond {A = ℕ} b 1 0) (h (pick p d t) (pick-has p d t e)) in
-    let v = ap (λ b. cond {A = ℕ} b 1 0) (off (pick p d t)) in
+-- ---- the one record that is cleared is counted no more
+pub one-fewer : {A : Type 0} (used : A → Bool) (unmark : A → A) (d : A) (t : List A) → ((a : A) → used (unmark a) ≡ false)
+    → (place : ℕ) → place < length t → used (getD t place d) ≡ true → count used (set t place (unmark (getD t place d))) + 1 ≡ count used t
+one-fewer used unmark d t off place l h =
+    let k = total-set (one used) t place (unmark (getD t place d)) d l in
+    let u = ap (λ b. cond {A = ℕ} b 1 0) h in
+    let v = ap (λ b. cond {A = ℕ} b 1 0) (off (getD t place d)) in
     omega arith
 
 -- ---- a walk: at most so many words for each used record that stood at its start
-module _ {A : Type 0} (idOf : A → ℕ) (table : World → List A) (p : A → Bool) (end : World → ℕ → Sent) (used : A → Bool) (at : ℕ → A → Bool) (d : A)
-    (named : (a : A) → p a ≡ true → at (idOf a) a ≡ true)
-    (each : (w : World) (id : ℕ) → filled (end w id .routes) ≤ closingWords)
-    (fewer : (w : World) (id : ℕ) → any (at id) (table w) ≡ true → count used (table (end w id .world)) + 1 ≡ count used (table w)) where
+module _ {A : Type 0} (idOf : A → ℕ) (table : World → List A) (p : A → Bool) (end : World → ℕ → Sent) (used : A → Bool) (d : A)
+    (marked : (a : A) → p a ≡ true → used a ≡ true)
+    (each : (w : World) (place : ℕ) → filled (end w place .routes) ≤ closingWords)
+    (fewer : (w : World) (place : ℕ) → place < length (table w) → used (getD (table w) place d) ≡ true → count used (table (end w place .world)) + 1 ≡ count used (table w)) where
   walk-from-fits : (turns : ℕ) (c : Walked) (w : World) → filled (walkFrom idOf table p end turns c w .routes) ≤ closingWords * count used (table w)
   unfolding walkFrom outWords
   walk-from-fits zero c w = omega arith
   walk-from-fits (suc turns) c w =
       when-fits _ _ w _
-      (λ e. turn (next-stands idOf p c (table w) d e) (walk-from-fits turns (next idOf p c (table w)) (end w (next idOf p c (table w) .id) .world)))
+      (λ e. turn (next-stands idOf p c (table w) d e) (walk-from-fits turns (next idOf p c (table w)) (end w (next idOf p c (table w) .place) .world)))
     where
       turn : Stands idOf p c (table w) d (next idOf p c (table w))
-          → filled (walkFrom idOf table p end turns (next idOf p c (table w)) (end w (next idOf p c (table w) .id) .world) .routes)
-          ≤ closingWords * count used (table (end w (next idOf p c (table w) .id) .world))
-          → filled (andThen (end w (next idOf p c (table w) .id)) (walkFrom idOf table p end turns (next idOf p c (table w))) .routes)
+          → filled (walkFrom idOf table p end turns (next idOf p c (table w)) (end w (next idOf p c (table w) .place) .world) .routes)
+          ≤ closingWords * count used (table (end w (next idOf p c (table w) .place) .world))
+          → filled (andThen (end w (next idOf p c (table w) .place)) (walkFrom idOf table p end turns (next idOf p c (table w))) .routes)
           ≤ closingWords * count used (table w)
       turn s r =
           let n = next idOf p c (table w) in
-          let a : any (at (n .id)) (table w) ≡ true = any-at (at (n .id)) d (table w) (n .place) (s .within)
-          (ap (λ i. at i (getD (table w) (n .place) d)) (sym (s .id)) ∙ named (getD (table w) (n .place) d) (s .has)) in
-          omega (arith, fewer w (n .id) a, each w (n .id), r, filled-append (end w (n .id) .routes) (walkFrom idOf table p end turns n (end w (n .id) .world) .routes))
+          omega (arith, fewer w (n .place) (s .within) (marked (getD (table w) (n .place) d) (s .has)), each w (n .place), r, filled-append (end w (n .place) .routes) (walkFrom idOf table p end turns n (end w (n .place) .world) .routes))
 
   pub walk-fits : (w : World) → filled (walk idOf table p end w .routes) ≤ closingWords * count used (table w)
   unfolding walk

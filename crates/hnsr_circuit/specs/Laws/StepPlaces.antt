@@ -33,7 +33,7 @@ use Rattle.hnsr_circuit.specs.New.{emptied, newRelay, observeTime}
 use Rattle.hnsr_circuit.specs.Status.{status}
 use Rattle.hnsr_circuit.specs.NextDue.{nextDue}
 use Rattle.hnsr_circuit.specs.Call.{Start, start, Call, callStatus, callNextDue, callObserveTime, callReplaceEnabled, callHandle, callAcknowledge, callDisconnect, callRevokeReservation, callExpire, step}
-use Rattle.hnsr_circuit.specs.Laws.Places.{AsMany, as-many, onward, header-kept, pending-kept, circuits-kept, ledger-kept, inflight-kept, length-dropped, without-pending-kept, end-pending-kept, end-circuit-kept, queued-kept, revoke-pending-kept, revoke-circuit-kept, disconnect-pending-kept, revoke-all-kept}
+use Rattle.hnsr_circuit.specs.Laws.Places.{AsMany, as-many, onward, header-kept, pending-kept, circuits-kept, ledger-kept, inflight-kept, length-dropped, without-pending-kept, end-pending-kept, end-circuit-kept, queued-kept, revoke-pending-kept, revoke-there-kept, revoke-circuit-kept, disconnect-pending-kept, revoke-all-kept}
 
 proceed-kept : {v : World} (w : World) (a : HnsrAnswer) (o : Outcome) → AsMany v w → AsMany v (o .world) → AsMany v (proceed w a o .world)
 unfolding proceed
@@ -142,7 +142,7 @@ switch-kept : (w : World) (on : Bool) → AsMany w (switchTo w on .world)
 unfolding switchTo
 switch-kept w true = header-kept (inflight-kept (as-many w) _ (length-dropped _ _)) _
 switch-kept w false =
-    revoke-all-kept _ _ _ _ w _ (revoke-pending-kept _) (revoke-circuit-kept _) (header-kept (inflight-kept (as-many w) _ (length-dropped _ _)) _)
+    revoke-all-kept _ _ _ _ w _ (revoke-pending-kept _) (revoke-there-kept _) (header-kept (inflight-kept (as-many w) _ (length-dropped _ _)) _)
 
 -- ---- every call
 pub start-places : (w : World) (s : Start) → AsMany w (start w s .world)
@@ -164,10 +164,10 @@ step-places w (callHandle packet room) =
 step-places w (callAcknowledge generation sequence delivered room) = acknowledge-kept w generation sequence delivered room
 step-places w (callDisconnect peer room) =
     proceed-kept w _ _ (as-many w)
-    (revoke-all-kept _ _ _ _ w _ (disconnect-pending-kept _) (revoke-circuit-kept _) (inflight-kept (as-many w) _ (length-dropped _ _)))
+    (revoke-all-kept _ _ _ _ w _ (disconnect-pending-kept _) (revoke-there-kept _) (inflight-kept (as-many w) _ (length-dropped _ _)))
 step-places w (callRevokeReservation id room) =
     proceed-kept w _ _ (as-many w)
-    (revoke-all-kept _ _ _ _ w _ (revoke-pending-kept _) (revoke-circuit-kept _) (ledger-kept (as-many w) _ (length-edit (usageAt id) clearUsage (w .ledger))))
+    (revoke-all-kept _ _ _ _ w _ (revoke-pending-kept _) (revoke-there-kept _) (ledger-kept (as-many w) _ (length-edit (usageAt id) clearUsage (w .ledger))))
 step-places w (callExpire now room) =
     proceed-kept w _ _ (as-many w)
-    (revoke-all-kept _ _ _ _ w _ (revoke-pending-kept _) (revoke-circuit-kept _) (onward (header-kept (as-many w) _) (lapsed-kept (atTime w now) now)))
+    (revoke-all-kept _ _ _ _ w _ (revoke-pending-kept _) (revoke-there-kept _) (onward (header-kept (as-many w) _) (lapsed-kept (atTime w now) now)))

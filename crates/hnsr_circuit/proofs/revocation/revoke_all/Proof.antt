@@ -6,7 +6,7 @@ use Rattle.hnsr_circuit.specs.Circuits.{circuitId}
 use Rattle.hnsr_circuit.specs.Question.{pendingHas, circuitHas}
 use Rattle.hnsr_circuit.specs.Progress.{worldOf, Progress, progress, advanced, advance}
 use Rattle.hnsr_circuit.specs.Queue.{andThen}
-use Rattle.hnsr_circuit.specs.Revocation.{revokeAll, revokeCircuit, walk, pendingTable, circuitTable}
+use Rattle.hnsr_circuit.specs.Revocation.{revokeAll, revokeCircuitThere, walk, pendingTable, circuitTable}
 use Rattle.hnsr_circuit.specs.Revoking.{endingPending}
 use Rattle.hnsr_circuit.specs.Laws.Progress.{advance-then}
 use Rattle.hnsr_circuit.specs.Laws.Calls.{begun, over}
@@ -50,7 +50,7 @@ returns c = λ l₀.
     let w = worldOf (a .runtime) (heldPending (a .places) (a .pending .now)) cs l (heldActions (a .places) (a .inflight .now)) in
     let p1 = c .before .before .before .before .before .before .before .before .before .before .before .before .before .walk-pending .last .0 in
     let first = walk pendingId pendingTable (pendingHas (v .question)) (endingPending v) in
-    let second = walk circuitId circuitTable (circuitHas (v .question)) (revokeCircuit (v .«circuit_notice»)) in
+    let second = walk circuitId circuitTable (circuitHas (v .question)) (revokeCircuitThere (v .«circuit_notice»)) in
     let start = sending-kept (c .before .before .before .before .before .before .before .before .before .before .before .before .before .before .before .before .before .started .result) (a .pending .now) (a .circuits .now) l₀ (a .inflight .now) (a .out .now) (a .places) (c .before .before .before .before .before .before .before .before .before .before .before .before .before .before .before .before .before .started .ensures .1) ∙ begun (a .runtime) (heldPending (a .places) (a .pending .now)) cs l (heldActions (a .places) (a .inflight .now)) (a .out .now) (c .before .before .before .before .before .before .before .before .before .before .before .before .before .before .before .before .before .started .result) (c .before .before .before .before .before .before .before .before .before .before .before .before .before .before .before .before .before .started .ensures .0) in
     places-kept (c .finished .result) p1 (c .before .before .before .before .before .walk-circuits .last .0) l₀ (c .before .before .before .before .before .walk-circuits .last .1 .0) (c .before .before .before .before .before .walk-circuits .last .1 .1 .0) (c .before .before .before .before .before .walk-circuits .result .places) (c .finished .ensures .1)
     ∙ over (c .finished .result) (c .before .before .before .before .before .walk-circuits .result) _ _ _ _ _ (advanced (progress w 0 (a .out .now)) (andThen (first w) second)) (c .finished .ensures .0)

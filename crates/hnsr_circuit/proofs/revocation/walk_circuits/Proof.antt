@@ -11,7 +11,7 @@ use Rattle.hnsr_circuit.specs.declared.records.Walked.{Walked}
 use Rattle.hnsr_circuit.specs.Circuits.{circuitId, clearCircuit}
 use Rattle.hnsr_circuit.specs.Question.{circuitHas}
 use Rattle.hnsr_circuit.specs.Progress.{Progress, advance}
-use Rattle.hnsr_circuit.specs.Revocation.{revokeCircuit, walkFrom, walk, circuitTable}
+use Rattle.hnsr_circuit.specs.Revocation.{revokeCircuitThere, walkFrom, walk, circuitTable}
 use Rattle.hnsr_circuit.specs.Table.{notYet}
 use Rattle.hnsr_circuit.specs.Laws.Revocation.{not-true, not-false, walk-turn, walk-stops, walk-over}
 use borrow.Author.Needs.{needs}
@@ -24,7 +24,7 @@ use Rattle.hnsr_circuit.proofs.revocation.walk_circuits.Proof.Tie as ti
 abbrev Inv-loop : tie.InvT-loop
 Inv-loop circuits inflight out question notice most told₀ cursor₀ turn₀ circuits′ inflight′ out′ told cursor turn =
     (most ≡ length circuits) × (turn ≤ most) × (length circuits′ ≡ length circuits) × (length inflight′ ≡ length inflight) × (length out′ ≡ length out)
-    × ((p : List RelayPending) (l : List ReservationUsage) → advance (walkFrom circuitId circuitTable (circuitHas question) (revokeCircuit notice) (most - turn) cursor) (underwaySeen told p circuits′ l inflight′ out′) ≡ advance (walk circuitId circuitTable (circuitHas question) (revokeCircuit notice)) (underwaySeen told₀ p circuits l inflight out))
+    × ((p : List RelayPending) (l : List ReservationUsage) → advance (walkFrom circuitId circuitTable (circuitHas question) (revokeCircuitThere notice) (most - turn) cursor) (underwaySeen told p circuits′ l inflight′ out′) ≡ advance (walk circuitId circuitTable (circuitHas question) (revokeCircuitThere notice)) (underwaySeen told₀ p circuits l inflight out))
 
 abbrev μ-loop : tie.MeasureT-loop
 μ-loop circuits inflight out question notice most told₀ cursor₀ turn₀ circuits′ inflight′ out′ told cursor turn = most - turn
@@ -45,8 +45,8 @@ loop-holds c = let a = c .before .before .before .args in (
   search needs,
   search needs,
   λ p l.
-      ap (λ (x : Walked). advance (walkFrom circuitId circuitTable (circuitHas (a .revoking .question)) (revokeCircuit (a .revoking .«circuit_notice»)) (length (a .circuits .now) - 0) x) (underwaySeen (a .sending) p (a .circuits .now) l (a .inflight .now) (a .out .now))) (c .not-yet .ensures)
-      ∙ ap (λ (m : ℕ). advance (walkFrom circuitId circuitTable (circuitHas (a .revoking .question)) (revokeCircuit (a .revoking .«circuit_notice»)) m notYet) (underwaySeen (a .sending) p (a .circuits .now) l (a .inflight .now) (a .out .now))) (sub-zero (length (a .circuits .now)) ∙ sym (length-held clearCircuit (a .sending .places .circuits) (a .circuits .now))),
+      ap (λ (x : Walked). advance (walkFrom circuitId circuitTable (circuitHas (a .revoking .question)) (revokeCircuitThere (a .revoking .«circuit_notice»)) (length (a .circuits .now) - 0) x) (underwaySeen (a .sending) p (a .circuits .now) l (a .inflight .now) (a .out .now))) (c .not-yet .ensures)
+      ∙ ap (λ (m : ℕ). advance (walkFrom circuitId circuitTable (circuitHas (a .revoking .question)) (revokeCircuitThere (a .revoking .«circuit_notice»)) m notYet) (underwaySeen (a .sending) p (a .circuits .now) l (a .inflight .now) (a .out .now))) (sub-zero (length (a .circuits .now)) ∙ sym (length-held clearCircuit (a .sending .places .circuits) (a .circuits .now))),
 )
 
 next-circuit-requires : tie.Need-next-circuit-requires Inv-loop μ-loop
@@ -73,8 +73,8 @@ returns c = λ p l.
     let less = c .before .before .before .before .loop-test .taken in
     let left : suc k ≡ length (a .circuits .now) - L .loop .turn = omega arith in
     let stopped = not-true (n .taken) (sym (c .before .no .ensures) ∙ c .if1 .taken) in
-    sym (walk-stops circuitId circuitTable (circuitHas (a .revoking .question)) (revokeCircuit (a .revoking .«circuit_notice»)) (underwaySeen (L .loop .told) p (L .loop .circuits) l (L .loop .inflight) (L .loop .out)) k (L .loop .cursor) n (c .before .before .next-circuit .ensures) stopped)
-    ∙ ap (λ (m : ℕ). advance (walkFrom circuitId circuitTable (circuitHas (a .revoking .question)) (revokeCircuit (a .revoking .«circuit_notice»)) m (L .loop .cursor)) (underwaySeen (L .loop .told) p (L .loop .circuits) l (L .loop .inflight) (L .loop .out))) left
+    sym (walk-stops circuitId circuitTable (circuitHas (a .revoking .question)) (revokeCircuitThere (a .revoking .«circuit_notice»)) (underwaySeen (L .loop .told) p (L .loop .circuits) l (L .loop .inflight) (L .loop .out)) k (L .loop .cursor) n (c .before .before .next-circuit .ensures) stopped)
+    ∙ ap (λ (m : ℕ). advance (walkFrom circuitId circuitTable (circuitHas (a .revoking .question)) (revokeCircuitThere (a .revoking .«circuit_notice»)) m (L .loop .cursor)) (underwaySeen (L .loop .told) p (L .loop .circuits) l (L .loop .inflight) (L .loop .out))) left
     ∙ L .loop .inv .5 p l
 
 revoke-circuit-requires : tie.Need-revoke-circuit-requires Inv-loop μ-loop
@@ -100,9 +100,9 @@ loop-again c = let L = c .before .before .before .before .before .before .before
       search needs,
       search needs,
       λ p l.
-          ap (λ (s : Progress). advance (walkFrom circuitId circuitTable (circuitHas (a .revoking .question)) (revokeCircuit (a .revoking .«circuit_notice»)) k n) s) (c .before .before .before .before .revoke-circuit .ensures p l)
-          ∙ sym (walk-turn circuitId circuitTable (circuitHas (a .revoking .question)) (revokeCircuit (a .revoking .«circuit_notice»)) (underwaySeen (L .loop .told) p (L .loop .circuits) l (L .loop .inflight) (L .loop .out)) k (L .loop .cursor) n (c .before .before .before .before .before .before .before .before .before .before .next-circuit .ensures) goes)
-          ∙ ap (λ (m : ℕ). advance (walkFrom circuitId circuitTable (circuitHas (a .revoking .question)) (revokeCircuit (a .revoking .«circuit_notice»)) m (L .loop .cursor)) (underwaySeen (L .loop .told) p (L .loop .circuits) l (L .loop .inflight) (L .loop .out))) left
+          ap (λ (s : Progress). advance (walkFrom circuitId circuitTable (circuitHas (a .revoking .question)) (revokeCircuitThere (a .revoking .«circuit_notice»)) k n) s) (c .before .before .before .before .revoke-circuit .ensures p l)
+          ∙ sym (walk-turn circuitId circuitTable (circuitHas (a .revoking .question)) (revokeCircuitThere (a .revoking .«circuit_notice»)) (underwaySeen (L .loop .told) p (L .loop .circuits) l (L .loop .inflight) (L .loop .out)) k (L .loop .cursor) n (c .before .before .before .before .before .before .before .before .before .before .next-circuit .ensures) goes)
+          ∙ ap (λ (m : ℕ). advance (walkFrom circuitId circuitTable (circuitHas (a .revoking .question)) (revokeCircuitThere (a .revoking .«circuit_notice»)) m (L .loop .cursor)) (underwaySeen (L .loop .told) p (L .loop .circuits) l (L .loop .inflight) (L .loop .out))) left
           ∙ L .loop .inv .5 p l,
     )
 
@@ -121,8 +121,8 @@ returns-2 c = λ p l.
     let a = c .before .before .before .before .before .args in
     let over = c .loop-test .left in
     let none : 0 ≡ length (a .circuits .now) - L .loop .turn = omega arith in
-    sym (walk-over circuitId circuitTable (circuitHas (a .revoking .question)) (revokeCircuit (a .revoking .«circuit_notice»)) (underwaySeen (L .loop .told) p (L .loop .circuits) l (L .loop .inflight) (L .loop .out)) (L .loop .cursor))
-    ∙ ap (λ (m : ℕ). advance (walkFrom circuitId circuitTable (circuitHas (a .revoking .question)) (revokeCircuit (a .revoking .«circuit_notice»)) m (L .loop .cursor)) (underwaySeen (L .loop .told) p (L .loop .circuits) l (L .loop .inflight) (L .loop .out))) none
+    sym (walk-over circuitId circuitTable (circuitHas (a .revoking .question)) (revokeCircuitThere (a .revoking .«circuit_notice»)) (underwaySeen (L .loop .told) p (L .loop .circuits) l (L .loop .inflight) (L .loop .out)) (L .loop .cursor))
+    ∙ ap (λ (m : ℕ). advance (walkFrom circuitId circuitTable (circuitHas (a .revoking .question)) (revokeCircuitThere (a .revoking .«circuit_notice»)) m (L .loop .cursor)) (underwaySeen (L .loop .told) p (L .loop .circuits) l (L .loop .inflight) (L .loop .out))) none
     ∙ L .loop .inv .5 p l
 
 pub walk-circuits-spec : {M : Type 1} → statement M

@@ -239,7 +239,7 @@ b24 = Syntax.assign (Syntax.place 22 List.[]) (Syntax.aggregate ((Syntax.copy (S
 abbrev b25 : Syntax.Body
 b25 = Syntax.call "hnsr_circuit::revocation::revoke_circuit" ((Syntax.copy (Syntax.place 18 List.[])) ∷ (Syntax.copy (Syntax.place 20 List.[])) ∷
     (Syntax.copy (Syntax.place 22 List.[])) ∷ (Syntax.copy (Syntax.place 9 List.[])) ∷ (Syntax.copy (Syntax.place 7 List.[])) ∷ (Syntax.copy
-    (Syntax.place 12 ((Syntax.field 1) ∷ List.[]))) ∷ List.[]) (Syntax.place 9 List.[])
+    (Syntax.place 12 ((Syntax.field 2) ∷ List.[]))) ∷ List.[]) (Syntax.place 9 List.[])
 abbrev b26 : Syntax.Body
 b26 = Syntax.assign (Syntax.place 10 List.[]) (Syntax.rvOpd (Syntax.copy (Syntax.place 12 List.[])))
 abbrev b27 : Syntax.Body
@@ -719,8 +719,8 @@ module _ (claims· : Claims) where
   s43 = λ bs. Call.callB ps·3 r·3 (claims· .6) (claims· .7) T47 (record { pos = 18; ty = Syntax.tyRef Syntax.erased Syntax.mut RelayCircuit.to; ref =
       λ x. x; }, (record { pos = 20; ty = Syntax.tyRef Syntax.erased Syntax.mut InflightAction.to; ref = λ x. x; }, (record { pos = 22; ty =
       Syntax.tyRef Syntax.erased Syntax.mut (Syntax.tyInt Syntax.w32); ref = λ x. x; }, (record { pos = 9; st = List.[]; d = 0; at = λ x. x }, (record
-      { pos = 7; st = List.[]; d = 0; at = λ x. x }, (Num.vFld 12 ((Syntax.field 1) ∷ List.[]) 8 λ x. Walked.struct .as-values x .1 .0, tt,),),),),),)
-      9 (4 ∷ 5 ∷ 6 ∷ List.[]) Laws'''''.mir
+      { pos = 7; st = List.[]; d = 0; at = λ x. x }, (Num.vFld 12 ((Syntax.field 2) ∷ List.[]) 16 λ x. Walked.struct .as-values x .1 .1 .0,
+      tt,),),),),),) 9 (4 ∷ 5 ∷ 6 ∷ List.[]) Laws'''''.mir
   abbrev s45 : (bs : List.List Nat.ℕ) → Typed.Both T48 T50
   s45 = λ bs. Relend.k-back-sl RelayCircuit.row T48 18 1 0 4 ref4 ref1 Row.off (λ x. x) λ x. x
   abbrev s48 : (bs : List.List Nat.ℕ) → Typed.Both T50 T53
@@ -1268,8 +1268,8 @@ module _ (claims· : Claims) where
               Syntax.erased Syntax.mut RelayCircuit.to; ref = λ x. x; }, (record { pos = 20; ty = Syntax.tyRef Syntax.erased Syntax.mut
               InflightAction.to; ref = λ x. x; }, (record { pos = 22; ty = Syntax.tyRef Syntax.erased Syntax.mut (Syntax.tyInt Syntax.w32); ref = λ x.
               x; }, (record { pos = 9; st = List.[]; d = 0; at = λ x. x }, (record { pos = 7; st = List.[]; d = 0; at = λ x. x }, (Num.vFld 12
-              ((Syntax.field 1) ∷ List.[]) 8 λ x. Walked.struct .as-values x .1 .0, tt,),),),),),) 9 (4 ∷ 5 ∷ 6 ∷ List.[]) (Call.sub-id 𝓤 H A W (G47
-              .slots)) (Reads'.as-is 𝓤 H A (Mut.mslice RelayCircuit.row ref1 4), Mut.reads-mslice 𝓤 H A W RelayCircuit.row ref1 4, Path.refl,
+              ((Syntax.field 2) ∷ List.[]) 16 λ x. Walked.struct .as-values x .1 .1 .0, tt,),),),),),) 9 (4 ∷ 5 ∷ 6 ∷ List.[]) (Call.sub-id 𝓤 H A W
+              (G47 .slots)) (Reads'.as-is 𝓤 H A (Mut.mslice RelayCircuit.row ref1 4), Mut.reads-mslice 𝓤 H A W RelayCircuit.row ref1 4, Path.refl,
               (Reads'.as-is 𝓤 H A (Mut.mslice InflightAction.row ref2 5), Mut.reads-mslice 𝓤 H A W InflightAction.row ref2 5, Path.refl, (Reads'.as-is
               𝓤 H A (Mut.mslice (Referent.rtF (Referent.fInt Syntax.w32)) ref3 6), Mut.reads-mslice 𝓤 H A W (Referent.rtF (Referent.fInt Syntax.w32))
               ref3 6, Path.refl, ((Yields.yields-copy 𝓤 H A W (λ ρ. Unit) (Declared'.row Sending.the-type) Path.refl (Copies.cStruct Sending.the-type
@@ -1278,7 +1278,7 @@ module _ (claims· : Claims) where
               Path.refl,), ((Yields.yields-copy 𝓤 H A W (λ ρ. Unit) (Declared.row Notice.the-type) Path.refl (Copies.cEnum Notice.the-type
               Laws.the-laws Laws.the-copy .copy 𝓤 H A W) (Rows.whole (Declared.row Notice.the-type)) (λ x. x) (λ x. x) (λ ρ told. Local.mem-whole 𝓤 H
               A W (Declared.row Notice.the-type) ρ) λ ρ told. Local.whole-mem 𝓤 H A W (Declared.row Notice.the-type) ρ, Path.refl,),
-              ((Reads.reads-field 𝓤 H A W Walked.the-type Laws'''.the-laws 1 (Syntax.tyInt Syntax.w64) 8 Path.refl, Path.refl,), tt,),),),),),)
+              ((Reads.reads-field 𝓤 H A W Walked.the-type Laws'''.the-laws 2 (Syntax.tyInt Syntax.w64) 16 Path.refl, Path.refl,), tt,),),),),),)
               (Local.room-whole 𝓤 H A W (Declared'.row Sending.the-type) Laws'''''.mir Path.refl) (tt, (tt, (tt, tt))) Path.refl) d32
           d34 : Typed.Typed 𝓤 H A 𝓣 E G46 b30 Δ3 (at34 bs)
           d34 = Typed.s-seq 𝓤 H A W 𝓣 E G46 G47 b24 b29 Δ3 (Typed.ask (s42 bs)) (at33 bs) (Relend.t-sl-aggregate 𝓤 H A W E (Referent.rtF
@@ -1836,8 +1836,8 @@ module _ (claims· : Claims) where
         After-revoke-circuit·own = Called.Called ps·3 r·3 (claims· .7) T47 (record { pos = 18; ty = Syntax.tyRef Syntax.erased Syntax.mut
             RelayCircuit.to; ref = λ x. x; }, (record { pos = 20; ty = Syntax.tyRef Syntax.erased Syntax.mut InflightAction.to; ref = λ x. x; },
             (record { pos = 22; ty = Syntax.tyRef Syntax.erased Syntax.mut (Syntax.tyInt Syntax.w32); ref = λ x. x; }, (record { pos = 9; st =
-            List.[]; d = 0; at = λ x. x }, (record { pos = 7; st = List.[]; d = 0; at = λ x. x }, (Num.vFld 12 ((Syntax.field 1) ∷ List.[]) 8 λ x.
-            Walked.struct .as-values x .1 .0, tt,),),),),),) (m38 (before· .before) (before· .revoke-circuit-arg3 .given))
+            List.[]; d = 0; at = λ x. x }, (record { pos = 7; st = List.[]; d = 0; at = λ x. x }, (Num.vFld 12 ((Syntax.field 2) ∷ List.[]) 16 λ x.
+            Walked.struct .as-values x .1 .1 .0, tt,),),),),),) (m38 (before· .before) (before· .revoke-circuit-arg3 .given))
       pub record After-revoke-circuit : Type 0 where
         pub before : After-revoke-circuit-arg3
         pub revoke-circuit : After-revoke-circuit·own before
@@ -1846,8 +1846,8 @@ module _ (claims· : Claims) where
       After-revoke-circuit·gave = λ c. Called.given ps·3 r·3 (claims· .7) T47 (record { pos = 18; ty = Syntax.tyRef Syntax.erased Syntax.mut
           RelayCircuit.to; ref = λ x. x; }, (record { pos = 20; ty = Syntax.tyRef Syntax.erased Syntax.mut InflightAction.to; ref = λ x. x; }, (record
           { pos = 22; ty = Syntax.tyRef Syntax.erased Syntax.mut (Syntax.tyInt Syntax.w32); ref = λ x. x; }, (record { pos = 9; st = List.[]; d = 0;
-          at = λ x. x }, (record { pos = 7; st = List.[]; d = 0; at = λ x. x }, (Num.vFld 12 ((Syntax.field 1) ∷ List.[]) 8 λ x. Walked.struct
-          .as-values x .1 .0, tt,),),),),),) (m38 (c .before .before) (c .before .revoke-circuit-arg3 .given)) (c .revoke-circuit)
+          at = λ x. x }, (record { pos = 7; st = List.[]; d = 0; at = λ x. x }, (Num.vFld 12 ((Syntax.field 2) ∷ List.[]) 16 λ x. Walked.struct
+          .as-values x .1 .1 .0, tt,),),),),),) (m38 (c .before .before) (c .before .revoke-circuit-arg3 .given)) (c .revoke-circuit)
       abbrev pub m40 : (before : After-revoke-circuit) → (given : s45 (before .before .before .before .before .before .before .before .before .before
           .before .before .before .before .blocks) .gives (m39 (before .before) (After-revoke-circuit·gave before))) → Typed.Mo T50
       m40 = λ before given. s45 (before .before .before .before .before .before .before .before .before .before .before .before .before .before
@@ -2114,7 +2114,7 @@ module _ (claims· : Claims) where
             Syntax.tyRef Syntax.erased Syntax.mut RelayCircuit.to; ref = λ x. x; }, (record { pos = 20; ty = Syntax.tyRef Syntax.erased Syntax.mut
             InflightAction.to; ref = λ x. x; }, (record { pos = 22; ty = Syntax.tyRef Syntax.erased Syntax.mut (Syntax.tyInt Syntax.w32); ref = λ x.
             x; }, (record { pos = 9; st = List.[]; d = 0; at = λ x. x }, (record { pos = 7; st = List.[]; d = 0; at = λ x. x }, (Num.vFld 12
-            ((Syntax.field 1) ∷ List.[]) 8 λ x. Walked.struct .as-values x .1 .0, tt,),),),),),) (m38 record { before = record { before = record {
+            ((Syntax.field 2) ∷ List.[]) 16 λ x. Walked.struct .as-values x .1 .1 .0, tt,),),),),),) (m38 record { before = record { before = record {
             before = c .before; if1 = c .if1 }; revoke-circuit-arg = record { given = g }; }; revoke-circuit-arg2 = record { given = g' }; } g'') g'3;
             },),),),)
         lay6 : (c : After-no) → at43 (c .before .before .before .before .before .before .before .before .blocks) (W3 (c .before .before .before

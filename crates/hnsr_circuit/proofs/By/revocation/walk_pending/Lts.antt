@@ -228,7 +228,7 @@ b23 = Syntax.assign (Syntax.place 21 List.[]) (Syntax.aggregate ((Syntax.copy (S
 abbrev b24 : Syntax.Body
 b24 = Syntax.call "hnsr_circuit::revocation::revoke_pending" ((Syntax.copy (Syntax.place 17 List.[])) ∷ (Syntax.copy (Syntax.place 19 List.[])) ∷
     (Syntax.copy (Syntax.place 21 List.[])) ∷ (Syntax.copy (Syntax.place 8 List.[])) ∷ (Syntax.copy (Syntax.place 5 List.[])) ∷ (Syntax.copy
-    (Syntax.place 11 ((Syntax.field 1) ∷ List.[]))) ∷ List.[]) (Syntax.place 8 List.[])
+    (Syntax.place 11 ((Syntax.field 2) ∷ List.[]))) ∷ List.[]) (Syntax.place 8 List.[])
 abbrev b25 : Syntax.Body
 b25 = Syntax.assign (Syntax.place 9 List.[]) (Syntax.rvOpd (Syntax.copy (Syntax.place 11 List.[])))
 abbrev b26 : Syntax.Body
@@ -691,8 +691,8 @@ module _ (claims· : Claims) where
   s41 = λ bs. Call.callB ps·3 r·3 (claims· .6) (claims· .7) T45 (record { pos = 17; ty = Syntax.tyRef Syntax.erased Syntax.mut RelayPending.to; ref =
       λ x. x; }, (record { pos = 19; ty = Syntax.tyRef Syntax.erased Syntax.mut InflightAction.to; ref = λ x. x; }, (record { pos = 21; ty =
       Syntax.tyRef Syntax.erased Syntax.mut (Syntax.tyInt Syntax.w32); ref = λ x. x; }, (record { pos = 8; st = List.[]; d = 0; at = λ x. x }, (record
-      { pos = 5; st = List.[]; d = 0; at = λ x. x }, (Num.vFld 11 ((Syntax.field 1) ∷ List.[]) 8 λ x. Walked.struct .as-values x .1 .0, tt,),),),),),)
-      8 (4 ∷ 5 ∷ 6 ∷ List.[]) Laws''''.mir
+      { pos = 5; st = List.[]; d = 0; at = λ x. x }, (Num.vFld 11 ((Syntax.field 2) ∷ List.[]) 16 λ x. Walked.struct .as-values x .1 .1 .0,
+      tt,),),),),),) 8 (4 ∷ 5 ∷ 6 ∷ List.[]) Laws''''.mir
   abbrev s43 : (bs : List.List Nat.ℕ) → Typed.Both T46 T48
   s43 = λ bs. Relend.k-back-sl RelayPending.row T46 17 1 0 4 ref4 ref1 Row.off (λ x. x) λ x. x
   abbrev s46 : (bs : List.List Nat.ℕ) → Typed.Both T48 T51
@@ -1231,8 +1231,8 @@ module _ (claims· : Claims) where
               Syntax.erased Syntax.mut RelayPending.to; ref = λ x. x; }, (record { pos = 19; ty = Syntax.tyRef Syntax.erased Syntax.mut
               InflightAction.to; ref = λ x. x; }, (record { pos = 21; ty = Syntax.tyRef Syntax.erased Syntax.mut (Syntax.tyInt Syntax.w32); ref = λ x.
               x; }, (record { pos = 8; st = List.[]; d = 0; at = λ x. x }, (record { pos = 5; st = List.[]; d = 0; at = λ x. x }, (Num.vFld 11
-              ((Syntax.field 1) ∷ List.[]) 8 λ x. Walked.struct .as-values x .1 .0, tt,),),),),),) 8 (4 ∷ 5 ∷ 6 ∷ List.[]) (Call.sub-id 𝓤 H A W (G45
-              .slots)) (Reads'.as-is 𝓤 H A (Mut.mslice RelayPending.row ref1 4), Mut.reads-mslice 𝓤 H A W RelayPending.row ref1 4, Path.refl,
+              ((Syntax.field 2) ∷ List.[]) 16 λ x. Walked.struct .as-values x .1 .1 .0, tt,),),),),),) 8 (4 ∷ 5 ∷ 6 ∷ List.[]) (Call.sub-id 𝓤 H A W
+              (G45 .slots)) (Reads'.as-is 𝓤 H A (Mut.mslice RelayPending.row ref1 4), Mut.reads-mslice 𝓤 H A W RelayPending.row ref1 4, Path.refl,
               (Reads'.as-is 𝓤 H A (Mut.mslice InflightAction.row ref2 5), Mut.reads-mslice 𝓤 H A W InflightAction.row ref2 5, Path.refl, (Reads'.as-is
               𝓤 H A (Mut.mslice (Referent.rtF (Referent.fInt Syntax.w32)) ref3 6), Mut.reads-mslice 𝓤 H A W (Referent.rtF (Referent.fInt Syntax.w32))
               ref3 6, Path.refl, ((Yields.yields-copy 𝓤 H A W (λ ρ. Unit) (Declared.row Sending.the-type) Path.refl (Copies.cStruct Sending.the-type
@@ -1241,7 +1241,7 @@ module _ (claims· : Claims) where
               Path.refl,), ((Yields.yields-copy 𝓤 H A W (λ ρ. Unit) (Declared.row Revoking.the-type) Path.refl (Copies.cStruct Revoking.the-type
               Laws'''.the-laws Laws'''.the-copy .copy 𝓤 H A W) (Rows.whole (Declared.row Revoking.the-type)) (λ x. x) (λ x. x) (λ ρ told.
               Local.mem-whole 𝓤 H A W (Declared.row Revoking.the-type) ρ) λ ρ told. Local.whole-mem 𝓤 H A W (Declared.row Revoking.the-type) ρ,
-              Path.refl,), ((Reads.reads-field 𝓤 H A W Walked.the-type Laws''.the-laws 1 (Syntax.tyInt Syntax.w64) 8 Path.refl, Path.refl,),
+              Path.refl,), ((Reads.reads-field 𝓤 H A W Walked.the-type Laws''.the-laws 2 (Syntax.tyInt Syntax.w64) 16 Path.refl, Path.refl,),
               tt,),),),),),) (Local.room-whole 𝓤 H A W (Declared.row Sending.the-type) Laws''''.mir Path.refl) (tt, (tt, (tt, tt))) Path.refl) d32
           d34 : Typed.Typed 𝓤 H A 𝓣 E G44 b29 Δ3 (at34 bs)
           d34 = Typed.s-seq 𝓤 H A W 𝓣 E G44 G45 b23 b28 Δ3 (Typed.ask (s40 bs)) (at33 bs) (Relend.t-sl-aggregate 𝓤 H A W E (Referent.rtF
@@ -1777,8 +1777,8 @@ module _ (claims· : Claims) where
         After-revoke-pending·own = Called.Called ps·3 r·3 (claims· .7) T45 (record { pos = 17; ty = Syntax.tyRef Syntax.erased Syntax.mut
             RelayPending.to; ref = λ x. x; }, (record { pos = 19; ty = Syntax.tyRef Syntax.erased Syntax.mut InflightAction.to; ref = λ x. x; },
             (record { pos = 21; ty = Syntax.tyRef Syntax.erased Syntax.mut (Syntax.tyInt Syntax.w32); ref = λ x. x; }, (record { pos = 8; st =
-            List.[]; d = 0; at = λ x. x }, (record { pos = 5; st = List.[]; d = 0; at = λ x. x }, (Num.vFld 11 ((Syntax.field 1) ∷ List.[]) 8 λ x.
-            Walked.struct .as-values x .1 .0, tt,),),),),),) (m36 (before· .before) (before· .revoke-pending-arg3 .given))
+            List.[]; d = 0; at = λ x. x }, (record { pos = 5; st = List.[]; d = 0; at = λ x. x }, (Num.vFld 11 ((Syntax.field 2) ∷ List.[]) 16 λ x.
+            Walked.struct .as-values x .1 .1 .0, tt,),),),),),) (m36 (before· .before) (before· .revoke-pending-arg3 .given))
       pub record After-revoke-pending : Type 0 where
         pub before : After-revoke-pending-arg3
         pub revoke-pending : After-revoke-pending·own before
@@ -1787,8 +1787,8 @@ module _ (claims· : Claims) where
       After-revoke-pending·gave = λ c. Called.given ps·3 r·3 (claims· .7) T45 (record { pos = 17; ty = Syntax.tyRef Syntax.erased Syntax.mut
           RelayPending.to; ref = λ x. x; }, (record { pos = 19; ty = Syntax.tyRef Syntax.erased Syntax.mut InflightAction.to; ref = λ x. x; }, (record
           { pos = 21; ty = Syntax.tyRef Syntax.erased Syntax.mut (Syntax.tyInt Syntax.w32); ref = λ x. x; }, (record { pos = 8; st = List.[]; d = 0;
-          at = λ x. x }, (record { pos = 5; st = List.[]; d = 0; at = λ x. x }, (Num.vFld 11 ((Syntax.field 1) ∷ List.[]) 8 λ x. Walked.struct
-          .as-values x .1 .0, tt,),),),),),) (m36 (c .before .before) (c .before .revoke-pending-arg3 .given)) (c .revoke-pending)
+          at = λ x. x }, (record { pos = 5; st = List.[]; d = 0; at = λ x. x }, (Num.vFld 11 ((Syntax.field 2) ∷ List.[]) 16 λ x. Walked.struct
+          .as-values x .1 .1 .0, tt,),),),),),) (m36 (c .before .before) (c .before .revoke-pending-arg3 .given)) (c .revoke-pending)
       abbrev pub m38 : (before : After-revoke-pending) → (given : s43 (before .before .before .before .before .before .before .before .before .before
           .before .before .before .before .blocks) .gives (m37 (before .before) (After-revoke-pending·gave before))) → Typed.Mo T48
       m38 = λ before given. s43 (before .before .before .before .before .before .before .before .before .before .before .before .before .before
@@ -2054,7 +2054,7 @@ module _ (claims· : Claims) where
             Syntax.tyRef Syntax.erased Syntax.mut RelayPending.to; ref = λ x. x; }, (record { pos = 19; ty = Syntax.tyRef Syntax.erased Syntax.mut
             InflightAction.to; ref = λ x. x; }, (record { pos = 21; ty = Syntax.tyRef Syntax.erased Syntax.mut (Syntax.tyInt Syntax.w32); ref = λ x.
             x; }, (record { pos = 8; st = List.[]; d = 0; at = λ x. x }, (record { pos = 5; st = List.[]; d = 0; at = λ x. x }, (Num.vFld 11
-            ((Syntax.field 1) ∷ List.[]) 8 λ x. Walked.struct .as-values x .1 .0, tt,),),),),),) (m36 record { before = record { before = record {
+            ((Syntax.field 2) ∷ List.[]) 16 λ x. Walked.struct .as-values x .1 .1 .0, tt,),),),),),) (m36 record { before = record { before = record {
             before = c .before; if1 = c .if1 }; revoke-pending-arg = record { given = g }; }; revoke-pending-arg2 = record { given = g' }; } g'') g'3;
             },),),),)
         lay6 : (c : After-no) → at43 (c .before .before .before .before .before .before .before .before .blocks) (W3 (c .before .before .before

@@ -4,7 +4,7 @@ use Prim.Native.Nat.{ℕ, zero, suc, _≤_, _<_}
 use native.Mathlib.Nat.{not-suc-le-zero, le-of-suc-le-suc}
 use native.Mathlib.Omega.{arith}
 use mathlib.Core.Path.{_≡_, refl, sym, ap, _∙_}
-use mathlib.Core.Bool.{Bool, true, false, true≢false, false≢true}
+use mathlib.Core.Bool.{Bool, true, false, true≢false, false≢true, or-true}
 use mathlib.Core.List.{List, [], _∷_, map}
 use lib.Dec.{ltb}
 use lib.ListN.{length, getD, set}
@@ -54,6 +54,19 @@ module _ {A : Type 0} where
 
   pub count-none : (p : A → Bool) (t : List A) → count p t ≡ 0 → any p t ≡ false
   count-none p t h = split (any p t) (λ e. let z = any-count p t e in absurd (omega arith)) (λ e. e)
+
+  -- the record at a place has p: one has; and where one at most has, the lookup finds that place
+  pub any-at : (p : A → Bool) (d : A) (t : List A) (k : ℕ) → k < length t → p (getD t k d) ≡ true → any p t ≡ true
+  any-at p d [] k l h = absurd (not-suc-le-zero l)
+  any-at p d (x ∷ xs) zero l h = rw h
+  any-at p d (x ∷ xs) (suc k) l h = rw (any-at p d xs k (le-of-suc-le-suc l) h, or-true)
+
+  pub place-once : (p : A → Bool) (d : A) (t : List A) (k : ℕ) → count p t ≤ 1 → k < length t → p (getD t k d) ≡ true → placeOf p t ≡ k
+  place-once p d [] k c l h = absurd (not-suc-le-zero l)
+  place-once p d (x ∷ xs) zero c l h = rw h
+  place-once p d (x ∷ xs) (suc k) c l h = split (p x)
+      (λ e. let z = rw e at c in let n = any-count p xs (any-at p d xs k (le-of-suc-le-suc l) h) in absurd (omega arith))
+      (λ e. let z = rw e at c in rw e (ap suc (place-once p d xs k (omega arith) (le-of-suc-le-suc l) h)))
 
   -- one record at most has p, and one has: a total of what has p is that record's
   pub total-key : (p : A → Bool) (f : A → ℕ) (d : A) (t : List A) → count p t ≤ 1 → any p t ≡ true → total (only p f) t ≡ f (pick p d t)

@@ -1,5 +1,5 @@
 -- Laws of `next`, a turn of a walk: what it takes stands in the table, has p and is above the cursor; nothing with p above the cursor comes
--- before it, by id and then by place.
+-- before it, by id and then by place; and where ids are distinct, a lookup of its id finds its place.
 use Prim.Native.Nat.{ℕ, zero, suc, _+_, _≤_, _<_}
 use native.Mathlib.Nat.{not-suc-le-zero, le-of-suc-le-suc}
 use native.Mathlib.Omega.{arith}
@@ -12,7 +12,9 @@ use borrow.Author.Tests.{ltb-true, ltb-false, lt-ltb, le-leb, eq-eqb, eqb-true}
 use Rattle.hnsr_circuit.specs.declared.records.Walked.{Walked}
 use Rattle.hns_encoding.specs.Laws.Tests.{split, choose, both, join, neither, clash}
 use Rattle.hns_encoding.specs.Loops.{foldFrom}
-use Rattle.hnsr_circuit.specs.Table.{notYet, reached, above, better, offered, nextTurn, next}
+use Rattle.hns_encoding.specs.Sums.{count}
+use Rattle.hnsr_circuit.specs.Laws.Lookups.{place-once}
+use Rattle.hnsr_circuit.specs.Table.{placeOf, notYet, reached, above, better, offered, nextTurn, next}
 
 -- a record taken does not come after the id and place given
 abbrev pub notAfter : Walked → (id place : ℕ) → Bool
@@ -124,3 +126,12 @@ module _ {A : Type 0} (idOf : A → ℕ) (p : A → Bool) (c : Walked) where
       split (above c (idOf (getD t k d)) k)
       (λ a. clash (both (next idOf p c t .taken) _ (next-least t d k l h a) .0) e)
       (λ a. a)
+
+  -- no two records share an id: the place taken is the one that a lookup of the id finds
+  pub next-found : (at : ℕ → A → Bool) → ((a : A) → p a ≡ true → at (idOf a) a ≡ true) → (t : List A) (d : A) → ((i : ℕ) → count (at i) t ≤ 1)
+      → next idOf p c t .taken ≡ true → placeOf (at (next idOf p c t .id)) t ≡ next idOf p c t .place
+  next-found at named t d once e =
+      let n = next idOf p c t in
+      let s = next-stands t d e in
+      let r = getD t (n .place) d in
+      place-once (at (n .id)) d t (n .place) (once (n .id)) (s .within) (ap (λ i. at i r) (sym (s .id)) ∙ named r (s .has))

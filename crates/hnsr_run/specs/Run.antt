@@ -7,6 +7,7 @@ pub mod InPlace
 pub mod Limits
 -- ---- revocation: one record, and all that have a property
 pub mod Walks
+pub mod ByLookup
 pub mod Ends
 pub mod Revocations
 pub mod Leaving

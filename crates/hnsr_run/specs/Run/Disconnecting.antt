@@ -18,17 +18,17 @@ use Rattle.hnsr_circuit.specs.declared.records.RelayPending.{RelayPending}
 use Rattle.hnsr_circuit.specs.declared.records.RelayCircuit.{RelayCircuit}
 use Rattle.hnsr_circuit.specs.declared.answer.HnsrAnswer.{HnsrAnswer}
 use Rattle.hnsr_circuit.specs.declared.answer.HnsrAnswer.the-variants.{Taken, Refused}
-use Rattle.hnsr_circuit.specs.Table.{any}
+use Rattle.hnsr_circuit.specs.Table.{any, placeOf}
 use Rattle.hnsr_circuit.specs.Peer.{samePeer}
 use Rattle.hnsr_circuit.specs.Pending.{pendingId, pendingAt, pendingOf}
 use Rattle.hnsr_circuit.specs.Circuits.{circuitId, circuitAt, circuitOf, isSide, peerAt}
 use Rattle.hnsr_circuit.specs.Inflight.{tallied, capacityLeft, capacityAnswer}
 use Rattle.hnsr_circuit.specs.Route.{Route}
 use Rattle.hnsr_circuit.specs.World.{World, configOf}
-use Rattle.hnsr_circuit.specs.Queue.{Message, Sent, opClose, sequenceOf, queueAnswer, canQueue, routed, when, tellIf, tell}
+use Rattle.hnsr_circuit.specs.Queue.{Message, Sent, opClose, sequenceOf, queueAnswer, canQueue, routed, tellIf, tell}
 use Rattle.hnsr_circuit.specs.Packet.{circuitIn}
-use Rattle.hnsr_circuit.specs.Revocation.{withoutPending, withoutActions, endPending, endCircuit, closing, closeToRequester, closeToEndpoint, closeTo, pendingIn, revokedCircuit, revokeCircuit, walk, pendingTable, circuitTable, revokeAll}
-use Rattle.hnsr_circuit.specs.RevokingCalls.{closeToOther, disconnectedPending, disconnectPending}
+use Rattle.hnsr_circuit.specs.Revocation.{withoutPending, withoutActions, endPending, endCircuit, closing, closeToRequester, closeToEndpoint, closeTo, pendingIn, revokeCircuitThere, revokeCircuit, walk, pendingTable, circuitTable, revokeAll}
+use Rattle.hnsr_circuit.specs.RevokingCalls.{closeToOther, disconnectPending}
 use Rattle.hnsr_circuit.specs.Laws.Peer.{same-refl}
 use Rattle.hnsr_run.specs.Past.{Known, Asked, Action, Past, onCircuit, tally, heard, emit, openEnded, circuitEnded}
 use Rattle.hnsr_run.specs.History.{askedSide, knownSide, ownOpen, sharedId, atTurn, otherOf, comes, aboutClose, heardOnLeaving}
@@ -37,6 +37,7 @@ use Rattle.hnsr_run.specs.Run.Circuits.{Agrees}
 use Rattle.hnsr_run.specs.Run.Full.{AgreesP, Full, Keeps}
 use Rattle.hnsr_run.specs.Run.Ended.{end-pending}
 use Rattle.hnsr_run.specs.Run.Walks.{when-cases}
+use Rattle.hnsr_run.specs.Run.ByLookup.{byId, disconnected-by-id, circuit-by-id}
 use Rattle.hnsr_run.specs.Run.Ends.{pending-agrees, pending-is, pending-there, disconnecting, labelled-own}
 use Rattle.hnsr_run.specs.Run.Revocations.{walk-pending, walk-circuits, partedOpens}
 use Rattle.hnsr_run.specs.Run.Rel.{can-queue}
@@ -55,9 +56,8 @@ said-is p w h m F a = let A = pending-agrees w h F m a in let q = pending-is w h
     λ i. cond (samePeer (A .requester i) p) (said (A .endpoint i) (q i) (q i)) (said (A .requester i) (q i) (A .context i))
 
 turn-is : {S : ℕ → Bool} (p : HnsrPeerId) (w : World) (h : Past) (m : ℕ) → Full S w h → h .opens .standing m ≡ true
-    → disconnectPending p w m ≡ tell (closeToOther p (pendingIn w m)) (endPending w (pendingAt m) m)
-unfolding disconnectPending disconnectedPending when
-turn-is p w h m F a = ap (λ b. when b (disconnectedPending p m (pendingIn w m)) w) (pending-there w h F m ∙ a)
+    → byId (disconnectPending p) w m ≡ tell (closeToOther p (pendingIn w m)) (endPending w (pendingAt m) m)
+turn-is p w h m F a = disconnected-by-id w m (pending-there w h F m ∙ a) p
 
 -- ---- told exactly where there is capacity
 abbrev left : Message → World → ℕ
@@ -282,7 +282,7 @@ module _ (p : HnsrPeerId) where
               (λ z. subst (λ ms. Then ms → Now ms) (sym (tell-full (said d m x) v some low-v z)) (full z))
               (λ z. subst (λ ms. Then ms → Now ms) (sym (tell-free (said d m x) v some low-v z)) (free z))
 
-        turn-heard : Then (disconnectPending p w m .routes) → Now (disconnectPending p w m .routes)
+        turn-heard : Then (byId (disconnectPending p) w m .routes) → Now (byId (disconnectPending p) w m .routes)
         turn-heard = subst (λ (z : Sent). Then (z .routes) → Now (z .routes)) (sym (turn-is p w h m (K .full) a)) (subst
             (λ (n : Message). Then (tell n v .routes) → Now (tell n v .routes)) (sym (said-is p w h m (K .full) a)) (split (samePeer (k .requester) p) to-endpoint to-requester))
           where
@@ -300,10 +300,10 @@ module _ (p : HnsrPeerId) where
             to-requester e = subst Both (sym e) (heard-now (k .requester) (k .context) (ap (λ b. cond b (k .endpoint) (k .requester)) e) (pending-agrees w h (K .full) m a .some)
                 (λ r on ed ex c. (requester-read h m t leads r on c ed ex e, requester-fits h m t leads r on c ed ex e)))
 
-      more-heard : Heard (disconnectPending p w m .world) (after-turn (disconnectPending p w m .routes)) rs → Heard w h (disconnectPending p w m .routes ++ rs)
+      more-heard : Heard (byId (disconnectPending p) w m .world) (after-turn (byId (disconnectPending p) w m .routes)) rs → Heard w h (byId (disconnectPending p) w m .routes ++ rs)
       more-heard n leads conf shared low =
-          let ms = disconnectPending p w m .routes in
-          let k = disconnect-pending-counts p w m in
+          let ms = byId (disconnectPending p) w m .routes in
+          let k = disconnect-pending-counts p w (placeOf (pendingAt m) (w .pending)) in
           let sum = length-append ms rs in
           let K₁ = disconnecting p .keeps S u w h m (labelled-own (askedSide p) (knownSide p) h) K a s in
           turn-heard leads conf (omega arith) (n (λ j b. leads j (stood j b)) (K₁ .rest .config ∙ sym (K .rest .config) ∙ conf) shared (omega (arith, k .sequence)))
@@ -323,11 +323,12 @@ module _ (p : HnsrPeerId) where
 
   more-shared : {S : ℕ → Bool} (w : World) (h : Past) (m : ℕ) (rs : List Route) → Full S w h → h .active m ≡ true → knownSide p (h .known m) ≡ true
       → All (Shared (emit (circuitEnded h m) own (revokeCircuit PeerDisconnected w m .routes))) rs → All (Shared h) (revokeCircuit PeerDisconnected w m .routes ++ rs)
-  unfolding revokeCircuit revokedCircuit circuitAt
+  unfolding revokeCircuit circuitAt
   more-shared w h m rs F a s n = all-append (Shared h) (revokeCircuit PeerDisconnected w m .routes) rs
       (when-cases (λ (o : Sent). All (Shared h) (o .routes)) (any (circuitAt m) (w .circuits)) _ w
-      (λ e. all-append (Shared h) (tell (closeTo PeerDisconnected (circuitIn w m .requester) m) (endCircuit w m) .routes) _ (tell-shared h m (endCircuit w m) (circuitIn w m
-      .requester) a s (side Requester)) (tell-shared h m _ (circuitIn w m .endpoint) a s (side Endpoint)))
+      (λ e. subst (λ (o : Sent). All (Shared h) (o .routes)) (sym (circuit-by-id w m e PeerDisconnected))
+      (all-append (Shared h) (tell (closeTo PeerDisconnected (circuitIn w m .requester) m) (endCircuit w m) .routes) _ (tell-shared h m (endCircuit w m) (circuitIn w m
+      .requester) a s (side Requester)) (tell-shared h m _ (circuitIn w m .endpoint) a s (side Endpoint))))
       (λ e. tt))
       (all-imp rs (λ r f. (f .0, before r (f .1))) n)
     where
@@ -345,13 +346,13 @@ module _ (p : HnsrPeerId) where
 
   -- ---- both: history's reading is what the machine labelled
   pub leaving-heard : {u : World} (w : World) (h : Past) → Keeps (λ i. knownSide p (h .known i)) u w h → Leads h → configOf w ≡ h .head .config
-      → let o = revokeAll (disconnectPending p) (pendingOf p) (revokeCircuit PeerDisconnected) (circuitOf p) w in
+      → let o = revokeAll (disconnectPending p) (pendingOf p) (revokeCircuitThere PeerDisconnected) (circuitOf p) w in
       sequenceOf w + length (o .routes) < top 64 → heardOnLeaving p h [] (o .routes) ≡ map own (o .routes)
   unfolding revokeAll pendingOf circuitOf
   leaving-heard {u} w h K leads conf low =
       let L = labelled-own (askedSide p) (knownSide p) h in
       let first = walk pendingId pendingTable (pendingOf p) (disconnectPending p) w in
-      let second = walk circuitId circuitTable (circuitOf p) (revokeCircuit PeerDisconnected) (first .world) in
+      let second = walk circuitId circuitTable (circuitOf p) (revokeCircuitThere PeerDisconnected) (first .world) in
       let a = walk-pending (knownSide p) (λ opcode k. true) (λ x. samePeer (x .requester) p || samePeer (x .endpoint) p) (askedSide p) same-open (disconnectPending p)
       (disconnecting p) own S u (λ w h rs. Unit {0}) (λ w h K n. tt) (λ w h m rs K a s l n. tt) (pendingOf p) (λ x. refl) w h (K, L) in
       let b = walk-circuits (askedSide p) (λ opcode k. true) PeerDisconnected (isSide p) (knownSide p) same-circuit own u (λ h rs. All (Shared h) rs) (λ h. tt)

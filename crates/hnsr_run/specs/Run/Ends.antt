@@ -22,14 +22,15 @@ use Rattle.hnsr_circuit.specs.Inflight.{kindNumber}
 use Rattle.hnsr_circuit.specs.Route.{Route}
 use Rattle.hnsr_circuit.specs.Queue.{Message, Sent, opClose, opError, routeFor}
 use Rattle.hnsr_circuit.specs.Packet.{circuitIn}
-use Rattle.hnsr_circuit.specs.Revocation.{withoutPending, withoutActions, endPending, endCircuit, closing, errorToRequester, closeToRequester, closeToEndpoint, closeTo, pendingIn, hasPending, revokedPending, revokePending, revokedCircuit, revokeCircuit}
-use Rattle.hnsr_circuit.specs.RevokingCalls.{closeToOther, disconnectedPending, disconnectPending}
+use Rattle.hnsr_circuit.specs.Revocation.{withoutPending, withoutActions, endPending, endCircuit, closing, errorToRequester, closeToRequester, closeToEndpoint, closeTo, pendingIn, hasPending, revokePending, revokeCircuit}
+use Rattle.hnsr_circuit.specs.RevokingCalls.{closeToOther, disconnectPending}
 use Rattle.hnsr_circuit.specs.Laws.Lookups.{pick-has}
 use Rattle.hnsr_circuit.specs.Laws.Peer.{same-refl}
 use Rattle.hnsr_circuit.specs.Laws.Edits.{edit-clear}
 use Rattle.hnsr_run.specs.Past.{Known, Asked, Action, Past, peerOn, onCircuit, kindFor, heard, emit, openEnded, circuitEnded}
 use Rattle.hnsr_run.specs.History.{askedSide, about}
 use Rattle.hnsr_run.specs.Run.Walks.{when-cases}
+use Rattle.hnsr_run.specs.Run.ByLookup.{byId, revoked-by-id, disconnected-by-id, circuit-by-id}
 use Rattle.hnsr_run.specs.Run.Full.{AgreesP, Full, Keeps, fewer, Quiet, tell-keeps, two-tells, tell-on, two-on, tell-tables, two-tables}
 use Rattle.hnsr_run.specs.Run.Ended.{end-circuit, end-pending}
 
@@ -146,14 +147,14 @@ pub circuit-table : {S : ℕ → Bool} (w : World) (h : Past) → Full S w h →
 unfolding circuitAt
 circuit-table w h F j = edit-clear (circuitAt j) clearCircuit (w .circuits) (F .circs .once j)
 
--- what an end of a pending record has to do
+-- what an end of a pending record has to do, by id
 pub record EndsOne (qo : Asked → Bool) (T : ℕ → Asked → Bool) (end : World → ℕ → Sent) : Type 1 where
   pub keeps : {qc : Known → Bool} {f : Route → Action} (S : ℕ → Bool) (u : World) (w : World) (h : Past) (j : ℕ) → Labelled qo qc T f h → Keeps S u w h
-      → h .opens .standing j ≡ true → qo (h .opens .asked j) ≡ true → Keeps S u (end w j .world) (emit (openEnded h j) f (end w j .routes))
+      → h .opens .standing j ≡ true → qo (h .opens .asked j) ≡ true → Keeps S u (byId end w j .world) (emit (openEnded h j) f (byId end w j .routes))
   pub about : {qc : Known → Bool} {f : Route → Action} {S : ℕ → Bool} (w : World) (h : Past) (j : ℕ) → Labelled qo qc T f h → Full S w h → h .opens .standing j ≡ true
-      → qo (h .opens .asked j) ≡ true → count (non (onCircuit j)) (map f (end w j .routes)) ≡ 0
+      → qo (h .opens .asked j) ≡ true → count (non (onCircuit j)) (map f (byId end w j .routes)) ≡ 0
   pub table : {S : ℕ → Bool} (w : World) (h : Past) (j : ℕ) → Full S w h → h .opens .standing j ≡ true
-      → end w j .world .pending ≡ edit (pendingAt j) clearPending (w .pending)
+      → byId end w j .world .pending ≡ edit (pendingAt j) clearPending (w .pending)
 
 ended-pendings : (w : World) (j : ℕ) → endPending w (pendingAt j) j .pending ≡ edit (pendingAt j) clearPending (w .pending)
 unfolding endPending withoutPending withoutActions
@@ -176,55 +177,51 @@ other-id peer w h F j a = choose (λ (m : Message). eqb (m .circuit) j ≡ true)
     (λ e. pending-id w h F j a)
 
 pub revoking : (qo : Asked → Bool) (n : Notice) → EndsOne qo byError (revokePending n)
-unfolding revokePending revokedPending
 revoking qo n = record {
-  keeps = λ {qc} {f} S u w h j L K a s. when-cases (λ (o : Sent). Keeps S u (o .world) (emit (openEnded h j) f (o .routes))) (hasPending w j) _ w
-      (λ e. let A = pending-agrees w h (K .full) j a in let i = pending-is w h (K .full) j a in
-      two-tells (errorToRequester n (pendingIn w j)) (closeToEndpoint n (pendingIn w j)) (endPending w (pendingAt j) j) (openEnded h j)
-      (end-pending w h j a K) (quiet-error L n _ j a A i refl) (quiet-close L n _ j a A i s))
-      (λ e. clash (pending-there w h (K .full) j ∙ a) e);
-  about = λ {qc} {f} w h j L F a s. when-cases (λ (o : Sent). count (non (onCircuit j)) (map f (o .routes)) ≡ 0) (hasPending w j) _ w
-      (λ e. let A = pending-agrees w h F j a in let i = pending-is w h F j a in
-      two-on (errorToRequester n (pendingIn w j)) (closeToEndpoint n (pendingIn w j)) (endPending w (pendingAt j) j) j (quiet-error L n _ j a A i refl)
-      (quiet-close L n _ j a A i s) (error-id n w h F j a) (close-id n w h F j a))
-      (λ e. refl);
-  table = λ w h j F a. when-cases (λ (s : Sent). s .world .pending ≡ edit (pendingAt j) clearPending (w .pending)) (hasPending w j) _ w
-      (λ e. two-tables (errorToRequester n (pendingIn w j)) (closeToEndpoint n (pendingIn w j)) (endPending w (pendingAt j) j) .pending ∙ ended-pendings w j)
-      (λ e. clash (pending-there w h F j ∙ a) e);
+  keeps = λ {qc} {f} S u w h j L K a s. let A = pending-agrees w h (K .full) j a in let i = pending-is w h (K .full) j a in
+      subst (λ (o : Sent). Keeps S u (o .world) (emit (openEnded h j) f (o .routes))) (sym (revoked-by-id w j (pending-there w h (K .full) j ∙ a) n))
+      (two-tells (errorToRequester n (pendingIn w j)) (closeToEndpoint n (pendingIn w j)) (endPending w (pendingAt j) j) (openEnded h j)
+      (end-pending w h j a K) (quiet-error L n _ j a A i refl) (quiet-close L n _ j a A i s));
+  about = λ {qc} {f} w h j L F a s. let A = pending-agrees w h F j a in let i = pending-is w h F j a in
+      subst (λ (o : Sent). count (non (onCircuit j)) (map f (o .routes)) ≡ 0) (sym (revoked-by-id w j (pending-there w h F j ∙ a) n))
+      (two-on (errorToRequester n (pendingIn w j)) (closeToEndpoint n (pendingIn w j)) (endPending w (pendingAt j) j) j (quiet-error L n _ j a A i refl)
+      (quiet-close L n _ j a A i s) (error-id n w h F j a) (close-id n w h F j a));
+  table = λ w h j F a. ap (λ (o : Sent). o .world .pending) (revoked-by-id w j (pending-there w h F j ∙ a) n)
+      ∙ two-tables (errorToRequester n (pendingIn w j)) (closeToEndpoint n (pendingIn w j)) (endPending w (pendingAt j) j) .pending ∙ ended-pendings w j;
 }
 
 pub disconnecting : (peer : HnsrPeerId) → EndsOne (askedSide peer) (λ opcode k. true) (disconnectPending peer)
-unfolding disconnectPending disconnectedPending
 disconnecting peer = record {
-  keeps = λ {qc} {f} S u w h j L K a s. when-cases (λ (o : Sent). Keeps S u (o .world) (emit (openEnded h j) f (o .routes))) (hasPending w j) _ w
-      (λ e. tell-keeps (closeToOther peer (pendingIn w j)) (endPending w (pendingAt j) j) (openEnded h j) (end-pending w h j a K) (quiet-other peer L _ j a s
-      (pending-agrees w h (K .full) j a) (pending-is w h (K .full) j a)))
-      (λ e. clash (pending-there w h (K .full) j ∙ a) e);
-  about = λ {qc} {f} w h j L F a s. when-cases (λ (o : Sent). count (non (onCircuit j)) (map f (o .routes)) ≡ 0) (hasPending w j) _ w
-      (λ e. tell-on (closeToOther peer (pendingIn w j)) (endPending w (pendingAt j) j) j (quiet-other peer L _ j a s (pending-agrees w h F j a) (pending-is w h F j a))
-      (other-id peer w h F j a))
-      (λ e. refl);
-  table = λ w h j F a. when-cases (λ (s : Sent). s .world .pending ≡ edit (pendingAt j) clearPending (w .pending)) (hasPending w j) _ w
-      (λ e. tell-tables (closeToOther peer (pendingIn w j)) (endPending w (pendingAt j) j) .pending ∙ ended-pendings w j)
-      (λ e. clash (pending-there w h F j ∙ a) e);
+  keeps = λ {qc} {f} S u w h j L K a s.
+      subst (λ (o : Sent). Keeps S u (o .world) (emit (openEnded h j) f (o .routes))) (sym (disconnected-by-id w j (pending-there w h (K .full) j ∙ a) peer))
+      (tell-keeps (closeToOther peer (pendingIn w j)) (endPending w (pendingAt j) j) (openEnded h j) (end-pending w h j a K) (quiet-other peer L _ j a s
+      (pending-agrees w h (K .full) j a) (pending-is w h (K .full) j a)));
+  about = λ {qc} {f} w h j L F a s.
+      subst (λ (o : Sent). count (non (onCircuit j)) (map f (o .routes)) ≡ 0) (sym (disconnected-by-id w j (pending-there w h F j ∙ a) peer))
+      (tell-on (closeToOther peer (pendingIn w j)) (endPending w (pendingAt j) j) j (quiet-other peer L _ j a s (pending-agrees w h F j a) (pending-is w h F j a))
+      (other-id peer w h F j a));
+  table = λ w h j F a. ap (λ (o : Sent). o .world .pending) (disconnected-by-id w j (pending-there w h F j ∙ a) peer)
+      ∙ tell-tables (closeToOther peer (pendingIn w j)) (endPending w (pendingAt j) j) .pending ∙ ended-pendings w j;
 }
 
 pub revoke-circuit : {f : Route → Action} {S : ℕ → Bool} {u : World} (n : Notice) (w : World) (h : Past) (j : ℕ) (S′ : ℕ → Bool) → ((i : ℕ) → S′ i ≡ false → eqb j i ≡ false
     → S i ≡ false) → ((side : RelaySide) → Quiet f (closeTo n (peerAt side (circuitIn w j)) j)) → Keeps S u w h → h .active j ≡ true
     → Keeps S′ u (revokeCircuit n w j .world) (emit (circuitEnded h j) f (revokeCircuit n w j .routes))
-unfolding revokeCircuit revokedCircuit
+unfolding revokeCircuit
 revoke-circuit {f} {S} {u} n w h j S′ sw L K a = when-cases
     (λ (s : Sent). Keeps S′ u (s .world) (emit (circuitEnded h j) f (s .routes))) (any (circuitAt j) (w .circuits)) _ w
-    (λ e. two-tells (closeTo n (circuitIn w j .requester) j) (closeTo n (circuitIn w j .endpoint) j) (endCircuit w j) (circuitEnded h j)
-    (end-circuit w h j S′ sw K) (L Requester) (L Endpoint))
+    (λ e. subst (λ (s : Sent). Keeps S′ u (s .world) (emit (circuitEnded h j) f (s .routes))) (sym (circuit-by-id w j e n))
+    (two-tells (closeTo n (circuitIn w j .requester) j) (closeTo n (circuitIn w j .endpoint) j) (endCircuit w j) (circuitEnded h j)
+    (end-circuit w h j S′ sw K) (L Requester) (L Endpoint)))
     (λ e. clash (circuit-there w h (K .full) j ∙ a) e)
 
 pub circuit-about : {f : Route → Action} (n : Notice) (w : World) (j : ℕ) → ((side : RelaySide) → Quiet f (closeTo n (peerAt side (circuitIn w j)) j))
     → count (non (onCircuit j)) (map f (revokeCircuit n w j .routes)) ≡ 0
-unfolding revokeCircuit revokedCircuit closeTo
+unfolding revokeCircuit closeTo
 circuit-about {f} n w j L = when-cases (λ (s : Sent). count (non (onCircuit j)) (map f (s .routes)) ≡ 0) (any (circuitAt j) (w .circuits)) _ w
-    (λ e. two-on (closeTo n (circuitIn w j .requester) j) (closeTo n (circuitIn w j .endpoint) j) (endCircuit w j) j (L Requester) (L Endpoint)
-    (eq-eqb j j refl) (eq-eqb j j refl))
+    (λ e. subst (λ (s : Sent). count (non (onCircuit j)) (map f (s .routes)) ≡ 0) (sym (circuit-by-id w j e n))
+    (two-on (closeTo n (circuitIn w j .requester) j) (closeTo n (circuitIn w j .endpoint) j) (endCircuit w j) j (L Requester) (L Endpoint)
+    (eq-eqb j j refl) (eq-eqb j j refl)))
     (λ e. refl)
 
 ended-circuits : (w : World) (j : ℕ) → endCircuit w j .circuits ≡ edit (circuitAt j) clearCircuit (w .circuits)
@@ -233,7 +230,8 @@ ended-circuits w j = refl
 
 pub circuit-ended : {S : ℕ → Bool} (n : Notice) (w : World) (h : Past) (j : ℕ) → Full S w h → h .active j ≡ true
     → revokeCircuit n w j .world .circuits ≡ edit (circuitAt j) clearCircuit (w .circuits)
-unfolding revokeCircuit revokedCircuit
+unfolding revokeCircuit
 circuit-ended n w h j F a = when-cases (λ (s : Sent). s .world .circuits ≡ edit (circuitAt j) clearCircuit (w .circuits)) (any (circuitAt j) (w .circuits)) _ w
-    (λ e. two-tables (closeTo n (circuitIn w j .requester) j) (closeTo n (circuitIn w j .endpoint) j) (endCircuit w j) .circuits ∙ ended-circuits w j)
+    (λ e. ap (λ (s : Sent). s .world .circuits) (circuit-by-id w j e n)
+    ∙ two-tables (closeTo n (circuitIn w j .requester) j) (closeTo n (circuitIn w j .endpoint) j) (endCircuit w j) .circuits ∙ ended-circuits w j)
     (λ e. clash (circuit-there w h F j ∙ a) e)

@@ -17,7 +17,7 @@ use Rattle.hnsr_circuit.specs.declared.records.Walked.{Walked}
 use Rattle.hnsr_circuit.specs.declared.answer.HnsrAnswer.{HnsrAnswer}
 use Rattle.hnsr_circuit.specs.declared.answer.HnsrAnswer.the-variants.{Taken, Refused}
 use Rattle.hnsr_circuit.specs.Table.{any, pick, notYet, next}
-use Rattle.hnsr_circuit.specs.Pending.{noPending, pendingId, pendingAt, namedBy}
+use Rattle.hnsr_circuit.specs.Pending.{noPending, pendingId, namedBy}
 use Rattle.hnsr_circuit.specs.Circuits.{circuitId, circuitAt}
 use Rattle.hnsr_circuit.specs.declared.records.InflightKind.{InflightKind}
 use Rattle.hnsr_circuit.specs.declared.records.InflightKind.the-variants.{Incoming, Opened, Data, Control, Close}
@@ -34,8 +34,8 @@ use Rattle.hnsr_circuit.specs.Window.{withWindow, windowWith, handleWindow}
 use Rattle.hnsr_circuit.specs.Close.{closePending, closeCircuit, handleClose}
 use Rattle.hnsr_circuit.specs.Handle.{Handling, OPEN, ACCEPT, DATA, WINDOW, CLOSE, ERROR, other, dispatch, handleGate, handle}
 use Rattle.hnsr_circuit.specs.Acknowledge.{generationAnswer, released, failPending, failIncoming, undelivered, settled, acknowledgeAction, acknowledge}
-use Rattle.hnsr_circuit.specs.Revocation.{withoutActions, withoutPending, endPending, endCircuit, hasPending, pendingIn, revokedPending, revokePending, revokedCircuit, revokeCircuit, walkFrom, walk, pendingTable, circuitTable, revokeAll}
-use Rattle.hnsr_circuit.specs.RevokingCalls.{disconnectedPending, disconnectPending, disconnectPeer, disconnect, revokeUnder, revokeReservation, expireAt, expire, changes, changeAnswer, switched, switchTo, replaceEnabled}
+use Rattle.hnsr_circuit.specs.Revocation.{withoutActions, withoutPending, endPending, endCircuit, endPendingThere, endCircuitThere, hasPending, pendingIn, revokePending, revokeCircuitThere, revokeCircuit, walkFrom, walk, pendingTable, circuitTable, revokeAll}
+use Rattle.hnsr_circuit.specs.RevokingCalls.{disconnectPending, disconnectPeer, disconnect, revokeUnder, revokeReservation, expireAt, expire, changes, changeAnswer, switched, switchTo, replaceEnabled}
 use Rattle.hnsr_circuit.specs.New.{observeTime}
 use Rattle.hnsr_circuit.specs.Status.{status}
 use Rattle.hnsr_circuit.specs.NextDue.{nextDue}
@@ -101,34 +101,43 @@ end-circuit-counts : {rs : List Route} {u : World} (w : World) (id : ℕ) → Co
 unfolding endCircuit withoutActions
 end-circuit-counts w id c = from w refl refl c
 
-revoke-pending-counts : (n : Notice) (w : World) (id : ℕ) → CountedPart w (revokePending n w id)
-unfolding revokePending revokedPending
-revoke-pending-counts n w id = when-cases (CountedPart w) (hasPending w id) _ w
-    (λ e. end-pending-counts w (pendingAt id) id (two-counts _ _ (endPending w (pendingAt id) id))) (λ e. stay w)
+end-pending-there-counts : {rs : List Route} {u : World} (w : World) (place : ℕ) → Counts (endPendingThere w place) u rs → Counts w u rs
+unfolding endPendingThere withoutActions
+end-pending-there-counts w place c = from w refl refl c
 
-pub disconnect-pending-counts : (peer : HnsrPeerId) (w : World) (id : ℕ) → CountedPart w (disconnectPending peer w id)
-unfolding disconnectPending disconnectedPending
-disconnect-pending-counts peer w id = when-cases (CountedPart w) (hasPending w id) _ w
-    (λ e. end-pending-counts w (pendingAt id) id (tell-counts _ (endPending w (pendingAt id) id))) (λ e. stay w)
+end-circuit-there-counts : {rs : List Route} {u : World} (w : World) (place : ℕ) → Counts (endCircuitThere w place) u rs → Counts w u rs
+unfolding endCircuitThere withoutActions
+end-circuit-there-counts w place c = from w refl refl c
+
+revoke-pending-counts : (n : Notice) (w : World) (place : ℕ) → CountedPart w (revokePending n w place)
+unfolding revokePending
+revoke-pending-counts n w place = end-pending-there-counts w place (two-counts _ _ (endPendingThere w place))
+
+pub disconnect-pending-counts : (peer : HnsrPeerId) (w : World) (place : ℕ) → CountedPart w (disconnectPending peer w place)
+unfolding disconnectPending
+disconnect-pending-counts peer w place = end-pending-there-counts w place (tell-counts _ (endPendingThere w place))
+
+revoke-there-counts : (n : Notice) (w : World) (place : ℕ) → CountedPart w (revokeCircuitThere n w place)
+unfolding revokeCircuitThere
+revoke-there-counts n w place = end-circuit-there-counts w place (two-counts _ _ (endCircuitThere w place))
 
 revoke-circuit-counts : (n : Notice) (w : World) (id : ℕ) → CountedPart w (revokeCircuit n w id)
-unfolding revokeCircuit revokedCircuit
-revoke-circuit-counts n w id = when-cases (CountedPart w) (any (circuitAt id) (w .circuits)) _ w
-    (λ e. end-circuit-counts w id (two-counts _ _ (endCircuit w id))) (λ e. stay w)
+unfolding revokeCircuit
+revoke-circuit-counts n w id = when-cases (CountedPart w) (any (circuitAt id) (w .circuits)) _ w (λ e. revoke-there-counts n w _) (λ e. stay w)
 
-module _ {A : Type 0} (idOf : A → ℕ) (table : World → List A) (p : A → Bool) (end : World → ℕ → Sent) (each : (w : World) (id : ℕ) → CountedPart w (end w id)) where
+module _ {A : Type 0} (idOf : A → ℕ) (table : World → List A) (p : A → Bool) (end : World → ℕ → Sent) (each : (w : World) (place : ℕ) → CountedPart w (end w place)) where
   walk-from-counts : (turns : ℕ) (c : Walked) (w : World) → CountedPart w (walkFrom idOf table p end turns c w)
   unfolding walkFrom
   walk-from-counts zero c w = stay w
   walk-from-counts (suc turns) c w = let n = next idOf p c (table w) in
-      when-cases (CountedPart w) (n .taken) _ w (λ e. onward (each w (n .id)) (walk-from-counts turns n (end w (n .id) .world))) (λ e. stay w)
+      when-cases (CountedPart w) (n .taken) _ w (λ e. onward (each w (n .place)) (walk-from-counts turns n (end w (n .place) .world))) (λ e. stay w)
 
   walk-counts : (w : World) → CountedPart w (walk idOf table p end w)
   unfolding walk
   walk-counts w = walk-from-counts (length (table w)) notYet w
 
 revoke-all-counts : (endP : World → ℕ → Sent) (p : RelayPending → Bool) (endC : World → ℕ → Sent) (c : RelayCircuit → Bool) (w : World)
-    → ((w : World) (id : ℕ) → CountedPart w (endP w id)) → ((w : World) (id : ℕ) → CountedPart w (endC w id)) → Counted w (revokeAll endP p endC c w)
+    → ((w : World) (place : ℕ) → CountedPart w (endP w place)) → ((w : World) (place : ℕ) → CountedPart w (endC w place)) → Counted w (revokeAll endP p endC c w)
 unfolding revokeAll
 revoke-all-counts endP p endC c w a b = onward (walk-counts pendingId pendingTable p endP a w) (walk-counts circuitId circuitTable c endC b _)
 
@@ -192,7 +201,7 @@ same-generation w o c = c .sequence ∙ ap (λ b. cond b (sequenceOf w) 1 + leng
 switch-counts : (w : World) (on : Bool) → Counted (switched w on) (switchTo w on)
 unfolding switchTo
 switch-counts w true = stay (switched w true)
-switch-counts w false = revoke-all-counts _ _ _ _ (switched w false) (revoke-pending-counts _) (revoke-circuit-counts _)
+switch-counts w false = revoke-all-counts _ _ _ _ (switched w false) (revoke-pending-counts _) (revoke-there-counts _)
 
 new-generation : (w : World) (on : Bool) (o : Outcome) → Counted (switched w on) o → Numbered w o
 new-generation w on o c = c .sequence ∙ ap (λ b. cond b (sequenceOf w) 1 + length (o .routes)) (sym (ne-eqb (generationOf (o .world)) (generationOf w)
@@ -222,8 +231,8 @@ step-numbered w (callHandle q room) = same-generation w (step w (callHandle q ro
 step-numbered w (callAcknowledge g s delivered room) = same-generation w (step w (callAcknowledge g s delivered room)) (proceed-counts w _ _ _ (stay w)
     (from w refl refl (settled-counts _ _ delivered)))
 step-numbered w (callDisconnect peer room) = same-generation w (step w (callDisconnect peer room)) (proceed-counts w _ _ _ (stay w) (from w refl refl
-    (revoke-all-counts _ _ _ _ _ (disconnect-pending-counts _) (revoke-circuit-counts _))))
+    (revoke-all-counts _ _ _ _ _ (disconnect-pending-counts _) (revoke-there-counts _))))
 step-numbered w (callRevokeReservation id room) = same-generation w (step w (callRevokeReservation id room)) (proceed-counts w _ _ _ (stay w) (from w refl refl
-    (revoke-all-counts _ _ _ _ _ (revoke-pending-counts _) (revoke-circuit-counts _))))
+    (revoke-all-counts _ _ _ _ _ (revoke-pending-counts _) (revoke-there-counts _))))
 step-numbered w (callExpire now room) = same-generation w (step w (callExpire now room)) (proceed-counts w _ _ _ (stay w) (from w refl refl
-    (revoke-all-counts _ _ _ _ _ (revoke-pending-counts _) (revoke-circuit-counts _))))
+    (revoke-all-counts _ _ _ _ _ (revoke-pending-counts _) (revoke-there-counts _))))

@@ -18,16 +18,18 @@ use Rattle.hnsr_circuit.specs.Circuits.{circuitId, circuitAt}
 use Rattle.hnsr_circuit.specs.Route.{Route}
 use Rattle.hnsr_circuit.specs.World.{World}
 use Rattle.hnsr_circuit.specs.Queue.{Sent}
-use Rattle.hnsr_circuit.specs.Revocation.{revokeCircuit, walk, pendingTable, circuitTable, revokeAll}
+use Rattle.hnsr_circuit.specs.Revocation.{revokeCircuitThere, revokeCircuit, walk, pendingTable, circuitTable, revokeAll}
+use Rattle.hnsr_circuit.specs.Laws.Revocation.{revoked-found}
 use Rattle.hnsr_circuit.specs.Laws.Totals.{keep-append, keep-whole}
 use Rattle.hnsr_circuit.specs.Laws.Sweep.{none-ends, none-goes, one-ends, one-goes}
 use Rattle.hnsr_run.specs.Past.{Known, Asked, Action, Past, at, onCircuit, heard, emit, openEnded, circuitEnded}
 use Rattle.hnsr_run.specs.History.{goneOpen, goneCircuit, revoked}
 use Rattle.hnsr_run.specs.Run.Circuits.{Agrees, circuitKeys, none}
 use Rattle.hnsr_run.specs.Run.Walks.{walked}
+use Rattle.hnsr_run.specs.Run.ByLookup.{byId}
 use Rattle.hnsr_run.specs.Run.Ended.{at-false}
 use Rattle.hnsr_run.specs.Run.Full.{AgreesP, pendingKeys, Keeps, map-append, suspending}
-use Rattle.hnsr_run.specs.Run.Ends.{Labelled, still-labelled, quiet-to, pending-table, circuit-table, EndsOne, revoke-circuit, circuit-about, circuit-ended}
+use Rattle.hnsr_run.specs.Run.Ends.{Labelled, still-labelled, quiet-to, pending-table, circuit-table, circuit-there, EndsOne, revoke-circuit, circuit-about, circuit-ended}
 
 -- ---- the walk over the pending records: routes are about ids that are no circuits
 abbrev pub partedOpens : (Route → Action) → Past → (Asked → Bool) → List Route → Past
@@ -66,7 +68,7 @@ module _ (qc : Known → Bool) (T : ℕ → Asked → Bool) (Q : RelayPending �
   }
 
   more-open : (w : World) (h : Past) (m : ℕ) (rs : List Route) → Told w h → h .opens .standing m ≡ true → q (h .opens .asked m) ≡ true
-      → partedOpens f (emit (openEnded h m) f (end w m .routes)) q rs ≡ partedOpens f h q (end w m .routes ++ rs)
+      → partedOpens f (emit (openEnded h m) f (byId end w m .routes)) q rs ≡ partedOpens f h q (byId end w m .routes ++ rs)
   more-open w h m rs K a s = λ i. record {
     head = h .head;
     active = h .active;
@@ -76,32 +78,32 @@ module _ (qc : Known → Bool) (T : ℕ → Asked → Bool) (Q : RelayPending �
     out = outs i;
   }
     where
-      outs : partedOpens f (emit (openEnded h m) f (end w m .routes)) q rs .out ≡ partedOpens f h q (end w m .routes ++ rs) .out
-      outs = one-goes placed q (h .opens .standing) (h .opens .asked) m a s (h .out) (map f (end w m .routes)) (map f rs) (E .about w h m (K .1) (K .0 .full) a s) ∙ ap
-          (λ l. keep (non (goneOpen h q)) (h .out) ++ l) (sym (map-append f (end w m .routes) rs))
+      outs : partedOpens f (emit (openEnded h m) f (byId end w m .routes)) q rs .out ≡ partedOpens f h q (byId end w m .routes ++ rs) .out
+      outs = one-goes placed q (h .opens .standing) (h .opens .asked) m a s (h .out) (map f (byId end w m .routes)) (map f rs) (E .about w h m (K .1) (K .0 .full) a s) ∙ ap
+          (λ l. keep (non (goneOpen h q)) (h .out) ++ l) (sym (map-append f (byId end w m .routes) rs))
 
   J-open : (w : World) (h : Past) (m : ℕ) (rs : List Route) → Told w h → h .opens .standing m ≡ true → q (h .opens .asked m) ≡ true
-      → J (emit (openEnded h m) f (end w m .routes)) rs → J h (end w m .routes ++ rs)
+      → J (emit (openEnded h m) f (byId end w m .routes)) rs → J h (byId end w m .routes ++ rs)
   J-open w h m rs K a s j =
-      let r = map f (end w m .routes) in
+      let r = map f (byId end w m .routes) in
       let y = total-le (one (activeOn h)) (one (non (onCircuit m))) r (λ x. split (eqb m (x .circuit))
       (λ g. let z = ap (λ b. cond {A = ℕ} b 1 0) (ap (h .active) (sym (eqb-true m (x .circuit) g)) ∙ K .0 .full .disjoint m a) in omega arith)
       (λ g. let z = ap (λ b. cond {A = ℕ} (not b) 1 0) (eqb-comm (x .circuit) m ∙ g) in omega (arith, cond-le (activeOn h x)))) in
-      ap (count (activeOn h)) (map-append f (end w m .routes) rs) ∙ omega (arith, total-append (one (activeOn h)) r (map f rs), E .about w h m (K .1) (K .0 .full) a s)
+      ap (count (activeOn h)) (map-append f (byId end w m .routes) rs) ∙ omega (arith, total-append (one (activeOn h)) r (map f rs), E .about w h m (K .1) (K .0 .full) a s)
 
   -- N: what else is to be known of the routes
   pub walk-pending : (N : World → Past → List Route → Type 0)
       → ((w : World) (h : Past) → Told w h → ((i : ℕ) → h .opens .standing i ≡ true → q (h .opens .asked i) ≡ false) → N w h [])
       → ((w : World) (h : Past) (m : ℕ) (rs : List Route) → Told w h → h .opens .standing m ≡ true → q (h .opens .asked m) ≡ true
       → ((i : ℕ) → h .opens .standing i ≡ true → q (h .opens .asked i) ≡ true → m ≤ i)
-      → N (end w m .world) (emit (openEnded h m) f (end w m .routes)) rs → N w h (end w m .routes ++ rs))
+      → N (byId end w m .world) (emit (openEnded h m) f (byId end w m .routes)) rs → N w h (byId end w m .routes ++ rs))
       → (p : RelayPending → Bool) → ((x : RelayPending) → p x ≡ (x .used && Q x)) → (w : World) (h : Past) → Told w h
       → Told (walk pendingId pendingTable p end w .world) (partedOpens f h q (walk pendingId pendingTable p end w .routes)) × (J h
       (walk pendingId pendingTable p end w .routes) × N w h (walk pendingId pendingTable p end w .routes))
   unfolding pendingAt
-  walk-pending N N-none N-more p same w h K = walked pendingKeys (λ i j. refl) Q q same-q pendingTable end Told (λ h. h .opens .standing) (λ h. h .opens .asked)
+  walk-pending N N-none N-more p same w h K = walked pendingKeys (λ i j. refl) Q q same-q pendingTable end (byId end) Told (λ h. h .opens .standing) (λ h. h .opens .asked)
       (λ h m rs. emit (openEnded h m) f rs) (λ h rs. partedOpens f h q rs) (λ w h rs. J h rs × N w h rs)
-      (λ w h K. K .0 .full .pends)
+      (λ w h K. K .0 .full .pends) (λ w h m K a. refl)
       (λ w h m K a s. (E .keeps S u w h m (K .1) (K .0) a s, still-labelled (K .1) (h .active) (at m false (h .opens .standing)) _ (λ i x. x) (at-false m (h .opens .standing))))
       (λ w h m K a. E .table w h m (K .0 .full) a ∙ pending-table w h (K .0 .full) m)
       (λ h m rs i. refl) (λ h m rs. refl) none-open more-open (λ w h K free. (refl, N-none w h K free))
@@ -152,13 +154,13 @@ module _ (qo : Asked → Bool) (T : ℕ → Asked → Bool) (n : Notice) (Q : Re
       → ((w : World) (h : Past) (m : ℕ) (rs : List Route) → Going w h → h .active m ≡ true → q (h .known m) ≡ true
       → N (emit (circuitEnded h m) f (revokeCircuit n w m .routes)) rs → N h (revokeCircuit n w m .routes ++ rs))
       → (p : RelayCircuit → Bool) → ((x : RelayCircuit) → p x ≡ (x .used && Q x)) → (w : World) (h : Past) → Going w h
-      → Keeps (λ i. q (h .known i)) u (walk circuitId circuitTable p (revokeCircuit n) w .world) (partedCircuits f h q (walk circuitId circuitTable p
-      (revokeCircuit n) w .routes)) × N h (walk circuitId circuitTable p (revokeCircuit n) w .routes)
+      → Keeps (λ i. q (h .known i)) u (walk circuitId circuitTable p (revokeCircuitThere n) w .world) (partedCircuits f h q (walk circuitId circuitTable p
+      (revokeCircuitThere n) w .routes)) × N h (walk circuitId circuitTable p (revokeCircuitThere n) w .routes)
   unfolding circuitAt
   walk-circuits N N-none N-more p same w h K =
-      let r = walked circuitKeys (λ i j. refl) Q q same-q circuitTable (revokeCircuit n) Going (λ h. h .active) (λ h. h .known)
+      let r = walked circuitKeys (λ i j. refl) Q q same-q circuitTable (revokeCircuitThere n) (revokeCircuit n) Going (λ h. h .active) (λ h. h .known)
       (λ h m rs. emit (circuitEnded h m) f rs) (λ h rs. partedCircuits f h q rs) (λ w h rs. N h rs)
-      (λ w h K. K .0 .full .circs)
+      (λ w h K. K .0 .full .circs) (λ w h m K a. sym (revoked-found n w m (circuit-there w h (K .0 .full) m ∙ a)))
       (λ w h m K a s. (
         revoke-circuit n w h m (λ i. q (h .known i)) (λ i t e. t) (quiet-to (K .1) n w m (K .0 .full) a s) (K .0) a,
         still-labelled (K .1) (at m false (h .active)) (h .opens .standing) _ (at-false m (h .active)) (λ i x. x),
@@ -210,7 +212,7 @@ pub revoke-all : {S : ℕ → Bool} {u : World} (T : ℕ → Asked → Bool) (to
     → (c : RelayCircuit → Bool) (C : RelayCircuit → Bool) (qc : Known → Bool) → ((x : RelayCircuit) → c x ≡ (x .used && C x)) → ((x : RelayCircuit)
     (k : Known) → Agrees x k → C x ≡ qc k)
     → ((i : ℕ) → S i ≡ true → h .active i ≡ true → qc (h .known i) ≡ true) → EndsOne qo T end → Labelled qo qc T (heard told) h → Keeps S u w h
-    → Keeps none u (revokeAll end p (revokeCircuit n) c w .world) (revoked h qo qc (map (heard told) (revokeAll end p (revokeCircuit n) c w .routes)))
+    → Keeps none u (revokeAll end p (revokeCircuitThere n) c w .world) (revoked h qo qc (map (heard told) (revokeAll end p (revokeCircuitThere n) c w .routes)))
 unfolding revokeAll
 revoke-all {S} {u} T told w h end n p Q qo ep sp c C qc ec sc sus E L K =
     let f = heard told in
@@ -224,7 +226,7 @@ revoke-all {S} {u} T told w h end n p Q qo ep sp c C qc ec sc sus E L K =
       },
       a .0 .1,
     ) in
-    let second = walk circuitId circuitTable c (revokeCircuit n) (first .world) in
+    let second = walk circuitId circuitTable c (revokeCircuitThere n) (first .world) in
     subst (λ k. Keeps none u (second .world) k) (both-path told h qo qc (first .routes) (second .routes) (a .1 .0)) (record {
       full = suspending
           (λ j s t. not-true (qc (h .known j)) (both (h .active j) (not (qc (h .known j))) t .1)) (b .0 .full);

@@ -1,5 +1,6 @@
 -- A walk of the machine ends, by ascending id, every record that has a property: so what it does to an invariant is what one end does, over and over,
--- and what it does to the past is one sweep. Generic over the table and the end.
+-- and what it does to the past is one sweep. Generic over the table and the end. No two used records share an id, so the record at the walk's place
+-- is the one of its id.
 use Prim.Native.Nat.{ℕ, zero, suc, _≤_, _<_}
 use native.Mathlib.Omega.{arith}
 use mathlib.Core.Path.{_≡_, refl, sym, ap, _∙_, subst}
@@ -12,13 +13,14 @@ use Rattle.hns_encoding.specs.Laws.Tests.{split, both, join, clash}
 use Rattle.hns_encoding.specs.Sums.{count}
 use Rattle.hns_encoding.specs.Laws.Sums.{count-length}
 use Rattle.hnsr_circuit.specs.declared.records.Walked.{Walked}
-use Rattle.hnsr_circuit.specs.Table.{any, clear, lowest, notYet, next}
+use Rattle.hnsr_circuit.specs.Table.{any, placeOf, clear, lowest, notYet, next}
 use Rattle.hnsr_circuit.specs.Route.{Route}
 use Rattle.hnsr_circuit.specs.World.{World}
 use Rattle.hnsr_circuit.specs.Queue.{Sent, silently, andThen, when}
 use Rattle.hnsr_circuit.specs.Revocation.{walkFrom, walk}
 use Rattle.hnsr_circuit.specs.Laws.Lookups.{pick-has, count-none, any-imp}
 use Rattle.hnsr_circuit.specs.Laws.Lowest.{lowest-least}
+use Rattle.hnsr_circuit.specs.Laws.Walks.{next-found}
 use Rattle.hnsr_circuit.specs.Laws.WalkOrder.{behind, next-lowest}
 use Rattle.hnsr_circuit.specs.Laws.Keyed.{Keys, Tells, keyed, look, seen, shown, keyOf}
 use Rattle.hnsr_circuit.specs.Laws.Sweep.{having, least, least-at, least-stands, least-has, none-has, fewer}
@@ -108,9 +110,10 @@ module _ {A K : Type 0} (X : Keys A ℕ K) (by : (i j : ℕ) → eqb i j ≡ X .
       has : ltb i m ≡ true → low (look X t i) ≡ true
       has l = join (Q (look X t i)) (ltb (X .key (look X t i)) m) (same-q (look X t i) (kn i) (T .agree i stood) ∙ s) (ap (λ n. ltb n m) own ∙ l)
 
-  module _ (table : World → List A) (end : World → ℕ → Sent) (I : World → Past → Type 0) (st : Past → ℕ → Bool) (kn : Past → ℕ → K)
+  module _ (table : World → List A) (there end : World → ℕ → Sent) (I : World → Past → Type 0) (st : Past → ℕ → Bool) (kn : Past → ℕ → K)
       (fin : Past → ℕ → List Route → Past) (swept : Past → List Route → Past) (J : World → Past → List Route → Type 0)
       (tells : (w : World) (h : Past) → I w h → Tells X (table w) (st h) (kn h))
+      (same-end : (w : World) (h : Past) (m : ℕ) → I w h → st h m ≡ true → there w (placeOf (keyed X m) (table w)) ≡ end w m)
       (turn : (w : World) (h : Past) (m : ℕ) → I w h → st h m ≡ true → q (kn h m) ≡ true → I (end w m .world) (fin h m (end w m .routes)))
       (turn-table : (w : World) (h : Past) (m : ℕ) → I w h → st h m ≡ true → table (end w m .world) ≡ clear (X .unmark) (keyed X m) (table w))
       (fin-st : (h : Past) (m : ℕ) (rs : List Route) (i : ℕ) → st (fin h m rs) i ≡ cond (eqb m i) false (st h i))
@@ -122,7 +125,7 @@ module _ {A K : Type 0} (X : Keys A ℕ K) (by : (i j : ℕ) → eqb i j ≡ X .
       (J-more : (w : World) (h : Past) (m : ℕ) (rs : List Route) → I w h → st h m ≡ true → q (kn h m) ≡ true
       → ((i : ℕ) → st h i ≡ true → q (kn h i) ≡ true → m ≤ i) → J (end w m .world) (fin h m (end w m .routes)) rs → J w h (end w m .routes ++ rs)) where
     abbrev goes : ℕ → Walked → World → Sent
-    goes turns c w = walkFrom (X .key) table (having X by Q) end turns c w
+    goes turns c w = walkFrom (X .key) table (having X by Q) there turns c w
 
     stop : (w : World) (h : Past) → I w h → any (having X by Q) (table w) ≡ false → I w (swept h []) × J w h []
     stop w h R n = let free = none-has X by Q q same-q (tells w h R) n in (subst (λ g. I w g) (sym (none h free)) R, J-none w h R free)
@@ -137,13 +140,27 @@ module _ {A K : Type 0} (X : Keys A ℕ K) (by : (i j : ℕ) → eqb i j ≡ X .
     unfolding walkFrom
     walk-from zero c w h R l b = stop w h R (count-none (having X by Q) (table w) (omega arith))
     walk-from (suc turns) c w h R l b = when-cases (λ (s : Sent). I (s .world) (swept h (s .routes)) × J w h (s .routes)) (N .taken)
-        (λ v. andThen (end v (N .id)) (goes turns N)) w (λ e. one-turn e (walk-from turns)) (λ e. stop w h R (sym (nl .0) ∙ e))
+        (λ v. andThen (there v (N .place)) (goes turns N)) w (λ e. subst Turned (sym (same e)) (one-turn e (walk-from turns))) (λ e. stop w h R (sym (nl .0) ∙ e))
       where
         N : Walked
         N = next (X .key) (having X by Q) c (table w)
 
         nl : (N .taken ≡ any (having X by Q) (table w)) × (any (having X by Q) (table w) ≡ true → N .id ≡ lowest (having X by Q) (X .key) (table w))
         nl = next-lowest (X .key) (having X by Q) c (table w) b
+
+        Turned : Sent → Type 0
+        Turned s = let r = andThen s (goes turns N) in I (r .world) (swept h (r .routes)) × J w h (r .routes)
+
+        -- what stands at the walk's place is the record of its id
+        named : (a : A) → having X by Q a ≡ true → keyed X (X .key a) a ≡ true
+        named a k = join (X .used a) (X .same (X .key a) (X .key a)) (both (X .used a) (Q a) k .0) (X .same-refl (X .key a))
+
+        stands : N .taken ≡ true → st h (N .id) ≡ true
+        stands e = let some = sym (nl .0) ∙ e in ap (st h) (nl .1 some) ∙ least-stands X by Q q same-q (tells w h R) some
+
+        same : N .taken ≡ true → there w (N .place) ≡ end w (N .id)
+        same e = ap (there w) (sym (next-found (X .key) (having X by Q) c (keyed X) named (table w) (X .nobody) (tells w h R .once) e))
+            ∙ same-end w h (N .id) R (stands e)
 
         one-turn : N .taken ≡ true → Goes turns
             → I (goes turns N (end w (N .id) .world) .world) (swept h (end w (N .id) .routes ++ goes turns N (end w (N .id) .world) .routes)) × J w h (end w
@@ -153,7 +170,7 @@ module _ {A K : Type 0} (X : Keys A ℕ K) (by : (i j : ℕ) → eqb i j ≡ X .
             let m = N .id in
             let lo : m ≡ least X by Q (table w) = nl .1 some in
             let T = tells w h R in
-            let a : st h m ≡ true = ap (st h) lo ∙ least-stands X by Q q same-q T some in
+            let a : st h m ≡ true = stands e in
             let s : q (kn h m) ≡ true = ap (λ i. q (kn h i)) lo ∙ least-has X by Q q same-q T some in
             let R₁ = turn w h m R a s in
             let rs = end w m .routes in
@@ -175,10 +192,10 @@ module _ {A K : Type 0} (X : Keys A ℕ K) (by : (i j : ℕ) → eqb i j ≡ X .
             )
 
     pub walked : (p : A → Bool) → ((a : A) → p a ≡ having X by Q a) → (w : World) (h : Past) → I w h
-        → I (walk (X .key) table p end w .world) (swept h (walk (X .key) table p end w .routes)) × J w h (walk (X .key) table p end w .routes)
+        → I (walk (X .key) table p there w .world) (swept h (walk (X .key) table p there w .routes)) × J w h (walk (X .key) table p there w .routes)
     unfolding walk
-    walked p same w h R = subst (λ (p : A → Bool). I (walkFrom (X .key) table p end (length (table w)) notYet w .world) (swept h (walkFrom (X .key) table p end
-        (length (table w)) notYet w .routes)) × J w h (walkFrom (X .key) table p end (length (table w)) notYet w .routes)) (sym (λ i a. same a i))
+    walked p same w h R = subst (λ (p : A → Bool). I (walkFrom (X .key) table p there (length (table w)) notYet w .world) (swept h (walkFrom (X .key) table p there
+        (length (table w)) notYet w .routes)) × J w h (walkFrom (X .key) table p there (length (table w)) notYet w .routes)) (sym (λ i a. same a i))
         (walk-from (length (table w)) notYet w h R (count-length (having X by Q) (table w)) (nothing-behind (table w)))
       where
         nothing-behind : (t : List A) → any (behind (X .key) (having X by Q) notYet) t ≡ false

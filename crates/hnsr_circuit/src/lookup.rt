@@ -6,7 +6,6 @@ ghost use lib.ListN.{set, getD};
 ghost use Rattle.hnsr_circuit.specs.Question.{at};
 ghost use Rattle.hnsr_circuit.specs.Held.{heldPending, heldCircuits, heldLedger, heldActions};
 ghost use Rattle.hnsr_circuit.specs.Table.{edit};
-ghost use Rattle.hnsr_circuit.specs.Inflight.{actionUnder, dropped};
 ghost use Rattle.hnsr_circuit.specs.Ledger.{noUsage, usageAt, clearUsage, spent, lapsed};
 ghost use Rattle.hnsr_circuit.specs.Lookup.{pendingFound, circuitFound, usageFound, actionFound};
 use crate::ledger::usage_spent;
@@ -15,7 +14,6 @@ use crate::places::Places;
 use crate::places::places_of;
 use crate::question::at_reservation;
 use crate::question::over;
-use crate::question::under_circuit;
 use crate::records::ActionFound;
 use crate::records::CircuitFound;
 use crate::records::InflightAction;
@@ -26,11 +24,9 @@ use crate::records::RelayPending;
 use crate::records::ReservationUsage;
 use crate::records::UsageFound;
 use crate::tables::circuits::circuit_at;
-use crate::tables::circuits::find_circuit;
 use crate::tables::circuits::find_circuit_id;
 use crate::tables::circuits::trim_circuits;
 use crate::tables::inflight::action_at;
-use crate::tables::inflight::clear_action;
 use crate::tables::inflight::find_action;
 use crate::tables::inflight::trim_actions;
 use crate::tables::ledger::clear_usage;
@@ -72,15 +68,7 @@ fn circuit_found(place: usize, places: usize, circuit: RelayCircuit) -> CircuitF
     }
 }
 
-pub(crate) fn look_up_circuit(circuits: &[RelayCircuit], places: Places, question: Question) -> CircuitFound
-    ensures { λ r. ⌜ r ≡ circuitFound question (heldCircuits places (now (circuits .entry))) ⌝ }
-{
-    let place = find_circuit(circuits, places, question);
-    let row = circuit_at(circuits, places, place);
-    circuit_found(place, circuits.len(), row)
-}
-
-// By id, which every call but one goes by: a lookup reads ids and marks alone.
+// By id: a lookup reads ids and marks alone.
 pub(crate) fn pending_by_id(pending: &[RelayPending], places: Places, id: u64) -> PendingFound
     ensures { λ r. ⌜ r ≡ pendingFound (at id 0) (heldPending places (now (pending .entry))) ⌝ }
 {
@@ -136,16 +124,6 @@ pub(crate) fn look_up_action(
     let place = find_action(inflight, places, generation, sequence);
     let row = action_at(inflight, places, place);
     action_found(place, inflight.len(), row)
-}
-
-// The actions of a circuit, dropped.
-pub(crate) fn drop_actions(inflight: &mut [InflightAction], places: Places, go: bool, id: u64)
-    ensures { λ _. ⌜ heldActions places (now (inflight .exit)) ≡ cond go (dropped (actionUnder id) (heldActions places (now (inflight .entry)))) (heldActions places (now (inflight .entry))) ⌝ }
-{
-    let question = under_circuit(id);
-    if go {
-        clear_action(inflight, places, question);
-    }
 }
 
 // Ledger records with expiry not after now, dropped.

@@ -1,6 +1,6 @@
 // What a scan of a table asks of each row: the questions by value, and what each means in each table.
 ghost use mathlib.Core.Path.{_≡_};
-ghost use Rattle.hnsr_circuit.specs.Question.{unused, used, at, atReservation, named, ofPeer, under, underCircuit, over, pendingHas, circuitHas, usageHas, actionHas};
+ghost use Rattle.hnsr_circuit.specs.Question.{unused, used, at, atReservation, named, ofPeer, under, over, pendingHas, circuitHas, usageHas, actionHas};
 use crate::circuits::circuit_is;
 use crate::circuits::circuit_of;
 use crate::circuits::circuit_over;
@@ -119,19 +119,6 @@ pub(crate) fn under(id: ReservationId) -> Question
         second: 0,
         peer: no_peer(),
         reservation: id,
-    }
-}
-
-// An action's is by circuit id.
-pub(crate) fn under_circuit(id: u64) -> Question
-    ensures { λ r. ⌜ r ≡ underCircuit id ⌝ }
-{
-    Question {
-        ask: Ask::Under,
-        number: id,
-        second: 0,
-        peer: no_peer(),
-        reservation: NO_RESERVATION,
     }
 }
 

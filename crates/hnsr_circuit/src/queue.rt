@@ -1,16 +1,17 @@
 // Queueing: a message becomes a route and an outstanding action (document 01, "Where a call is turned away", last row).
 ghost use mathlib.Core.Path.{_≡_};
-ghost use mathlib.Core.Bool.{cond, false};
+ghost use mathlib.Core.Bool.{cond, true, false};
 ghost use mathlib.Core.List.{List, []};
 ghost use Prim.Native.Nat.{_+_, _<_};
 ghost use lib.ListN.{length};
 ghost use Rattle.hnsr_body.specs.Messages.{noticeBody};
-ghost use Rattle.hnsr_circuit.specs.Held.{heldActions, worldSeen, handedSeen, underwaySeen};
+ghost use Rattle.hnsr_circuit.specs.Inflight.{actionUnder, dropped};
+ghost use Rattle.hnsr_circuit.specs.Held.{heldActions, worldSeen, handedSeen, underwaySeen, heldPending, heldCircuits, heldLedger};
 ghost use Rattle.hnsr_circuit.specs.Answers.{taken, _then_};
 ghost use Rattle.hnsr_circuit.specs.Queue.{queueAnswer, actionFor, routeFor, actionsScanned, send, tell, when};
 ghost use Rattle.hnsr_circuit.specs.Header.{withSequence};
 ghost use Rattle.hnsr_circuit.specs.World.{proceed};
-ghost use Rattle.hnsr_circuit.specs.Progress.{messageOf, ending, advance, asking, scanPlace};
+ghost use Rattle.hnsr_circuit.specs.Progress.{messageOf, ending, advance, asking, scanPlace, underway};
 ghost use Rattle.hnsr_circuit.specs.Queueing.{Queueing};
 ghost use Rattle.hnsr_circuit.specs.Route.{headWords, routeWords};
 ghost use Rattle.hns_encoding.specs.Numbers.{saturatingAdd};
@@ -41,6 +42,7 @@ use crate::route::route_size;
 use crate::runtime::OpaqueRelayRuntime;
 use crate::runtime::Relayed;
 use crate::runtime::Sending;
+use crate::tables::inflight::drop_and_scan;
 use crate::tables::inflight::scan_actions;
 use crate::tables::inflight::set_action;
 use hns_encoding::numbers::saturating_add_u64;
@@ -271,23 +273,22 @@ pub(crate) fn send(
 }
 
 // A part of a call that cannot be refused: a message that cannot be formed, or finds no capacity or no sequence number, is skipped silently.
-pub(crate) fn tell(
+pub(crate) fn tell_scanned(
     inflight: &mut [InflightAction],
     out: &mut [u32],
     go: bool,
     sending: Sending,
     message: Outgoing,
+    scan: ActionScan,
     body: &[u8],
 ) -> Sending
-    requires { ⌜ length (now body) < 65536 ⌝ }
+    requires { ⌜ (scan ≡ actionsScanned (asking (sending .runtime) message) (heldActions (sending .places) (now inflight))) × (length (now body) < 65536) ⌝ }
     ensures { λ r. ⌜ ((p : List RelayPending) (c : List RelayCircuit) (l : List ReservationUsage) → underwaySeen r p c l (now (inflight .exit)) (now (out .exit)) ≡ advance (when go (tell (messageOf message (now (body .entry))))) (underwaySeen sending p c l (now (inflight .entry)) (now (out .entry)))) ⌝ }
 {
     let runtime = sending.runtime;
     let at = sending.position;
     let places = sending.places;
     let size = inflight.len();
-    let question = asking(runtime, message);
-    let scan = scan_actions(inflight, places, question);
     let before = going(go);
     let queued = queue(before, runtime, message, scan);
     let action = queued_action(queued);
@@ -301,6 +302,35 @@ pub(crate) fn tell(
     sending_on(queued, position, after)
 }
 
+// A message of the relay's own, the actions of its record dropped before it, in the same pass.
+pub(crate) fn drop_and_tell(
+    inflight: &mut [InflightAction],
+    out: &mut [u32],
+    sending: Sending,
+    id: u64,
+    message: Outgoing,
+    notice: Notice,
+) -> Sending
+    ensures { λ r. ⌜ ((p : List RelayPending) (c : List RelayCircuit) (l : List ReservationUsage) → underwaySeen r p c l (now (inflight .exit)) (now (out .exit)) ≡ advance (when true (tell (messageOf message (noticeBody notice)))) (underway sending (heldPending (sending .places) p) (heldCircuits (sending .places) c) (heldLedger (sending .places) l) (dropped (actionUnder id) (heldActions (sending .places) (now (inflight .entry)))) (now (out .entry)))) ⌝ }
+{
+    let runtime = sending.runtime;
+    let places = sending.places;
+    let question = asking(runtime, message);
+    let scan = drop_and_scan(inflight, places, id, question);
+    let written = notice.encode();
+    let bytes = written.bytes;
+    let length = written.length;
+    tell_scanned(
+        inflight,
+        out,
+        true,
+        sending,
+        message,
+        scan,
+        &bytes[..length],
+    )
+}
+
 // A message of the relay's own.
 pub(crate) fn tell_notice(
     inflight: &mut [InflightAction],
@@ -312,8 +342,20 @@ pub(crate) fn tell_notice(
 ) -> Sending
     ensures { λ r. ⌜ ((p : List RelayPending) (c : List RelayCircuit) (l : List ReservationUsage) → underwaySeen r p c l (now (inflight .exit)) (now (out .exit)) ≡ advance (when go (tell (messageOf message (noticeBody notice)))) (underwaySeen sending p c l (now (inflight .entry)) (now (out .entry)))) ⌝ }
 {
+    let runtime = sending.runtime;
+    let places = sending.places;
+    let question = asking(runtime, message);
+    let scan = scan_actions(inflight, places, question);
     let written = notice.encode();
     let bytes = written.bytes;
     let length = written.length;
-    tell(inflight, out, go, sending, message, &bytes[..length])
+    tell_scanned(
+        inflight,
+        out,
+        go,
+        sending,
+        message,
+        scan,
+        &bytes[..length],
+    )
 }

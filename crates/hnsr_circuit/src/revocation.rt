@@ -19,12 +19,11 @@ ghost use Rattle.hnsr_circuit.specs.Revoking.{closingOut, closeSide, err
 use crate::answer::HnsrAnswer;
 use crate::circuits::circuit_unmarked;
 use crate::header::revoked;
-use crate::lookup::drop_actions;
 use crate::peer::HnsrPeerId;
 use crate::peer::same_peer;
 use crate::pending::pending_unmarked;
 use crate::places::Places;
-use crate::question::at;
+use crate::queue::drop_and_tell;
 use crate::queue::tell_notice;
 use crate::records::InflightAction;
 use crate::records::InflightKind;
@@ -38,7 +37,7 @@ use crate::runtime::Relayed;
 use crate::runtime::Sending;
 use crate::scan::not_yet;
 use crate::tables::circuits::circuit_at;
-use crate::tables::circuits::find_circuit;
+use crate::tables::circuits::find_circuit_id;
 use crate::tables::circuits::next_circuit;
 use crate::tables::circuits::set_circuit;
 use crate::tables::pending::next_pending;
@@ -204,8 +203,7 @@ pub(crate) fn revoke_pending(
     let first = plan.first;
     let second = plan.second;
     set_pending(pending, true, place, gone);
-    drop_actions(inflight, places, true, plan.id);
-    let told = tell_notice(inflight, out, true, after, first, notice);
+    let told = drop_and_tell(inflight, out, after, plan.id, first, notice);
     tell_notice(inflight, out, plan.also, told, second, notice)
 }
 
@@ -246,8 +244,7 @@ pub(crate) fn revoke_circuit(
     let first = plan.first;
     let second = plan.second;
     set_circuit(circuits, true, place, gone);
-    drop_actions(inflight, places, true, plan.id);
-    let told = tell_notice(inflight, out, true, after, first, notice);
+    let told = drop_and_tell(inflight, out, after, plan.id, first, notice);
     tell_notice(inflight, out, plan.also, told, second, notice)
 }
 
@@ -365,8 +362,7 @@ pub(crate) fn revoke_one(
     ensures { λ r. ⌜ ((p : List RelayPending) (l : List ReservationUsage) → handedSeen r p (now (circuits .exit)) l (now (inflight .exit)) (now (out .exit)) ≡ ending (now (out .entry)) (finished (revokeCircuit notice (worldSeen runtime places p (now (circuits .entry)) l (now (inflight .entry))) id))) ⌝ }
 {
     let start = started(runtime, places);
-    let question = at(id, 0);
-    let place = find_circuit(circuits, places, question);
+    let place = find_circuit_id(circuits, places, id);
     if place < circuits.len() {
         let told = revoke_circuit(circuits, inflight, out, start, notice, place);
         return finished(told);

@@ -1,3 +1,4 @@
+pub mod drop_and_tell
 pub mod send
-pub mod tell
 pub mod tell_notice
+pub mod tell_scanned

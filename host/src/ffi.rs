@@ -1,8 +1,9 @@
-//! The archive's C functions, and the structs that only pass between; and one of the C library. A slice is passed as its pointer and
-//! its length. All that is unsafe stands here.
+//! The archive's C functions, and the structs that only pass between; one of the C library; and memory that is zero from the start. A
+//! slice is passed as its pointer and its length. All that is unsafe stands here.
 pub mod body;
 #[cfg(test)]
 mod layout;
+pub mod memory;
 pub mod random;
 pub mod relay;
 

@@ -4,6 +4,9 @@
 //! refusal. [`Routes`](crate::Routes) reads the words. What a refusal leaves is document 01's: the output always, and the tables
 //! and the header but where it says otherwise.
 //!
+//! With the tables go four numbers, [`Places`]: of each table how many places are in use. A call takes them from the tables and puts
+//! them back there, so a host has only to store them with the records.
+//!
 //! ```
 //! use lekchnam_host::lent::{self, Tables};
 //! use lekchnam_host::{HnsrRuntimeError, OpaqueRelayConfig};
@@ -16,6 +19,7 @@
 //! assert_eq!(lent::expire(&mut tables, &mut out, &mut runtime, 100), Err(HnsrRuntimeError::ClockRollback));
 //! # Ok::<(), HnsrRuntimeError>(())
 //! ```
+mod places;
 mod records;
 mod tables;
 
@@ -26,12 +30,13 @@ use crate::ffi::Cause;
 use crate::route::HnsrActionId;
 use crate::status::HnsrRuntimeStatus;
 
+pub use places::Places;
 pub use records::{
     InflightAction, RelayCircuit, RelayPacket, RelayPending, RelayTicket, ReservationId, ReservationUsage, Runtime,
     RuntimeCounters, StoredPeer,
 };
 pub(crate) use tables::unused;
-pub use tables::{Tables, CLOSING_WORDS, HANDLE_WORDS};
+pub use tables::{InUse, Tables, CLOSING_WORDS, HANDLE_WORDS};
 
 /// A packet, and what the host hands over with it.
 #[derive(Clone, Copy, Debug, Default, Eq, PartialEq)]
@@ -48,7 +53,8 @@ pub struct Packet<'a> {
     pub random: &'a [u8],
 }
 
-/// Makes a relay: marks every place unused, and gives its header. A refusal leaves the tables.
+/// Makes a relay: sets the numbers of places in use to 0, so that every place is unused, and gives its header. No place is read or
+/// written, whatever stands there. A refusal leaves the numbers.
 pub fn new(
     tables: &mut Tables,
     session: [u8; 16],
@@ -57,7 +63,9 @@ pub fn new(
     now: u64,
 ) -> Result<Runtime, HnsrRuntimeError> {
     let reply = ffi::new(tables, session, generation, config, now);
-    answered(reply.answer, reply.cause).map(|()| reply.runtime)
+    answered(reply.answer, reply.cause)?;
+    tables.places = reply.places;
+    Ok(reply.runtime)
 }
 
 /// Takes a packet.
@@ -68,7 +76,7 @@ pub fn handle(
     packet: &Packet<'_>,
 ) -> Result<usize, HnsrRuntimeError> {
     let reply = ffi::handle(tables, out, *runtime, packet);
-    kept(runtime, reply)
+    kept(tables, runtime, reply)
 }
 
 /// Takes the word that a route was delivered, or was not.
@@ -80,13 +88,13 @@ pub fn acknowledge(
     delivered: bool,
 ) -> Result<usize, HnsrRuntimeError> {
     let reply = ffi::acknowledge(tables, out, *runtime, action_id, delivered);
-    kept(runtime, reply)
+    kept(tables, runtime, reply)
 }
 
 /// Ends all that a peer is a side of.
 pub fn disconnect(tables: &mut Tables, out: &mut [u32], runtime: &mut Runtime, peer: &[u8]) -> Result<usize, HnsrRuntimeError> {
     let reply = ffi::disconnect(tables, out, *runtime, peer);
-    kept(runtime, reply)
+    kept(tables, runtime, reply)
 }
 
 /// Ends all that goes by a reservation.
@@ -97,13 +105,13 @@ pub fn revoke_reservation(
     reservation_id: ReservationId,
 ) -> Result<usize, HnsrRuntimeError> {
     let reply = ffi::revoke_reservation(tables, out, *runtime, reservation_id);
-    kept(runtime, reply)
+    kept(tables, runtime, reply)
 }
 
 /// Moves the clock and ends all whose time is over.
 pub fn expire(tables: &mut Tables, out: &mut [u32], runtime: &mut Runtime, now: u64) -> Result<usize, HnsrRuntimeError> {
     let reply = ffi::expire(tables, out, *runtime, now);
-    kept(runtime, reply)
+    kept(tables, runtime, reply)
 }
 
 /// Switches the relay on or off.
@@ -115,13 +123,15 @@ pub fn replace_enabled(
     enabled: bool,
 ) -> Result<usize, HnsrRuntimeError> {
     let reply = ffi::replace_enabled(tables, out, *runtime, expected_generation, enabled);
-    kept(runtime, reply)
+    kept(tables, runtime, reply)
 }
 
 /// Moves the clock.
 pub fn observe_time(runtime: &mut Runtime, now: u64) -> Result<(), HnsrRuntimeError> {
-    let reply = ffi::observe_time(*runtime, now);
-    kept(runtime, reply).map(|_| ())
+    // It is lent no table, and the numbers stay.
+    let reply = ffi::observe_time(*runtime, Places::NONE, now);
+    *runtime = reply.runtime;
+    answered(reply.answer, reply.cause)
 }
 
 /// What the relay tells of itself.
@@ -136,8 +146,9 @@ pub fn next_due(tables: &Tables, runtime: &Runtime) -> Result<Option<u64>, HnsrR
     answered(reply.answer, Cause::NONE).map(|()| reply.some.then_some(reply.due))
 }
 
-/// The header as the call leaves it, refused or not, and the answer.
-fn kept(runtime: &mut Runtime, reply: ffi::RelayReply) -> Result<usize, HnsrRuntimeError> {
+/// The header and the numbers as the call leaves them, refused or not, and the answer.
+fn kept(tables: &mut Tables, runtime: &mut Runtime, reply: ffi::RelayReply) -> Result<usize, HnsrRuntimeError> {
     *runtime = reply.runtime;
+    tables.places = reply.places;
     answered(reply.answer, reply.cause).map(|()| reply.words)
 }

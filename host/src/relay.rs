@@ -18,7 +18,8 @@ const PLACES_ARE_ENOUGH: &str = "the tables have the places that they need";
 ///
 /// Each route that a call hands out counts until [`acknowledge`](Self::acknowledge) is called with its number. Memory is taken
 /// once, by `new`: for tables of as many places as the configuration allows, and for output words that are enough for every call.
-/// So no call is ever refused for want of places or words (22).
+/// So no call is ever refused for want of places or words (22). Memory is touched where records and words come to stand: a new relay
+/// of any size uses hardly any, and a call looks through the places in use ([`Places`](lent::Places)), not through all.
 pub struct OpaqueRelayRuntime<Random = OsRandom> {
     runtime: Runtime,
     tables: Tables,
@@ -79,6 +80,9 @@ impl<Random: RandomSource> OpaqueRelayRuntime<Random> {
 
     /// A relay that goes on from stored parts, whatever they hold; 22 where a table has fewer places than the configuration
     /// allows, or where the memory for the output words cannot be had.
+    ///
+    /// The numbers of places in use are stored with the tables. A host that has lost them sets [`Tables::places`] to
+    /// [`Places::EVERY`](lent::Places::EVERY), and the marks alone decide.
     pub fn from_parts(runtime: Runtime, tables: Tables, random: Random) -> Result<Self, HnsrRuntimeError> {
         lent::status(&tables, &runtime)?;
         let out = lent::unused(tables.most_words())?;
@@ -189,12 +193,12 @@ impl<Random> OpaqueRelayRuntime<Random> {
         &self.runtime
     }
 
-    /// The tables.
+    /// The tables; [`in_use`](Tables::in_use) leaves out the places that hold no record whatever their mark.
     pub fn tables(&self) -> &Tables {
         &self.tables
     }
 
-    /// The parts to be stored, for [`from_parts`](Self::from_parts).
+    /// The parts to be stored, for [`from_parts`](Self::from_parts): the header, and the tables with the numbers of places in use.
     pub fn into_parts(self) -> (Runtime, Tables) {
         (self.runtime, self.tables)
     }

@@ -3,7 +3,7 @@ use super::body::{AcceptBody, Answer, IncomingBody, OpenBody, OpenedBody, Reason
 use super::relay::{DueReply, RelayReply, StatusReply};
 use super::Cause;
 use crate::lent::{
-    InflightAction, RelayCircuit, RelayPacket, RelayPending, RelayTicket, ReservationId, ReservationUsage, Runtime,
+    InflightAction, Places, RelayCircuit, RelayPacket, RelayPending, RelayTicket, ReservationId, ReservationUsage, Runtime,
     RuntimeCounters, StoredPeer,
 };
 use crate::{HnsrRuntimeStatus, OpaqueRelayConfig};
@@ -69,6 +69,7 @@ fn a_runtime_is_laid_out_as_in_c() {
         bytes_received at 24, revoked_work at 32);
     layout!(Runtime, size 160, align 8, session at 0, generation at 16, enabled at 24, trusted_time_high_water at 32,
         config at 40, next_action_sequence at 112, counters at 120);
+    layout!(Places, size 32, align 8, pending at 0, circuits at 8, ledger at 16, actions at 24);
     layout!(HnsrRuntimeStatus, size 96, align 8, generation at 0, enabled at 8, pending_circuits at 16,
         active_circuits at 24, queued_bytes at 32, queued_actions at 40, trusted_time_high_water at 48,
         admitted_opens at 56, opened_circuits at 64, bytes_sent at 72, bytes_received at 80, revoked_work at 88);
@@ -76,7 +77,7 @@ fn a_runtime_is_laid_out_as_in_c() {
 
 #[test]
 fn replies_are_laid_out_as_in_c() {
-    layout!(RelayReply, size 200, align 8, answer at 0, cause at 8, words at 32, runtime at 40);
+    layout!(RelayReply, size 232, align 8, answer at 0, cause at 8, words at 32, runtime at 40, places at 200);
     layout!(StatusReply, size 104, align 8, answer at 0, status at 8);
     layout!(DueReply, size 16, align 8, answer at 0, some at 4, due at 8);
 }

@@ -1,8 +1,9 @@
-//! The relay's calls. The header goes in and comes back by value; a table that a call does not need is not lent to it.
+//! The relay's calls. The header goes in and comes back by value, and so do the numbers of places in use; a table that a call does not
+//! need is not lent to it.
 use super::Cause;
 use crate::config::OpaqueRelayConfig;
 use crate::lent::{
-    InflightAction, Packet, RelayCircuit, RelayPacket, RelayPending, ReservationId, ReservationUsage, Runtime, Tables,
+    InflightAction, Packet, Places, RelayCircuit, RelayPacket, RelayPending, ReservationId, ReservationUsage, Runtime, Tables,
 };
 use crate::route::HnsrActionId;
 use crate::status::HnsrRuntimeStatus;
@@ -15,6 +16,7 @@ pub struct RelayReply {
     pub cause: Cause,
     pub words: usize,
     pub runtime: Runtime,
+    pub places: Places,
 }
 
 #[repr(C)]
@@ -37,13 +39,13 @@ extern "C" {
     fn opaque_relay_default_config() -> OpaqueRelayConfig;
     fn opaque_relay_validate_config(config: OpaqueRelayConfig) -> u32;
     fn opaque_relay_new(
-        pending: *mut RelayPending,
+        pending: *const RelayPending,
         pending_places: usize,
-        circuits: *mut RelayCircuit,
+        circuits: *const RelayCircuit,
         circuit_places: usize,
-        ledger: *mut ReservationUsage,
+        ledger: *const ReservationUsage,
         ledger_places: usize,
-        inflight: *mut InflightAction,
+        inflight: *const InflightAction,
         inflight_places: usize,
         session: *const [u8; 16],
         generation: u64,
@@ -62,6 +64,7 @@ extern "C" {
         out: *mut u32,
         out_words: usize,
         runtime: Runtime,
+        places: Places,
         packet: RelayPacket,
         source: *const u8,
         source_length: usize,
@@ -82,6 +85,7 @@ extern "C" {
         out: *mut u32,
         out_words: usize,
         runtime: Runtime,
+        places: Places,
         generation: u64,
         sequence: u64,
         delivered: bool,
@@ -96,6 +100,7 @@ extern "C" {
         out: *mut u32,
         out_words: usize,
         runtime: Runtime,
+        places: Places,
         peer: *const u8,
         peer_length: usize,
     ) -> RelayReply;
@@ -111,6 +116,7 @@ extern "C" {
         out: *mut u32,
         out_words: usize,
         runtime: Runtime,
+        places: Places,
         id: ReservationId,
     ) -> RelayReply;
     fn opaque_relay_expire(
@@ -125,6 +131,7 @@ extern "C" {
         out: *mut u32,
         out_words: usize,
         runtime: Runtime,
+        places: Places,
         time: u64,
     ) -> RelayReply;
     fn opaque_relay_replace_enabled(
@@ -137,10 +144,11 @@ extern "C" {
         out: *mut u32,
         out_words: usize,
         runtime: Runtime,
+        places: Places,
         expected_generation: u64,
         enabled: bool,
     ) -> RelayReply;
-    fn opaque_relay_observe_time(runtime: Runtime, time: u64) -> RelayReply;
+    fn opaque_relay_observe_time(runtime: Runtime, places: Places, time: u64) -> RelayReply;
     fn opaque_relay_status(
         pending: *const RelayPending,
         pending_places: usize,
@@ -149,6 +157,7 @@ extern "C" {
         inflight: *const InflightAction,
         inflight_places: usize,
         runtime: Runtime,
+        places: Places,
     ) -> StatusReply;
     fn opaque_relay_next_due(
         pending: *const RelayPending,
@@ -158,6 +167,7 @@ extern "C" {
         inflight: *const InflightAction,
         inflight_places: usize,
         runtime: Runtime,
+        places: Places,
     ) -> DueReply;
 }
 
@@ -171,7 +181,7 @@ macro_rules! call {
     };
     ($function:ident, read $($slice:expr),+; $($rest:expr),+) => {
         // SAFETY: pointer and length are of one slice, and the function only reads it, during the call. The other arguments are
-        // numbers. Every record and number is allowed.
+        // numbers, or bytes that are only read. Every record, byte and number is allowed.
         unsafe { $function($($slice.as_ptr(), $slice.len(),)+ $($rest),+) }
     };
 }
@@ -186,55 +196,153 @@ pub fn validate_config(config: OpaqueRelayConfig) -> u32 {
     unsafe { opaque_relay_validate_config(config) }
 }
 
-pub fn new(tables: &mut Tables, session: [u8; 16], generation: u64, config: OpaqueRelayConfig, time: u64) -> RelayReply {
-    let Tables { pending, circuits, ledger, inflight } = tables;
-    call!(opaque_relay_new, lent pending, circuits, ledger, inflight; &session, generation, config, time)
+pub fn new(tables: &Tables, session: [u8; 16], generation: u64, config: OpaqueRelayConfig, time: u64) -> RelayReply {
+    let Tables { pending, circuits, ledger, inflight, .. } = tables;
+    call!(opaque_relay_new, read pending, circuits, ledger, inflight; &session, generation, config, time)
 }
 
 pub fn handle(tables: &mut Tables, out: &mut [u32], runtime: Runtime, packet: &Packet<'_>) -> RelayReply {
-    let Tables { pending, circuits, ledger, inflight } = tables;
+    let Tables { pending, circuits, ledger, inflight, places } = tables;
     let Packet { head, source, body, endpoint, random } = packet;
     call!(opaque_relay_handle, lent pending, circuits, ledger, inflight, out;
-        runtime, *head, source.as_ptr(), source.len(), body.as_ptr(), body.len(),
+        runtime, *places, *head, source.as_ptr(), source.len(), body.as_ptr(), body.len(),
         endpoint.as_ptr(), endpoint.len(), random.as_ptr(), random.len())
 }
 
 pub fn acknowledge(tables: &mut Tables, out: &mut [u32], runtime: Runtime, action: HnsrActionId, delivered: bool) -> RelayReply {
-    let Tables { pending, circuits, inflight, .. } = tables;
-    call!(opaque_relay_acknowledge, lent pending, circuits, inflight, out; runtime, action.generation, action.sequence, delivered)
+    let Tables { pending, circuits, inflight, places, .. } = tables;
+    let HnsrActionId { generation, sequence } = action;
+    call!(opaque_relay_acknowledge, lent pending, circuits, inflight, out; runtime, *places, generation, sequence, delivered)
 }
 
 pub fn disconnect(tables: &mut Tables, out: &mut [u32], runtime: Runtime, peer: &[u8]) -> RelayReply {
-    let Tables { pending, circuits, inflight, .. } = tables;
-    call!(opaque_relay_disconnect, lent pending, circuits, inflight, out; runtime, peer.as_ptr(), peer.len())
+    let Tables { pending, circuits, inflight, places, .. } = tables;
+    call!(opaque_relay_disconnect, lent pending, circuits, inflight, out; runtime, *places, peer.as_ptr(), peer.len())
 }
 
 pub fn revoke_reservation(tables: &mut Tables, out: &mut [u32], runtime: Runtime, id: ReservationId) -> RelayReply {
-    let Tables { pending, circuits, ledger, inflight } = tables;
-    call!(opaque_relay_revoke_reservation, lent pending, circuits, ledger, inflight, out; runtime, id)
+    let Tables { pending, circuits, ledger, inflight, places } = tables;
+    call!(opaque_relay_revoke_reservation, lent pending, circuits, ledger, inflight, out; runtime, *places, id)
 }
 
 pub fn expire(tables: &mut Tables, out: &mut [u32], runtime: Runtime, time: u64) -> RelayReply {
-    let Tables { pending, circuits, ledger, inflight } = tables;
-    call!(opaque_relay_expire, lent pending, circuits, ledger, inflight, out; runtime, time)
+    let Tables { pending, circuits, ledger, inflight, places } = tables;
+    call!(opaque_relay_expire, lent pending, circuits, ledger, inflight, out; runtime, *places, time)
 }
 
 pub fn replace_enabled(tables: &mut Tables, out: &mut [u32], runtime: Runtime, generation: u64, enabled: bool) -> RelayReply {
-    let Tables { pending, circuits, inflight, .. } = tables;
-    call!(opaque_relay_replace_enabled, lent pending, circuits, inflight, out; runtime, generation, enabled)
+    let Tables { pending, circuits, inflight, places, .. } = tables;
+    call!(opaque_relay_replace_enabled, lent pending, circuits, inflight, out; runtime, *places, generation, enabled)
 }
 
-pub fn observe_time(runtime: Runtime, time: u64) -> RelayReply {
+pub fn observe_time(runtime: Runtime, places: Places, time: u64) -> RelayReply {
     // SAFETY: numbers go in and come out, and every number is allowed.
-    unsafe { opaque_relay_observe_time(runtime, time) }
+    unsafe { opaque_relay_observe_time(runtime, places, time) }
 }
 
 pub fn status(tables: &Tables, runtime: Runtime) -> StatusReply {
-    let Tables { pending, circuits, inflight, .. } = tables;
-    call!(opaque_relay_status, read pending, circuits, inflight; runtime)
+    let Tables { pending, circuits, inflight, places, .. } = tables;
+    call!(opaque_relay_status, read pending, circuits, inflight; runtime, *places)
 }
 
 pub fn next_due(tables: &Tables, runtime: Runtime) -> DueReply {
-    let Tables { pending, circuits, inflight, .. } = tables;
-    call!(opaque_relay_next_due, read pending, circuits, inflight; runtime)
+    let Tables { pending, circuits, inflight, places, .. } = tables;
+    call!(opaque_relay_next_due, read pending, circuits, inflight; runtime, *places)
+}
+
+#[cfg(test)]
+mod tests {
+    use super::*;
+    use crate::lent::RuntimeCounters;
+
+    /// Of limits: as many places as they ask, every mark set.
+    fn found(config: &OpaqueRelayConfig) -> Tables {
+        Tables {
+            pending: vec![RelayPending { used: true, ..RelayPending::default() }; config.maximum_pending],
+            circuits: vec![RelayCircuit { used: true, ..RelayCircuit::default() }; config.maximum_circuits],
+            ledger: vec![ReservationUsage { used: true, ..ReservationUsage::default() }; 2],
+            inflight: vec![InflightAction { used: true, ..InflightAction::default() }; config.maximum_inflight_actions],
+            places: Places { pending: 1, circuits: 2, ledger: 3, actions: 4 },
+        }
+    }
+
+    /// All zero, and switched off.
+    fn no_header() -> Runtime {
+        let config = OpaqueRelayConfig {
+            maximum_pending: 0,
+            maximum_circuits: 0,
+            maximum_circuits_per_peer: 0,
+            maximum_queue_bytes: 0,
+            maximum_inflight_actions: 0,
+            maximum_inflight_actions_per_circuit: 0,
+            maximum_inflight_actions_per_peer: 0,
+            maximum_bytes_per_circuit: 0,
+            accept_timeout_seconds: 0,
+        };
+        Runtime {
+            session: [0; 16],
+            generation: 0,
+            enabled: false,
+            trusted_time_high_water: 0,
+            config,
+            next_action_sequence: 0,
+            counters: RuntimeCounters::default(),
+        }
+    }
+
+    #[test]
+    fn a_refused_new_hands_back_a_fixed_header_and_every_place() {
+        let config = OpaqueRelayConfig {
+            maximum_pending: 2,
+            maximum_circuits: 3,
+            maximum_inflight_actions: 8,
+            maximum_inflight_actions_per_circuit: 8,
+            maximum_inflight_actions_per_peer: 8,
+            ..default_config()
+        };
+        let wrong = OpaqueRelayConfig { accept_timeout_seconds: 0, ..config };
+        let tables = found(&config);
+        let without = |shorten: fn(&mut Tables)| {
+            let mut tables = tables.clone();
+            shorten(&mut tables);
+            tables
+        };
+        let refused = [
+            (3, new(&tables, [0; 16], 1, config, 9)),
+            (3, new(&tables, [1; 16], 0, wrong, 9)),
+            (2, new(&tables, [1; 16], 1, wrong, 9)),
+            (22, new(&Tables::default(), [1; 16], 1, config, 9)),
+            (22, new(&without(|tables| tables.pending.truncate(1)), [1; 16], 1, config, 9)),
+            (22, new(&without(|tables| tables.circuits.truncate(2)), [1; 16], 1, config, 9)),
+            (22, new(&without(|tables| tables.inflight.truncate(7)), [1; 16], 1, config, 9)),
+            (22, new(&without(|tables| tables.ledger.clear()), [1; 16], 1, config, 9)),
+        ];
+        for (number, reply) in refused {
+            assert_eq!((reply.answer, reply.words), (number, 0));
+            assert_eq!((reply.runtime, reply.places), (no_header(), Places::EVERY));
+        }
+        let taken = new(&tables, [1; 16], 5, config, 9);
+        let runtime = Runtime {
+            session: [1; 16],
+            generation: 5,
+            enabled: true,
+            trusted_time_high_water: 9,
+            config,
+            next_action_sequence: 1,
+            ..no_header()
+        };
+        assert_eq!((taken.answer, taken.runtime, taken.places), (0, runtime, Places::NONE));
+    }
+
+    #[test]
+    fn observe_time_hands_back_the_numbers() {
+        for places in [Places::NONE, Places::EVERY, Places { pending: 1, circuits: 2, ledger: 3, actions: 4 }] {
+            let runtime = Runtime { trusted_time_high_water: 5, ..no_header() };
+            for (time, number) in [(4, 7), (5, 0), (6, 0)] {
+                let reply = observe_time(runtime, places, time);
+                assert_eq!((reply.answer, reply.places), (number, places));
+                assert_eq!(reply.runtime, Runtime { trusted_time_high_water: time.max(5), ..runtime });
+            }
+        }
+    }
 }

@@ -1,4 +1,5 @@
-//! The records of the four tables, as the archive has them. An id is a number whose highest byte is the first on the wire.
+//! The records of the four tables, as the archive has them. An id is a number whose highest byte is the first on the wire. Zero bytes
+//! are an unused record: `ffi::memory` goes by that.
 use crate::config::OpaqueRelayConfig;
 use crate::peer::MAXIMUM_PEER;
 use std::hash::{Hash, Hasher};
@@ -93,7 +94,7 @@ pub struct RelayTicket {
 #[repr(C)]
 #[derive(Clone, Copy, Debug, Default, Eq, PartialEq)]
 pub struct RelayPending {
-    /// Whether the place holds a record.
+    /// The mark: the place holds a record, if it lies below its table's number.
     pub used: bool,
     /// The id that the circuit is to have.
     pub circuit_id: u64,
@@ -115,7 +116,7 @@ pub struct RelayPending {
 #[repr(C)]
 #[derive(Clone, Copy, Debug, Default, Eq, PartialEq)]
 pub struct RelayCircuit {
-    /// Whether the place holds a record.
+    /// The mark: the place holds a record, if it lies below its table's number.
     pub used: bool,
     /// Its id.
     pub circuit_id: u64,
@@ -147,7 +148,7 @@ pub struct RelayCircuit {
 #[repr(C)]
 #[derive(Clone, Copy, Debug, Default, Eq, PartialEq)]
 pub struct ReservationUsage {
-    /// Whether the place holds a record.
+    /// The mark: the place holds a record, if it lies below its table's number.
     pub used: bool,
     /// The reservation.
     pub reservation_id: ReservationId,
@@ -161,7 +162,7 @@ pub struct ReservationUsage {
 #[repr(C)]
 #[derive(Clone, Copy, Debug, Default, Eq, PartialEq)]
 pub struct InflightAction {
-    /// Whether the place holds a record.
+    /// The mark: the place holds a record, if it lies below its table's number.
     pub used: bool,
     /// The generation that wrote the route.
     pub generation: u64,

@@ -1,6 +1,6 @@
 //! The drawing of ids.
 use crate::fixture::{grant, open, peer, relay_drawing, small, START};
-use lekchnam_host::lent::RelayPending;
+use lekchnam_host::lent::{Places, RelayPending};
 use lekchnam_host::{
     Admission, HnsrOpcode, HnsrPacket, HnsrRuntimeError, OpaqueRelayRuntime, OsRandom, RandomSource, RANDOM_BYTES,
 };
@@ -25,6 +25,7 @@ fn drawing(draws: Vec<u64>) -> impl FnMut(&mut [u8]) -> usize {
 fn drawn(draws: Vec<u64>) -> Result<u64, HnsrRuntimeError> {
     let (runtime, mut tables) = relay_drawing(small(), OsRandom::default()).into_parts();
     tables.pending[1] = RelayPending { used: true, circuit_id: TAKEN, deadline: START + 1, ..RelayPending::default() };
+    tables.places = Places { pending: 2, ..Places::NONE };
     let mut relay = OpaqueRelayRuntime::from_parts(runtime, tables, drawing(draws)).expect("a relay");
     open(&mut relay, b"r", 1, grant(b"e"))
 }

@@ -8,9 +8,9 @@ pub const START: u64 = 100;
 pub const EXPIRY: u64 = 1_000;
 pub const WINDOW: u32 = 32_768;
 
-/// Draws 1, 2, 3 and so on.
+/// Draws 1, 2, 3 and so on, from behind this number.
 #[derive(Default)]
-pub struct Counting(u64);
+pub struct Counting(pub u64);
 
 impl RandomSource for Counting {
     fn supply(&mut self, room: &mut [u8]) -> usize {

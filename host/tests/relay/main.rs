@@ -3,6 +3,7 @@ mod cases;
 mod draws;
 mod errors;
 mod fixture;
+mod places;
 mod room;
 mod routes;
 mod stored;

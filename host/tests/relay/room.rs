@@ -1,6 +1,6 @@
 //! Output words: what a call needs, and that a relay of its own tables always has them.
 use crate::fixture::{accept_body, circuit, grant, open, peer, relay, say, small, Counting, Relay, EXPIRY, START};
-use lekchnam_host::lent::{self, Packet, RelayPacket, Runtime, Tables, CLOSING_WORDS, HANDLE_WORDS};
+use lekchnam_host::lent::{self, Packet, Places, RelayPacket, Runtime, Tables, CLOSING_WORDS, HANDLE_WORDS};
 use lekchnam_host::{Grant, HnsrActionId, HnsrOpcode, HnsrRuntimeError, OpaqueRelayConfig};
 
 /// So many records that their closings need more words than the longest DATA, and room for all of these.
@@ -35,6 +35,7 @@ fn crammed() -> Relay {
     let (pending, active) = (tables.pending[0], tables.circuits[0]);
     tables.pending = (1..=40).map(|id| lent::RelayPending { circuit_id: id, ..pending }).collect();
     tables.circuits = (41..=80).map(|id| lent::RelayCircuit { circuit_id: id, ..active }).collect();
+    tables.places = Places::EVERY;
     Relay::from_parts(runtime, tables, Counting::default()).expect("stored parts")
 }
 

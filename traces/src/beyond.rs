@@ -1,4 +1,4 @@
-//! The library beyond document 01's domain: headers, tables, output words and names that no run has.
+//! The library beyond document 01's domain: headers, tables, numbers of places, output words and names that no run has.
 //!
 //! Each call is made on what the one before it left, or on a new world by chance. Whatever it is lent, the library must do what the second
 //! reading of document 01 does, and what `checks` says in words.
@@ -12,12 +12,14 @@ use crate::Call;
 use crate::counts::Counts;
 use crate::reading::World;
 use crate::rng::Rng;
+use lekchnam_host::lent::Tables;
 use made::Left;
 use std::collections::BTreeMap;
 use std::fmt::{self, Display, Formatter};
 
-/// In a hundred calls so many begin in a new world.
+/// In a hundred calls so many begin in a new world, and of the others so many over new numbers.
 const NEW_WORLDS: u64 = 15;
+const NEW_NUMBERS: u64 = 10;
 
 /// A call, and what it is lent.
 struct Case {
@@ -26,24 +28,71 @@ struct Case {
     out: Vec<u32>,
 }
 
-/// How often each answer came, by call.
+/// What the number of a table is beside its places and marks.
+#[derive(Clone, Copy, Debug, Eq, Ord, PartialEq, PartialOrd)]
+pub enum Number {
+    /// A mark is set at or above it.
+    TooSmall,
+    /// Smaller than the table, and no mark is set at or above it.
+    Between,
+    /// The table's size.
+    Size,
+    /// Larger than that.
+    Larger,
+    Largest,
+}
+
+impl Number {
+    pub const ALL: [Self; 5] = [Self::TooSmall, Self::Between, Self::Size, Self::Larger, Self::Largest];
+
+    fn of<R>(number: usize, table: &[R], marked: fn(&R) -> bool) -> Self {
+        match number {
+            usize::MAX => Self::Largest,
+            number if number > table.len() => Self::Larger,
+            number if number == table.len() => Self::Size,
+            number if table[number..].iter().any(marked) => Self::TooSmall,
+            _ => Self::Between,
+        }
+    }
+}
+
+/// How often each answer came, by call, and over which numbers.
 #[derive(Default)]
-pub struct Answers(BTreeMap<&'static str, Counts>);
+pub struct Answers {
+    by_call: BTreeMap<&'static str, Counts>,
+    numbers: BTreeMap<Number, u64>,
+}
 
 impl Answers {
     fn add(&mut self, case: &Case, left: &Left) {
-        self.0.entry(case.call.label()).or_default().add(left.number());
+        self.by_call.entry(case.call.label()).or_default().add(left.number());
+        let Tables { pending, circuits, ledger, inflight, places } = &case.world.tables;
+        for number in [
+            Number::of(places.pending, pending, |record| record.used),
+            Number::of(places.circuits, circuits, |record| record.used),
+            Number::of(places.ledger, ledger, |record| record.used),
+            Number::of(places.actions, inflight, |record| record.used),
+        ] {
+            *self.numbers.entry(number).or_default() += 1;
+        }
     }
 
     /// How often an answer came.
     pub fn of(&self, number: u8) -> u64 {
-        self.0.values().map(|counts| counts.of(number)).sum()
+        self.by_call.values().map(|counts| counts.of(number)).sum()
+    }
+
+    /// How often a table was lent with such a number: four tables a call.
+    pub fn over(&self, number: Number) -> u64 {
+        self.numbers.get(&number).copied().unwrap_or(0)
     }
 }
 
 impl Display for Answers {
     fn fmt(&self, f: &mut Formatter<'_>) -> fmt::Result {
-        self.0.iter().try_for_each(|(label, counts)| writeln!(f, "  {label:<19} {counts}"))
+        self.by_call.iter().try_for_each(|(label, counts)| writeln!(f, "  {label:<19} {counts}"))?;
+        let numbers: Vec<String> = self.numbers.iter().map(|(number, count)| format!("{number:?}:{count}")).collect();
+        writeln!(f, "numbers of places in use, four a call: {}", numbers.join(" "))
     }
 }
 
@@ -55,6 +104,8 @@ pub fn beyond(seed: u64, calls: u64) -> Result<Answers, String> {
     for index in 0..calls {
         if rng.chance(NEW_WORLDS) {
             world = World::by_chance(&mut rng);
+        } else if rng.chance(NEW_NUMBERS) {
+            world.tables.places = found::numbers(&mut rng, &world.tables);
         }
         let case = Case::by_chance(&mut rng, world);
         let left = case.made();

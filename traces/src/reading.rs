@@ -12,9 +12,11 @@ mod table;
 use crate::answer::After;
 use crate::{Call, Config, Grant};
 use lekchnam_host::body::validate_packet;
-use lekchnam_host::lent::{ReservationUsage, Runtime, RuntimeCounters, StoredPeer, Tables};
+use lekchnam_host::lent::{
+    InflightAction, Places, RelayCircuit, RelayPending, ReservationUsage, Runtime, RuntimeCounters, StoredPeer, Tables,
+};
 use lekchnam_host::{HnsrRuntimeError as Refused, MAXIMUM_PEER};
-use table::{count, drop_all};
+use table::{count, drop_all, used};
 
 pub use crate::words::Route;
 pub use machine::Reading;
@@ -22,7 +24,7 @@ pub use machine::Reading;
 /// The routes of a call that is taken, or the refusal.
 pub type Outcome = Result<Vec<Route>, Refused>;
 
-/// What a host keeps: the header and the tables.
+/// What a host keeps: the header, and the tables with their numbers.
 #[derive(Clone, Debug, Eq)]
 pub struct World {
     pub runtime: Runtime,
@@ -91,15 +93,12 @@ impl World {
     }
 
     /// "new: 3 session zero or generation 0; 2 what `OpaqueRelayConfig::validate` refuses; 22 Short: a table has fewer places than its
-    /// maximum, or the ledger none". "`new` marks every place unused."
+    /// maximum, or the ledger none". "`new` marks every place unused": by its numbers, and no table is touched.
     fn start(&mut self, session: [u8; 16], generation: u64, config: Config, now: u64) -> Outcome {
         refuse(session == [0; 16] || generation == 0, Refused::InvalidSession)?;
         config.validate()?;
         refuse(short(&config, &self.tables) || self.tables.ledger.is_empty(), Refused::Short)?;
-        drop_all(&mut self.tables.pending, |_| true);
-        drop_all(&mut self.tables.circuits, |_| true);
-        drop_all(&mut self.tables.ledger, |_| true);
-        drop_all(&mut self.tables.inflight, |_| true);
+        self.tables.places = Places::NONE;
         self.runtime = Runtime {
             session,
             generation,
@@ -119,7 +118,7 @@ impl World {
 
     /// How many pending records and circuits there are.
     pub fn records(&self) -> usize {
-        count(&self.tables.pending, |_| true) + count(&self.tables.circuits, |_| true)
+        count(&self.tables, |_: &RelayPending| true) + count(&self.tables, |_: &RelayCircuit| true)
     }
 
     /// "7 now behind the high water; from here the clock has moved".
@@ -147,25 +146,25 @@ impl World {
 
     /// "Ledger records with expiry not after now are dropped".
     fn drop_lapsed(&mut self, now: u64) {
-        drop_all(&mut self.tables.ledger, |usage: &ReservationUsage| usage.expires_at <= now);
+        drop_all(&mut self.tables, |usage: &ReservationUsage| usage.expires_at <= now);
     }
 
     /// What is told, or the 22 of `status` and `next_due`.
     pub fn told(&self) -> Result<After, Refused> {
         let (runtime, tables) = (&self.runtime, &self.tables);
         refuse(short(&runtime.config, tables), Refused::Short)?;
-        let circuits = || tables.circuits.iter().filter(|circuit| circuit.used);
+        let circuits = || used(tables).map(|(_, circuit): (_, &RelayCircuit)| circuit);
         let queues = circuits().flat_map(|circuit| [circuit.queued_to_requester, circuit.queued_to_endpoint]);
-        let deadlines = tables.pending.iter().filter(|pending| pending.used).map(|pending| pending.deadline);
+        let deadlines = used(tables).map(|(_, pending): (_, &RelayPending)| pending.deadline);
         let counters = &runtime.counters;
         Ok(After {
             status: [
                 runtime.generation,
                 runtime.enabled.into(),
-                count(&tables.pending, |_| true) as u64,
-                count(&tables.circuits, |_| true) as u64,
+                count(tables, |_: &RelayPending| true) as u64,
+                count(tables, |_: &RelayCircuit| true) as u64,
                 queues.fold(0, usize::saturating_add) as u64,
-                count(&tables.inflight, |_| true) as u64,
+                count(tables, |_: &InflightAction| true) as u64,
                 runtime.trusted_time_high_water,
                 counters.admitted_opens,
                 counters.opened_circuits,
@@ -174,7 +173,7 @@ impl World {
                 counters.revoked_work,
             ],
             due: deadlines.chain(circuits().map(|circuit| circuit.expires_at)).min(),
-            ledger: count(&tables.ledger, |_| true),
+            ledger: count(tables, |_: &ReservationUsage| true),
         })
     }
 }

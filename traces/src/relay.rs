@@ -130,7 +130,7 @@ fn after(library: &Library) -> After {
     After {
         status: status_numbers(&library.status()),
         due: library.next_due(),
-        ledger: library.tables().ledger.iter().filter(|usage| usage.used).count(),
+        ledger: library.tables().in_use().ledger.iter().filter(|usage| usage.used).count(),
     }
 }
 

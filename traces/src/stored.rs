@@ -5,7 +5,7 @@ use lekchnam_host::lent::{InflightAction, RelayCircuit, RelayPending, Reservatio
 impl State {
     /// The records of used places by ascending key, equal ones by place.
     pub fn stored(runtime: &Runtime, tables: &Tables) -> Self {
-        let counters = runtime.counters;
+        let (counters, tables) = (runtime.counters, tables.in_use());
         let mut state = Self {
             session: runtime.session,
             generation: runtime.generation,

@@ -1,5 +1,5 @@
 //! The library beyond document 01's domain: a small part of what the command `beyond` does.
-use lekchnam_traces::beyond::beyond;
+use lekchnam_traces::beyond::{Number, beyond};
 
 const CALLS: u64 = 20_000;
 
@@ -11,5 +11,8 @@ fn every_answer_is_met_and_nothing_is_wrong() {
         assert!(answers.of(number) > 0, "no call answers {number}");
     }
     assert_eq!(answers.of(19) + answers.of(21), 0);
+    for number in Number::ALL {
+        assert!(answers.over(number) > CALLS / 5, "few numbers are {number:?}: {answers}");
+    }
     println!("compared with a second reading: {CALLS} calls beyond the domain");
 }

@@ -6,7 +6,7 @@ use crate::reading::World;
 use crate::rng::Rng;
 use crate::words::words;
 use crate::{Answer, Call};
-use lekchnam_host::lent::{self, StoredPeer, Tables};
+use lekchnam_host::lent::{self, Places, StoredPeer, Tables};
 use lekchnam_host::{HnsrRuntimeError, MAXIMUM_PEER};
 
 /// The words of a route in front of its body.
@@ -17,6 +17,7 @@ type Checked = Result<(), String>;
 pub fn all(case: &Case, left: &Left, rng: &mut Rng) -> Checked {
     output(case, left)?;
     as_read(case, left)?;
+    new_alone(case, left)?;
     told(left)?;
     again(case, left)?;
     unused_places(case, left, rng)?;
@@ -50,22 +51,33 @@ fn as_read(case: &Case, left: &Left) -> Checked {
     ensure(seen(&world) == seen(&left.world), "other records are left")
 }
 
-/// The world as it is read: what unused places hold does not count.
+/// The world as it is read: what unused places hold does not count, nor a number but for which places it makes unused.
 fn seen(world: &World) -> World {
-    let Tables { pending, circuits, ledger, inflight } = world.tables.clone();
-    fn used<R: Default>(records: Vec<R>, used: impl Fn(&R) -> bool) -> Vec<R> {
-        records.into_iter().map(|record| if used(&record) { record } else { R::default() }).collect()
+    let (tables, below) = (&world.tables, world.tables.in_use());
+    fn used<R: Copy + Default>(below: &[R], places: usize, used: impl Fn(&R) -> bool) -> Vec<R> {
+        let mut seen: Vec<R> = below.iter().map(|record| if used(record) { *record } else { R::default() }).collect();
+        seen.resize(places, R::default());
+        seen
     }
     let tables = Tables {
-        pending: used(pending, |record| record.used),
-        circuits: used(circuits, |record| record.used),
-        ledger: used(ledger, |record| record.used),
-        inflight: used(inflight, |record| record.used),
+        pending: used(below.pending, tables.pending.len(), |record| record.used),
+        circuits: used(below.circuits, tables.circuits.len(), |record| record.used),
+        ledger: used(below.ledger, tables.ledger.len(), |record| record.used),
+        inflight: used(below.inflight, tables.inflight.len(), |record| record.used),
+        places: Places::EVERY,
     };
     World { runtime: world.runtime, tables }
 }
 
-/// `status` tells the counts of used marks, the sum of the queues, and the header; `next_due` the earliest end; both are 22 where a table
+/// A `new` touches no table, whatever stands there; its numbers are 0, or as they were where it is refused.
+fn new_alone(case: &Case, left: &Left) -> Checked {
+    let Call::New { .. } = case.call else { return Ok(()) };
+    let places = if left.answer.is_ok() { Places::NONE } else { case.world.tables.places };
+    let tables = Tables { places, ..case.world.tables.clone() };
+    ensure(left.world == World { runtime: left.world.runtime, tables }, "`new` touches a table, or leaves other numbers")
+}
+
+/// `status` tells the counts of used places, the sum of the queues, and the header; `next_due` the earliest end; both are 22 where a table
 /// is short.
 fn told(left: &Left) -> Checked {
     let World { runtime, tables } = &left.world;
@@ -82,7 +94,8 @@ fn again(case: &Case, left: &Left) -> Checked {
     ensure(case.made() == *left, "the same call on a copy gives something else")
 }
 
-/// "Lent tables are read as found", by their marks: what unused places hold changes nothing.
+/// "Lent tables are read as found", by their marks below the numbers: what unused places hold changes nothing, nor does a mark at or above
+/// a number.
 fn unused_places(case: &Case, left: &Left, rng: &mut Rng) -> Checked {
     let other = Case { world: case.world.with_other_unused_places(rng), call: case.call.clone(), out: case.out.clone() }.made();
     let same = other.answer == left.answer && other.out == left.out && seen(&other.world) == seen(&left.world);

@@ -4,7 +4,7 @@ use crate::reading::World;
 use crate::rng::Rng;
 use lekchnam_host::MAXIMUM_PEER;
 use lekchnam_host::lent::{
-    InflightAction, RelayCircuit, RelayPending, RelayTicket, ReservationId, ReservationUsage, Runtime, RuntimeCounters,
+    InflightAction, Places, RelayCircuit, RelayPending, RelayTicket, ReservationId, ReservationUsage, Runtime, RuntimeCounters,
     StoredPeer, Tables,
 };
 
@@ -187,16 +187,49 @@ fn table<R>(rng: &mut Rng, limit: usize, mut record: impl FnMut(&mut Rng) -> R) 
     records.into_vec()
 }
 
+/// Of so many places: none in use, some, all, more than there are, or the largest number.
+fn number(rng: &mut Rng, places: usize) -> usize {
+    match rng.below(20) {
+        0 => 0,
+        1..=6 => rng.below(places as u64 + 1) as usize,
+        7..=10 => places,
+        11..=14 => places + rng.range(1, 3) as usize,
+        _ => usize::MAX,
+    }
+}
+
+pub fn numbers(rng: &mut Rng, tables: &Tables) -> Places {
+    Places {
+        pending: number(rng, tables.pending.len()),
+        circuits: number(rng, tables.circuits.len()),
+        ledger: number(rng, tables.ledger.len()),
+        actions: number(rng, tables.inflight.len()),
+    }
+}
+
+/// Puts other records into the unused places; at and above the number any mark will do.
+fn others<R>(rng: &mut Rng, table: &mut [R], number: usize, used: fn(&R) -> bool, record: impl Fn(&mut Rng, bool) -> R) {
+    for (place, stands) in table.iter_mut().enumerate() {
+        let above = place >= number;
+        if above || !used(stands) {
+            let mark = above && rng.chance(50);
+            *stands = record(rng, mark);
+        }
+    }
+}
+
 impl World {
     pub(super) fn by_chance(rng: &mut Rng) -> Self {
         let runtime = runtime(rng);
         let (config, now) = (&runtime.config, runtime.trusted_time_high_water);
-        let tables = Tables {
+        let mut tables = Tables {
             pending: table(rng, config.maximum_pending, |rng| pending(rng, now)),
             circuits: table(rng, config.maximum_circuits, |rng| circuit(rng, now)),
             ledger: table(rng, 4, |rng| usage(rng, now)),
             inflight: table(rng, config.maximum_inflight_actions, |rng| action(rng, &runtime)),
+            places: Places::EVERY,
         };
+        tables.places = numbers(rng, &tables);
         Self { runtime, tables }
     }
 
@@ -204,18 +237,12 @@ impl World {
     pub(super) fn with_other_unused_places(&self, rng: &mut Rng) -> Self {
         let mut other = self.clone();
         let (runtime, now, tables) = (self.runtime, self.runtime.trusted_time_high_water, &mut other.tables);
-        for place in tables.pending.iter_mut().filter(|place| !place.used) {
-            *place = RelayPending { used: false, ..pending(rng, now) };
-        }
-        for place in tables.circuits.iter_mut().filter(|place| !place.used) {
-            *place = RelayCircuit { used: false, ..circuit(rng, now) };
-        }
-        for place in tables.ledger.iter_mut().filter(|place| !place.used) {
-            *place = ReservationUsage { used: false, ..usage(rng, now) };
-        }
-        for place in tables.inflight.iter_mut().filter(|place| !place.used) {
-            *place = InflightAction { used: false, ..action(rng, &runtime) };
-        }
+        let numbers = tables.places;
+        others(rng, &mut tables.pending, numbers.pending, |p| p.used, |rng, used| RelayPending { used, ..pending(rng, now) });
+        others(rng, &mut tables.circuits, numbers.circuits, |c| c.used, |rng, used| RelayCircuit { used, ..circuit(rng, now) });
+        others(rng, &mut tables.ledger, numbers.ledger, |u| u.used, |rng, used| ReservationUsage { used, ..usage(rng, now) });
+        let other_action = |rng: &mut Rng, used| InflightAction { used, ..action(rng, &runtime) };
+        others(rng, &mut tables.inflight, numbers.actions, |action| action.used, other_action);
         other
     }
 }

@@ -3,7 +3,7 @@ use super::queue::{Kind, Message};
 use super::table::{count, drop_all, lowest, put};
 use super::{Outcome, Packet, Refused, World, named, refuse, same};
 use lekchnam_host::body::{AcceptBody, CloseBody, DataBody, WindowBody};
-use lekchnam_host::lent::{RelayCircuit, RelayPending, StoredPeer};
+use lekchnam_host::lent::{InflightAction, RelayCircuit, RelayPending, ReservationUsage, StoredPeer};
 
 const MOST_CREDIT: u64 = 1_048_576;
 
@@ -17,20 +17,20 @@ impl World {
     pub(super) fn accept(&mut self, packet: &Packet<'_>) -> Outcome {
         let id = packet.context;
         let (config, tables) = (self.runtime.config, &self.tables);
-        let place = lowest(&tables.pending, |p| p.circuit_id == id).ok_or(Refused::UnknownRequest)?;
+        let place = lowest(tables, |p: &RelayPending| p.circuit_id == id).ok_or(Refused::UnknownRequest)?;
         let p = tables.pending[place];
         refuse(!same(&p.endpoint, &named(packet.source)?), Refused::WrongPeer)?;
         refuse(p.deadline <= packet.now || p.ticket.expires_at <= packet.now, Refused::InvalidAdmission)?;
         let body = AcceptBody::decode(packet.body)?;
         let full = body.accepted_window > p.initial_window
-            || count(&tables.circuits, |_| true) >= config.maximum_circuits
+            || count(tables, |_: &RelayCircuit| true) >= config.maximum_circuits
             || self.under(p.ticket.reservation_id) > p.ticket.max_active_circuits.into();
         refuse(full, Refused::Capacity)?;
         self.action_room(id, &p.requester, Some(id))?;
         self.tables.pending[place].used = false;
-        drop_all(&mut self.tables.inflight, |action| action.circuit_id == id);
+        drop_all(&mut self.tables, |action: &InflightAction| action.circuit_id == id);
         let circuit = started(&p, body.accepted_window, config.maximum_bytes_per_circuit);
-        put(&mut self.tables.circuits, |other| other.circuit_id == id, circuit);
+        put(&mut self.tables, |other| other.circuit_id == id, circuit);
         let opened = &mut self.runtime.counters.opened_circuits;
         *opened = opened.saturating_add(1);
         self.queue(Message {
@@ -47,11 +47,11 @@ impl World {
 
     /// "14; 15": no such circuit, or the sender is no side of it.
     fn named_circuit(&self, packet: &Packet<'_>) -> Result<Named, Refused> {
-        let circuits = &self.tables.circuits;
-        let place = lowest(circuits, |c| c.circuit_id == packet.context).ok_or(Refused::UnknownCircuit)?;
-        let source = named(packet.source)?;
-        let by_requester = same(&circuits[place].requester, &source);
-        refuse(!by_requester && !same(&circuits[place].endpoint, &source), Refused::WrongPeer)?;
+        let found = lowest(&self.tables, |c: &RelayCircuit| c.circuit_id == packet.context);
+        let place = found.ok_or(Refused::UnknownCircuit)?;
+        let (circuit, source) = (&self.tables.circuits[place], named(packet.source)?);
+        let by_requester = same(&circuit.requester, &source);
+        refuse(!by_requester && !same(&circuit.endpoint, &source), Refused::WrongPeer)?;
         Ok(Named { place, by_requester })
     }
 
@@ -68,10 +68,10 @@ impl World {
         let receiver = self.receiver(&named);
         self.action_room(packet.context, &receiver, None)?;
         let amount = packet.body.len() as u64;
+        let reservation = self.tables.circuits[named.place].reservation_id;
+        let found = lowest(&self.tables, |usage: &ReservationUsage| usage.reservation_id == reservation);
+        let usage = &mut self.tables.ledger[found.ok_or(Refused::InvalidAdmission)?];
         let circuit = &mut self.tables.circuits[named.place];
-        let reservation = circuit.reservation_id;
-        let place = lowest(&self.tables.ledger, |usage| usage.reservation_id == reservation).ok_or(Refused::InvalidAdmission)?;
-        let usage = &mut self.tables.ledger[place];
         let spent = [circuit.forwarded_bytes, usage.bytes].map(|bytes| bytes.saturating_add(amount));
         refuse(spent[0] > circuit.maximum_bytes || spent[1] > circuit.maximum_total_bytes, Refused::ByteLimit)?;
         let (credit, queue) = match named.by_requester {
@@ -112,8 +112,8 @@ impl World {
             same(&p.requester, &source) && p.requester_context == packet.context
                 || same(&p.endpoint, &source) && p.circuit_id == packet.context
         };
-        refuse(count(&self.tables.pending, names) > 1, Refused::InvalidAdmission)?;
-        let Some(place) = lowest(&self.tables.pending, names) else {
+        refuse(count(&self.tables, names) > 1, Refused::InvalidAdmission)?;
+        let Some(place) = lowest(&self.tables, names) else {
             let named = self.named_circuit(packet)?;
             let receiver = self.receiver(&named);
             self.end_circuit(named.place);

@@ -4,7 +4,7 @@ use super::table::{count, lowest, put};
 use super::{Outcome, Packet, Refused, World, named, refuse, same};
 use crate::Grant;
 use lekchnam_host::body::{OpenBody, ProtocolError};
-use lekchnam_host::lent::{RelayPending, ReservationId, ReservationUsage, StoredPeer};
+use lekchnam_host::lent::{RelayCircuit, RelayPending, ReservationId, ReservationUsage, StoredPeer};
 
 /// "8 in a row refuse"; "one of 8 candidates".
 const MOST_DRAWS: usize = 8;
@@ -36,7 +36,7 @@ impl World {
             initial_window: body.initial_window,
             deadline: latest.min(grant.expires_at),
         };
-        put(&mut self.tables.pending, |other| other.circuit_id == circuit_id, record);
+        put(&mut self.tables, |other| other.circuit_id == circuit_id, record);
         let opens = &mut self.runtime.counters.admitted_opens;
         *opens = opens.saturating_add(1);
         self.queue(incoming(&record, &body))
@@ -46,23 +46,24 @@ impl World {
     fn open_room(&self, requester: &StoredPeer, context: u64) -> Result<(), Refused> {
         let (config, tables) = (&self.runtime.config, &self.tables);
         let repeated = |p: &RelayPending| same(&p.requester, requester) && p.requester_context == context;
-        let full = count(&tables.pending, |_| true) >= config.maximum_pending
-            || count(&tables.circuits, |_| true) >= config.maximum_circuits
+        let full = count(tables, |_: &RelayPending| true) >= config.maximum_pending
+            || count(tables, |_: &RelayCircuit| true) >= config.maximum_circuits
             || self.at_most_work(requester)
-            || lowest(&tables.pending, repeated).is_some();
+            || lowest(tables, repeated).is_some();
         refuse(full, Refused::Capacity)
     }
 
     /// Whether a peer has its most of pending records and circuits, being either side of them.
     fn at_most_work(&self, peer: &StoredPeer) -> bool {
-        let pending = count(&self.tables.pending, |p| same(&p.requester, peer) || same(&p.endpoint, peer));
-        let circuits = count(&self.tables.circuits, |c| same(&c.requester, peer) || same(&c.endpoint, peer));
+        let pending = count(&self.tables, |p: &RelayPending| same(&p.requester, peer) || same(&p.endpoint, peer));
+        let circuits = count(&self.tables, |c: &RelayCircuit| same(&c.requester, peer) || same(&c.endpoint, peer));
         pending + circuits >= self.runtime.config.maximum_circuits_per_peer.into()
     }
 
     /// The pending records and circuits that store a reservation's id.
     pub(super) fn under(&self, id: ReservationId) -> usize {
-        count(&self.tables.pending, |p| p.ticket.reservation_id == id) + count(&self.tables.circuits, |c| c.reservation_id == id)
+        let pending = count(&self.tables, |p: &RelayPending| p.ticket.reservation_id == id);
+        pending + count(&self.tables, |c: &RelayCircuit| c.reservation_id == id)
     }
 
     /// "An all-zero draw is drawn again, 8 in a row refuse. A draw that is already a pending or circuit id counts as one of 8 candidates.
@@ -71,8 +72,8 @@ impl World {
         let (mut zeros, mut candidates) = (0, 0);
         for draw in random.chunks_exact(8) {
             let id = u64::from_be_bytes(draw.try_into().expect("eight bytes"));
-            let taken = lowest(&self.tables.pending, |p| p.circuit_id == id).is_some()
-                || lowest(&self.tables.circuits, |c| c.circuit_id == id).is_some();
+            let taken = lowest(&self.tables, |p: &RelayPending| p.circuit_id == id).is_some()
+                || lowest(&self.tables, |c: &RelayCircuit| c.circuit_id == id).is_some();
             match (id, taken) {
                 (0, _) => zeros += 1,
                 (_, true) => (zeros, candidates) = (0, candidates + 1),
@@ -89,13 +90,13 @@ impl World {
     /// bytes used up".
     fn book(&mut self, grant: &Grant) -> Result<(), Refused> {
         let id = ReservationId::from(grant.reservation_id);
-        let ledger = &mut self.tables.ledger;
+        let tables = &mut self.tables;
         let under = |usage: &ReservationUsage| usage.reservation_id == id;
-        if lowest(ledger, under).is_none() {
-            refuse(count(ledger, |_| true) == ledger.len(), Refused::LedgerFull)?;
-            put(ledger, under, ReservationUsage { used: true, reservation_id: id, bytes: 0, expires_at: grant.expires_at });
+        if lowest(tables, under).is_none() {
+            refuse(count(tables, |_: &ReservationUsage| true) == tables.ledger.len(), Refused::LedgerFull)?;
+            put(tables, under, ReservationUsage { used: true, reservation_id: id, bytes: 0, expires_at: grant.expires_at });
         }
-        let usage = &ledger[lowest(ledger, under).expect("it was made")];
+        let usage = &tables.ledger[lowest(tables, under).expect("it was made")];
         refuse(usage.expires_at != grant.expires_at || usage.bytes >= grant.max_total_bytes, Refused::ByteLimit)
     }
 }

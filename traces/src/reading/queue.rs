@@ -34,11 +34,11 @@ pub struct Message {
 impl World {
     /// "10 actions": in all, about the circuit and toward the peer. ACCEPT does not count those that it drops.
     pub(super) fn action_room(&self, circuit: u64, peer: &StoredPeer, dropped: Option<u64>) -> Result<(), Refused> {
-        let (config, inflight) = (&self.runtime.config, &self.tables.inflight);
+        let (config, tables) = (&self.runtime.config, &self.tables);
         let stays = |action: &InflightAction| dropped != Some(action.circuit_id);
-        let all = count(inflight, stays);
-        let about = count(inflight, |action| stays(action) && action.circuit_id == circuit);
-        let toward = count(inflight, |action| stays(action) && same(&action.destination, peer));
+        let all = count(tables, stays);
+        let about = count(tables, |action| stays(action) && action.circuit_id == circuit);
+        let toward = count(tables, |action| stays(action) && same(&action.destination, peer));
         let full = all >= config.maximum_inflight_actions
             || about >= config.maximum_inflight_actions_per_circuit
             || toward >= config.maximum_inflight_actions_per_peer;
@@ -62,7 +62,7 @@ impl World {
             to_endpoint: message.to_endpoint,
             bytes: if is_data { message.body.len() } else { 0 },
         };
-        put(&mut self.tables.inflight, |other| (other.generation, other.sequence) == (generation, sequence), action);
+        put(&mut self.tables, |other: &InflightAction| (other.generation, other.sequence) == (generation, sequence), action);
         self.runtime.next_action_sequence += 1;
         Ok(vec![Route {
             peer: message.destination.as_bytes().to_vec(),

@@ -2,7 +2,7 @@
 use super::queue::{Kind, Message};
 use super::table::{drop_all, lowest, next};
 use super::{Outcome, Refused, Route, World, named, refuse, same};
-use lekchnam_host::lent::{RelayCircuit, RelayPending, ReservationId, StoredPeer};
+use lekchnam_host::lent::{InflightAction, RelayCircuit, RelayPending, ReservationId, ReservationUsage, StoredPeer};
 
 /// "Reason and detail are constants".
 type Notice = (u16, &'static str);
@@ -41,20 +41,20 @@ impl World {
     pub(super) fn end_pending(&mut self, place: usize) {
         let id = self.tables.pending[place].circuit_id;
         self.tables.pending[place].used = false;
-        drop_all(&mut self.tables.inflight, |action| action.circuit_id == id);
+        drop_all(&mut self.tables, |action: &InflightAction| action.circuit_id == id);
         self.count_revoked();
     }
 
     pub(super) fn end_circuit(&mut self, place: usize) {
         let id = self.tables.circuits[place].circuit_id;
         self.tables.circuits[place].used = false;
-        drop_all(&mut self.tables.inflight, |action| action.circuit_id == id);
+        drop_all(&mut self.tables, |action: &InflightAction| action.circuit_id == id);
         self.count_revoked();
     }
 
     /// "A pending record revoked gives ERROR to the requester, CLOSE to the endpoint".
     fn revoke_pending(&mut self, id: u64, why: Notice) -> Vec<Route> {
-        let Some(place) = lowest(&self.tables.pending, |p| p.circuit_id == id) else { return Vec::new() };
+        let Some(place) = lowest(&self.tables, |p: &RelayPending| p.circuit_id == id) else { return Vec::new() };
         let p = self.tables.pending[place];
         self.end_pending(place);
         [self.tell(to_requester(&p, ERROR, why)), self.tell(close_to_endpoint(&p, why))].concat()
@@ -63,7 +63,7 @@ impl World {
     /// "Revocation ends the record, drops its actions, then sends CLOSE to requester, then endpoint, also to a peer that just
     /// disconnected."
     fn revoke_circuit(&mut self, id: u64, why: Notice) -> Vec<Route> {
-        let Some(place) = lowest(&self.tables.circuits, |c| c.circuit_id == id) else { return Vec::new() };
+        let Some(place) = lowest(&self.tables, |c: &RelayCircuit| c.circuit_id == id) else { return Vec::new() };
         let c = self.tables.circuits[place];
         self.end_circuit(place);
         [c.requester, c.endpoint].map(|peer| self.tell(notice(peer, id, CLOSE, id, why))).concat()
@@ -71,7 +71,7 @@ impl World {
 
     /// "on disconnect only the other peer hears, by CLOSE".
     fn disconnect_pending(&mut self, id: u64, peer: &StoredPeer) -> Vec<Route> {
-        let Some(place) = lowest(&self.tables.pending, |p| p.circuit_id == id) else { return Vec::new() };
+        let Some(place) = lowest(&self.tables, |p: &RelayPending| p.circuit_id == id) else { return Vec::new() };
         let p = self.tables.pending[place];
         self.end_pending(place);
         let close = match same(&p.requester, peer) {
@@ -92,12 +92,12 @@ impl World {
     ) -> Vec<Route> {
         let mut routes = Vec::new();
         let mut last = None;
-        while let Some((id, place)) = next(&self.tables.pending, |p| p.circuit_id, &pending, last) {
+        while let Some((id, place)) = next(&self.tables, |p| p.circuit_id, &pending, last) {
             last = Some((id, place));
             routes.extend(end(self, id));
         }
         last = None;
-        while let Some((id, place)) = next(&self.tables.circuits, |c| c.circuit_id, &circuits, last) {
+        while let Some((id, place)) = next(&self.tables, |c| c.circuit_id, &circuits, last) {
             last = Some((id, place));
             routes.extend(self.revoke_circuit(id, why));
         }
@@ -107,7 +107,7 @@ impl World {
     /// "Disconnect first drops every action toward that peer, then revokes the records it is a side of."
     pub(super) fn disconnect(&mut self, peer: &[u8]) -> Outcome {
         let peer = named(peer)?;
-        drop_all(&mut self.tables.inflight, |action| same(&action.destination, &peer));
+        drop_all(&mut self.tables, |action: &InflightAction| same(&action.destination, &peer));
         Ok(self.revoke_all(
             |p| same(&p.requester, &peer) || same(&p.endpoint, &peer),
             |world, id| world.disconnect_pending(id, &peer),
@@ -118,7 +118,7 @@ impl World {
 
     /// "Revoking a reservation revokes the records that store its id and removes its ledger record."
     pub(super) fn revoke_reservation(&mut self, id: ReservationId) -> Vec<Route> {
-        if let Some(place) = lowest(&self.tables.ledger, |usage| usage.reservation_id == id) {
+        if let Some(place) = lowest(&self.tables, |usage: &ReservationUsage| usage.reservation_id == id) {
             self.tables.ledger[place].used = false;
         }
         self.revoke_all(
@@ -152,7 +152,7 @@ impl World {
         self.runtime.generation = expected.checked_add(1).ok_or(Refused::GenerationExhausted)?;
         self.runtime.enabled = enabled;
         self.runtime.next_action_sequence = 1;
-        drop_all(&mut self.tables.inflight, |_| true);
+        drop_all(&mut self.tables, |_: &InflightAction| true);
         let off = !enabled;
         Ok(self.revoke_all(|_| off, |world, id| world.revoke_pending(id, RELAY_DISABLED), |_| off, RELAY_DISABLED))
     }
@@ -161,11 +161,12 @@ impl World {
     pub(super) fn acknowledge(&mut self, generation: u64, sequence: u64, delivered: bool) -> Outcome {
         refuse(generation != self.runtime.generation, Refused::StaleGeneration)?;
         let tables = &mut self.tables;
-        let found = lowest(&tables.inflight, |action| (action.generation, action.sequence) == (generation, sequence));
-        let action = &mut tables.inflight[found.ok_or(Refused::UnknownAction)?];
-        action.used = false;
+        let numbered = |action: &InflightAction| (action.generation, action.sequence) == (generation, sequence);
+        let found = lowest(tables, numbered).ok_or(Refused::UnknownAction)?;
+        let action = tables.inflight[found];
+        tables.inflight[found].used = false;
         let (id, kind) = (action.circuit_id, Kind::stored(action.kind));
-        if let (Kind::Data, Some(place)) = (kind, lowest(&tables.circuits, |c| c.circuit_id == id)) {
+        if let (Kind::Data, Some(place)) = (kind, lowest(tables, |c: &RelayCircuit| c.circuit_id == id)) {
             let circuit = &mut tables.circuits[place];
             let queue = if action.to_endpoint { &mut circuit.queued_to_endpoint } else { &mut circuit.queued_to_requester };
             *queue = queue.saturating_sub(action.bytes);
@@ -180,7 +181,7 @@ impl World {
 
     /// "Incoming ends the pending record, other actions staying, and sends ERROR".
     fn fail_incoming(&mut self, id: u64) -> Outcome {
-        let Some(place) = lowest(&self.tables.pending, |p| p.circuit_id == id) else { return Ok(Vec::new()) };
+        let Some(place) = lowest(&self.tables, |p: &RelayPending| p.circuit_id == id) else { return Ok(Vec::new()) };
         let p = self.tables.pending[place];
         self.tables.pending[place].used = false;
         self.count_revoked();

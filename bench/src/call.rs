@@ -17,10 +17,37 @@ pub enum Call {
     Disconnect,
     Expire,
     Status,
+    Refused(Refusal),
+}
+
+/// Packets that are refused, each for another reason.
+#[derive(Clone, Copy, Debug, Eq, PartialEq)]
+pub enum Refusal {
+    /// DATA of the middle size for a circuit that there is not.
+    Circuit,
+    /// A WINDOW that is a byte too short.
+    Body,
+    /// ACCEPT of an OPEN that nobody made.
+    Request,
+    /// OPENED, which only the relay sends.
+    Opcode,
+}
+
+impl Refusal {
+    pub const ALL: [Self; 4] = [Self::Circuit, Self::Body, Self::Request, Self::Opcode];
+
+    fn label(self) -> &'static str {
+        match self {
+            Self::Circuit => "refused with 14: DATA of an unknown circuit",
+            Self::Body => "refused with 1: WINDOW of three bytes",
+            Self::Request => "refused with 13: ACCEPT of an unknown request",
+            Self::Opcode => "refused with 16: OPENED",
+        }
+    }
 }
 
 impl Call {
-    pub const ALL: [Self; 12] = [
+    pub const ALL: [Self; 16] = [
         Self::Open,
         Self::Accept,
         Self::Data(0),
@@ -33,6 +60,10 @@ impl Call {
         Self::Disconnect,
         Self::Expire,
         Self::Status,
+        Self::Refused(Refusal::Circuit),
+        Self::Refused(Refusal::Body),
+        Self::Refused(Refusal::Request),
+        Self::Refused(Refusal::Opcode),
     ];
 
     pub fn label(self) -> &'static str {
@@ -49,6 +80,7 @@ impl Call {
             Self::Disconnect => "disconnect",
             Self::Expire => "expire",
             Self::Status => "status",
+            Self::Refused(refusal) => refusal.label(),
         }
     }
 
@@ -68,8 +100,11 @@ pub enum Turn {
     Leave,
     /// expire with nothing due; status.
     Idle,
+    /// One packet of each refusal.
+    Refused,
 }
 
 impl Turn {
-    pub const ALL: [Self; 6] = [Self::Traffic(0), Self::Traffic(1), Self::Traffic(2), Self::Life, Self::Leave, Self::Idle];
+    pub const ALL: [Self; 7] =
+        [Self::Traffic(0), Self::Traffic(1), Self::Traffic(2), Self::Life, Self::Leave, Self::Idle, Self::Refused];
 }

@@ -1,4 +1,5 @@
 //! The circuits of a run, and the messages about them.
+use crate::call::{Refusal, SIZES};
 use crate::side::{Message, Name};
 use lekchnam_traces::Grant;
 
@@ -67,6 +68,16 @@ impl Circuit {
     /// The CLOSE of a requester that does not wait for the ACCEPT.
     pub fn cancel(&self) -> Message {
         Message { context: self.context, ..self.close() }
+    }
+
+    /// A packet that is refused. No circuit has the context of an OPEN as its id, and no OPEN does.
+    pub fn refused(&self, refusal: Refusal) -> Message {
+        match refusal {
+            Refusal::Circuit => Message { context: self.context, ..self.data(self.requester, SIZES[1]) },
+            Refusal::Body => self.message(self.endpoint, 18, vec![0; 3]),
+            Refusal::Request => Message { context: self.context, ..self.accept() },
+            Refusal::Opcode => self.message(self.endpoint, 16, Vec::new()),
+        }
     }
 
     fn message(&self, source: Name, opcode: u8, body: Vec<u8>) -> Message {

@@ -1,8 +1,8 @@
 //! One side with its load, and the circuits that the calls are measured on.
-use crate::call::{Call, SIZES, Turn};
+use crate::call::{Call, Refusal, SIZES, Turn};
 use crate::circuit::Circuit;
 use crate::load::{Fill, Load};
-use crate::side::{Message, Seen, Side};
+use crate::side::{Message, NOW, Seen, Side};
 use crate::times::Times;
 
 /// How many circuits the calls are measured on. Each call is made once on each.
@@ -17,6 +17,7 @@ struct Own<S: Side> {
     data: [Vec<S::Packet>; SIZES.len()],
     window: [Vec<S::Packet>; SIZES.len()],
     close: Vec<S::Packet>,
+    refused: [Vec<S::Packet>; Refusal::ALL.len()],
     requesters: Vec<S::Peer>,
 }
 
@@ -31,6 +32,7 @@ impl<S: Side> Own<S> {
             data: SIZES.map(|size| each(&|circuit| circuit.data(circuit.requester, size))),
             window: SIZES.map(|size| each(&|circuit| circuit.window(size))),
             close: each(&Circuit::close),
+            refused: Refusal::ALL.map(|refusal| each(&|circuit| circuit.refused(refusal))),
             requesters: circuits.iter().map(|circuit| S::peer(&circuit.requester)).collect(),
         }
     }
@@ -71,8 +73,13 @@ impl<S: Side> Relay<S> {
                 self.open_own();
             }
             Turn::Idle => {
-                self.timed(Call::Expire, |side, _, seen, _| side.expire(seen));
+                self.timed(Call::Expire, |side, _, seen, _| side.expire(NOW, seen));
                 self.timed(Call::Status, |side, _, seen, _| side.status(seen));
+            }
+            Turn::Refused => {
+                for (kind, refusal) in Refusal::ALL.into_iter().enumerate() {
+                    self.timed(Call::Refused(refusal), |side, own, seen, place| side.refused(&own.refused[kind][place], seen));
+                }
             }
         }
     }

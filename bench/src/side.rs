@@ -6,11 +6,15 @@ pub use library::Library;
 pub use rust::Rust;
 
 use lekchnam_traces::{Config, Grant};
-use std::fmt::Debug;
+use std::fmt::{Debug, Display};
 use std::hint::black_box;
 
 /// The clock of every call. It stands still, so that no OPEN of the load runs out.
 pub const NOW: u64 = 1_000_000;
+
+/// What a relay is made with.
+const SESSION: [u8; 16] = [1; 16];
+const GENERATION: u64 = 1;
 
 /// A peer's name.
 pub type Name = [u8; 16];
@@ -56,6 +60,13 @@ impl Seen {
         self.note(&route);
     }
 
+    pub fn refusal(&mut self, words: impl Display) {
+        let words = black_box(words);
+        if let Some(log) = &mut self.log {
+            log.push(words.to_string());
+        }
+    }
+
     pub fn note(&mut self, answer: &impl Debug) {
         if let Some(log) = &mut self.log {
             log.push(format!("{answer:?}"));
@@ -63,7 +74,7 @@ impl Seen {
     }
 }
 
-/// A relay under test. Every call must be taken: a refusal ends the run.
+/// A relay under test. Every call must be taken, but `refused` must not: else the run ends.
 pub trait Side {
     /// A message as this side takes it, made before the clock runs.
     type Packet;
@@ -73,8 +84,10 @@ pub trait Side {
     fn packet(message: &Message) -> Self::Packet;
     fn peer(name: &Name) -> Self::Peer;
     fn handle(&mut self, packet: &Self::Packet, seen: &mut Seen);
+    fn refused(&mut self, packet: &Self::Packet, seen: &mut Seen);
     fn acknowledge(&mut self, id: ActionId, seen: &mut Seen);
     fn disconnect(&mut self, peer: &Self::Peer, seen: &mut Seen);
-    fn expire(&mut self, seen: &mut Seen);
+    fn expire(&mut self, now: u64, seen: &mut Seen);
+    fn switch_off(&mut self, seen: &mut Seen);
     fn status(&self, seen: &mut Seen);
 }

@@ -1,6 +1,6 @@
 //! The proved library, by the host's `OpaqueRelayRuntime`.
-use super::{ActionId, Message, NOW, Name, Route, Seen, Side};
-use lekchnam_host::{Admission, HnsrActionId, HnsrPacket, HnsrPeerId, OpaqueRelayRuntime, RandomSource, Routes};
+use super::{ActionId, GENERATION, Message, NOW, Name, Route, SESSION, Seen, Side};
+use lekchnam_host::{Admission, HnsrActionId, HnsrPacket, HnsrPeerId, HnsrRuntimeError, OpaqueRelayRuntime, RandomSource, Routes};
 use lekchnam_traces::{Config, Grant};
 use std::hint::black_box;
 
@@ -36,12 +36,20 @@ fn read(routes: Routes<'_>, seen: &mut Seen) {
     }
 }
 
+impl Library {
+    fn answer(&mut self, packet: &Packet) -> Result<Routes<'_>, HnsrRuntimeError> {
+        let message = HnsrPacket { opcode: packet.opcode.into(), context_id: packet.context, body: &packet.body };
+        let admission = packet.grant.as_ref().map_or(Admission::Refused, |grant| Admission::Granted(grant.lent()));
+        self.0.handle(&admission, &packet.source, &message, NOW)
+    }
+}
+
 impl Side for Library {
     type Packet = Packet;
     type Peer = HnsrPeerId;
 
     fn new(config: Config) -> Self {
-        let relay = OpaqueRelayRuntime::new_with([1; 16], 1, config, NOW, config.ledger_places(), Draws);
+        let relay = OpaqueRelayRuntime::new_with(SESSION, GENERATION, config, NOW, config.ledger_places(), Draws);
         Self(relay.expect("a good configuration"))
     }
 
@@ -60,9 +68,11 @@ impl Side for Library {
     }
 
     fn handle(&mut self, packet: &Packet, seen: &mut Seen) {
-        let message = HnsrPacket { opcode: packet.opcode.into(), context_id: packet.context, body: &packet.body };
-        let admission = packet.grant.as_ref().map_or(Admission::Refused, |grant| Admission::Granted(grant.lent()));
-        read(self.0.handle(&admission, &packet.source, &message, NOW).expect("taken"), seen);
+        read(self.answer(packet).expect("taken"), seen);
+    }
+
+    fn refused(&mut self, packet: &Packet, seen: &mut Seen) {
+        seen.refusal(self.answer(packet).err().expect("refused"));
     }
 
     fn acknowledge(&mut self, id: ActionId, seen: &mut Seen) {
@@ -74,8 +84,12 @@ impl Side for Library {
         read(self.0.disconnect(peer).expect("taken"), seen);
     }
 
-    fn expire(&mut self, seen: &mut Seen) {
-        read(self.0.expire(NOW).expect("taken"), seen);
+    fn expire(&mut self, now: u64, seen: &mut Seen) {
+        read(self.0.expire(now).expect("taken"), seen);
+    }
+
+    fn switch_off(&mut self, seen: &mut Seen) {
+        read(self.0.replace_enabled(GENERATION, false).expect("taken"), seen);
     }
 
     fn status(&self, seen: &mut Seen) {

@@ -1,7 +1,8 @@
 //! The Rust as written: hns-hnsr-protocol's `OpaqueRelayRuntime` over the standard library's `HashMap`.
-use super::{ActionId, Message, NOW, Name, Route, Seen, Side};
+use super::{ActionId, GENERATION, Message, NOW, Name, Route, SESSION, Seen, Side};
 use hns_hnsr_protocol::{
-    ConfirmedReservation, HnsrActionId, HnsrOpcode, HnsrPacket, HnsrPeerId, OpaqueRelayRuntime, QueuedHnsrRoute, RelayService,
+    ConfirmedReservation, HnsrActionId, HnsrOpcode, HnsrPacket, HnsrPeerId, HnsrRuntimeError, OpaqueRelayRuntime, QueuedHnsrRoute,
+    RelayService,
 };
 use lekchnam_traces::Config;
 use std::hint::black_box;
@@ -27,12 +28,18 @@ fn read(routes: Vec<QueuedHnsrRoute>, seen: &mut Seen) {
     }
 }
 
+impl Rust {
+    fn answer(&mut self, packet: &Packet) -> Result<Vec<QueuedHnsrRoute>, HnsrRuntimeError> {
+        self.0.handle(&packet.service, &packet.source, &packet.message, NOW)
+    }
+}
+
 impl Side for Rust {
     type Packet = Packet;
     type Peer = HnsrPeerId;
 
     fn new(config: Config) -> Self {
-        Self(OpaqueRelayRuntime::new([1; 16], 1, config.into(), NOW).expect("a good configuration"))
+        Self(OpaqueRelayRuntime::new(SESSION, GENERATION, config.into(), NOW).expect("a good configuration"))
     }
 
     fn packet(message: &Message) -> Packet {
@@ -49,7 +56,11 @@ impl Side for Rust {
     }
 
     fn handle(&mut self, packet: &Packet, seen: &mut Seen) {
-        read(self.0.handle(&packet.service, &packet.source, &packet.message, NOW).expect("taken"), seen);
+        read(self.answer(packet).expect("taken"), seen);
+    }
+
+    fn refused(&mut self, packet: &Packet, seen: &mut Seen) {
+        seen.refusal(self.answer(packet).expect_err("refused"));
     }
 
     fn acknowledge(&mut self, id: ActionId, seen: &mut Seen) {
@@ -61,8 +72,12 @@ impl Side for Rust {
         read(self.0.disconnect(peer), seen);
     }
 
-    fn expire(&mut self, seen: &mut Seen) {
-        read(self.0.expire(NOW).expect("taken"), seen);
+    fn expire(&mut self, now: u64, seen: &mut Seen) {
+        read(self.0.expire(now).expect("taken"), seen);
+    }
+
+    fn switch_off(&mut self, seen: &mut Seen) {
+        read(self.0.replace_enabled(GENERATION, false).expect("taken"), seen);
     }
 
     fn status(&self, seen: &mut Seen) {

@@ -1,5 +1,6 @@
 //! The chosen calls as a picture: cost against use, both sides, on a scale of powers of ten.
-use crate::call::Call;
+use crate::call::{Call, Refusal};
+use crate::pair::Cost;
 use crate::report::{CHOSEN, Figure, grouped};
 use std::fmt::Write;
 
@@ -15,6 +16,12 @@ const POWERS: (i32, i32) = (1, 7);
 
 /// How a side is drawn: name, colour, dashes.
 const SIDES: [(&str, &str, &str); 2] = [("library", "#0b6e99", "none"), ("the Rust", "#c2571a", "6 4")];
+
+/// A packet that is refused, drawn thin in the panel of one that is taken.
+const THIN: (Call, Call) = (Call::Data(1), Call::Refused(Refusal::Circuit));
+/// How wide a line is.
+const WIDE: f64 = 2.0;
+const NARROW: f64 = 0.8;
 
 struct Panel {
     left: f64,
@@ -54,7 +61,13 @@ impl Panel {
         Ok(())
     }
 
-    fn curve(&self, svg: &mut String, side: usize, costs: &[f64]) -> std::fmt::Result {
+    fn curves(&self, svg: &mut String, call: Call, width: f64, figures: &[Figure]) -> std::fmt::Result {
+        let of = |cost: fn(&Cost) -> f64| figures.iter().map(|(_, costs)| cost(&costs[call.place()])).collect();
+        let both: [Vec<f64>; 2] = [of(|cost| cost.library), of(|cost| cost.rust)];
+        both.iter().enumerate().try_for_each(|(side, costs)| self.curve(svg, side, width, costs))
+    }
+
+    fn curve(&self, svg: &mut String, side: usize, width: f64, costs: &[f64]) -> std::fmt::Result {
         let (name, colour, dashes) = SIDES[side];
         let points: Vec<(f64, f64)> =
             costs.iter().enumerate().map(|(place, cost)| (self.x(place, costs.len()), self.y(*cost))).collect();
@@ -62,11 +75,15 @@ impl Panel {
         let line = line.join(" ");
         writeln!(
             svg,
-            r#"<polyline points="{line}" fill="none" stroke="{colour}" stroke-width="2" stroke-dasharray="{dashes}"/>"#
+            r#"<polyline points="{line}" fill="none" stroke="{colour}" stroke-width="{width}" stroke-dasharray="{dashes}"/>"#
         )?;
         for ((x, y), cost) in points.iter().zip(costs) {
             let title = format!("{name}: {} ns", grouped(*cost));
-            writeln!(svg, r#"<circle cx="{x:.1}" cy="{y:.1}" r="3.5" fill="{colour}"><title>{title}</title></circle>"#)?;
+            writeln!(
+                svg,
+                r#"<circle cx="{x:.1}" cy="{y:.1}" r="{}" fill="{colour}"><title>{title}</title></circle>"#,
+                1.75 * width
+            )?;
         }
         Ok(())
     }
@@ -92,10 +109,9 @@ pub fn svg(figures: &[Figure]) -> Result<String, std::fmt::Error> {
     for (place, call) in CHOSEN.into_iter().enumerate() {
         let panel = Panel::at(place);
         panel.frame(&mut svg, call, figures)?;
-        let of = |cost: fn(&crate::pair::Cost) -> f64| figures.iter().map(|(_, costs)| cost(&costs[call.place()])).collect();
-        let both: [Vec<f64>; 2] = [of(|cost| cost.library), of(|cost| cost.rust)];
-        for (side, costs) in both.iter().enumerate() {
-            panel.curve(&mut svg, side, costs)?;
+        panel.curves(&mut svg, call, WIDE, figures)?;
+        if call == THIN.0 {
+            panel.curves(&mut svg, THIN.1, NARROW, figures)?;
         }
     }
     writeln!(svg, "</svg>")?;
@@ -107,8 +123,9 @@ fn legend(svg: &mut String) -> std::fmt::Result {
     for (side, (name, colour, dashes)) in SIDES.into_iter().enumerate() {
         let x = LEFT + 480.0 + 130.0 * side as f64;
         let line = format!(r#"x1="{x}" y1="20" x2="{}" y2="20""#, x + 36.0);
-        writeln!(svg, r#"<line {line} stroke="{colour}" stroke-width="2" stroke-dasharray="{dashes}"/>"#)?;
+        writeln!(svg, r#"<line {line} stroke="{colour}" stroke-width="{WIDE}" stroke-dasharray="{dashes}"/>"#)?;
         writeln!(svg, r#"<text x="{}" y="24">{name}</text>"#, x + 44.0)?;
     }
-    Ok(())
+    let x = LEFT + 480.0 + 130.0 * SIDES.len() as f64;
+    writeln!(svg, r#"<text x="{x}" y="24">thin, with DATA: of an unknown circuit, refused</text>"#)
 }

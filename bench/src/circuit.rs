@@ -70,7 +70,7 @@ impl Circuit {
         Message { context: self.context, ..self.close() }
     }
 
-    /// A packet that is refused. No circuit has the context of an OPEN as its id, and no OPEN does.
+    /// A packet that is refused. Nothing goes by the context of an OPEN but the OPEN.
     pub fn refused(&self, refusal: Refusal) -> Message {
         match refusal {
             Refusal::Circuit => Message { context: self.context, ..self.data(self.requester, SIZES[1]) },

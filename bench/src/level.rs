@@ -1,5 +1,5 @@
 //! The relays that are measured: how large, and how much of them is in use.
-use crate::call::Call;
+use crate::call::{Call, Refusal};
 use crate::load::Fill;
 use crate::relay::OWN;
 use lekchnam_traces::Config;
@@ -24,10 +24,12 @@ impl Level {
     /// As empty, but full before.
     pub const EMPTIED: Self = Self { label: "emptied", share: 0.0 };
     pub const OF_SIZES: [Self; 2] = [Self::EMPTY, Self::HALF];
-}
 
-/// The table sizes that are compared, in actions; the last is the default's.
-pub const SIZES: [usize; 4] = [64, 1_024, 8_192, 65_536];
+    /// Those with a load.
+    pub fn loaded() -> &'static [Self; 4] {
+        Self::RISING.last_chunk().expect("there are more")
+    }
+}
 
 /// The default configuration with its maxima scaled to so many actions, but with room for the circuits that are measured beside as many
 /// others. A circuit may pass any number of bytes, so that one lasts through the run.
@@ -45,12 +47,23 @@ pub fn config(actions: usize) -> Config {
     }
 }
 
-/// How many records the library reads in one reading of what a call goes through: up to the action that is acknowledged; where nothing is due
-/// the other three tables; else all actions.
-pub fn records(call: Call, config: &Config, level: Level) -> usize {
-    match call {
-        Call::Acknowledge => Fill::share(config, level.share).actions + OWN / 2,
-        Call::Expire => config.maximum_pending + config.maximum_circuits + config.ledger_places(),
-        _ => config.maximum_inflight_actions,
-    }
+/// As `config`, but one circuit may have all actions, and one peer too.
+pub fn few_circuits(actions: usize) -> Config {
+    Config { maximum_inflight_actions_per_circuit: actions, maximum_inflight_actions_per_peer: actions, ..config(actions) }
+}
+
+/// How many records in use the library reads in one reading of what a call goes through: circuits or pending records where there is
+/// none to be found; up to the action that is acknowledged; where nothing is due the three tables but that of actions; else all actions.
+/// None where nothing is in use, or nothing is read.
+pub fn records(call: Call, config: &Config, level: Level) -> Option<usize> {
+    let fill = Fill::share(config, level.share);
+    let count = match call {
+        Call::Refused(Refusal::Circuit) => fill.circuits + OWN,
+        Call::Refused(Refusal::Request) => fill.pending,
+        Call::Refused(Refusal::Body | Refusal::Opcode) => 0,
+        Call::Acknowledge => fill.actions + OWN / 2,
+        Call::Expire => fill.pending + fill.circuits + fill.reservations() + 2 * OWN,
+        _ => fill.actions,
+    };
+    (level.share > 0.0 && count > 0).then_some(count)
 }

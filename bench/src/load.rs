@@ -1,7 +1,7 @@
 //! What stands in the tables beside the circuits that the calls are measured on.
 use crate::circuit::Circuit;
 use crate::relay::OWN;
-use crate::side::{Message, Seen, Side};
+use crate::side::{ActionId, Message, Seen, Side};
 use lekchnam_traces::Config;
 
 /// The first numbers of the load's circuits and OPENs, and of their peers.
@@ -35,12 +35,28 @@ impl Fill {
             actions,
         }
     }
+
+    /// So many actions outstanding, less the same places, on as many circuits as are measured; no OPEN waits.
+    pub fn few_circuits(outstanding: usize) -> Self {
+        Self { pending: 0, circuits: OWN, actions: outstanding.saturating_sub(2 * OWN) }
+    }
+
+    /// What ends when all does.
+    pub fn ending(&self) -> usize {
+        self.pending + self.circuits
+    }
+
+    /// Under how many reservations the load goes.
+    pub fn reservations(&self) -> usize {
+        [self.pending, self.circuits].map(|records| records.div_ceil(PER_ENDPOINT as usize)).iter().sum()
+    }
 }
 
 /// The load of one side.
 pub struct Load<S: Side> {
     pending: usize,
-    /// DATA of one byte of each circuit's requester, then of its endpoint.
+    circuits: usize,
+    /// DATA of one byte of each circuit's requester, then of its endpoint. There may be more than there are circuits.
     data: Vec<S::Packet>,
     /// Its routes that are not acknowledged.
     actions: Seen,
@@ -48,7 +64,16 @@ pub struct Load<S: Side> {
 
 impl<S: Side> Load<S> {
     pub fn new() -> Self {
-        Self { pending: 0, data: Vec::new(), actions: Seen::default() }
+        Self { pending: 0, circuits: 0, data: Vec::new(), actions: Seen::default() }
+    }
+
+    /// None yet, but the driver's own memory for it is taken.
+    pub fn ready(to: Fill) -> Self {
+        let mut load = Self::new();
+        (0..to.circuits).for_each(|place| load.add_data(&spread(CIRCUITS, place)));
+        load.actions.ids = vec![ActionId { generation: 1, sequence: 1 }; to.actions];
+        load.actions.ids.clear();
+        load
     }
 
     /// Adds what is missing. Where there is too much of something, all ends first.
@@ -56,7 +81,7 @@ impl<S: Side> Load<S> {
         if self.actions.ids.len() > to.actions {
             self.end(side);
         }
-        while self.data.len() < 2 * to.circuits {
+        while self.circuits < to.circuits {
             self.add_circuit(side);
         }
         while self.pending < to.pending {
@@ -64,15 +89,22 @@ impl<S: Side> Load<S> {
             self.pending += 1;
         }
         while self.actions.ids.len() < to.actions {
-            let next = self.actions.ids.len() % self.data.len();
+            let next = self.actions.ids.len() % (2 * self.circuits);
             side.handle(&self.data[next], &mut self.actions);
         }
     }
 
     fn add_circuit(&mut self, side: &mut S) {
-        let circuit = spread(CIRCUITS, self.data.len() / 2);
+        let circuit = spread(CIRCUITS, self.circuits);
         open(side, &circuit);
         delivered(side, &circuit.accept());
+        self.circuits += 1;
+        if self.data.len() < 2 * self.circuits {
+            self.add_data(&circuit);
+        }
+    }
+
+    fn add_data(&mut self, circuit: &Circuit) {
         self.data.push(S::packet(&circuit.data(circuit.requester, 1)));
         self.data.push(S::packet(&circuit.data(circuit.endpoint, 1)));
     }
@@ -81,7 +113,7 @@ impl<S: Side> Load<S> {
         for id in std::mem::take(&mut self.actions.ids) {
             side.acknowledge(id, &mut self.actions);
         }
-        for place in 0..self.data.len() / 2 {
+        for place in 0..self.circuits {
             delivered(side, &spread(CIRCUITS, place).close());
         }
         for place in 0..self.pending {

@@ -7,11 +7,10 @@ use lekchnam_traces::Config;
 use std::ops::Add;
 use std::time::{Duration, Instant};
 
-/// Turns that are not counted, and how many are: the least, the most, and how long between these.
+/// Turns that are not counted, and how many are: the least and the most. Between these a budget of time decides.
 const WARM_UP: usize = 3;
 const LEAST: usize = 15;
 const MOST: usize = 2_000;
-const BUDGET: Duration = Duration::from_millis(1_500);
 
 /// Nanoseconds of one call.
 #[derive(Clone, Copy, Debug)]
@@ -37,11 +36,12 @@ impl Add for Cost {
 pub struct Pair {
     library: Relay<Library>,
     rust: Relay<Rust>,
+    budget: Duration,
 }
 
 impl Pair {
-    pub fn new(config: Config) -> Self {
-        Self { library: Relay::new(Library::new(config)), rust: Relay::new(Rust::new(config)) }
+    pub fn new(config: Config, budget: Duration) -> Self {
+        Self { library: Relay::new(Library::new(config)), rust: Relay::new(Rust::new(config)), budget }
     }
 
     pub fn fill(&mut self, to: Fill) {
@@ -49,15 +49,15 @@ impl Pair {
         self.rust.fill(to);
     }
 
-    /// The cost of every call, in the order of `Call::ALL`.
-    pub fn measure(&mut self) -> Vec<Cost> {
-        for turn in Turn::ALL {
-            self.compare(turn);
-            (0..WARM_UP).for_each(|count| self.turn(turn, count % 2 == 0));
+    /// The cost of every call of these turns, in the order of `Call::ALL`; that of other calls is not a number.
+    pub fn measure(&mut self, turns: &[Turn]) -> Vec<Cost> {
+        for turn in turns {
+            self.compare(*turn);
+            (0..WARM_UP).for_each(|count| self.turn(*turn, count % 2 == 0));
         }
         self.library.times.forget();
         self.rust.times.forget();
-        Turn::ALL.iter().for_each(|turn| self.run(*turn));
+        turns.iter().for_each(|turn| self.run(*turn));
         Call::ALL.map(|call| self.cost(call)).to_vec()
     }
 
@@ -72,7 +72,7 @@ impl Pair {
     fn run(&mut self, turn: Turn) {
         let start = Instant::now();
         for count in 0..MOST {
-            if count >= LEAST && start.elapsed() > BUDGET {
+            if count >= LEAST && start.elapsed() > self.budget {
                 return;
             }
             self.turn(turn, count % 2 == 0);
@@ -101,17 +101,40 @@ impl Pair {
 mod tests {
     use super::Pair;
     use crate::call::Turn;
-    use crate::level::{Level, SIZES, config};
+    use crate::level::{Level, config, few_circuits};
     use crate::load::Fill;
+    use crate::plan::Plan;
+    use crate::relay::OWN;
 
     #[test]
     fn the_sides_agree_at_every_level_of_the_smallest_relays() {
-        for config in [SIZES[0], SIZES[1]].map(config) {
-            let mut pair = Pair::new(config);
+        for config in [64, 1_024].map(config) {
+            let mut pair = Pair::new(config, Plan::SHORT.budget);
             for level in [&Level::RISING[..], &[Level::EMPTIED]].concat() {
                 pair.fill(Fill::share(&config, level.share));
                 Turn::ALL.iter().for_each(|turn| pair.compare(*turn));
             }
+        }
+    }
+
+    #[test]
+    fn packets_are_refused_as_their_labels_say() {
+        let mut pair = Pair::new(config(64), Plan::SHORT.budget);
+        pair.library.seen.log = Some(Vec::new());
+        pair.turn(Turn::Refused, true);
+        let words = pair.library.seen.log.take().expect("it was asked for");
+        let short = "unexpected end of input at byte 0; needed 1 more byte(s)";
+        let expected = ["unknown HNSR circuit", short, "unknown HNSR circuit request", "unexpected HNSR runtime opcode"];
+        assert_eq!(words, expected.map(|words| [words; OWN]).concat());
+    }
+
+    #[test]
+    fn the_sides_agree_where_few_circuits_have_all_actions() {
+        let config = few_circuits(1_024);
+        let mut pair = Pair::new(config, Plan::SHORT.budget);
+        for outstanding in [256, 1_024] {
+            pair.fill(Fill::few_circuits(outstanding));
+            Turn::ALL.iter().for_each(|turn| pair.compare(*turn));
         }
     }
 }

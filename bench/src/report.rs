@@ -1,10 +1,34 @@
 //! The figures as tables of Markdown, put between marks of a document.
-use crate::call::Call;
+mod goal;
+mod once;
+
+pub use goal::goal;
+pub use once::{Endings, endings, new};
+
+use crate::call::{Call, Refusal};
 use crate::level::{Level, config, records};
 use crate::pair::Cost;
 
 /// What every call costs at a level, in the order of `Call::ALL`.
 pub type Figure = (Level, Vec<Cost>);
+
+/// What the calls cost with so many actions outstanding.
+pub type Outstanding = (usize, Vec<Cost>);
+
+/// Where there is no number.
+const NONE: &str = "–";
+
+/// The calls of the table of outstanding actions.
+const AGAINST_USE: [Call; 8] = [
+    Call::Data(1),
+    Call::Acknowledge,
+    Call::Delivered,
+    Call::Open,
+    Call::Refused(Refusal::Circuit),
+    Call::Refused(Refusal::Body),
+    Call::Refused(Refusal::Request),
+    Call::Refused(Refusal::Opcode),
+];
 
 /// The calls of the table of sizes, and of the plot.
 pub const CHOSEN: [Call; 6] = [Call::Open, Call::Data(1), Call::Acknowledge, Call::Close, Call::Disconnect, Call::Expire];
@@ -56,8 +80,9 @@ pub fn costs(figures: &[Figure], actions: usize) -> String {
     let titles = ["call", "in use", "library, ns", "the Rust, ns", "library / Rust", "library, ns for each record"];
     let row = |call: Call, (level, costs): &Figure| {
         let cost = costs[call.place()];
-        let each = cost.library / records(call, &config(actions), *level) as f64;
-        let numbers = [grouped(cost.library), grouped(cost.rust), short(cost.ratio()), format!("{each:.2}")];
+        let records = records(call, &config(actions), *level);
+        let each = records.map_or(NONE.to_owned(), |records| format!("{:.2}", cost.library / records as f64));
+        let numbers = [grouped(cost.library), grouped(cost.rust), short(cost.ratio()), each];
         [texts(&[call.label(), level.label]), numbers.to_vec()].concat()
     };
     let rows: Vec<_> = Call::ALL.iter().flat_map(|call| figures.iter().map(|figure| row(*call, figure))).collect();
@@ -68,15 +93,30 @@ pub fn costs(figures: &[Figure], actions: usize) -> String {
 pub fn sizes(list: &[(usize, Vec<Figure>)]) -> String {
     let actions = list.iter().map(|(actions, _)| format!("{} actions", grouped(*actions as f64))).collect();
     let row = |call: Call, place: usize| {
-        let cell = |(_, figures): &(usize, Vec<Figure>)| {
-            let cost = figures[place].1[call.place()];
-            format!("{} / {} = {}", grouped(cost.library), grouped(cost.rust), short(cost.ratio()))
-        };
+        let cell = |(_, figures): &(usize, Vec<Figure>)| both(figures[place].1[call.place()]);
         [texts(&[call.label(), Level::OF_SIZES[place].label]), list.iter().map(cell).collect()].concat()
     };
     let places = 0..Level::OF_SIZES.len();
     let rows: Vec<_> = CHOSEN.iter().flat_map(|call| places.clone().map(|place| row(*call, place))).collect();
     table(&[texts(&["call", "in use"]), actions].concat(), &rows)
+}
+
+/// Cost against use: calls by outstanding actions.
+pub fn outstanding(list: &[Outstanding]) -> String {
+    let row = |call: Call| {
+        let cells = list.iter().map(|(_, costs)| both(costs[call.place()])).collect();
+        [texts(&[call.label()]), cells].concat()
+    };
+    table(&[texts(&["call"]), outstanding_titles(list)].concat(), &AGAINST_USE.map(row))
+}
+
+fn outstanding_titles(list: &[Outstanding]) -> Vec<String> {
+    list.iter().map(|(actions, _)| grouped(*actions as f64)).collect()
+}
+
+/// Library / Rust = ratio.
+fn both(cost: Cost) -> String {
+    format!("{} / {} = {}", grouped(cost.library), grouped(cost.rust), short(cost.ratio()))
 }
 
 /// The document with what stands between two marks replaced.

@@ -81,6 +81,8 @@ pub trait Side {
     type Peer;
 
     fn new(config: Config) -> Self;
+    /// `new` alone, over tables that are there; none where a side has no tables.
+    fn renew(config: Config) -> Option<impl FnMut()>;
     fn packet(message: &Message) -> Self::Packet;
     fn peer(name: &Name) -> Self::Peer;
     fn handle(&mut self, packet: &Self::Packet, seen: &mut Seen);

@@ -15,8 +15,7 @@ pub struct Times {
 
 impl Times {
     pub fn new() -> Self {
-        let mut readings: Vec<f64> = (0..10_000).map(|_| Instant::now().elapsed().as_nanos() as f64).collect();
-        Self { list: Default::default(), clock: Duration::from_nanos(median(&mut readings) as u64) }
+        Self { list: Default::default(), clock: clock() }
     }
 
     /// Makes so many calls, and notes what one takes.
@@ -41,7 +40,14 @@ impl Times {
     }
 }
 
-fn median(list: &mut [f64]) -> f64 {
+/// What it takes to read the clock.
+pub fn clock() -> Duration {
+    let mut readings: Vec<f64> = (0..10_000).map(|_| Instant::now().elapsed().as_nanos() as f64).collect();
+    Duration::from_nanos(median(&mut readings) as u64)
+}
+
+/// Of no numbers it is not a number.
+pub fn median(list: &mut [f64]) -> f64 {
     list.sort_unstable_by(f64::total_cmp);
-    list[list.len() / 2]
+    list.get(list.len() / 2).copied().unwrap_or(f64::NAN)
 }

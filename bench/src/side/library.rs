@@ -1,6 +1,9 @@
 //! The proved library, by the host's `OpaqueRelayRuntime`.
 use super::{ActionId, GENERATION, Message, NOW, Name, Route, SESSION, Seen, Side};
-use lekchnam_host::{Admission, HnsrActionId, HnsrPacket, HnsrPeerId, HnsrRuntimeError, OpaqueRelayRuntime, RandomSource, Routes};
+use lekchnam_host::lent::{self, Tables};
+use lekchnam_host::{
+    Admission, HnsrActionId, HnsrPacket, HnsrPeerId, HnsrRuntimeError, OpaqueRelayRuntime, RandomSource, Routes,
+};
 use lekchnam_traces::{Config, Grant};
 use std::hint::black_box;
 
@@ -53,6 +56,13 @@ impl Side for Library {
         Self(relay.expect("a good configuration"))
     }
 
+    fn renew(config: Config) -> Option<impl FnMut()> {
+        let mut tables = Tables::new(&config, config.ledger_places()).expect("memory");
+        Some(move || {
+            black_box(lent::new(&mut tables, SESSION, GENERATION, config, NOW)).expect("a good configuration");
+        })
+    }
+
     fn packet(message: &Message) -> Packet {
         Packet {
             source: Self::peer(&message.source),
@@ -72,7 +82,7 @@ impl Side for Library {
     }
 
     fn refused(&mut self, packet: &Packet, seen: &mut Seen) {
-        seen.refusal(self.answer(packet).err().expect("refused"));
+        seen.refusal(self.answer(packet).expect_err("refused"));
     }
 
     fn acknowledge(&mut self, id: ActionId, seen: &mut Seen) {

@@ -1,8 +1,8 @@
 //! The Rust as written: hns-hnsr-protocol's `OpaqueRelayRuntime` over the standard library's `HashMap`.
 use super::{ActionId, GENERATION, Message, NOW, Name, Route, SESSION, Seen, Side};
 use hns_hnsr_protocol::{
-    ConfirmedReservation, HnsrActionId, HnsrOpcode, HnsrPacket, HnsrPeerId, HnsrRuntimeError, OpaqueRelayRuntime, QueuedHnsrRoute,
-    RelayService,
+    ConfirmedReservation, HnsrActionId, HnsrOpcode, HnsrPacket, HnsrPeerId, HnsrRuntimeError, OpaqueRelayRuntime,
+    QueuedHnsrRoute, RelayService,
 };
 use lekchnam_traces::Config;
 use std::hint::black_box;
@@ -40,6 +40,10 @@ impl Side for Rust {
 
     fn new(config: Config) -> Self {
         Self(OpaqueRelayRuntime::new(SESSION, GENERATION, config.into(), NOW).expect("a good configuration"))
+    }
+
+    fn renew(_: Config) -> Option<impl FnMut()> {
+        None::<fn()>
     }
 
     fn packet(message: &Message) -> Packet {

@@ -53,8 +53,7 @@ impl World {
     }
 
     /// "A pending record revoked gives ERROR to the requester, CLOSE to the endpoint".
-    fn revoke_pending(&mut self, id: u64, why: Notice) -> Vec<Route> {
-        let Some(place) = lowest(&self.tables, |p: &RelayPending| p.circuit_id == id) else { return Vec::new() };
+    fn revoke_pending(&mut self, place: usize, why: Notice) -> Vec<Route> {
         let p = self.tables.pending[place];
         self.end_pending(place);
         [self.tell(to_requester(&p, ERROR, why)), self.tell(close_to_endpoint(&p, why))].concat()
@@ -62,16 +61,20 @@ impl World {
 
     /// "Revocation ends the record, drops its actions, then sends CLOSE to requester, then endpoint, also to a peer that just
     /// disconnected."
-    fn revoke_circuit(&mut self, id: u64, why: Notice) -> Vec<Route> {
-        let Some(place) = lowest(&self.tables, |c: &RelayCircuit| c.circuit_id == id) else { return Vec::new() };
+    fn revoke_circuit_there(&mut self, place: usize, why: Notice) -> Vec<Route> {
         let c = self.tables.circuits[place];
         self.end_circuit(place);
-        [c.requester, c.endpoint].map(|peer| self.tell(notice(peer, id, CLOSE, id, why))).concat()
+        [c.requester, c.endpoint].map(|peer| self.tell(notice(peer, c.circuit_id, CLOSE, c.circuit_id, why))).concat()
+    }
+
+    /// An action stores an id and no place: the lowest record of that id is meant.
+    fn revoke_circuit(&mut self, id: u64, why: Notice) -> Vec<Route> {
+        let found = lowest(&self.tables, |c: &RelayCircuit| c.circuit_id == id);
+        found.map_or_else(Vec::new, |place| self.revoke_circuit_there(place, why))
     }
 
     /// "on disconnect only the other peer hears, by CLOSE".
-    fn disconnect_pending(&mut self, id: u64, peer: &StoredPeer) -> Vec<Route> {
-        let Some(place) = lowest(&self.tables, |p: &RelayPending| p.circuit_id == id) else { return Vec::new() };
+    fn disconnect_pending(&mut self, place: usize, peer: &StoredPeer) -> Vec<Route> {
         let p = self.tables.pending[place];
         self.end_pending(place);
         let close = match same(&p.requester, peer) {
@@ -81,12 +84,11 @@ impl World {
         self.tell(close)
     }
 
-    /// By ascending id, those that have the property; the record that a lookup of the id then finds is ended. "Pending records come before
-    /// circuits."
+    /// By ascending id, those that have the property, each at its place. "Pending records come before circuits."
     fn revoke_all(
         &mut self,
         pending: impl Fn(&RelayPending) -> bool,
-        end: impl Fn(&mut Self, u64) -> Vec<Route>,
+        end: impl Fn(&mut Self, usize) -> Vec<Route>,
         circuits: impl Fn(&RelayCircuit) -> bool,
         why: Notice,
     ) -> Vec<Route> {
@@ -94,12 +96,12 @@ impl World {
         let mut last = None;
         while let Some((id, place)) = next(&self.tables, |p| p.circuit_id, &pending, last) {
             last = Some((id, place));
-            routes.extend(end(self, id));
+            routes.extend(end(self, place));
         }
         last = None;
         while let Some((id, place)) = next(&self.tables, |c| c.circuit_id, &circuits, last) {
             last = Some((id, place));
-            routes.extend(self.revoke_circuit(id, why));
+            routes.extend(self.revoke_circuit_there(place, why));
         }
         routes
     }
@@ -110,7 +112,7 @@ impl World {
         drop_all(&mut self.tables, |action: &InflightAction| same(&action.destination, &peer));
         Ok(self.revoke_all(
             |p| same(&p.requester, &peer) || same(&p.endpoint, &peer),
-            |world, id| world.disconnect_pending(id, &peer),
+            |world, place| world.disconnect_pending(place, &peer),
             |c| same(&c.requester, &peer) || same(&c.endpoint, &peer),
             PEER_DISCONNECTED,
         ))
@@ -123,7 +125,7 @@ impl World {
         }
         self.revoke_all(
             |p| p.ticket.reservation_id == id,
-            |world, id| world.revoke_pending(id, RESERVATION_REVOKED),
+            |world, place| world.revoke_pending(place, RESERVATION_REVOKED),
             |c| c.reservation_id == id,
             RESERVATION_REVOKED,
         )
@@ -136,7 +138,7 @@ impl World {
         self.drop_lapsed(now);
         Ok(self.revoke_all(
             |p| p.deadline <= now || p.ticket.expires_at <= now,
-            |world, id| world.revoke_pending(id, ACCEPTANCE_EXPIRED),
+            |world, place| world.revoke_pending(place, ACCEPTANCE_EXPIRED),
             |c| c.expires_at <= now,
             TICKET_EXPIRED,
         ))
@@ -154,7 +156,7 @@ impl World {
         self.runtime.next_action_sequence = 1;
         drop_all(&mut self.tables, |_: &InflightAction| true);
         let off = !enabled;
-        Ok(self.revoke_all(|_| off, |world, id| world.revoke_pending(id, RELAY_DISABLED), |_| off, RELAY_DISABLED))
+        Ok(self.revoke_all(|_| off, |world, place| world.revoke_pending(place, RELAY_DISABLED), |_| off, RELAY_DISABLED))
     }
 
     /// "Removes the action; for Data lowers that one circuit's queued count."

@@ -1,5 +1,9 @@
 -- `cases::machine::run_case` meets its contract.
 mod Tie
+use Prim.Native.Nat.{_≤_}
+use mathlib.Core.Path.{_≡_, sym}
+use lib.ListN.{length}
+use lib.Seq.{length-take-le}
 use borrow.Author.Needs.{needs}
 use native.Mathlib.Omega.{arith}
 use Rattle.cases.proofs.machine.run_case.Statement.{statement}
@@ -36,10 +40,10 @@ returns : tie.Need-returns
 returns c = search needs
 
 slice-aggregate-send-packets : tie.Need-slice-aggregate-send-packets
-slice-aggregate-send-packets c = search needs
+slice-aggregate-send-packets c = let n = c .before .before .before .before .before .before .before .before .before .min-usize .result in let b = c .before .before .before .before .before .before .before .before .before .before .before .before .before .before .before .before .before .before .before .before .before .before .before .before .args .body .now in let e = c .before .before .before .before .before .before .before .before .before .min-usize .ensures in sym (length-take-le n b (omega arith))
 
 slice-aggregate-send-packets-2 : tie.Need-slice-aggregate-send-packets-2
-slice-aggregate-send-packets-2 c = search needs
+slice-aggregate-send-packets-2 c = let n = c .before .before .before .before .before .before .before .before .before .min-usize2 .result in let b = c .before .before .before .before .before .before .before .before .before .before .before .before .before .before .before .before .before .before .before .before .before .before .before .before .before .args .body .now in let e = c .before .before .before .before .before .before .before .before .before .min-usize2 .ensures in sym (length-take-le n b (omega arith))
 
 send-packets-requires : tie.Need-send-packets-requires
 send-packets-requires c = search needs

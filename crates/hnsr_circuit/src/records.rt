@@ -93,6 +93,13 @@ pub struct Walked {
     pub place: usize,
 }
 
+// What a revoking call asks of a table, in one pass: how many records are used, and the first that its walk takes.
+#[repr(C)]
+pub struct Survey {
+    pub used: usize,
+    pub first: Walked,
+}
+
 // How far the drawing of a circuit id has come: zeros in a row, candidates that were taken, whether it ended, and with which id.
 #[repr(C)]
 pub struct Drawing {

@@ -3,13 +3,14 @@
 ghost use mathlib.Core.Path.{_≡_};
 ghost use mathlib.Core.Bool.{cond, true, false, not};
 ghost use mathlib.Core.List.{List};
-ghost use Rattle.hnsr_circuit.specs.Held.{asksUnused, worldSeen, handedSeen, underwaySeen};
+ghost use Rattle.hnsr_circuit.specs.Held.{heldPending, heldCircuits, asksUnused, worldSeen, handedSeen, underwaySeen};
 ghost use Rattle.hnsr_circuit.specs.declared.records.RelayPending.{RelayPending};
 ghost use Rattle.hnsr_circuit.specs.declared.records.RelayCircuit.{RelayCircuit};
 ghost use Rattle.hnsr_circuit.specs.declared.records.ReservationUsage.{ReservationUsage};
 ghost use Rattle.hnsr_body.specs.declared.messages.Notice.the-variants.{PeerDisconnected};
 ghost use Rattle.hnsr_circuit.specs.Pending.{clearPending, pendingId};
 ghost use Rattle.hnsr_circuit.specs.Circuits.{circuitId};
+ghost use Rattle.hnsr_circuit.specs.Table.{notYet, next};
 ghost use Rattle.hnsr_circuit.specs.Question.{pendingHas, circuitHas};
 ghost use Rattle.hnsr_circuit.specs.Queue.{finished};
 ghost use Rattle.hnsr_circuit.specs.declared.answer.HnsrAnswer.the-variants.{Taken};
@@ -32,10 +33,10 @@ use crate::records::PendingFound;
 use crate::records::Question;
 use crate::records::RelayCircuit;
 use crate::records::RelayPending;
+use crate::records::Walked;
 use crate::runtime::OpaqueRelayRuntime;
 use crate::runtime::Relayed;
 use crate::runtime::Sending;
-use crate::scan::not_yet;
 use crate::tables::circuits::circuit_at;
 use crate::tables::circuits::find_circuit_id;
 use crate::tables::circuits::next_circuit;
@@ -56,6 +57,12 @@ pub struct Revoking {
     pub notice: Notice,
     pub circuit_notice: Notice,
     pub disconnecting: bool,
+}
+
+// The first record that each walk takes: the pass at entry finds it.
+pub struct Firsts {
+    pub pending: Walked,
+    pub circuits: Walked,
 }
 
 // How a record ends: its id, the runtime that has counted it, and the messages.
@@ -257,22 +264,22 @@ pub(crate) fn walk_pending(
     out: &mut [u32],
     sending: Sending,
     revoking: Revoking,
+    first: Walked,
 ) -> Sending
-    requires { ⌜ asksUnused (revoking .question .ask) ≡ false ⌝ }
+    requires { ⌜ (asksUnused (revoking .question .ask) ≡ false) × (first ≡ next pendingId (pendingHas (revoking .question)) notYet (heldPending (sending .places) (now pending))) ⌝ }
     ensures { λ r. ⌜ ((c : List RelayCircuit) (l : List ReservationUsage) → underwaySeen r (now (pending .exit)) c l (now (inflight .exit)) (now (out .exit)) ≡ advance (walk pendingId pendingTable (pendingHas (revoking .question)) (endingPending revoking)) (underwaySeen sending (now (pending .entry)) c l (now (inflight .entry)) (now (out .entry)))) ⌝ }
 {
     let question = revoking.question;
     let most = pending.len();
     let mut told = sending;
-    let mut cursor = not_yet();
+    let mut next = first;
     let mut turn: usize = 0;
     while turn < most {
-        let next = next_pending(pending, told.places, question, cursor);
         if no(next.taken) {
             return told;
         }
         told = revoke_pending(pending, inflight, out, told, revoking, next.place);
-        cursor = next;
+        next = next_pending(pending, told.places, question, next);
         turn += 1;
     }
     told
@@ -284,23 +291,23 @@ pub(crate) fn walk_circuits(
     out: &mut [u32],
     sending: Sending,
     revoking: Revoking,
+    first: Walked,
 ) -> Sending
-    requires { ⌜ asksUnused (revoking .question .ask) ≡ false ⌝ }
+    requires { ⌜ (asksUnused (revoking .question .ask) ≡ false) × (first ≡ next circuitId (circuitHas (revoking .question)) notYet (heldCircuits (sending .places) (now circuits))) ⌝ }
     ensures { λ r. ⌜ ((p : List RelayPending) (l : List ReservationUsage) → underwaySeen r p (now (circuits .exit)) l (now (inflight .exit)) (now (out .exit)) ≡ advance (walk circuitId circuitTable (circuitHas (revoking .question)) (revokeCircuitThere (revoking .«circuit_notice»))) (underwaySeen sending p (now (circuits .entry)) l (now (inflight .entry)) (now (out .entry)))) ⌝ }
 {
     let question = revoking.question;
     let notice = revoking.circuit_notice;
     let most = circuits.len();
     let mut told = sending;
-    let mut cursor = not_yet();
+    let mut next = first;
     let mut turn: usize = 0;
     while turn < most {
-        let next = next_circuit(circuits, told.places, question, cursor);
         if no(next.taken) {
             return told;
         }
         told = revoke_circuit(circuits, inflight, out, told, notice, next.place);
-        cursor = next;
+        next = next_circuit(circuits, told.places, question, next);
         turn += 1;
     }
     told
@@ -339,14 +346,17 @@ pub(crate) fn revoke_all(
     runtime: OpaqueRelayRuntime,
     places: Places,
     revoking: Revoking,
+    first: Firsts,
 ) -> Relayed
-    requires { ⌜ asksUnused (revoking .question .ask) ≡ false ⌝ }
+    requires { ⌜ (asksUnused (revoking .question .ask) ≡ false) × (first .pending ≡ next pendingId (pendingHas (revoking .question)) notYet (heldPending places (now pending))) × (first .circuits ≡ next circuitId (circuitHas (revoking .question)) notYet (heldCircuits places (now circuits))) ⌝ }
     ensures { λ r. ⌜ ((l : List ReservationUsage) → handedSeen r (now (pending .exit)) (now (circuits .exit)) l (now (inflight .exit)) (now (out .exit)) ≡ ending (now (out .entry)) (revokingAll revoking (worldSeen runtime places (now (pending .entry)) (now (circuits .entry)) l (now (inflight .entry))))) ⌝ }
 {
     let start = started(runtime, places);
-    let first = walk_pending(pending, inflight, out, start, revoking);
-    let second = walk_circuits(circuits, inflight, out, first, revoking);
-    finished(second)
+    let waiting = first.pending;
+    let active = first.circuits;
+    let told = walk_pending(pending, inflight, out, start, revoking, waiting);
+    let last = walk_circuits(circuits, inflight, out, told, revoking, active);
+    finished(last)
 }
 
 // The circuit of an id alone, at the end of a call: none where there is none.

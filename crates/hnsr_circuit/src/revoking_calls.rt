@@ -6,15 +6,17 @@ ghost use Prim.Native.Nat.{_+_, _*_, _<_};
 ghost use lib.Dec.{ltb};
 ghost use lib.ListN.{length};
 ghost use Rattle.hns_encoding.specs.Sums.{count};
-ghost use Rattle.hnsr_circuit.specs.Held.{heldPending, heldCircuits, worldSeen, handedSeen};
+ghost use Rattle.hnsr_circuit.specs.Held.{heldPending, heldCircuits, asksUnused, worldSeen, handedSeen};
 ghost use Rattle.hnsr_circuit.specs.declared.answer.HnsrRuntimeError.the-variants.{Short};
 ghost use Rattle.hnsr_circuit.specs.declared.answer.HnsrAnswer.the-variants.{Taken};
 ghost use Rattle.hnsr_circuit.specs.declared.records.RelayPending.{RelayPending};
 ghost use Rattle.hnsr_circuit.specs.declared.records.RelayCircuit.{RelayCircuit};
 ghost use Rattle.hnsr_circuit.specs.declared.records.ReservationUsage.{ReservationUsage};
 ghost use Rattle.hnsr_circuit.specs.Answers.{check};
-ghost use Rattle.hnsr_circuit.specs.Pending.{isPending};
-ghost use Rattle.hnsr_circuit.specs.Circuits.{isCircuit};
+ghost use Rattle.hnsr_circuit.specs.Table.{notYet, next};
+ghost use Rattle.hnsr_circuit.specs.Question.{used, pendingHas, circuitHas};
+ghost use Rattle.hnsr_circuit.specs.Pending.{isPending, pendingId};
+ghost use Rattle.hnsr_circuit.specs.Circuits.{isCircuit, circuitId};
 ghost use Rattle.hnsr_circuit.specs.Entry.{closingWords, tooFew};
 ghost use Rattle.hnsr_circuit.specs.Call.{step, callDisconnect, callRevokeReservation, callExpire, callReplaceEnabled};
 ghost use Rattle.hnsr_circuit.specs.Progress.{outcome};
@@ -48,14 +50,16 @@ use crate::records::Question;
 use crate::records::RelayCircuit;
 use crate::records::RelayPending;
 use crate::records::ReservationUsage;
+use crate::records::Survey;
+use crate::revocation::Firsts;
 use crate::revocation::Revoking;
 use crate::revocation::revoke_all;
 use crate::route::CLOSING_WORDS;
 use crate::runtime::OpaqueRelayRuntime;
 use crate::runtime::Relayed;
-use crate::tables::circuits::count_circuit;
+use crate::tables::circuits::survey_circuit;
 use crate::tables::inflight::clear_action;
-use crate::tables::pending::count_pending;
+use crate::tables::pending::survey_pending;
 use hns_encoding::logic::both;
 use hns_encoding::logic::either;
 use hns_encoding::logic::no;
@@ -95,7 +99,22 @@ fn room_answer(
     check(refused, HnsrRuntimeError::Short)
 }
 
-// 22: output words too few, or a table shorter than its maximum.
+// What a revoking call finds at entry: its answer, and the first record that each walk takes.
+pub struct Entered {
+    pub answer: HnsrAnswer,
+    pub first: Firsts,
+}
+
+fn entry_found(answer: HnsrAnswer, waiting: Survey, active: Survey) -> Entered
+    ensures { λ r. ⌜ (r .answer ≡ answer) × (r .first .pending ≡ waiting .first) × (r .first .circuits ≡ active .first) ⌝ }
+{
+    let pending = waiting.first;
+    let circuits = active.first;
+    let first = Firsts { pending, circuits };
+    Entered { answer, first }
+}
+
+// 22: output words too few, or a table shorter than its maximum. One pass over each table.
 pub(crate) fn entry_answer(
     pending: &[RelayPending],
     circuits: &[RelayCircuit],
@@ -103,14 +122,16 @@ pub(crate) fn entry_answer(
     inflight: usize,
     room: usize,
     config: OpaqueRelayConfig,
-) -> HnsrAnswer
-    ensures { λ r. ⌜ r ≡ check (ltb room (closingWords * (count isPending (heldPending places (now (pending .entry))) + count isCircuit (heldCircuits places (now (circuits .entry))))) || tooFew config (length (heldPending places (now (pending .entry)))) (length (heldCircuits places (now (circuits .entry)))) inflight) Short ⌝ }
+    question: Question,
+) -> Entered
+    requires { ⌜ asksUnused (question .ask) ≡ false ⌝ }
+    ensures { λ r. ⌜ (r .answer ≡ check (ltb room (closingWords * (count isPending (heldPending places (now (pending .entry))) + count isCircuit (heldCircuits places (now (circuits .entry))))) || tooFew config (length (heldPending places (now (pending .entry)))) (length (heldCircuits places (now (circuits .entry)))) inflight) Short) × (r .first .pending ≡ next pendingId (pendingHas question) notYet (heldPending places (now (pending .entry)))) × (r .first .circuits ≡ next circuitId (circuitHas question) notYet (heldCircuits places (now (circuits .entry)))) ⌝ }
 {
-    let question = used();
-    let waiting = count_pending(pending, places, question);
-    let active = count_circuit(circuits, places, question);
-    let short = room_short(room, waiting, active);
-    room_answer(config, pending.len(), circuits.len(), inflight, short)
+    let waiting = survey_pending(pending, places, question);
+    let active = survey_circuit(circuits, places, question);
+    let short = room_short(room, waiting.used, active.used);
+    let answer = room_answer(config, pending.len(), circuits.len(), inflight, short);
+    entry_found(answer, waiting, active)
 }
 
 pub(crate) fn refused(runtime: OpaqueRelayRuntime, places: Places, answer: HnsrAnswer) -> Relayed
@@ -164,15 +185,34 @@ pub fn disconnect(
     ensures { λ r. ⌜ ((l : List ReservationUsage) → handedSeen r (now (pending .exit)) (now (circuits .exit)) l (now (inflight .exit)) (now (out .exit)) ≡ outcome (now (out .entry)) (step (worldSeen runtime places (now (pending .entry)) (now (circuits .entry)) l (now (inflight .entry))) (callDisconnect (now (peer .entry)) (length (now (out .entry)))))) ⌝ }
 {
     let config = runtime.config;
-    let room = entry_answer(pending, circuits, places, inflight.len(), out.len(), config);
+    let name = peer_of(peer);
+    let question = of_peer(name);
+    let entry = entry_answer(
+        pending,
+        circuits,
+        places,
+        inflight.len(),
+        out.len(),
+        config,
+        question,
+    );
+    let room = entry.answer;
+    let first = entry.first;
     let named = peer_answer(peer.len());
     let answer = first_refusal(room, named);
     if is_taken(answer) {
-        let name = peer_of(peer);
-        let question = of_peer(name);
         let all = disconnecting(name);
         clear_action(inflight, places, question);
-        return revoke_all(pending, circuits, inflight, out, runtime, places, all);
+        return revoke_all(
+            pending,
+            circuits,
+            inflight,
+            out,
+            runtime,
+            places,
+            all,
+            first,
+        );
     }
     refused(runtime, places, answer)
 }
@@ -191,16 +231,35 @@ pub fn revoke_reservation(
     ensures { λ r. ⌜ handedSeen r (now (pending .exit)) (now (circuits .exit)) (now (ledger .exit)) (now (inflight .exit)) (now (out .exit)) ≡ outcome (now (out .entry)) (step (worldSeen runtime places (now (pending .entry)) (now (circuits .entry)) (now (ledger .entry)) (now (inflight .entry))) (callRevokeReservation id (length (now (out .entry))))) ⌝ }
 {
     let config = runtime.config;
-    let answer = entry_answer(pending, circuits, places, inflight.len(), out.len(), config);
+    let question = under(id);
+    let entry = entry_answer(
+        pending,
+        circuits,
+        places,
+        inflight.len(),
+        out.len(),
+        config,
+        question,
+    );
+    let answer = entry.answer;
+    let first = entry.first;
     if is_taken(answer) {
-        let question = under(id);
         let all = revoking(
             question,
             Notice::ReservationRevoked,
             Notice::ReservationRevoked,
         );
         drop_usage(ledger, places, id);
-        return revoke_all(pending, circuits, inflight, out, runtime, places, all);
+        return revoke_all(
+            pending,
+            circuits,
+            inflight,
+            out,
+            runtime,
+            places,
+            all,
+            first,
+        );
     }
     refused(runtime, places, answer)
 }
@@ -219,15 +278,25 @@ pub fn expire(
     ensures { λ r. ⌜ handedSeen r (now (pending .exit)) (now (circuits .exit)) (now (ledger .exit)) (now (inflight .exit)) (now (out .exit)) ≡ outcome (now (out .entry)) (step (worldSeen runtime places (now (pending .entry)) (now (circuits .entry)) (now (ledger .entry)) (now (inflight .entry))) (callExpire time (length (now (out .entry))))) ⌝ }
 {
     let config = runtime.config;
-    let room = entry_answer(pending, circuits, places, inflight.len(), out.len(), config);
+    let question = over(time);
+    let entry = entry_answer(
+        pending,
+        circuits,
+        places,
+        inflight.len(),
+        out.len(),
+        config,
+        question,
+    );
+    let room = entry.answer;
+    let first = entry.first;
     let clock = clock_answer(runtime.trusted_time_high_water, time);
     let answer = first_refusal(room, clock);
     if is_taken(answer) {
-        let question = over(time);
         let all = revoking(question, Notice::AcceptanceExpired, Notice::TicketExpired);
         let moved = with_clock(runtime, time);
         drop_lapsed(ledger, places, true, time);
-        return revoke_all(pending, circuits, inflight, out, moved, places, all);
+        return revoke_all(pending, circuits, inflight, out, moved, places, all, first);
     }
     refused(runtime, places, answer)
 }
@@ -262,8 +331,9 @@ pub(crate) fn switch_to(
     runtime: OpaqueRelayRuntime,
     places: Places,
     enabled: bool,
+    first: Firsts,
 ) -> Relayed
-    requires { ⌜ runtime .generation < 18446744073709551615 ⌝ }
+    requires { ⌜ (runtime .generation < 18446744073709551615) × (first .pending ≡ next pendingId (pendingHas used) notYet (heldPending places (now pending))) × (first .circuits ≡ next circuitId (circuitHas used) notYet (heldCircuits places (now circuits))) ⌝ }
     ensures { λ r. ⌜ ((l : List ReservationUsage) → handedSeen r (now (pending .exit)) (now (circuits .exit)) l (now (inflight .exit)) (now (out .exit)) ≡ ending (now (out .entry)) (switchTo (worldSeen runtime places (now (pending .entry)) (now (circuits .entry)) l (now (inflight .entry))) enabled)) ⌝ }
 {
     let every = used();
@@ -273,7 +343,16 @@ pub(crate) fn switch_to(
         return taken_with(switched, places);
     }
     let all = revoking(every, Notice::RelayDisabled, Notice::RelayDisabled);
-    revoke_all(pending, circuits, inflight, out, switched, places, all)
+    revoke_all(
+        pending,
+        circuits,
+        inflight,
+        out,
+        switched,
+        places,
+        all,
+        first,
+    )
 }
 
 // The same state changes nothing.
@@ -290,7 +369,18 @@ pub fn replace_enabled(
     ensures { λ r. ⌜ ((l : List ReservationUsage) → handedSeen r (now (pending .exit)) (now (circuits .exit)) l (now (inflight .exit)) (now (out .exit)) ≡ outcome (now (out .entry)) (step (worldSeen runtime places (now (pending .entry)) (now (circuits .entry)) l (now (inflight .entry))) (callReplaceEnabled «expected_generation» enabled (length (now (out .entry)))))) ⌝ }
 {
     let config = runtime.config;
-    let room = entry_answer(pending, circuits, places, inflight.len(), out.len(), config);
+    let every = used();
+    let entry = entry_answer(
+        pending,
+        circuits,
+        places,
+        inflight.len(),
+        out.len(),
+        config,
+        every,
+    );
+    let room = entry.answer;
+    let first = entry.first;
     let current = generation_answer(runtime.generation, expected_generation);
     let changes = changed(runtime.enabled, enabled);
     let exhausted = change_answer(runtime.generation, changes);
@@ -298,7 +388,16 @@ pub fn replace_enabled(
     let answer = first_refusal(room, rest);
     if is_taken(answer) {
         if changes {
-            return switch_to(pending, circuits, inflight, out, runtime, places, enabled);
+            return switch_to(
+                pending,
+                circuits,
+                inflight,
+                out,
+                runtime,
+                places,
+                enabled,
+                first,
+            );
         }
         return taken_with(runtime, places);
     }

@@ -1,9 +1,9 @@
 -- What the code does to end the record at a place is the definition's revocation: the record unmarked, its actions dropped, the end counted,
 -- and then the messages told.
-use Prim.Native.Nat.{ℕ, suc}
+use Prim.Native.Nat.{ℕ, zero, suc}
 use mathlib.Core.Path.{_≡_, refl, sym, ap, _∙_}
-use mathlib.Core.Bool.{Bool, true, false, true≢false, false≢true, cond, not, _&&_}
-use mathlib.Core.List.{List, []}
+use mathlib.Core.Bool.{Bool, true, false, true≢false, false≢true, cond, not}
+use mathlib.Core.List.{List}
 use lib.ListN.{getD, set}
 use Rattle.hnsr_body.specs.declared.messages.Notice.{Notice}
 use Rattle.hnsr_body.specs.declared.messages.Notice.the-variants.{PeerDisconnected}
@@ -24,7 +24,7 @@ use Rattle.hnsr_circuit.specs.Queue.{Message, Sent, silently, andThen, w
 use Rattle.hnsr_circuit.specs.Progress.{worldOf, messageOf, filledTo, placed, Progress, progress, advanced, advance}
 use Rattle.hnsr_circuit.specs.Revocation.{withoutActions, endPendingThere, endCircuitThere, errorToRequester, closeToRequester, closeToEndpoint, closeTo, revokePending, revokeCircuitThere, revokeCircuit, walkFrom}
 use Rattle.hnsr_circuit.specs.RevokingCalls.{closeToOther, disconnectPending}
-use Rattle.hnsr_circuit.specs.Revoking.{closingOut, closeSide, errorOut, closeOut, otherOut, firstOut, revokedIf, endingPending}
+use Rattle.hnsr_circuit.specs.Revoking.{closingOut, closeSide, errorOut, closeOut, firstOut, revokedIf, endingPending}
 use Rattle.hnsr_circuit.specs.Peer.{samePeer}
 use Rattle.hnsr_circuit.specs.Laws.Progress.{advance-then}
 
@@ -117,24 +117,28 @@ pub not-false : (b : Bool) → not b ≡ false → b ≡ true
 not-false true e = refl
 not-false false e = absurd (true≢false e)
 
--- ---- a turn of a walk, and its end
-module _ {A : Type 0} (idOf : A → ℕ) (table : World → List A) (q : A → Bool) (end : World → ℕ → Sent) (s : Progress) (k : ℕ) (cursor n : Walked)
-    (e : n ≡ next idOf q cursor (table (s .world))) where
-  pub walk-turn : n .taken ≡ true
-      → advance (walkFrom idOf table q end (suc k) cursor) s ≡ advance (walkFrom idOf table q end k n) (advance (λ w. end w (n .place)) s)
-  unfolding walkFrom when
-  walk-turn t =
-      ap (λ (x : Walked). advanced s (when (x .taken) (λ v. andThen (end v (x .place)) (walkFrom idOf table q end k x)) (s .world))) (sym e)
-      ∙ ap (λ (b : Bool). advanced s (when b (λ v. andThen (end v (n .place)) (walkFrom idOf table q end k n)) (s .world))) t
-      ∙ advance-then s (end (s .world) (n .place)) (walkFrom idOf table q end k n)
+-- ---- a walk whose next record is known: a turn, and its end
+module _ {A : Type 0} (idOf : A → ℕ) (table : World → List A) (q : A → Bool) (end : World → ℕ → Sent) where
+  abbrev pub walkOn : (turns : ℕ) → Walked → World → Sent
+  walkOn zero n w = silently w
+  walkOn (suc turns) n w = when (n .taken) (λ v. andThen (end v (n .place)) (walkFrom idOf table q end turns n)) w
 
-  pub walk-stops : n .taken ≡ false → advance (walkFrom idOf table q end (suc k) cursor) s ≡ s
-  unfolding walkFrom when filledTo placed
-  walk-stops t =
-      ap (λ (x : Walked). advanced s (when (x .taken) (λ v. andThen (end v (x .place)) (walkFrom idOf table q end k x)) (s .world))) (sym e)
-      ∙ ap (λ (b : Bool). advanced s (when b (λ v. andThen (end v (n .place)) (walkFrom idOf table q end k n)) (s .world))) t
+  pub walk-on : (s : Progress) (k : ℕ) (cursor n : Walked) → n ≡ next idOf q cursor (table (s .world)) → advance (walkOn k n) s ≡ advance (walkFrom idOf table q end k cursor) s
+  unfolding walkFrom
+  walk-on s zero cursor n e = refl
+  walk-on s (suc k) cursor n e = ap (λ (x : Walked). advance (walkOn (suc k) x) s) e
 
-pub walk-over : {A : Type 0} (idOf : A → ℕ) (table : World → List A) (q : A → Bool) (end : World → ℕ → Sent) (s : Progress) (cursor : Walked)
-    → advance (walkFrom idOf table q end 0 cursor) s ≡ s
-unfolding walkFrom filledTo placed
-walk-over idOf table q end s cursor = refl
+  module _ (s : Progress) (k : ℕ) (n : Walked) where
+    pub walk-turn : n .taken ≡ true → advance (walkOn (suc k) n) s ≡ advance (walkFrom idOf table q end k n) (advance (λ w. end w (n .place)) s)
+    unfolding when
+    walk-turn t =
+        ap (λ (b : Bool). advanced s (when b (λ v. andThen (end v (n .place)) (walkFrom idOf table q end k n)) (s .world))) t
+        ∙ advance-then s (end (s .world) (n .place)) (walkFrom idOf table q end k n)
+
+    pub walk-stops : n .taken ≡ false → advance (walkOn (suc k) n) s ≡ s
+    unfolding when filledTo placed
+    walk-stops t = ap (λ (b : Bool). advanced s (when b (λ v. andThen (end v (n .place)) (walkFrom idOf table q end k n)) (s .world))) t
+
+    pub walk-over : advance (walkOn 0 n) s ≡ s
+    unfolding filledTo placed
+    walk-over = refl

@@ -26,6 +26,8 @@ use Rattle.hnsr_circuit.specs.Queue.{Message, queued, canQueue, Sent, wh
 use Rattle.hnsr_circuit.specs.Entry.{closingWords}
 use Rattle.hnsr_circuit.specs.Revocation.{withoutActions, pendingThere, circuitThere, endPendingThere, endCircuitThere, errorToRequester, closeToRequester, closeToEndpoint, closeTo, revokePending, revokeCircuitThere, revokeCircuit, walkFrom, walk, pendingTable, circuitTable, revokeAll}
 use Rattle.hnsr_circuit.specs.RevokingCalls.{closeToOther, disconnectPending}
+use Rattle.hnsr_circuit.specs.declared.revocation.Revoking.{Revoking}
+use Rattle.hnsr_circuit.specs.Revoking.{endingPending}
 use Rattle.hnsr_circuit.specs.Laws.Room.{filled, filled-append, notice-told, two-told, when-fits, one-fewer, walk-fits}
 
 -- ---- telling leaves both tables alone
@@ -124,6 +126,14 @@ module _ {A : Type 0} (idOf : A → ℕ) (table : World → List A) (p : A → B
   walk-circuits : (w : World) → walk idOf table p end w .world .circuits ≡ w .circuits
   unfolding walk
   walk-circuits w = walk-from-circuits (length (table w)) notYet w
+
+pub walk-pending-circuits : (v : Revoking) (p : RelayPending → Bool) (w : World) → walk pendingId pendingTable p (endingPending v) w .world .circuits ≡ w .circuits
+unfolding endingPending
+walk-pending-circuits v p w = walk-circuits pendingId pendingTable p (endingPending v) (λ x place. either-way (v .disconnecting) x place) w
+  where
+    either-way : (d : Bool) (w : World) (place : ℕ) → (cond d (disconnectPending (v .question .peer) w place) (revokePending (v .notice) w place)) .world .circuits ≡ w .circuits
+    either-way true w place = disconnect-pending-circuits (v .question .peer) w place
+    either-way false w place = revoke-pending-circuits (v .notice) w place
 
 -- ---- all that have a property
 pub revoke-all-fits : (endP : World → ℕ → Sent) (p : RelayPending → Bool) (n : Notice) (c : RelayCircuit → Bool) (w : World)

@@ -5,8 +5,8 @@ ghost use mathlib.Core.Bool.{cond, false};
 ghost use lib.ListN.{getD, set};
 ghost use Rattle.hns_encoding.specs.Sums.{count};
 ghost use Rattle.hnsr_circuit.specs.Held.{held, heldCircuits, asksUnused};
-ghost use Rattle.hnsr_circuit.specs.Table.{placeOf, next};
-ghost use Rattle.hnsr_circuit.specs.Circuits.{noCircuit, clearCircuit, circuitId, circuitAt};
+ghost use Rattle.hnsr_circuit.specs.Table.{placeOf, notYet, next};
+ghost use Rattle.hnsr_circuit.specs.Circuits.{noCircuit, clearCircuit, circuitId, circuitAt, isCircuit};
 ghost use Rattle.hnsr_circuit.specs.Question.{circuitHas, circuitWork};
 ghost use Rattle.hnsr_circuit.specs.NextDue.{circuitDue};
 ghost use Rattle.hnsr_circuit.specs.Status.{circuitTotals};
@@ -25,6 +25,7 @@ use crate::records::NextDue;
 use crate::records::Question;
 use crate::records::RelayCircuit;
 use crate::records::RelaySide;
+use crate::records::Survey;
 use crate::records::Walked;
 use crate::records::Work;
 use crate::records::WorkQuestion;
@@ -36,6 +37,7 @@ use crate::scan::no_totals;
 use crate::scan::no_work;
 use crate::scan::not_yet;
 use crate::scan::one_more;
+use crate::scan::surveyed;
 use crate::scan::within;
 use hns_encoding::numbers::min_usize;
 
@@ -74,24 +76,6 @@ pub(crate) fn find_circuit_id(circuits: &[RelayCircuit], places: Places, id: u64
     size
 }
 
-// Of a question that no unused record answers.
-pub(crate) fn count_circuit(circuits: &[RelayCircuit], places: Places, question: Question) -> usize
-    requires { ⌜ asksUnused (question .ask) ≡ false ⌝ }
-    ensures { λ r. ⌜ r ≡ count (circuitHas question) (heldCircuits places (now (circuits .entry))) ⌝ }
-{
-    let size = circuits.len();
-    let end = min_usize(places.circuits, size);
-    let mut counted: usize = 0;
-    let mut i: usize = 0;
-    while i < end {
-        let row = circuits[i];
-        let has = circuit_has(row, question);
-        counted = one_more(counted, has);
-        i += 1;
-    }
-    counted
-}
-
 pub(crate) fn circuit_at(circuits: &[RelayCircuit], places: Places, place: usize) -> RelayCircuit
     ensures { λ r. ⌜ r ≡ getD (heldCircuits places (now (circuits .entry))) place noCircuit ⌝ }
 {
@@ -125,6 +109,27 @@ pub(crate) fn next_circuit(circuits: &[RelayCircuit], places: Places, question: 
         i += 1;
     }
     best
+}
+
+// How many records are used, and the first that a walk of the question takes.
+pub(crate) fn survey_circuit(circuits: &[RelayCircuit], places: Places, question: Question) -> Survey
+    requires { ⌜ asksUnused (question .ask) ≡ false ⌝ }
+    ensures { λ r. ⌜ (r .used ≡ count isCircuit (heldCircuits places (now (circuits .entry)))) × (r .first ≡ next circuitId (circuitHas question) notYet (heldCircuits places (now (circuits .entry)))) ⌝ }
+{
+    let size = circuits.len();
+    let end = min_usize(places.circuits, size);
+    let start = not_yet();
+    let mut used: usize = 0;
+    let mut first = start;
+    let mut i: usize = 0;
+    while i < end {
+        let row = circuits[i];
+        let has = is_circuit(row);
+        used = one_more(used, has);
+        first = circuit_turn(question, start, first, row, i);
+        i += 1;
+    }
+    surveyed(used, first)
 }
 
 // All that OPEN and ACCEPT ask of the table, in one pass.

@@ -5,8 +5,8 @@ ghost use mathlib.Core.Bool.{cond, false};
 ghost use lib.ListN.{getD, set};
 ghost use Rattle.hns_encoding.specs.Sums.{count};
 ghost use Rattle.hnsr_circuit.specs.Held.{held, heldPending, asksUnused};
-ghost use Rattle.hnsr_circuit.specs.Table.{placeOf, next};
-ghost use Rattle.hnsr_circuit.specs.Pending.{noPending, clearPending, pendingId, pendingAt};
+ghost use Rattle.hnsr_circuit.specs.Table.{placeOf, notYet, next};
+ghost use Rattle.hnsr_circuit.specs.Pending.{noPending, clearPending, pendingId, pendingAt, isPending};
 ghost use Rattle.hnsr_circuit.specs.Question.{pendingHas, pendingWork};
 ghost use Rattle.hnsr_circuit.specs.NextDue.{pendingDue};
 use crate::pending::is_pending;
@@ -20,6 +20,7 @@ use crate::question::pending_has;
 use crate::records::NextDue;
 use crate::records::Question;
 use crate::records::RelayPending;
+use crate::records::Survey;
 use crate::records::Walked;
 use crate::records::Work;
 use crate::records::WorkQuestion;
@@ -29,6 +30,7 @@ use crate::scan::one_more;
 use crate::scan::pending_due_turn;
 use crate::scan::pending_turn;
 use crate::scan::pending_worked;
+use crate::scan::surveyed;
 use crate::scan::within;
 use hns_encoding::numbers::min_usize;
 
@@ -118,6 +120,27 @@ pub(crate) fn next_pending(pending: &[RelayPending], places: Places, question: Q
         i += 1;
     }
     best
+}
+
+// How many records are used, and the first that a walk of the question takes.
+pub(crate) fn survey_pending(pending: &[RelayPending], places: Places, question: Question) -> Survey
+    requires { ⌜ asksUnused (question .ask) ≡ false ⌝ }
+    ensures { λ r. ⌜ (r .used ≡ count isPending (heldPending places (now (pending .entry)))) × (r .first ≡ next pendingId (pendingHas question) notYet (heldPending places (now (pending .entry)))) ⌝ }
+{
+    let size = pending.len();
+    let end = min_usize(places.pending, size);
+    let start = not_yet();
+    let mut used: usize = 0;
+    let mut first = start;
+    let mut i: usize = 0;
+    while i < end {
+        let row = pending[i];
+        let has = is_pending(row);
+        used = one_more(used, has);
+        first = pending_turn(question, start, first, row, i);
+        i += 1;
+    }
+    surveyed(used, first)
 }
 
 // All that OPEN and ACCEPT ask of the table, in one pass.

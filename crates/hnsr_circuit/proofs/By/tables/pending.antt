@@ -6,4 +6,5 @@ pub mod pending_at
 pub mod pending_due
 pub mod pending_work
 pub mod set_pending
+pub mod survey_pending
 pub mod trim_pending

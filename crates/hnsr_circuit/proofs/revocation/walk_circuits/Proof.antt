@@ -7,50 +7,43 @@ use mathlib.Core.List.{List}
 use lib.ListN.{length}
 use Rattle.hnsr_circuit.specs.declared.records.RelayPending.{RelayPending}
 use Rattle.hnsr_circuit.specs.declared.records.ReservationUsage.{ReservationUsage}
-use Rattle.hnsr_circuit.specs.declared.records.Walked.{Walked}
 use Rattle.hnsr_circuit.specs.Circuits.{circuitId, clearCircuit}
 use Rattle.hnsr_circuit.specs.Question.{circuitHas}
 use Rattle.hnsr_circuit.specs.Progress.{Progress, advance}
 use Rattle.hnsr_circuit.specs.Revocation.{revokeCircuitThere, walkFrom, walk, circuitTable}
-use Rattle.hnsr_circuit.specs.Table.{notYet}
-use Rattle.hnsr_circuit.specs.Laws.Revocation.{not-true, not-false, walk-turn, walk-stops, walk-over}
+use Rattle.hnsr_circuit.specs.Table.{notYet, next}
+use Rattle.hnsr_circuit.specs.Laws.Revocation.{not-true, not-false, walk-turn, walk-stops, walk-over, walkOn, walk-on}
 use borrow.Author.Needs.{needs}
 use native.Mathlib.Omega.{arith}
-use Rattle.hnsr_circuit.specs.Held.{underwaySeen}
 use Rattle.hnsr_circuit.specs.Laws.Held.{length-held}
+use Rattle.hnsr_circuit.specs.Held.{underwaySeen}
 use Rattle.hnsr_circuit.proofs.revocation.walk_circuits.Statement.{statement}
 use Rattle.hnsr_circuit.proofs.revocation.walk_circuits.Proof.Tie as tie
 
 abbrev Inv-loop : tie.InvT-loop
-Inv-loop circuits inflight out question notice most told₀ cursor₀ turn₀ circuits′ inflight′ out′ told cursor turn =
+Inv-loop circuits inflight out question notice most told₀ next₀ turn₀ circuits′ inflight′ out′ told next turn =
     (most ≡ length circuits) × (turn ≤ most) × (length circuits′ ≡ length circuits) × (length inflight′ ≡ length inflight) × (length out′ ≡ length out)
-    × ((p : List RelayPending) (l : List ReservationUsage) → advance (walkFrom circuitId circuitTable (circuitHas question) (revokeCircuitThere notice) (most - turn) cursor) (underwaySeen told p circuits′ l inflight′ out′) ≡ advance (walk circuitId circuitTable (circuitHas question) (revokeCircuitThere notice)) (underwaySeen told₀ p circuits l inflight out))
+    × ((p : List RelayPending) (l : List ReservationUsage) → advance (walkOn circuitId circuitTable (circuitHas question) (revokeCircuitThere notice) (most - turn) next) (underwaySeen told p circuits′ l inflight′ out′) ≡ advance (walk circuitId circuitTable (circuitHas question) (revokeCircuitThere notice)) (underwaySeen told₀ p circuits l inflight out))
 
 abbrev μ-loop : tie.MeasureT-loop
-μ-loop circuits inflight out question notice most told₀ cursor₀ turn₀ circuits′ inflight′ out′ told cursor turn = most - turn
+μ-loop circuits inflight out question notice most told₀ next₀ turn₀ circuits′ inflight′ out′ told next turn = most - turn
 
 -- how many places there are is a number of 64 bits
 small : (c : tie.Start Inv-loop μ-loop) → length (c .args .circuits .now) < 18446744073709551616
 small c = search needs
 
-not-yet-requires : tie.Need-not-yet-requires Inv-loop μ-loop
-not-yet-requires c = search needs
-
 loop-holds : tie.Need-loop-holds Inv-loop μ-loop
 unfolding walk
-loop-holds c = let a = c .before .before .before .args in (
+loop-holds c = let a = c .before .before .args in (
   search needs,
   search needs,
   search needs,
   search needs,
   search needs,
   λ p l.
-      ap (λ (x : Walked). advance (walkFrom circuitId circuitTable (circuitHas (a .revoking .question)) (revokeCircuitThere (a .revoking .«circuit_notice»)) (length (a .circuits .now) - 0) x) (underwaySeen (a .sending) p (a .circuits .now) l (a .inflight .now) (a .out .now))) (c .not-yet .ensures)
+      walk-on circuitId circuitTable (circuitHas (a .revoking .question)) (revokeCircuitThere (a .revoking .«circuit_notice»)) (underwaySeen (a .sending) p (a .circuits .now) l (a .inflight .now) (a .out .now)) (length (a .circuits .now) - 0) notYet (a .first) (c .before .before .pre .1)
       ∙ ap (λ (m : ℕ). advance (walkFrom circuitId circuitTable (circuitHas (a .revoking .question)) (revokeCircuitThere (a .revoking .«circuit_notice»)) m notYet) (underwaySeen (a .sending) p (a .circuits .now) l (a .inflight .now) (a .out .now))) (sub-zero (length (a .circuits .now)) ∙ sym (length-held clearCircuit (a .sending .places .circuits) (a .circuits .now))),
 )
-
-next-circuit-requires : tie.Need-next-circuit-requires Inv-loop μ-loop
-next-circuit-requires c κs = c .before .before .before .before .before .before .pre
 
 no-requires : tie.Need-no-requires Inv-loop μ-loop
 no-requires c = search needs
@@ -66,43 +59,47 @@ same-length-3 c = search needs
 
 returns : tie.Need-returns Inv-loop μ-loop
 returns c = λ p l.
-    let L = c .before .before .before .before .before in
-    let a = c .before .before .before .before .before .before .before .before .before .args in
-    let n = c .before .before .next-circuit .result in
+    let L = c .before .before .before in
+    let a = c .before .before .before .before .before .before .args in
+    let n = L .loop .next in
     let k = length (a .circuits .now) - (L .loop .turn + 1) in
-    let less = c .before .before .before .before .loop-test .taken in
+    let less = c .before .before .loop-test .taken in
     let left : suc k ≡ length (a .circuits .now) - L .loop .turn = omega arith in
     let stopped = not-true (n .taken) (sym (c .before .no .ensures) ∙ c .if1 .taken) in
-    sym (walk-stops circuitId circuitTable (circuitHas (a .revoking .question)) (revokeCircuitThere (a .revoking .«circuit_notice»)) (underwaySeen (L .loop .told) p (L .loop .circuits) l (L .loop .inflight) (L .loop .out)) k (L .loop .cursor) n (c .before .before .next-circuit .ensures) stopped)
-    ∙ ap (λ (m : ℕ). advance (walkFrom circuitId circuitTable (circuitHas (a .revoking .question)) (revokeCircuitThere (a .revoking .«circuit_notice»)) m (L .loop .cursor)) (underwaySeen (L .loop .told) p (L .loop .circuits) l (L .loop .inflight) (L .loop .out))) left
+    sym (walk-stops circuitId circuitTable (circuitHas (a .revoking .question)) (revokeCircuitThere (a .revoking .«circuit_notice»)) (underwaySeen (L .loop .told) p (L .loop .circuits) l (L .loop .inflight) (L .loop .out)) k n stopped)
+    ∙ ap (λ (m : ℕ). advance (walkOn circuitId circuitTable (circuitHas (a .revoking .question)) (revokeCircuitThere (a .revoking .«circuit_notice»)) m n) (underwaySeen (L .loop .told) p (L .loop .circuits) l (L .loop .inflight) (L .loop .out))) left
     ∙ L .loop .inv .5 p l
 
 revoke-circuit-requires : tie.Need-revoke-circuit-requires Inv-loop μ-loop
 revoke-circuit-requires c = search needs
 
+next-circuit-requires : tie.Need-next-circuit-requires Inv-loop μ-loop
+next-circuit-requires c κs = c .before .before .before .before .before .before .before .before .before .before .before .before .before .before .before .pre .0
+
 add-turn : tie.Need-add-turn Inv-loop μ-loop
-add-turn c = let t = c .before .before .before .before .before .before .before .before .before .before .before .before .loop-test .taken in let i = c .before .before .before .before .before .before .before .before .before .before .before .before .before .loop .inv .1 in let most = small (c .before .before .before .before .before .before .before .before .before .before .before .before .before .before .before .before .before) in search needs
+add-turn c = let t = c .before .before .before .before .before .before .before .before .before .before .before .before .loop-test .taken in let i = c .before .before .before .before .before .before .before .before .before .before .before .before .before .loop .inv .1 in let most = small (c .before .before .before .before .before .before .before .before .before .before .before .before .before .before .before .before) in search needs
 
 loop-less : tie.Need-loop-less Inv-loop μ-loop
 loop-less c = search needs
 
 loop-again : tie.Need-loop-again Inv-loop μ-loop
 loop-again c = let L = c .before .before .before .before .before .before .before .before .before .before .before .before .before in
-    let a = c .before .before .before .before .before .before .before .before .before .before .before .before .before .before .before .before .before .args in
-    let n = c .before .before .before .before .before .before .before .before .before .before .next-circuit .result in
+    let a = c .before .before .before .before .before .before .before .before .before .before .before .before .before .before .before .before .args in
+    let n = L .loop .next in
     let k = length (a .circuits .now) - (L .loop .turn + 1) in
     let less = c .before .before .before .before .before .before .before .before .before .before .before .before .loop-test .taken in
     let left : suc k ≡ length (a .circuits .now) - L .loop .turn = omega arith in
-    let goes = not-false (n .taken) (sym (c .before .before .before .before .before .before .before .before .before .no .ensures) ∙ c .before .before .before .before .before .before .before .before .if1 .left) in (
+    let goes = not-false (n .taken) (sym (c .before .before .before .before .before .before .before .before .before .before .before .no .ensures) ∙ c .before .before .before .before .before .before .before .before .before .before .if1 .left) in (
       search needs,
       search needs,
       search needs,
       search needs,
       search needs,
       λ p l.
-          ap (λ (s : Progress). advance (walkFrom circuitId circuitTable (circuitHas (a .revoking .question)) (revokeCircuitThere (a .revoking .«circuit_notice»)) k n) s) (c .before .before .before .before .revoke-circuit .ensures p l)
-          ∙ sym (walk-turn circuitId circuitTable (circuitHas (a .revoking .question)) (revokeCircuitThere (a .revoking .«circuit_notice»)) (underwaySeen (L .loop .told) p (L .loop .circuits) l (L .loop .inflight) (L .loop .out)) k (L .loop .cursor) n (c .before .before .before .before .before .before .before .before .before .before .next-circuit .ensures) goes)
-          ∙ ap (λ (m : ℕ). advance (walkFrom circuitId circuitTable (circuitHas (a .revoking .question)) (revokeCircuitThere (a .revoking .«circuit_notice»)) m (L .loop .cursor)) (underwaySeen (L .loop .told) p (L .loop .circuits) l (L .loop .inflight) (L .loop .out))) left
+          walk-on circuitId circuitTable (circuitHas (a .revoking .question)) (revokeCircuitThere (a .revoking .«circuit_notice»)) (underwaySeen (c .before .before .before .before .before .before .revoke-circuit .result) p (c .before .before .before .before .before .before .revoke-circuit .last .0) l (c .before .before .before .before .before .before .revoke-circuit .last .1 .0) (c .before .before .before .before .before .before .revoke-circuit .last .1 .1 .0)) k n (c .next-circuit .result) (c .next-circuit .ensures)
+          ∙ ap (λ (s : Progress). advance (walkFrom circuitId circuitTable (circuitHas (a .revoking .question)) (revokeCircuitThere (a .revoking .«circuit_notice»)) k n) s) (c .before .before .before .before .before .before .revoke-circuit .ensures p l)
+          ∙ sym (walk-turn circuitId circuitTable (circuitHas (a .revoking .question)) (revokeCircuitThere (a .revoking .«circuit_notice»)) (underwaySeen (L .loop .told) p (L .loop .circuits) l (L .loop .inflight) (L .loop .out)) k n goes)
+          ∙ ap (λ (m : ℕ). advance (walkOn circuitId circuitTable (circuitHas (a .revoking .question)) (revokeCircuitThere (a .revoking .«circuit_notice»)) m n) (underwaySeen (L .loop .told) p (L .loop .circuits) l (L .loop .inflight) (L .loop .out))) left
           ∙ L .loop .inv .5 p l,
     )
 
@@ -118,12 +115,12 @@ same-length-6 c = search needs
 returns-2 : tie.Need-returns-2 Inv-loop μ-loop
 returns-2 c = λ p l.
     let L = c .before in
-    let a = c .before .before .before .before .before .args in
+    let a = c .before .before .before .before .args in
     let over = c .loop-test .left in
     let none : 0 ≡ length (a .circuits .now) - L .loop .turn = omega arith in
-    sym (walk-over circuitId circuitTable (circuitHas (a .revoking .question)) (revokeCircuitThere (a .revoking .«circuit_notice»)) (underwaySeen (L .loop .told) p (L .loop .circuits) l (L .loop .inflight) (L .loop .out)) (L .loop .cursor))
-    ∙ ap (λ (m : ℕ). advance (walkFrom circuitId circuitTable (circuitHas (a .revoking .question)) (revokeCircuitThere (a .revoking .«circuit_notice»)) m (L .loop .cursor)) (underwaySeen (L .loop .told) p (L .loop .circuits) l (L .loop .inflight) (L .loop .out))) none
+    sym (walk-over circuitId circuitTable (circuitHas (a .revoking .question)) (revokeCircuitThere (a .revoking .«circuit_notice»)) (underwaySeen (L .loop .told) p (L .loop .circuits) l (L .loop .inflight) (L .loop .out)) 0 (L .loop .next))
+    ∙ ap (λ (m : ℕ). advance (walkOn circuitId circuitTable (circuitHas (a .revoking .question)) (revokeCircuitThere (a .revoking .«circuit_notice»)) m (L .loop .next)) (underwaySeen (L .loop .told) p (L .loop .circuits) l (L .loop .inflight) (L .loop .out))) none
     ∙ L .loop .inv .5 p l
 
 pub walk-circuits-spec : {M : Type 1} → statement M
-walk-circuits-spec = tie.close (tie.spec Inv-loop μ-loop not-yet-requires loop-holds next-circuit-requires no-requires same-length same-length-2 same-length-3 returns revoke-circuit-requires add-turn loop-less loop-again same-length-4 same-length-5 same-length-6 returns-2)
+walk-circuits-spec = tie.close (tie.spec Inv-loop μ-loop loop-holds no-requires same-length same-length-2 same-length-3 returns revoke-circuit-requires next-circuit-requires add-turn loop-less loop-again same-length-4 same-length-5 same-length-6 returns-2)

@@ -7,51 +7,44 @@ use mathlib.Core.List.{List}
 use lib.ListN.{length}
 use Rattle.hnsr_circuit.specs.declared.records.RelayCircuit.{RelayCircuit}
 use Rattle.hnsr_circuit.specs.declared.records.ReservationUsage.{ReservationUsage}
-use Rattle.hnsr_circuit.specs.declared.records.Walked.{Walked}
 use Rattle.hnsr_circuit.specs.Pending.{pendingId, clearPending}
 use Rattle.hnsr_circuit.specs.Question.{pendingHas}
 use Rattle.hnsr_circuit.specs.Progress.{Progress, advance}
 use Rattle.hnsr_circuit.specs.Revocation.{walkFrom, walk, pendingTable}
 use Rattle.hnsr_circuit.specs.Revoking.{endingPending}
-use Rattle.hnsr_circuit.specs.Table.{notYet}
-use Rattle.hnsr_circuit.specs.Laws.Revocation.{not-true, not-false, walk-turn, walk-stops, walk-over}
+use Rattle.hnsr_circuit.specs.Table.{notYet, next}
+use Rattle.hnsr_circuit.specs.Laws.Revocation.{not-true, not-false, walk-turn, walk-stops, walk-over, walkOn, walk-on}
 use borrow.Author.Needs.{needs}
 use native.Mathlib.Omega.{arith}
-use Rattle.hnsr_circuit.specs.Held.{underwaySeen}
 use Rattle.hnsr_circuit.specs.Laws.Held.{length-held}
+use Rattle.hnsr_circuit.specs.Held.{underwaySeen}
 use Rattle.hnsr_circuit.proofs.revocation.walk_pending.Statement.{statement}
 use Rattle.hnsr_circuit.proofs.revocation.walk_pending.Proof.Tie as tie
 
 abbrev Inv-loop : tie.InvT-loop
-Inv-loop pending inflight out revoking question most told₀ cursor₀ turn₀ pending′ inflight′ out′ told cursor turn =
+Inv-loop pending inflight out revoking question most told₀ next₀ turn₀ pending′ inflight′ out′ told next turn =
     (most ≡ length pending) × (turn ≤ most) × (length pending′ ≡ length pending) × (length inflight′ ≡ length inflight) × (length out′ ≡ length out)
-    × ((cs : List RelayCircuit) (l : List ReservationUsage) → advance (walkFrom pendingId pendingTable (pendingHas question) (endingPending revoking) (most - turn) cursor) (underwaySeen told pending′ cs l inflight′ out′) ≡ advance (walk pendingId pendingTable (pendingHas question) (endingPending revoking)) (underwaySeen told₀ pending cs l inflight out))
+    × ((cs : List RelayCircuit) (l : List ReservationUsage) → advance (walkOn pendingId pendingTable (pendingHas question) (endingPending revoking) (most - turn) next) (underwaySeen told pending′ cs l inflight′ out′) ≡ advance (walk pendingId pendingTable (pendingHas question) (endingPending revoking)) (underwaySeen told₀ pending cs l inflight out))
 
 abbrev μ-loop : tie.MeasureT-loop
-μ-loop pending inflight out revoking question most told₀ cursor₀ turn₀ pending′ inflight′ out′ told cursor turn = most - turn
+μ-loop pending inflight out revoking question most told₀ next₀ turn₀ pending′ inflight′ out′ told next turn = most - turn
 
 -- how many places there are is a number of 64 bits
 small : (c : tie.Start Inv-loop μ-loop) → length (c .args .pending .now) < 18446744073709551616
 small c = search needs
 
-not-yet-requires : tie.Need-not-yet-requires Inv-loop μ-loop
-not-yet-requires c = search needs
-
 loop-holds : tie.Need-loop-holds Inv-loop μ-loop
 unfolding walk
-loop-holds c = let a = c .before .before .before .args in (
+loop-holds c = let a = c .before .before .args in (
   search needs,
   search needs,
   search needs,
   search needs,
   search needs,
   λ cs l.
-      ap (λ (x : Walked). advance (walkFrom pendingId pendingTable (pendingHas (a .revoking .question)) (endingPending (a .revoking)) (length (a .pending .now) - 0) x) (underwaySeen (a .sending) (a .pending .now) cs l (a .inflight .now) (a .out .now))) (c .not-yet .ensures)
+      walk-on pendingId pendingTable (pendingHas (a .revoking .question)) (endingPending (a .revoking)) (underwaySeen (a .sending) (a .pending .now) cs l (a .inflight .now) (a .out .now)) (length (a .pending .now) - 0) notYet (a .first) (c .before .before .pre .1)
       ∙ ap (λ (m : ℕ). advance (walkFrom pendingId pendingTable (pendingHas (a .revoking .question)) (endingPending (a .revoking)) m notYet) (underwaySeen (a .sending) (a .pending .now) cs l (a .inflight .now) (a .out .now))) (sub-zero (length (a .pending .now)) ∙ sym (length-held clearPending (a .sending .places .pending) (a .pending .now))),
 )
-
-next-pending-requires : tie.Need-next-pending-requires Inv-loop μ-loop
-next-pending-requires c κs = c .before .before .before .before .before .before .pre
 
 no-requires : tie.Need-no-requires Inv-loop μ-loop
 no-requires c = search needs
@@ -67,43 +60,47 @@ same-length-3 c = search needs
 
 returns : tie.Need-returns Inv-loop μ-loop
 returns c = λ cs l.
-    let L = c .before .before .before .before .before in
-    let a = c .before .before .before .before .before .before .before .before .before .args in
-    let n = c .before .before .next-pending .result in
+    let L = c .before .before .before in
+    let a = c .before .before .before .before .before .before .args in
+    let n = L .loop .next in
     let k = length (a .pending .now) - (L .loop .turn + 1) in
-    let less = c .before .before .before .before .loop-test .taken in
+    let less = c .before .before .loop-test .taken in
     let left : suc k ≡ length (a .pending .now) - L .loop .turn = omega arith in
     let stopped = not-true (n .taken) (sym (c .before .no .ensures) ∙ c .if1 .taken) in
-    sym (walk-stops pendingId pendingTable (pendingHas (a .revoking .question)) (endingPending (a .revoking)) (underwaySeen (L .loop .told) (L .loop .pending) cs l (L .loop .inflight) (L .loop .out)) k (L .loop .cursor) n (c .before .before .next-pending .ensures) stopped)
-    ∙ ap (λ (m : ℕ). advance (walkFrom pendingId pendingTable (pendingHas (a .revoking .question)) (endingPending (a .revoking)) m (L .loop .cursor)) (underwaySeen (L .loop .told) (L .loop .pending) cs l (L .loop .inflight) (L .loop .out))) left
+    sym (walk-stops pendingId pendingTable (pendingHas (a .revoking .question)) (endingPending (a .revoking)) (underwaySeen (L .loop .told) (L .loop .pending) cs l (L .loop .inflight) (L .loop .out)) k n stopped)
+    ∙ ap (λ (m : ℕ). advance (walkOn pendingId pendingTable (pendingHas (a .revoking .question)) (endingPending (a .revoking)) m n) (underwaySeen (L .loop .told) (L .loop .pending) cs l (L .loop .inflight) (L .loop .out))) left
     ∙ L .loop .inv .5 cs l
 
 revoke-pending-requires : tie.Need-revoke-pending-requires Inv-loop μ-loop
 revoke-pending-requires c = search needs
 
+next-pending-requires : tie.Need-next-pending-requires Inv-loop μ-loop
+next-pending-requires c κs = c .before .before .before .before .before .before .before .before .before .before .before .before .before .before .before .pre .0
+
 add-turn : tie.Need-add-turn Inv-loop μ-loop
-add-turn c = let t = c .before .before .before .before .before .before .before .before .before .before .before .before .loop-test .taken in let i = c .before .before .before .before .before .before .before .before .before .before .before .before .before .loop .inv .1 in let most = small (c .before .before .before .before .before .before .before .before .before .before .before .before .before .before .before .before .before) in search needs
+add-turn c = let t = c .before .before .before .before .before .before .before .before .before .before .before .before .loop-test .taken in let i = c .before .before .before .before .before .before .before .before .before .before .before .before .before .loop .inv .1 in let most = small (c .before .before .before .before .before .before .before .before .before .before .before .before .before .before .before .before) in search needs
 
 loop-less : tie.Need-loop-less Inv-loop μ-loop
 loop-less c = search needs
 
 loop-again : tie.Need-loop-again Inv-loop μ-loop
 loop-again c = let L = c .before .before .before .before .before .before .before .before .before .before .before .before .before in
-    let a = c .before .before .before .before .before .before .before .before .before .before .before .before .before .before .before .before .before .args in
-    let n = c .before .before .before .before .before .before .before .before .before .before .next-pending .result in
+    let a = c .before .before .before .before .before .before .before .before .before .before .before .before .before .before .before .before .args in
+    let n = L .loop .next in
     let k = length (a .pending .now) - (L .loop .turn + 1) in
     let less = c .before .before .before .before .before .before .before .before .before .before .before .before .loop-test .taken in
     let left : suc k ≡ length (a .pending .now) - L .loop .turn = omega arith in
-    let goes = not-false (n .taken) (sym (c .before .before .before .before .before .before .before .before .before .no .ensures) ∙ c .before .before .before .before .before .before .before .before .if1 .left) in (
+    let goes = not-false (n .taken) (sym (c .before .before .before .before .before .before .before .before .before .before .before .no .ensures) ∙ c .before .before .before .before .before .before .before .before .before .before .if1 .left) in (
       search needs,
       search needs,
       search needs,
       search needs,
       search needs,
       λ cs l.
-          ap (λ (s : Progress). advance (walkFrom pendingId pendingTable (pendingHas (a .revoking .question)) (endingPending (a .revoking)) k n) s) (c .before .before .before .before .revoke-pending .ensures cs l)
-          ∙ sym (walk-turn pendingId pendingTable (pendingHas (a .revoking .question)) (endingPending (a .revoking)) (underwaySeen (L .loop .told) (L .loop .pending) cs l (L .loop .inflight) (L .loop .out)) k (L .loop .cursor) n (c .before .before .before .before .before .before .before .before .before .before .next-pending .ensures) goes)
-          ∙ ap (λ (m : ℕ). advance (walkFrom pendingId pendingTable (pendingHas (a .revoking .question)) (endingPending (a .revoking)) m (L .loop .cursor)) (underwaySeen (L .loop .told) (L .loop .pending) cs l (L .loop .inflight) (L .loop .out))) left
+          walk-on pendingId pendingTable (pendingHas (a .revoking .question)) (endingPending (a .revoking)) (underwaySeen (c .before .before .before .before .before .before .revoke-pending .result) (c .before .before .before .before .before .before .revoke-pending .last .0) cs l (c .before .before .before .before .before .before .revoke-pending .last .1 .0) (c .before .before .before .before .before .before .revoke-pending .last .1 .1 .0)) k n (c .next-pending .result) (c .next-pending .ensures)
+          ∙ ap (λ (s : Progress). advance (walkFrom pendingId pendingTable (pendingHas (a .revoking .question)) (endingPending (a .revoking)) k n) s) (c .before .before .before .before .before .before .revoke-pending .ensures cs l)
+          ∙ sym (walk-turn pendingId pendingTable (pendingHas (a .revoking .question)) (endingPending (a .revoking)) (underwaySeen (L .loop .told) (L .loop .pending) cs l (L .loop .inflight) (L .loop .out)) k n goes)
+          ∙ ap (λ (m : ℕ). advance (walkOn pendingId pendingTable (pendingHas (a .revoking .question)) (endingPending (a .revoking)) m n) (underwaySeen (L .loop .told) (L .loop .pending) cs l (L .loop .inflight) (L .loop .out))) left
           ∙ L .loop .inv .5 cs l,
     )
 
@@ -119,12 +116,12 @@ same-length-6 c = search needs
 returns-2 : tie.Need-returns-2 Inv-loop μ-loop
 returns-2 c = λ cs l.
     let L = c .before in
-    let a = c .before .before .before .before .before .args in
+    let a = c .before .before .before .before .args in
     let over = c .loop-test .left in
     let none : 0 ≡ length (a .pending .now) - L .loop .turn = omega arith in
-    sym (walk-over pendingId pendingTable (pendingHas (a .revoking .question)) (endingPending (a .revoking)) (underwaySeen (L .loop .told) (L .loop .pending) cs l (L .loop .inflight) (L .loop .out)) (L .loop .cursor))
-    ∙ ap (λ (m : ℕ). advance (walkFrom pendingId pendingTable (pendingHas (a .revoking .question)) (endingPending (a .revoking)) m (L .loop .cursor)) (underwaySeen (L .loop .told) (L .loop .pending) cs l (L .loop .inflight) (L .loop .out))) none
+    sym (walk-over pendingId pendingTable (pendingHas (a .revoking .question)) (endingPending (a .revoking)) (underwaySeen (L .loop .told) (L .loop .pending) cs l (L .loop .inflight) (L .loop .out)) 0 (L .loop .next))
+    ∙ ap (λ (m : ℕ). advance (walkOn pendingId pendingTable (pendingHas (a .revoking .question)) (endingPending (a .revoking)) m (L .loop .next)) (underwaySeen (L .loop .told) (L .loop .pending) cs l (L .loop .inflight) (L .loop .out))) none
     ∙ L .loop .inv .5 cs l
 
 pub walk-pending-spec : {M : Type 1} → statement M
-walk-pending-spec = tie.close (tie.spec Inv-loop μ-loop not-yet-requires loop-holds next-pending-requires no-requires same-length same-length-2 same-length-3 returns revoke-pending-requires add-turn loop-less loop-again same-length-4 same-length-5 same-length-6 returns-2)
+walk-pending-spec = tie.close (tie.spec Inv-loop μ-loop loop-holds no-requires same-length same-length-2 same-length-3 returns revoke-pending-requires next-pending-requires add-turn loop-less loop-again same-length-4 same-length-5 same-length-6 returns-2)

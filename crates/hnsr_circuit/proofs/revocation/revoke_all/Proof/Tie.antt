@@ -30,6 +30,12 @@ After-slice-known = Lts.After-slice-known (Reads''''.Asked, Reads''''.Learnt, Re
 abbrev pub After-started : Type 0
 After-started = Lts.After-started (Reads''''.Asked, Reads''''.Learnt, Reads''.Asked, Reads''.Learnt, Reads'.Asked, Reads'.Learnt, Reads'''.Asked,
     Reads'''.Learnt,) Reads.Pre Reads.Post
+abbrev pub After-waiting : Type 0
+After-waiting = Lts.After-waiting (Reads''''.Asked, Reads''''.Learnt, Reads''.Asked, Reads''.Learnt, Reads'.Asked, Reads'.Learnt, Reads'''.Asked,
+    Reads'''.Learnt,) Reads.Pre Reads.Post
+abbrev pub After-active : Type 0
+After-active = Lts.After-active (Reads''''.Asked, Reads''''.Learnt, Reads''.Asked, Reads''.Learnt, Reads'.Asked, Reads'.Learnt, Reads'''.Asked,
+    Reads'''.Learnt,) Reads.Pre Reads.Post
 abbrev pub After-walk-pending-arg : Type 0
 After-walk-pending-arg = Lts.After-walk-pending-arg (Reads''''.Asked, Reads''''.Learnt, Reads''.Asked, Reads''.Learnt, Reads'.Asked, Reads'.Learnt,
     Reads'''.Asked, Reads'''.Learnt,) Reads.Pre Reads.Post

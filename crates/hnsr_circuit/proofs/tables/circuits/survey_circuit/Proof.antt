@@ -1,0 +1,103 @@
+-- `survey_circuit` meets its contract: what is left of the count and of the turn, with what is found so far, gives the whole; past the number no
+-- record is marked.
+mod Tie
+use Prim.Native.Nat.{ℕ, _+_, _-_, _≤_}
+use native.Mathlib.Nat.{zero-add}
+use mathlib.Core.Path.{_≡_, refl, ap, _∙_}
+use mathlib.Core.Bool.{Bool, cond}
+use lib.ListN.{length, drop}
+use Rattle.hns_encoding.specs.Loops.{foldFrom}
+use Rattle.hns_encoding.specs.Sums.{count}
+use Rattle.hns_encoding.specs.Laws.Tests.{cond-le}
+use Rattle.hnsr_circuit.specs.declared.records.Walked.{Walked}
+use Rattle.hnsr_circuit.specs.Table.{nextTurn, next}
+use Rattle.hnsr_circuit.specs.Circuits.{isCircuit, circuitId, noCircuit, clearCircuit}
+use Rattle.hnsr_circuit.specs.Question.{circuitHas}
+use Rattle.hnsr_circuit.specs.Held.{held}
+use Rattle.hnsr_circuit.specs.Laws.HeldTables.{circuit-unmarked}
+use Rattle.hnsr_circuit.specs.Laws.Held.{held-min, count-rest, held-count-next, fold-rest, held-fold-step, next-idle}
+use native.Mathlib.Omega.{arith}
+use borrow.Author.Needs.{needs}
+use Rattle.hnsr_circuit.proofs.tables.circuits.survey_circuit.Statement.{statement}
+use Rattle.hnsr_circuit.proofs.tables.circuits.survey_circuit.Proof.Tie as tie
+
+abbrev Inv-loop : tie.InvT-loop
+Inv-loop circuits question size₀ end₀ start₀ used₀ first₀ i₀ used first i =
+    (i ≤ end₀) × (end₀ ≤ length circuits) × (used ≤ i) × (used + count isCircuit (drop i (held clearCircuit end₀ circuits)) ≡ count isCircuit (held clearCircuit end₀ circuits))
+    × (foldFrom (nextTurn circuitId (circuitHas question) start₀) (drop i (held clearCircuit end₀ circuits)) i first ≡ next circuitId (circuitHas question) start₀ (held clearCircuit end₀ circuits))
+
+abbrev μ-loop : tie.MeasureT-loop
+μ-loop circuits question size₀ end₀ start₀ used₀ first₀ i₀ used first i = length circuits - i
+
+min-usize-requires : tie.Need-min-usize-requires Inv-loop μ-loop
+min-usize-requires c = search needs
+
+not-yet-requires : tie.Need-not-yet-requires Inv-loop μ-loop
+not-yet-requires c = search needs
+
+loop-holds : tie.Need-loop-holds Inv-loop μ-loop
+unfolding next
+loop-holds c =
+    let a = c .before .before .args in
+    let t = held clearCircuit (c .before .min-usize .result) (a .circuits .now) in
+    (omega arith, omega arith, omega arith, zero-add (count isCircuit t), ap (λ (b : Walked). foldFrom (nextTurn circuitId (circuitHas (a .question)) (c .not-yet .result)) t 0 b) (c .not-yet .ensures))
+
+mul-row : tie.Need-mul-row Inv-loop μ-loop
+mul-row c = search needs
+
+shared-slice-copy-out-row : tie.Need-shared-slice-copy-out-row Inv-loop μ-loop
+shared-slice-copy-out-row c = search needs
+
+is-circuit-requires : tie.Need-is-circuit-requires Inv-loop μ-loop
+is-circuit-requires c = search needs
+
+one-more-requires : tie.Need-one-more-requires Inv-loop μ-loop
+one-more-requires c = search needs
+
+circuit-turn-requires : tie.Need-circuit-turn-requires Inv-loop μ-loop
+circuit-turn-requires c = search needs
+
+add-i : tie.Need-add-i Inv-loop μ-loop
+add-i c = search needs
+
+loop-less : tie.Need-loop-less Inv-loop μ-loop
+loop-less c = search needs
+
+loop-again : tie.Need-loop-again Inv-loop μ-loop
+loop-again c =
+    let a = c .before .before .before .before .before .before .before .before .args in
+    let t = a .circuits .now in
+    let n = c .before .before .before .before .before .before .before .min-usize .result in
+    let l = c .before .before .before .before .before .loop in
+    let h = c .before .before .is-circuit in
+    let start = c .before .before .before .before .before .before .not-yet .result in (
+      omega arith,
+      l .inv .1,
+      omega (arith, cond-le (h .result)),
+      held-count-next clearCircuit n t noCircuit (l .i) (omega arith) (omega arith) isCircuit (count isCircuit (held clearCircuit n t)) (l .used) (c .before .one-more .result)
+          (c .before .one-more .ensures ∙ ap (λ (b : Bool). l .used + cond b 1 0) (h .ensures)) (l .inv .3),
+      held-fold-step clearCircuit n t noCircuit (l .i) (omega arith) (omega arith) (nextTurn circuitId (circuitHas (a .question)) start) (l .first) (c .circuit-turn .result)
+          (next circuitId (circuitHas (a .question)) start (held clearCircuit n t)) (c .circuit-turn .ensures) (l .inv .4),
+    )
+
+surveyed-requires : tie.Need-surveyed-requires Inv-loop μ-loop
+surveyed-requires c = search needs
+
+returns : tie.Need-returns Inv-loop μ-loop
+unfolding isCircuit
+returns c =
+    let a = c .before .before .before .before .before .args in
+    let t = a .circuits .now in
+    let n = c .before .before .before .before .min-usize .result in
+    let l = c .before .before .loop in
+    let q = circuitHas (a .question) in
+    let start = c .before .before .before .not-yet .result in
+    let seen = ap (λ (m : ℕ). held clearCircuit m t) (c .before .before .before .before .min-usize .ensures) ∙ held-min clearCircuit (a .places .circuits) t in (
+      c .surveyed .ensures .0 ∙ count-rest clearCircuit isCircuit (λ x. refl) n t (l .i) (l .used) (count isCircuit (held clearCircuit n t)) (λ h. omega arith) (l .inv .3) ∙ ap (count isCircuit) seen,
+      c .surveyed .ensures .1
+          ∙ fold-rest clearCircuit (nextTurn circuitId q start) (next-idle clearCircuit circuitId q (λ x. circuit-unmarked (a .question) x ∙ c .before .before .before .before .before .pre) start) n t (l .i) (l .first) (next circuitId q start (held clearCircuit n t)) (λ h. omega arith) (l .inv .4)
+          ∙ (λ x. next circuitId q (c .before .before .before .not-yet .ensures x) (seen x)),
+    )
+
+pub survey-circuit-spec : {M : Type 1} → statement M
+survey-circuit-spec = tie.close (tie.spec Inv-loop μ-loop min-usize-requires not-yet-requires loop-holds mul-row shared-slice-copy-out-row is-circuit-requires one-more-requires circuit-turn-requires add-i loop-less loop-again surveyed-requires returns)

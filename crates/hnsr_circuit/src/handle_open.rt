@@ -6,16 +6,16 @@ ghost use mathlib.Core.List.{List};
 ghost use Prim.Native.Nat.{ℕ};
 ghost use Rattle.hnsr_circuit.specs.Table.{put};
 ghost use Rattle.hnsr_circuit.specs.Pending.{isPending, pendingAt, clearPending};
-ghost use Rattle.hnsr_circuit.specs.Ledger.{booked, clearUsage};
+ghost use Rattle.hnsr_circuit.specs.Ledger.{usageOf};
 ghost use Rattle.hnsr_circuit.specs.Held.{held, heldPending, heldCircuits, heldLedger, heldActions, worldSeen, handedSeen};
-ghost use Rattle.hnsr_circuit.specs.World.{proceed};
 ghost use Rattle.hnsr_circuit.specs.Queue.{actionsScanned};
 ghost use Rattle.hnsr_circuit.specs.Draw.{undrawn, draws, drawAll};
 ghost use Rattle.hnsr_circuit.specs.Progress.{packetOf, asking, ending};
 ghost use Rattle.hnsr_circuit.specs.Open.{openBooked, openLapsed, handleOpen};
-ghost use Rattle.hnsr_circuit.specs.Laws.Opening.{isTaken, gathering, ledgerAsked, openingOf, incomingOut, openPlan};
+ghost use Rattle.hnsr_circuit.specs.Laws.Opening.{isTaken, gathering, openingOf, incomingOut, openPlan};
 ghost use Rattle.hnsr_circuit.specs.declared.records.RelayCircuit.{RelayCircuit};
 ghost use Rattle.hnsr_circuit.specs.declared.records.RelayPacket.{RelayPacket};
+ghost use Rattle.hnsr_circuit.specs.declared.records.ReservationUsage.{ReservationUsage};
 use crate::answer::HnsrAnswer;
 use crate::answer::is_taken;
 use crate::draw::draw_at;
@@ -24,17 +24,14 @@ use crate::draw::either_found;
 use crate::draw::undrawn;
 use crate::handle_accept::put_place;
 use crate::header::opened;
+use crate::ledger::usage_answer;
 use crate::lookup::drop_lapsed;
-use crate::lookup::look_up_usage;
-use crate::open::LedgerRoom;
 use crate::open::OpenGathered;
 use crate::open::OpenPlan;
-use crate::open::booked_answer;
 use crate::open::booked_place;
 use crate::open::booked_usage;
 use crate::open::incoming_for;
 use crate::open::incoming_out;
-use crate::open::ledger_room;
 use crate::open::open_gathering;
 use crate::open::open_plan;
 use crate::open::open_rows;
@@ -47,9 +44,7 @@ use crate::places::Places;
 use crate::places::raised;
 use crate::places::with_ledger;
 use crate::places::with_pending;
-use crate::question::at_reservation;
 use crate::question::unused;
-use crate::question::used;
 use crate::queue::asking;
 use crate::queue::send;
 use crate::records::ActionScan;
@@ -58,7 +53,6 @@ use crate::records::InflightAction;
 use crate::records::RelayCircuit;
 use crate::records::RelayPacket;
 use crate::records::RelayPending;
-use crate::records::RelayTicket;
 use crate::records::ReservationUsage;
 use crate::revoking_calls::refused;
 use crate::runtime::OpaqueRelayRuntime;
@@ -66,8 +60,7 @@ use crate::runtime::Relayed;
 use crate::tables::circuits::circuit_work;
 use crate::tables::circuits::find_circuit_id;
 use crate::tables::inflight::scan_actions;
-use crate::tables::ledger::count_usage;
-use crate::tables::ledger::find_usage;
+use crate::tables::ledger::scan_ledger;
 use crate::tables::ledger::set_usage;
 use crate::tables::pending::find_pending;
 use crate::tables::pending::find_pending_id;
@@ -121,39 +114,6 @@ pub(crate) fn put_pending(
     raised(places.pending, go, place, size)
 }
 
-// The missing ledger record is made; the one that is found stays as it is.
-pub(crate) fn book(
-    ledger: &mut [ReservationUsage],
-    places: Places,
-    go: bool,
-    ticket: RelayTicket,
-) -> usize
-    ensures { λ r. ⌜ held clearUsage r (now (ledger .exit)) ≡ cond go (booked ticket (heldLedger places (now (ledger .entry)))) (heldLedger places (now (ledger .entry))) ⌝ }
-{
-    let size = ledger.len();
-    let id = ticket.reservation_id;
-    let question = at_reservation(id);
-    let found = look_up_usage(ledger, places, question);
-    let free = unused();
-    let spare = find_usage(ledger, places, free);
-    let row = booked_usage(found, ticket);
-    let place = booked_place(found, spare);
-    set_usage(ledger, go, place, row);
-    raised(places.ledger, go, place, size)
-}
-
-// What OPEN asks of the ledger.
-pub(crate) fn ask_ledger(ledger: &[ReservationUsage], places: Places, ticket: RelayTicket) -> LedgerRoom
-    ensures { λ r. ⌜ r ≡ ledgerAsked (ticket .«reservation_id») (heldLedger places (now (ledger .entry))) ⌝ }
-{
-    let id = ticket.reservation_id;
-    let question = at_reservation(id);
-    let place = find_usage(ledger, places, question);
-    let all = used();
-    let many = count_usage(ledger, places, all);
-    ledger_room(place, many, ledger.len())
-}
-
 // What an OPEN comes with.
 pub(crate) fn gather(
     pending: &[RelayPending],
@@ -186,23 +146,19 @@ pub(crate) fn gather(
 // The last stage: the ledger record stands; the pending record is written and INCOMING sent.
 pub(crate) fn open_booked(
     pending: &mut [RelayPending],
-    ledger: &[ReservationUsage],
     inflight: &mut [InflightAction],
     out: &mut [u32],
-    before: HnsrAnswer,
     runtime: OpaqueRelayRuntime,
     places: Places,
     plan: OpenPlan,
+    usage: ReservationUsage,
     scan: ActionScan,
 ) -> Relayed
     requires { ⌜ scan ≡ actionsScanned (asking runtime (incomingOut plan)) (heldActions places (now inflight)) ⌝ }
-    ensures { λ r. ⌜ ((c : List RelayCircuit) → handedSeen r (now (pending .exit)) c (now (ledger .entry)) (now (inflight .exit)) (now (out .exit)) ≡ ending (now (out .entry)) (let w = worldSeen runtime places (now (pending .entry)) c (now (ledger .entry)) (now (inflight .entry)) in proceed w before (openBooked w (openingOf plan)))) ⌝ }
+    ensures { λ r. ⌜ ((c : List RelayCircuit) (l : List ReservationUsage) → usage ≡ usageOf (plan .ticket .«reservation_id») (heldLedger places l) → handedSeen r (now (pending .exit)) c l (now (inflight .exit)) (now (out .exit)) ≡ ending (now (out .entry)) (openBooked (worldSeen runtime places (now (pending .entry)) c l (now (inflight .entry))) (openingOf plan))) ⌝ }
 {
     let ticket = plan.ticket;
-    let id = ticket.reservation_id;
-    let question = at_reservation(id);
-    let found = look_up_usage(ledger, places, question);
-    let answer = booked_answer(before, ticket, found);
+    let answer = usage_answer(ticket, usage);
     let go = is_taken(answer);
     let row = pending_for(plan);
     let number = put_pending(pending, places, go, plan.id, row);
@@ -214,7 +170,7 @@ pub(crate) fn open_booked(
     send(inflight, out, answer, counted, after, message, scan, &bytes)
 }
 
-// The second stage, past the rows that ask nothing of actions and ledger.
+// The second stage, past the rows that ask nothing of actions and ledger: the ledger record that is found stays as it is, a missing one is made.
 pub(crate) fn open_placed(
     pending: &mut [RelayPending],
     ledger: &mut [ReservationUsage],
@@ -228,17 +184,24 @@ pub(crate) fn open_placed(
 ) -> Relayed
     ensures { λ r. ⌜ ((c : List RelayCircuit) (q : RelayPacket) (source body endpoint rs : List ℕ) → gathered ≡ gathering q source body endpoint (heldPending places (now (pending .entry))) (heldCircuits places c) → drawing ≡ drawAll (isTaken (heldPending places (now (pending .entry))) (heldCircuits places c)) undrawn (draws rs) → plan ≡ openPlan (runtime .config) gathered drawing → handedSeen r (now (pending .exit)) c (now (ledger .exit)) (now (inflight .exit)) (now (out .exit)) ≡ ending (now (out .entry)) (openLapsed (worldSeen runtime places (now (pending .entry)) c (now (ledger .entry)) (now (inflight .entry))) (packetOf q source body endpoint rs))) ⌝ }
 {
+    let size = ledger.len();
     let config = runtime.config;
     let ticket = plan.ticket;
+    let id = ticket.reservation_id;
     let message = incoming_out(plan);
     let question = asking(runtime, message);
     let scan = scan_actions(inflight, places, question);
-    let room = ask_ledger(ledger, places, ticket);
+    let room = scan_ledger(ledger, places, id);
     let answer = placed_rows(config, gathered, plan, drawing, scan, room);
-    let go = is_taken(answer);
-    let number = book(ledger, places, go, ticket);
-    let after = with_ledger(places, number);
-    open_booked(pending, ledger, inflight, out, answer, runtime, after, plan, scan)
+    if is_taken(answer) {
+        let row = booked_usage(room, ticket);
+        let place = booked_place(room);
+        set_usage(ledger, true, place, row);
+        let number = raised(places.ledger, true, place, size);
+        let after = with_ledger(places, number);
+        return open_booked(pending, inflight, out, runtime, after, plan, row, scan);
+    }
+    refused(runtime, places, answer)
 }
 
 // The second stage: ledger records past their expiry are dropped.

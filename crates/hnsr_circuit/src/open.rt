@@ -2,10 +2,9 @@
 ghost use mathlib.Core.Path.{_≡_};
 ghost use mathlib.Core.Bool.{cond};
 ghost use Prim.Native.Nat.{_+_};
-ghost use Rattle.hnsr_circuit.specs.Answers.{_then_};
-ghost use Rattle.hnsr_circuit.specs.Ledger.{freshUsage, usageAnswer};
+ghost use Rattle.hnsr_circuit.specs.Ledger.{freshUsage};
 ghost use Rattle.hnsr_circuit.specs.Open.{openAnswer, admissionAnswer, endpointAnswer, deadlineAnswer, deadlineFor, pendingFor, incomingFor};
-ghost use Rattle.hnsr_circuit.specs.Laws.Opening.{openWork, openGathering, openRows, openPlan, openingOf, incomingOut, ledgerRoom, placedRows, placedEntry};
+ghost use Rattle.hnsr_circuit.specs.Laws.Opening.{openWork, openGathering, openRows, openPlan, openingOf, incomingOut, placedRows, placedEntry};
 use crate::answer::HnsrAnswer;
 use crate::answer::HnsrRuntimeError;
 use crate::answer::body_answer;
@@ -17,18 +16,17 @@ use crate::entry::peer_answer;
 use crate::inflight::capacity_answer;
 use crate::ledger::fresh_usage;
 use crate::ledger::ledger_answer;
-use crate::ledger::usage_answer;
 use crate::peer::HnsrPeerId;
 use crate::peer::same_peer;
 use crate::records::ActionScan;
 use crate::records::Drawing;
 use crate::records::InflightKind;
+use crate::records::LedgerRoom;
 use crate::records::Outgoing;
 use crate::records::RelayPacket;
 use crate::records::RelayPending;
 use crate::records::RelayTicket;
 use crate::records::ReservationUsage;
-use crate::records::UsageFound;
 use crate::records::Work;
 use crate::records::WorkQuestion;
 use hns_encoding::logic::either;
@@ -286,23 +284,6 @@ pub(crate) fn incoming_out(plan: OpenPlan) -> Outgoing
     }
 }
 
-// What OPEN asks of the ledger: whether its record is there, how many are used, and of how many places.
-pub struct LedgerRoom {
-    pub found: bool,
-    pub used: usize,
-    pub places: usize,
-}
-
-pub(crate) fn ledger_room(place: usize, used: usize, places: usize) -> LedgerRoom
-    ensures { λ r. ⌜ r ≡ ledgerRoom place used places ⌝ }
-{
-    LedgerRoom {
-        found: place < places,
-        used,
-        places,
-    }
-}
-
 // The rows of a placed OPEN that ask nothing of actions and ledger: 4, 10 and 8.
 pub(crate) fn placed_entry(
     config: OpaqueRelayConfig,
@@ -354,34 +335,21 @@ pub(crate) fn placed_rows(
 }
 
 // The ledger record of a grant: the one that is found, else a fresh one.
-pub(crate) fn booked_usage(found: UsageFound, ticket: RelayTicket) -> ReservationUsage
-    ensures { λ r. ⌜ r ≡ cond (found .found) (found .usage) (freshUsage ticket) ⌝ }
+pub(crate) fn booked_usage(room: LedgerRoom, ticket: RelayTicket) -> ReservationUsage
+    ensures { λ r. ⌜ r ≡ cond (room .found) (room .usage) (freshUsage ticket) ⌝ }
 {
     let fresh = fresh_usage(ticket);
-    if found.found {
-        return found.usage;
+    if room.found {
+        return room.usage;
     }
     fresh
 }
 
-pub(crate) fn booked_place(found: UsageFound, spare: usize) -> usize
-    ensures { λ r. ⌜ r ≡ cond (found .found) (found .place) spare ⌝ }
+pub(crate) fn booked_place(room: LedgerRoom) -> usize
+    ensures { λ r. ⌜ r ≡ cond (room .found) (room .place) (room .«spare_place») ⌝ }
 {
-    if found.found {
-        return found.place;
+    if room.found {
+        return room.place;
     }
-    spare
-}
-
-// 18: by the ledger record as it stands, after what was answered before.
-pub(crate) fn booked_answer(
-    before: HnsrAnswer,
-    ticket: RelayTicket,
-    found: UsageFound,
-) -> HnsrAnswer
-    ensures { λ r. ⌜ r ≡ (before then usageAnswer ticket (found .usage)) ⌝ }
-{
-    let usage = found.usage;
-    let own = usage_answer(ticket, usage);
-    first_refusal(before, own)
+    room.spare_place
 }

@@ -6,7 +6,7 @@ ghost use Rattle.hnsr_circuit.specs.Circuits.{clearCircuit};
 ghost use Rattle.hnsr_circuit.specs.Ledger.{clearUsage};
 ghost use Rattle.hnsr_circuit.specs.Inflight.{clearAction};
 ghost use Rattle.hnsr_circuit.specs.Held.{noPlace, everyPlace, withPending, withCircuits, withLedger, withActions, raisedTo, asksUnused};
-ghost use Rattle.hnsr_circuit.specs.Laws.HeldTables.{scanSpared};
+ghost use Rattle.hnsr_circuit.specs.Laws.HeldTables.{scanSpared, roomSpared};
 use crate::circuits::circuit_unmarked;
 use crate::inflight::action_unmarked;
 use crate::ledger::usage_unmarked;
@@ -14,6 +14,7 @@ use crate::pending::pending_unmarked;
 use crate::records::ActionScan;
 use crate::records::Ask;
 use crate::records::InflightAction;
+use crate::records::LedgerRoom;
 use crate::records::Question;
 use crate::records::RelayCircuit;
 use crate::records::RelayPending;
@@ -158,6 +159,22 @@ pub(crate) fn spared(scan: ActionScan, place: usize, places: usize) -> ActionSca
         place: scan.place,
         spare: either(scan.spare, here),
         spare_place: first_place(scan.spare, here, place, scan.spare_place),
+    }
+}
+
+pub(crate) fn room_spared(room: LedgerRoom, place: usize, places: usize) -> LedgerRoom
+    ensures { λ r. ⌜ r ≡ roomSpared room place places ⌝ }
+{
+    let usage = room.usage;
+    let here = place < places;
+    LedgerRoom {
+        found: room.found,
+        place: room.place,
+        usage,
+        used: room.used,
+        spare: either(room.spare, here),
+        spare_place: first_place(room.spare, here, place, room.spare_place),
+        places: room.places,
     }
 }
 

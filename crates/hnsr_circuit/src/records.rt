@@ -163,6 +163,18 @@ pub struct ActionScan {
     pub spare_place: usize,
 }
 
+// What OPEN asks of all ledger records: whether its record is there, where, and itself; how many are used, the lowest unused place, and of how
+// many places.
+pub struct LedgerRoom {
+    pub found: bool,
+    pub place: usize,
+    pub usage: ReservationUsage,
+    pub used: usize,
+    pub spare: bool,
+    pub spare_place: usize,
+    pub places: usize,
+}
+
 // What `status` asks of all circuits: how many are used, and the bytes of their queues.
 pub struct CircuitTotals {
     pub used: usize,

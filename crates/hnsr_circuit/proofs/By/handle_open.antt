@@ -1,5 +1,3 @@
-pub mod ask_ledger
-pub mod book
 pub mod draw
 pub mod gather
 pub mod handle_open

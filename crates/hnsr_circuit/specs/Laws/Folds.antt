@@ -3,7 +3,7 @@
 -- test, place or record. `put` and `edit` are one store at a place, `clear` is a `map`, `next` is a fold by definition.
 use Prim.Native.Nat.{ℕ, suc, _+_, _≤_, min}
 use native.Mathlib.Omega.{arith}
-use mathlib.Core.Path.{_≡_, ap, _∙_}
+use mathlib.Core.Path.{_≡_, refl, ap, _∙_}
 use mathlib.Core.Bool.{Bool, cond, _||_}
 use mathlib.Core.List.{List, [], _∷_}
 use Rattle.hns_encoding.specs.Numbers.{top, saturatingAdd}
@@ -31,6 +31,12 @@ module _ {A B : Type 0} (f : B → A → ℕ → B) where
   unfolding foldFrom
   fold-stopping g h e [] i b l = omega arith
   fold-stopping g h e (x ∷ xs) i b l = let k = e b x i in omega (arith, fold-stopping g h e xs (suc i) (f b x i) (omega arith))
+
+  -- ---- what no turn moves
+  pub fold-kept : {C : Type 0} (g : B → C) → ((b : B) (x : A) (i : ℕ) → g (f b x i) ≡ g b) → (t : List A) (i : ℕ) (b : B) → g (foldFrom f t i b) ≡ g b
+  unfolding foldFrom
+  fold-kept g e [] i b = refl
+  fold-kept g e (x ∷ xs) i b = fold-kept g e xs (suc i) (f b x i) ∙ e b x i
 
   -- ---- a test that a record with p turns on
   pub fold-any : (g : B → Bool) (p : A → Bool) → ((b : B) (x : A) (i : ℕ) → g (f b x i) ≡ (g b || p x)) → (t : List A) (i : ℕ) (b : B)

@@ -13,6 +13,7 @@ use Rattle.hns_encoding.specs.Laws.Tests.{split}
 use Rattle.hns_encoding.specs.Loops.{foldFrom}
 use Rattle.hns_encoding.specs.Sums.{non}
 use Rattle.hns_encoding.specs.Numbers.{top}
+use Rattle.hnsr_body.specs.declared.values.ReservationId.{ReservationId}
 use Rattle.hnsr_circuit.specs.declared.records.Ask.{Ask}
 use Rattle.hnsr_circuit.specs.declared.records.Ask.the-variants.{Unused, Used, At, Named, Of, Under, Over}
 use Rattle.hnsr_circuit.specs.declared.records.Question.{Question}
@@ -22,6 +23,7 @@ use Rattle.hnsr_circuit.specs.declared.records.InflightAction.{InflightA
 use Rattle.hnsr_circuit.specs.declared.records.RelayPending.{RelayPending}
 use Rattle.hnsr_circuit.specs.declared.records.RelayCircuit.{RelayCircuit}
 use Rattle.hnsr_circuit.specs.declared.records.ReservationUsage.{ReservationUsage}
+use Rattle.hnsr_circuit.specs.declared.records.LedgerRoom.{LedgerRoom}
 use Rattle.hnsr_circuit.specs.declared.records.Work.{Work}
 use Rattle.hnsr_circuit.specs.declared.records.WorkQuestion.{WorkQuestion}
 use Rattle.hnsr_circuit.specs.declared.records.CircuitTotals.{CircuitTotals}
@@ -45,7 +47,7 @@ use Rattle.hnsr_circuit.specs.Progress.{scanPlace, handedBack, underway}
 use Rattle.hnsr_circuit.specs.Held.{held, heldPending, heldCircuits, heldLedger, heldActions, handedSeen, underwaySeen, asksUnused}
 use Rattle.hnsr_circuit.specs.Laws.Lookups.{place-found}
 use Rattle.hnsr_circuit.specs.Laws.Held.{length-held, rest-held, place-below, place-upto}
-use Rattle.hnsr_circuit.specs.Laws.Turns.{firstPlace, scanned, scan-unused, pendingWorked, circuitWorked, totalled}
+use Rattle.hnsr_circuit.specs.Laws.Turns.{firstPlace, scanned, scan-unused, pendingWorked, circuitWorked, totalled, roomOn}
 
 -- ---- an unused record is its own clearing
 pub pending-still : (p : RelayPending) → isPending p ≡ false → clearPending p ≡ p
@@ -260,6 +262,75 @@ module _ (q : ActionQuestion) where
 
       not-is : (a : InflightAction) → non isAction (clearAction a) ≡ true
       not-is a = refl
+
+-- ---- the same of the ledger's
+abbrev pub roomSpared : LedgerRoom → (place places : ℕ) → LedgerRoom
+roomSpared r place places = record {
+  found = r .found;
+  place = r .place;
+  usage = r .usage;
+  used = r .used;
+  spare = r .spare || ltb place places;
+  «spare_place» = firstPlace (r .spare) (ltb place places) place (r .«spare_place»);
+  places = r .places;
+}
+
+kept : {A : Type 0} (b : Bool) (x : A) → cond b x x ≡ x
+kept true x = refl
+kept false x = refl
+
+-- by what is known of the test
+room-by : (r : LedgerRoom) (place : ℕ) (spare : Bool) (at : ℕ) (b : Bool) → spare ≡ (r .spare || b) → at ≡ firstPlace (r .spare) b place (r .«spare_place»)
+    → (places : ℕ) → b ≡ ltb place places
+    → record { found = r .found; place = r .place; usage = r .usage; used = r .used; spare = spare; «spare_place» = at; places = r .places } ≡ roomSpared r place places
+room-by r place spare at b es ep places e = λ j. record {
+  found = r .found;
+  place = r .place;
+  usage = r .usage;
+  used = r .used;
+  spare = (es ∙ ap (λ (c : Bool). r .spare || c) e) j;
+  «spare_place» = (ep ∙ ap (λ (c : Bool). firstPlace (r .spare) c place (r .«spare_place»)) e) j;
+  places = r .places;
+}
+
+abbrev roomTaken : LedgerRoom → (place : ℕ) → LedgerRoom
+roomTaken r place = record {
+  found = r .found;
+  place = r .place;
+  usage = r .usage;
+  used = r .used;
+  spare = true;
+  «spare_place» = firstPlace (r .spare) true place (r .«spare_place»);
+  places = r .places;
+}
+
+module _ (id : ReservationId) where
+  room-skips : (r : LedgerRoom) (u : ReservationUsage) (i : ℕ) → roomOn id r (clearUsage u) i ≡ roomTaken r i
+  unfolding usageAt isUsage
+  room-skips r u i = λ j. record {
+    found = or-false (r .found) j;
+    place = kept (r .found) (r .place) j;
+    usage = kept (r .found) (r .usage) j;
+    used = add-zero (r .used) j;
+    spare = or-true (r .spare) j;
+    «spare_place» = firstPlace (r .spare) true i (r .«spare_place»);
+    places = r .places;
+  }
+
+  room-unmarked : (t : List ReservationUsage) (i : ℕ) (r : LedgerRoom) (e : ℕ) → e ≡ i + length t → foldFrom (roomOn id) (map clearUsage t) i r ≡ roomSpared r i e
+  unfolding foldFrom
+  room-unmarked [] i r e h =
+      room-by r i (r .spare) (r .«spare_place») false (sym (or-false (r .spare))) (sym (kept (r .spare) (r .«spare_place»))) e (sym (le-ltb i e (omega arith)))
+  room-unmarked (x ∷ xs) i r e h =
+      ap (λ (s : LedgerRoom). foldFrom (roomOn id) (map clearUsage xs) (suc i) s) (room-skips r x i)
+      ∙ room-unmarked xs (suc i) (roomTaken r i) e (omega arith)
+      ∙ room-by r i true (firstPlace (r .spare) true i (r .«spare_place»)) true (sym (or-true (r .spare))) refl e (sym (lt-ltb i e (omega arith)))
+
+  pub room-rest : (n : ℕ) (t : List ReservationUsage) (i : ℕ) (s r : LedgerRoom) → (i < n → length t ≤ i) → i ≤ length t
+      → foldFrom (roomOn id) (drop i (held clearUsage n t)) i s ≡ r → roomSpared s i (length t) ≡ r
+  room-rest n t i s r l m h =
+      sym (room-unmarked (drop i t) i s (length t) (let k = length-drop i t in omega arith))
+      ∙ (rw (rest-held clearUsage n t i l) at h)
 
 -- ---- what is handed back with the numbers that came in
 pub places-kept : (r : Relayed) (p : List RelayPending) (c : List RelayCircuit) (l : List ReservationUsage) (t : List InflightAction) (out : List ℕ) (n : Places)

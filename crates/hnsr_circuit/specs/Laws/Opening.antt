@@ -3,7 +3,7 @@
 use Prim.Native.Nat.{ℕ, suc, _+_, _-_, _/_, _≤_, _<_}
 use native.Mathlib.Omega.{arith}
 use mathlib.Core.Path.{_≡_, refl, sym, ap, _∙_}
-use mathlib.Core.Bool.{Bool, true, false, cond, not, _||_, true≢false}
+use mathlib.Core.Bool.{Bool, true, false, cond, not, _&&_, _||_, true≢false}
 use mathlib.Core.List.{List, [], _∷_}
 use lib.Dec.{eqb, ltb, leb}
 use lib.ListN.{length, take, drop, set, length-drop}
@@ -22,11 +22,10 @@ use Rattle.hnsr_body.specs.declared.values.ReservationId.{ReservationId}
 use Rattle.hnsr_body.specs.Open.{decodeOpen, openFields}
 use Rattle.hnsr_body.specs.Incoming.{incomingBytes}
 use Rattle.hnsr_circuit.specs.declared.runtime.Relayed.{Relayed}
-use Rattle.hnsr_circuit.specs.Laws.Calls.{turned-away}
+use Rattle.hnsr_circuit.specs.Laws.Calls.{turned-away, gone-on}
 use Rattle.hnsr_circuit.specs.declared.accept.AcceptPlan.{AcceptPlan}
 use Rattle.hnsr_circuit.specs.declared.open.OpenGathered.{OpenGathered}
 use Rattle.hnsr_circuit.specs.declared.open.OpenPlan.{OpenPlan}
-use Rattle.hnsr_circuit.specs.declared.open.LedgerRoom.{LedgerRoom}
 use Rattle.hnsr_circuit.specs.declared.config.OpaqueRelayConfig.{OpaqueRelayConfig}
 use Rattle.hnsr_circuit.specs.declared.peer.HnsrPeerId.{HnsrPeerId}
 use Rattle.hnsr_circuit.specs.declared.records.RelayTicket.{RelayTicket}
@@ -36,7 +35,7 @@ use Rattle.hnsr_circuit.specs.declared.records.ReservationUsage.{Reserva
 use Rattle.hnsr_circuit.specs.declared.records.InflightAction.{InflightAction}
 use Rattle.hnsr_circuit.specs.declared.records.InflightTally.{InflightTally}
 use Rattle.hnsr_circuit.specs.declared.records.PendingFound.{PendingFound}
-use Rattle.hnsr_circuit.specs.declared.records.UsageFound.{UsageFound}
+use Rattle.hnsr_circuit.specs.declared.records.LedgerRoom.{LedgerRoom}
 use Rattle.hnsr_circuit.specs.declared.records.ActionScan.{ActionScan}
 use Rattle.hnsr_circuit.specs.declared.records.Drawing.{Drawing}
 use Rattle.hnsr_circuit.specs.declared.records.Outgoing.{Outgoing}
@@ -48,20 +47,20 @@ use Rattle.hnsr_circuit.specs.declared.records.RelayPacket.{RelayPacket}
 use Rattle.hnsr_circuit.specs.declared.runtime.OpaqueRelayRuntime.{OpaqueRelayRuntime}
 use Rattle.hnsr_circuit.specs.declared.answer.HnsrAnswer.{HnsrAnswer}
 use Rattle.hnsr_circuit.specs.declared.answer.HnsrAnswer.the-variants.{Taken, Refused}
-use Rattle.hnsr_circuit.specs.declared.answer.HnsrRuntimeError.the-variants.{UnknownRequest}
+use Rattle.hnsr_circuit.specs.declared.answer.HnsrRuntimeError.the-variants.{UnknownRequest, LedgerFull}
 use Rattle.hnsr_circuit.specs.Table.{any, pick, placeOf, put, edit}
 use Rattle.hnsr_circuit.specs.Answers.{check, bodyAnswer, taken, _then_}
 use Rattle.hnsr_circuit.specs.Peer.{peerOf, samePeer}
 use Rattle.hnsr_circuit.specs.Pending.{noPending, isPending, pendingAt, clearPending}
-use Rattle.hnsr_circuit.specs.Ledger.{noUsage, isUsage, usageAt, freshUsage, lapsed, usageOf, booked, ledgerAnswer, usageAnswer}
+use Rattle.hnsr_circuit.specs.Ledger.{noUsage, isUsage, usageAt, clearUsage, freshUsage, lapsed, usageOf, booked, ledgerAnswer, usageAnswer}
 use Rattle.hnsr_circuit.specs.Circuits.{isCircuit, circuitAt}
 use Rattle.hnsr_circuit.specs.Inflight.{actionUnder, dropped, tallied, capacityAnswer}
 use Rattle.hnsr_circuit.specs.Header.{withCounters, countAccept, countOpen}
 use Rattle.hnsr_circuit.specs.World.{World, Outcome, proceed}
 use Rattle.hnsr_circuit.specs.Queue.{send, actionsScanned, opOpened, opIncoming}
 use Rattle.hnsr_circuit.specs.Counts.{pendingCount, circuitCount, peerWork, reservationWork}
-use Rattle.hnsr_circuit.specs.Question.{at, atReservation, pendingAsked, usageAsked, pendingWork, circuitWork}
-use Rattle.hnsr_circuit.specs.Lookup.{pendingFound, usageFound}
+use Rattle.hnsr_circuit.specs.Question.{at, pendingAsked, pendingWork, circuitWork}
+use Rattle.hnsr_circuit.specs.Lookup.{pendingFound}
 use Rattle.hnsr_circuit.specs.Entry.{peerAnswer}
 use Rattle.hnsr_circuit.specs.Draw.{undrawn, drawsFrom, draws, drawTurn, drawAll, idTaken, drawn, drawAnswer}
 use Rattle.hnsr_circuit.specs.Packet.{Packet, sender}
@@ -69,7 +68,11 @@ use Rattle.hnsr_circuit.specs.Accept.{requestAnswer, acceptAnswer, circu
 use Rattle.hnsr_circuit.specs.Open.{Opening, opening, openAnswer, admissionAnswer, endpointAnswer, deadlineAnswer, deadlineFor, pendingFor, incomingFor, incomingMessage, withOpen, openAdmitted, openPlaced, openBooked, openGranted, openLapsed, handleOpen}
 use Rattle.hnsr_circuit.specs.Progress.{worldOf, messageOf, packetOf, asking, handedBack, ending}
 use Rattle.hnsr_circuit.specs.Laws.Answers.{check-taken, then-taken, stop-two, stop-three}
-use Rattle.hnsr_circuit.specs.Laws.Lookups.{pick-at, pick-has, place-any}
+use Rattle.hnsr_circuit.specs.Laws.Lookups.{pick-at, pick-has, pick-none, place-any}
+use Rattle.hnsr_circuit.specs.Laws.Marks.{room, put-new-same, put-old-same}
+use Rattle.hnsr_circuit.specs.Laws.Keys.{reservation-refl}
+use Rattle.hnsr_circuit.specs.Laws.Turns.{ledgerAsked}
+use Rattle.hnsr_circuit.specs.Laws.Queueing.{taken-is}
 use Rattle.hnsr_circuit.specs.Laws.Edits.{edit-set}
 
 -- ---- a sum that stops at its top, against a number of 16 bits
@@ -95,13 +98,6 @@ proceed-on : (a : HnsrAnswer) (w x : World) (f : World → Outcome) → proceed 
 unfolding proceed
 proceed-on Taken w x f = refl
 proceed-on (Refused e) w x f = refl
-
-proceed-then : (a b : HnsrAnswer) (w x : World) (f : World → Outcome)
-    → proceed (cond (taken (a then b)) x w) (a then b) (f (cond (taken (a then b)) x w)) ≡ proceed w a (proceed w b (f x))
-unfolding proceed
-proceed-then Taken Taken w x f = refl
-proceed-then Taken (Refused e) w x f = refl
-proceed-then (Refused e) b w x f = refl
 
 -- ---- ACCEPT
 abbrev pub acceptRows : OpaqueRelayConfig → PendingFound → HnsrPeerId → (now : ℕ) → AcceptRead → (waiting running : Work) → InflightTally → HnsrAnswer
@@ -358,12 +354,6 @@ incomingOut o = record {
   bytes = 0;
 }
 
-abbrev pub ledgerRoom : (place used places : ℕ) → LedgerRoom
-ledgerRoom place used places = record { found = ltb place places; used = used; places = places }
-
-abbrev pub ledgerAsked : ReservationId → List ReservationUsage → LedgerRoom
-ledgerAsked id l = record { found = any (usageAt id) l; used = count isUsage l; places = length l }
-
 -- those that ask nothing of actions and ledger
 abbrev pub placedEntry : OpaqueRelayConfig → OpenGathered → OpenPlan → Drawing → HnsrAnswer
 placedEntry c g o d =
@@ -387,11 +377,49 @@ pick-else : {A : Type 0} (p : A → Bool) (d e : A) (t : List A) → cond (any p
 pick-else p d e [] = refl
 pick-else p d e (x ∷ xs) = split (p x) (λ k. rw k) (λ k. rw k (pick-else p d e xs))
 
-pub booked-set : (t : RelayTicket) (l : List ReservationUsage) → (let f = usageFound (atReservation (t .«reservation_id»)) l in
-    set l (cond (f .found) (f .place) (placeOf (non isUsage) l)) (cond (f .found) (f .usage) (freshUsage t)) ≡ booked t l)
-unfolding booked usageAsked
+pub booked-set : (t : RelayTicket) (l : List ReservationUsage) → (let r = ledgerAsked (t .«reservation_id») l in
+    set l (cond (r .found) (r .place) (r .«spare_place»)) (cond (r .found) (r .usage) (freshUsage t)) ≡ booked t l)
+unfolding booked
 booked-set t l = let p = usageAt (t .«reservation_id») in
     ap (λ (u : ReservationUsage). set l (cond (any p l) (placeOf p l) (placeOf (non isUsage) l)) u) (pick-else p (freshUsage t) noUsage l)
+
+fresh-at : (t : RelayTicket) → usageAt (t .«reservation_id») (freshUsage t) ≡ true
+unfolding usageAt
+fresh-at t = reservation-refl (t .«reservation_id»)
+
+-- where it is there or has a place, it is what a lookup then finds
+booked-found : (t : RelayTicket) (l : List ReservationUsage) → ledgerAnswer (any (usageAt (t .«reservation_id»)) l) (count isUsage l) (length l) ≡ Taken
+    → usageOf (t .«reservation_id») (booked t l) ≡ pick (usageAt (t .«reservation_id»)) (freshUsage t) l
+unfolding booked ledgerAnswer
+booked-found t l h =
+    let p = usageAt (t .«reservation_id») in
+    let row = pick p (freshUsage t) l in
+    let full = check-taken (not (any p l) && leb (length l) (count isUsage l)) LedgerFull h in
+    split (any p l)
+    (λ f. put-old-same isUsage clearUsage p row l f noUsage (pick-has p (freshUsage t) l f) .1)
+    (λ f. put-new-same isUsage clearUsage p row l f (room isUsage clearUsage l (leb-false (length l) (count isUsage l) (rw f at full))) noUsage
+    (ap p (pick-none p (freshUsage t) l f) ∙ fresh-at t) .1)
+
+pub booked-usage : (c : OpaqueRelayConfig) (g : OpenGathered) (d : Drawing) (o : OpenPlan) (s : ActionScan) (r : LedgerRoom) (a : HnsrAnswer) (row : ReservationUsage)
+    (l : List ReservationUsage) → r ≡ ledgerAsked (o .ticket .«reservation_id») l → a ≡ placedRows c g o d s r → taken a ≡ true
+    → row ≡ cond (r .found) (r .usage) (freshUsage (o .ticket)) → row ≡ usageOf (o .ticket .«reservation_id») (booked (o .ticket) l)
+booked-usage c g d o s r a row l er ea t e =
+    let id = o .ticket .«reservation_id» in
+    let named = peerAnswer (g .size) in
+    let room′ = endpointAnswer c (o .ticket) (samePeer (o .endpoint) (o .requester)) (g .waiting .«of_other» + g .running .«of_other»)
+    (g .waiting .under + g .running .under) in
+    let drawn′ = drawAnswer d in
+    let most = capacityAnswer c (s .tally) in
+    let late = deadlineAnswer c (g .packet .now) in
+    let last = ledgerAnswer (r .found) (r .used) (r .places) in
+    let k0 = then-taken named (room′ then drawn′ then most then late then last) (sym ea ∙ taken-is a t) .1 in
+    let k1 = then-taken room′ (drawn′ then most then late then last) k0 .1 in
+    let k2 = then-taken drawn′ (most then late then last) k1 .1 in
+    let k3 = then-taken most (late then last) k2 .1 in
+    let k4 = then-taken late last k3 .1 in
+    let k : ledgerAnswer (any (usageAt id) l) (count isUsage l) (length l) ≡ Taken = ap (λ (x : LedgerRoom). ledgerAnswer (x .found) (x .used) (x .places)) (sym er) ∙ k4 in
+    e ∙ ap (λ (x : LedgerRoom). cond (x .found) (x .usage) (freshUsage (o .ticket))) er ∙ pick-else (usageAt id) (freshUsage (o .ticket)) noUsage l
+    ∙ sym (booked-found (o .ticket) l k)
 
 -- ---- OPEN: the stages
 -- counting moves no number that an action has
@@ -399,8 +427,7 @@ pub asking-counted : (go : Bool) (h : OpaqueRelayRuntime) (m : Outgoing) → ask
 asking-counted true h m = refl
 asking-counted false h m = refl
 
-module _ (h : OpaqueRelayRuntime) (p : List RelayPending) (c : List RelayCircuit) (l : List ReservationUsage) (i : List InflightAction)
-    (before : HnsrAnswer) where
+module _ (h : OpaqueRelayRuntime) (p : List RelayPending) (c : List RelayCircuit) (l : List ReservationUsage) (i : List InflightAction) where
   open-world : (a : HnsrAnswer) (o : OpenPlan)
       → worldOf (cond (taken a) (withCounters h (countOpen (h .counters))) h)
       (cond (taken a) (put isPending (pendingAt (o .id)) (pendingFor (openingOf o)) p) p) c l i
@@ -409,24 +436,21 @@ module _ (h : OpaqueRelayRuntime) (p : List RelayPending) (c : List RelayCircuit
   open-world Taken o = refl
   open-world (Refused e) o = refl
 
-  pub booked-ends : (o : OpenPlan) (f : UsageFound) (a : HnsrAnswer) (go : Bool) (row : RelayPending) (p′ : List RelayPending)
+  pub booked-ends : (o : OpenPlan) (u : ReservationUsage) (a : HnsrAnswer) (go : Bool) (row : RelayPending) (p′ : List RelayPending)
       (h′ : OpaqueRelayRuntime) (m : Outgoing) (n : IncomingBody) (bytes : List ℕ)
-      → f ≡ usageFound (atReservation (o .ticket .«reservation_id»)) l → a ≡ (before then usageAnswer (o .ticket) (f .usage)) → go ≡ taken a
+      → u ≡ usageOf (o .ticket .«reservation_id») l → a ≡ usageAnswer (o .ticket) u → go ≡ taken a
       → row ≡ pendingFor (openingOf o) → p′ ≡ cond go (put isPending (pendingAt (o .id)) row p) p
       → h′ ≡ cond go (withCounters h (countOpen (h .counters))) h → m ≡ incomingOut o → n ≡ incomingFor (openingOf o) → bytes ≡ incomingBytes n
-      → (let w = worldOf h′ p′ c l i in proceed w a (send w (messageOf m bytes)))
-      ≡ (let w = worldOf h p c l i in proceed w before (openBooked w (openingOf o)))
-  unfolding openBooked incomingMessage usageAsked
-  booked-ends o f a go row p′ h′ m n bytes ef ea eg er ep eh em en eb =
+      → (let w = worldOf h′ p′ c l i in proceed w a (send w (messageOf m bytes))) ≡ openBooked (worldOf h p c l i) (openingOf o)
+  unfolding openBooked incomingMessage
+  booked-ends o u a go row p′ h′ m n bytes eu ea eg er ep eh em en eb =
       let w = worldOf h p c l i in
-      let u = usageAnswer (o .ticket) (usageOf (o .ticket .«reservation_id») l) in
       let x = withOpen w (openingOf o) in
       let k = incomingMessage (openingOf o) in
-      let ea′ : a ≡ (before then u) = ea ∙ ap (λ (v : UsageFound). before then usageAnswer (o .ticket) (v .usage)) ef in
       rw (ep, eh, eg, er, eb, en, em)
       (ap (λ (y : World). proceed y a (send y k)) (open-world a o)
-      ∙ ap (λ (b : HnsrAnswer). proceed (cond (taken b) x w) b (send (cond (taken b) x w) k)) ea′
-      ∙ proceed-then before u w x (λ y. send y k))
+      ∙ proceed-on a w x (λ y. send y k)
+      ∙ ap (λ (b : HnsrAnswer). proceed w b (send x k)) (ea ∙ ap (usageAnswer (o .ticket)) eu))
 
 module _ (h : OpaqueRelayRuntime) (p : List RelayPending) (c : List RelayCircuit) (l : List ReservationUsage) (i : List InflightAction)
     (q : RelayPacket) (source body endpoint rs : List ℕ) where
@@ -450,25 +474,30 @@ module _ (h : OpaqueRelayRuntime) (p : List RelayPending) (c : List RelayCircuit
   unfolding openPlaced peerWork reservationWork pendingWork circuitWork drawn idTaken decodeOpen actionsScanned sender
   open-placed = refl
 
-  pub lapsed-ends : (before : HnsrAnswer) (g : OpenGathered) (d : Drawing) (o : OpenPlan) (m : Outgoing) (k : ActionQuestion) (s : ActionScan)
-      (r : LedgerRoom) (own a : HnsrAnswer) (go : Bool) (l′ : List ReservationUsage)
-      → g ≡ gathering q source body endpoint p c → d ≡ drawAll (isTaken p c) undrawn (draws rs) → o ≡ openPlan (h .config) g d
-      → m ≡ incomingOut o → k ≡ asking h m → s ≡ actionsScanned k i → r ≡ ledgerAsked (o .ticket .«reservation_id») l
-      → own ≡ placedRows (h .config) g o d s r → a ≡ (before then own) → go ≡ taken a → l′ ≡ cond go (booked (o .ticket) l) l
-      → (let w = worldOf h p c l′ i in proceed w a (openBooked w (openingOf o)))
-      ≡ (let w = worldOf h p c l i in proceed w before (openLapsed w (packetOf q source body endpoint rs)))
-  unfolding openLapsed openGranted
-  lapsed-ends before g d o m k s r own a go l′ eg ed eo em ek es er ew ea ego el =
-      let w = worldOf h p c l i in
-      let x = worldOf h p c (booked (q .ticket) l) i in
-      let t = openPlaced w (packetOf q source body endpoint rs) (openingOf plan) in
-      let own′ : own ≡ t = ew ∙ rw (er, es, ek, em, eo, ed, eg) open-placed in
-      let a′ : a ≡ (before then t) = ea ∙ ap (λ (b : HnsrAnswer). before then b) own′ in
-      rw (el, ego, eo, eg, ed)
-      (ap (λ (y : World). proceed y a (openBooked y (openingOf plan))) (cond-map (λ (z : List ReservationUsage). worldOf h p c z i) (taken a) (booked (q .ticket) l) l)
-      ∙ ap (λ (b : HnsrAnswer). proceed (cond (taken b) x w) b (openBooked (cond (taken b) x w) (openingOf plan))) a′
-      ∙ proceed-then before t w x (λ y. openBooked y (openingOf plan))
-      ∙ ap (λ (v : Opening). proceed w before (openGranted w (packetOf q source body endpoint rs) v)) open-opening)
+  module _ (g : OpenGathered) (d : Drawing) (o : OpenPlan) (m : Outgoing) (k : ActionQuestion) (s : ActionScan) (r : LedgerRoom) (a : HnsrAnswer)
+      (eg : g ≡ gathering q source body endpoint p c) (ed : d ≡ drawAll (isTaken p c) undrawn (draws rs)) (eo : o ≡ openPlan (h .config) g d)
+      (em : m ≡ incomingOut o) (ek : k ≡ asking h m) (es : s ≡ actionsScanned k i) (er : r ≡ ledgerAsked (o .ticket .«reservation_id») l)
+      (ea : a ≡ placedRows (h .config) g o d s r) where
+    rows-placed : a ≡ openPlaced (worldOf h p c l i) (packetOf q source body endpoint rs) (openingOf plan)
+    rows-placed = ea ∙ rw (er, es, ek, em, eo, ed, eg) open-placed
+
+    pub lapsed-ends : (l′ : List ReservationUsage) → taken a ≡ true → l′ ≡ booked (o .ticket) l
+        → openBooked (worldOf h p c l′ i) (openingOf o) ≡ openLapsed (worldOf h p c l i) (packetOf q source body endpoint rs)
+    unfolding openLapsed openGranted
+    lapsed-ends l′ t el =
+        let w = worldOf h p c l i in
+        let v = packetOf q source body endpoint rs in
+        rw (el, eo, eg, ed)
+        (sym (gone-on w a (openPlaced w v (openingOf plan)) (openBooked (worldOf h p c (booked (q .ticket) l) i) (openingOf plan)) t rows-placed)
+        ∙ ap (λ (y : Opening). openGranted w v y) open-opening)
+
+    pub lapsed-refused : (y : Relayed) (out : List ℕ) → taken a ≡ false → (y .runtime ≡ h) × (y .answer ≡ a) × (y .words ≡ 0)
+        → handedBack y p c l i out ≡ ending out (openLapsed (worldOf h p c l i) (packetOf q source body endpoint rs))
+    unfolding openLapsed openGranted
+    lapsed-refused y out t e =
+        let w = worldOf h p c l i in
+        let v = packetOf q source body endpoint rs in
+        turned-away h p c l i out y a _ _ e t (rows-placed ∙ ap (λ (z : Opening). openPlaced w v z) open-opening)
 
   pub open-ends : (g : OpenGathered) (a : HnsrAnswer) (go : Bool) (l′ : List ReservationUsage)
       → g ≡ gathering q source body endpoint p c → a ≡ openRows (h .config) g → go ≡ taken a → l′ ≡ cond go (lapsed (q .now) l) l

@@ -7,6 +7,7 @@ use mathlib.Core.Bool.{Bool, true, false, cond, not, _&&_, _||_, and-false, or-t
 use mathlib.Core.List.{List}
 use lib.Dec.{eqb}
 use lib.ListN.{length}
+use Rattle.hnsr_body.specs.declared.values.ReservationId.{ReservationId}
 use Rattle.hnsr_circuit.specs.declared.records.RelayPending.{RelayPending}
 use Rattle.hnsr_circuit.specs.declared.records.RelayCircuit.{RelayCircuit}
 use Rattle.hnsr_circuit.specs.declared.records.InflightAction.{InflightAction}
@@ -16,19 +17,22 @@ use Rattle.hnsr_circuit.specs.declared.records.WorkQuestion.{WorkQuestio
 use Rattle.hnsr_circuit.specs.declared.records.ActionQuestion.{ActionQuestion}
 use Rattle.hnsr_circuit.specs.declared.records.ActionScan.{ActionScan}
 use Rattle.hnsr_circuit.specs.declared.records.CircuitTotals.{CircuitTotals}
+use Rattle.hnsr_circuit.specs.declared.records.LedgerRoom.{LedgerRoom}
+use Rattle.hnsr_circuit.specs.declared.records.ReservationUsage.{ReservationUsage}
 use Rattle.hns_encoding.specs.Numbers.{top, saturatingAdd}
 use Rattle.hns_encoding.specs.Laws.Tests.{split, cond-le}
 use Rattle.hns_encoding.specs.Loops.{foldFrom}
 use Rattle.hns_encoding.specs.Sums.{non, one, total, count}
-use Rattle.hnsr_circuit.specs.Table.{also, any, placeOf}
+use Rattle.hnsr_circuit.specs.Table.{also, any, pick, placeOf}
 use Rattle.hnsr_circuit.specs.Peer.{samePeer}
 use Rattle.hnsr_circuit.specs.Pending.{isPending, pendingOf, pendingUnder, requestedBy}
 use Rattle.hnsr_circuit.specs.Circuits.{isCircuit, circuitOf, circuitUnder, queuedIn}
+use Rattle.hnsr_circuit.specs.Ledger.{noUsage, isUsage, usageAt}
 use Rattle.hnsr_circuit.specs.Inflight.{isAction, actionAt, actionUnder, actionToward, retained}
 use Rattle.hnsr_circuit.specs.Question.{pendingWork, circuitWork}
 use Rattle.hnsr_circuit.specs.Queue.{actionsScanned}
 use Rattle.hnsr_circuit.specs.Status.{circuitTotals}
-use Rattle.hnsr_circuit.specs.Laws.Folds.{fold-count, fold-stopping, fold-any, fold-place}
+use Rattle.hnsr_circuit.specs.Laws.Folds.{fold-count, fold-stopping, fold-kept, fold-any, fold-place, fold-pick}
 use Rattle.hnsr_circuit.specs.Laws.Inflight.{noTally, tallyTurn, tally-fold}
 use Rattle.hnsr_circuit.specs.Laws.Lookups.{place-none}
 use Rattle.hnsr_circuit.specs.Laws.Scans.{fold-part, any-never}
@@ -174,6 +178,9 @@ adds-none t = λ j. record {
 abbrev pub noScan : (places : ℕ) → ActionScan
 noScan places = record { tally = noTally; found = false; place = places; spare = false; «spare_place» = places }
 
+place-of : {A : Type 0} (p : A → Bool) (t : List A) → cond (any p t) (0 + placeOf p t) (length t) ≡ placeOf p t
+place-of p t = split (any p t) (λ e. rw e (zero-add (placeOf p t))) (λ e. rw e (sym (place-none p t e)))
+
 -- the place that stays once something is found
 abbrev pub firstPlace : (found here : Bool) → (place kept : ℕ) → ℕ
 firstPlace found here place kept = cond found kept (cond here place kept)
@@ -254,9 +261,6 @@ module _ (q : ActionQuestion) where
         «spare_place» = (ep ∙ ap (λ (b : Bool). firstPlace (s .spare) (not b) place (s .«spare_place»)) (sym u)) j;
       }
 
-  place-of : (p : InflightAction → Bool) (t : List InflightAction) → cond (any p t) (0 + placeOf p t) (length t) ≡ placeOf p t
-  place-of p t = split (any p t) (λ e. rw e (zero-add (placeOf p t))) (λ e. rw e (sym (place-none p t e)))
-
   pub scan-fold : (t : List InflightAction) → foldFrom scanned t 0 (noScan (length t)) ≡ actionsScanned q t
   unfolding actionsScanned
   scan-fold t =
@@ -267,3 +271,42 @@ module _ (q : ActionQuestion) where
       let empty = fold-place scanned (λ s. s .spare) (λ s. s .«spare_place») (non isAction) (λ s x i. refl) (λ s x i. refl) t 0 b ∙ place-of (non isAction) t in
       let tally = fold-part scanned (λ s. s .tally) tallyOn (λ s x i. refl) t 0 b ∙ tally-fold (q .replacing) (q .«circuit_id») (q .peer) t in
       λ j. record { tally = tally j; found = found j; place = place j; spare = spare j; «spare_place» = empty j }
+
+-- ---- what OPEN asks of the ledger
+abbrev pub ledgerAsked : ReservationId → List ReservationUsage → LedgerRoom
+ledgerAsked id l = record {
+  found = any (usageAt id) l;
+  place = placeOf (usageAt id) l;
+  usage = pick (usageAt id) noUsage l;
+  used = count isUsage l;
+  spare = any (non isUsage) l;
+  «spare_place» = placeOf (non isUsage) l;
+  places = length l;
+}
+
+abbrev pub noRoom : (places : ℕ) → LedgerRoom
+noRoom places = record { found = false; place = places; usage = noUsage; used = 0; spare = false; «spare_place» = places; places = places }
+
+module _ (id : ReservationId) where
+  abbrev pub roomOn : LedgerRoom → ReservationUsage → (place : ℕ) → LedgerRoom
+  roomOn r u place = record {
+    found = r .found || usageAt id u;
+    place = firstPlace (r .found) (usageAt id u) place (r .place);
+    usage = cond (r .found) (r .usage) (cond (usageAt id u) u (r .usage));
+    used = r .used + one isUsage u;
+    spare = r .spare || non isUsage u;
+    «spare_place» = firstPlace (r .spare) (non isUsage u) place (r .«spare_place»);
+    places = r .places;
+  }
+
+  pub room-fold : (t : List ReservationUsage) → foldFrom roomOn t 0 (noRoom (length t)) ≡ ledgerAsked id t
+  room-fold t =
+      let b = noRoom (length t) in
+      let found = fold-any roomOn (λ r. r .found) (usageAt id) (λ r x i. refl) t 0 b in
+      let spare = fold-any roomOn (λ r. r .spare) (non isUsage) (λ r x i. refl) t 0 b in
+      let place = fold-place roomOn (λ r. r .found) (λ r. r .place) (usageAt id) (λ r x i. refl) (λ r x i. refl) t 0 b ∙ place-of (usageAt id) t in
+      let empty = fold-place roomOn (λ r. r .spare) (λ r. r .«spare_place») (non isUsage) (λ r x i. refl) (λ r x i. refl) t 0 b ∙ place-of (non isUsage) t in
+      let usage = fold-pick roomOn (λ r. r .found) (λ r. r .usage) (usageAt id) (λ r x i. refl) (λ r x i. refl) t 0 b in
+      let used = fold-count roomOn (λ r. r .used) isUsage (λ r x i. refl) t 0 b ∙ zero-add (count isUsage t) in
+      let places = fold-kept roomOn (λ r. r .places) (λ r x i. refl) t 0 b in
+      λ j. record { found = found j; place = place j; usage = usage j; used = used j; spare = spare j; «spare_place» = empty j; places = places j }

@@ -1,13 +1,13 @@
 // The table of ledger records: the only functions that index it. Only places below its number are in use, whatever the marks above; a place past the end
 // has no record, and a store there stores nothing.
 ghost use mathlib.Core.Path.{_≡_};
-ghost use mathlib.Core.Bool.{cond, false};
+ghost use mathlib.Core.Bool.{cond};
 ghost use lib.ListN.{getD, set};
-ghost use Rattle.hns_encoding.specs.Sums.{count};
-ghost use Rattle.hnsr_circuit.specs.Held.{held, heldLedger, asksUnused};
+ghost use Rattle.hnsr_circuit.specs.Held.{held, heldLedger};
 ghost use Rattle.hnsr_circuit.specs.Table.{clear, placeOf};
 ghost use Rattle.hnsr_circuit.specs.Ledger.{noUsage, clearUsage};
 ghost use Rattle.hnsr_circuit.specs.Question.{usageHas};
+ghost use Rattle.hnsr_circuit.specs.Laws.Turns.{ledgerAsked};
 use crate::ledger::is_usage;
 use crate::ledger::no_usage;
 use crate::ledger::usage_unmarked;
@@ -15,12 +15,16 @@ use crate::places::Places;
 use crate::places::asks_unused;
 use crate::places::held_usage;
 use crate::places::or_else;
+use crate::places::room_spared;
 use crate::question::usage_has;
+use crate::records::LedgerRoom;
 use crate::records::Question;
 use crate::records::ReservationUsage;
-use crate::scan::one_more;
+use crate::scan::no_room;
+use crate::scan::room_on;
 use crate::scan::within;
 use hns_encoding::numbers::min_usize;
+use hnsr_body::values::ReservationId;
 
 // The lowest place whose record has what is asked, else the number of places.
 pub(crate) fn find_usage(ledger: &[ReservationUsage], places: Places, question: Question) -> usize
@@ -40,22 +44,20 @@ pub(crate) fn find_usage(ledger: &[ReservationUsage], places: Places, question: 
     or_else(unused, i, size)
 }
 
-// Of a question that no unused record answers.
-pub(crate) fn count_usage(ledger: &[ReservationUsage], places: Places, question: Question) -> usize
-    requires { ⌜ asksUnused (question .ask) ≡ false ⌝ }
-    ensures { λ r. ⌜ r ≡ count (usageHas question) (heldLedger places (now (ledger .entry))) ⌝ }
+// All that OPEN asks of the table, in one pass.
+pub(crate) fn scan_ledger(ledger: &[ReservationUsage], places: Places, id: ReservationId) -> LedgerRoom
+    ensures { λ r. ⌜ r ≡ ledgerAsked id (heldLedger places (now (ledger .entry))) ⌝ }
 {
     let size = ledger.len();
     let end = min_usize(places.ledger, size);
-    let mut counted: usize = 0;
+    let mut room = no_room(size);
     let mut i: usize = 0;
     while i < end {
         let row = ledger[i];
-        let has = usage_has(row, question);
-        counted = one_more(counted, has);
+        room = room_on(room, row, id, i);
         i += 1;
     }
-    counted
+    room_spared(room, i, size)
 }
 
 pub(crate) fn usage_at(ledger: &[ReservationUsage], places: Places, place: usize) -> ReservationUsage

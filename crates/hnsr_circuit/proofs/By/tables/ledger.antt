@@ -1,6 +1,6 @@
 pub mod clear_usage
-pub mod count_usage
 pub mod find_usage
+pub mod scan_ledger
 pub mod set_usage
 pub mod trim_ledger
 pub mod unmark_usage

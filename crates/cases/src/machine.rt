@@ -254,7 +254,17 @@ pub(crate) fn again(
     if delivered {
         let runtime = kept.runtime;
         let places = kept.places;
-        let after = acknowledge(pending, circuits, inflight, out, runtime, places, 1, 3, true);
+        let after = acknowledge(
+            pending,
+            circuits,
+            inflight,
+            out,
+            runtime,
+            places,
+            1,
+            3,
+            true,
+        );
         let last = deliver(
             pending,
             circuits,

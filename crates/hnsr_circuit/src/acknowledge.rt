@@ -267,7 +267,14 @@ pub(crate) fn fail_incoming(
     let message = plan.message;
     if plan.go {
         set_pending(pending, true, plan.place, gone);
-        return send_notice(inflight, out, after, places, message, Notice::EndpointWriteFailed);
+        return send_notice(
+            inflight,
+            out,
+            after,
+            places,
+            message,
+            Notice::EndpointWriteFailed,
+        );
     }
     taken_with(runtime, places)
 }
@@ -339,7 +346,16 @@ pub fn acknowledge(
     let few = too_few(config, pending.len(), circuits.len(), inflight.len());
     let answer = acknowledge_answer(runtime, few, out.len(), generation, found);
     if is_taken(answer) {
-        return acknowledge_action(pending, circuits, inflight, out, runtime, places, found, delivered);
+        return acknowledge_action(
+            pending,
+            circuits,
+            inflight,
+            out,
+            runtime,
+            places,
+            found,
+            delivered,
+        );
     }
     refused(runtime, places, answer)
 }

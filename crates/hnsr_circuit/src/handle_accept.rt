@@ -172,16 +172,7 @@ pub(crate) fn accept_found(
         let after = with_circuits(places, number);
         let scan = drop_and_scan(inflight, places, plan.id, asked);
         let bytes = opened.to_bytes();
-        return send(
-            inflight,
-            out,
-            answer,
-            counted,
-            after,
-            message,
-            scan,
-            &bytes,
-        );
+        return send(inflight, out, answer, counted, after, message, scan, &bytes);
     }
     refused(runtime, places, answer)
 }

@@ -69,7 +69,12 @@ use crate::tables::pending::set_pending;
 use hnsr_body::open_body::OpenBody;
 
 // Whether an id is a pending record's or a circuit's.
-pub(crate) fn id_taken(pending: &[RelayPending], circuits: &[RelayCircuit], places: Places, id: u64) -> bool
+pub(crate) fn id_taken(
+    pending: &[RelayPending],
+    circuits: &[RelayCircuit],
+    places: Places,
+    id: u64,
+) -> bool
     ensures { λ r. ⌜ r ≡ isTaken (heldPending places (now (pending .entry))) (heldCircuits places (now (circuits .entry))) id ⌝ }
 {
     let waiting = find_pending_id(pending, places, id);
@@ -78,7 +83,12 @@ pub(crate) fn id_taken(pending: &[RelayPending], circuits: &[RelayCircuit], plac
 }
 
 // The draws in order, until one ends the drawing; a tail under eight bytes is ignored.
-pub(crate) fn draw(pending: &[RelayPending], circuits: &[RelayCircuit], places: Places, random: &[u8]) -> Drawing
+pub(crate) fn draw(
+    pending: &[RelayPending],
+    circuits: &[RelayCircuit],
+    places: Places,
+    random: &[u8],
+) -> Drawing
     ensures { λ r. ⌜ r ≡ drawAll (isTaken (heldPending places (now (pending .entry))) (heldCircuits places (now (circuits .entry)))) undrawn (draws (now (random .entry))) ⌝ }
 {
     let mut drawing = undrawn();

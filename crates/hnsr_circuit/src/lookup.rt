@@ -50,7 +50,11 @@ fn pending_found(place: usize, places: usize, pending: RelayPending) -> PendingF
     }
 }
 
-pub(crate) fn look_up_pending(pending: &[RelayPending], places: Places, question: Question) -> PendingFound
+pub(crate) fn look_up_pending(
+    pending: &[RelayPending],
+    places: Places,
+    question: Question,
+) -> PendingFound
     ensures { λ r. ⌜ r ≡ pendingFound question (heldPending places (now (pending .entry))) ⌝ }
 {
     let place = find_pending(pending, places, question);
@@ -95,7 +99,11 @@ fn usage_found(place: usize, places: usize, usage: ReservationUsage) -> UsageFou
     }
 }
 
-pub(crate) fn look_up_usage(ledger: &[ReservationUsage], places: Places, question: Question) -> UsageFound
+pub(crate) fn look_up_usage(
+    ledger: &[ReservationUsage],
+    places: Places,
+    question: Question,
+) -> UsageFound
     ensures { λ r. ⌜ r ≡ usageFound question (heldLedger places (now (ledger .entry))) ⌝ }
 {
     let place = find_usage(ledger, places, question);

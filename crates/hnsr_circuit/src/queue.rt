@@ -349,13 +349,5 @@ pub(crate) fn tell_notice(
     let written = notice.encode();
     let bytes = written.bytes;
     let length = written.length;
-    tell_scanned(
-        inflight,
-        out,
-        go,
-        sending,
-        message,
-        scan,
-        &bytes[..length],
-    )
+    tell_scanned(inflight, out, go, sending, message, scan, &bytes[..length])
 }

@@ -262,7 +262,16 @@ pub extern "C" fn opaque_relay_revoke_reservation(
 ) -> RelayReply
     ensures { λ r. ⌜ replied r (now (pending .exit)) (now (circuits .exit)) (now (ledger .exit)) (now (inflight .exit)) (now (out .exit)) ≡ numbered (outcome (now (out .entry)) (step (worldSeen runtime places (now (pending .entry)) (now (circuits .entry)) (now (ledger .entry)) (now (inflight .entry))) (callRevokeReservation id (length (now (out .entry)))))) ⌝ }
 {
-    let relayed = revoke_reservation(pending, circuits, ledger, inflight, out, runtime, places, id);
+    let relayed = revoke_reservation(
+        pending,
+        circuits,
+        ledger,
+        inflight,
+        out,
+        runtime,
+        places,
+        id,
+    );
     reply(relayed)
 }
 
@@ -279,7 +288,16 @@ pub extern "C" fn opaque_relay_expire(
 ) -> RelayReply
     ensures { λ r. ⌜ replied r (now (pending .exit)) (now (circuits .exit)) (now (ledger .exit)) (now (inflight .exit)) (now (out .exit)) ≡ numbered (outcome (now (out .entry)) (step (worldSeen runtime places (now (pending .entry)) (now (circuits .entry)) (now (ledger .entry)) (now (inflight .entry))) (callExpire time (length (now (out .entry)))))) ⌝ }
 {
-    let relayed = expire(pending, circuits, ledger, inflight, out, runtime, places, time);
+    let relayed = expire(
+        pending,
+        circuits,
+        ledger,
+        inflight,
+        out,
+        runtime,
+        places,
+        time,
+    );
     reply(relayed)
 }
 

@@ -230,7 +230,6 @@ accept-refused h p c l i q source body e rs out f read a r ef er ea t k =
     ∙ (λ j. acceptRows (h .config) (ef j) (peerOf source) (q .now) (er j) (pendingWork (acceptWork (ef j)) p) (circuitWork (acceptWork (ef j)) c) (tallied true (q .«context_id») (ef j .pending .requester) i))
     ∙ accept-taken h p c l i q source body e rs)
 
-
 -- ---- OPEN: numbers
 pub ltb-less : (now n : ℕ) → now < 18446744073709551616 → ltb (top 64 - now) n ≡ ltb (top 64) (now + n)
 ltb-less now n h = split (ltb (top 64) (now + n))

@@ -95,7 +95,12 @@ pub(crate) fn set_circuit(circuits: &mut [RelayCircuit], go: bool, place: usize,
 }
 
 // Of the records that have what is asked, above the cursor, the one with the least id and place.
-pub(crate) fn next_circuit(circuits: &[RelayCircuit], places: Places, question: Question, cursor: Walked) -> Walked
+pub(crate) fn next_circuit(
+    circuits: &[RelayCircuit],
+    places: Places,
+    question: Question,
+    cursor: Walked,
+) -> Walked
     requires { ⌜ asksUnused (question .ask) ≡ false ⌝ }
     ensures { λ r. ⌜ r ≡ next circuitId (circuitHas question) cursor (heldCircuits places (now (circuits .entry))) ⌝ }
 {
@@ -112,7 +117,11 @@ pub(crate) fn next_circuit(circuits: &[RelayCircuit], places: Places, question: 
 }
 
 // How many records are used, and the first that a walk of the question takes.
-pub(crate) fn survey_circuit(circuits: &[RelayCircuit], places: Places, question: Question) -> Survey
+pub(crate) fn survey_circuit(
+    circuits: &[RelayCircuit],
+    places: Places,
+    question: Question,
+) -> Survey
     requires { ⌜ asksUnused (question .ask) ≡ false ⌝ }
     ensures { λ r. ⌜ (r .used ≡ count isCircuit (heldCircuits places (now (circuits .entry)))) × (r .first ≡ next circuitId (circuitHas question) notYet (heldCircuits places (now (circuits .entry)))) ⌝ }
 {
@@ -133,7 +142,11 @@ pub(crate) fn survey_circuit(circuits: &[RelayCircuit], places: Places, question
 }
 
 // All that OPEN and ACCEPT ask of the table, in one pass.
-pub(crate) fn circuit_work(circuits: &[RelayCircuit], places: Places, question: WorkQuestion) -> Work
+pub(crate) fn circuit_work(
+    circuits: &[RelayCircuit],
+    places: Places,
+    question: WorkQuestion,
+) -> Work
     ensures { λ r. ⌜ r ≡ circuitWork question (heldCircuits places (now (circuits .entry))) ⌝ }
 {
     let size = circuits.len();

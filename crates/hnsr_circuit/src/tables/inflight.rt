@@ -119,7 +119,11 @@ pub(crate) fn clear_action(inflight: &mut [InflightAction], places: Places, ques
 }
 
 // All that a message asks of the table, in one pass.
-pub(crate) fn scan_actions(inflight: &[InflightAction], places: Places, question: ActionQuestion) -> ActionScan
+pub(crate) fn scan_actions(
+    inflight: &[InflightAction],
+    places: Places,
+    question: ActionQuestion,
+) -> ActionScan
     ensures { λ r. ⌜ r ≡ actionsScanned question (heldActions places (now (inflight .entry))) ⌝ }
 {
     let size = inflight.len();

@@ -45,7 +45,11 @@ pub(crate) fn find_usage(ledger: &[ReservationUsage], places: Places, question: 
 }
 
 // All that OPEN asks of the table, in one pass.
-pub(crate) fn scan_ledger(ledger: &[ReservationUsage], places: Places, id: ReservationId) -> LedgerRoom
+pub(crate) fn scan_ledger(
+    ledger: &[ReservationUsage],
+    places: Places,
+    id: ReservationId,
+) -> LedgerRoom
     ensures { λ r. ⌜ r ≡ ledgerAsked id (heldLedger places (now (ledger .entry))) ⌝ }
 {
     let size = ledger.len();
@@ -60,7 +64,11 @@ pub(crate) fn scan_ledger(ledger: &[ReservationUsage], places: Places, id: Reser
     room_spared(room, i, size)
 }
 
-pub(crate) fn usage_at(ledger: &[ReservationUsage], places: Places, place: usize) -> ReservationUsage
+pub(crate) fn usage_at(
+    ledger: &[ReservationUsage],
+    places: Places,
+    place: usize,
+) -> ReservationUsage
     ensures { λ r. ⌜ r ≡ getD (heldLedger places (now (ledger .entry))) place noUsage ⌝ }
 {
     if place < ledger.len() {

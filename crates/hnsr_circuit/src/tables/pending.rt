@@ -106,7 +106,12 @@ pub(crate) fn set_pending(pending: &mut [RelayPending], go: bool, place: usize, 
 }
 
 // Of the records that have what is asked, above the cursor, the one with the least id and place.
-pub(crate) fn next_pending(pending: &[RelayPending], places: Places, question: Question, cursor: Walked) -> Walked
+pub(crate) fn next_pending(
+    pending: &[RelayPending],
+    places: Places,
+    question: Question,
+    cursor: Walked,
+) -> Walked
     requires { ⌜ asksUnused (question .ask) ≡ false ⌝ }
     ensures { λ r. ⌜ r ≡ next pendingId (pendingHas question) cursor (heldPending places (now (pending .entry))) ⌝ }
 {

@@ -29,7 +29,7 @@ returns c =
     let w = c .before .before in
     let a = w .before .args in
     let e : (a .go && ltb (a .place) (a .size) && leb (a .number) (a .place)) ≡ true =
-        ap (λ (b : Bool). b && leb (a .number) (a .place)) (sym (w .within .ensures)) ∙ sym (c .before .both .ensures) ∙ c .if1 .taken in
+    ap (λ (b : Bool). b && leb (a .number) (a .place)) (sym (w .within .ensures)) ∙ sym (c .before .both .ensures) ∙ c .if1 .taken in
     rw e
 
 returns-2 : tie.Need-returns-2
@@ -37,7 +37,7 @@ returns-2 c =
     let w = c .before .before in
     let a = w .before .args in
     let e : (a .go && ltb (a .place) (a .size) && leb (a .number) (a .place)) ≡ false =
-        ap (λ (b : Bool). b && leb (a .number) (a .place)) (sym (w .within .ensures)) ∙ sym (c .before .both .ensures) ∙ c .if1 .left in
+    ap (λ (b : Bool). b && leb (a .number) (a .place)) (sym (w .within .ensures)) ∙ sym (c .before .both .ensures) ∙ c .if1 .left in
     rw e
 
 pub raised-spec : {M : Type 1} → statement M

@@ -71,7 +71,7 @@ returns c = λ p₀ cs₀ l₀.
     let er = c .relayed .ensures in
     let z = el ∙ k .ensures .place in
     let up = put-held clearAction (a .places .actions) t _ (c .before .before .before .before .before .before .before .before .before .before .before .before .queued-go .result) (c .before .before .before .before .before .before .before .before .before .before .before .queued-place .result) (c .before .before .before .before .before .before .before .before .before .before .before .before .before .queued-action .result) (c .before .before .before .before .before .before .before .before .before .before .raised .result)
-        (λ h. rw z (scan-upto (asking (a .runtime) (a .message)) (a .places) t (a .scan) (s .pre .0) (rw z at h))) (c .before .before .before .before .before .before .before .set-action .ensures) (c .before .before .before .before .before .before .before .before .before .before .raised .ensures) in
+    (λ h. rw z (scan-upto (asking (a .runtime) (a .message)) (a .places) t (a .scan) (s .pre .0) (rw z at h))) (c .before .before .before .before .before .before .before .set-action .ensures) (c .before .before .before .before .before .before .before .before .before .before .raised .ensures) in
     let i = heldActions (a .places) t in
     let ei = up ∙ (λ x. cond (eg x) (set i (el x) (ea x)) i) in
     let eo = c .before .before .before .before .put-queued .ensures ∙ ap (λ (g : Bool). cond g (written (a .out .now) 0 (routeWords (routeFor (messageOf (a .message) (a .body .now)) (a .runtime .generation) (a .runtime .«next_action_sequence»)))) (a .out .now)) eg in

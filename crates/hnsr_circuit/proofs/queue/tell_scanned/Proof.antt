@@ -80,7 +80,7 @@ returns c = λ p₀ cs₀ l₀.
     let es = s .pre .0 in
     let z = el ∙ k .ensures .place in
     let up = put-held clearAction (n .actions) t _ (c .before .before .before .before .before .before .before .before .before .before .before .before .queued-go .result) (c .before .before .before .before .before .before .before .before .before .before .before .queued-place .result) (c .before .before .before .before .before .before .before .before .before .before .before .before .before .queued-action .result) (c .before .before .before .before .before .before .before .before .before .before .raised .result)
-        (λ b. rw z (scan-upto (asking h (a .message)) n t (a .scan) es (rw z at b))) (c .before .before .before .before .before .before .before .set-action .ensures) (c .before .before .before .before .before .before .before .before .before .before .raised .ensures) in
+    (λ b. rw z (scan-upto (asking h (a .message)) n t (a .scan) es (rw z at b))) (c .before .before .before .before .before .before .before .set-action .ensures) (c .before .before .before .before .before .before .before .before .before .before .raised .ensures) in
     let ei = up ∙ (λ x. cond (eg x) (set i (el x) (ea x)) i) in
     let eo = c .before .before .before .before .put-queued .ensures ∙ ap (λ (g : Bool). cond g (written (a .out .now) at (routeWords (routeFor (messageOf (a .message) (a .body .now)) (h .generation) (h .«next_action_sequence»)))) (a .out .now)) eg in
     let ep = c .before .position-after .ensures ∙ ap (λ (g : Bool). cond g (saturatingAdd 64 at (headWords + wordCount (length (a .body .now)))) at) eg in

@@ -91,10 +91,10 @@ loop-again c =
     let has = c .before .before .before .before .before .action-under .ensures in
     let inside : l .i < length (held clearAction n t) = rw (length-held clearAction n t) (omega arith) in
     let left : c .before .before .before .before .action-left .result ≡ getD u (l .i) noAction =
-        c .before .before .before .before .action-left .ensures ∙ ap (λ (b : Bool). cond b (clearAction row) row) has
-        ∙ ap (cleared clearAction d) (sym (held-at clearAction n t (l .i) noAction (omega arith)))
-        ∙ sym (map-here (cleared clearAction d) (held clearAction n t) noAction (l .i) inside)
-        ∙ ap (λ (x : List InflightAction). getD x (l .i) noAction) (l .inv .4) in
+    c .before .before .before .before .action-left .ensures ∙ ap (λ (b : Bool). cond b (clearAction row) row) has
+    ∙ ap (cleared clearAction d) (sym (held-at clearAction n t (l .i) noAction (omega arith)))
+    ∙ sym (map-here (cleared clearAction d) (held clearAction n t) noAction (l .i) inside)
+    ∙ ap (λ (x : List InflightAction). getD x (l .i) noAction) (l .inv .4) in
     let after = c .action-scanned .ensures ∙ ap (λ (x : InflightAction). scanned q (l .scan) x (l .i)) left in
     let long : l .i < length u = rw (length-map (held clearAction n (a .inflight .now)) (cleared clearAction d), length-held clearAction n (a .inflight .now)) (omega arith) in (
       omega arith,
@@ -128,9 +128,9 @@ returns c =
     let same = ap (dropped d) seen in (
       sym kept ∙ done ∙ same,
       c .spared .ensures
-      ∙ ap (λ (m : ℕ). scanSpared (l .scan) (l .i) m) (sym (l .inv .2))
-      ∙ scan-rest q n t (l .i) (l .scan) (actionsScanned q u) (λ h. omega arith) (omega arith) (ap (λ (x : List InflightAction). foldFrom (scanned q) (drop (l .i) x) (l .i) (l .scan)) done ∙ l .inv .5)
-      ∙ ap (actionsScanned q) same,
+          ∙ ap (λ (m : ℕ). scanSpared (l .scan) (l .i) m) (sym (l .inv .2))
+          ∙ scan-rest q n t (l .i) (l .scan) (actionsScanned q u) (λ h. omega arith) (omega arith) (ap (λ (x : List InflightAction). foldFrom (scanned q) (drop (l .i) x) (l .i) (l .scan)) done ∙ l .inv .5)
+          ∙ ap (actionsScanned q) same,
     )
 
 pub drop-and-scan-spec : {M : Type 1} → statement M

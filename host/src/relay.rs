@@ -97,10 +97,14 @@ impl<Random: RandomSource> OpaqueRelayRuntime<Random> {
         packet: &HnsrPacket<'_>,
         now: u64,
     ) -> Result<Routes<'_>, HnsrRuntimeError> {
-        let mut random = [0; RANDOM_BYTES];
-        let supplied = match packet.opcode {
-            HnsrOpcode::Open => self.random.supply(&mut random).min(RANDOM_BYTES),
-            _ => 0,
+        let mut bytes;
+        let random: &[u8] = match packet.opcode {
+            HnsrOpcode::Open => {
+                bytes = [0; RANDOM_BYTES];
+                let supplied = self.random.supply(&mut bytes).min(RANDOM_BYTES);
+                &bytes[..supplied]
+            }
+            _ => &[],
         };
         let (key_valid, grant) = admission.parts();
         let granted = grant.unwrap_or_default();
@@ -113,7 +117,7 @@ impl<Random: RandomSource> OpaqueRelayRuntime<Random> {
             ticket: granted.ticket(),
         };
         let (source, endpoint) = (source.as_bytes(), granted.endpoint);
-        let packet = Packet { head, source, body: packet.body, endpoint, random: &random[..supplied] };
+        let packet = Packet { head, source, body: packet.body, endpoint, random };
         let answer = lent::handle(&mut self.tables, &mut self.out, &mut self.runtime, &packet);
         self.routed(answer)
     }

@@ -116,6 +116,7 @@ pendingWork q t = record {
   «of_other» = count (pendingOf (q .other)) t;
   under = count (pendingUnder (q .reservation)) t;
   repeated = any (requestedBy (q .peer) (q .context)) t;
+  holds = any (pendingAt (q .id)) t;
 }
 
 -- a circuit repeats no OPEN
@@ -126,4 +127,5 @@ circuitWork q t = record {
   «of_other» = count (circuitOf (q .other)) t;
   under = count (circuitUnder (q .reservation)) t;
   repeated = false;
+  holds = any (circuitAt (q .id)) t;
 }

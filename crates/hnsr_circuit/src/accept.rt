@@ -150,6 +150,7 @@ pub(crate) fn accept_work(found: PendingFound) -> WorkQuestion
         other: peer,
         reservation,
         context: 0,
+        id: pending.circuit_id,
     }
 }
 

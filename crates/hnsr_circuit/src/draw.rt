@@ -6,6 +6,7 @@ ghost use lib.Dec.{ltb};
 ghost use lib.ListN.{length, take, drop};
 ghost use Rattle.hns_encoding.specs.Bytes.{be};
 ghost use Rattle.hnsr_circuit.specs.Draw.{undrawn, drawTurn, drawAnswer};
+ghost use Rattle.hnsr_circuit.specs.Laws.Opening.{firstDraw};
 use crate::answer::HnsrAnswer;
 use crate::answer::HnsrRuntimeError;
 use crate::answer::check;
@@ -79,6 +80,16 @@ pub(crate) fn draw_at(random: &[u8], at: usize) -> u64
         ReadU64::Ok(value, _) => value,
         ReadU64::Err(_) => 0,
     }
+}
+
+// The first draw, where there is one.
+pub(crate) fn first_draw(random: &[u8]) -> u64
+    ensures { λ r. ⌜ r ≡ firstDraw (now (random .entry)) ⌝ }
+{
+    if 8 <= random.len() {
+        return draw_at(random, 0);
+    }
+    0
 }
 
 // Whether one of two lookups found a place.

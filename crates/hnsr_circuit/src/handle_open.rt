@@ -1,10 +1,12 @@
 // OPEN: a requester asks for a circuit. Three stages, as in specs/Open.antt: admitted, and ledger records past their expiry dropped; placed, and
 // the missing ledger record made; written, and INCOMING sent.
 ghost use mathlib.Core.Path.{_≡_};
-ghost use mathlib.Core.Bool.{cond};
+ghost use mathlib.Core.Bool.{false, _||_};
 ghost use mathlib.Core.List.{List};
+ghost use lib.ListN.{set};
 ghost use Prim.Native.Nat.{ℕ};
-ghost use Rattle.hnsr_circuit.specs.Table.{put};
+ghost use Rattle.hns_encoding.specs.Sums.{non};
+ghost use Rattle.hnsr_circuit.specs.Table.{any, placeOf};
 ghost use Rattle.hnsr_circuit.specs.Pending.{isPending, pendingAt, clearPending};
 ghost use Rattle.hnsr_circuit.specs.Ledger.{usageOf};
 ghost use Rattle.hnsr_circuit.specs.Held.{held, heldPending, heldCircuits, heldLedger, heldActions, worldSeen, handedSeen};
@@ -12,17 +14,16 @@ ghost use Rattle.hnsr_circuit.specs.Queue.{actionsScanned};
 ghost use Rattle.hnsr_circuit.specs.Draw.{undrawn, draws, drawAll};
 ghost use Rattle.hnsr_circuit.specs.Progress.{packetOf, asking, ending};
 ghost use Rattle.hnsr_circuit.specs.Open.{openBooked, openLapsed, handleOpen};
-ghost use Rattle.hnsr_circuit.specs.Laws.Opening.{isTaken, gathering, openingOf, incomingOut, openPlan};
+ghost use Rattle.hnsr_circuit.specs.Laws.Opening.{isTaken, firstDraw, gathering, openingOf, incomingOut, openPlan};
 ghost use Rattle.hnsr_circuit.specs.declared.records.RelayCircuit.{RelayCircuit};
 ghost use Rattle.hnsr_circuit.specs.declared.records.RelayPacket.{RelayPacket};
 ghost use Rattle.hnsr_circuit.specs.declared.records.ReservationUsage.{ReservationUsage};
-use crate::answer::HnsrAnswer;
 use crate::answer::is_taken;
 use crate::draw::draw_at;
 use crate::draw::draw_turn;
 use crate::draw::either_found;
+use crate::draw::first_draw;
 use crate::draw::undrawn;
-use crate::handle_accept::put_place;
 use crate::header::opened;
 use crate::ledger::usage_answer;
 use crate::lookup::drop_lapsed;
@@ -32,6 +33,7 @@ use crate::open::booked_place;
 use crate::open::booked_usage;
 use crate::open::incoming_for;
 use crate::open::incoming_out;
+use crate::open::known_taken;
 use crate::open::open_gathering;
 use crate::open::open_plan;
 use crate::open::open_rows;
@@ -68,15 +70,21 @@ use crate::tables::pending::pending_work;
 use crate::tables::pending::set_pending;
 use hnsr_body::open_body::OpenBody;
 
-// Whether an id is a pending record's or a circuit's.
+// Whether an id is a pending record's or a circuit's; of one id it is known.
 pub(crate) fn id_taken(
     pending: &[RelayPending],
     circuits: &[RelayCircuit],
     places: Places,
+    first: u64,
+    known: bool,
     id: u64,
 ) -> bool
+    requires { ⌜ known ≡ isTaken (heldPending places (now pending)) (heldCircuits places (now circuits)) first ⌝ }
     ensures { λ r. ⌜ r ≡ isTaken (heldPending places (now (pending .entry))) (heldCircuits places (now (circuits .entry))) id ⌝ }
 {
+    if id == first {
+        return known;
+    }
     let waiting = find_pending_id(pending, places, id);
     let running = find_circuit_id(circuits, places, id);
     either_found(waiting, pending.len(), running, circuits.len())
@@ -88,7 +96,10 @@ pub(crate) fn draw(
     circuits: &[RelayCircuit],
     places: Places,
     random: &[u8],
+    first: u64,
+    known: bool,
 ) -> Drawing
+    requires { ⌜ known ≡ isTaken (heldPending places (now pending)) (heldCircuits places (now circuits)) first ⌝ }
     ensures { λ r. ⌜ r ≡ drawAll (isTaken (heldPending places (now (pending .entry))) (heldCircuits places (now (circuits .entry)))) undrawn (draws (now (random .entry))) ⌝ }
 {
     let mut drawing = undrawn();
@@ -98,30 +109,22 @@ pub(crate) fn draw(
             return drawing;
         }
         let id = draw_at(random, place);
-        let taken = id_taken(pending, circuits, places, id);
+        let taken = id_taken(pending, circuits, places, first, known, id);
         drawing = draw_turn(drawing, id, taken);
         place += 8;
     }
     drawing
 }
 
-// A pending record replaces what its id finds, else takes the lowest unused place.
-pub(crate) fn put_pending(
-    pending: &mut [RelayPending],
-    places: Places,
-    go: bool,
-    id: u64,
-    row: RelayPending,
-) -> usize
-    ensures { λ r. ⌜ held clearPending r (now (pending .exit)) ≡ cond go (put isPending (pendingAt id) row (heldPending places (now (pending .entry)))) (heldPending places (now (pending .entry))) ⌝ }
+// A pending record at the lowest unused place.
+pub(crate) fn put_pending(pending: &mut [RelayPending], places: Places, row: RelayPending) -> usize
+    ensures { λ r. ⌜ held clearPending r (now (pending .exit)) ≡ set (heldPending places (now (pending .entry))) (placeOf (non isPending) (heldPending places (now (pending .entry)))) row ⌝ }
 {
     let size = pending.len();
-    let old = find_pending_id(pending, places, id);
     let free = unused();
-    let spare = find_pending(pending, places, free);
-    let place = put_place(old, size, spare);
-    set_pending(pending, go, place, row);
-    raised(places.pending, go, place, size)
+    let place = find_pending(pending, places, free);
+    set_pending(pending, true, place, row);
+    raised(places.pending, true, place, size)
 }
 
 // What an OPEN comes with.
@@ -133,13 +136,15 @@ pub(crate) fn gather(
     source: &[u8],
     body: &[u8],
     endpoint: &[u8],
+    random: &[u8],
 ) -> OpenGathered
-    ensures { λ r. ⌜ r ≡ gathering packet (now (source .entry)) (now (body .entry)) (now (endpoint .entry)) (heldPending places (now (pending .entry))) (heldCircuits places (now (circuits .entry))) ⌝ }
+    ensures { λ r. ⌜ r ≡ gathering packet (now (source .entry)) (now (body .entry)) (now (endpoint .entry)) (now (random .entry)) (heldPending places (now (pending .entry))) (heldCircuits places (now (circuits .entry))) ⌝ }
 {
     let requester = peer_of(source);
     let other = peer_of(endpoint);
     let read = OpenBody::decode(body, packet.key_valid);
-    let question = open_work(packet, requester, other, read);
+    let first = first_draw(random);
+    let question = open_work(packet, requester, other, read, first);
     let waiting = pending_work(pending, places, question);
     let running = circuit_work(circuits, places, question);
     open_gathering(
@@ -153,7 +158,7 @@ pub(crate) fn gather(
     )
 }
 
-// The last stage: the ledger record stands; the pending record is written and INCOMING sent.
+// The last stage: the ledger record stands; the pending record is written, under an id that no record has, and INCOMING sent.
 pub(crate) fn open_booked(
     pending: &mut [RelayPending],
     inflight: &mut [InflightAction],
@@ -165,19 +170,21 @@ pub(crate) fn open_booked(
     scan: ActionScan,
 ) -> Relayed
     requires { ⌜ scan ≡ actionsScanned (asking runtime (incomingOut plan)) (heldActions places (now inflight)) ⌝ }
-    ensures { λ r. ⌜ ((c : List RelayCircuit) (l : List ReservationUsage) → usage ≡ usageOf (plan .ticket .«reservation_id») (heldLedger places l) → handedSeen r (now (pending .exit)) c l (now (inflight .exit)) (now (out .exit)) ≡ ending (now (out .entry)) (openBooked (worldSeen runtime places (now (pending .entry)) c l (now (inflight .entry))) (openingOf plan))) ⌝ }
+    ensures { λ r. ⌜ ((c : List RelayCircuit) (l : List ReservationUsage) → usage ≡ usageOf (plan .ticket .«reservation_id») (heldLedger places l) → any (pendingAt (plan .id)) (heldPending places (now (pending .entry))) ≡ false → handedSeen r (now (pending .exit)) c l (now (inflight .exit)) (now (out .exit)) ≡ ending (now (out .entry)) (openBooked (worldSeen runtime places (now (pending .entry)) c l (now (inflight .entry))) (openingOf plan))) ⌝ }
 {
     let ticket = plan.ticket;
     let answer = usage_answer(ticket, usage);
-    let go = is_taken(answer);
-    let row = pending_for(plan);
-    let number = put_pending(pending, places, go, plan.id, row);
-    let after = with_pending(places, number);
-    let counted = opened(go, runtime);
-    let message = incoming_out(plan);
-    let incoming = incoming_for(plan);
-    let bytes = incoming.to_bytes();
-    send(inflight, out, answer, counted, after, message, scan, &bytes)
+    if is_taken(answer) {
+        let row = pending_for(plan);
+        let number = put_pending(pending, places, row);
+        let after = with_pending(places, number);
+        let counted = opened(true, runtime);
+        let message = incoming_out(plan);
+        let incoming = incoming_for(plan);
+        let bytes = incoming.to_bytes();
+        return send(inflight, out, answer, counted, after, message, scan, &bytes);
+    }
+    refused(runtime, places, answer)
 }
 
 // The second stage, past the rows that ask nothing of actions and ledger: the ledger record that is found stays as it is, a missing one is made.
@@ -192,7 +199,7 @@ pub(crate) fn open_placed(
     drawing: Drawing,
     plan: OpenPlan,
 ) -> Relayed
-    ensures { λ r. ⌜ ((c : List RelayCircuit) (q : RelayPacket) (source body endpoint rs : List ℕ) → gathered ≡ gathering q source body endpoint (heldPending places (now (pending .entry))) (heldCircuits places c) → drawing ≡ drawAll (isTaken (heldPending places (now (pending .entry))) (heldCircuits places c)) undrawn (draws rs) → plan ≡ openPlan (runtime .config) gathered drawing → handedSeen r (now (pending .exit)) c (now (ledger .exit)) (now (inflight .exit)) (now (out .exit)) ≡ ending (now (out .entry)) (openLapsed (worldSeen runtime places (now (pending .entry)) c (now (ledger .entry)) (now (inflight .entry))) (packetOf q source body endpoint rs))) ⌝ }
+    ensures { λ r. ⌜ ((c : List RelayCircuit) (q : RelayPacket) (source body endpoint rs : List ℕ) → gathered ≡ gathering q source body endpoint rs (heldPending places (now (pending .entry))) (heldCircuits places c) → drawing ≡ drawAll (isTaken (heldPending places (now (pending .entry))) (heldCircuits places c)) undrawn (draws rs) → plan ≡ openPlan (runtime .config) gathered drawing → handedSeen r (now (pending .exit)) c (now (ledger .exit)) (now (inflight .exit)) (now (out .exit)) ≡ ending (now (out .entry)) (openLapsed (worldSeen runtime places (now (pending .entry)) c (now (ledger .entry)) (now (inflight .entry))) (packetOf q source body endpoint rs))) ⌝ }
 {
     let size = ledger.len();
     let config = runtime.config;
@@ -226,10 +233,13 @@ pub(crate) fn open_lapsed(
     gathered: OpenGathered,
     random: &[u8],
 ) -> Relayed
-    ensures { λ r. ⌜ ((q : RelayPacket) (source body endpoint : List ℕ) → gathered ≡ gathering q source body endpoint (heldPending places (now (pending .entry))) (heldCircuits places (now (circuits .entry))) → handedSeen r (now (pending .exit)) (now (circuits .entry)) (now (ledger .exit)) (now (inflight .exit)) (now (out .exit)) ≡ ending (now (out .entry)) (openLapsed (worldSeen runtime places (now (pending .entry)) (now (circuits .entry)) (now (ledger .entry)) (now (inflight .entry))) (packetOf q source body endpoint (now (random .entry))))) ⌝ }
+    requires { ⌜ (gathered .waiting .holds || gathered .running .holds) ≡ isTaken (heldPending places (now pending)) (heldCircuits places (now circuits)) (firstDraw (now random)) ⌝ }
+    ensures { λ r. ⌜ ((q : RelayPacket) (source body endpoint : List ℕ) → gathered ≡ gathering q source body endpoint (now (random .entry)) (heldPending places (now (pending .entry))) (heldCircuits places (now (circuits .entry))) → handedSeen r (now (pending .exit)) (now (circuits .entry)) (now (ledger .exit)) (now (inflight .exit)) (now (out .exit)) ≡ ending (now (out .entry)) (openLapsed (worldSeen runtime places (now (pending .entry)) (now (circuits .entry)) (now (ledger .entry)) (now (inflight .entry))) (packetOf q source body endpoint (now (random .entry))))) ⌝ }
 {
     let config = runtime.config;
-    let drawing = draw(pending, circuits, places, random);
+    let first = first_draw(random);
+    let known = known_taken(gathered);
+    let drawing = draw(pending, circuits, places, random, first, known);
     let plan = open_plan(config, gathered, drawing);
     let entered = placed_entry(config, gathered, plan, drawing);
     if is_taken(entered) {
@@ -265,7 +275,16 @@ pub(crate) fn handle_open(
 ) -> Relayed
     ensures { λ r. ⌜ handedSeen r (now (pending .exit)) (now (circuits .exit)) (now (ledger .exit)) (now (inflight .exit)) (now (out .exit)) ≡ ending (now (out .entry)) (handleOpen (worldSeen runtime places (now (pending .entry)) (now (circuits .entry)) (now (ledger .entry)) (now (inflight .entry))) (packetOf packet (now (source .entry)) (now (body .entry)) (now (endpoint .entry)) (now (random .entry)))) ⌝ }
 {
-    let gathered = gather(pending, circuits, places, packet, source, body, endpoint);
+    let gathered = gather(
+        pending,
+        circuits,
+        places,
+        packet,
+        source,
+        body,
+        endpoint,
+        random,
+    );
     let config = runtime.config;
     let answer = open_rows(config, gathered);
     if is_taken(answer) {

@@ -1,6 +1,6 @@
 // OPEN: its rows, and what it writes, over numbers, tests and records by value.
 ghost use mathlib.Core.Path.{_≡_};
-ghost use mathlib.Core.Bool.{cond};
+ghost use mathlib.Core.Bool.{cond, _||_};
 ghost use Prim.Native.Nat.{_+_};
 ghost use Rattle.hnsr_circuit.specs.Ledger.{freshUsage};
 ghost use Rattle.hnsr_circuit.specs.Open.{openAnswer, admissionAnswer, endpointAnswer, deadlineAnswer, deadlineFor, pendingFor, incomingFor};
@@ -106,14 +106,16 @@ pub(crate) fn deadline_for(config: OpaqueRelayConfig, ticket: RelayTicket, now: 
     min_u64(late, ticket.expires_at)
 }
 
-// What OPEN asks of all records: the work of both its peers and of its reservation, and whether it repeats one.
+// What OPEN asks of all records: the work of both its peers and of its reservation, whether it repeats one, and whether its first draw is
+// an id already.
 pub(crate) fn open_work(
     packet: RelayPacket,
     requester: HnsrPeerId,
     endpoint: HnsrPeerId,
     read: OpenRead,
+    id: u64,
 ) -> WorkQuestion
-    ensures { λ r. ⌜ r ≡ openWork packet requester endpoint read ⌝ }
+    ensures { λ r. ⌜ r ≡ openWork packet requester endpoint read id ⌝ }
 {
     let body = read.body;
     let reservation = body.reservation_id;
@@ -122,6 +124,7 @@ pub(crate) fn open_work(
         other: endpoint,
         reservation,
         context: packet.context_id,
+        id,
     }
 }
 
@@ -156,6 +159,15 @@ pub(crate) fn open_gathering(
         waiting,
         running,
     }
+}
+
+// Whether the first draw is a pending record's id or a circuit's.
+pub(crate) fn known_taken(gathered: OpenGathered) -> bool
+    ensures { λ r. ⌜ r ≡ (gathered .waiting .holds || gathered .running .holds) ⌝ }
+{
+    let waiting = gathered.waiting;
+    let running = gathered.running;
+    either(waiting.holds, running.holds)
 }
 
 // The requester's work is its pending records and its circuits.

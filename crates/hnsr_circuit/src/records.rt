@@ -130,12 +130,14 @@ pub struct Question {
     pub reservation: ReservationId,
 }
 
-// What OPEN and ACCEPT ask of all records of a table: how many are used, are the work of two peers and of a reservation.
+// What OPEN and ACCEPT ask of all records of a table: how many are used, are the work of two peers and of a reservation; whether one repeats an
+// OPEN, and whether one holds an id.
 pub struct WorkQuestion {
     pub peer: HnsrPeerId,
     pub other: HnsrPeerId,
     pub reservation: ReservationId,
     pub context: u64,
+    pub id: u64,
 }
 
 pub struct Work {
@@ -144,6 +146,7 @@ pub struct Work {
     pub of_other: usize,
     pub under: usize,
     pub repeated: bool,
+    pub holds: bool,
 }
 
 // What a message asks of all actions: the tally, whether its number stands there already and where, and the lowest unused place.

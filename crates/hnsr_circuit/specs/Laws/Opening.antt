@@ -3,7 +3,7 @@
 use Prim.Native.Nat.{ℕ, suc, _+_, _-_, _/_, _≤_, _<_}
 use native.Mathlib.Omega.{arith}
 use mathlib.Core.Path.{_≡_, refl, sym, ap, _∙_}
-use mathlib.Core.Bool.{Bool, true, false, cond, not, _&&_, _||_, true≢false}
+use mathlib.Core.Bool.{Bool, true, false, cond, not, _&&_, _||_, true≢false, false≢true}
 use mathlib.Core.List.{List, [], _∷_}
 use lib.Dec.{eqb, ltb, leb}
 use lib.ListN.{length, take, drop, set, length-drop}
@@ -18,7 +18,6 @@ use Rattle.hnsr_body.specs.declared.accept_body.AcceptBody.{AcceptBody}
 use Rattle.hnsr_body.specs.Accept.{decodeAccept, acceptFields, openedBytes}
 use Rattle.hnsr_body.specs.declared.open_body.OpenRead.{OpenRead}
 use Rattle.hnsr_body.specs.declared.incoming_body.IncomingBody.{IncomingBody}
-use Rattle.hnsr_body.specs.declared.values.ReservationId.{ReservationId}
 use Rattle.hnsr_body.specs.Open.{decodeOpen, openFields}
 use Rattle.hnsr_body.specs.Incoming.{incomingBytes}
 use Rattle.hnsr_circuit.specs.declared.runtime.Relayed.{Relayed}
@@ -47,7 +46,7 @@ use Rattle.hnsr_circuit.specs.declared.records.RelayPacket.{RelayPacket}
 use Rattle.hnsr_circuit.specs.declared.runtime.OpaqueRelayRuntime.{OpaqueRelayRuntime}
 use Rattle.hnsr_circuit.specs.declared.answer.HnsrAnswer.{HnsrAnswer}
 use Rattle.hnsr_circuit.specs.declared.answer.HnsrAnswer.the-variants.{Taken, Refused}
-use Rattle.hnsr_circuit.specs.declared.answer.HnsrRuntimeError.the-variants.{UnknownRequest, LedgerFull}
+use Rattle.hnsr_circuit.specs.declared.answer.HnsrRuntimeError.the-variants.{UnknownRequest, Randomness, LedgerFull}
 use Rattle.hnsr_circuit.specs.Table.{any, pick, placeOf, put, edit}
 use Rattle.hnsr_circuit.specs.Answers.{check, bodyAnswer, taken, _then_}
 use Rattle.hnsr_circuit.specs.Peer.{peerOf, samePeer}
@@ -113,6 +112,7 @@ acceptWork f = record {
   other = f .pending .requester;
   reservation = f .pending .ticket .«reservation_id»;
   context = 0;
+  id = f .pending .«circuit_id»;
 }
 
 abbrev pub replacing : PendingFound → (id : ℕ) → ActionQuestion
@@ -240,6 +240,10 @@ ltb-less now n h = split (ltb (top 64) (now + n))
 abbrev pub isTaken : List RelayPending → List RelayCircuit → (id : ℕ) → Bool
 isTaken p c id = any (pendingAt id) p || any (circuitAt id) c
 
+-- the first draw, where there is one
+abbrev pub firstDraw : List ℕ → ℕ
+firstDraw xs = cond (leb 8 (length xs)) (be (take 8 xs)) 0
+
 pub draws-step : (xs : List ℕ) → 8 ≤ length xs → draws xs ≡ be (take 8 xs) ∷ draws (drop 8 xs)
 unfolding draws drawsFrom
 draws-step xs h =
@@ -258,6 +262,38 @@ pub draw-ended : (taken : ℕ → Bool) (s : Drawing) (ids : List ℕ) → s .en
 unfolding drawAll drawTurn
 draw-ended taken s [] h = refl
 draw-ended taken s (id ∷ ids) h = ap (λ (y : Drawing). drawAll taken y ids) (on-true (s .ended) s _ h) ∙ draw-ended taken s ids h
+
+-- what is drawn is no id yet
+abbrev DrawFree : (ℕ → Bool) → Drawing → Type 0
+DrawFree t s = (s .ended ≡ false → s .found ≡ false) × (s .found ≡ true → t (s .id) ≡ false)
+
+turn-free : (t : ℕ → Bool) (s : Drawing) (id : ℕ) → DrawFree t s → DrawFree t (drawTurn s id (t id))
+unfolding drawTurn
+turn-free t s id h = split (s .ended)
+    (λ e. rw e ((λ g. absurd (true≢false g)), h .1))
+    (λ e. rw e (split (eqb id 0)
+    (λ z. rw z ((λ g. refl), (λ g. absurd (false≢true g))))
+    (λ z. rw z (split (t id)
+    (λ k. rw k ((λ g. refl), (λ g. absurd (false≢true g))))
+    (λ k. rw k ((λ g. absurd (true≢false g)), (λ g. k)))))))
+
+all-free : (t : ℕ → Bool) (s : Drawing) (ids : List ℕ) → DrawFree t s → DrawFree t (drawAll t s ids)
+unfolding drawAll
+all-free t s [] h = h
+all-free t s (id ∷ ids) h = all-free t (drawTurn s id (t id)) ids (turn-free t s id h)
+
+draw-free : (p : List RelayPending) (c : List RelayCircuit) (d : Drawing) (ids : List ℕ) → d ≡ drawAll (isTaken p c) undrawn ids → drawAnswer d ≡ Taken
+    → any (pendingAt (d .id)) p ≡ false
+unfolding drawAnswer
+draw-free p c d ids e h =
+    let k = check-taken (not (d .found)) Randomness h in
+    let found : d .found ≡ true = split (d .found) (λ y. y) (λ n. absurd (true≢false (rw n at k))) in
+    let free = rw (← e) at (all-free (isTaken p c) undrawn ids ((λ g. refl), (λ g. absurd (false≢true g)))) .1 in
+    none-or (any (pendingAt (d .id)) p) (any (circuitAt (d .id)) c) (free found)
+  where
+    none-or : (a b : Bool) → (a || b) ≡ false → a ≡ false
+    none-or true b x = x
+    none-or false b x = refl
 
 -- one that goes on has both counts below their most
 abbrev pub DrawSmall : Drawing → Type 0
@@ -300,18 +336,18 @@ module _ (t : ℕ → Bool) (xs : List ℕ) (at : ℕ) (s r : Drawing) (h : draw
       sym (ap (λ (ids : List ℕ). drawAll t s ids) (draws-short (drop at xs) (omega arith))) ∙ h
 
 -- ---- OPEN: what the code gathers and decides
-abbrev pub openWork : RelayPacket → (requester endpoint : HnsrPeerId) → OpenRead → WorkQuestion
-openWork q requester endpoint read = record
-    { peer = requester; other = endpoint; reservation = read .body .«reservation_id»; context = q .«context_id» }
+abbrev pub openWork : RelayPacket → (requester endpoint : HnsrPeerId) → OpenRead → (id : ℕ) → WorkQuestion
+openWork q requester endpoint read id = record
+    { peer = requester; other = endpoint; reservation = read .body .«reservation_id»; context = q .«context_id»; id = id }
 
 abbrev pub openGathering : RelayPacket → (requester endpoint : HnsrPeerId) → (size : ℕ) → OpenRead → (waiting running : Work) → OpenGathered
 openGathering q requester endpoint size read waiting running = record
     { packet = q; requester = requester; endpoint = endpoint; size = size; read = read; waiting = waiting; running = running }
 
-abbrev pub gathering : RelayPacket → (source body endpoint : List ℕ) → List RelayPending → List RelayCircuit → OpenGathered
-gathering q source body endpoint p c =
+abbrev pub gathering : RelayPacket → (source body endpoint random : List ℕ) → List RelayPending → List RelayCircuit → OpenGathered
+gathering q source body endpoint random p c =
     let read = decodeOpen (q .«key_valid») body in
-    let k = openWork q (peerOf source) (peerOf endpoint) read in
+    let k = openWork q (peerOf source) (peerOf endpoint) read (firstDraw random) in
     openGathering q (peerOf source) (peerOf endpoint) (length endpoint) read (pendingWork k p) (circuitWork k c)
 
 abbrev pub openRows : OpaqueRelayConfig → OpenGathered → HnsrAnswer
@@ -399,62 +435,68 @@ booked-found t l h =
     (λ f. put-new-same isUsage clearUsage p row l f (room isUsage clearUsage l (leb-false (length l) (count isUsage l) (rw f at full))) noUsage
     (ap p (pick-none p (freshUsage t) l f) ∙ fresh-at t) .1)
 
-pub booked-usage : (c : OpaqueRelayConfig) (g : OpenGathered) (d : Drawing) (o : OpenPlan) (s : ActionScan) (r : LedgerRoom) (a : HnsrAnswer) (row : ReservationUsage)
-    (l : List ReservationUsage) → r ≡ ledgerAsked (o .ticket .«reservation_id») l → a ≡ placedRows c g o d s r → taken a ≡ true
-    → row ≡ cond (r .found) (r .usage) (freshUsage (o .ticket)) → row ≡ usageOf (o .ticket .«reservation_id») (booked (o .ticket) l)
-booked-usage c g d o s r a row l er ea t e =
-    let id = o .ticket .«reservation_id» in
-    let named = peerAnswer (g .size) in
-    let room′ = endpointAnswer c (o .ticket) (samePeer (o .endpoint) (o .requester)) (g .waiting .«of_other» + g .running .«of_other»)
-    (g .waiting .under + g .running .under) in
-    let drawn′ = drawAnswer d in
-    let most = capacityAnswer c (s .tally) in
-    let late = deadlineAnswer c (g .packet .now) in
-    let last = ledgerAnswer (r .found) (r .used) (r .places) in
-    let k0 = then-taken named (room′ then drawn′ then most then late then last) (sym ea ∙ taken-is a t) .1 in
-    let k1 = then-taken room′ (drawn′ then most then late then last) k0 .1 in
-    let k2 = then-taken drawn′ (most then late then last) k1 .1 in
-    let k3 = then-taken most (late then last) k2 .1 in
-    let k4 = then-taken late last k3 .1 in
-    let k : ledgerAnswer (any (usageAt id) l) (count isUsage l) (length l) ≡ Taken = ap (λ (x : LedgerRoom). ledgerAnswer (x .found) (x .used) (x .places)) (sym er) ∙ k4 in
-    e ∙ ap (λ (x : LedgerRoom). cond (x .found) (x .usage) (freshUsage (o .ticket))) er ∙ pick-else (usageAt id) (freshUsage (o .ticket)) noUsage l
-    ∙ sym (booked-found (o .ticket) l k)
+-- the rows as a whole are taken: each is
+module _ (c : OpaqueRelayConfig) (g : OpenGathered) (d : Drawing) (o : OpenPlan) (s : ActionScan) (r : LedgerRoom) (a : HnsrAnswer)
+    (ea : a ≡ placedRows c g o d s r) (t : taken a ≡ true) where
+  rows-taken : (drawAnswer d ≡ Taken) × (ledgerAnswer (r .found) (r .used) (r .places) ≡ Taken)
+  rows-taken =
+      let named = peerAnswer (g .size) in
+      let ends = endpointAnswer c (o .ticket) (samePeer (o .endpoint) (o .requester)) (g .waiting .«of_other» + g .running .«of_other»)
+      (g .waiting .under + g .running .under) in
+      let most = capacityAnswer c (s .tally) in
+      let late = deadlineAnswer c (g .packet .now) in
+      let last = ledgerAnswer (r .found) (r .used) (r .places) in
+      let k0 = then-taken named (ends then drawAnswer d then most then late then last) (sym ea ∙ taken-is a t) .1 in
+      let k1 = then-taken ends (drawAnswer d then most then late then last) k0 .1 in
+      let k2 = then-taken (drawAnswer d) (most then late then last) k1 in
+      let k3 = then-taken most (late then last) (k2 .1) .1 in
+      (k2 .0, then-taken late last k3 .1)
+
+  pub booked-usage : (row : ReservationUsage) (l : List ReservationUsage) → r ≡ ledgerAsked (o .ticket .«reservation_id») l
+      → row ≡ cond (r .found) (r .usage) (freshUsage (o .ticket)) → row ≡ usageOf (o .ticket .«reservation_id») (booked (o .ticket) l)
+  booked-usage row l er e =
+      let id = o .ticket .«reservation_id» in
+      let k : ledgerAnswer (any (usageAt id) l) (count isUsage l) (length l) ≡ Taken =
+      ap (λ (x : LedgerRoom). ledgerAnswer (x .found) (x .used) (x .places)) (sym er) ∙ rows-taken .1 in
+      e ∙ ap (λ (x : LedgerRoom). cond (x .found) (x .usage) (freshUsage (o .ticket))) er ∙ pick-else (usageAt id) (freshUsage (o .ticket)) noUsage l
+      ∙ sym (booked-found (o .ticket) l k)
+
+  pub booked-free : (p : List RelayPending) (q : List RelayCircuit) (ids : List ℕ) → d ≡ drawAll (isTaken p q) undrawn ids → o ≡ openPlan c g d
+      → any (pendingAt (o .id)) p ≡ false
+  booked-free p q ids ed eo = ap (λ (x : OpenPlan). any (pendingAt (x .id)) p) eo ∙ draw-free p q d ids ed (rows-taken .0)
 
 -- ---- OPEN: the stages
--- counting moves no number that an action has
-pub asking-counted : (go : Bool) (h : OpaqueRelayRuntime) (m : Outgoing) → asking (cond go (withCounters h (countOpen (h .counters))) h) m ≡ asking h m
-asking-counted true h m = refl
-asking-counted false h m = refl
-
 module _ (h : OpaqueRelayRuntime) (p : List RelayPending) (c : List RelayCircuit) (l : List ReservationUsage) (i : List InflightAction) where
-  open-world : (a : HnsrAnswer) (o : OpenPlan)
-      → worldOf (cond (taken a) (withCounters h (countOpen (h .counters))) h)
-      (cond (taken a) (put isPending (pendingAt (o .id)) (pendingFor (openingOf o)) p) p) c l i
-      ≡ cond (taken a) (withOpen (worldOf h p c l i) (openingOf o)) (worldOf h p c l i)
-  unfolding withOpen
-  open-world Taken o = refl
-  open-world (Refused e) o = refl
+  -- under an id that no record has, the lowest unused place is where the definition puts the record
+  put-free : (id : ℕ) (row : RelayPending) → any (pendingAt id) p ≡ false → set p (placeOf (non isPending) p) row ≡ put isPending (pendingAt id) row p
+  put-free id row f = rw f
 
-  pub booked-ends : (o : OpenPlan) (u : ReservationUsage) (a : HnsrAnswer) (go : Bool) (row : RelayPending) (p′ : List RelayPending)
+  pub booked-ends : (o : OpenPlan) (u : ReservationUsage) (a : HnsrAnswer) (row : RelayPending) (p′ : List RelayPending)
       (h′ : OpaqueRelayRuntime) (m : Outgoing) (n : IncomingBody) (bytes : List ℕ)
-      → u ≡ usageOf (o .ticket .«reservation_id») l → a ≡ usageAnswer (o .ticket) u → go ≡ taken a
-      → row ≡ pendingFor (openingOf o) → p′ ≡ cond go (put isPending (pendingAt (o .id)) row p) p
-      → h′ ≡ cond go (withCounters h (countOpen (h .counters))) h → m ≡ incomingOut o → n ≡ incomingFor (openingOf o) → bytes ≡ incomingBytes n
+      → u ≡ usageOf (o .ticket .«reservation_id») l → any (pendingAt (o .id)) p ≡ false → a ≡ usageAnswer (o .ticket) u → taken a ≡ true
+      → row ≡ pendingFor (openingOf o) → p′ ≡ set p (placeOf (non isPending) p) row
+      → h′ ≡ withCounters h (countOpen (h .counters)) → m ≡ incomingOut o → n ≡ incomingFor (openingOf o) → bytes ≡ incomingBytes n
       → (let w = worldOf h′ p′ c l i in proceed w a (send w (messageOf m bytes))) ≡ openBooked (worldOf h p c l i) (openingOf o)
-  unfolding openBooked incomingMessage
-  booked-ends o u a go row p′ h′ m n bytes eu ea eg er ep eh em en eb =
+  unfolding openBooked incomingMessage withOpen
+  booked-ends o u a row p′ h′ m n bytes eu f ea t er ep eh em en eb =
       let w = worldOf h p c l i in
       let x = withOpen w (openingOf o) in
       let k = incomingMessage (openingOf o) in
-      rw (ep, eh, eg, er, eb, en, em)
-      (ap (λ (y : World). proceed y a (send y k)) (open-world a o)
-      ∙ proceed-on a w x (λ y. send y k)
-      ∙ ap (λ (b : HnsrAnswer). proceed w b (send x k)) (ea ∙ ap (usageAnswer (o .ticket)) eu))
+      rw (ep, eh, er, eb, en, em)
+      (ap (λ (y : List RelayPending). let v = worldOf (withCounters h (countOpen (h .counters))) y c l i in proceed v a (send v k)) (put-free (o .id) (pendingFor (openingOf o)) f)
+      ∙ gone-on x a a (send x k) t refl
+      ∙ sym (gone-on w a (usageAnswer (o .ticket) (usageOf (o .ticket .«reservation_id») l)) (send x k) t (ea ∙ ap (usageAnswer (o .ticket)) eu)))
+
+  pub booked-refused : (o : OpenPlan) (u : ReservationUsage) (a : HnsrAnswer) (r : Relayed) (out : List ℕ)
+      → u ≡ usageOf (o .ticket .«reservation_id») l → a ≡ usageAnswer (o .ticket) u → taken a ≡ false → (r .runtime ≡ h) × (r .answer ≡ a) × (r .words ≡ 0)
+      → handedBack r p c l i out ≡ ending out (openBooked (worldOf h p c l i) (openingOf o))
+  unfolding openBooked
+  booked-refused o u a r out eu ea t k = turned-away h p c l i out r a _ _ k t (ea ∙ ap (usageAnswer (o .ticket)) eu)
 
 module _ (h : OpaqueRelayRuntime) (p : List RelayPending) (c : List RelayCircuit) (l : List ReservationUsage) (i : List InflightAction)
     (q : RelayPacket) (source body endpoint rs : List ℕ) where
   -- the rows are the definition's
-  open-admitted : openRows (h .config) (gathering q source body endpoint p c) ≡ openAdmitted (worldOf h p c l i) (packetOf q source body endpoint rs)
+  open-admitted : openRows (h .config) (gathering q source body endpoint rs p c) ≡ openAdmitted (worldOf h p c l i) (packetOf q source body endpoint rs)
   unfolding openAdmitted pendingCount circuitCount peerWork pendingWork circuitWork sender
   open-admitted = refl
 
@@ -462,19 +504,19 @@ module _ (h : OpaqueRelayRuntime) (p : List RelayPending) (c : List RelayCircuit
   drawing = drawAll (isTaken p c) undrawn (draws rs)
 
   abbrev plan : OpenPlan
-  plan = openPlan (h .config) (gathering q source body endpoint p c) drawing
+  plan = openPlan (h .config) (gathering q source body endpoint rs p c) drawing
 
   open-opening : openingOf plan ≡ opening (worldOf h p c l i) (packetOf q source body endpoint rs)
   unfolding drawn idTaken decodeOpen sender
   open-opening = refl
 
-  open-placed : placedRows (h .config) (gathering q source body endpoint p c) plan drawing (actionsScanned (asking h (incomingOut plan)) i) (ledgerAsked (q .ticket .«reservation_id») l)
+  open-placed : placedRows (h .config) (gathering q source body endpoint rs p c) plan drawing (actionsScanned (asking h (incomingOut plan)) i) (ledgerAsked (q .ticket .«reservation_id») l)
       ≡ openPlaced (worldOf h p c l i) (packetOf q source body endpoint rs) (openingOf plan)
   unfolding openPlaced peerWork reservationWork pendingWork circuitWork drawn idTaken decodeOpen actionsScanned sender
   open-placed = refl
 
   module _ (g : OpenGathered) (d : Drawing) (o : OpenPlan) (m : Outgoing) (k : ActionQuestion) (s : ActionScan) (r : LedgerRoom) (a : HnsrAnswer)
-      (eg : g ≡ gathering q source body endpoint p c) (ed : d ≡ drawAll (isTaken p c) undrawn (draws rs)) (eo : o ≡ openPlan (h .config) g d)
+      (eg : g ≡ gathering q source body endpoint rs p c) (ed : d ≡ drawAll (isTaken p c) undrawn (draws rs)) (eo : o ≡ openPlan (h .config) g d)
       (em : m ≡ incomingOut o) (ek : k ≡ asking h m) (es : s ≡ actionsScanned k i) (er : r ≡ ledgerAsked (o .ticket .«reservation_id») l)
       (ea : a ≡ placedRows (h .config) g o d s r) where
     rows-placed : a ≡ openPlaced (worldOf h p c l i) (packetOf q source body endpoint rs) (openingOf plan)
@@ -499,7 +541,7 @@ module _ (h : OpaqueRelayRuntime) (p : List RelayPending) (c : List RelayCircuit
         turned-away h p c l i out y a _ _ e t (rows-placed ∙ ap (λ (z : Opening). openPlaced w v z) open-opening)
 
   pub open-ends : (g : OpenGathered) (a : HnsrAnswer) (go : Bool) (l′ : List ReservationUsage)
-      → g ≡ gathering q source body endpoint p c → a ≡ openRows (h .config) g → go ≡ taken a → l′ ≡ cond go (lapsed (q .now) l) l
+      → g ≡ gathering q source body endpoint rs p c → a ≡ openRows (h .config) g → go ≡ taken a → l′ ≡ cond go (lapsed (q .now) l) l
       → (let w = worldOf h p c l′ i in proceed w a (openLapsed w (packetOf q source body endpoint rs)))
       ≡ handleOpen (worldOf h p c l i) (packetOf q source body endpoint rs)
   unfolding handleOpen
@@ -514,14 +556,14 @@ module _ (h : OpaqueRelayRuntime) (p : List RelayPending) (c : List RelayCircuit
       ∙ ap (λ (b : HnsrAnswer). proceed w b (openLapsed x v)) a′)
 
   -- refused as found, or once ledger records are dropped
-  pub open-refused : (g : OpenGathered) (a : HnsrAnswer) (r : Relayed) (out : List ℕ) → g ≡ gathering q source body endpoint p c → a ≡ openRows (h .config) g
+  pub open-refused : (g : OpenGathered) (a : HnsrAnswer) (r : Relayed) (out : List ℕ) → g ≡ gathering q source body endpoint rs p c → a ≡ openRows (h .config) g
       → taken a ≡ false → (r .runtime ≡ h) × (r .answer ≡ a) × (r .words ≡ 0)
       → handedBack r p c l i out ≡ ending out (handleOpen (worldOf h p c l i) (packetOf q source body endpoint rs))
   unfolding handleOpen
   open-refused g a r out eg ea t k =
       turned-away h p c l i out r a _ _ k t (ea ∙ ap (λ (y : OpenGathered). openRows (h .config) y) eg ∙ open-admitted)
 
-  placed-first : placedEntry (h .config) (gathering q source body endpoint p c) plan drawing
+  placed-first : placedEntry (h .config) (gathering q source body endpoint rs p c) plan drawing
       ≡ (peerAnswer (length endpoint)
       then endpointAnswer (h .config) (q .ticket) (samePeer (peerOf endpoint) (peerOf source)) (peerWork (worldOf h p c l i) (peerOf endpoint))
       (reservationWork (worldOf h p c l i) (openFields body .«reservation_id»))
@@ -529,7 +571,7 @@ module _ (h : OpaqueRelayRuntime) (p : List RelayPending) (c : List RelayCircuit
   unfolding peerWork reservationWork pendingWork circuitWork drawn idTaken decodeOpen
   placed-first = refl
 
-  pub placed-refused : (g : OpenGathered) (d : Drawing) (o : OpenPlan) (a : HnsrAnswer) (r : Relayed) (out : List ℕ) → g ≡ gathering q source body endpoint p c
+  pub placed-refused : (g : OpenGathered) (d : Drawing) (o : OpenPlan) (a : HnsrAnswer) (r : Relayed) (out : List ℕ) → g ≡ gathering q source body endpoint rs p c
       → d ≡ drawAll (isTaken p c) undrawn (draws rs) → o ≡ openPlan (h .config) g d → a ≡ placedEntry (h .config) g o d
       → taken a ≡ false → (r .runtime ≡ h) × (r .answer ≡ a) × (r .words ≡ 0)
       → handedBack r p c l i out ≡ ending out (openLapsed (worldOf h p c l i) (packetOf q source body endpoint rs))

@@ -25,8 +25,8 @@ use Rattle.hns_encoding.specs.Loops.{foldFrom}
 use Rattle.hns_encoding.specs.Sums.{non, one, total, count}
 use Rattle.hnsr_circuit.specs.Table.{also, any, pick, placeOf}
 use Rattle.hnsr_circuit.specs.Peer.{samePeer}
-use Rattle.hnsr_circuit.specs.Pending.{isPending, pendingOf, pendingUnder, requestedBy}
-use Rattle.hnsr_circuit.specs.Circuits.{isCircuit, circuitOf, circuitUnder, queuedIn}
+use Rattle.hnsr_circuit.specs.Pending.{isPending, pendingAt, pendingOf, pendingUnder, requestedBy}
+use Rattle.hnsr_circuit.specs.Circuits.{isCircuit, circuitAt, circuitOf, circuitUnder, queuedIn}
 use Rattle.hnsr_circuit.specs.Ledger.{noUsage, isUsage, usageAt}
 use Rattle.hnsr_circuit.specs.Inflight.{isAction, actionAt, actionUnder, actionToward, retained}
 use Rattle.hnsr_circuit.specs.Question.{pendingWork, circuitWork}
@@ -39,16 +39,17 @@ use Rattle.hnsr_circuit.specs.Laws.Scans.{fold-part, any-never}
 
 -- ---- how much work there is
 abbrev pub noWork : Work
-noWork = record { used = 0; «of_peer» = 0; «of_other» = 0; under = 0; repeated = false }
+noWork = record { used = 0; «of_peer» = 0; «of_other» = 0; under = 0; repeated = false; holds = false }
 
 -- a used record more, and which questions it answers
-abbrev pub workOn : Work → (peer other under again : Bool) → Work
-workOn w peer other under again = record {
+abbrev pub workOn : Work → (peer other under again is : Bool) → Work
+workOn w peer other under again is = record {
   used = w .used + 1;
   «of_peer» = w .«of_peer» + cond peer 1 0;
   «of_other» = w .«of_other» + cond other 1 0;
   under = w .under + cond under 1 0;
   repeated = w .repeated || again;
+  holds = w .holds || is;
 }
 
 -- so many records at most were counted
@@ -64,13 +65,13 @@ work-more m n w l h = record { used = omega arith; peer = omega arith; other = o
 pub work-none : WorkAtMost 0 noWork
 work-none = record { used = omega arith; peer = omega arith; other = omega arith; under = omega arith }
 
-module _ {A : Type 0} (used peer other under again : A → Bool) where
+module _ {A : Type 0} (used peer other under again is : A → Bool) where
   abbrev pub workTurn : Work → A → (place : ℕ) → Work
-  workTurn w x place = cond (used x) (workOn w (peer x) (other x) (under x) (again x)) w
+  workTurn w x place = cond (used x) (workOn w (peer x) (other x) (under x) (again x) (is x)) w
 
-  pub works : (w : Work) (x : A) (place : ℕ) → used x ≡ true → (a b c d : Bool) → a ≡ peer x → b ≡ other x → c ≡ under x → d ≡ again x → (r : Work)
-      → r ≡ workOn w a b c d → r ≡ workTurn w x place
-  works w x place u a b c d ea eb ec ed r e = e ∙ rw (u, ea, eb, ec, ed)
+  pub works : (w : Work) (x : A) (place : ℕ) → used x ≡ true → (a b c d e : Bool) → a ≡ peer x → b ≡ other x → c ≡ under x → d ≡ again x → e ≡ is x
+      → (r : Work) → r ≡ workOn w a b c d e → r ≡ workTurn w x place
+  works w x place u a b c d e ea eb ec ed ee r h = h ∙ rw (u, ea, eb, ec, ed, ee)
 
   pub work-most : (n : ℕ) (w : Work) (x : A) (place : ℕ) → WorkAtMost n w → WorkAtMost (n + 1) (workTurn w x place)
   work-most n w x place h =
@@ -83,7 +84,8 @@ module _ {A : Type 0} (used peer other under again : A → Bool) where
 
   -- an unused record answers none of the questions
   module _ (np : (x : A) → used x ≡ false → peer x ≡ false) (no : (x : A) → used x ≡ false → other x ≡ false)
-      (nu : (x : A) → used x ≡ false → under x ≡ false) (na : (x : A) → used x ≡ false → again x ≡ false) where
+      (nu : (x : A) → used x ≡ false → under x ≡ false) (na : (x : A) → used x ≡ false → again x ≡ false)
+      (ni : (x : A) → used x ≡ false → is x ≡ false) where
     counts-used : (w : Work) (x : A) (i : ℕ) → workTurn w x i .used ≡ w .used + one used x
     counts-used w x i = split (used x) (λ e. rw e) (λ e. rw e (omega arith))
 
@@ -99,15 +101,19 @@ module _ {A : Type 0} (used peer other under again : A → Bool) where
     finds-again : (w : Work) (x : A) (i : ℕ) → workTurn w x i .repeated ≡ (w .repeated || again x)
     finds-again w x i = split (used x) (λ e. rw e) (λ e. rw (e, na x e, or-false))
 
+    finds-id : (w : Work) (x : A) (i : ℕ) → workTurn w x i .holds ≡ (w .holds || is x)
+    finds-id w x i = split (used x) (λ e. rw e) (λ e. rw (e, ni x e, or-false))
+
     pub work-fold : (t : List A)
         → foldFrom workTurn t 0 noWork
-        ≡ record { used = count used t; «of_peer» = count peer t; «of_other» = count other t; under = count under t; repeated = any again t }
+        ≡ record { used = count used t; «of_peer» = count peer t; «of_other» = count other t; under = count under t; repeated = any again t; holds = any is t }
     work-fold t = λ j. record {
       used = (fold-count workTurn (λ w. w .used) used counts-used t 0 noWork ∙ zero-add (count used t)) j;
       «of_peer» = (fold-count workTurn (λ w. w .«of_peer») peer counts-peer t 0 noWork ∙ zero-add (count peer t)) j;
       «of_other» = (fold-count workTurn (λ w. w .«of_other») other counts-other t 0 noWork ∙ zero-add (count other t)) j;
       under = (fold-count workTurn (λ w. w .under) under counts-under t 0 noWork ∙ zero-add (count under t)) j;
       repeated = fold-any workTurn (λ w. w .repeated) again finds-again t 0 noWork j;
+      holds = fold-any workTurn (λ w. w .holds) is finds-id t 0 noWork j;
     }
 
 -- a circuit repeats no OPEN
@@ -116,27 +122,27 @@ never c = false
 
 module _ (q : WorkQuestion) where
   abbrev pub pendingWorked : Work → RelayPending → (place : ℕ) → Work
-  pendingWorked = workTurn isPending (pendingOf (q .peer)) (pendingOf (q .other)) (pendingUnder (q .reservation)) (requestedBy (q .peer) (q .context))
+  pendingWorked = workTurn isPending (pendingOf (q .peer)) (pendingOf (q .other)) (pendingUnder (q .reservation)) (requestedBy (q .peer) (q .context)) (pendingAt (q .id))
 
   pub pending-most : (n : ℕ) (w : Work) (p : RelayPending) (place : ℕ) → WorkAtMost n w → WorkAtMost (n + 1) (pendingWorked w p place)
-  pending-most = work-most isPending (pendingOf (q .peer)) (pendingOf (q .other)) (pendingUnder (q .reservation)) (requestedBy (q .peer) (q .context))
+  pending-most = work-most isPending (pendingOf (q .peer)) (pendingOf (q .other)) (pendingUnder (q .reservation)) (requestedBy (q .peer) (q .context)) (pendingAt (q .id))
 
   pub pending-work : (t : List RelayPending) → foldFrom pendingWorked t 0 noWork ≡ pendingWork q t
-  unfolding pendingWork isPending pendingOf pendingUnder requestedBy
-  pending-work t = work-fold isPending (pendingOf (q .peer)) (pendingOf (q .other)) (pendingUnder (q .reservation)) (requestedBy (q .peer) (q .context))
-      (λ p e. rw e) (λ p e. rw e) (λ p e. rw e) (λ p e. rw e) t
+  unfolding pendingWork isPending pendingOf pendingUnder requestedBy pendingAt
+  pending-work t = work-fold isPending (pendingOf (q .peer)) (pendingOf (q .other)) (pendingUnder (q .reservation)) (requestedBy (q .peer) (q .context)) (pendingAt (q .id))
+      (λ p e. rw e) (λ p e. rw e) (λ p e. rw e) (λ p e. rw e) (λ p e. rw e) t
 
   abbrev pub circuitWorked : Work → RelayCircuit → (place : ℕ) → Work
-  circuitWorked = workTurn isCircuit (circuitOf (q .peer)) (circuitOf (q .other)) (circuitUnder (q .reservation)) never
+  circuitWorked = workTurn isCircuit (circuitOf (q .peer)) (circuitOf (q .other)) (circuitUnder (q .reservation)) never (circuitAt (q .id))
 
   pub circuit-most : (n : ℕ) (w : Work) (c : RelayCircuit) (place : ℕ) → WorkAtMost n w → WorkAtMost (n + 1) (circuitWorked w c place)
-  circuit-most = work-most isCircuit (circuitOf (q .peer)) (circuitOf (q .other)) (circuitUnder (q .reservation)) never
+  circuit-most = work-most isCircuit (circuitOf (q .peer)) (circuitOf (q .other)) (circuitUnder (q .reservation)) never (circuitAt (q .id))
 
   pub circuit-work : (t : List RelayCircuit) → foldFrom circuitWorked t 0 noWork ≡ circuitWork q t
-  unfolding circuitWork isCircuit circuitOf circuitUnder
+  unfolding circuitWork isCircuit circuitOf circuitUnder circuitAt
   circuit-work t =
-      work-fold isCircuit (circuitOf (q .peer)) (circuitOf (q .other)) (circuitUnder (q .reservation)) never
-      (λ c e. rw e) (λ c e. rw e) (λ c e. rw e) (λ c e. refl) t
+      work-fold isCircuit (circuitOf (q .peer)) (circuitOf (q .other)) (circuitUnder (q .reservation)) never (circuitAt (q .id))
+      (λ c e. rw e) (λ c e. rw e) (λ c e. rw e) (λ c e. refl) (λ c e. rw e) t
       ∙ rw (any-never t)
 
 -- ---- what `status` asks of the circuits

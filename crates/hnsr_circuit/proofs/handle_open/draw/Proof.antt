@@ -2,21 +2,21 @@
 mod Tie
 use mathlib.Core.Path.{_≡_, ap}
 use Prim.Native.Nat.{_-_, _≤_}
-use lib.ListN.{length, drop}
-use Rattle.hnsr_circuit.specs.declared.records.Drawing.{Drawing}
-use Rattle.hnsr_circuit.specs.Draw.{undrawn, draws, drawAll}
-use Rattle.hnsr_circuit.specs.Laws.Opening.{isTaken, DrawSmall, draw-start, draw-on, draw-next, draw-stop, draw-over}
-use borrow.Author.Needs.{needs}
 use native.Mathlib.Omega.{arith}
+use lib.ListN.{length, drop}
+use borrow.Author.Needs.{needs}
 use Rattle.hnsr_circuit.specs.Held.{heldPending, heldCircuits}
+use Rattle.hnsr_circuit.specs.Laws.Opening.{isTaken, DrawSmall, draw-start, draw-on, draw-next, draw-stop, draw-over}
+use Rattle.hnsr_circuit.specs.Draw.{undrawn, draws, drawAll}
+use Rattle.hnsr_circuit.specs.declared.records.Drawing.{Drawing}
 use Rattle.hnsr_circuit.proofs.handle_open.draw.Statement.{statement}
 use Rattle.hnsr_circuit.proofs.handle_open.draw.Proof.Tie as tie
 
 abbrev Inv-loop : tie.InvT-loop
-Inv-loop pending circuits places random drawing₀ place₀ drawing place = (place ≤ length random) × DrawSmall drawing × (drawAll (isTaken (heldPending places pending) (heldCircuits places circuits)) drawing (draws (drop place random)) ≡ drawAll (isTaken (heldPending places pending) (heldCircuits places circuits)) undrawn (draws random))
+Inv-loop pending circuits places random first known drawing₀ place₀ drawing place = (place ≤ length random) × DrawSmall drawing × (drawAll (isTaken (heldPending places pending) (heldCircuits places circuits)) drawing (draws (drop place random)) ≡ drawAll (isTaken (heldPending places pending) (heldCircuits places circuits)) undrawn (draws random))
 
 abbrev μ-loop : tie.MeasureT-loop
-μ-loop pending circuits places random drawing₀ place₀ drawing place = length random - place
+μ-loop pending circuits places random first known drawing₀ place₀ drawing place = length random - place
 
 undrawn-requires : tie.Need-undrawn-requires Inv-loop μ-loop
 undrawn-requires c = search needs
@@ -38,7 +38,7 @@ draw-at-requires : tie.Need-draw-at-requires Inv-loop μ-loop
 draw-at-requires c = search needs
 
 id-taken-requires : tie.Need-id-taken-requires Inv-loop μ-loop
-id-taken-requires c = search needs
+id-taken-requires c κs = c .before .before .before .before .before .before .pre
 
 draw-turn-requires : tie.Need-draw-turn-requires Inv-loop μ-loop
 draw-turn-requires c κs = c .before .before .before .before .loop .inv .1 (c .before .before .if1 .left)

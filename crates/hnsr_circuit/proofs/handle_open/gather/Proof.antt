@@ -2,10 +2,10 @@
 mod Tie
 use mathlib.Core.Path.{_∙_}
 use lib.ListN.{length}
-use Rattle.hnsr_circuit.specs.Question.{pendingWork, circuitWork}
-use Rattle.hnsr_circuit.specs.Laws.Opening.{openWork, openGathering}
 use borrow.Author.Needs.{needs}
+use Rattle.hnsr_circuit.specs.Question.{pendingWork, circuitWork}
 use Rattle.hnsr_circuit.specs.Held.{heldPending, heldCircuits}
+use Rattle.hnsr_circuit.specs.Laws.Opening.{openWork, openGathering}
 use Rattle.hnsr_circuit.proofs.handle_open.gather.Statement.{statement}
 use Rattle.hnsr_circuit.proofs.handle_open.gather.Proof.Tie as tie
 
@@ -17,6 +17,9 @@ peer-of-requires-2 c = search needs
 
 decode-requires : tie.Need-decode-requires
 decode-requires c = search needs
+
+first-draw-requires : tie.Need-first-draw-requires
+first-draw-requires c = search needs
 
 open-work-requires : tie.Need-open-work-requires
 open-work-requires c = search needs
@@ -31,14 +34,15 @@ open-gathering-requires : tie.Need-open-gathering-requires
 open-gathering-requires c = search needs
 
 returns : tie.Need-returns
-returns c = let a = c .before .before .before .before .before .before .before .before .before .before .args in
-    let requester = c .before .before .before .before .before .before .peer-of .ensures in
-    let other = c .before .before .before .before .before .peer-of2 .ensures in
-    let read = c .before .before .before .before .decode .ensures in
-    let question = c .before .before .before .open-work .ensures ∙ (λ x. openWork (a .packet) (requester x) (other x) (read x)) in
+returns c = let a = c .before .before .before .before .before .before .before .before .before .before .before .before .args in
+    let requester = c .before .before .before .before .before .before .before .peer-of .ensures in
+    let other = c .before .before .before .before .before .before .peer-of2 .ensures in
+    let read = c .before .before .before .before .before .decode .ensures in
+    let first = c .before .before .before .before .first-draw .ensures in
+    let question = c .before .before .before .open-work .ensures ∙ (λ x. openWork (a .packet) (requester x) (other x) (read x) (first x)) in
     let waiting = c .before .before .pending-work .ensures ∙ (λ x. pendingWork (question x) (heldPending (a .places) (a .pending .now))) in
     let running = c .before .circuit-work .ensures ∙ (λ x. circuitWork (question x) (heldCircuits (a .places) (a .circuits .now))) in
     c .open-gathering .ensures ∙ (λ x. openGathering (a .packet) (requester x) (other x) (length (a .endpoint .now)) (read x) (waiting x) (running x))
 
 pub gather-spec : {M : Type 1} → statement M
-gather-spec = tie.close (tie.spec peer-of-requires peer-of-requires-2 decode-requires open-work-requires pending-work-requires circuit-work-requires open-gathering-requires returns)
+gather-spec = tie.close (tie.spec peer-of-requires peer-of-requires-2 decode-requires first-draw-requires open-work-requires pending-work-requires circuit-work-requires open-gathering-requires returns)

@@ -1,15 +1,17 @@
 -- Three stages, each from the one before; what the tables as found refuse is refused.
 mod Tie
-use mathlib.Core.Path.{ap, _∙_, refl, sym}
+use mathlib.Core.Path.{refl, sym, ap, _∙_}
+use mathlib.Core.Bool.{true, _||_}
+use borrow.Author.Needs.{needs}
+use Rattle.hnsr_circuit.specs.Question.{pendingWork, circuitWork}
+use Rattle.hnsr_circuit.specs.Held.{heldPending, heldCircuits, heldLedger, heldActions, worldSeen}
+use Rattle.hnsr_circuit.specs.Laws.HeldTables.{places-kept}
 use Rattle.hnsr_circuit.specs.World.{Outcome}
 use Rattle.hnsr_circuit.specs.Progress.{ending, packetOf}
 use Rattle.hnsr_circuit.specs.Laws.Opening.{open-ends, open-refused}
-use borrow.Author.Needs.{needs}
 use Rattle.hnsr_circuit.specs.Open.{openLapsed}
 use Rattle.hnsr_circuit.specs.Laws.Calls.{gone-on}
-use mathlib.Core.Bool.{true}
-use Rattle.hnsr_circuit.specs.Held.{heldPending, heldCircuits, heldLedger, heldActions, worldSeen}
-use Rattle.hnsr_circuit.specs.Laws.HeldTables.{places-kept}
+use Rattle.hnsr_circuit.specs.declared.open.OpenGathered.{OpenGathered}
 use Rattle.hnsr_circuit.proofs.handle_open.handle_open.Statement.{statement}
 use Rattle.hnsr_circuit.proofs.handle_open.handle_open.Proof.Tie as tie
 
@@ -26,7 +28,8 @@ drop-lapsed-requires : tie.Need-drop-lapsed-requires
 drop-lapsed-requires c = search needs
 
 open-lapsed-requires : tie.Need-open-lapsed-requires
-open-lapsed-requires c = search needs
+unfolding pendingWork circuitWork
+open-lapsed-requires c κs = ap (λ (g : OpenGathered). g .waiting .holds || g .running .holds) (c .before .before .before .before .before .before .before .before .before .before .before .before .gather .ensures)
 
 same-length : tie.Need-same-length
 same-length c = search needs

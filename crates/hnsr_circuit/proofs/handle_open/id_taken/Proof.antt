@@ -1,17 +1,20 @@
--- A lookup finds a place below the number of places exactly where a record has what is asked.
+-- Of the id that is known nothing is looked up; else a lookup finds a place below the number of places exactly where a record has what is asked.
 mod Tie
-use mathlib.Core.Path.{_∙_, sym}
+use mathlib.Core.Path.{sym, ap, _∙_}
 use mathlib.Core.Bool.{_||_}
 use lib.Dec.{ltb}
-use Rattle.hnsr_circuit.specs.Pending.{pendingAt, clearPending}
-use Rattle.hnsr_circuit.specs.Circuits.{circuitAt, clearCircuit}
-use Rattle.hnsr_circuit.specs.Laws.Lookups.{place-any}
 use borrow.Author.Needs.{needs}
-use Rattle.hns_encoding.specs.Sums.{one}
+use Rattle.hnsr_circuit.specs.Pending.{clearPending, pendingAt}
+use Rattle.hnsr_circuit.specs.Circuits.{clearCircuit, circuitAt}
 use Rattle.hnsr_circuit.specs.Held.{heldPending, heldCircuits}
 use Rattle.hnsr_circuit.specs.Laws.Held.{length-held}
+use Rattle.hnsr_circuit.specs.Laws.Opening.{isTaken}
+use Rattle.hnsr_circuit.specs.Laws.Lookups.{place-any}
 use Rattle.hnsr_circuit.proofs.handle_open.id_taken.Statement.{statement}
 use Rattle.hnsr_circuit.proofs.handle_open.id_taken.Proof.Tie as tie
+
+returns : tie.Need-returns
+returns c = let a = c .before .args in c .before .pre ∙ ap (isTaken (heldPending (a .places) (a .pending .now)) (heldCircuits (a .places) (a .circuits .now))) (sym (c .if1 .taken))
 
 find-pending-id-requires : tie.Need-find-pending-id-requires
 find-pending-id-requires c = search needs
@@ -22,18 +25,18 @@ find-circuit-id-requires c = search needs
 either-found-requires : tie.Need-either-found-requires
 either-found-requires c = search needs
 
-returns : tie.Need-returns
-returns c =
-    let a = c .before .before .before .args in
+returns-2 : tie.Need-returns-2
+returns-2 c =
+    let a = c .before .before .before .before .args in
     let p = heldPending (a .places) (a .pending .now) in
     let k = heldCircuits (a .places) (a .circuits .now) in
     let waiting = c .before .before .find-pending-id .ensures in
     let running = c .before .find-circuit-id .ensures in
     let long = sym (length-held clearPending (a .places .pending) (a .pending .now)) in
     let wide = sym (length-held clearCircuit (a .places .circuits) (a .circuits .now)) in
-    let one = place-any (pendingAt (a .id)) p in
-    let other = place-any (circuitAt (a .id)) k in
-    c .either-found .ensures ∙ (λ x. ltb (waiting x) (long x) || ltb (running x) (wide x)) ∙ (λ x. one x || other x)
+    let here = place-any (pendingAt (a .id)) p in
+    let there = place-any (circuitAt (a .id)) k in
+    c .either-found .ensures ∙ (λ x. ltb (waiting x) (long x) || ltb (running x) (wide x)) ∙ (λ x. here x || there x)
 
 pub id-taken-spec : {M : Type 1} → statement M
-id-taken-spec = tie.close (tie.spec find-pending-id-requires find-circuit-id-requires either-found-requires returns)
+id-taken-spec = tie.close (tie.spec returns find-pending-id-requires find-circuit-id-requires either-found-requires returns-2)

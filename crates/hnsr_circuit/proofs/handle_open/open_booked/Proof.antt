@@ -5,10 +5,11 @@ use native.Mathlib.Omega.{arith}
 use borrow.Author.Needs.{needs}
 use Rattle.hnsr_circuit.specs.Queue.{actionsScanned, send}
 use Rattle.hnsr_circuit.specs.Held.{heldPending, heldCircuits, heldLedger, heldActions, worldSeen}
+use Rattle.hnsr_circuit.specs.Laws.HeldTables.{places-kept}
 use Rattle.hnsr_circuit.specs.declared.places.Places.{Places}
 use Rattle.hnsr_circuit.specs.World.{Outcome, proceed}
 use Rattle.hnsr_circuit.specs.Progress.{asking, ending, messageOf}
-use Rattle.hnsr_circuit.specs.Laws.Opening.{incomingOut, asking-counted, booked-ends}
+use Rattle.hnsr_circuit.specs.Laws.Opening.{booked-ends, booked-refused}
 use Rattle.hnsr_circuit.proofs.handle_open.open_booked.Statement.{statement}
 use Rattle.hnsr_circuit.proofs.handle_open.open_booked.Proof.Tie as tie
 
@@ -44,11 +45,10 @@ slice-aggregate-send c = search needs
 
 send-requires : tie.Need-send-requires
 send-requires c κs =
-    let a = c .before .before .before .before .before .before .before .before .before .before .before .before .before .before .before .before .args in
+    let a = c .before .before .before .before .before .before .before .before .before .before .before .before .before .before .before .before .before .args in
     let counted = c .before .before .before .before .before .before .opened .ensures in
     let message = c .before .before .before .before .before .incoming-out .ensures in
-    let same = (λ x. asking (counted x) (message x)) ∙ asking-counted (c .before .before .before .before .before .before .before .before .before .before .before .before .is-taken .result) (a .runtime) (incomingOut (a .plan)) in
-    (c .before .before .before .before .before .before .before .before .before .before .before .before .before .before .before .before .pre ∙ (λ x. actionsScanned (sym same x) (heldActions (sym (c .before .before .before .before .before .before .before .with-pending .ensures) x) (a .inflight .now))), omega arith)
+    (c .before .before .before .before .before .before .before .before .before .before .before .before .before .before .before .before .before .pre ∙ (λ x. actionsScanned (sym (λ y. asking (counted y) (message y)) x) (heldActions (sym (c .before .before .before .before .before .before .before .with-pending .ensures) x) (a .inflight .now))), omega arith)
 
 same-length : tie.Need-same-length
 same-length c = search needs
@@ -60,14 +60,26 @@ same-length-3 : tie.Need-same-length-3
 same-length-3 c = search needs
 
 returns : tie.Need-returns
-returns c = λ cs₀ l₀ found.
-    let a = c .before .before .before .before .before .before .before .before .before .before .before .before .before .before .before .before .before .before .before .before .args in
+returns c = λ cs₀ l₀ found free.
+    let a = c .before .before .before .before .before .before .before .before .before .before .before .before .before .before .before .before .before .before .before .before .before .args in
     let n = a .places in
+    let go = sym (c .before .before .before .before .before .before .before .before .before .before .before .before .before .before .before .before .before .is-taken .ensures) ∙ c .before .before .before .before .before .before .before .before .before .before .before .before .before .before .before .before .if1 .taken in
     c .before .before .before .send .ensures (c .before .before .before .before .before .before .before .before .before .before .before .before .before .put-pending .last .0) cs₀ l₀
-    ∙ ap (λ (n : Places). ending (a .out .now) (let w = worldSeen (c .before .before .before .before .before .before .before .before .before .before .opened .result) n (c .before .before .before .before .before .before .before .before .before .before .before .before .before .put-pending .last .0) cs₀ l₀ (a .inflight .now) in proceed w (c .before .before .before .before .before .before .before .before .before .before .before .before .before .before .before .before .before .usage-answer .result) (send w (messageOf (c .before .before .before .before .before .before .before .before .before .incoming-out .result) (c .before .before .before .before .before .before .before .to-bytes .result))))) (c .before .before .before .before .before .before .before .before .before .before .before .with-pending .ensures)
+    ∙ ap (λ (m : Places). ending (a .out .now) (let w = worldSeen (c .before .before .before .before .before .before .before .before .before .before .opened .result) m (c .before .before .before .before .before .before .before .before .before .before .before .before .before .put-pending .last .0) cs₀ l₀ (a .inflight .now) in proceed w (c .before .before .before .before .before .before .before .before .before .before .before .before .before .before .before .before .before .before .usage-answer .result) (send w (messageOf (c .before .before .before .before .before .before .before .before .before .incoming-out .result) (c .before .before .before .before .before .before .before .to-bytes .result))))) (c .before .before .before .before .before .before .before .before .before .before .before .with-pending .ensures)
     ∙ ap (λ (o : Outcome). ending (a .out .now) o) (booked-ends (a .runtime) (heldPending n (a .pending .now)) (heldCircuits n cs₀) (heldLedger n l₀) (heldActions n (a .inflight .now)) (a .plan) (a .usage)
-    (c .before .before .before .before .before .before .before .before .before .before .before .before .before .before .before .before .before .usage-answer .result) (c .before .before .before .before .before .before .before .before .before .before .before .before .before .before .before .before .is-taken .result) (c .before .before .before .before .before .before .before .before .before .before .before .before .before .before .before .pending-for .result) _ (c .before .before .before .before .before .before .before .before .before .before .opened .result) (c .before .before .before .before .before .before .before .before .before .incoming-out .result) (c .before .before .before .before .before .before .before .before .incoming-for .result) (c .before .before .before .before .before .before .before .to-bytes .result)
-    found (c .before .before .before .before .before .before .before .before .before .before .before .before .before .before .before .before .before .usage-answer .ensures) (c .before .before .before .before .before .before .before .before .before .before .before .before .before .before .before .before .is-taken .ensures) (c .before .before .before .before .before .before .before .before .before .before .before .before .before .before .before .pending-for .ensures) (c .before .before .before .before .before .before .before .before .before .before .before .before .before .put-pending .ensures) (c .before .before .before .before .before .before .before .before .before .before .opened .ensures) (c .before .before .before .before .before .before .before .before .before .incoming-out .ensures) (c .before .before .before .before .before .before .before .before .incoming-for .ensures) (c .before .before .before .before .before .before .before .to-bytes .ensures))
+    (c .before .before .before .before .before .before .before .before .before .before .before .before .before .before .before .before .before .before .usage-answer .result) (c .before .before .before .before .before .before .before .before .before .before .before .before .before .before .before .pending-for .result) _ (c .before .before .before .before .before .before .before .before .before .before .opened .result) (c .before .before .before .before .before .before .before .before .before .incoming-out .result) (c .before .before .before .before .before .before .before .before .incoming-for .result) (c .before .before .before .before .before .before .before .to-bytes .result)
+    found free (c .before .before .before .before .before .before .before .before .before .before .before .before .before .before .before .before .before .before .usage-answer .ensures) go (c .before .before .before .before .before .before .before .before .before .before .before .before .before .before .before .pending-for .ensures) (c .before .before .before .before .before .before .before .before .before .before .before .before .before .put-pending .ensures) (c .before .before .before .before .before .before .before .before .before .before .opened .ensures) (c .before .before .before .before .before .before .before .before .before .incoming-out .ensures) (c .before .before .before .before .before .before .before .before .incoming-for .ensures) (c .before .before .before .before .before .before .before .to-bytes .ensures))
+
+refused-requires : tie.Need-refused-requires
+refused-requires c = search needs
+
+returns-2 : tie.Need-returns-2
+returns-2 c = λ cs₀ l₀ found free.
+    let a = c .before .before .before .before .before .before .args in
+    let n = a .places in
+    places-kept (c .refused .result) (a .pending .now) cs₀ l₀ (a .inflight .now) (a .out .now) n (c .refused .ensures .1)
+    ∙ booked-refused (a .runtime) (heldPending n (a .pending .now)) (heldCircuits n cs₀) (heldLedger n l₀) (heldActions n (a .inflight .now)) (a .plan) (a .usage) (c .before .before .before .usage-answer .result) (c .refused .result) (a .out .now)
+    found (c .before .before .before .usage-answer .ensures) (sym (c .before .before .is-taken .ensures) ∙ c .before .if1 .left) (c .refused .ensures .0)
 
 pub open-booked-spec : {M : Type 1} → statement M
-open-booked-spec = tie.close (tie.spec usage-answer-requires is-taken-requires pending-for-requires put-pending-requires with-pending-requires opened-requires incoming-out-requires incoming-for-requires to-bytes-requires slice-aggregate-send send-requires same-length same-length-2 same-length-3 returns)
+open-booked-spec = tie.close (tie.spec usage-answer-requires is-taken-requires pending-for-requires put-pending-requires with-pending-requires opened-requires incoming-out-requires incoming-for-requires to-bytes-requires slice-aggregate-send send-requires same-length same-length-2 same-length-3 returns refused-requires returns-2)

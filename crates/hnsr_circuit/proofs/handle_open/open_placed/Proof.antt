@@ -5,6 +5,8 @@ use mathlib.Core.Path.{refl, sym, ap, _∙_}
 use mathlib.Core.Bool.{true, cond}
 use lib.ListN.{set}
 use borrow.Author.Needs.{needs}
+use Rattle.hnsr_circuit.specs.Table.{any}
+use Rattle.hnsr_circuit.specs.Pending.{pendingAt}
 use Rattle.hnsr_circuit.specs.Ledger.{isUsage, clearUsage, usageAt, freshUsage, usageOf}
 use Rattle.hnsr_circuit.specs.Queue.{actionsScanned}
 use Rattle.hnsr_circuit.specs.Held.{held, heldPending, heldCircuits, heldLedger, heldActions, worldSeen}
@@ -14,8 +16,9 @@ use Rattle.hnsr_circuit.specs.declared.places.Places.{Places}
 use Rattle.hnsr_circuit.specs.declared.records.Outgoing.{Outgoing}
 use Rattle.hnsr_circuit.specs.World.{Outcome}
 use Rattle.hnsr_circuit.specs.Progress.{asking, ending}
-use Rattle.hnsr_circuit.specs.Laws.Opening.{booked-set, booked-usage, lapsed-ends, lapsed-refused, openingOf}
+use Rattle.hnsr_circuit.specs.Laws.Opening.{booked-set, booked-usage, lapsed-ends, lapsed-refused, openingOf, booked-free}
 use Rattle.hnsr_circuit.specs.Open.{openBooked}
+use Rattle.hnsr_circuit.specs.Draw.{draws}
 use Rattle.hnsr_circuit.proofs.handle_open.open_placed.Statement.{statement}
 use Rattle.hnsr_circuit.proofs.handle_open.open_placed.Proof.Tie as tie
 
@@ -86,9 +89,11 @@ returns c = λ c₀ q source body endpoint rs eg ed eo.
     let stands = put-held clearUsage (n .ledger) r (c .before .before .before .before .before .before .before .before .before .before .before .set-usage .last .0) true (c .before .before .before .before .before .before .before .before .before .before .before .before .before .booked-place .result) (c .before .before .before .before .before .before .before .before .before .before .before .before .before .before .booked-usage .result) (c .before .before .before .before .before .before .before .before .before .raised .result) (λ h. rw place (most (rw place at h))) (c .before .before .before .before .before .before .before .before .before .before .before .set-usage .ensures) (c .before .before .before .before .before .before .before .before .before .raised .ensures)
     ∙ (λ x. set t (place x) (row x)) ∙ booked-set (a .plan .ticket) t in
     let seen = (λ x. held clearUsage (c .before .before .before .before .before .before .before .before .with-ledger .ensures x .ledger) (c .before .before .before .before .before .before .before .before .before .before .before .set-usage .last .0)) ∙ stands in
-    let found = booked-usage (a .runtime .config) (a .gathered) (a .drawing) (a .plan) (c .before .before .before .before .before .before .before .before .before .before .before .before .before .before .before .before .before .before .before .before .scan-actions .result) (c .before .before .before .before .before .before .before .before .before .before .before .before .before .before .before .before .before .before .scan-ledger .result) (c .before .before .before .before .before .before .before .before .before .before .before .before .before .before .before .before .before .placed-rows .result) (c .before .before .before .before .before .before .before .before .before .before .before .before .before .before .booked-usage .result) t room (c .before .before .before .before .before .before .before .before .before .before .before .before .before .before .before .before .before .placed-rows .ensures) go (c .before .before .before .before .before .before .before .before .before .before .before .before .before .before .booked-usage .ensures)
+    let found = booked-usage (a .runtime .config) (a .gathered) (a .drawing) (a .plan) (c .before .before .before .before .before .before .before .before .before .before .before .before .before .before .before .before .before .before .before .before .scan-actions .result) (c .before .before .before .before .before .before .before .before .before .before .before .before .before .before .before .before .before .before .scan-ledger .result) (c .before .before .before .before .before .before .before .before .before .before .before .before .before .before .before .before .before .placed-rows .result) (c .before .before .before .before .before .before .before .before .before .before .before .before .before .before .before .before .before .placed-rows .ensures) go (c .before .before .before .before .before .before .before .before .before .before .before .before .before .before .booked-usage .result) t room (c .before .before .before .before .before .before .before .before .before .before .before .before .before .before .booked-usage .ensures)
     ∙ ap (usageOf id) (sym seen) in
-    c .before .before .before .before .open-booked .ensures c₀ (c .before .before .before .before .before .before .before .before .before .before .before .set-usage .last .0) found
+    let free = ap (λ (m : Places). any (pendingAt (a .plan .id)) (heldPending m (a .pending .now))) (c .before .before .before .before .before .before .before .before .with-ledger .ensures)
+    ∙ booked-free (a .runtime .config) (a .gathered) (a .drawing) (a .plan) (c .before .before .before .before .before .before .before .before .before .before .before .before .before .before .before .before .before .before .before .before .scan-actions .result) (c .before .before .before .before .before .before .before .before .before .before .before .before .before .before .before .before .before .before .scan-ledger .result) (c .before .before .before .before .before .before .before .before .before .before .before .before .before .before .before .before .before .placed-rows .result) (c .before .before .before .before .before .before .before .before .before .before .before .before .before .before .before .before .before .placed-rows .ensures) go (heldPending n (a .pending .now)) (heldCircuits n c₀) (draws rs) ed eo in
+    c .before .before .before .before .open-booked .ensures c₀ (c .before .before .before .before .before .before .before .before .before .before .before .set-usage .last .0) found free
     ∙ ap (λ (m : Places). ending (a .out .now) (openBooked (worldSeen (a .runtime) m (a .pending .now) c₀ (c .before .before .before .before .before .before .before .before .before .before .before .set-usage .last .0) (a .inflight .now)) (openingOf (a .plan)))) (c .before .before .before .before .before .before .before .before .with-ledger .ensures)
     ∙ ap (λ (o : Outcome). ending (a .out .now) o) (lapsed-ends (a .runtime) (heldPending n (a .pending .now)) (heldCircuits n c₀) t (heldActions n (a .inflight .now)) q source body endpoint rs
     (a .gathered) (a .drawing) (a .plan) (c .before .before .before .before .before .before .before .before .before .before .before .before .before .before .before .before .before .before .before .before .before .before .before .incoming-out .result) (c .before .before .before .before .before .before .before .before .before .before .before .before .before .before .before .before .before .before .before .before .before .before .asking .result) (c .before .before .before .before .before .before .before .before .before .before .before .before .before .before .before .before .before .before .before .before .scan-actions .result) (c .before .before .before .before .before .before .before .before .before .before .before .before .before .before .before .before .before .before .scan-ledger .result) (c .before .before .before .before .before .before .before .before .before .before .before .before .before .before .before .before .before .placed-rows .result)

@@ -1,4 +1,4 @@
--- Four counts and a test.
+-- Four counts and two tests.
 use borrow.Author.Needs.{needs}
 use Rattle.hnsr_circuit.proofs.scan.work_on.Statement.{statement}
 use Rattle.hnsr_circuit.proofs.scan.work_on.Tie as tie
@@ -7,8 +7,8 @@ use Rattle.hnsr_circuit.proofs.scan.work_on.Lts as lts
 use Rattle.hns_encoding.proofs.logic.either.Reads as either-reads
 use Rattle.hnsr_circuit.proofs.scan.one_more.Reads as one-more-reads
 
-add-t6 : tie.Need-add-t6
-add-t6 c = search needs
+add-t7 : tie.Need-add-t7
+add-t7 c = search needs
 
 one-more-requires : tie.Need-one-more-requires
 one-more-requires c κs = search needs
@@ -22,16 +22,20 @@ one-more-requires-3 c κs = search needs
 either-requires : tie.Need-either-requires
 either-requires c κs = search needs
 
+either-requires-2 : tie.Need-either-requires-2
+either-requires-2 c κs = search needs
+
 returns : tie.Need-returns
-returns c = rw (c .either .ensures, c .before .one-more3 .ensures, c .before .before .one-more2 .ensures, c .before .before .before .one-more .ensures)
+returns c = rw (c .either2 .ensures, c .before .either .ensures, c .before .before .one-more3 .ensures, c .before .before .before .one-more2 .ensures, c .before .before .before .before .one-more .ensures)
 
 pub work-on-spec : {M : Type 1} → statement M
 work-on-spec =
     tie.close
     (tie.spec
-    add-t6
+    add-t7
     one-more-requires
     one-more-requires-2
     one-more-requires-3
     either-requires
+    either-requires-2
     returns)

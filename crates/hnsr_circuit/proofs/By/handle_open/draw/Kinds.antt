@@ -25,7 +25,8 @@ ps = (ShrSlice.pShrS RelayPending.row 0 tt) ∷ (ShrSlice.pShrS RelayCircuit.row
     Places.the-type Laws.the-copy Exit.yes; row = Rows.whole (Declared.row Places.the-type); rd = λ x. x; mk = λ x. x; } λ M 𝓤 H A W. record { copies
     = Laws''.copy Places.the-type Laws.the-copy 𝓤 H A W; lawful = Laws''.lawful Places.the-type Laws.the-laws 𝓤 H A W; makes = Laws''.makes
     Places.the-type Laws.the-plain 𝓤 H A; in-mem = Local.mem-whole 𝓤 H A W (Declared.row Places.the-type); of-mem = Local.whole-mem 𝓤 H A W
-    (Declared.row Places.the-type); }) ∷ (ShrSlice.pShrS (Referent.rtF (Referent.fInt Syntax.w8)) 2 tt) ∷ List.[]
+    (Declared.row Places.the-type); }) ∷ (ShrSlice.pShrS (Referent.rtF (Referent.fInt Syntax.w8)) 2 tt) ∷ (Kinds.pNum Syntax.w64) ∷ Kinds.pBool ∷
+    List.[]
 abbrev pub r : Kinds.RK 3
 r = Value.rVal record { ty = Declared.row Drawing.the-type; one = Path.refl; val = Laws''.val Drawing.the-type Laws'.the-laws; tells = Laws''.tells
     Drawing.the-type Laws'.the-laws; still = Laws''.still Drawing.the-type Laws'.the-copy Exit.yes; row = Rows.whole (Declared.row Drawing.the-type);

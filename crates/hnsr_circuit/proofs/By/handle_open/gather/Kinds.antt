@@ -21,7 +21,7 @@ use mathlib.Core.Path
 use mir.Syntax
 use mathlib.Core.List.{_∷_}
 
-abbrev pub ps : List.List (Kinds.PK 5)
+abbrev pub ps : List.List (Kinds.PK 6)
 ps = (ShrSlice.pShrS RelayPending.row 0 tt) ∷ (ShrSlice.pShrS RelayCircuit.row 1 tt) ∷ (Value.pVal record { ty = Declared.row Places.the-type; one =
     Path.refl; val = Laws'''.val Places.the-type Laws'.the-laws; tells = Laws'''.tells Places.the-type Laws'.the-laws; still = Laws'''.still
     Places.the-type Laws'.the-copy Exit.yes; row = Rows.whole (Declared.row Places.the-type); rd = λ x. x; mk = λ x. x; } λ M 𝓤 H A W. record { copies
@@ -33,8 +33,9 @@ ps = (ShrSlice.pShrS RelayPending.row 0 tt) ∷ (ShrSlice.pShrS RelayCircuit.row
     Laws'''.copy RelayPacket.the-type Laws''.the-copy 𝓤 H A W; lawful = Laws'''.lawful RelayPacket.the-type Laws''.the-laws 𝓤 H A W; makes =
     Laws'''.makes RelayPacket.the-type Laws''.the-plain 𝓤 H A; in-mem = Local.mem-whole 𝓤 H A W (Declared.row RelayPacket.the-type); of-mem =
     Local.whole-mem 𝓤 H A W (Declared.row RelayPacket.the-type); }) ∷ (ShrSlice.pShrS (Referent.rtF (Referent.fInt Syntax.w8)) 2 tt) ∷ (ShrSlice.pShrS
-    (Referent.rtF (Referent.fInt Syntax.w8)) 3 tt) ∷ (ShrSlice.pShrS (Referent.rtF (Referent.fInt Syntax.w8)) 4 tt) ∷ List.[]
-abbrev pub r : Kinds.RK 5
+    (Referent.rtF (Referent.fInt Syntax.w8)) 3 tt) ∷ (ShrSlice.pShrS (Referent.rtF (Referent.fInt Syntax.w8)) 4 tt) ∷ (ShrSlice.pShrS (Referent.rtF
+    (Referent.fInt Syntax.w8)) 5 tt) ∷ List.[]
+abbrev pub r : Kinds.RK 6
 r = Value.rVal record { ty = Declared.row OpenGathered.the-type; one = Path.refl; val = Laws'''.val OpenGathered.the-type Laws.the-laws; tells =
     Laws'''.tells OpenGathered.the-type Laws.the-laws; still = Laws'''.still OpenGathered.the-type Laws.the-copy Exit.yes; row = Rows.whole
     (Declared.row OpenGathered.the-type); rd = λ x. x; mk = λ x. x; } λ M 𝓤 H A W. record { copies = Laws'''.copy OpenGathered.the-type Laws.the-copy

@@ -146,7 +146,7 @@ xs = Laws''.mir ∷ Laws'.mir ∷ Laws.mir ∷ ref0 ∷ (Syntax.tyStruct (38 ∷
     (Syntax.tcons ref5 (Syntax.tcons (Syntax.tyInt Syntax.w64) Syntax.tnil))) ∷ List.[]
 abbrev pub m : Nat.ℕ
 m = 8
-abbrev pub ps·0 : List.List (Kinds.PK 5)
+abbrev pub ps·0 : List.List (Kinds.PK 6)
 ps·0 = (ShrSlice.pShrS RelayPending.row 0 tt) ∷ (ShrSlice.pShrS RelayCircuit.row 1 tt) ∷ (Value.pVal record { ty = Declared'.row Places.the-type; one
     = Path.refl; val = Laws''''''''.val Places.the-type Laws'''.the-laws; tells = Laws''''''''.tells Places.the-type Laws'''.the-laws; still =
     Laws''''''''.still Places.the-type Laws'''.the-copy Exit.yes; row = Rows.whole (Declared'.row Places.the-type); rd = λ x. x; mk = λ x. x; } λ M 𝓤
@@ -159,8 +159,8 @@ ps·0 = (ShrSlice.pShrS RelayPending.row 0 tt) ∷ (ShrSlice.pShrS RelayCircuit.
     RelayPacket.the-type Laws''''.the-laws 𝓤 H A W; makes = Laws''''''''.makes RelayPacket.the-type Laws''''.the-plain 𝓤 H A; in-mem = Local.mem-whole
     𝓤 H A W (Declared'.row RelayPacket.the-type); of-mem = Local.whole-mem 𝓤 H A W (Declared'.row RelayPacket.the-type); }) ∷ (ShrSlice.pShrS
     (Referent.rtF (Referent.fInt Syntax.w8)) 2 tt) ∷ (ShrSlice.pShrS (Referent.rtF (Referent.fInt Syntax.w8)) 3 tt) ∷ (ShrSlice.pShrS (Referent.rtF
-    (Referent.fInt Syntax.w8)) 4 tt) ∷ List.[]
-abbrev pub r·0 : Kinds.RK 5
+    (Referent.fInt Syntax.w8)) 4 tt) ∷ (ShrSlice.pShrS (Referent.rtF (Referent.fInt Syntax.w8)) 5 tt) ∷ List.[]
+abbrev pub r·0 : Kinds.RK 6
 r·0 = Value.rVal record { ty = Declared'.row OpenGathered.the-type; one = Path.refl; val = Laws''''''''.val OpenGathered.the-type Laws''.the-laws;
     tells = Laws''''''''.tells OpenGathered.the-type Laws''.the-laws; still = Laws''''''''.still OpenGathered.the-type Laws''.the-copy Exit.yes; row =
     Rows.whole (Declared'.row OpenGathered.the-type); rd = λ x. x; mk = λ x. x; } λ M 𝓤 H A W. record { copies = Laws''''''''.copy
@@ -275,7 +275,7 @@ b3 = Syntax.assign (Syntax.place 19 List.[]) (Syntax.aggregate ((Syntax.copy (Sy
 abbrev b4 : Syntax.Body
 b4 = Syntax.call "hnsr_circuit::handle_open::gather" ((Syntax.copy (Syntax.place 17 List.[])) ∷ (Syntax.copy (Syntax.place 19 List.[])) ∷ (Syntax.copy
     (Syntax.place 7 List.[])) ∷ (Syntax.copy (Syntax.place 8 List.[])) ∷ (Syntax.copy (Syntax.place 9 List.[])) ∷ (Syntax.copy (Syntax.place 10
-    List.[])) ∷ (Syntax.copy (Syntax.place 11 List.[])) ∷ List.[]) (Syntax.place 13 List.[])
+    List.[])) ∷ (Syntax.copy (Syntax.place 11 List.[])) ∷ (Syntax.copy (Syntax.place 12 List.[])) ∷ List.[]) (Syntax.place 13 List.[])
 abbrev b5 : Syntax.Body
 b5 = Syntax.assign (Syntax.place 14 List.[]) (Syntax.rvOpd (Syntax.copy (Syntax.place 6 ((Syntax.field 4) ∷ List.[]))))
 abbrev b6 : Syntax.Body
@@ -383,7 +383,7 @@ b50 = Syntax.seq b0 b49
 abbrev pub body : Syntax.Body
 body = b50
 abbrev pub Claims : Type 1
-Claims = Kinds.In 5 ps·0 × Kinds.Out 5 ps·0 r·0 × Kinds.In 0 ps·1 × Kinds.Out 0 ps·1 r·1 × Kinds.In 0 ps·2 × Kinds.Out 0 ps·2 r·2 × Kinds.In 1 ps·3 ×
+Claims = Kinds.In 6 ps·0 × Kinds.Out 6 ps·0 r·0 × Kinds.In 0 ps·1 × Kinds.Out 0 ps·1 r·1 × Kinds.In 0 ps·2 × Kinds.Out 0 ps·2 r·2 × Kinds.In 1 ps·3 ×
     Kinds.Out 1 ps·3 r·3 × Kinds.In 6 ps·4 × Kinds.Out 6 ps·4 r·4 × Kinds.In 0 ps·5 × Kinds.Out 0 ps·5 r·5
 abbrev e0 : Row.Entry
 e0 = (0, Rows.any-gone Laws''''''.mir)
@@ -789,8 +789,9 @@ module _ (claims· : Claims) where
       λ x. x; }, (record { pos = 19; ty = Syntax.tyRef Syntax.erased Syntax.imm RelayCircuit.to; ref = λ x. x; }, (record { pos = 7; st = List.[]; d =
       0; at = λ x. x }, (record { pos = 8; st = List.[]; d = 0; at = λ x. x }, (record { pos = 9; ty = Syntax.tyRef (Syntax.named 5) Syntax.imm
       (Syntax.tyInt Syntax.w8); ref = λ x. x; }, (record { pos = 10; ty = Syntax.tyRef (Syntax.named 6) Syntax.imm (Syntax.tyInt Syntax.w8); ref = λ
-      x. x; }, (record { pos = 11; ty = Syntax.tyRef (Syntax.named 7) Syntax.imm (Syntax.tyInt Syntax.w8); ref = λ x. x; }, tt,),),),),),),) 13 (9 ∷
-      10 ∷ 5 ∷ 6 ∷ 7 ∷ List.[]) Laws''.mir
+      x. x; }, (record { pos = 11; ty = Syntax.tyRef (Syntax.named 7) Syntax.imm (Syntax.tyInt Syntax.w8); ref = λ x. x; }, (record { pos = 12; ty =
+      Syntax.tyRef (Syntax.named 8) Syntax.imm (Syntax.tyInt Syntax.w8); ref = λ x. x; }, tt,),),),),),),),) 13 (9 ∷ 10 ∷ 5 ∷ 6 ∷ 7 ∷ 8 ∷ List.[])
+      Laws''.mir
   abbrev s12 : (bs : List.List Nat.ℕ) → Typed.Mo T13 → Typed.Mo T14
   s12 = λ bs. Scalar.n-room T13 17 (Syntax.tyStruct (38 ∷ 91 ∷ 93 ∷ List.[]) (Syntax.tcons ref0 (Syntax.tcons (Syntax.tyInt Syntax.w64) Syntax.tnil)))
   abbrev s13 : (bs : List.List Nat.ℕ) → Typed.Mo T14 → Typed.Mo T15
@@ -902,7 +903,7 @@ module _ (claims· : Claims) where
       κs) where
     module _ (M : Type 1) where
       abbrev pub Closed : Type 2
-      Closed = (𝓤 : URA.URA M) (H : Wp.Heap 𝓤) (A : Atoms.Atoms 𝓤) (W : Kit.Given 𝓤 H A) (𝓣 : Wp.Tables 𝓤 H) (known0 : Plain.Known 𝓤 H A W 𝓣 5 ps·0
+      Closed = (𝓤 : URA.URA M) (H : Wp.Heap 𝓤) (A : Atoms.Atoms 𝓤) (W : Kit.Given 𝓤 H A) (𝓣 : Wp.Tables 𝓤 H) (known0 : Plain.Known 𝓤 H A W 𝓣 6 ps·0
           r·0 (claims· .0) (claims· .1) "hnsr_circuit::handle_open::gather") (known1 : Plain.Known 𝓤 H A W 𝓣 0 ps·1 r·1 (claims· .2) (claims· .3)
           "hnsr_circuit::open::open_rows") (known2 : Plain.Known 𝓤 H A W 𝓣 0 ps·2 r·2 (claims· .4) (claims· .5) "hnsr_circuit::answer::is_taken")
           (known3 : Plain.Known 𝓤 H A W 𝓣 1 ps·3 r·3 (claims· .6) (claims· .7) "hnsr_circuit::lookup::drop_lapsed") (known4 : Plain.Known 𝓤 H A W 𝓣 6
@@ -1080,7 +1081,7 @@ module _ (claims· : Claims) where
       Φ = λ bs. at82 bs
       module _ { M : Type 1 } (𝓤 : URA.URA M) (H : Wp.Heap 𝓤) (A : Atoms.Atoms 𝓤) (W : Kit.Given 𝓤 H A) (𝓣 : Wp.Tables 𝓤 H) where
         abbrev Knowns : Type 1
-        Knowns = Plain.Known 𝓤 H A W 𝓣 5 ps·0 r·0 (claims· .0) (claims· .1) "hnsr_circuit::handle_open::gather" × Plain.Known 𝓤 H A W 𝓣 0 ps·1 r·1
+        Knowns = Plain.Known 𝓤 H A W 𝓣 6 ps·0 r·0 (claims· .0) (claims· .1) "hnsr_circuit::handle_open::gather" × Plain.Known 𝓤 H A W 𝓣 0 ps·1 r·1
             (claims· .2) (claims· .3) "hnsr_circuit::open::open_rows" × Plain.Known 𝓤 H A W 𝓣 0 ps·2 r·2 (claims· .4) (claims· .5)
             "hnsr_circuit::answer::is_taken" × Plain.Known 𝓤 H A W 𝓣 1 ps·3 r·3 (claims· .6) (claims· .7) "hnsr_circuit::lookup::drop_lapsed" ×
             Plain.Known 𝓤 H A W 𝓣 6 ps·4 r·4 (claims· .8) (claims· .9) "hnsr_circuit::handle_open::open_lapsed" × Plain.Known 𝓤 H A W 𝓣 0 ps·5 r·5
@@ -1819,26 +1820,28 @@ module _ (claims· : Claims) where
               91 ∷ 93 ∷ List.[]) (Syntax.tcons ref0 (Syntax.tcons (Syntax.tyInt Syntax.w64) Syntax.tnil))) (Shared.room-sslice 𝓤 H A W
               RelayPending.row ref0 9)) d69
           d71 : Typed.Typed 𝓤 H A 𝓣 E G12 b46 Δ0 (at71 bs)
-          d71 = Typed.s-seq 𝓤 H A W 𝓣 E G12 G13 b4 b45 Δ0 (Typed.both (s11 bs)) (at70 bs) (Plain.t-call-plain 𝓤 H A W 𝓣 5 ps·0 r·0 (claims· .0)
+          d71 = Typed.s-seq 𝓤 H A W 𝓣 E G12 G13 b4 b45 Δ0 (Typed.both (s11 bs)) (at70 bs) (Plain.t-call-plain 𝓤 H A W 𝓣 6 ps·0 r·0 (claims· .0)
               (claims· .1) "hnsr_circuit::handle_open::gather" (known .0) E (λ pos β. β) G12 (record { pos = 17; ty = Syntax.tyRef Syntax.erased
               Syntax.imm RelayPending.to; ref = λ x. x; }, (record { pos = 19; ty = Syntax.tyRef Syntax.erased Syntax.imm RelayCircuit.to; ref = λ x.
               x; }, (record { pos = 7; st = List.[]; d = 0; at = λ x. x }, (record { pos = 8; st = List.[]; d = 0; at = λ x. x }, (record { pos = 9;
               ty = Syntax.tyRef (Syntax.named 5) Syntax.imm (Syntax.tyInt Syntax.w8); ref = λ x. x; }, (record { pos = 10; ty = Syntax.tyRef
               (Syntax.named 6) Syntax.imm (Syntax.tyInt Syntax.w8); ref = λ x. x; }, (record { pos = 11; ty = Syntax.tyRef (Syntax.named 7) Syntax.imm
-              (Syntax.tyInt Syntax.w8); ref = λ x. x; }, tt,),),),),),),) 13 (9 ∷ 10 ∷ 5 ∷ 6 ∷ 7 ∷ List.[]) (Call.sub-id 𝓤 H A W (G12 .slots))
-              (ShrSlice.spares-sslice 𝓤 H A W RelayPending.row ref0 9, Shared.reads-sslice 𝓤 H A W RelayPending.row ref0 9, Path.refl,
-              (ShrSlice.spares-sslice 𝓤 H A W RelayCircuit.row ref1 10, Shared.reads-sslice 𝓤 H A W RelayCircuit.row ref1 10, Path.refl,
-              ((Yields.yields-copy 𝓤 H A W (λ ρ. Unit) (Declared'.row Places.the-type) Path.refl (Copies.cStruct Places.the-type Laws'''.the-laws
-              Laws'''.the-copy .copy 𝓤 H A W) (Rows.whole (Declared'.row Places.the-type)) (λ x. x) (λ x. x) (λ ρ told. Local.mem-whole 𝓤 H A W
-              (Declared'.row Places.the-type) ρ) λ ρ told. Local.whole-mem 𝓤 H A W (Declared'.row Places.the-type) ρ, Path.refl,),
-              ((Yields.yields-copy 𝓤 H A W (λ ρ. Unit) (Declared'.row RelayPacket.the-type) Path.refl (Copies.cStruct RelayPacket.the-type
-              Laws''''.the-laws Laws''''.the-copy .copy 𝓤 H A W) (Rows.whole (Declared'.row RelayPacket.the-type)) (λ x. x) (λ x. x) (λ ρ told.
-              Local.mem-whole 𝓤 H A W (Declared'.row RelayPacket.the-type) ρ) λ ρ told. Local.whole-mem 𝓤 H A W (Declared'.row RelayPacket.the-type)
-              ρ, Path.refl,), (ShrSlice.spares-sslice 𝓤 H A W (Referent.rtF (Referent.fInt Syntax.w8)) ref11 5, Shared.reads-sslice 𝓤 H A W
-              (Referent.rtF (Referent.fInt Syntax.w8)) ref11 5, Path.refl, (ShrSlice.spares-sslice 𝓤 H A W (Referent.rtF (Referent.fInt Syntax.w8))
-              ref12 6, Shared.reads-sslice 𝓤 H A W (Referent.rtF (Referent.fInt Syntax.w8)) ref12 6, Path.refl, (ShrSlice.spares-sslice 𝓤 H A W
-              (Referent.rtF (Referent.fInt Syntax.w8)) ref13 7, Shared.reads-sslice 𝓤 H A W (Referent.rtF (Referent.fInt Syntax.w8)) ref13 7,
-              Path.refl, tt,),),),),),),) (Reads'.room-gone 𝓤 H A Laws''.mir) (tt, (tt, (tt, (tt, (tt, tt))))) Path.refl) d70
+              (Syntax.tyInt Syntax.w8); ref = λ x. x; }, (record { pos = 12; ty = Syntax.tyRef (Syntax.named 8) Syntax.imm (Syntax.tyInt Syntax.w8);
+              ref = λ x. x; }, tt,),),),),),),),) 13 (9 ∷ 10 ∷ 5 ∷ 6 ∷ 7 ∷ 8 ∷ List.[]) (Call.sub-id 𝓤 H A W (G12 .slots)) (ShrSlice.spares-sslice 𝓤 H
+              A W RelayPending.row ref0 9, Shared.reads-sslice 𝓤 H A W RelayPending.row ref0 9, Path.refl, (ShrSlice.spares-sslice 𝓤 H A W
+              RelayCircuit.row ref1 10, Shared.reads-sslice 𝓤 H A W RelayCircuit.row ref1 10, Path.refl, ((Yields.yields-copy 𝓤 H A W (λ ρ. Unit)
+              (Declared'.row Places.the-type) Path.refl (Copies.cStruct Places.the-type Laws'''.the-laws Laws'''.the-copy .copy 𝓤 H A W) (Rows.whole
+              (Declared'.row Places.the-type)) (λ x. x) (λ x. x) (λ ρ told. Local.mem-whole 𝓤 H A W (Declared'.row Places.the-type) ρ) λ ρ told.
+              Local.whole-mem 𝓤 H A W (Declared'.row Places.the-type) ρ, Path.refl,), ((Yields.yields-copy 𝓤 H A W (λ ρ. Unit) (Declared'.row
+              RelayPacket.the-type) Path.refl (Copies.cStruct RelayPacket.the-type Laws''''.the-laws Laws''''.the-copy .copy 𝓤 H A W) (Rows.whole
+              (Declared'.row RelayPacket.the-type)) (λ x. x) (λ x. x) (λ ρ told. Local.mem-whole 𝓤 H A W (Declared'.row RelayPacket.the-type) ρ) λ ρ
+              told. Local.whole-mem 𝓤 H A W (Declared'.row RelayPacket.the-type) ρ, Path.refl,), (ShrSlice.spares-sslice 𝓤 H A W (Referent.rtF
+              (Referent.fInt Syntax.w8)) ref11 5, Shared.reads-sslice 𝓤 H A W (Referent.rtF (Referent.fInt Syntax.w8)) ref11 5, Path.refl,
+              (ShrSlice.spares-sslice 𝓤 H A W (Referent.rtF (Referent.fInt Syntax.w8)) ref12 6, Shared.reads-sslice 𝓤 H A W (Referent.rtF
+              (Referent.fInt Syntax.w8)) ref12 6, Path.refl, (ShrSlice.spares-sslice 𝓤 H A W (Referent.rtF (Referent.fInt Syntax.w8)) ref13 7,
+              Shared.reads-sslice 𝓤 H A W (Referent.rtF (Referent.fInt Syntax.w8)) ref13 7, Path.refl, (ShrSlice.spares-sslice 𝓤 H A W (Referent.rtF
+              (Referent.fInt Syntax.w8)) ref14 8, Shared.reads-sslice 𝓤 H A W (Referent.rtF (Referent.fInt Syntax.w8)) ref14 8, Path.refl,
+              tt,),),),),),),),) (Reads'.room-gone 𝓤 H A Laws''.mir) (tt, (tt, (tt, (tt, (tt, (tt, tt)))))) Path.refl) d70
           d72 : Typed.Typed 𝓤 H A 𝓣 E G11 b47 Δ0 (at72 bs)
           d72 = Typed.s-seq 𝓤 H A W 𝓣 E G11 G12 b3 b46 Δ0 (Typed.ask (s10 bs)) (at71 bs) (Relend.t-sl-aggregate 𝓤 H A W E RelayCircuit.row 𝓣
               (Relend.asShr RelayCircuit.row) G11 18 19 10 ref1 ref1 (λ x. x) (Scalar.oFld 2 ((Syntax.field 1) ∷ List.[]) (Syntax.tyInt Syntax.w64) 8
@@ -2017,7 +2020,8 @@ module _ (claims· : Claims) where
             List.[]; d = 0; at = λ x. x }, (record { pos = 8; st = List.[]; d = 0; at = λ x. x }, (record { pos = 9; ty = Syntax.tyRef (Syntax.named
             5) Syntax.imm (Syntax.tyInt Syntax.w8); ref = λ x. x; }, (record { pos = 10; ty = Syntax.tyRef (Syntax.named 6) Syntax.imm (Syntax.tyInt
             Syntax.w8); ref = λ x. x; }, (record { pos = 11; ty = Syntax.tyRef (Syntax.named 7) Syntax.imm (Syntax.tyInt Syntax.w8); ref = λ x. x; },
-            tt,),),),),),),) (m9 (before· .before) (before· .gather-arg2 .given))
+            (record { pos = 12; ty = Syntax.tyRef (Syntax.named 8) Syntax.imm (Syntax.tyInt Syntax.w8); ref = λ x. x; }, tt,),),),),),),),) (m9
+            (before· .before) (before· .gather-arg2 .given))
       pub record After-gather : Type 0 where
         pub before : After-gather-arg2
         pub gather : After-gather·own before
@@ -2028,7 +2032,8 @@ module _ (claims· : Claims) where
           List.[]; d = 0; at = λ x. x }, (record { pos = 8; st = List.[]; d = 0; at = λ x. x }, (record { pos = 9; ty = Syntax.tyRef (Syntax.named 5)
           Syntax.imm (Syntax.tyInt Syntax.w8); ref = λ x. x; }, (record { pos = 10; ty = Syntax.tyRef (Syntax.named 6) Syntax.imm (Syntax.tyInt
           Syntax.w8); ref = λ x. x; }, (record { pos = 11; ty = Syntax.tyRef (Syntax.named 7) Syntax.imm (Syntax.tyInt Syntax.w8); ref = λ x. x; },
-          tt,),),),),),),) (m9 (c .before .before) (c .before .gather-arg2 .given)) (c .gather)
+          (record { pos = 12; ty = Syntax.tyRef (Syntax.named 8) Syntax.imm (Syntax.tyInt Syntax.w8); ref = λ x. x; }, tt,),),),),),),),) (m9 (c
+          .before .before) (c .before .gather-arg2 .given)) (c .gather)
       abbrev pub m11 : (before : After-gather-arg2) → (given : s11 (before .before .before .before .before .before .before .before .blocks) .gives (m9
           (before .before) (before .gather-arg2 .given))) → Typed.Mo T14
       m11 = λ before given. s12 (before .before .before .before .before .before .before .before .blocks) (m10 before given)
@@ -2638,10 +2643,11 @@ module _ (claims· : Claims) where
             RelayCircuit.to; ref = λ x. x; }, (record { pos = 7; st = List.[]; d = 0; at = λ x. x }, (record { pos = 8; st = List.[]; d = 0; at = λ x.
             x }, (record { pos = 9; ty = Syntax.tyRef (Syntax.named 5) Syntax.imm (Syntax.tyInt Syntax.w8); ref = λ x. x; }, (record { pos = 10; ty =
             Syntax.tyRef (Syntax.named 6) Syntax.imm (Syntax.tyInt Syntax.w8); ref = λ x. x; }, (record { pos = 11; ty = Syntax.tyRef (Syntax.named 7)
-            Syntax.imm (Syntax.tyInt Syntax.w8); ref = λ x. x; }, tt,),),),),),),) (m9 record { before = record { before = record { before = record {
-            before = record { before = record { before = c; slice-known = record { given = g } }; shared-slice-known = record { given = g' }; };
-            shared-slice-known2 = record { given = g'' }; }; shared-slice-known3 = record { given = g'3 }; }; shared-slice-known4 = record { given =
-            g'4 }; }; gather-arg = record { given = g'5 }; } g'6) g'7; },),),)
+            Syntax.imm (Syntax.tyInt Syntax.w8); ref = λ x. x; }, (record { pos = 12; ty = Syntax.tyRef (Syntax.named 8) Syntax.imm (Syntax.tyInt
+            Syntax.w8); ref = λ x. x; }, tt,),),),),),),),) (m9 record { before = record { before = record { before = record { before = record {
+            before = record { before = c; slice-known = record { given = g } }; shared-slice-known = record { given = g' }; }; shared-slice-known2 =
+            record { given = g'' }; }; shared-slice-known3 = record { given = g'3 }; }; shared-slice-known4 = record { given = g'4 }; }; gather-arg =
+            record { given = g'5 }; } g'6) g'7; },),),)
         module _ (κs : Lifetimes.Lfts 9) (qs : Lifetimes.Shares 9) where
           pub asked : (a : Kinds.Dens κs ps) → (good : Kinds.GoodsP κs ps a) → (pre : Pre· κs a) → (bs : List.List Nat.ℕ) → Φ bs (Any.wantQ 9 ps r xs
               m κs qs a (Post· κs a)) (Function.init 9 ps r xs m κs qs a)
@@ -2650,7 +2656,7 @@ module _ (claims· : Claims) where
               source = a .1 .1 .1 .1 .1 .1 .1 .1 .0; body = a .1 .1 .1 .1 .1 .1 .1 .1 .1 .0; endpoint = a .1 .1 .1 .1 .1 .1 .1 .1 .1 .1 .0; random = a
               .1 .1 .1 .1 .1 .1 .1 .1 .1 .1 .1 .0; }; blocks = bs; good = good; pre = pre; }
         module _ { M : Type 1 } (𝓤 : URA.URA M) (H : Wp.Heap 𝓤) (A : Atoms.Atoms 𝓤) (W : Kit.Given 𝓤 H A) (𝓣 : Wp.Tables 𝓤 H) (known0 : Plain.Known 𝓤
-            H A W 𝓣 5 ps·0 r·0 (claims· .0) (claims· .1) "hnsr_circuit::handle_open::gather") (known1 : Plain.Known 𝓤 H A W 𝓣 0 ps·1 r·1 (claims· .2)
+            H A W 𝓣 6 ps·0 r·0 (claims· .0) (claims· .1) "hnsr_circuit::handle_open::gather") (known1 : Plain.Known 𝓤 H A W 𝓣 0 ps·1 r·1 (claims· .2)
             (claims· .3) "hnsr_circuit::open::open_rows") (known2 : Plain.Known 𝓤 H A W 𝓣 0 ps·2 r·2 (claims· .4) (claims· .5)
             "hnsr_circuit::answer::is_taken") (known3 : Plain.Known 𝓤 H A W 𝓣 1 ps·3 r·3 (claims· .6) (claims· .7)
             "hnsr_circuit::lookup::drop_lapsed") (known4 : Plain.Known 𝓤 H A W 𝓣 6 ps·4 r·4 (claims· .8) (claims· .9)

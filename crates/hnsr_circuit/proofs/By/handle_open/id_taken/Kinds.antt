@@ -22,6 +22,6 @@ ps = (ShrSlice.pShrS RelayPending.row 0 tt) ∷ (ShrSlice.pShrS RelayCircuit.row
     Laws.the-copy Exit.yes; row = Rows.whole (Declared.row Places.the-type); rd = λ x. x; mk = λ x. x; } λ M 𝓤 H A W. record { copies = Laws'.copy
     Places.the-type Laws.the-copy 𝓤 H A W; lawful = Laws'.lawful Places.the-type Laws.the-laws 𝓤 H A W; makes = Laws'.makes Places.the-type
     Laws.the-plain 𝓤 H A; in-mem = Local.mem-whole 𝓤 H A W (Declared.row Places.the-type); of-mem = Local.whole-mem 𝓤 H A W (Declared.row
-    Places.the-type); }) ∷ (Kinds.pNum Syntax.w64) ∷ List.[]
+    Places.the-type); }) ∷ (Kinds.pNum Syntax.w64) ∷ Kinds.pBool ∷ (Kinds.pNum Syntax.w64) ∷ List.[]
 abbrev pub r : Kinds.RK 2
 r = Kinds.rBool

@@ -7,401 +7,524 @@ use Rattle.hnsr_circuit.proofs.By.handle_open.gather.Lts
 use Rattle.hnsr_circuit.proofs.By.handle_open.gather.Reads as Reads'
 use Rattle.hnsr_circuit.proofs.By.tables.circuits.circuit_work.Reads as Reads''
 use Rattle.hnsr_circuit.proofs.By.tables.pending.pending_work.Reads as Reads'''
+use Rattle.hnsr_circuit.proofs.draw.first_draw.Met as Met'
+use Rattle.hnsr_circuit.proofs.draw.first_draw.Reads as Reads''''
+use Rattle.hnsr_circuit.proofs.draw.first_draw.Symbol as Symbol'
 use Rattle.hnsr_circuit.proofs.handle_open.gather.Code
 use Rattle.hnsr_circuit.proofs.handle_open.gather.Key
 use Rattle.hnsr_circuit.proofs.handle_open.gather.Statement
-use Rattle.hnsr_circuit.proofs.open.open_gathering.Met as Met'
-use Rattle.hnsr_circuit.proofs.open.open_gathering.Reads as Reads''''
-use Rattle.hnsr_circuit.proofs.open.open_gathering.Symbol as Symbol'
-use Rattle.hnsr_circuit.proofs.open.open_work.Met as Met''
-use Rattle.hnsr_circuit.proofs.open.open_work.Reads as Reads'''''
-use Rattle.hnsr_circuit.proofs.open.open_work.Symbol as Symbol''
-use Rattle.hnsr_circuit.proofs.peer.peer_of.Met as Met'''
-use Rattle.hnsr_circuit.proofs.peer.peer_of.Reads as Reads''''''
-use Rattle.hnsr_circuit.proofs.peer.peer_of.Symbol as Symbol'''
-use Rattle.hnsr_circuit.proofs.tables.circuits.circuit_work.Met as Met''''
-use Rattle.hnsr_circuit.proofs.tables.circuits.circuit_work.Symbol as Symbol''''
-use Rattle.hnsr_circuit.proofs.tables.pending.pending_work.Met as Met'''''
-use Rattle.hnsr_circuit.proofs.tables.pending.pending_work.Symbol as Symbol'''''
+use Rattle.hnsr_circuit.proofs.open.open_gathering.Met as Met''
+use Rattle.hnsr_circuit.proofs.open.open_gathering.Reads as Reads'''''
+use Rattle.hnsr_circuit.proofs.open.open_gathering.Symbol as Symbol''
+use Rattle.hnsr_circuit.proofs.open.open_work.Met as Met'''
+use Rattle.hnsr_circuit.proofs.open.open_work.Reads as Reads''''''
+use Rattle.hnsr_circuit.proofs.open.open_work.Symbol as Symbol'''
+use Rattle.hnsr_circuit.proofs.peer.peer_of.Met as Met''''
+use Rattle.hnsr_circuit.proofs.peer.peer_of.Reads as Reads'''''''
+use Rattle.hnsr_circuit.proofs.peer.peer_of.Symbol as Symbol''''
+use Rattle.hnsr_circuit.proofs.tables.circuits.circuit_work.Met as Met'''''
+use Rattle.hnsr_circuit.proofs.tables.circuits.circuit_work.Symbol as Symbol'''''
+use Rattle.hnsr_circuit.proofs.tables.pending.pending_work.Met as Met''''''
+use Rattle.hnsr_circuit.proofs.tables.pending.pending_work.Symbol as Symbol''''''
 use borrow.Fn.Run
 use borrow.Fn.Written
 use contract.Running
 
 abbrev pub Start : Type 0
 Start = Lts.Start (
-  Reads''''''.Asked,
-  Reads''''''.Learnt,
+  Reads'''''''.Asked,
+  Reads'''''''.Learnt,
   Reads.Asked,
   Reads.Learnt,
-  Reads'''''.Asked,
-  Reads'''''.Learnt,
+  Reads''''.Asked,
+  Reads''''.Learnt,
+  Reads''''''.Asked,
+  Reads''''''.Learnt,
   Reads'''.Asked,
   Reads'''.Learnt,
   Reads''.Asked,
   Reads''.Learnt,
-  Reads''''.Asked,
-  Reads''''.Learnt,
+  Reads'''''.Asked,
+  Reads'''''.Learnt,
 ) Reads'.Pre Reads'.Post
 
 abbrev pub After-shared-slice-known : Type 0
 After-shared-slice-known = Lts.After-shared-slice-known (
-  Reads''''''.Asked,
-  Reads''''''.Learnt,
+  Reads'''''''.Asked,
+  Reads'''''''.Learnt,
   Reads.Asked,
   Reads.Learnt,
-  Reads'''''.Asked,
-  Reads'''''.Learnt,
+  Reads''''.Asked,
+  Reads''''.Learnt,
+  Reads''''''.Asked,
+  Reads''''''.Learnt,
   Reads'''.Asked,
   Reads'''.Learnt,
   Reads''.Asked,
   Reads''.Learnt,
-  Reads''''.Asked,
-  Reads''''.Learnt,
+  Reads'''''.Asked,
+  Reads'''''.Learnt,
 ) Reads'.Pre Reads'.Post
 
 abbrev pub After-shared-slice-known2 : Type 0
 After-shared-slice-known2 = Lts.After-shared-slice-known2 (
-  Reads''''''.Asked,
-  Reads''''''.Learnt,
+  Reads'''''''.Asked,
+  Reads'''''''.Learnt,
   Reads.Asked,
   Reads.Learnt,
-  Reads'''''.Asked,
-  Reads'''''.Learnt,
+  Reads''''.Asked,
+  Reads''''.Learnt,
+  Reads''''''.Asked,
+  Reads''''''.Learnt,
   Reads'''.Asked,
   Reads'''.Learnt,
   Reads''.Asked,
   Reads''.Learnt,
-  Reads''''.Asked,
-  Reads''''.Learnt,
+  Reads'''''.Asked,
+  Reads'''''.Learnt,
 ) Reads'.Pre Reads'.Post
 
 abbrev pub After-shared-slice-known3 : Type 0
 After-shared-slice-known3 = Lts.After-shared-slice-known3 (
-  Reads''''''.Asked,
-  Reads''''''.Learnt,
+  Reads'''''''.Asked,
+  Reads'''''''.Learnt,
   Reads.Asked,
   Reads.Learnt,
-  Reads'''''.Asked,
-  Reads'''''.Learnt,
+  Reads''''.Asked,
+  Reads''''.Learnt,
+  Reads''''''.Asked,
+  Reads''''''.Learnt,
   Reads'''.Asked,
   Reads'''.Learnt,
   Reads''.Asked,
   Reads''.Learnt,
+  Reads'''''.Asked,
+  Reads'''''.Learnt,
+) Reads'.Pre Reads'.Post
+
+abbrev pub After-shared-slice-known4 : Type 0
+After-shared-slice-known4 = Lts.After-shared-slice-known4 (
+  Reads'''''''.Asked,
+  Reads'''''''.Learnt,
+  Reads.Asked,
+  Reads.Learnt,
   Reads''''.Asked,
   Reads''''.Learnt,
+  Reads''''''.Asked,
+  Reads''''''.Learnt,
+  Reads'''.Asked,
+  Reads'''.Learnt,
+  Reads''.Asked,
+  Reads''.Learnt,
+  Reads'''''.Asked,
+  Reads'''''.Learnt,
 ) Reads'.Pre Reads'.Post
 
 abbrev pub After-peer-of : Type 0
 After-peer-of = Lts.After-peer-of (
-  Reads''''''.Asked,
-  Reads''''''.Learnt,
+  Reads'''''''.Asked,
+  Reads'''''''.Learnt,
   Reads.Asked,
   Reads.Learnt,
-  Reads'''''.Asked,
-  Reads'''''.Learnt,
+  Reads''''.Asked,
+  Reads''''.Learnt,
+  Reads''''''.Asked,
+  Reads''''''.Learnt,
   Reads'''.Asked,
   Reads'''.Learnt,
   Reads''.Asked,
   Reads''.Learnt,
-  Reads''''.Asked,
-  Reads''''.Learnt,
-) Reads'.Pre Reads'.Post
+  Reads'''''.Asked,
+  Reads'''''.Learnt,
+)
+    Reads'.Pre Reads'.Post
 
 abbrev pub After-peer-of2 : Type 0
 After-peer-of2 = Lts.After-peer-of2 (
-  Reads''''''.Asked,
-  Reads''''''.Learnt,
+  Reads'''''''.Asked,
+  Reads'''''''.Learnt,
   Reads.Asked,
   Reads.Learnt,
-  Reads'''''.Asked,
-  Reads'''''.Learnt,
+  Reads''''.Asked,
+  Reads''''.Learnt,
+  Reads''''''.Asked,
+  Reads''''''.Learnt,
   Reads'''.Asked,
   Reads'''.Learnt,
   Reads''.Asked,
   Reads''.Learnt,
-  Reads''''.Asked,
-  Reads''''.Learnt,
-) Reads'.Pre Reads'.Post
+  Reads'''''.Asked,
+  Reads'''''.Learnt,
+)
+    Reads'.Pre Reads'.Post
 
 abbrev pub After-decode : Type 0
 After-decode = Lts.After-decode (
-  Reads''''''.Asked,
-  Reads''''''.Learnt,
+  Reads'''''''.Asked,
+  Reads'''''''.Learnt,
   Reads.Asked,
   Reads.Learnt,
-  Reads'''''.Asked,
-  Reads'''''.Learnt,
+  Reads''''.Asked,
+  Reads''''.Learnt,
+  Reads''''''.Asked,
+  Reads''''''.Learnt,
   Reads'''.Asked,
   Reads'''.Learnt,
   Reads''.Asked,
   Reads''.Learnt,
+  Reads'''''.Asked,
+  Reads'''''.Learnt,
+)
+    Reads'.Pre Reads'.Post
+
+abbrev pub After-first-draw : Type 0
+After-first-draw = Lts.After-first-draw (
+  Reads'''''''.Asked,
+  Reads'''''''.Learnt,
+  Reads.Asked,
+  Reads.Learnt,
   Reads''''.Asked,
   Reads''''.Learnt,
-) Reads'.Pre Reads'.Post
+  Reads''''''.Asked,
+  Reads''''''.Learnt,
+  Reads'''.Asked,
+  Reads'''.Learnt,
+  Reads''.Asked,
+  Reads''.Learnt,
+  Reads'''''.Asked,
+  Reads'''''.Learnt,
+)
+    Reads'.Pre Reads'.Post
 
 abbrev pub After-open-work : Type 0
 After-open-work = Lts.After-open-work (
-  Reads''''''.Asked,
-  Reads''''''.Learnt,
+  Reads'''''''.Asked,
+  Reads'''''''.Learnt,
   Reads.Asked,
   Reads.Learnt,
-  Reads'''''.Asked,
-  Reads'''''.Learnt,
+  Reads''''.Asked,
+  Reads''''.Learnt,
+  Reads''''''.Asked,
+  Reads''''''.Learnt,
   Reads'''.Asked,
   Reads'''.Learnt,
   Reads''.Asked,
   Reads''.Learnt,
-  Reads''''.Asked,
-  Reads''''.Learnt,
-) Reads'.Pre Reads'.Post
+  Reads'''''.Asked,
+  Reads'''''.Learnt,
+)
+    Reads'.Pre Reads'.Post
 
 abbrev pub After-pending-work : Type 0
 After-pending-work = Lts.After-pending-work (
-  Reads''''''.Asked,
-  Reads''''''.Learnt,
+  Reads'''''''.Asked,
+  Reads'''''''.Learnt,
   Reads.Asked,
   Reads.Learnt,
-  Reads'''''.Asked,
-  Reads'''''.Learnt,
+  Reads''''.Asked,
+  Reads''''.Learnt,
+  Reads''''''.Asked,
+  Reads''''''.Learnt,
   Reads'''.Asked,
   Reads'''.Learnt,
   Reads''.Asked,
   Reads''.Learnt,
-  Reads''''.Asked,
-  Reads''''.Learnt,
-) Reads'.Pre Reads'.Post
+  Reads'''''.Asked,
+  Reads'''''.Learnt,
+)
+    Reads'.Pre Reads'.Post
 
 abbrev pub After-circuit-work : Type 0
 After-circuit-work = Lts.After-circuit-work (
-  Reads''''''.Asked,
-  Reads''''''.Learnt,
+  Reads'''''''.Asked,
+  Reads'''''''.Learnt,
   Reads.Asked,
   Reads.Learnt,
-  Reads'''''.Asked,
-  Reads'''''.Learnt,
+  Reads''''.Asked,
+  Reads''''.Learnt,
+  Reads''''''.Asked,
+  Reads''''''.Learnt,
   Reads'''.Asked,
   Reads'''.Learnt,
   Reads''.Asked,
   Reads''.Learnt,
-  Reads''''.Asked,
-  Reads''''.Learnt,
-) Reads'.Pre Reads'.Post
+  Reads'''''.Asked,
+  Reads'''''.Learnt,
+)
+    Reads'.Pre Reads'.Post
 
 abbrev pub After-open-gathering : Type 0
 After-open-gathering = Lts.After-open-gathering (
-  Reads''''''.Asked,
-  Reads''''''.Learnt,
+  Reads'''''''.Asked,
+  Reads'''''''.Learnt,
   Reads.Asked,
   Reads.Learnt,
-  Reads'''''.Asked,
-  Reads'''''.Learnt,
+  Reads''''.Asked,
+  Reads''''.Learnt,
+  Reads''''''.Asked,
+  Reads''''''.Learnt,
   Reads'''.Asked,
   Reads'''.Learnt,
   Reads''.Asked,
   Reads''.Learnt,
-  Reads''''.Asked,
-  Reads''''.Learnt,
+  Reads'''''.Asked,
+  Reads'''''.Learnt,
 ) Reads'.Pre Reads'.Post
 
 abbrev pub Need-peer-of-requires : Type 0
 Need-peer-of-requires = Lts.Need-peer-of-requires (
-  Reads''''''.Asked,
-  Reads''''''.Learnt,
+  Reads'''''''.Asked,
+  Reads'''''''.Learnt,
   Reads.Asked,
   Reads.Learnt,
-  Reads'''''.Asked,
-  Reads'''''.Learnt,
+  Reads''''.Asked,
+  Reads''''.Learnt,
+  Reads''''''.Asked,
+  Reads''''''.Learnt,
   Reads'''.Asked,
   Reads'''.Learnt,
   Reads''.Asked,
   Reads''.Learnt,
-  Reads''''.Asked,
-  Reads''''.Learnt,
+  Reads'''''.Asked,
+  Reads'''''.Learnt,
 ) Reads'.Pre Reads'.Post
 
 abbrev pub Need-peer-of-requires-2 : Type 0
 Need-peer-of-requires-2 = Lts.Need-peer-of-requires-2 (
-  Reads''''''.Asked,
-  Reads''''''.Learnt,
+  Reads'''''''.Asked,
+  Reads'''''''.Learnt,
   Reads.Asked,
   Reads.Learnt,
-  Reads'''''.Asked,
-  Reads'''''.Learnt,
+  Reads''''.Asked,
+  Reads''''.Learnt,
+  Reads''''''.Asked,
+  Reads''''''.Learnt,
   Reads'''.Asked,
   Reads'''.Learnt,
   Reads''.Asked,
   Reads''.Learnt,
-  Reads''''.Asked,
-  Reads''''.Learnt,
+  Reads'''''.Asked,
+  Reads'''''.Learnt,
 ) Reads'.Pre Reads'.Post
 
 abbrev pub Need-decode-requires : Type 0
 Need-decode-requires = Lts.Need-decode-requires (
-  Reads''''''.Asked,
-  Reads''''''.Learnt,
+  Reads'''''''.Asked,
+  Reads'''''''.Learnt,
   Reads.Asked,
   Reads.Learnt,
-  Reads'''''.Asked,
-  Reads'''''.Learnt,
+  Reads''''.Asked,
+  Reads''''.Learnt,
+  Reads''''''.Asked,
+  Reads''''''.Learnt,
   Reads'''.Asked,
   Reads'''.Learnt,
   Reads''.Asked,
   Reads''.Learnt,
+  Reads'''''.Asked,
+  Reads'''''.Learnt,
+) Reads'.Pre Reads'.Post
+
+abbrev pub Need-first-draw-requires : Type 0
+Need-first-draw-requires = Lts.Need-first-draw-requires (
+  Reads'''''''.Asked,
+  Reads'''''''.Learnt,
+  Reads.Asked,
+  Reads.Learnt,
   Reads''''.Asked,
   Reads''''.Learnt,
+  Reads''''''.Asked,
+  Reads''''''.Learnt,
+  Reads'''.Asked,
+  Reads'''.Learnt,
+  Reads''.Asked,
+  Reads''.Learnt,
+  Reads'''''.Asked,
+  Reads'''''.Learnt,
 ) Reads'.Pre Reads'.Post
 
 abbrev pub Need-open-work-requires : Type 0
 Need-open-work-requires = Lts.Need-open-work-requires (
-  Reads''''''.Asked,
-  Reads''''''.Learnt,
+  Reads'''''''.Asked,
+  Reads'''''''.Learnt,
   Reads.Asked,
   Reads.Learnt,
-  Reads'''''.Asked,
-  Reads'''''.Learnt,
+  Reads''''.Asked,
+  Reads''''.Learnt,
+  Reads''''''.Asked,
+  Reads''''''.Learnt,
   Reads'''.Asked,
   Reads'''.Learnt,
   Reads''.Asked,
   Reads''.Learnt,
-  Reads''''.Asked,
-  Reads''''.Learnt,
+  Reads'''''.Asked,
+  Reads'''''.Learnt,
 ) Reads'.Pre Reads'.Post
 
 abbrev pub Need-pending-work-requires : Type 0
 Need-pending-work-requires = Lts.Need-pending-work-requires (
-  Reads''''''.Asked,
-  Reads''''''.Learnt,
+  Reads'''''''.Asked,
+  Reads'''''''.Learnt,
   Reads.Asked,
   Reads.Learnt,
-  Reads'''''.Asked,
-  Reads'''''.Learnt,
+  Reads''''.Asked,
+  Reads''''.Learnt,
+  Reads''''''.Asked,
+  Reads''''''.Learnt,
   Reads'''.Asked,
   Reads'''.Learnt,
   Reads''.Asked,
   Reads''.Learnt,
-  Reads''''.Asked,
-  Reads''''.Learnt,
+  Reads'''''.Asked,
+  Reads'''''.Learnt,
 ) Reads'.Pre Reads'.Post
 
 abbrev pub Need-circuit-work-requires : Type 0
 Need-circuit-work-requires = Lts.Need-circuit-work-requires (
-  Reads''''''.Asked,
-  Reads''''''.Learnt,
+  Reads'''''''.Asked,
+  Reads'''''''.Learnt,
   Reads.Asked,
   Reads.Learnt,
-  Reads'''''.Asked,
-  Reads'''''.Learnt,
+  Reads''''.Asked,
+  Reads''''.Learnt,
+  Reads''''''.Asked,
+  Reads''''''.Learnt,
   Reads'''.Asked,
   Reads'''.Learnt,
   Reads''.Asked,
   Reads''.Learnt,
-  Reads''''.Asked,
-  Reads''''.Learnt,
+  Reads'''''.Asked,
+  Reads'''''.Learnt,
 ) Reads'.Pre Reads'.Post
 
 abbrev pub Need-open-gathering-requires : Type 0
 Need-open-gathering-requires = Lts.Need-open-gathering-requires (
-  Reads''''''.Asked,
-  Reads''''''.Learnt,
+  Reads'''''''.Asked,
+  Reads'''''''.Learnt,
   Reads.Asked,
   Reads.Learnt,
-  Reads'''''.Asked,
-  Reads'''''.Learnt,
+  Reads''''.Asked,
+  Reads''''.Learnt,
+  Reads''''''.Asked,
+  Reads''''''.Learnt,
   Reads'''.Asked,
   Reads'''.Learnt,
   Reads''.Asked,
   Reads''.Learnt,
-  Reads''''.Asked,
-  Reads''''.Learnt,
+  Reads'''''.Asked,
+  Reads'''''.Learnt,
 ) Reads'.Pre Reads'.Post
 
 abbrev pub Need-returns : Type 0
 Need-returns = Lts.Need-returns (
-  Reads''''''.Asked,
-  Reads''''''.Learnt,
+  Reads'''''''.Asked,
+  Reads'''''''.Learnt,
   Reads.Asked,
   Reads.Learnt,
-  Reads'''''.Asked,
-  Reads'''''.Learnt,
+  Reads''''.Asked,
+  Reads''''.Learnt,
+  Reads''''''.Asked,
+  Reads''''''.Learnt,
   Reads'''.Asked,
   Reads'''.Learnt,
   Reads''.Asked,
   Reads''.Learnt,
-  Reads''''.Asked,
-  Reads''''.Learnt,
-) Reads'.Pre Reads'.Post
+  Reads'''''.Asked,
+  Reads'''''.Learnt,
+)
+    Reads'.Pre Reads'.Post
 
 module _ {M : Type 1} where
   pub spec : (answer : Need-peer-of-requires) → (answer : Need-peer-of-requires-2) → (answer : Need-decode-requires) → (answer :
-      Need-open-work-requires) → (answer : Need-pending-work-requires) → (answer : Need-circuit-work-requires) → (answer :
-      Need-open-gathering-requires) → (answer : Need-returns) → Lts.Closed (
-        Reads''''''.Asked,
-        Reads''''''.Learnt,
+      Need-first-draw-requires) → (answer : Need-open-work-requires) → (answer : Need-pending-work-requires) → (answer : Need-circuit-work-requires) →
+      (answer : Need-open-gathering-requires) → (answer : Need-returns) → Lts.Closed (
+        Reads'''''''.Asked,
+        Reads'''''''.Learnt,
         Reads.Asked,
         Reads.Learnt,
-        Reads'''''.Asked,
-        Reads'''''.Learnt,
+        Reads''''.Asked,
+        Reads''''.Learnt,
+        Reads''''''.Asked,
+        Reads''''''.Learnt,
         Reads'''.Asked,
         Reads'''.Learnt,
         Reads''.Asked,
         Reads''.Learnt,
-        Reads''''.Asked,
-        Reads''''.Learnt,
-      )
-      Reads'.Pre Reads'.Post M
-  spec = λ answer answer' answer'' answer'3 answer'4 answer'5 answer'6 answer'7. Lts.spec (
-    Reads''''''.Asked,
-    Reads''''''.Learnt,
+        Reads'''''.Asked,
+        Reads'''''.Learnt,
+      ) Reads'.Pre Reads'.Post M
+  spec = λ answer answer' answer'' answer'3 answer'4 answer'5 answer'6 answer'7 answer'8. Lts.spec (
+    Reads'''''''.Asked,
+    Reads'''''''.Learnt,
     Reads.Asked,
     Reads.Learnt,
-    Reads'''''.Asked,
-    Reads'''''.Learnt,
+    Reads''''.Asked,
+    Reads''''.Learnt,
+    Reads''''''.Asked,
+    Reads''''''.Learnt,
     Reads'''.Asked,
     Reads'''.Learnt,
     Reads''.Asked,
     Reads''.Learnt,
-    Reads''''.Asked,
-    Reads''''.Learnt,
-  ) Reads'.Pre Reads'.Post answer answer' answer'' answer'3 answer'4 answer'5 answer'6 answer'7
+    Reads'''''.Asked,
+    Reads'''''.Learnt,
+  ) Reads'.Pre Reads'.Post answer answer' answer'' answer'3 answer'4 answer'5
+      answer'6 answer'7 answer'8
 
   pub close : Lts.Closed (
-    Reads''''''.Asked,
-    Reads''''''.Learnt,
+    Reads'''''''.Asked,
+    Reads'''''''.Learnt,
     Reads.Asked,
     Reads.Learnt,
-    Reads'''''.Asked,
-    Reads'''''.Learnt,
+    Reads''''.Asked,
+    Reads''''.Learnt,
+    Reads''''''.Asked,
+    Reads''''''.Learnt,
     Reads'''.Asked,
     Reads'''.Learnt,
     Reads''.Asked,
     Reads''.Learnt,
-    Reads''''.Asked,
-    Reads''''.Learnt,
-  ) Reads'.Pre Reads'.Post M → Statement.statement M
+    Reads'''''.Asked,
+    Reads'''''.Learnt,
+  ) Reads'.Pre Reads'.Post
+      M → Statement.statement M
   unfolding Code.routine Running.tablesOf
-  close = λ closed 𝓤 H 𝓜 𝓖 𝓡. Written.close 5 Kinds.ps Kinds.r Reads'.Ghost Reads'.requires Reads'.ensures Reads'.pre-read Reads'.Pinned Reads'.Owned
+  close = λ closed 𝓤 H 𝓜 𝓖 𝓡. Written.close 6 Kinds.ps Kinds.r Reads'.Ghost Reads'.requires Reads'.ensures Reads'.pre-read Reads'.Pinned Reads'.Owned
       Reads'.post-read record { M = M; 𝓤 = 𝓤; H = H; 𝓜 = 𝓜; 𝓖 = 𝓖; 𝓡 = 𝓡 } Code.env Key.name Code.function (Code.unfolded 𝓤 H 𝓜 𝓡) (λ κs a g. tt) (λ
       κs. Reads'.owns κs record { M = M; 𝓤 = 𝓤; H = H; 𝓜 = 𝓜; 𝓖 = 𝓖; 𝓡 = 𝓡 }) (Reads'.passes record { M = M; 𝓤 = 𝓤; H = H; 𝓜 = 𝓜; 𝓖 = 𝓖; 𝓡 = 𝓡 }) λ g.
-      closed 𝓤 H (𝓖 .A) (Running.givenOf 𝓤 H 𝓜 𝓖) (Run.Over 𝓤 H 𝓜 𝓖 𝓡 Code.env) (Reads''''''.known record { M = M; 𝓤 = 𝓤; H = H; 𝓜 = 𝓜; 𝓖 = 𝓖; 𝓡 = 𝓡 }
-      Code.env Symbol'''.name Symbol'''.routine Code.calls-hnsr-circuit·peer·peer-of (Met'''.met 𝓤 H 𝓜 𝓖 𝓡)) (Reads.known record {
+      closed 𝓤 H (𝓖 .A) (Running.givenOf 𝓤 H 𝓜 𝓖) (Run.Over 𝓤 H 𝓜 𝓖 𝓡 Code.env) (Reads'''''''.known record {
         M = M;
-        𝓤 = 𝓤;
-        H =
-            H;
-        𝓜 = 𝓜;
-        𝓖 = 𝓖;
-        𝓡 = 𝓡;
-      } Code.env Symbol.name Symbol.routine Code.calls-hnsr-body·open-body·OpenBody·decode (Met.met 𝓤 H 𝓜 𝓖 𝓡))
-      (Reads'''''.known record { M = M; 𝓤 = 𝓤; H = H; 𝓜 = 𝓜; 𝓖 = 𝓖; 𝓡 = 𝓡 } Code.env Symbol''.name Symbol''.routine
-      Code.calls-hnsr-circuit·open·open-work (Met''.met 𝓤 H 𝓜 𝓖 𝓡)) (Reads'''.known record { M = M; 𝓤 = 𝓤; H = H; 𝓜 = 𝓜; 𝓖 = 𝓖; 𝓡 = 𝓡 } Code.env
-      Symbol'''''.name Symbol'''''.routine Code.calls-hnsr-circuit·tables·pending·pending-work (Met'''''.met 𝓤 H 𝓜 𝓖 𝓡)) (Reads''.known record {
-        M =
-            M;
         𝓤 = 𝓤;
         H = H;
         𝓜 = 𝓜;
         𝓖 = 𝓖;
         𝓡 = 𝓡;
-      } Code.env Symbol''''.name Symbol''''.routine Code.calls-hnsr-circuit·tables·circuits·circuit-work
-      (Met''''.met 𝓤 H 𝓜 𝓖 𝓡)) (Reads''''.known record { M = M; 𝓤 = 𝓤; H = H; 𝓜 = 𝓜; 𝓖 = 𝓖; 𝓡 = 𝓡 } Code.env Symbol'.name Symbol'.routine
-      Code.calls-hnsr-circuit·open·open-gathering (Met'.met 𝓤 H 𝓜 𝓖 𝓡))
+      } Code.env Symbol''''.name Symbol''''.routine Code.calls-hnsr-circuit·peer·peer-of (Met''''.met 𝓤 H 𝓜 𝓖 𝓡)) (Reads.known record {
+        M = M;
+        𝓤 = 𝓤;
+        H = H;
+        𝓜 = 𝓜;
+        𝓖 = 𝓖;
+        𝓡 = 𝓡;
+      } Code.env Symbol.name Symbol.routine Code.calls-hnsr-body·open-body·OpenBody·decode (Met.met 𝓤 H 𝓜 𝓖 𝓡))
+      (Reads''''.known record { M = M; 𝓤 = 𝓤; H = H; 𝓜 = 𝓜; 𝓖 = 𝓖; 𝓡 = 𝓡 } Code.env Symbol'.name Symbol'.routine
+      Code.calls-hnsr-circuit·draw·first-draw (Met'.met 𝓤 H 𝓜 𝓖 𝓡)) (Reads''''''.known record { M = M; 𝓤 = 𝓤; H = H; 𝓜 = 𝓜; 𝓖 = 𝓖; 𝓡 = 𝓡 } Code.env
+      Symbol'''.name Symbol'''.routine Code.calls-hnsr-circuit·open·open-work (Met'''.met 𝓤 H 𝓜 𝓖 𝓡)) (Reads'''.known record {
+        M = M;
+        𝓤 = 𝓤;
+        H = H;
+        𝓜
+            = 𝓜;
+        𝓖 = 𝓖;
+        𝓡 = 𝓡;
+      } Code.env Symbol''''''.name Symbol''''''.routine Code.calls-hnsr-circuit·tables·pending·pending-work (Met''''''.met 𝓤 H 𝓜 𝓖
+      𝓡)) (Reads''.known record { M = M; 𝓤 = 𝓤; H = H; 𝓜 = 𝓜; 𝓖 = 𝓖; 𝓡 = 𝓡 } Code.env Symbol'''''.name Symbol'''''.routine
+      Code.calls-hnsr-circuit·tables·circuits·circuit-work (Met'''''.met 𝓤 H 𝓜 𝓖 𝓡)) (Reads'''''.known record {
+        M = M;
+        𝓤 = 𝓤;
+        H = H;
+        𝓜 = 𝓜;
+        𝓖 = 𝓖;
+        𝓡 =
+            𝓡;
+      } Code.env Symbol''.name Symbol''.routine Code.calls-hnsr-circuit·open·open-gathering (Met''.met 𝓤 H 𝓜 𝓖 𝓡))

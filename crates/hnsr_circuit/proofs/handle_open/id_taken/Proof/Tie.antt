@@ -21,6 +21,12 @@ use contract.Running
 abbrev pub Start : Type 0
 Start = Lts.Start (Reads''.Asked, Reads''.Learnt, Reads'.Asked, Reads'.Learnt, Reads'''.Asked, Reads'''.Learnt) Reads.Pre Reads.Post
 
+abbrev pub Then1 : Type 0
+Then1 = Lts.Then1 (Reads''.Asked, Reads''.Learnt, Reads'.Asked, Reads'.Learnt, Reads'''.Asked, Reads'''.Learnt) Reads.Pre Reads.Post
+
+abbrev pub Else1 : Type 0
+Else1 = Lts.Else1 (Reads''.Asked, Reads''.Learnt, Reads'.Asked, Reads'.Learnt, Reads'''.Asked, Reads'''.Learnt) Reads.Pre Reads.Post
+
 abbrev pub After-find-pending-id : Type 0
 After-find-pending-id = Lts.After-find-pending-id (Reads''.Asked, Reads''.Learnt, Reads'.Asked, Reads'.Learnt, Reads'''.Asked, Reads'''.Learnt)
     Reads.Pre Reads.Post
@@ -32,6 +38,9 @@ After-find-circuit-id = Lts.After-find-circuit-id (Reads''.Asked, Reads''.Learnt
 abbrev pub After-either-found : Type 0
 After-either-found = Lts.After-either-found (Reads''.Asked, Reads''.Learnt, Reads'.Asked, Reads'.Learnt, Reads'''.Asked, Reads'''.Learnt) Reads.Pre
     Reads.Post
+
+abbrev pub Need-returns : Type 0
+Need-returns = Lts.Need-returns (Reads''.Asked, Reads''.Learnt, Reads'.Asked, Reads'.Learnt, Reads'''.Asked, Reads'''.Learnt) Reads.Pre Reads.Post
 
 abbrev pub Need-find-pending-id-requires : Type 0
 Need-find-pending-id-requires = Lts.Need-find-pending-id-requires (
@@ -63,14 +72,28 @@ Need-either-found-requires = Lts.Need-either-found-requires (
   Reads'''.Learnt,
 ) Reads.Pre Reads.Post
 
-abbrev pub Need-returns : Type 0
-Need-returns = Lts.Need-returns (Reads''.Asked, Reads''.Learnt, Reads'.Asked, Reads'.Learnt, Reads'''.Asked, Reads'''.Learnt) Reads.Pre Reads.Post
+abbrev pub Need-returns-2 : Type 0
+Need-returns-2 = Lts.Need-returns-2 (Reads''.Asked, Reads''.Learnt, Reads'.Asked, Reads'.Learnt, Reads'''.Asked, Reads'''.Learnt) Reads.Pre
+    Reads.Post
 
 module _ {M : Type 1} where
-  pub spec : (answer : Need-find-pending-id-requires) → (answer : Need-find-circuit-id-requires) → (answer : Need-either-found-requires) → (answer :
-      Need-returns) → Lts.Closed (Reads''.Asked, Reads''.Learnt, Reads'.Asked, Reads'.Learnt, Reads'''.Asked, Reads'''.Learnt) Reads.Pre Reads.Post M
-  spec = λ answer answer' answer'' answer'3. Lts.spec (Reads''.Asked, Reads''.Learnt, Reads'.Asked, Reads'.Learnt, Reads'''.Asked, Reads'''.Learnt)
-      Reads.Pre Reads.Post answer answer' answer'' answer'3
+  pub spec : (answer : Need-returns) → (answer : Need-find-pending-id-requires) → (answer : Need-find-circuit-id-requires) → (answer :
+      Need-either-found-requires) → (answer : Need-returns-2) → Lts.Closed (
+        Reads''.Asked,
+        Reads''.Learnt,
+        Reads'.Asked,
+        Reads'.Learnt,
+        Reads'''.Asked,
+        Reads'''.Learnt,
+      ) Reads.Pre Reads.Post M
+  spec = λ answer answer' answer'' answer'3 answer'4. Lts.spec (
+    Reads''.Asked,
+    Reads''.Learnt,
+    Reads'.Asked,
+    Reads'.Learnt,
+    Reads'''.Asked,
+    Reads'''.Learnt,
+  ) Reads.Pre Reads.Post answer answer' answer'' answer'3 answer'4
 
   pub close : Lts.Closed (Reads''.Asked, Reads''.Learnt, Reads'.Asked, Reads'.Learnt, Reads'''.Asked, Reads'''.Learnt) Reads.Pre Reads.Post M →
       Statement.statement M

@@ -35,6 +35,9 @@ use Rattle.hnsr_circuit.proofs.places.with_pending.Reads as Reads''''''
 use Rattle.hnsr_circuit.proofs.places.with_pending.Symbol as Symbol''''''''
 use Rattle.hnsr_circuit.proofs.queue.send.Met as Met'''''''''
 use Rattle.hnsr_circuit.proofs.queue.send.Symbol as Symbol'''''''''
+use Rattle.hnsr_circuit.proofs.revoking_calls.refused.Met as Met''''''''''
+use Rattle.hnsr_circuit.proofs.revoking_calls.refused.Reads as Reads'''''''''''
+use Rattle.hnsr_circuit.proofs.revoking_calls.refused.Symbol as Symbol''''''''''
 use borrow.Fn.Run
 use borrow.Fn.Written
 use contract.Running
@@ -61,6 +64,8 @@ Start = Lts.Start (
   Reads.Learnt,
   Reads'''.Asked,
   Reads'''.Learnt,
+  Reads'''''''''''.Asked,
+  Reads'''''''''''.Learnt,
 ) Reads'.Pre Reads'.Post
 
 abbrev pub After-slice-known : Type 0
@@ -85,8 +90,9 @@ After-slice-known = Lts.After-slice-known (
   Reads.Learnt,
   Reads'''.Asked,
   Reads'''.Learnt,
-)
-    Reads'.Pre Reads'.Post
+  Reads'''''''''''.Asked,
+  Reads'''''''''''.Learnt,
+) Reads'.Pre Reads'.Post
 
 abbrev pub After-ticket : Type 0
 After-ticket = Lts.After-ticket (
@@ -110,8 +116,9 @@ After-ticket = Lts.After-ticket (
   Reads.Learnt,
   Reads'''.Asked,
   Reads'''.Learnt,
-)
-    Reads'.Pre Reads'.Post
+  Reads'''''''''''.Asked,
+  Reads'''''''''''.Learnt,
+) Reads'.Pre Reads'.Post
 
 abbrev pub After-usage-answer : Type 0
 After-usage-answer = Lts.After-usage-answer (
@@ -135,8 +142,9 @@ After-usage-answer = Lts.After-usage-answer (
   Reads.Learnt,
   Reads'''.Asked,
   Reads'''.Learnt,
-)
-    Reads'.Pre Reads'.Post
+  Reads'''''''''''.Asked,
+  Reads'''''''''''.Learnt,
+) Reads'.Pre Reads'.Post
 
 abbrev pub After-is-taken : Type 0
 After-is-taken = Lts.After-is-taken (
@@ -160,8 +168,35 @@ After-is-taken = Lts.After-is-taken (
   Reads.Learnt,
   Reads'''.Asked,
   Reads'''.Learnt,
-)
-    Reads'.Pre Reads'.Post
+  Reads'''''''''''.Asked,
+  Reads'''''''''''.Learnt,
+) Reads'.Pre Reads'.Post
+
+abbrev pub Then1 : Type 0
+Then1 = Lts.Then1 (
+  Reads''''''.Asked,
+  Reads''''''.Learnt,
+  Reads''''.Asked,
+  Reads''''.Learnt,
+  Reads'''''''''.Asked,
+  Reads'''''''''.Learnt,
+  Reads''.Asked,
+  Reads''.Learnt,
+  Reads''''''''''.Asked,
+  Reads''''''''''.Learnt,
+  Reads'''''.Asked,
+  Reads'''''.Learnt,
+  Reads''''''''.Asked,
+  Reads''''''''.Learnt,
+  Reads'''''''.Asked,
+  Reads'''''''.Learnt,
+  Reads.Asked,
+  Reads.Learnt,
+  Reads'''.Asked,
+  Reads'''.Learnt,
+  Reads'''''''''''.Asked,
+  Reads'''''''''''.Learnt,
+) Reads'.Pre Reads'.Post
 
 abbrev pub After-pending-for : Type 0
 After-pending-for = Lts.After-pending-for (
@@ -185,8 +220,9 @@ After-pending-for = Lts.After-pending-for (
   Reads.Learnt,
   Reads'''.Asked,
   Reads'''.Learnt,
-)
-    Reads'.Pre Reads'.Post
+  Reads'''''''''''.Asked,
+  Reads'''''''''''.Learnt,
+) Reads'.Pre Reads'.Post
 
 abbrev pub After-put-pending-arg : Type 0
 After-put-pending-arg = Lts.After-put-pending-arg (
@@ -210,8 +246,9 @@ After-put-pending-arg = Lts.After-put-pending-arg (
   Reads.Learnt,
   Reads'''.Asked,
   Reads'''.Learnt,
-)
-    Reads'.Pre Reads'.Post
+  Reads'''''''''''.Asked,
+  Reads'''''''''''.Learnt,
+) Reads'.Pre Reads'.Post
 
 abbrev pub After-put-pending : Type 0
 After-put-pending = Lts.After-put-pending (
@@ -235,8 +272,9 @@ After-put-pending = Lts.After-put-pending (
   Reads.Learnt,
   Reads'''.Asked,
   Reads'''.Learnt,
-)
-    Reads'.Pre Reads'.Post
+  Reads'''''''''''.Asked,
+  Reads'''''''''''.Learnt,
+) Reads'.Pre Reads'.Post
 
 abbrev pub After-pending : Type 0
 After-pending = Lts.After-pending (
@@ -260,8 +298,9 @@ After-pending = Lts.After-pending (
   Reads.Learnt,
   Reads'''.Asked,
   Reads'''.Learnt,
-)
-    Reads'.Pre Reads'.Post
+  Reads'''''''''''.Asked,
+  Reads'''''''''''.Learnt,
+) Reads'.Pre Reads'.Post
 
 abbrev pub After-with-pending : Type 0
 After-with-pending = Lts.After-with-pending (
@@ -285,8 +324,9 @@ After-with-pending = Lts.After-with-pending (
   Reads.Learnt,
   Reads'''.Asked,
   Reads'''.Learnt,
-)
-    Reads'.Pre Reads'.Post
+  Reads'''''''''''.Asked,
+  Reads'''''''''''.Learnt,
+) Reads'.Pre Reads'.Post
 
 abbrev pub After-opened : Type 0
 After-opened = Lts.After-opened (
@@ -310,8 +350,9 @@ After-opened = Lts.After-opened (
   Reads.Learnt,
   Reads'''.Asked,
   Reads'''.Learnt,
-)
-    Reads'.Pre Reads'.Post
+  Reads'''''''''''.Asked,
+  Reads'''''''''''.Learnt,
+) Reads'.Pre Reads'.Post
 
 abbrev pub After-incoming-out : Type 0
 After-incoming-out = Lts.After-incoming-out (
@@ -335,8 +376,9 @@ After-incoming-out = Lts.After-incoming-out (
   Reads.Learnt,
   Reads'''.Asked,
   Reads'''.Learnt,
-)
-    Reads'.Pre Reads'.Post
+  Reads'''''''''''.Asked,
+  Reads'''''''''''.Learnt,
+) Reads'.Pre Reads'.Post
 
 abbrev pub After-incoming-for : Type 0
 After-incoming-for = Lts.After-incoming-for (
@@ -360,8 +402,9 @@ After-incoming-for = Lts.After-incoming-for (
   Reads.Learnt,
   Reads'''.Asked,
   Reads'''.Learnt,
-)
-    Reads'.Pre Reads'.Post
+  Reads'''''''''''.Asked,
+  Reads'''''''''''.Learnt,
+) Reads'.Pre Reads'.Post
 
 abbrev pub After-to-bytes : Type 0
 After-to-bytes = Lts.After-to-bytes (
@@ -385,8 +428,9 @@ After-to-bytes = Lts.After-to-bytes (
   Reads.Learnt,
   Reads'''.Asked,
   Reads'''.Learnt,
-)
-    Reads'.Pre Reads'.Post
+  Reads'''''''''''.Asked,
+  Reads'''''''''''.Learnt,
+) Reads'.Pre Reads'.Post
 
 abbrev pub After-send-arg : Type 0
 After-send-arg = Lts.After-send-arg (
@@ -410,8 +454,9 @@ After-send-arg = Lts.After-send-arg (
   Reads.Learnt,
   Reads'''.Asked,
   Reads'''.Learnt,
-)
-    Reads'.Pre Reads'.Post
+  Reads'''''''''''.Asked,
+  Reads'''''''''''.Learnt,
+) Reads'.Pre Reads'.Post
 
 abbrev pub After-send-arg2 : Type 0
 After-send-arg2 = Lts.After-send-arg2 (
@@ -435,8 +480,9 @@ After-send-arg2 = Lts.After-send-arg2 (
   Reads.Learnt,
   Reads'''.Asked,
   Reads'''.Learnt,
-)
-    Reads'.Pre Reads'.Post
+  Reads'''''''''''.Asked,
+  Reads'''''''''''.Learnt,
+) Reads'.Pre Reads'.Post
 
 abbrev pub After-bytes : Type 0
 After-bytes = Lts.After-bytes (
@@ -460,6 +506,8 @@ After-bytes = Lts.After-bytes (
   Reads.Learnt,
   Reads'''.Asked,
   Reads'''.Learnt,
+  Reads'''''''''''.Asked,
+  Reads'''''''''''.Learnt,
 ) Reads'.Pre Reads'.Post
 
 abbrev pub After-send : Type 0
@@ -484,6 +532,8 @@ After-send = Lts.After-send (
   Reads.Learnt,
   Reads'''.Asked,
   Reads'''.Learnt,
+  Reads'''''''''''.Asked,
+  Reads'''''''''''.Learnt,
 ) Reads'.Pre Reads'.Post
 
 abbrev pub After-inflight : Type 0
@@ -508,8 +558,9 @@ After-inflight = Lts.After-inflight (
   Reads.Learnt,
   Reads'''.Asked,
   Reads'''.Learnt,
-)
-    Reads'.Pre Reads'.Post
+  Reads'''''''''''.Asked,
+  Reads'''''''''''.Learnt,
+) Reads'.Pre Reads'.Post
 
 abbrev pub After-out : Type 0
 After-out = Lts.After-out (
@@ -533,6 +584,8 @@ After-out = Lts.After-out (
   Reads.Learnt,
   Reads'''.Asked,
   Reads'''.Learnt,
+  Reads'''''''''''.Asked,
+  Reads'''''''''''.Learnt,
 ) Reads'.Pre Reads'.Post
 
 abbrev pub After-slice-known2 : Type 0
@@ -557,8 +610,61 @@ After-slice-known2 = Lts.After-slice-known2 (
   Reads.Learnt,
   Reads'''.Asked,
   Reads'''.Learnt,
-)
-    Reads'.Pre Reads'.Post
+  Reads'''''''''''.Asked,
+  Reads'''''''''''.Learnt,
+) Reads'.Pre Reads'.Post
+
+abbrev pub Else1 : Type 0
+Else1 = Lts.Else1 (
+  Reads''''''.Asked,
+  Reads''''''.Learnt,
+  Reads''''.Asked,
+  Reads''''.Learnt,
+  Reads'''''''''.Asked,
+  Reads'''''''''.Learnt,
+  Reads''.Asked,
+  Reads''.Learnt,
+  Reads''''''''''.Asked,
+  Reads''''''''''.Learnt,
+  Reads'''''.Asked,
+  Reads'''''.Learnt,
+  Reads''''''''.Asked,
+  Reads''''''''.Learnt,
+  Reads'''''''.Asked,
+  Reads'''''''.Learnt,
+  Reads.Asked,
+  Reads.Learnt,
+  Reads'''.Asked,
+  Reads'''.Learnt,
+  Reads'''''''''''.Asked,
+  Reads'''''''''''.Learnt,
+) Reads'.Pre Reads'.Post
+
+abbrev pub After-refused : Type 0
+After-refused = Lts.After-refused (
+  Reads''''''.Asked,
+  Reads''''''.Learnt,
+  Reads''''.Asked,
+  Reads''''.Learnt,
+  Reads'''''''''.Asked,
+  Reads'''''''''.Learnt,
+  Reads''.Asked,
+  Reads''.Learnt,
+  Reads''''''''''.Asked,
+  Reads''''''''''.Learnt,
+  Reads'''''.Asked,
+  Reads'''''.Learnt,
+  Reads''''''''.Asked,
+  Reads''''''''.Learnt,
+  Reads'''''''.Asked,
+  Reads'''''''.Learnt,
+  Reads.Asked,
+  Reads.Learnt,
+  Reads'''.Asked,
+  Reads'''.Learnt,
+  Reads'''''''''''.Asked,
+  Reads'''''''''''.Learnt,
+) Reads'.Pre Reads'.Post
 
 abbrev pub Need-usage-answer-requires : Type 0
 Need-usage-answer-requires = Lts.Need-usage-answer-requires (
@@ -582,6 +688,8 @@ Need-usage-answer-requires = Lts.Need-usage-answer-requires (
   Reads.Learnt,
   Reads'''.Asked,
   Reads'''.Learnt,
+  Reads'''''''''''.Asked,
+  Reads'''''''''''.Learnt,
 ) Reads'.Pre Reads'.Post
 
 abbrev pub Need-is-taken-requires : Type 0
@@ -606,8 +714,9 @@ Need-is-taken-requires = Lts.Need-is-taken-requires (
   Reads.Learnt,
   Reads'''.Asked,
   Reads'''.Learnt,
-)
-    Reads'.Pre Reads'.Post
+  Reads'''''''''''.Asked,
+  Reads'''''''''''.Learnt,
+) Reads'.Pre Reads'.Post
 
 abbrev pub Need-pending-for-requires : Type 0
 Need-pending-for-requires = Lts.Need-pending-for-requires (
@@ -631,6 +740,8 @@ Need-pending-for-requires = Lts.Need-pending-for-requires (
   Reads.Learnt,
   Reads'''.Asked,
   Reads'''.Learnt,
+  Reads'''''''''''.Asked,
+  Reads'''''''''''.Learnt,
 ) Reads'.Pre Reads'.Post
 
 abbrev pub Need-put-pending-requires : Type 0
@@ -655,6 +766,8 @@ Need-put-pending-requires = Lts.Need-put-pending-requires (
   Reads.Learnt,
   Reads'''.Asked,
   Reads'''.Learnt,
+  Reads'''''''''''.Asked,
+  Reads'''''''''''.Learnt,
 ) Reads'.Pre Reads'.Post
 
 abbrev pub Need-with-pending-requires : Type 0
@@ -679,6 +792,8 @@ Need-with-pending-requires = Lts.Need-with-pending-requires (
   Reads.Learnt,
   Reads'''.Asked,
   Reads'''.Learnt,
+  Reads'''''''''''.Asked,
+  Reads'''''''''''.Learnt,
 ) Reads'.Pre Reads'.Post
 
 abbrev pub Need-opened-requires : Type 0
@@ -703,8 +818,9 @@ Need-opened-requires = Lts.Need-opened-requires (
   Reads.Learnt,
   Reads'''.Asked,
   Reads'''.Learnt,
-)
-    Reads'.Pre Reads'.Post
+  Reads'''''''''''.Asked,
+  Reads'''''''''''.Learnt,
+) Reads'.Pre Reads'.Post
 
 abbrev pub Need-incoming-out-requires : Type 0
 Need-incoming-out-requires = Lts.Need-incoming-out-requires (
@@ -728,6 +844,8 @@ Need-incoming-out-requires = Lts.Need-incoming-out-requires (
   Reads.Learnt,
   Reads'''.Asked,
   Reads'''.Learnt,
+  Reads'''''''''''.Asked,
+  Reads'''''''''''.Learnt,
 ) Reads'.Pre Reads'.Post
 
 abbrev pub Need-incoming-for-requires : Type 0
@@ -752,6 +870,8 @@ Need-incoming-for-requires = Lts.Need-incoming-for-requires (
   Reads.Learnt,
   Reads'''.Asked,
   Reads'''.Learnt,
+  Reads'''''''''''.Asked,
+  Reads'''''''''''.Learnt,
 ) Reads'.Pre Reads'.Post
 
 abbrev pub Need-to-bytes-requires : Type 0
@@ -776,8 +896,9 @@ Need-to-bytes-requires = Lts.Need-to-bytes-requires (
   Reads.Learnt,
   Reads'''.Asked,
   Reads'''.Learnt,
-)
-    Reads'.Pre Reads'.Post
+  Reads'''''''''''.Asked,
+  Reads'''''''''''.Learnt,
+) Reads'.Pre Reads'.Post
 
 abbrev pub Need-slice-aggregate-send : Type 0
 Need-slice-aggregate-send = Lts.Need-slice-aggregate-send (
@@ -801,6 +922,8 @@ Need-slice-aggregate-send = Lts.Need-slice-aggregate-send (
   Reads.Learnt,
   Reads'''.Asked,
   Reads'''.Learnt,
+  Reads'''''''''''.Asked,
+  Reads'''''''''''.Learnt,
 ) Reads'.Pre Reads'.Post
 
 abbrev pub Need-send-requires : Type 0
@@ -825,8 +948,9 @@ Need-send-requires = Lts.Need-send-requires (
   Reads.Learnt,
   Reads'''.Asked,
   Reads'''.Learnt,
-)
-    Reads'.Pre Reads'.Post
+  Reads'''''''''''.Asked,
+  Reads'''''''''''.Learnt,
+) Reads'.Pre Reads'.Post
 
 abbrev pub Need-same-length : Type 0
 Need-same-length = Lts.Need-same-length (
@@ -850,8 +974,9 @@ Need-same-length = Lts.Need-same-length (
   Reads.Learnt,
   Reads'''.Asked,
   Reads'''.Learnt,
-)
-    Reads'.Pre Reads'.Post
+  Reads'''''''''''.Asked,
+  Reads'''''''''''.Learnt,
+) Reads'.Pre Reads'.Post
 
 abbrev pub Need-same-length-2 : Type 0
 Need-same-length-2 = Lts.Need-same-length-2 (
@@ -875,8 +1000,9 @@ Need-same-length-2 = Lts.Need-same-length-2 (
   Reads.Learnt,
   Reads'''.Asked,
   Reads'''.Learnt,
-)
-    Reads'.Pre Reads'.Post
+  Reads'''''''''''.Asked,
+  Reads'''''''''''.Learnt,
+) Reads'.Pre Reads'.Post
 
 abbrev pub Need-same-length-3 : Type 0
 Need-same-length-3 = Lts.Need-same-length-3 (
@@ -900,8 +1026,9 @@ Need-same-length-3 = Lts.Need-same-length-3 (
   Reads.Learnt,
   Reads'''.Asked,
   Reads'''.Learnt,
-)
-    Reads'.Pre Reads'.Post
+  Reads'''''''''''.Asked,
+  Reads'''''''''''.Learnt,
+) Reads'.Pre Reads'.Post
 
 abbrev pub Need-returns : Type 0
 Need-returns = Lts.Need-returns (
@@ -925,14 +1052,68 @@ Need-returns = Lts.Need-returns (
   Reads.Learnt,
   Reads'''.Asked,
   Reads'''.Learnt,
-)
-    Reads'.Pre Reads'.Post
+  Reads'''''''''''.Asked,
+  Reads'''''''''''.Learnt,
+) Reads'.Pre Reads'.Post
+
+abbrev pub Need-refused-requires : Type 0
+Need-refused-requires = Lts.Need-refused-requires (
+  Reads''''''.Asked,
+  Reads''''''.Learnt,
+  Reads''''.Asked,
+  Reads''''.Learnt,
+  Reads'''''''''.Asked,
+  Reads'''''''''.Learnt,
+  Reads''.Asked,
+  Reads''.Learnt,
+  Reads''''''''''.Asked,
+  Reads''''''''''.Learnt,
+  Reads'''''.Asked,
+  Reads'''''.Learnt,
+  Reads''''''''.Asked,
+  Reads''''''''.Learnt,
+  Reads'''''''.Asked,
+  Reads'''''''.Learnt,
+  Reads.Asked,
+  Reads.Learnt,
+  Reads'''.Asked,
+  Reads'''.Learnt,
+  Reads'''''''''''.Asked,
+  Reads'''''''''''.Learnt,
+) Reads'.Pre Reads'.Post
+
+abbrev pub Need-returns-2 : Type 0
+Need-returns-2 = Lts.Need-returns-2 (
+  Reads''''''.Asked,
+  Reads''''''.Learnt,
+  Reads''''.Asked,
+  Reads''''.Learnt,
+  Reads'''''''''.Asked,
+  Reads'''''''''.Learnt,
+  Reads''.Asked,
+  Reads''.Learnt,
+  Reads''''''''''.Asked,
+  Reads''''''''''.Learnt,
+  Reads'''''.Asked,
+  Reads'''''.Learnt,
+  Reads''''''''.Asked,
+  Reads''''''''.Learnt,
+  Reads'''''''.Asked,
+  Reads'''''''.Learnt,
+  Reads.Asked,
+  Reads.Learnt,
+  Reads'''.Asked,
+  Reads'''.Learnt,
+  Reads'''''''''''.Asked,
+  Reads'''''''''''.Learnt,
+) Reads'.Pre Reads'.Post
 
 module _ {M : Type 1} where
   pub spec : (answer : Need-usage-answer-requires) → (answer : Need-is-taken-requires) → (answer : Need-pending-for-requires) → (answer :
       Need-put-pending-requires) → (answer : Need-with-pending-requires) → (answer : Need-opened-requires) → (answer : Need-incoming-out-requires) →
       (answer : Need-incoming-for-requires) → (answer : Need-to-bytes-requires) → (answer : Need-slice-aggregate-send) → (answer : Need-send-requires)
-      → (answer : Need-same-length) → (answer : Need-same-length-2) → (answer : Need-same-length-3) → (answer : Need-returns) → Lts.Closed (
+      → (answer : Need-same-length) → (answer : Need-same-length-2) → (answer : Need-same-length-3) → (answer : Need-returns) → (answer :
+      Need-refused-requires) → (answer : Need-returns-2) → Lts.Closed (
         Reads''''''.Asked,
         Reads''''''.Learnt,
         Reads''''.Asked,
@@ -953,9 +1134,11 @@ module _ {M : Type 1} where
         Reads.Learnt,
         Reads'''.Asked,
         Reads'''.Learnt,
+        Reads'''''''''''.Asked,
+        Reads'''''''''''.Learnt,
       ) Reads'.Pre Reads'.Post M
-  spec = λ answer answer' answer'' answer'3 answer'4 answer'5 answer'6 answer'7 answer'8 answer'9 answer'10 answer'11 answer'12 answer'13 answer'14.
-      Lts.spec (
+  spec = λ answer answer' answer'' answer'3 answer'4 answer'5 answer'6 answer'7 answer'8 answer'9 answer'10 answer'11 answer'12 answer'13 answer'14
+      answer'15 answer'16. Lts.spec (
         Reads''''''.Asked,
         Reads''''''.Learnt,
         Reads''''.Asked,
@@ -976,8 +1159,10 @@ module _ {M : Type 1} where
         Reads.Learnt,
         Reads'''.Asked,
         Reads'''.Learnt,
-      ) Reads'.Pre Reads'.Post answer answer'
-      answer'' answer'3 answer'4 answer'5 answer'6 answer'7 answer'8 answer'9 answer'10 answer'11 answer'12 answer'13 answer'14
+        Reads'''''''''''.Asked,
+        Reads'''''''''''.Learnt,
+      ) Reads'.Pre Reads'.Post answer answer' answer'' answer'3 answer'4 answer'5 answer'6 answer'7
+      answer'8 answer'9 answer'10 answer'11 answer'12 answer'13 answer'14 answer'15 answer'16
 
   pub close : Lts.Closed (
     Reads''''''.Asked,
@@ -1000,8 +1185,9 @@ module _ {M : Type 1} where
     Reads.Learnt,
     Reads'''.Asked,
     Reads'''.Learnt,
-  ) Reads'.Pre
-      Reads'.Post M → Statement.statement M
+    Reads'''''''''''.Asked,
+    Reads'''''''''''.Learnt,
+  ) Reads'.Pre Reads'.Post M → Statement.statement M
   unfolding Code.routine Running.tablesOf
   close = λ closed 𝓤 H 𝓜 𝓖 𝓡. Written.close 3 Kinds.ps Kinds.r Reads'.Ghost Reads'.requires Reads'.ensures Reads'.pre-read Reads'.Pinned Reads'.Owned
       Reads'.post-read record { M = M; 𝓤 = 𝓤; H = H; 𝓜 = 𝓜; 𝓖 = 𝓖; 𝓡 = 𝓡 } Code.env Key.name Code.function (Code.unfolded 𝓤 H 𝓜 𝓡) (λ κs a g. tt) (λ
@@ -1045,4 +1231,6 @@ module _ {M : Type 1} where
         𝓜 = 𝓜;
         𝓖 = 𝓖;
         𝓡 = 𝓡;
-      } Code.env Symbol'''''''''.name Symbol'''''''''.routine Code.calls-hnsr-circuit·queue·send (Met'''''''''.met 𝓤 H 𝓜 𝓖 𝓡))
+      } Code.env Symbol'''''''''.name Symbol'''''''''.routine Code.calls-hnsr-circuit·queue·send (Met'''''''''.met 𝓤 H 𝓜 𝓖 𝓡)) (Reads'''''''''''.known
+      record { M = M; 𝓤 = 𝓤; H = H; 𝓜 = 𝓜; 𝓖 = 𝓖; 𝓡 = 𝓡 } Code.env Symbol''''''''''.name Symbol''''''''''.routine
+      Code.calls-hnsr-circuit·revoking-calls·refused (Met''''''''''.met 𝓤 H 𝓜 𝓖 𝓡))

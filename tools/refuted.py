@@ -15,19 +15,7 @@ import subprocess
 import sys
 import tempfile
 
-
-def replacements(edit):
-    """The (file, old, new) of an edit file."""
-    found, name, old = [], None, None
-    for line in edit.read_text().splitlines():
-        key, _, value = line.partition(": ")
-        if key == "file":
-            name = value
-        elif key == "old":
-            old = value
-        elif key == "new":
-            found.append((name, old, value))
-    return found
+from edits import BadEdit, applied
 
 
 def check(root, crate):
@@ -53,18 +41,11 @@ def first_error(said, root):
 
 def tried(root, crate, edit):
     """Applies an edit, checks, undoes it: whether it was refused."""
-    before = {}
-    for name, old, new in replacements(edit):
-        path = root / "crates" / crate / name
-        text = path.read_text()
-        if text.count(old) != 1:
-            print(f"{crate}/{edit.stem}: BAD EDIT: 'old:' stands {text.count(old)} times in {name}")
-            return False
-        before.setdefault(path, text)
-        path.write_text(text.replace(old, new))
-    words, refused = verdict(check(root, crate), root)
-    for path, text in before.items():
-        path.write_text(text)
+    try:
+        with applied(edit, root / "crates" / crate):
+            words, refused = verdict(check(root, crate), root)
+    except BadEdit as bad:
+        words, refused = f"BAD EDIT: {bad}", False
     print(f"{crate}/{edit.stem}: {words}", flush=True)
     return refused
 

@@ -14,21 +14,9 @@ import subprocess
 import sys
 import tempfile
 
+from edits import BadEdit, applied
+
 SEED_AND_CALLS = ["7", "300000"]
-
-
-def replacements(edit):
-    """The (file, old, new) of an edit file."""
-    found, name, old = [], None, None
-    for line in edit.read_text().splitlines():
-        key, _, value = line.partition(": ")
-        if key == "file":
-            name = value
-        elif key == "old":
-            old = value
-        elif key == "new":
-            found.append((name, old, value))
-    return found
 
 
 def run(root, environment):
@@ -46,17 +34,11 @@ def run(root, environment):
 
 def found(root, environment, edit):
     """Applies an edit, makes the calls, undoes it: whether a call differs."""
-    before = {}
-    for name, old, new in replacements(edit):
-        path = root / "traces" / name
-        text = path.read_text()
-        if text.count(old) != 1:
-            sys.exit(f"{edit.stem}: BAD EDIT: 'old:' stands {text.count(old)} times in {name}")
-        before.setdefault(path, text)
-        path.write_text(text.replace(old, new))
-    right, said = run(root, environment)
-    for path, text in before.items():
-        path.write_text(text)
+    try:
+        with applied(edit, root / "traces"):
+            right, said = run(root, environment)
+    except BadEdit as bad:
+        sys.exit(f"{edit.stem}: BAD EDIT: {bad}")
     print(f"{edit.stem}: {'NOT FOUND' if right else said}", flush=True)
     return not right
 

@@ -54,7 +54,7 @@ pub fn few_circuits(actions: usize) -> Config {
 
 /// How many records in use the library reads in one reading of what a call goes through: circuits or pending records where there is
 /// none to be found; up to the action that is acknowledged; where nothing is due the three tables but that of actions; else all actions.
-/// None where nothing is in use, or nothing is read.
+/// None where nothing is in use, and where no record is read or a lookup ends at the one that it finds.
 pub fn records(call: Call, config: &Config, level: Level) -> Option<usize> {
     let fill = Fill::share(config, level.share);
     let count = match call {

@@ -21,7 +21,8 @@ use Rattle.hnsr_circuit.specs.declared.records.InflightKind.the-variants
 use Rattle.hnsr_circuit.specs.Inflight.{actionUnder, dropped, tallied, capacityAnswer}
 use Rattle.hnsr_circuit.specs.Header.{countAccept}
 use Rattle.hnsr_circuit.specs.World.{World, Outcome, configOf, proceed, withPending, withCircuits, withInflight, counting}
-use Rattle.hnsr_circuit.specs.Queue.{Message, message, send, opOpened}
+use Rattle.hnsr_circuit.specs.Queue.{Message, message, send}
+use Rattle.hnsr_circuit.specs.Opcode.{opOpened}
 use Rattle.hnsr_circuit.specs.Counts.{circuitCount, reservationWork}
 use Rattle.hnsr_circuit.specs.Packet.{Packet, sender}
 

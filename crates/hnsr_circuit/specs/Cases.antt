@@ -18,7 +18,7 @@ use Rattle.hnsr_circuit.specs.Ledger.{noUsage}
 use Rattle.hnsr_circuit.specs.Inflight.{noAction}
 use Rattle.hnsr_circuit.specs.Header.{newHeader}
 use Rattle.hnsr_circuit.specs.World.{World, Outcome}
-use Rattle.hnsr_circuit.specs.Queue.{opOpen, opAccept, opData, opWindow, opClose, opError}
+use Rattle.hnsr_circuit.specs.Opcode.{opOpen, opAccept, opData, opWindow, opClose, opError}
 use Rattle.hnsr_circuit.specs.Entry.{handleWords, acknowledgeWords}
 use Rattle.hnsr_circuit.specs.Packet.{Admission}
 use Rattle.hnsr_circuit.specs.Call.{Start, Call, callHandle, callAcknowledge}

@@ -104,9 +104,12 @@ moved c used requesterCredit endpointCredit forwarded toRequester toEndpoint = r
 }
 
 -- the mark cleared, and nothing else
+abbrev pub circuitMarked : (used : Bool) → RelayCircuit → RelayCircuit
+circuitMarked used c =
+    moved c used (c .«requester_credit») (c .«endpoint_credit») (c .«forwarded_bytes») (c .«queued_to_requester») (c .«queued_to_endpoint»)
+
 abbrev pub clearCircuit : RelayCircuit → RelayCircuit
-clearCircuit c =
-    moved c false (c .«requester_credit») (c .«endpoint_credit») (c .«forwarded_bytes») (c .«queued_to_requester») (c .«queued_to_endpoint»)
+clearCircuit c = circuitMarked false c
 
 -- DATA of n bytes from a side charges the sender's credit, circuit bytes and the queue toward the other side
 abbrev pub charged : RelaySide → ℕ → RelayCircuit → RelayCircuit

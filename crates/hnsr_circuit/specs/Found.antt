@@ -12,7 +12,7 @@ use Rattle.hnsr_circuit.specs.Circuits.{noCircuit}
 use Rattle.hnsr_circuit.specs.Ledger.{noUsage}
 use Rattle.hnsr_circuit.specs.declared.records.NextDue.the-variants.{At}
 use Rattle.hnsr_circuit.specs.World.{World, dueIs}
-use Rattle.hnsr_circuit.specs.Queue.{opClose, opError}
+use Rattle.hnsr_circuit.specs.Opcode.{opClose, opError}
 use Rattle.hnsr_circuit.specs.Call.{callStatus, callNextDue, callObserveTime, callAcknowledge, callDisconnect, callExpire, start}
 use Rattle.hnsr_circuit.specs.All.{machine}
 use Rattle.hnsr_circuit.specs.Cases.{lent, newAt, requesterPeer, endpointPeer, openCall, acceptCall, packetCall}

@@ -14,7 +14,7 @@ use Rattle.hnsr_circuit.specs.declared.answer.HnsrRuntimeError.the-varia
 use Rattle.hnsr_circuit.specs.Pending.{noPending}
 use Rattle.hnsr_circuit.specs.Circuits.{noCircuit}
 use Rattle.hnsr_circuit.specs.World.{World}
-use Rattle.hnsr_circuit.specs.Queue.{opClose, opError}
+use Rattle.hnsr_circuit.specs.Opcode.{opClose, opError}
 use Rattle.hnsr_circuit.specs.Call.{callReplaceEnabled, callAcknowledge, callDisconnect, callExpire}
 use Rattle.hnsr_circuit.specs.Cases.{requesterPeer, openCall, acceptCall, dataCall}
 use Rattle.hnsr_circuit.specs.FoundWorlds.{peer, pendingOn, circuitOn, usageOn, actionOn, found, free, lastSequence, lastGeneration, answerOf, wordsOf, outputAfter, routes, firstCircuit, headerAfter, actionsAfter, bytesQueued}

@@ -14,7 +14,9 @@ use Rattle.hnsr_circuit.specs.declared.records.InflightAction.{InflightA
 use Rattle.hnsr_circuit.specs.declared.runtime.OpaqueRelayRuntime.{OpaqueRelayRuntime}
 use Rattle.hnsr_circuit.specs.declared.answer.HnsrAnswer.{HnsrAnswer}
 use Rattle.hnsr_circuit.specs.Circuits.{noCircuit}
-use Rattle.hnsr_circuit.specs.Inflight.{noAction}
+use Rattle.hnsr_circuit.specs.Pending.{pendingRecord}
+use Rattle.hnsr_circuit.specs.Ledger.{usageRecord}
+use Rattle.hnsr_circuit.specs.Inflight.{actionRecord, noAction}
 use Rattle.hnsr_circuit.specs.Header.{newHeader, withSequence}
 use Rattle.hnsr_circuit.specs.Route.{Route, outWords, output}
 use Rattle.hnsr_circuit.specs.World.{World, Told, silent, statusIs, dueIs, withHeader}
@@ -37,32 +39,15 @@ foundTicket = record {
 
 unfoldable pub pendingBetween : (id context : ℕ) → (requester endpoint : HnsrPeerId) → RelayPending
 unfolding foundTicket
-pendingBetween id context requester endpoint = record {
-  used = true;
-  «circuit_id» = id;
-  requester = requester;
-  endpoint = endpoint;
-  «requester_context» = context;
-  ticket = foundTicket;
-  «initial_window» = 32768;
-  deadline = 110;
-}
+pendingBetween id context requester endpoint = pendingRecord true id requester endpoint context foundTicket 32768 110
 
 unfoldable pub pendingOn : (id context : ℕ) → RelayPending
 unfolding peer pendingBetween
 pendingOn id context = pendingBetween id context (peer 1) (peer 2)
 
 unfoldable pub until : (deadline : ℕ) → RelayPending → RelayPending
-until deadline p = record {
-  used = p .used;
-  «circuit_id» = p .«circuit_id»;
-  requester = p .requester;
-  endpoint = p .endpoint;
-  «requester_context» = p .«requester_context»;
-  ticket = p .ticket;
-  «initial_window» = p .«initial_window»;
-  deadline = deadline;
-}
+until deadline p =
+    pendingRecord (p .used) (p .«circuit_id») (p .requester) (p .endpoint) (p .«requester_context») (p .ticket) (p .«initial_window») deadline
 
 unfoldable pub circuitOn : (id : ℕ) → (requester endpoint : HnsrPeerId) → (forwarded queued : ℕ) → RelayCircuit
 circuitOn id requester endpoint forwarded queued = record {
@@ -82,12 +67,11 @@ circuitOn id requester endpoint forwarded queued = record {
 }
 
 unfoldable pub usageOn : (low bytes : ℕ) → ReservationUsage
-usageOn low bytes = record { used = true; «reservation_id» = record { high = 0; low = low }; bytes = bytes; «expires_at» = 1000 }
+usageOn low bytes = usageRecord true (record { high = 0; low = low }) bytes 1000
 
 unfoldable pub actionOn : (sequence id kind bytes : ℕ) → InflightAction
 unfolding peer
-actionOn sequence id kind bytes = record
-    { used = true; generation = 1; sequence = sequence; «circuit_id» = id; destination = peer 2; kind = kind; «to_endpoint» = true; bytes = bytes }
+actionOn sequence id kind bytes = actionRecord true 1 sequence id (peer 2) kind true bytes
 
 -- ---- worlds
 unfoldable pub found : List RelayPending → List RelayCircuit → List ReservationUsage → List InflightAction → World

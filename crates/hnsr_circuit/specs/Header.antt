@@ -30,62 +30,34 @@ abbrev pub countRevoked : RuntimeCounters → RuntimeCounters
 countRevoked c = counters (c .«admitted_opens») (c .«opened_circuits») (c .«bytes_sent») (c .«bytes_received») (saturatingAdd 64 (c .«revoked_work») 1)
 
 -- ---- the header
-abbrev pub withClock : OpaqueRelayRuntime → (now : ℕ) → OpaqueRelayRuntime
-withClock h now = record {
-  session = h .session;
-  generation = h .generation;
-  enabled = h .enabled;
-  «trusted_time_high_water» = now;
-  config = h .config;
-  «next_action_sequence» = h .«next_action_sequence»;
-  counters = h .counters;
+abbrev pub header : (session : List ℕ) → (generation : ℕ) → (enabled : Bool) → (clock : ℕ) → OpaqueRelayConfig → (next : ℕ) → RuntimeCounters
+    → OpaqueRelayRuntime
+header session generation enabled clock config next counts = record {
+  session = session;
+  generation = generation;
+  enabled = enabled;
+  «trusted_time_high_water» = clock;
+  config = config;
+  «next_action_sequence» = next;
+  counters = counts;
 }
+
+abbrev pub withClock : OpaqueRelayRuntime → (now : ℕ) → OpaqueRelayRuntime
+withClock h now = header (h .session) (h .generation) (h .enabled) now (h .config) (h .«next_action_sequence») (h .counters)
 
 abbrev pub withSequence : OpaqueRelayRuntime → (next : ℕ) → OpaqueRelayRuntime
-withSequence h next = record {
-  session = h .session;
-  generation = h .generation;
-  enabled = h .enabled;
-  «trusted_time_high_water» = h .«trusted_time_high_water»;
-  config = h .config;
-  «next_action_sequence» = next;
-  counters = h .counters;
-}
+withSequence h next = header (h .session) (h .generation) (h .enabled) (h .«trusted_time_high_water») (h .config) next (h .counters)
 
 abbrev pub withCounters : OpaqueRelayRuntime → RuntimeCounters → OpaqueRelayRuntime
-withCounters h c = record {
-  session = h .session;
-  generation = h .generation;
-  enabled = h .enabled;
-  «trusted_time_high_water» = h .«trusted_time_high_water»;
-  config = h .config;
-  «next_action_sequence» = h .«next_action_sequence»;
-  counters = c;
-}
+withCounters h c = header (h .session) (h .generation) (h .enabled) (h .«trusted_time_high_water») (h .config) (h .«next_action_sequence») c
 
 -- a changed enabled state raises the generation and sets the sequence to 1
 abbrev pub withEnabled : OpaqueRelayRuntime → Bool → OpaqueRelayRuntime
-withEnabled h on = record {
-  session = h .session;
-  generation = h .generation + 1;
-  enabled = on;
-  «trusted_time_high_water» = h .«trusted_time_high_water»;
-  config = h .config;
-  «next_action_sequence» = 1;
-  counters = h .counters;
-}
+withEnabled h on = header (h .session) (h .generation + 1) on (h .«trusted_time_high_water») (h .config) 1 (h .counters)
 
 -- what `new` makes
 abbrev pub newHeader : (session : List ℕ) → (generation : ℕ) → OpaqueRelayConfig → (now : ℕ) → OpaqueRelayRuntime
-newHeader session generation config now = record {
-  session = session;
-  generation = generation;
-  enabled = true;
-  «trusted_time_high_water» = now;
-  config = config;
-  «next_action_sequence» = 1;
-  counters = noCounts;
-}
+newHeader session generation config now = header session generation true now config 1 noCounts
 
 -- what a refused `new` hands back: zeros, and off
 abbrev pub noConfig : OpaqueRelayConfig
@@ -102,12 +74,4 @@ noConfig = record {
 }
 
 abbrev pub noHeader : OpaqueRelayRuntime
-noHeader = record {
-  session = replicate 16 0;
-  generation = 0;
-  enabled = false;
-  «trusted_time_high_water» = 0;
-  config = noConfig;
-  «next_action_sequence» = 0;
-  counters = noCounts;
-}
+noHeader = header (replicate 16 0) 0 false 0 noConfig 0 noCounts

@@ -18,9 +18,21 @@ use Rattle.hnsr_circuit.specs.Table.{also, clear}
 use Rattle.hnsr_circuit.specs.Answers.{check}
 use Rattle.hnsr_circuit.specs.Peer.{noPeer, samePeer}
 
+abbrev pub actionRecord : (used : Bool) → (generation sequence circuit : ℕ) → HnsrPeerId → (kind : ℕ) → (toEndpoint : Bool) → (bytes : ℕ) → InflightAction
+actionRecord used generation sequence circuit destination kind toEndpoint bytes = record {
+  used = used;
+  generation = generation;
+  sequence = sequence;
+  «circuit_id» = circuit;
+  destination = destination;
+  kind = kind;
+  «to_endpoint» = toEndpoint;
+  bytes = bytes;
+}
+
 -- what a table has past its end
 abbrev pub noAction : InflightAction
-noAction = record { used = false; generation = 0; sequence = 0; «circuit_id» = 0; destination = noPeer; kind = 0; «to_endpoint» = false; bytes = 0 }
+noAction = actionRecord false 0 0 0 noPeer 0 false 0
 
 -- ---- kinds: an action's kind is its message's name, but Control for WINDOW and Close for CLOSE and ERROR. A stored kind is a number
 abbrev pub kindNumber : InflightKind → ℕ
@@ -57,17 +69,11 @@ unfoldable pub actionToward : HnsrPeerId → InflightAction → Bool
 actionToward peer a = a .used && samePeer (a .destination) peer
 
 -- ---- changes
+abbrev pub actionMarked : (used : Bool) → InflightAction → InflightAction
+actionMarked used a = actionRecord used (a .generation) (a .sequence) (a .«circuit_id») (a .destination) (a .kind) (a .«to_endpoint») (a .bytes)
+
 abbrev pub clearAction : InflightAction → InflightAction
-clearAction a = record {
-  used = false;
-  generation = a .generation;
-  sequence = a .sequence;
-  «circuit_id» = a .«circuit_id»;
-  destination = a .destination;
-  kind = a .kind;
-  «to_endpoint» = a .«to_endpoint»;
-  bytes = a .bytes;
-}
+clearAction a = actionMarked false a
 
 unfoldable pub dropped : (InflightAction → Bool) → List InflightAction → List InflightAction
 dropped p inflight = clear clearAction p inflight

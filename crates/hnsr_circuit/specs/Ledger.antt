@@ -14,9 +14,12 @@ use Rattle.hnsr_circuit.specs.Table.{any, pick, put, clear}
 use Rattle.hnsr_circuit.specs.Answers.{check}
 use Rattle.hnsr_circuit.specs.Pending.{noReservation}
 
+abbrev pub usageRecord : (used : Bool) → (id : ReservationId) → (bytes expires : ℕ) → ReservationUsage
+usageRecord used id bytes expires = record { used = used; «reservation_id» = id; bytes = bytes; «expires_at» = expires }
+
 -- what a table has past its end
 abbrev pub noUsage : ReservationUsage
-noUsage = record { used = false; «reservation_id» = noReservation; bytes = 0; «expires_at» = 0 }
+noUsage = usageRecord false noReservation 0 0
 
 -- ---- questions
 unfoldable pub isUsage : ReservationUsage → Bool
@@ -30,15 +33,18 @@ unfoldable pub usageOver : (now : ℕ) → ReservationUsage → Bool
 usageOver now u = u .used && leb (u .«expires_at») now
 
 -- ---- changes
+abbrev pub usageMarked : (used : Bool) → ReservationUsage → ReservationUsage
+usageMarked used u = usageRecord used (u .«reservation_id») (u .bytes) (u .«expires_at»)
+
 abbrev pub clearUsage : ReservationUsage → ReservationUsage
-clearUsage u = record { used = false; «reservation_id» = u .«reservation_id»; bytes = u .bytes; «expires_at» = u .«expires_at» }
+clearUsage u = usageMarked false u
 
 abbrev pub freshUsage : RelayTicket → ReservationUsage
-freshUsage t = record { used = true; «reservation_id» = t .«reservation_id»; bytes = 0; «expires_at» = t .«expires_at» }
+freshUsage t = usageRecord true (t .«reservation_id») 0 (t .«expires_at»)
 
 -- DATA of n bytes
 abbrev pub spent : ℕ → ReservationUsage → ReservationUsage
-spent n u = record { used = u .used; «reservation_id» = u .«reservation_id»; bytes = saturatingAdd 64 (u .bytes) n; «expires_at» = u .«expires_at» }
+spent n u = usageRecord (u .used) (u .«reservation_id») (saturatingAdd 64 (u .bytes) n) (u .«expires_at»)
 
 -- ---- the whole table
 -- ledger records with expiry not after now are dropped

@@ -1,7 +1,8 @@
 -- ---- tables of any record
 pub mod Table
--- ---- answers, the configuration, the records
+-- ---- answers, opcodes, the configuration, the records
 pub mod Answers
+pub mod Opcode
 pub mod Config
 pub mod Peer
 pub mod Pending

@@ -35,7 +35,7 @@ dataOn q c peer n = record {
   bytes = n;
 }
 
--- a CLOSE or ERROR about a circuit; to the other side of a pending record
+-- a CLOSE or ERROR about a circuit or pending record; to the other side of a pending record
 abbrev pub closeOn : HnsrPeerId → (circuit opcode context : ℕ) → Outgoing
 closeOn destination circuit opcode context = record {
   destination = destination;

@@ -21,13 +21,14 @@ use Rattle.hns_encoding.specs.Sums.{count}
 use Rattle.hnsr_circuit.specs.Table.{any, put}
 use Rattle.hnsr_circuit.specs.Answers.{check, bodyAnswer, _then_}
 use Rattle.hnsr_circuit.specs.Peer.{peerOf, samePeer}
-use Rattle.hnsr_circuit.specs.Pending.{isPending, pendingAt, requestedBy}
+use Rattle.hnsr_circuit.specs.Pending.{pendingRecord, isPending, pendingAt, requestedBy}
 use Rattle.hnsr_circuit.specs.Ledger.{isUsage, lapsed, hasUsage, usageOf, booked, ledgerAnswer, usageAnswer}
 use Rattle.hnsr_circuit.specs.declared.records.InflightKind.the-variants.{Incoming}
 use Rattle.hnsr_circuit.specs.Inflight.{tallied, capacityAnswer}
 use Rattle.hnsr_circuit.specs.Header.{countOpen}
 use Rattle.hnsr_circuit.specs.World.{World, Outcome, configOf, proceed, withPending, withLedger, counting}
-use Rattle.hnsr_circuit.specs.Queue.{Message, message, send, opIncoming}
+use Rattle.hnsr_circuit.specs.Queue.{Message, message, send}
+use Rattle.hnsr_circuit.specs.Opcode.{opIncoming}
 use Rattle.hnsr_circuit.specs.Counts.{pendingCount, circuitCount, peerWork, reservationWork}
 use Rattle.hnsr_circuit.specs.Entry.{peerAnswer}
 use Rattle.hnsr_circuit.specs.Packet.{Packet, sender}
@@ -70,16 +71,7 @@ pub record Opening : Type 0 where
   pub deadline : ℕ
 
 abbrev pub pendingFor : Opening → RelayPending
-pendingFor o = record {
-  used = true;
-  «circuit_id» = o .id;
-  requester = o .requester;
-  endpoint = o .endpoint;
-  «requester_context» = o .context;
-  ticket = o .ticket;
-  «initial_window» = o .body .«initial_window»;
-  deadline = o .deadline;
-}
+pendingFor o = pendingRecord true (o .id) (o .requester) (o .endpoint) (o .context) (o .ticket) (o .body .«initial_window») (o .deadline)
 
 -- ticket, profile, nonce and window are the OPEN's
 abbrev pub incomingFor : Opening → IncomingBody

@@ -15,10 +15,21 @@ noReservation = record { high = 0; low = 0 }
 abbrev pub noTicket : RelayTicket
 noTicket = record { «reservation_id» = noReservation; «expires_at» = 0; «max_active_circuits» = 0; «max_bytes_per_circuit» = 0; «max_total_bytes» = 0 }
 
+abbrev pub pendingRecord : (used : Bool) → (id : ℕ) → (requester endpoint : HnsrPeerId) → (context : ℕ) → RelayTicket → (window deadline : ℕ) → RelayPending
+pendingRecord used id requester endpoint context ticket window deadline = record {
+  used = used;
+  «circuit_id» = id;
+  requester = requester;
+  endpoint = endpoint;
+  «requester_context» = context;
+  ticket = ticket;
+  «initial_window» = window;
+  deadline = deadline;
+}
+
 -- what a table has past its end
 abbrev pub noPending : RelayPending
-noPending = record
-    { used = false; «circuit_id» = 0; requester = noPeer; endpoint = noPeer; «requester_context» = 0; ticket = noTicket; «initial_window» = 0; deadline = 0 }
+noPending = pendingRecord false 0 noPeer noPeer 0 noTicket 0 0
 
 abbrev pub pendingId : RelayPending → ℕ
 pendingId p = p .«circuit_id»
@@ -60,14 +71,9 @@ unfoldable pub pendingOver : (now : ℕ) → RelayPending → Bool
 pendingOver now p = p .used && overdue now p
 
 -- ---- the mark cleared, and nothing else
+abbrev pub pendingMarked : (used : Bool) → RelayPending → RelayPending
+pendingMarked used p =
+    pendingRecord used (p .«circuit_id») (p .requester) (p .endpoint) (p .«requester_context») (p .ticket) (p .«initial_window») (p .deadline)
+
 abbrev pub clearPending : RelayPending → RelayPending
-clearPending p = record {
-  used = false;
-  «circuit_id» = p .«circuit_id»;
-  requester = p .requester;
-  endpoint = p .endpoint;
-  «requester_context» = p .«requester_context»;
-  ticket = p .ticket;
-  «initial_window» = p .«initial_window»;
-  deadline = p .deadline;
-}
+clearPending p = pendingMarked false p

@@ -19,13 +19,10 @@ use Rattle.hnsr_circuit.specs.declared.runtime.Relayed.{Relayed}
 use Rattle.hnsr_circuit.specs.declared.runtime.Sending.{Sending}
 use Rattle.hnsr_circuit.specs.declared.answer.HnsrAnswer.{HnsrAnswer}
 use Rattle.hnsr_circuit.specs.Route.{Route, routeWords, outWords, output}
-use Rattle.hnsr_circuit.specs.World.{World, Outcome}
+use Rattle.hnsr_circuit.specs.World.{World, Outcome, worldOf}
 use Rattle.hnsr_circuit.specs.Queue.{Message, Sent}
 use Rattle.hnsr_circuit.specs.Packet.{Packet}
 use Rattle.hnsr_circuit.specs.declared.records.RelayPacket.{RelayPacket}
-
-abbrev pub worldOf : OpaqueRelayRuntime → List RelayPending → List RelayCircuit → List ReservationUsage → List InflightAction → World
-worldOf h p c l i = record { header = h; pending = p; circuits = c; ledger = l; inflight = i }
 
 -- the message that the code sends with a body
 abbrev pub messageOf : Outgoing → (body : List ℕ) → Message

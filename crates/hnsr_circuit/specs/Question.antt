@@ -52,10 +52,6 @@ ofPeer peer = asks Of 0 0 peer noReservation
 abbrev pub under : ReservationId → Question
 under id = asks Under 0 0 noPeer id
 
--- an action's is by circuit id
-abbrev pub underCircuit : ℕ → Question
-underCircuit id = asks Under id 0 noPeer noReservation
-
 abbrev pub over : (now : ℕ) → Question
 over now = asks Over now 0 noPeer noReservation
 

@@ -20,35 +20,10 @@ use Rattle.hnsr_circuit.specs.declared.answer.HnsrRuntimeError.the-varia
 use Rattle.hnsr_circuit.specs.Table.{any, placeOf, put}
 use Rattle.hnsr_circuit.specs.Answers.{check, _then_}
 use Rattle.hnsr_circuit.specs.declared.records.InflightKind.{InflightKind}
-use Rattle.hnsr_circuit.specs.Inflight.{kindNumber, isAction, actionAt, tallied, capacityAnswer}
+use Rattle.hnsr_circuit.specs.Inflight.{actionRecord, kindNumber, isAction, actionAt, tallied, capacityAnswer}
 use Rattle.hnsr_circuit.specs.Route.{Route}
 use Rattle.hnsr_circuit.specs.Header.{withSequence}
 use Rattle.hnsr_circuit.specs.World.{World, Outcome, configOf, done, proceed, withHeader, withInflight}
-
--- ---- opcodes
-abbrev pub opOpen : ℕ
-opOpen = 13
-
-abbrev pub opIncoming : ℕ
-opIncoming = 14
-
-abbrev pub opAccept : ℕ
-opAccept = 15
-
-abbrev pub opOpened : ℕ
-opOpened = 16
-
-abbrev pub opData : ℕ
-opData = 17
-
-abbrev pub opWindow : ℕ
-opWindow = 18
-
-abbrev pub opClose : ℕ
-opClose = 19
-
-abbrev pub opError : ℕ
-opError = 20
 
 -- ---- a message: where it goes, the circuit that it is about, the packet, and what its action holds. The direction and the bytes are
 -- of Data alone
@@ -83,16 +58,7 @@ actionsScanned q t = record {
 }
 
 abbrev pub actionFor : Message → (generation sequence : ℕ) → InflightAction
-actionFor m generation sequence = record {
-  used = true;
-  generation = generation;
-  sequence = sequence;
-  «circuit_id» = m .circuit;
-  destination = m .destination;
-  kind = kindNumber (m .kind);
-  «to_endpoint» = m .toEndpoint;
-  bytes = m .bytes;
-}
+actionFor m generation sequence = actionRecord true generation sequence (m .circuit) (m .destination) (kindNumber (m .kind)) (m .toEndpoint) (m .bytes)
 
 abbrev pub routeFor : Message → (generation sequence : ℕ) → Route
 routeFor m generation sequence = record {

@@ -17,7 +17,8 @@ use Rattle.hnsr_circuit.specs.declared.records.InflightKind.the-variants
 use Rattle.hnsr_circuit.specs.Inflight.{actionUnder, dropped}
 use Rattle.hnsr_circuit.specs.Header.{countRevoked}
 use Rattle.hnsr_circuit.specs.World.{World, Outcome, withPending, withCircuits, withInflight, counting}
-use Rattle.hnsr_circuit.specs.Queue.{Message, message, Sent, silently, andThen, when, finished, tell, opClose, opError}
+use Rattle.hnsr_circuit.specs.Queue.{Message, message, Sent, silently, andThen, when, finished, tell}
+use Rattle.hnsr_circuit.specs.Opcode.{opClose, opError}
 use Rattle.hnsr_circuit.specs.Packet.{hasCircuit}
 
 -- ---- the end of a record: its mark is cleared, the actions under its id are dropped, revoked_work counts

@@ -8,44 +8,34 @@ use Rattle.hnsr_circuit.specs.declared.peer.HnsrPeerId.{HnsrPeerId}
 use Rattle.hnsr_circuit.specs.declared.records.RelayPending.{RelayPending}
 use Rattle.hnsr_circuit.specs.declared.records.RelayCircuit.{RelayCircuit}
 use Rattle.hnsr_circuit.specs.declared.records.Outgoing.{Outgoing}
-use Rattle.hnsr_circuit.specs.declared.records.InflightKind.the-variants.{Close}
+use Rattle.hnsr_circuit.specs.Message.{closeOn}
 use Rattle.hnsr_circuit.specs.declared.records.Question.{Question}
 use Rattle.hnsr_circuit.specs.declared.revocation.Revoking.{Revoking}
 use Rattle.hnsr_circuit.specs.declared.runtime.OpaqueRelayRuntime.{OpaqueRelayRuntime}
 use Rattle.hnsr_circuit.specs.Peer.{samePeer}
 use Rattle.hnsr_circuit.specs.Header.{countRevoked, withCounters}
 use Rattle.hnsr_circuit.specs.World.{World, Outcome}
-use Rattle.hnsr_circuit.specs.Queue.{Sent, opClose, opError}
+use Rattle.hnsr_circuit.specs.Queue.{Sent}
+use Rattle.hnsr_circuit.specs.Opcode.{opClose, opError}
 use Rattle.hnsr_circuit.specs.Question.{ofPeer, pendingHas, circuitHas}
 use Rattle.hnsr_circuit.specs.Revocation.{revokePending, revokeCircuitThere, revokeAll}
 use Rattle.hnsr_circuit.specs.RevokingCalls.{disconnectPending}
 
 -- ---- a CLOSE or ERROR of the relay's own, but for its body
-abbrev pub closingOut : HnsrPeerId → (circuit opcode context : ℕ) → Outgoing
-closingOut destination circuit opcode context = record {
-  destination = destination;
-  «circuit_id» = circuit;
-  opcode = opcode;
-  «context_id» = context;
-  kind = Close;
-  «to_endpoint» = false;
-  bytes = 0;
-}
-
 abbrev pub errorOut : RelayPending → Outgoing
-errorOut p = closingOut (p .requester) (p .«circuit_id») opError (p .«requester_context»)
+errorOut p = closeOn (p .requester) (p .«circuit_id») opError (p .«requester_context»)
 
 abbrev pub closeOut : RelayPending → Outgoing
-closeOut p = closingOut (p .endpoint) (p .«circuit_id») opClose (p .«circuit_id»)
+closeOut p = closeOn (p .endpoint) (p .«circuit_id») opClose (p .«circuit_id»)
 
 -- to a side of a circuit
 abbrev pub closeSide : RelayCircuit → HnsrPeerId → Outgoing
-closeSide c side = closingOut side (c .«circuit_id») opClose (c .«circuit_id»)
+closeSide c side = closeOn side (c .«circuit_id») opClose (c .«circuit_id»)
 
 -- on disconnect only the other peer of a pending record hears, by CLOSE
 abbrev pub otherOut : HnsrPeerId → RelayPending → Outgoing
 otherOut peer p =
-    cond (samePeer (p .requester) peer) (closeOut p) (closingOut (p .requester) (p .«circuit_id») opClose (p .«requester_context»))
+    cond (samePeer (p .requester) peer) (closeOut p) (closeOn (p .requester) (p .«circuit_id») opClose (p .«requester_context»))
 
 abbrev pub firstOut : Revoking → RelayPending → Outgoing
 firstOut v p = cond (v .disconnecting) (otherOut (v .question .peer) p) (errorOut p)

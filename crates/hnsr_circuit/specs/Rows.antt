@@ -15,7 +15,7 @@ use Rattle.hnsr_circuit.specs.declared.answer.HnsrRuntimeError.{HnsrRunt
 use Rattle.hnsr_circuit.specs.declared.answer.HnsrRuntimeError.the-variants.{Protocol, UnexpectedOpcode}
 use Rattle.hnsr_circuit.specs.Answers.{errorNumber, check, bodyAnswer}
 use Rattle.hnsr_circuit.specs.World.{World, Outcome, refuse, proceed, atTime}
-use Rattle.hnsr_circuit.specs.Queue.{opOpen, opAccept, opData, opWindow, opClose, opError}
+use Rattle.hnsr_circuit.specs.Opcode.{opOpen, opAccept, opData, opWindow, opClose, opError}
 use Rattle.hnsr_circuit.specs.Entry.{handleWords, roomAnswer, peerAnswer, packetAnswer, clockAnswer}
 use Rattle.hnsr_circuit.specs.Packet.{Packet}
 use Rattle.hnsr_circuit.specs.Handle.{handlingOf, dispatch, entryAnswer, gateAnswer, handleGate, handle}

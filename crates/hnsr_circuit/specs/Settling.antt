@@ -5,31 +5,21 @@ use Rattle.hnsr_circuit.specs.declared.records.InflightAction.{InflightA
 use Rattle.hnsr_circuit.specs.declared.records.InflightKind.{InflightKind}
 use Rattle.hnsr_circuit.specs.declared.records.InflightKind.the-variants.{Incoming, Opened, Data, Control, Close}
 use Rattle.hnsr_circuit.specs.declared.acknowledge.SettlePlan.{SettlePlan}
+use Rattle.hnsr_circuit.specs.declared.acknowledge.Settlement.{Settlement}
 use Rattle.hnsr_circuit.specs.Inflight.{kindOf}
 
-abbrev pub lowersFor : InflightKind → Bool
-lowersFor Incoming = false
-lowersFor Opened = false
-lowersFor Data = true
-lowersFor Control = false
-lowersFor Close = false
+abbrev pub settlement : (lowers fails revokes : Bool) → Settlement
+settlement lowers fails revokes = record { lowers = lowers; fails = fails; revokes = revokes }
 
-abbrev pub failsFor : InflightKind → Bool
-failsFor Incoming = true
-failsFor Opened = false
-failsFor Data = false
-failsFor Control = false
-failsFor Close = false
-
-abbrev pub revokesFor : InflightKind → Bool
-revokesFor Incoming = false
-revokesFor Opened = true
-revokesFor Data = true
-revokesFor Control = true
-revokesFor Close = false
+abbrev pub settlementFor : InflightKind → Settlement
+settlementFor Incoming = settlement false true false
+settlementFor Opened = settlement false false true
+settlementFor Data = settlement true false true
+settlementFor Control = settlement false false true
+settlementFor Close = settlement false false false
 
 -- a plan that is the action's
 pub record Settles (plan : SettlePlan) (a : InflightAction) (delivered : Bool) : Type 0 where
   pub id : plan .id ≡ a .«circuit_id»
-  pub fail : plan .fail ≡ (not delivered && failsFor (kindOf (a .kind)))
-  pub revoke : plan .revoke ≡ (not delivered && revokesFor (kindOf (a .kind)))
+  pub fail : plan .fail ≡ (not delivered && settlementFor (kindOf (a .kind)) .fails)
+  pub revoke : plan .revoke ≡ (not delivered && settlementFor (kindOf (a .kind)) .revokes)

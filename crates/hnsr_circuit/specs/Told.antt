@@ -1,4 +1,4 @@
--- What `status`, `next_due` and `new` hand back, as the code does: the answer, and what is told or made where it is taken.
+-- What `status`, `next_due` and `new` hand back, as the code does: the answer, and what is told or made.
 use mathlib.Core.Path.{_≡_}
 use mathlib.Core.Bool.{false, cond}
 use mathlib.Core.List.{List}
@@ -14,8 +14,8 @@ use Rattle.hnsr_circuit.specs.declared.runtime.DueTold.{DueTold}
 use Rattle.hnsr_circuit.specs.declared.runtime.Relayed.{Relayed}
 use Rattle.hnsr_circuit.specs.Answers.{taken}
 use Rattle.hnsr_circuit.specs.Header.{noHeader}
-use Rattle.hnsr_circuit.specs.World.{World, Told, silent, statusIs, dueIs, Outcome}
-use Rattle.hnsr_circuit.specs.Progress.{worldOf}
+use Rattle.hnsr_circuit.specs.Held.{noPlace, everyPlace}
+use Rattle.hnsr_circuit.specs.World.{World, Told, silent, statusIs, dueIs, Outcome, worldOf}
 
 -- a refusal tells nothing: zeros, and never
 abbrev pub noStatus : HnsrRuntimeStatus
@@ -50,9 +50,11 @@ statusTold o = record { answer = o .answer; status = statusIn (o .told) }
 abbrev pub dueTold : Outcome → DueTold
 dueTold o = record { answer = o .answer; due = dueIn (o .told) }
 
--- what `new` hands back: its answer, the tables as they are seen, and the runtime that it makes, or zeros and off where it is refused
+-- what `new` hands back: its answer; the tables as they are seen; the runtime that it makes with no place in use, or, where it is refused,
+-- zeros and off, with the marks alone to decide
 pub record Made (r : Relayed) (p : List RelayPending) (c : List RelayCircuit) (l : List ReservationUsage) (i : List InflightAction) (o : Outcome) : Type 0 where
   pub answer : r .answer ≡ o .answer
   pub tables : worldOf (o .world .header) p c l i ≡ o .world
   pub runtime : r .runtime ≡ cond (taken (o .answer)) (o .world .header) noHeader
+  pub places : r .places ≡ cond (taken (o .answer)) noPlace everyPlace
   pub words : r .words ≡ 0

@@ -23,6 +23,9 @@ pub record World : Type 0 where
   pub ledger : List ReservationUsage
   pub inflight : List InflightAction
 
+abbrev pub worldOf : OpaqueRelayRuntime → List RelayPending → List RelayCircuit → List ReservationUsage → List InflightAction → World
+worldOf h p c l i = record { header = h; pending = p; circuits = c; ledger = l; inflight = i }
+
 abbrev pub configOf : World → OpaqueRelayConfig
 configOf w = w .header .config
 
@@ -56,19 +59,19 @@ proceed w (Refused e) o = refuse w e
 
 -- ---- the world with one part replaced
 abbrev pub withHeader : World → OpaqueRelayRuntime → World
-withHeader w h = record { header = h; pending = w .pending; circuits = w .circuits; ledger = w .ledger; inflight = w .inflight }
+withHeader w h = worldOf h (w .pending) (w .circuits) (w .ledger) (w .inflight)
 
 abbrev pub withPending : World → List RelayPending → World
-withPending w t = record { header = w .header; pending = t; circuits = w .circuits; ledger = w .ledger; inflight = w .inflight }
+withPending w t = worldOf (w .header) t (w .circuits) (w .ledger) (w .inflight)
 
 abbrev pub withCircuits : World → List RelayCircuit → World
-withCircuits w t = record { header = w .header; pending = w .pending; circuits = t; ledger = w .ledger; inflight = w .inflight }
+withCircuits w t = worldOf (w .header) (w .pending) t (w .ledger) (w .inflight)
 
 abbrev pub withLedger : World → List ReservationUsage → World
-withLedger w t = record { header = w .header; pending = w .pending; circuits = w .circuits; ledger = t; inflight = w .inflight }
+withLedger w t = worldOf (w .header) (w .pending) (w .circuits) t (w .inflight)
 
 abbrev pub withInflight : World → List InflightAction → World
-withInflight w t = record { header = w .header; pending = w .pending; circuits = w .circuits; ledger = w .ledger; inflight = t }
+withInflight w t = worldOf (w .header) (w .pending) (w .circuits) (w .ledger) t
 
 abbrev pub atTime : World → (now : ℕ) → World
 atTime w now = withHeader w (withClock (w .header) now)

@@ -14,6 +14,7 @@ use crate::answer::is_taken;
 use crate::config::OpaqueRelayConfig;
 use crate::header::accepted;
 use crate::inflight::capacity_answer;
+use crate::opcode::OPENED;
 use crate::peer::HnsrPeerId;
 use crate::peer::same_peer;
 use crate::pending::overdue;
@@ -27,11 +28,11 @@ use crate::records::RelayCircuit;
 use crate::records::RelayPending;
 use crate::records::Work;
 use crate::records::WorkQuestion;
+use crate::scan::reservation_work;
 use crate::runtime::OpaqueRelayRuntime;
 use hns_encoding::logic::either;
 use hns_encoding::logic::no;
 use hns_encoding::numbers::min_u64;
-use hns_encoding::numbers::saturating_add_usize;
 use hnsr_body::accept_body::AcceptBody;
 use hnsr_body::accept_body::AcceptRead;
 use hnsr_body::accept_body::OpenedBody;
@@ -85,7 +86,7 @@ pub(crate) fn accept_room(
 ) -> HnsrAnswer
     ensures { λ r. ⌜ r ≡ acceptAnswer config pending body circuits (waiting + running) ⌝ }
 {
-    let under = saturating_add_usize(waiting, running);
+    let under = reservation_work(waiting, running);
     accept_answer(config, pending, body, circuits, under)
 }
 
@@ -244,7 +245,7 @@ pub(crate) fn accept_plan(
     let message = Outgoing {
         destination,
         circuit_id: id,
-        opcode: 16,
+        opcode: OPENED,
         context_id: pending.requester_context,
         kind: InflightKind::Opened,
         to_endpoint: false,

@@ -23,7 +23,7 @@ ghost use Rattle.hnsr_circuit.specs.Progress.{messageOf, ending, outcome
 ghost use Rattle.hnsr_circuit.specs.Lookup.{actionFound};
 ghost use Rattle.hnsr_circuit.specs.Question.{at};
 ghost use Rattle.hnsr_circuit.specs.Revoking.{errorOut, revokedIf};
-ghost use Rattle.hnsr_circuit.specs.Settling.{lowersFor, failsFor, revokesFor, Settles};
+ghost use Rattle.hnsr_circuit.specs.Settling.{settlementFor, Settles};
 ghost use Rattle.hnsr_circuit.specs.declared.records.InflightAction.{InflightAction};
 ghost use Rattle.hnsr_circuit.specs.Call.{step, callAcknowledge};
 use crate::answer::HnsrAnswer;
@@ -102,42 +102,43 @@ fn acknowledge_answer(
 
 // ---- what becomes of an action
 
-// For Data that one circuit's queued count is lowered.
-fn lowers(kind: InflightKind) -> bool
-    ensures { λ r. ⌜ r ≡ lowersFor kind ⌝ }
-{
-    match kind {
-        InflightKind::Incoming => false,
-        InflightKind::Opened => false,
-        InflightKind::Data => true,
-        InflightKind::Control => false,
-        InflightKind::Close => false,
-    }
+// What a kind asks for: for Data that one circuit's queued count is lowered; undelivered, Incoming ends the pending record, and Opened, Data
+// and Control revoke the circuit.
+pub struct Settlement {
+    pub lowers: bool,
+    pub fails: bool,
+    pub revokes: bool,
 }
 
-// Undelivered, Incoming ends the pending record.
-fn fails(kind: InflightKind) -> bool
-    ensures { λ r. ⌜ r ≡ failsFor kind ⌝ }
+fn settlement_for(kind: InflightKind) -> Settlement
+    ensures { λ r. ⌜ r ≡ settlementFor kind ⌝ }
 {
     match kind {
-        InflightKind::Incoming => true,
-        InflightKind::Opened => false,
-        InflightKind::Data => false,
-        InflightKind::Control => false,
-        InflightKind::Close => false,
-    }
-}
-
-// Opened, Data, Control revoke the circuit.
-fn revokes(kind: InflightKind) -> bool
-    ensures { λ r. ⌜ r ≡ revokesFor kind ⌝ }
-{
-    match kind {
-        InflightKind::Incoming => false,
-        InflightKind::Opened => true,
-        InflightKind::Data => true,
-        InflightKind::Control => true,
-        InflightKind::Close => false,
+        InflightKind::Incoming => Settlement {
+            lowers: false,
+            fails: true,
+            revokes: false,
+        },
+        InflightKind::Opened => Settlement {
+            lowers: false,
+            fails: false,
+            revokes: true,
+        },
+        InflightKind::Data => Settlement {
+            lowers: true,
+            fails: false,
+            revokes: true,
+        },
+        InflightKind::Control => Settlement {
+            lowers: false,
+            fails: false,
+            revokes: true,
+        },
+        InflightKind::Close => Settlement {
+            lowers: false,
+            fails: false,
+            revokes: false,
+        },
     }
 }
 
@@ -152,21 +153,19 @@ pub struct SettlePlan {
 }
 
 fn settle_plan(found: ActionFound, delivered: bool) -> SettlePlan
-    ensures { λ r. ⌜ (r .place ≡ found .place) × (r .id ≡ found .action .«circuit_id») × (r .lower ≡ lowersFor (kindOf (found .action .kind))) × (r .side ≡ towardSide (found .action)) × (r .bytes ≡ found .action .bytes) × (r .fail ≡ (not delivered && failsFor (kindOf (found .action .kind)))) × (r .revoke ≡ (not delivered && revokesFor (kindOf (found .action .kind)))) ⌝ }
+    ensures { λ r. ⌜ (r .place ≡ found .place) × (r .id ≡ found .action .«circuit_id») × (r .lower ≡ settlementFor (kindOf (found .action .kind)) .lowers) × (r .side ≡ towardSide (found .action)) × (r .bytes ≡ found .action .bytes) × (r .fail ≡ (not delivered && settlementFor (kindOf (found .action .kind)) .fails)) × (r .revoke ≡ (not delivered && settlementFor (kindOf (found .action .kind)) .revokes)) ⌝ }
 {
     let action = found.action;
     let kind = kind_of(action.kind);
+    let asked = settlement_for(kind);
     let lost = no(delivered);
-    let lower = lowers(kind);
     let side = toward_side(action);
-    let failing = fails(kind);
-    let fail = both(lost, failing);
-    let revoking = revokes(kind);
-    let revoke = both(lost, revoking);
+    let fail = both(lost, asked.fails);
+    let revoke = both(lost, asked.revokes);
     SettlePlan {
         place: found.place,
         id: action.circuit_id,
-        lower,
+        lower: asked.lowers,
         side,
         bytes: action.bytes,
         fail,

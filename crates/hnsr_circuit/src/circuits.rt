@@ -1,7 +1,7 @@
 // Circuits: what is asked of one, what is asked of one by side, and what becomes of one.
 ghost use mathlib.Core.Path.{_≡_};
 ghost use Prim.Native.Nat.{_+_, _-_, _<_};
-ghost use Rattle.hnsr_circuit.specs.Circuits.{noCircuit, moved, clearCircuit, charged, raised, lowered, isCircuit, circuitAt, isSide, circuitOf, circuitUnder, circuitOver, sideOf, otherSide, peerAt, creditOf, queuedTo, queuedBytes, queuedIn};
+ghost use Rattle.hnsr_circuit.specs.Circuits.{noCircuit, clearCircuit, charged, raised, lowered, isCircuit, circuitAt, isSide, circuitOf, circuitUnder, circuitOver, sideOf, otherSide, peerAt, creditOf, queuedTo, queuedBytes, queuedIn};
 ghost use Rattle.hnsr_circuit.specs.Packet.{receiver};
 use crate::ledger::same_reservation;
 use crate::peer::HnsrPeerId;
@@ -159,51 +159,11 @@ pub(crate) fn queued_in(c: RelayCircuit) -> usize
 
 // ---- changes
 
-// A circuit with its mark and its five moving counts replaced: credits, bytes, queues.
-fn moved(
-    c: RelayCircuit,
-    used: bool,
-    requester_credit: u32,
-    endpoint_credit: u32,
-    forwarded: u64,
-    to_requester: usize,
-    to_endpoint: usize,
-) -> RelayCircuit
-    ensures { λ r. ⌜ r ≡ moved c used «requester_credit» «endpoint_credit» forwarded «to_requester» «to_endpoint» ⌝ }
-{
-    let requester = c.requester;
-    let endpoint = c.endpoint;
-    let reservation_id = c.reservation_id;
-    RelayCircuit {
-        used,
-        circuit_id: c.circuit_id,
-        requester,
-        endpoint,
-        reservation_id,
-        expires_at: c.expires_at,
-        maximum_bytes: c.maximum_bytes,
-        maximum_total_bytes: c.maximum_total_bytes,
-        requester_credit,
-        endpoint_credit,
-        forwarded_bytes: forwarded,
-        queued_to_requester: to_requester,
-        queued_to_endpoint: to_endpoint,
-    }
-}
-
 // The mark cleared, and nothing else.
 pub(crate) fn circuit_unmarked(c: RelayCircuit) -> RelayCircuit
     ensures { λ r. ⌜ r ≡ clearCircuit c ⌝ }
 {
-    moved(
-        c,
-        false,
-        c.requester_credit,
-        c.endpoint_credit,
-        c.forwarded_bytes,
-        c.queued_to_requester,
-        c.queued_to_endpoint,
-    )
+    RelayCircuit { used: false, ..c }
 }
 
 fn less_credit(credit: u32, n: usize) -> u32
@@ -217,34 +177,20 @@ fn less_credit(credit: u32, n: usize) -> u32
 pub(crate) fn circuit_charged(c: RelayCircuit, side: RelaySide, n: usize) -> RelayCircuit
     ensures { λ r. ⌜ r ≡ charged side n c ⌝ }
 {
-    let forwarded = saturating_add_u64(c.forwarded_bytes, n as u64);
+    let forwarded_bytes = saturating_add_u64(c.forwarded_bytes, n as u64);
     match side {
-        RelaySide::Requester => {
-            let credit = less_credit(c.requester_credit, n);
-            let queued = saturating_add_usize(c.queued_to_endpoint, n);
-            moved(
-                c,
-                c.used,
-                credit,
-                c.endpoint_credit,
-                forwarded,
-                c.queued_to_requester,
-                queued,
-            )
-        }
-        RelaySide::Endpoint => {
-            let credit = less_credit(c.endpoint_credit, n);
-            let queued = saturating_add_usize(c.queued_to_requester, n);
-            moved(
-                c,
-                c.used,
-                c.requester_credit,
-                credit,
-                forwarded,
-                queued,
-                c.queued_to_endpoint,
-            )
-        }
+        RelaySide::Requester => RelayCircuit {
+            requester_credit: less_credit(c.requester_credit, n),
+            queued_to_endpoint: saturating_add_usize(c.queued_to_endpoint, n),
+            forwarded_bytes,
+            ..c
+        },
+        RelaySide::Endpoint => RelayCircuit {
+            endpoint_credit: less_credit(c.endpoint_credit, n),
+            queued_to_requester: saturating_add_usize(c.queued_to_requester, n),
+            forwarded_bytes,
+            ..c
+        },
     }
 }
 
@@ -264,30 +210,14 @@ pub(crate) fn circuit_raised(c: RelayCircuit, side: RelaySide, delta: u32) -> Re
     ensures { λ r. ⌜ (creditOf (otherSide side) c + delta < 4294967296 → r ≡ raised side delta c) ⌝ }
 {
     match side {
-        RelaySide::Requester => {
-            let credit = more_credit(c.endpoint_credit, delta);
-            moved(
-                c,
-                c.used,
-                c.requester_credit,
-                credit,
-                c.forwarded_bytes,
-                c.queued_to_requester,
-                c.queued_to_endpoint,
-            )
-        }
-        RelaySide::Endpoint => {
-            let credit = more_credit(c.requester_credit, delta);
-            moved(
-                c,
-                c.used,
-                credit,
-                c.endpoint_credit,
-                c.forwarded_bytes,
-                c.queued_to_requester,
-                c.queued_to_endpoint,
-            )
-        }
+        RelaySide::Requester => RelayCircuit {
+            endpoint_credit: more_credit(c.endpoint_credit, delta),
+            ..c
+        },
+        RelaySide::Endpoint => RelayCircuit {
+            requester_credit: more_credit(c.requester_credit, delta),
+            ..c
+        },
     }
 }
 
@@ -296,29 +226,13 @@ pub(crate) fn circuit_lowered(c: RelayCircuit, side: RelaySide, n: usize) -> Rel
     ensures { λ r. ⌜ r ≡ lowered side n c ⌝ }
 {
     match side {
-        RelaySide::Requester => {
-            let queued = saturating_sub_usize(c.queued_to_requester, n);
-            moved(
-                c,
-                c.used,
-                c.requester_credit,
-                c.endpoint_credit,
-                c.forwarded_bytes,
-                queued,
-                c.queued_to_endpoint,
-            )
-        }
-        RelaySide::Endpoint => {
-            let queued = saturating_sub_usize(c.queued_to_endpoint, n);
-            moved(
-                c,
-                c.used,
-                c.requester_credit,
-                c.endpoint_credit,
-                c.forwarded_bytes,
-                c.queued_to_requester,
-                queued,
-            )
-        }
+        RelaySide::Requester => RelayCircuit {
+            queued_to_requester: saturating_sub_usize(c.queued_to_requester, n),
+            ..c
+        },
+        RelaySide::Endpoint => RelayCircuit {
+            queued_to_endpoint: saturating_sub_usize(c.queued_to_endpoint, n),
+            ..c
+        },
     }
 }

@@ -4,7 +4,7 @@ ghost use mathlib.Core.Bool.{cond};
 ghost use Rattle.hnsr_circuit.specs.declared.answer.HnsrAnswer.the-variants.{Taken};
 ghost use Rattle.hnsr_circuit.specs.declared.records.InflightKind.the-variants.{Close};
 ghost use Rattle.hnsr_circuit.specs.Close.{closeAnswer};
-ghost use Rattle.hnsr_circuit.specs.Message.{closeOn, translatedOn};
+ghost use Rattle.hnsr_circuit.specs.Message.{translatedOn};
 ghost use Rattle.hnsr_circuit.specs.Plans.{closeRows, closeId, closeMessage, closePlan};
 use crate::answer::HnsrAnswer;
 use crate::answer::HnsrRuntimeError;
@@ -14,6 +14,7 @@ use crate::answer::first_refusal;
 use crate::answer::is_taken;
 use crate::header::revoked;
 use crate::message::circuit_answer;
+use crate::message::closing;
 use crate::message::passed_on;
 use crate::peer::HnsrPeerId;
 use crate::peer::same_peer;
@@ -63,21 +64,6 @@ pub(crate) fn close_rows(
     first_refusal(body, rest)
 }
 
-// A CLOSE or ERROR about a circuit.
-fn close_on(destination: HnsrPeerId, circuit_id: u64, opcode: u8, context_id: u64) -> Outgoing
-    ensures { λ r. ⌜ r ≡ closeOn destination «circuit_id» opcode «context_id» ⌝ }
-{
-    Outgoing {
-        destination,
-        circuit_id,
-        opcode,
-        context_id,
-        kind: InflightKind::Close,
-        to_endpoint: false,
-        bytes: 0,
-    }
-}
-
 // To the other side of a pending record: the endpoint hears the circuit id, the requester its own context.
 pub(crate) fn translated_on(
     packet: RelayPacket,
@@ -89,14 +75,14 @@ pub(crate) fn translated_on(
     let requester = pending.requester;
     let endpoint = pending.endpoint;
     if same_peer(requester, peer) {
-        return close_on(
+        return closing(
             endpoint,
             pending.circuit_id,
             packet.opcode,
             pending.circuit_id,
         );
     }
-    close_on(
+    closing(
         requester,
         pending.circuit_id,
         packet.opcode,

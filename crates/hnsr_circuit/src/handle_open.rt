@@ -288,7 +288,7 @@ pub(crate) fn handle_open(
     let config = runtime.config;
     let answer = open_rows(config, gathered);
     if is_taken(answer) {
-        drop_lapsed(ledger, places, true, packet.now);
+        drop_lapsed(ledger, places, packet.now);
         return open_lapsed(
             pending,
             circuits,

@@ -13,10 +13,7 @@ pub(crate) fn count_open(counters: RuntimeCounters) -> RuntimeCounters
 {
     RuntimeCounters {
         admitted_opens: saturating_add_u64(counters.admitted_opens, 1),
-        opened_circuits: counters.opened_circuits,
-        bytes_sent: counters.bytes_sent,
-        bytes_received: counters.bytes_received,
-        revoked_work: counters.revoked_work,
+        ..counters
     }
 }
 
@@ -24,11 +21,8 @@ pub(crate) fn count_accept(counters: RuntimeCounters) -> RuntimeCounters
     ensures { λ r. ⌜ r ≡ countAccept counters ⌝ }
 {
     RuntimeCounters {
-        admitted_opens: counters.admitted_opens,
         opened_circuits: saturating_add_u64(counters.opened_circuits, 1),
-        bytes_sent: counters.bytes_sent,
-        bytes_received: counters.bytes_received,
-        revoked_work: counters.revoked_work,
+        ..counters
     }
 }
 
@@ -36,11 +30,9 @@ pub(crate) fn count_bytes(n: u64, counters: RuntimeCounters) -> RuntimeCounters
     ensures { λ r. ⌜ r ≡ countBytes n counters ⌝ }
 {
     RuntimeCounters {
-        admitted_opens: counters.admitted_opens,
-        opened_circuits: counters.opened_circuits,
         bytes_sent: saturating_add_u64(counters.bytes_sent, n),
         bytes_received: saturating_add_u64(counters.bytes_received, n),
-        revoked_work: counters.revoked_work,
+        ..counters
     }
 }
 
@@ -48,11 +40,8 @@ pub(crate) fn count_revoked(counters: RuntimeCounters) -> RuntimeCounters
     ensures { λ r. ⌜ r ≡ countRevoked counters ⌝ }
 {
     RuntimeCounters {
-        admitted_opens: counters.admitted_opens,
-        opened_circuits: counters.opened_circuits,
-        bytes_sent: counters.bytes_sent,
-        bytes_received: counters.bytes_received,
         revoked_work: saturating_add_u64(counters.revoked_work, 1),
+        ..counters
     }
 }
 
@@ -61,34 +50,18 @@ pub(crate) fn count_revoked(counters: RuntimeCounters) -> RuntimeCounters
 pub(crate) fn with_clock(runtime: OpaqueRelayRuntime, now: u64) -> OpaqueRelayRuntime
     ensures { λ r. ⌜ r ≡ withClock runtime now ⌝ }
 {
-    let session = runtime.session;
-    let config = runtime.config;
-    let counters = runtime.counters;
     OpaqueRelayRuntime {
-        session,
-        generation: runtime.generation,
-        enabled: runtime.enabled,
         trusted_time_high_water: now,
-        config,
-        next_action_sequence: runtime.next_action_sequence,
-        counters,
+        ..runtime
     }
 }
 
 pub(crate) fn with_sequence(runtime: OpaqueRelayRuntime, next: u64) -> OpaqueRelayRuntime
     ensures { λ r. ⌜ r ≡ withSequence runtime next ⌝ }
 {
-    let session = runtime.session;
-    let config = runtime.config;
-    let counters = runtime.counters;
     OpaqueRelayRuntime {
-        session,
-        generation: runtime.generation,
-        enabled: runtime.enabled,
-        trusted_time_high_water: runtime.trusted_time_high_water,
-        config,
         next_action_sequence: next,
-        counters,
+        ..runtime
     }
 }
 
@@ -98,16 +71,9 @@ pub(crate) fn with_counters(
 ) -> OpaqueRelayRuntime
     ensures { λ r. ⌜ r ≡ withCounters runtime counters ⌝ }
 {
-    let session = runtime.session;
-    let config = runtime.config;
     OpaqueRelayRuntime {
-        session,
-        generation: runtime.generation,
-        enabled: runtime.enabled,
-        trusted_time_high_water: runtime.trusted_time_high_water,
-        config,
-        next_action_sequence: runtime.next_action_sequence,
         counters,
+        ..runtime
     }
 }
 
@@ -116,17 +82,11 @@ pub(crate) fn with_enabled(runtime: OpaqueRelayRuntime, on: bool) -> OpaqueRelay
     ensures { λ r. ⌜ (runtime .generation < 18446744073709551615 → r ≡ withEnabled runtime on) ⌝ }
 {
     let generation = saturating_add_u64(runtime.generation, 1);
-    let session = runtime.session;
-    let config = runtime.config;
-    let counters = runtime.counters;
     OpaqueRelayRuntime {
-        session,
         generation,
         enabled: on,
-        trusted_time_high_water: runtime.trusted_time_high_water,
-        config,
         next_action_sequence: 1,
-        counters,
+        ..runtime
     }
 }
 
@@ -191,50 +151,43 @@ pub(crate) fn no_runtime() -> OpaqueRelayRuntime
 
 // ---- counted, where a call goes on
 
+fn counted(
+    go: bool,
+    runtime: OpaqueRelayRuntime,
+    counters: RuntimeCounters,
+) -> OpaqueRelayRuntime
+    ensures { λ r. ⌜ r ≡ cond go (withCounters runtime counters) runtime ⌝ }
+{
+    if go {
+        return with_counters(runtime, counters);
+    }
+    runtime
+}
+
 pub(crate) fn opened(go: bool, runtime: OpaqueRelayRuntime) -> OpaqueRelayRuntime
     ensures { λ r. ⌜ r ≡ cond go (withCounters runtime (countOpen (runtime .counters))) runtime ⌝ }
 {
-    let before = runtime.counters;
-    let counters = count_open(before);
-    let counted = with_counters(runtime, counters);
-    if go {
-        return counted;
-    }
-    runtime
+    let counters = count_open(runtime.counters);
+    counted(go, runtime, counters)
 }
 
 pub(crate) fn accepted(go: bool, runtime: OpaqueRelayRuntime) -> OpaqueRelayRuntime
     ensures { λ r. ⌜ r ≡ cond go (withCounters runtime (countAccept (runtime .counters))) runtime ⌝ }
 {
-    let before = runtime.counters;
-    let counters = count_accept(before);
-    let counted = with_counters(runtime, counters);
-    if go {
-        return counted;
-    }
-    runtime
+    let counters = count_accept(runtime.counters);
+    counted(go, runtime, counters)
 }
 
 pub(crate) fn transferred(go: bool, runtime: OpaqueRelayRuntime, n: u64) -> OpaqueRelayRuntime
     ensures { λ r. ⌜ r ≡ cond go (withCounters runtime (countBytes n (runtime .counters))) runtime ⌝ }
 {
-    let before = runtime.counters;
-    let counters = count_bytes(n, before);
-    let counted = with_counters(runtime, counters);
-    if go {
-        return counted;
-    }
-    runtime
+    let counters = count_bytes(n, runtime.counters);
+    counted(go, runtime, counters)
 }
 
 pub(crate) fn revoked(go: bool, runtime: OpaqueRelayRuntime) -> OpaqueRelayRuntime
     ensures { λ r. ⌜ r ≡ cond go (withCounters runtime (countRevoked (runtime .counters))) runtime ⌝ }
 {
-    let before = runtime.counters;
-    let counters = count_revoked(before);
-    let counted = with_counters(runtime, counters);
-    if go {
-        return counted;
-    }
-    runtime
+    let counters = count_revoked(runtime.counters);
+    counted(go, runtime, counters)
 }

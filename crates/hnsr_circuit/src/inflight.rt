@@ -125,17 +125,7 @@ pub(crate) fn action_toward(a: InflightAction, peer: HnsrPeerId) -> bool
 pub(crate) fn action_unmarked(a: InflightAction) -> InflightAction
     ensures { λ r. ⌜ r ≡ clearAction a ⌝ }
 {
-    let destination = a.destination;
-    InflightAction {
-        used: false,
-        generation: a.generation,
-        sequence: a.sequence,
-        circuit_id: a.circuit_id,
-        destination,
-        kind: a.kind,
-        to_endpoint: a.to_endpoint,
-        bytes: a.bytes,
-    }
+    InflightAction { used: false, ..a }
 }
 
 // What is left of a record that is dropped, or not.

@@ -63,13 +63,7 @@ pub(crate) fn usage_over(u: ReservationUsage, now: u64) -> bool
 pub(crate) fn usage_unmarked(u: ReservationUsage) -> ReservationUsage
     ensures { λ r. ⌜ r ≡ clearUsage u ⌝ }
 {
-    let reservation_id = u.reservation_id;
-    ReservationUsage {
-        used: false,
-        reservation_id,
-        bytes: u.bytes,
-        expires_at: u.expires_at,
-    }
+    ReservationUsage { used: false, ..u }
 }
 
 pub(crate) fn fresh_usage(ticket: RelayTicket) -> ReservationUsage
@@ -88,12 +82,9 @@ pub(crate) fn fresh_usage(ticket: RelayTicket) -> ReservationUsage
 pub(crate) fn usage_spent(u: ReservationUsage, n: u64) -> ReservationUsage
     ensures { λ r. ⌜ r ≡ spent n u ⌝ }
 {
-    let reservation_id = u.reservation_id;
     ReservationUsage {
-        used: u.used,
-        reservation_id,
         bytes: saturating_add_u64(u.bytes, n),
-        expires_at: u.expires_at,
+        ..u
     }
 }
 

@@ -21,6 +21,7 @@ mod inflight;
 mod ledger;
 mod lookup;
 mod message;
+mod opcode;
 mod open;
 pub mod peer;
 mod pending;

@@ -135,13 +135,11 @@ pub(crate) fn look_up_action(
 }
 
 // Ledger records with expiry not after now, dropped.
-pub(crate) fn drop_lapsed(ledger: &mut [ReservationUsage], places: Places, go: bool, time: u64)
-    ensures { λ _. ⌜ heldLedger places (now (ledger .exit)) ≡ cond go (lapsed time (heldLedger places (now (ledger .entry)))) (heldLedger places (now (ledger .entry))) ⌝ }
+pub(crate) fn drop_lapsed(ledger: &mut [ReservationUsage], places: Places, time: u64)
+    ensures { λ _. ⌜ heldLedger places (now (ledger .exit)) ≡ lapsed time (heldLedger places (now (ledger .entry))) ⌝ }
 {
     let question = over(time);
-    if go {
-        clear_usage(ledger, places, question);
-    }
+    clear_usage(ledger, places, question);
 }
 
 // DATA of n bytes, charged to a ledger record.

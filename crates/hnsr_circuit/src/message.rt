@@ -1,7 +1,7 @@
 // A packet of a circuit: its row, and the message that takes it on to the other side.
 ghost use mathlib.Core.Path.{_≡_};
 ghost use Rattle.hnsr_circuit.specs.Packet.{circuitAnswer};
-ghost use Rattle.hnsr_circuit.specs.Message.{passedOn, dataOn};
+ghost use Rattle.hnsr_circuit.specs.Message.{passedOn, dataOn, closeOn};
 use crate::answer::HnsrAnswer;
 use crate::answer::HnsrRuntimeError;
 use crate::answer::check;
@@ -49,6 +49,26 @@ pub(crate) fn passed_on(
         opcode: packet.opcode,
         context_id: packet.context_id,
         kind,
+        to_endpoint: false,
+        bytes: 0,
+    }
+}
+
+// A CLOSE or ERROR about a circuit or pending record: stored as Close under the circuit id.
+pub(crate) fn closing(
+    destination: HnsrPeerId,
+    circuit_id: u64,
+    opcode: u8,
+    context_id: u64,
+) -> Outgoing
+    ensures { λ r. ⌜ r ≡ closeOn destination «circuit_id» opcode «context_id» ⌝ }
+{
+    Outgoing {
+        destination,
+        circuit_id,
+        opcode,
+        context_id,
+        kind: InflightKind::Close,
         to_endpoint: false,
         bytes: 0,
     }

@@ -16,6 +16,7 @@ use crate::entry::peer_answer;
 use crate::inflight::capacity_answer;
 use crate::ledger::fresh_usage;
 use crate::ledger::ledger_answer;
+use crate::opcode::INCOMING;
 use crate::peer::HnsrPeerId;
 use crate::peer::same_peer;
 use crate::records::ActionScan;
@@ -29,6 +30,7 @@ use crate::records::RelayTicket;
 use crate::records::ReservationUsage;
 use crate::records::Work;
 use crate::records::WorkQuestion;
+use crate::scan::reservation_work;
 use hns_encoding::logic::either;
 use hns_encoding::logic::no;
 use hns_encoding::numbers::min_u64;
@@ -189,7 +191,7 @@ pub(crate) fn endpoint_room(
     ensures { λ r. ⌜ r ≡ endpointAnswer config ticket same (waiting .«of_other» + running .«of_other») (waiting .under + running .under) ⌝ }
 {
     let work = saturating_add_usize(waiting.of_other, running.of_other);
-    let under = saturating_add_usize(waiting.under, running.under);
+    let under = reservation_work(waiting.under, running.under);
     endpoint_answer(config, ticket, same, work, under)
 }
 
@@ -288,7 +290,7 @@ pub(crate) fn incoming_out(plan: OpenPlan) -> Outgoing
     Outgoing {
         destination,
         circuit_id: plan.id,
-        opcode: 14,
+        opcode: INCOMING,
         context_id: plan.id,
         kind: InflightKind::Incoming,
         to_endpoint: false,

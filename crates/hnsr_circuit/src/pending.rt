@@ -38,19 +38,7 @@ pub(crate) fn no_pending() -> RelayPending
 pub(crate) fn pending_unmarked(p: RelayPending) -> RelayPending
     ensures { λ r. ⌜ r ≡ clearPending p ⌝ }
 {
-    let requester = p.requester;
-    let endpoint = p.endpoint;
-    let ticket = p.ticket;
-    RelayPending {
-        used: false,
-        circuit_id: p.circuit_id,
-        requester,
-        endpoint,
-        requester_context: p.requester_context,
-        ticket,
-        initial_window: p.initial_window,
-        deadline: p.deadline,
-    }
+    RelayPending { used: false, ..p }
 }
 
 // ---- questions

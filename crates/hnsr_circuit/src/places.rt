@@ -72,9 +72,7 @@ pub(crate) fn with_pending(places: Places, number: usize) -> Places
 {
     Places {
         pending: number,
-        circuits: places.circuits,
-        ledger: places.ledger,
-        actions: places.actions,
+        ..places
     }
 }
 
@@ -82,10 +80,8 @@ pub(crate) fn with_circuits(places: Places, number: usize) -> Places
     ensures { λ r. ⌜ r ≡ withCircuits number places ⌝ }
 {
     Places {
-        pending: places.pending,
         circuits: number,
-        ledger: places.ledger,
-        actions: places.actions,
+        ..places
     }
 }
 
@@ -93,10 +89,8 @@ pub(crate) fn with_ledger(places: Places, number: usize) -> Places
     ensures { λ r. ⌜ r ≡ withLedger number places ⌝ }
 {
     Places {
-        pending: places.pending,
-        circuits: places.circuits,
         ledger: number,
-        actions: places.actions,
+        ..places
     }
 }
 
@@ -104,10 +98,8 @@ pub(crate) fn with_actions(places: Places, number: usize) -> Places
     ensures { λ r. ⌜ r ≡ withActions number places ⌝ }
 {
     Places {
-        pending: places.pending,
-        circuits: places.circuits,
-        ledger: places.ledger,
         actions: number,
+        ..places
     }
 }
 

@@ -16,10 +16,13 @@ ghost use Rattle.hnsr_circuit.specs.Queue.{finished};
 ghost use Rattle.hnsr_circuit.specs.declared.answer.HnsrAnswer.the-variants.{Taken};
 ghost use Rattle.hnsr_circuit.specs.Progress.{advance, ending};
 ghost use Rattle.hnsr_circuit.specs.Revocation.{revokeCircuitThere, revokeCircuit, walk, pendingTable, circuitTable};
-ghost use Rattle.hnsr_circuit.specs.Revoking.{closingOut, closeSide, errorOut, closeOut, otherOut, firstOut, revokedIf, endingPending, revokingAll};
+ghost use Rattle.hnsr_circuit.specs.Revoking.{closeSide, errorOut, closeOut, otherOut, firstOut, revokedIf, endingPending, revokingAll};
 use crate::answer::HnsrAnswer;
 use crate::circuits::circuit_unmarked;
 use crate::header::revoked;
+use crate::message::closing;
+use crate::opcode::CLOSE;
+use crate::opcode::ERROR;
 use crate::peer::HnsrPeerId;
 use crate::peer::same_peer;
 use crate::pending::pending_unmarked;
@@ -27,7 +30,6 @@ use crate::places::Places;
 use crate::queue::drop_and_tell;
 use crate::queue::tell_notice;
 use crate::records::InflightAction;
-use crate::records::InflightKind;
 use crate::records::Outgoing;
 use crate::records::PendingFound;
 use crate::records::Question;
@@ -46,10 +48,6 @@ use crate::tables::pending::pending_at;
 use crate::tables::pending::set_pending;
 use hns_encoding::logic::no;
 use hnsr_body::messages::Notice;
-
-const CLOSE: u8 = 19;
-
-const ERROR: u8 = 20;
 
 // What a revoking call hands its walks: which records, and by what message. On disconnect only the other peer of a pending record hears.
 pub struct Revoking {
@@ -75,21 +73,6 @@ pub struct EndPlan {
 }
 
 // ---- messages
-
-// A CLOSE or ERROR of the relay's own: stored as Close under the circuit id.
-pub(crate) fn closing(destination: HnsrPeerId, circuit: u64, opcode: u8, context: u64) -> Outgoing
-    ensures { λ r. ⌜ r ≡ closingOut destination circuit opcode context ⌝ }
-{
-    Outgoing {
-        destination,
-        circuit_id: circuit,
-        opcode,
-        context_id: context,
-        kind: InflightKind::Close,
-        to_endpoint: false,
-        bytes: 0,
-    }
-}
 
 // To the requester of a pending record under its own context, to the endpoint under the circuit id.
 pub(crate) fn error_to_requester(pending: RelayPending) -> Outgoing
@@ -148,12 +131,9 @@ fn counted(sending: Sending) -> Sending
     ensures { λ r. ⌜ (r .runtime ≡ revokedIf true (sending .runtime)) × (r .position ≡ sending .position) × (r .places ≡ sending .places) ⌝ }
 {
     let runtime = sending.runtime;
-    let places = sending.places;
-    let after = revoked(true, runtime);
     Sending {
-        runtime: after,
-        position: sending.position,
-        places,
+        runtime: revoked(true, runtime),
+        ..sending
     }
 }
 

@@ -295,7 +295,7 @@ pub fn expire(
     if is_taken(answer) {
         let all = revoking(question, Notice::AcceptanceExpired, Notice::TicketExpired);
         let moved = with_clock(runtime, time);
-        drop_lapsed(ledger, places, true, time);
+        drop_lapsed(ledger, places, time);
         return revoke_all(pending, circuits, inflight, out, moved, places, all, first);
     }
     refused(runtime, places, answer)

@@ -16,7 +16,7 @@ use Rattle.hnsr_circuit.specs.World.{World, Outcome, statusIs}
 use Rattle.hnsr_circuit.specs.Peer.{peerGood, samePeer}
 use Rattle.hnsr_circuit.specs.Circuits.{otherSide, queuedTo}
 use Rattle.hnsr_circuit.specs.Route.{Route}
-use Rattle.hnsr_circuit.specs.Queue.{opOpen, opData}
+use Rattle.hnsr_circuit.specs.Opcode.{opOpen, opData}
 use Rattle.hnsr_circuit.specs.Entry.{handleWords, acknowledgeWords}
 use Rattle.hnsr_circuit.specs.Packet.{Packet, sender, circuitIn}
 use Rattle.hnsr_circuit.specs.Call.{Start, Call, callStatus, callNextDue, callObserveTime, callReplaceEnabled, callHandle, callAcknowledge, callDisconnect, callRevokeReservation, callExpire}

@@ -10,7 +10,7 @@ use Rattle.hnsr_circuit.specs.declared.answer.HnsrAnswer.the-variants.{Refused}
 use Rattle.hnsr_circuit.specs.declared.answer.HnsrRuntimeError.the-variants.{GenerationExhausted, ClockRollback, StaleGeneration}
 use Rattle.hnsr_circuit.specs.declared.records.RelayTicket.{RelayTicket}
 use Rattle.hnsr_circuit.specs.Route.{Route}
-use Rattle.hnsr_circuit.specs.Queue.{opError, opClose}
+use Rattle.hnsr_circuit.specs.Opcode.{opError, opClose}
 use Rattle.hnsr_circuit.specs.Entry.{handleWords}
 use Rattle.hnsr_circuit.specs.Peer.{peerOf}
 use Rattle.hnsr_circuit.specs.Cases.{lent, notAdmitted}

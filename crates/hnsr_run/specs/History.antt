@@ -24,7 +24,7 @@ use Rattle.hnsr_circuit.specs.Peer.{peerOf, samePeer}
 use Rattle.hnsr_circuit.specs.declared.records.InflightKind.the-variants.{Incoming, Close}
 use Rattle.hnsr_circuit.specs.Inflight.{kindNumber, capacityLeft}
 use Rattle.hnsr_circuit.specs.Route.{Route}
-use Rattle.hnsr_circuit.specs.Queue.{opError}
+use Rattle.hnsr_circuit.specs.Opcode.{opError}
 use Rattle.hnsr_circuit.specs.Entry.{handleWords, peerAnswer, packetAnswer, clockAnswer}
 use Rattle.hnsr_circuit.specs.Packet.{Packet, sender}
 use Rattle.hnsr_circuit.specs.Draw.{undrawn, draws, drawAll}

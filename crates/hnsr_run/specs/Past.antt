@@ -21,7 +21,7 @@ use Rattle.hnsr_circuit.specs.Pending.{noReservation, noTicket}
 use Rattle.hnsr_circuit.specs.declared.records.InflightKind.the-variants.{Incoming, Opened, Data, Control, Close}
 use Rattle.hnsr_circuit.specs.Inflight.{kindNumber, toEndpoint}
 use Rattle.hnsr_circuit.specs.Circuits.{otherSide}
-use Rattle.hnsr_circuit.specs.Queue.{opIncoming, opOpened, opData, opWindow}
+use Rattle.hnsr_circuit.specs.Opcode.{opIncoming, opOpened, opData, opWindow}
 use Rattle.hnsr_circuit.specs.Route.{Route}
 
 -- ---- what is known

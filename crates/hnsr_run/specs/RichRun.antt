@@ -7,7 +7,7 @@ use Rattle.hns_encoding.specs.Sums.{total}
 use Rattle.hnsr_circuit.specs.declared.records.RelaySide.the-variants.{Requester, Endpoint}
 use Rattle.hnsr_circuit.specs.Answers.{number}
 use Rattle.hnsr_circuit.specs.World.{World}
-use Rattle.hnsr_circuit.specs.Queue.{opError}
+use Rattle.hnsr_circuit.specs.Opcode.{opError}
 use Rattle.hnsr_circuit.specs.Entry.{handleWords, acknowledgeWords}
 use Rattle.hnsr_circuit.specs.Cases.{lent, notAdmitted}
 use Rattle.hnsr_circuit.specs.Call.{Call, start, step, callStatus, callNextDue, callObserveTime, callReplaceEnabled, callHandle, callDisconnect, callRevokeReservation, callExpire}

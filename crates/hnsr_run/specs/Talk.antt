@@ -8,7 +8,7 @@ use Rattle.hnsr_circuit.specs.declared.config.OpaqueRelayConfig.{OpaqueRelayCon
 use Rattle.hnsr_circuit.specs.declared.records.RelayTicket.{RelayTicket}
 use Rattle.hnsr_circuit.specs.Answers.{number}
 use Rattle.hnsr_circuit.specs.World.{World}
-use Rattle.hnsr_circuit.specs.Queue.{opOpen, opAccept, opData, opWindow, opClose, opError}
+use Rattle.hnsr_circuit.specs.Opcode.{opOpen, opAccept, opData, opWindow, opClose, opError}
 use Rattle.hnsr_circuit.specs.Entry.{handleWords, acknowledgeWords}
 use Rattle.hnsr_circuit.specs.Packet.{Packet}
 use Rattle.hnsr_circuit.specs.Cases.{lent, notAdmitted}

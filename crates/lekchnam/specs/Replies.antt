@@ -15,9 +15,9 @@ use Rattle.hnsr_circuit.specs.declared.runtime.StatusTold.{StatusTold}
 use Rattle.hnsr_circuit.specs.declared.runtime.DueTold.{DueTold}
 use Rattle.hnsr_circuit.specs.Answers.{number, causeOf, taken}
 use Rattle.hnsr_circuit.specs.Header.{noHeader}
-use Rattle.hnsr_circuit.specs.World.{World, Outcome}
-use Rattle.hnsr_circuit.specs.Held.{worldSeen}
-use Rattle.hnsr_circuit.specs.Progress.{worldOf, Result}
+use Rattle.hnsr_circuit.specs.World.{World, Outcome, worldOf}
+use Rattle.hnsr_circuit.specs.Held.{noPlace, everyPlace, worldSeen}
+use Rattle.hnsr_circuit.specs.Progress.{Result}
 use Rattle.lekchnam.specs.declared.relay.RelayReply.{RelayReply}
 use Rattle.lekchnam.specs.declared.relay.StatusReply.{StatusReply}
 use Rattle.lekchnam.specs.declared.relay.DueReply.{DueReply}
@@ -54,12 +54,14 @@ numbered r = record {
   output = r .output;
 }
 
--- what `new` hands back: its answer, the tables as they are seen, and the runtime that it makes, or zeros and off where it is refused
+-- what `new` hands back: its answer; the tables as they are seen; the runtime that it makes with no place in use, or, where it is refused,
+-- zeros and off, with the marks alone to decide
 pub record MadeReply (r : RelayReply) (p : List RelayPending) (c : List RelayCircuit) (l : List ReservationUsage) (i : List InflightAction) (o : Outcome) : Type 0 where
   pub answer : r .answer ≡ number (o .answer)
   pub cause : r .cause ≡ causeOf (o .answer)
   pub tables : worldOf (o .world .header) p c l i ≡ o .world
   pub runtime : r .runtime ≡ cond (taken (o .answer)) (o .world .header) noHeader
+  pub places : r .places ≡ cond (taken (o .answer)) noPlace everyPlace
   pub words : r .words ≡ 0
 
 abbrev pub statusNumbered : StatusTold → StatusReply

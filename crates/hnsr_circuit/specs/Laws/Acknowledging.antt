@@ -21,13 +21,13 @@ use Rattle.hnsr_circuit.specs.Table.{any, pick, placeOf, edit}
 use Rattle.hnsr_circuit.specs.Pending.{noPending, pendingAt, clearPending}
 use Rattle.hnsr_circuit.specs.Circuits.{circuitAt, lowered}
 use Rattle.hnsr_circuit.specs.Inflight.{noAction, actionAt, clearAction, kindOf, towardSide}
-use Rattle.hnsr_circuit.specs.World.{World, Outcome, done}
+use Rattle.hnsr_circuit.specs.World.{World, Outcome, done, worldOf}
 use Rattle.hnsr_circuit.specs.Queue.{Message, finished, send}
-use Rattle.hnsr_circuit.specs.Progress.{worldOf, messageOf, filledTo, placed, result, handedBack, ending}
+use Rattle.hnsr_circuit.specs.Progress.{messageOf, filledTo, placed, result, handedBack, ending}
 use Rattle.hnsr_circuit.specs.Revocation.{withoutPending, errorToRequester, revokeCircuit}
 use Rattle.hnsr_circuit.specs.Acknowledge.{lowerFor, released, failPending, failIncoming, undelivered, settled, acknowledgeAction}
 use Rattle.hnsr_circuit.specs.Revoking.{errorOut, revokedIf}
-use Rattle.hnsr_circuit.specs.Settling.{lowersFor, failsFor, revokesFor}
+use Rattle.hnsr_circuit.specs.Settling.{settlementFor}
 use Rattle.hnsr_circuit.specs.Laws.Lookups.{pick-at}
 use Rattle.hnsr_circuit.specs.Laws.Edits.{edit-set}
 
@@ -58,7 +58,7 @@ module _ (h : OpaqueRelayRuntime) (p : List RelayPending) (c : List RelayCircuit
 
 -- ---- by kind
 module _ (w : World) (a : InflightAction) where
-  fail-by : (k : InflightKind) (d : Bool) → kindOf (a .kind) ≡ k → (not d && failsFor k) ≡ true → failIncoming w (a .«circuit_id») ≡ settled w a d
+  fail-by : (k : InflightKind) (d : Bool) → kindOf (a .kind) ≡ k → (not d && settlementFor k .fails) ≡ true → failIncoming w (a .«circuit_id») ≡ settled w a d
   unfolding settled undelivered
   fail-by k true e t = absurd (false≢true t)
   fail-by Incoming false e t = ap (λ (x : InflightKind). undelivered x w (a .«circuit_id»)) (sym e)
@@ -67,7 +67,7 @@ module _ (w : World) (a : InflightAction) where
   fail-by Control false e t = absurd (false≢true t)
   fail-by Close false e t = absurd (false≢true t)
 
-  revoke-by : (k : InflightKind) (d : Bool) → kindOf (a .kind) ≡ k → (not d && revokesFor k) ≡ true
+  revoke-by : (k : InflightKind) (d : Bool) → kindOf (a .kind) ≡ k → (not d && settlementFor k .revokes) ≡ true
       → finished (revokeCircuit OuterWriteFailed w (a .«circuit_id»)) ≡ settled w a d
   unfolding settled undelivered
   revoke-by k true e t = absurd (false≢true t)
@@ -77,7 +77,7 @@ module _ (w : World) (a : InflightAction) where
   revoke-by Control false e t = ap (λ (x : InflightKind). undelivered x w (a .«circuit_id»)) (sym e)
   revoke-by Close false e t = absurd (false≢true t)
 
-  done-by : (k : InflightKind) (d : Bool) → kindOf (a .kind) ≡ k → (not d && failsFor k) ≡ false → (not d && revokesFor k) ≡ false → done w [] ≡ settled w a d
+  done-by : (k : InflightKind) (d : Bool) → kindOf (a .kind) ≡ k → (not d && settlementFor k .fails) ≡ false → (not d && settlementFor k .revokes) ≡ false → done w [] ≡ settled w a d
   unfolding settled undelivered
   done-by k true e f g = refl
   done-by Incoming false e f g = absurd (true≢false f)
@@ -86,19 +86,19 @@ module _ (w : World) (a : InflightAction) where
   done-by Control false e f g = absurd (true≢false g)
   done-by Close false e f g = ap (λ (x : InflightKind). undelivered x w (a .«circuit_id»)) (sym e)
 
-  pub settled-failed : (d : Bool) → (not d && failsFor (kindOf (a .kind))) ≡ true → failIncoming w (a .«circuit_id») ≡ settled w a d
+  pub settled-failed : (d : Bool) → (not d && settlementFor (kindOf (a .kind)) .fails) ≡ true → failIncoming w (a .«circuit_id») ≡ settled w a d
   settled-failed d t = fail-by (kindOf (a .kind)) d refl t
 
-  pub settled-revoked : (d : Bool) → (not d && revokesFor (kindOf (a .kind))) ≡ true
+  pub settled-revoked : (d : Bool) → (not d && settlementFor (kindOf (a .kind)) .revokes) ≡ true
       → finished (revokeCircuit OuterWriteFailed w (a .«circuit_id»)) ≡ settled w a d
   settled-revoked d t = revoke-by (kindOf (a .kind)) d refl t
 
-  pub settled-done : (d : Bool) → (not d && failsFor (kindOf (a .kind))) ≡ false → (not d && revokesFor (kindOf (a .kind))) ≡ false → done w [] ≡ settled w a d
+  pub settled-done : (d : Bool) → (not d && settlementFor (kindOf (a .kind)) .fails) ≡ false → (not d && settlementFor (kindOf (a .kind)) .revokes) ≡ false → done w [] ≡ settled w a d
   settled-done d f g = done-by (kindOf (a .kind)) d refl f g
 
 -- ---- the action removed, its queue lowered
 lowers-by : (k : InflightKind) (a : InflightAction) (c : List RelayCircuit)
-    → cond (lowersFor k) (edit (circuitAt (a .«circuit_id»)) (lowered (towardSide a) (a .bytes)) c) c ≡ lowerFor k a c
+    → cond (settlementFor k .lowers) (edit (circuitAt (a .«circuit_id»)) (lowered (towardSide a) (a .bytes)) c) c ≡ lowerFor k a c
 unfolding lowerFor
 lowers-by Incoming a c = refl
 lowers-by Opened a c = refl
@@ -109,7 +109,7 @@ lowers-by Close a c = refl
 pub action-settled : (h : OpaqueRelayRuntime) (p : List RelayPending) (c : List RelayCircuit) (l : List ReservationUsage) (i : List InflightAction) (generation sequence : ℕ) (d : Bool)
     (c′ : List RelayCircuit) (i′ : List InflightAction) (a : InflightAction) → a ≡ pick (actionAt generation sequence) noAction i
     → i′ ≡ set i (placeOf (actionAt generation sequence) i) (clearAction a)
-    → c′ ≡ cond (lowersFor (kindOf (a .kind))) (edit (circuitAt (a .«circuit_id»)) (lowered (towardSide a) (a .bytes)) c) c
+    → c′ ≡ cond (settlementFor (kindOf (a .kind)) .lowers) (edit (circuitAt (a .«circuit_id»)) (lowered (towardSide a) (a .bytes)) c) c
     → settled (worldOf h p c′ l i′) a d ≡ acknowledgeAction (worldOf h p c l i) generation sequence d a
 unfolding acknowledgeAction released
 action-settled h p c l i generation sequence d c′ i′ a ea ei ec =

@@ -24,13 +24,13 @@ use Rattle.hnsr_circuit.specs.declared.answer.HnsrAnswer.the-variants.{T
 use Rattle.hnsr_circuit.specs.declared.answer.HnsrRuntimeError.the-variants.{UnexpectedOpcode, Short}
 use Rattle.hnsr_circuit.specs.Answers.{check, bodyAnswer, taken, _then_}
 use Rattle.hnsr_circuit.specs.Header.{withClock}
-use Rattle.hnsr_circuit.specs.World.{World, atTime}
+use Rattle.hnsr_circuit.specs.World.{World, atTime, worldOf}
 use Rattle.hnsr_circuit.specs.Packet.{Packet}
 use Rattle.hnsr_circuit.specs.Entry.{handleWords, tooFew, tablesShort, roomAnswer, peerAnswer, packetAnswer, clockAnswer}
 use Rattle.hnsr_circuit.specs.Close.{handleClose}
 use Rattle.hnsr_circuit.specs.Handle.{Handling, other, handlingOf, dispatch, entryAnswer, handleGate, handle}
 use Rattle.hnsr_circuit.specs.Call.{step, callHandle}
-use Rattle.hnsr_circuit.specs.Progress.{worldOf, filledTo, placed, result, handedBack, ending}
+use Rattle.hnsr_circuit.specs.Progress.{filledTo, placed, result, handedBack, ending}
 use Rattle.hnsr_circuit.specs.Laws.Answers.{then-taken}
 use Rattle.hnsr_circuit.specs.Laws.Queueing.{taken-is}
 use Rattle.hnsr_circuit.specs.Laws.Calls.{gone-on}

@@ -20,7 +20,8 @@ use Rattle.hnsr_circuit.specs.declared.records.InflightKind.the-variants
 use Rattle.hns_encoding.specs.Words.{wordCount}
 use Rattle.hnsr_circuit.specs.Route.{headWords, outWords}
 use Rattle.hnsr_circuit.specs.World.{World, Outcome, done, proceed}
-use Rattle.hnsr_circuit.specs.Queue.{Message, message, routed, canQueue, send, opClose}
+use Rattle.hnsr_circuit.specs.Queue.{Message, message, routed, canQueue, send}
+use Rattle.hnsr_circuit.specs.Opcode.{opClose}
 use Rattle.hnsr_circuit.specs.Entry.{handleWords}
 use Rattle.hnsr_circuit.specs.Packet.{Packet, sender, namedCircuit}
 use Rattle.hnsr_circuit.specs.Open.{incomingMessage, openBooked, openGranted, openLapsed, handleOpen}

@@ -5,7 +5,7 @@ use mathlib.Core.Path.{_≡_, refl, sym, ap, _∙_, subst}
 use mathlib.Core.Bool.{Bool, true, false, cond, not, _&&_, false≢true}
 use mathlib.Core.List.{List}
 use lib.Dec.{ltb}
-use lib.ListN.{length, getD, set, length-set}
+use lib.ListN.{length, getD, set}
 use borrow.Author.Tests.{ltb-false}
 use Rattle.hns_encoding.specs.Laws.Tests.{cond-map}
 use Rattle.hnsr_body.specs.declared.data_body.WindowRead.{WindowRead}
@@ -45,10 +45,10 @@ use Rattle.hnsr_circuit.specs.Inflight.{actionUnder, dropped, capacityAn
 use Rattle.hnsr_circuit.specs.Question.{at, circuitAsked, usageAsked, pendingAsked}
 use Rattle.hnsr_circuit.specs.Lookup.{circuitFound}
 use Rattle.hnsr_circuit.specs.Header.{withCounters, countBytes, countRevoked}
-use Rattle.hnsr_circuit.specs.World.{proceed}
+use Rattle.hnsr_circuit.specs.World.{proceed, worldOf}
 use Rattle.hnsr_circuit.specs.Queue.{Message, send, actionsScanned}
 use Rattle.hnsr_circuit.specs.Packet.{sender, circuitAnswer}
-use Rattle.hnsr_circuit.specs.Progress.{Result, worldOf, messageOf, packetOf, asking, ending, handedBack}
+use Rattle.hnsr_circuit.specs.Progress.{Result, messageOf, packetOf, asking, ending, handedBack}
 use Rattle.hnsr_circuit.specs.Data.{withData, dataMessage, dataTaken, dataWith, handleData}
 use Rattle.hnsr_circuit.specs.Window.{creditAnswer, withWindow, windowTaken, windowWith, handleWindow}
 use Rattle.hnsr_circuit.specs.Revocation.{withoutActions, withoutPending, endPending, endCircuit}
@@ -63,11 +63,6 @@ use Rattle.hnsr_circuit.specs.Laws.Edits.{edit-set}
 pub asking-counted : (go : Bool) (h : OpaqueRelayRuntime) (k : RuntimeCounters) (m : Outgoing) → asking h m ≡ asking (cond go (withCounters h k) h) m
 asking-counted true h k m = refl
 asking-counted false h k m = refl
-
--- a store leaves as many places
-pub length-stored : {A : Type 0} (go : Bool) (t : List A) (i : ℕ) (x : A) → length (cond go (set t i x) t) ≡ length t
-length-stored true t i x = length-set t i x
-length-stored false t i x = refl
 
 -- the changes that are made where the rows pass
 pub passes : (h h1 : OpaqueRelayRuntime) (p : List RelayPending) (c c1 : List RelayCircuit) (l l1 : List ReservationUsage) (i : List InflightAction) (m : Message) (a : HnsrAnswer)

@@ -37,10 +37,10 @@ use Rattle.hnsr_circuit.specs.declared.answer.HnsrRuntimeError.{HnsrRunt
 use Rattle.hnsr_circuit.specs.Answers.{check}
 use Rattle.hnsr_circuit.specs.Entry.{tooFew}
 use Rattle.hnsr_circuit.specs.Table.{placeOf, any}
-use Rattle.hnsr_circuit.specs.Pending.{isPending, pendingAt, pendingOf, pendingUnder, namedBy, pendingOver, clearPending}
-use Rattle.hnsr_circuit.specs.Circuits.{isCircuit, circuitAt, circuitOf, circuitUnder, circuitOver, queuedIn, clearCircuit}
-use Rattle.hnsr_circuit.specs.Ledger.{isUsage, usageAt, usageOver, clearUsage}
-use Rattle.hnsr_circuit.specs.Inflight.{isAction, actionAt, actionUnder, actionToward, clearAction}
+use Rattle.hnsr_circuit.specs.Pending.{isPending, pendingAt, pendingOf, pendingUnder, namedBy, pendingOver, pendingMarked, clearPending}
+use Rattle.hnsr_circuit.specs.Circuits.{isCircuit, circuitAt, circuitOf, circuitUnder, circuitOver, queuedIn, circuitMarked, clearCircuit}
+use Rattle.hnsr_circuit.specs.Ledger.{isUsage, usageAt, usageOver, usageMarked, clearUsage}
+use Rattle.hnsr_circuit.specs.Inflight.{isAction, actionAt, actionUnder, actionToward, actionMarked, clearAction}
 use Rattle.hnsr_circuit.specs.Question.{pendingAsked, pendingHas, circuitAsked, circuitHas, usageAsked, usageHas, actionAsked, actionHas}
 use Rattle.hnsr_circuit.specs.Queue.{actionsScanned}
 use Rattle.hnsr_circuit.specs.Progress.{scanPlace, handedBack, underway}
@@ -52,56 +52,19 @@ use Rattle.hnsr_circuit.specs.Laws.Turns.{firstPlace, scanned, scan-unus
 -- ---- an unused record is its own clearing
 pub pending-still : (p : RelayPending) → isPending p ≡ false → clearPending p ≡ p
 unfolding isPending
-pending-still p e = λ j. record {
-  used = sym e j;
-  «circuit_id» = p .«circuit_id»;
-  requester = p .requester;
-  endpoint = p .endpoint;
-  «requester_context» = p .«requester_context»;
-  ticket = p .ticket;
-  «initial_window» = p .«initial_window»;
-  deadline = p .deadline;
-}
+pending-still p e = λ j. pendingMarked (sym e j) p
 
 pub circuit-still : (c : RelayCircuit) → isCircuit c ≡ false → clearCircuit c ≡ c
 unfolding isCircuit
-circuit-still c e = λ j. record {
-  used = sym e j;
-  «circuit_id» = c .«circuit_id»;
-  requester = c .requester;
-  endpoint = c .endpoint;
-  «reservation_id» = c .«reservation_id»;
-  «expires_at» = c .«expires_at»;
-  «maximum_bytes» = c .«maximum_bytes»;
-  «maximum_total_bytes» = c .«maximum_total_bytes»;
-  «requester_credit» = c .«requester_credit»;
-  «endpoint_credit» = c .«endpoint_credit»;
-  «forwarded_bytes» = c .«forwarded_bytes»;
-  «queued_to_requester» = c .«queued_to_requester»;
-  «queued_to_endpoint» = c .«queued_to_endpoint»;
-}
+circuit-still c e = λ j. circuitMarked (sym e j) c
 
 pub usage-still : (u : ReservationUsage) → isUsage u ≡ false → clearUsage u ≡ u
 unfolding isUsage
-usage-still u e = λ j. record {
-  used = sym e j;
-  «reservation_id» = u .«reservation_id»;
-  bytes = u .bytes;
-  «expires_at» = u .«expires_at»;
-}
+usage-still u e = λ j. usageMarked (sym e j) u
 
 pub action-still : (a : InflightAction) → isAction a ≡ false → clearAction a ≡ a
 unfolding isAction
-action-still a e = λ j. record {
-  used = sym e j;
-  generation = a .generation;
-  sequence = a .sequence;
-  «circuit_id» = a .«circuit_id»;
-  destination = a .destination;
-  kind = a .kind;
-  «to_endpoint» = a .«to_endpoint»;
-  bytes = a .bytes;
-}
+action-still a e = λ j. actionMarked (sym e j) a
 
 -- ---- what unmarked records answer
 pending-asked : (ask : Ask) (q : Question) (p : RelayPending) → pendingAsked ask q (clearPending p) ≡ asksUnused ask

@@ -55,8 +55,9 @@ use Rattle.hnsr_circuit.specs.Ledger.{noUsage, isUsage, usageAt, clearUs
 use Rattle.hnsr_circuit.specs.Circuits.{isCircuit, circuitAt}
 use Rattle.hnsr_circuit.specs.Inflight.{actionUnder, dropped, tallied, capacityAnswer}
 use Rattle.hnsr_circuit.specs.Header.{withCounters, countAccept, countOpen}
-use Rattle.hnsr_circuit.specs.World.{World, Outcome, proceed}
-use Rattle.hnsr_circuit.specs.Queue.{send, actionsScanned, opOpened, opIncoming}
+use Rattle.hnsr_circuit.specs.World.{World, Outcome, proceed, worldOf}
+use Rattle.hnsr_circuit.specs.Queue.{send, actionsScanned}
+use Rattle.hnsr_circuit.specs.Opcode.{opOpened, opIncoming}
 use Rattle.hnsr_circuit.specs.Counts.{pendingCount, circuitCount, peerWork, reservationWork}
 use Rattle.hnsr_circuit.specs.Question.{at, pendingAsked, pendingWork, circuitWork}
 use Rattle.hnsr_circuit.specs.Lookup.{pendingFound}
@@ -65,7 +66,7 @@ use Rattle.hnsr_circuit.specs.Draw.{undrawn, drawsFrom, draws, drawTurn,
 use Rattle.hnsr_circuit.specs.Packet.{Packet, sender}
 use Rattle.hnsr_circuit.specs.Accept.{requestAnswer, acceptAnswer, circuitFor, withAccept, openedFor, openedMessage, acceptTaken, acceptWith, handleAccept}
 use Rattle.hnsr_circuit.specs.Open.{Opening, opening, openAnswer, admissionAnswer, endpointAnswer, deadlineAnswer, deadlineFor, pendingFor, incomingFor, incomingMessage, withOpen, openAdmitted, openPlaced, openBooked, openGranted, openLapsed, handleOpen}
-use Rattle.hnsr_circuit.specs.Progress.{worldOf, messageOf, packetOf, asking, handedBack, ending}
+use Rattle.hnsr_circuit.specs.Progress.{messageOf, packetOf, asking, handedBack, ending}
 use Rattle.hnsr_circuit.specs.Laws.Answers.{check-taken, then-taken, stop-two, stop-three}
 use Rattle.hnsr_circuit.specs.Laws.Lookups.{pick-at, pick-has, pick-none, place-any}
 use Rattle.hnsr_circuit.specs.Laws.Marks.{room, put-new-same, put-old-same}

@@ -25,10 +25,11 @@ use Rattle.hnsr_circuit.specs.Circuits.{isCircuit, clearCircuit}
 use Rattle.hnsr_circuit.specs.Ledger.{isUsage, clearUsage}
 use Rattle.hnsr_circuit.specs.Inflight.{isAction, clearAction, dropped}
 use Rattle.hnsr_circuit.specs.Header.{withClock, noHeader}
+use Rattle.hnsr_circuit.specs.Held.{noPlace, everyPlace}
 use Rattle.hnsr_circuit.specs.Route.{outWords, output}
-use Rattle.hnsr_circuit.specs.World.{World, statusIs, dueIs, Outcome, done, proceed, telling, atTime}
+use Rattle.hnsr_circuit.specs.World.{World, statusIs, dueIs, Outcome, done, proceed, telling, atTime, worldOf}
 use Rattle.hnsr_circuit.specs.New.{emptied}
-use Rattle.hnsr_circuit.specs.Progress.{worldOf, result, handedBack, outcome}
+use Rattle.hnsr_circuit.specs.Progress.{result, handedBack, outcome}
 use Rattle.hnsr_circuit.specs.Told.{noStatus, statusTold, dueTold, Made}
 use Rattle.hnsr_circuit.specs.Laws.Queueing.{taken-is}
 
@@ -74,21 +75,21 @@ module _ (p : List RelayPending) (c : List RelayCircuit) (l : List ReservationUs
 -- ---- new
 module _ (h n : OpaqueRelayRuntime) (p p′ : List RelayPending) (c c′ : List RelayCircuit) (l l′ : List ReservationUsage) (i i′ : List InflightAction) (r : Relayed)
     (a b : HnsrAnswer) (e : a ≡ b) where
-  pub empties : (r .runtime ≡ n) × (r .answer ≡ a) × (r .words ≡ 0) → p′ ≡ clear clearPending isPending p → c′ ≡ clear clearCircuit isCircuit c
+  pub empties : (r .runtime ≡ n) × (r .answer ≡ a) × (r .words ≡ 0) → r .places ≡ noPlace → p′ ≡ clear clearPending isPending p → c′ ≡ clear clearCircuit isCircuit c
       → l′ ≡ clear clearUsage isUsage l → i′ ≡ clear clearAction isAction i → taken a ≡ true
       → Made r p′ c′ l′ i′ (proceed (worldOf h p c l i) b (done (emptied (worldOf h p c l i) n) []))
   unfolding proceed emptied dropped
-  empties f ep ec el ei t =
+  empties f k ep ec el ei t =
       let is = taken-is a t in
       subst (λ (z : HnsrAnswer). Made r p′ c′ l′ i′ (proceed (worldOf h p c l i) z (done (emptied (worldOf h p c l i) n) []))) (sym is ∙ e)
-      (record { answer = f .1 ∙ is; tables = λ x. worldOf n (ep x) (ec x) (el x) (ei x); runtime = f .0; words = f .2 })
+      (record { answer = f .1 ∙ is; tables = λ x. worldOf n (ep x) (ec x) (el x) (ei x); runtime = f .0; places = k; words = f .2 })
 
-  module _ (f : (r .runtime ≡ noHeader) × (r .answer ≡ a) × (r .words ≡ 0)) (ep : p′ ≡ p) (ec : c′ ≡ c) (el : l′ ≡ l) (ei : i′ ≡ i) where
+  module _ (f : (r .runtime ≡ noHeader) × (r .answer ≡ a) × (r .words ≡ 0)) (k : r .places ≡ everyPlace) (ep : p′ ≡ p) (ec : c′ ≡ c) (el : l′ ≡ l) (ei : i′ ≡ i) where
     keeps : (z : HnsrAnswer) → r .answer ≡ z → taken z ≡ false
         → Made r p′ c′ l′ i′ (proceed (worldOf h p c l i) z (done (emptied (worldOf h p c l i) n) []))
     unfolding proceed
     keeps Taken ea t = absurd (true≢false t)
-    keeps (Refused x) ea t = record { answer = ea; tables = λ y. worldOf h (ep y) (ec y) (el y) (ei y); runtime = f .0; words = f .2 }
+    keeps (Refused x) ea t = record { answer = ea; tables = λ y. worldOf h (ep y) (ec y) (el y) (ei y); runtime = f .0; places = k; words = f .2 }
 
     pub refuses-new : taken a ≡ false → Made r p′ c′ l′ i′ (proceed (worldOf h p c l i) b (done (emptied (worldOf h p c l i) n) []))
     refuses-new t = keeps b (f .1 ∙ e) (ap taken (sym e) ∙ t)

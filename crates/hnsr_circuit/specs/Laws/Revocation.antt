@@ -19,12 +19,14 @@ use Rattle.hnsr_circuit.specs.Table.{any, placeOf, next}
 use Rattle.hnsr_circuit.specs.Pending.{noPending, clearPending}
 use Rattle.hnsr_circuit.specs.Circuits.{noCircuit, circuitAt, clearCircuit}
 use Rattle.hnsr_circuit.specs.Inflight.{actionUnder, dropped}
-use Rattle.hnsr_circuit.specs.World.{World}
-use Rattle.hnsr_circuit.specs.Queue.{Message, Sent, silently, andThen, when, tell, opClose}
-use Rattle.hnsr_circuit.specs.Progress.{worldOf, messageOf, filledTo, placed, Progress, progress, advanced, advance}
+use Rattle.hnsr_circuit.specs.World.{World, worldOf}
+use Rattle.hnsr_circuit.specs.Queue.{Message, Sent, silently, andThen, when, tell}
+use Rattle.hnsr_circuit.specs.Opcode.{opClose}
+use Rattle.hnsr_circuit.specs.Progress.{messageOf, filledTo, placed, Progress, progress, advanced, advance}
 use Rattle.hnsr_circuit.specs.Revocation.{withoutActions, endPendingThere, endCircuitThere, errorToRequester, closeToRequester, closeToEndpoint, closeTo, revokePending, revokeCircuitThere, revokeCircuit, walkFrom}
 use Rattle.hnsr_circuit.specs.RevokingCalls.{closeToOther, disconnectPending}
-use Rattle.hnsr_circuit.specs.Revoking.{closingOut, closeSide, errorOut, closeOut, firstOut, revokedIf, endingPending}
+use Rattle.hnsr_circuit.specs.Revoking.{closeSide, errorOut, closeOut, firstOut, revokedIf, endingPending}
+use Rattle.hnsr_circuit.specs.Message.{closeOn}
 use Rattle.hnsr_circuit.specs.Peer.{samePeer}
 use Rattle.hnsr_circuit.specs.Laws.Progress.{advance-then}
 
@@ -63,7 +65,7 @@ module _ (v : Revoking) (place : ℕ) (h : OpaqueRelayRuntime) (p : List RelayPe
   record-there = getD p place noPending
 
   first-is : (d s : Bool) (k : RelayPending)
-      → messageOf (cond d (cond s (closeOut k) (closingOut (k .requester) (k .«circuit_id») opClose (k .«requester_context»))) (errorOut k)) (noticeBody (cond d PeerDisconnected (v .notice)))
+      → messageOf (cond d (cond s (closeOut k) (closeOn (k .requester) (k .«circuit_id») opClose (k .«requester_context»))) (errorOut k)) (noticeBody (cond d PeerDisconnected (v .notice)))
       ≡ cond d (cond s (closeToEndpoint PeerDisconnected k) (closeToRequester PeerDisconnected k)) (errorToRequester (v .notice) k)
   unfolding closeToEndpoint closeToRequester errorToRequester
   first-is true true k = refl

@@ -18,10 +18,10 @@ use Rattle.hnsr_circuit.specs.Answers.{taken, _then_}
 use Rattle.hnsr_circuit.specs.Table.{clear, edit}
 use Rattle.hnsr_circuit.specs.Peer.{peerOf}
 use Rattle.hnsr_circuit.specs.Inflight.{isAction, clearAction, dropped}
-use Rattle.hnsr_circuit.specs.World.{World, Outcome, done}
+use Rattle.hnsr_circuit.specs.World.{World, Outcome, done, worldOf}
 use Rattle.hnsr_circuit.specs.Entry.{roomAnswer, revokingWords, peerAnswer, clockAnswer}
 use Rattle.hnsr_circuit.specs.Question.{used, ofPeer, under, over, pendingAsked, circuitAsked, actionHas, actionAsked}
-use Rattle.hnsr_circuit.specs.Progress.{worldOf, filledTo, placed, result, handedBack, ending}
+use Rattle.hnsr_circuit.specs.Progress.{filledTo, placed, result, handedBack, ending}
 use Rattle.hnsr_circuit.specs.Call.{step, callDisconnect, callRevokeReservation, callExpire, callReplaceEnabled}
 use Rattle.hnsr_circuit.specs.RevokingCalls.{disconnect, disconnectPeer, revokeReservation, revokeUnder, expire, expireAt, changeAnswer, switchTo, replaceEnabled}
 use Rattle.hnsr_circuit.specs.Revoking.{endingPending, revokingAll, disconnectingAll}

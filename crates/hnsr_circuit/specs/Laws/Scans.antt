@@ -1,4 +1,4 @@
--- The loops over a table, over any record type: the step and the end of a lookup and of a count, a store within and past the end, and the
+-- The loops over a table, over any record type: the step of a lookup and of a count, a store within and past the end, and the
 -- parts of what a scan folds. The step and the end of a fold are `Loops`'.
 use Prim.Native.Nat.{ℕ, zero, suc, _+_, _≤_, _<_}
 use native.Mathlib.Nat.{not-suc-le-zero, le-of-suc-le-suc}
@@ -8,7 +8,7 @@ use mathlib.Core.Path.{_≡_, refl, sym, ap, _∙_}
 use mathlib.Core.Bool.{Bool, true, false, cond, _&&_}
 use mathlib.Core.List.{List, [], _∷_, _++_, map}
 use lib.Dec.{ltb}
-use lib.ListN.{length, take, drop, getD, set, drop-of-length-le}
+use lib.ListN.{length, take, drop, getD, set}
 use lib.Seq.{drop-cons, set-getD}
 use borrow.Author.Tests.{ltb-true, ltb-false}
 use Rattle.hns_encoding.specs.Laws.Tests.{split, both}
@@ -26,13 +26,6 @@ module _ {A : Type 0} (p : A → Bool) (t : List A) (d : A) (i r : ℕ) where
 
   pub count-next : (n m : ℕ) → i < length t → m ≡ n + one p (getD t i d) → n + count p (drop i t) ≡ r → m + count p (drop (i + 1) t) ≡ r
   count-next n m l e h = let k = rw (drop-cons t i d l) at h in rw (add-one i) (omega arith)
-
-module _ {A : Type 0} (p : A → Bool) (t : List A) (i r : ℕ) where
-  pub find-none : length t ≤ i → i + placeOf p (drop i t) ≡ r → i ≡ r
-  find-none l h = let k = rw (drop-of-length-le t l) at h in omega arith
-
-  pub count-done : (n : ℕ) → length t ≤ i → n + count p (drop i t) ≡ r → n ≡ r
-  count-done n l h = let k = rw (drop-of-length-le t l) at h in omega arith
 
 -- ---- a store that is to be done, at a place that may be past the end
 pub set-past : {A : Type 0} (t : List A) (i : ℕ) (x : A) → length t ≤ i → set t i x ≡ t

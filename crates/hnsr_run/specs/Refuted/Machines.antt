@@ -16,7 +16,7 @@ use Rattle.hnsr_circuit.specs.declared.records.RelaySide.{RelaySide}
 use Rattle.hnsr_circuit.specs.Answers.{_then_}
 use Rattle.hnsr_circuit.specs.Peer.{peerGood, samePeer}
 use Rattle.hnsr_circuit.specs.World.{World, Outcome, Told, silent, statusIs, dueIs}
-use Rattle.hnsr_circuit.specs.Queue.{opData}
+use Rattle.hnsr_circuit.specs.Opcode.{opData}
 use Rattle.hnsr_circuit.specs.Entry.{handleWords, clockAnswer}
 use Rattle.hnsr_circuit.specs.Handle.{entryAnswer}
 use Rattle.hnsr_circuit.specs.Packet.{Packet, sender}

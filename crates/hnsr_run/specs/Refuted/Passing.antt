@@ -16,10 +16,11 @@ use Rattle.hnsr_circuit.specs.declared.records.RelaySide.the-variants.{Requeste
 use Rattle.hnsr_circuit.specs.Answers.{number, check, bodyAnswer, _then_}
 use Rattle.hnsr_circuit.specs.Table.{edit}
 use Rattle.hnsr_circuit.specs.Circuits.{circuitAt, sideOf, moved, charged}
-use Rattle.hnsr_circuit.specs.Ledger.{usageAt, hasUsage, usageOf, spent}
+use Rattle.hnsr_circuit.specs.Ledger.{usageRecord, usageAt, hasUsage, usageOf, spent}
 use Rattle.hnsr_circuit.specs.Inflight.{tallied, capacityAnswer}
 use Rattle.hnsr_circuit.specs.World.{World, Outcome, proceed, withCircuits, withLedger, atTime}
-use Rattle.hnsr_circuit.specs.Queue.{opOpen, opData, send}
+use Rattle.hnsr_circuit.specs.Queue.{send}
+use Rattle.hnsr_circuit.specs.Opcode.{opOpen, opData}
 use Rattle.hnsr_circuit.specs.Entry.{handleWords, acknowledgeWords}
 use Rattle.hnsr_circuit.specs.Packet.{Packet, sender, hasCircuit, namedCircuit, receiver}
 use Rattle.hnsr_circuit.specs.Data.{withData, dataMessage, dataTaken, bytesAnswer, flowAnswer}
@@ -174,7 +175,7 @@ uncharged-refuted C =
 
 -- ---- every OPEN begins its reservation's count again: 60 bytes are left, and 70 pass (only if; reservation left)
 abbrev zeroed : ReservationUsage → ReservationUsage
-zeroed u = record { used = u .used; «reservation_id» = u .«reservation_id»; bytes = 0; «expires_at» = u .«expires_at» }
+zeroed u = usageRecord (u .used) (u .«reservation_id») 0 (u .«expires_at»)
 
 abbrev restarted : Packet → Outcome → Outcome
 restarted q o = record {

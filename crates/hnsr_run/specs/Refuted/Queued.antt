@@ -17,7 +17,8 @@ use Rattle.hnsr_circuit.specs.Ledger.{usageAt, spent}
 use Rattle.hnsr_circuit.specs.Header.{countBytes}
 use Rattle.hnsr_circuit.specs.Inflight.{noAction, isAction, actionAt, toEndpoint}
 use Rattle.hnsr_circuit.specs.World.{World, Outcome, done, proceed, withCircuits, withLedger, counting, atTime}
-use Rattle.hnsr_circuit.specs.Queue.{Message, opData, canQueue, queued, routed, send}
+use Rattle.hnsr_circuit.specs.Queue.{Message, canQueue, queued, routed, send}
+use Rattle.hnsr_circuit.specs.Opcode.{opData}
 use Rattle.hnsr_circuit.specs.Packet.{Packet, sender, namedCircuit, receiver}
 use Rattle.hnsr_circuit.specs.Data.{dataMessage, dataTaken}
 use Rattle.hnsr_circuit.specs.Acknowledge.{acknowledgeTaken, withoutAction, settled}

@@ -16,7 +16,7 @@ use Rattle.hnsr_circuit.specs.Circuits.{isCircuit, clearCircuit}
 use Rattle.hnsr_circuit.specs.Inflight.{noAction, kindNumber, actionAt}
 use Rattle.hnsr_circuit.specs.World.{World, Outcome, statusIs, telling, withCircuits, withInflight}
 use Rattle.hnsr_circuit.specs.Route.{Route}
-use Rattle.hnsr_circuit.specs.Queue.{opOpen, opIncoming}
+use Rattle.hnsr_circuit.specs.Opcode.{opOpen, opIncoming}
 use Rattle.hnsr_circuit.specs.Status.{statusOf}
 use Rattle.hnsr_circuit.specs.Cases.{lent, notAdmitted}
 use Rattle.hnsr_circuit.specs.Call.{step, callHandle, callDisconnect}

@@ -24,7 +24,8 @@ use Rattle.hnsr_circuit.specs.Circuits.{isSide}
 use Rattle.hnsr_circuit.specs.declared.records.InflightKind.the-variants.{Close}
 use Rattle.hnsr_circuit.specs.Inflight.{kindNumber}
 use Rattle.hnsr_circuit.specs.World.{World, Outcome}
-use Rattle.hnsr_circuit.specs.Queue.{Message, message, opData, sequenceOf}
+use Rattle.hnsr_circuit.specs.Queue.{Message, message, sequenceOf}
+use Rattle.hnsr_circuit.specs.Opcode.{opData}
 use Rattle.hnsr_circuit.specs.Packet.{Packet, sender, hasCircuit, namedCircuit, circuitAnswer, forwarded}
 use Rattle.hnsr_circuit.specs.Revocation.{withoutActions, withoutPending, endPending, endCircuit}
 use Rattle.hnsr_circuit.specs.Close.{detailAnswer, closeAnswer, translated, closeTaken, closePending, closeCircuit, handleClose}

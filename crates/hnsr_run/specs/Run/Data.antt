@@ -22,7 +22,8 @@ use Rattle.hnsr_circuit.specs.Circuits.{noCircuit, circuitAt, sideOf, otherSide
 use Rattle.hnsr_circuit.specs.Ledger.{usageOf, spent}
 use Rattle.hnsr_circuit.specs.Inflight.{toEndpoint}
 use Rattle.hnsr_circuit.specs.World.{World, Outcome, configOf, done}
-use Rattle.hnsr_circuit.specs.Queue.{Message, opData, actionFor, routeFor, generationOf, sequenceOf, queued, routed, send}
+use Rattle.hnsr_circuit.specs.Queue.{Message, actionFor, routeFor, generationOf, sequenceOf, queued, routed, send}
+use Rattle.hnsr_circuit.specs.Opcode.{opData}
 use Rattle.hnsr_circuit.specs.Packet.{Packet, sender, namedCircuit, receiver}
 use Rattle.hnsr_circuit.specs.Data.{withData, dataMessage, dataTaken, dataWith, handleData}
 use Rattle.hnsr_run.specs.Past.{Known, Action, Past, at, peerOn, isData, towardSide, weight, carried, emit, learnt, withBook, spentBy}

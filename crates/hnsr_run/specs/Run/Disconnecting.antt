@@ -25,7 +25,8 @@ use Rattle.hnsr_circuit.specs.Circuits.{circuitId, circuitAt, circuitOf, isSide
 use Rattle.hnsr_circuit.specs.Inflight.{tallied, capacityLeft, capacityAnswer}
 use Rattle.hnsr_circuit.specs.Route.{Route}
 use Rattle.hnsr_circuit.specs.World.{World, configOf}
-use Rattle.hnsr_circuit.specs.Queue.{Message, Sent, opClose, sequenceOf, queueAnswer, canQueue, routed, tellIf, tell}
+use Rattle.hnsr_circuit.specs.Queue.{Message, Sent, sequenceOf, queueAnswer, canQueue, routed, tellIf, tell}
+use Rattle.hnsr_circuit.specs.Opcode.{opClose}
 use Rattle.hnsr_circuit.specs.Packet.{circuitIn}
 use Rattle.hnsr_circuit.specs.Revocation.{withoutPending, withoutActions, endPending, endCircuit, closing, closeToRequester, closeToEndpoint, closeTo, pendingIn, revokeCircuitThere, revokeCircuit, walk, pendingTable, circuitTable, revokeAll}
 use Rattle.hnsr_circuit.specs.RevokingCalls.{closeToOther, disconnectPending}

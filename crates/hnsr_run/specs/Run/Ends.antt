@@ -20,7 +20,8 @@ use Rattle.hnsr_circuit.specs.World.{World}
 use Rattle.hnsr_circuit.specs.declared.records.InflightKind.the-variants.{Close}
 use Rattle.hnsr_circuit.specs.Inflight.{kindNumber}
 use Rattle.hnsr_circuit.specs.Route.{Route}
-use Rattle.hnsr_circuit.specs.Queue.{Message, Sent, opClose, opError, routeFor}
+use Rattle.hnsr_circuit.specs.Queue.{Message, Sent, routeFor}
+use Rattle.hnsr_circuit.specs.Opcode.{opClose, opError}
 use Rattle.hnsr_circuit.specs.Packet.{circuitIn}
 use Rattle.hnsr_circuit.specs.Revocation.{withoutPending, withoutActions, endPending, endCircuit, closing, errorToRequester, closeToRequester, closeToEndpoint, closeTo, pendingIn, hasPending, revokePending, revokeCircuit}
 use Rattle.hnsr_circuit.specs.RevokingCalls.{closeToOther, disconnectPending}

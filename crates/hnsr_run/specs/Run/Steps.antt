@@ -18,7 +18,8 @@ use Rattle.hnsr_circuit.specs.declared.answer.HnsrRuntimeError.{HnsrRuntimeErro
 use Rattle.hnsr_circuit.specs.declared.answer.HnsrRuntimeError.the-variants.{Short, Disabled}
 use Rattle.hnsr_circuit.specs.Answers.{check, bodyAnswer, _then_}
 use Rattle.hnsr_circuit.specs.World.{World, Outcome, statusIs, dueIs, configOf, done, telling, atTime}
-use Rattle.hnsr_circuit.specs.Queue.{opOpen, opAccept, opData, opWindow, opClose, opError, sequenceOf}
+use Rattle.hnsr_circuit.specs.Queue.{sequenceOf}
+use Rattle.hnsr_circuit.specs.Opcode.{opOpen, opAccept, opData, opWindow, opClose, opError}
 use Rattle.hnsr_circuit.specs.Entry.{handleWords, tooFew, tablesShort, tablesAnswer, roomAnswer, peerAnswer, packetAnswer, clockAnswer}
 use Rattle.hnsr_circuit.specs.Packet.{Packet}
 use Rattle.hnsr_circuit.specs.Handle.{Handling, OPEN, ACCEPT, DATA, WINDOW, CLOSE, ERROR, other, handlingOf, dispatch, entryAnswer, gateAnswer, handleGate, handle}

@@ -22,7 +22,8 @@ use Rattle.hnsr_circuit.specs.Circuits.{circuitAt}
 use Rattle.hnsr_circuit.specs.declared.records.InflightKind.the-variants.{Close, Incoming}
 use Rattle.hnsr_circuit.specs.Inflight.{kindNumber, kindOf, noAction, actionAt}
 use Rattle.hnsr_circuit.specs.World.{World, Outcome, configOf, done, counting}
-use Rattle.hnsr_circuit.specs.Queue.{Sent, finished, opClose, opError, generationOf, sequenceOf}
+use Rattle.hnsr_circuit.specs.Queue.{Sent, finished, generationOf, sequenceOf}
+use Rattle.hnsr_circuit.specs.Opcode.{opClose, opError}
 use Rattle.hnsr_circuit.specs.Entry.{tablesShort, roomAnswer, acknowledgeWords}
 use Rattle.hnsr_circuit.specs.Header.{countRevoked}
 use Rattle.hnsr_circuit.specs.Revocation.{withoutPending, errorToRequester, closeTo, hasPending, pendingIn, revokeCircuit}

@@ -17,7 +17,8 @@ use Rattle.hnsr_circuit.specs.declared.records.InflightKind.{InflightKind}
 use Rattle.hnsr_circuit.specs.declared.records.InflightKind.the-variants.{Data, Control}
 use Rattle.hnsr_circuit.specs.Inflight.{kindNumber, tallied, capacityAnswer}
 use Rattle.hnsr_circuit.specs.World.{World, Outcome, configOf, done}
-use Rattle.hnsr_circuit.specs.Queue.{Message, opWindow, sequenceOf, queued, routed, send}
+use Rattle.hnsr_circuit.specs.Queue.{Message, sequenceOf, queued, routed, send}
+use Rattle.hnsr_circuit.specs.Opcode.{opWindow}
 use Rattle.hnsr_circuit.specs.Packet.{Packet, sender, hasCircuit, namedCircuit, circuitAnswer, receiver, forwarded}
 use Rattle.hnsr_circuit.specs.Window.{creditAnswer, withWindow, windowTaken, windowWith, handleWindow}
 use Rattle.hnsr_circuit.specs.Laws.Answers.{then-taken}

@@ -26,5 +26,6 @@ made-in-numbers p c l i o e m = record {
   cause = ap (λ (q : RelayReply). q .cause) e ∙ ap causeOf (m .answer);
   tables = ap (λ (q : RelayReply). worldSeen (o .world .header) (q .places) p c l i) e ∙ m .tables;
   runtime = ap (λ (q : RelayReply). q .runtime) e ∙ m .runtime;
+  places = ap (λ (q : RelayReply). q .places) e ∙ m .places;
   words = ap (λ (q : RelayReply). q .words) e ∙ m .words;
 }

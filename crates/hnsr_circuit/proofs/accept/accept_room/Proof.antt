@@ -7,23 +7,23 @@ use Rattle.hnsr_circuit.proofs.accept.accept_room.Statement.{statement}
 use Rattle.hnsr_circuit.proofs.accept.accept_room.Tie as tie
 use Rattle.hnsr_circuit.proofs.accept.accept_room.Reads as reads
 use Rattle.hnsr_circuit.proofs.accept.accept_room.Lts as lts
-use Rattle.hns_encoding.proofs.numbers.saturating_add_usize.Reads as saturating-add-usize-reads
+use Rattle.hnsr_circuit.proofs.scan.reservation_work.Reads as reservation-work-reads
 use Rattle.hnsr_circuit.proofs.accept.accept_answer.Reads as accept-answer-reads
 
 -- a ticket's most is a number of 16 bits
 small : (c : tie.Start) → c .args .pending .ticket .«max_active_circuits» < 65536
 small c = search needs
 
-saturating-add-usize-requires : tie.Need-saturating-add-usize-requires
-saturating-add-usize-requires c κs = search needs
+reservation-work-requires : tie.Need-reservation-work-requires
+reservation-work-requires c κs = search needs
 
 accept-answer-requires : tie.Need-accept-answer-requires
 accept-answer-requires c κs = search needs
 
 returns : tie.Need-returns
 unfolding acceptAnswer
-returns c = let s = c .before .before in rw (c .accept-answer .ensures, c .before .saturating-add-usize .ensures, ltb-sum (s .args .pending .ticket .«max_active_circuits») (s .args .waiting) (s .args .running) (small s))
+returns c = let s = c .before .before in rw (c .accept-answer .ensures, c .before .reservation-work .ensures, ltb-sum (s .args .pending .ticket .«max_active_circuits») (s .args .waiting) (s .args .running) (small s))
 
 pub accept-room-spec : {M : Type 1} → statement M
 accept-room-spec =
-    tie.close (tie.spec saturating-add-usize-requires accept-answer-requires returns)
+    tie.close (tie.spec reservation-work-requires accept-answer-requires returns)

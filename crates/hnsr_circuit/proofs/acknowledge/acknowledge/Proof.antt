@@ -9,12 +9,12 @@ use Rattle.hnsr_circuit.specs.declared.answer.HnsrRuntimeError.the-varia
 use Rattle.hnsr_circuit.specs.declared.records.ActionFound.{ActionFound}
 use Rattle.hnsr_circuit.specs.declared.records.InflightAction.{InflightAction}
 use Rattle.hnsr_circuit.specs.Answers.{check, _then_}
-use Rattle.hnsr_circuit.specs.World.{Outcome}
+use Rattle.hnsr_circuit.specs.World.{Outcome, worldOf}
 use Rattle.hnsr_circuit.specs.Table.{pick}
 use Rattle.hnsr_circuit.specs.Inflight.{noAction, actionAt}
 use Rattle.hnsr_circuit.specs.Question.{actionAsked}
 use Rattle.hnsr_circuit.specs.Entry.{acknowledgeWords, roomAnswer, tablesShort}
-use Rattle.hnsr_circuit.specs.Progress.{worldOf, ending}
+use Rattle.hnsr_circuit.specs.Progress.{ending}
 use Rattle.hnsr_circuit.specs.Acknowledge.{generationAnswer, actionAnswer, acknowledgeTaken, acknowledgeAction, acknowledge}
 use Rattle.hnsr_circuit.specs.Call.{step, callAcknowledge}
 use Rattle.hnsr_circuit.specs.Laws.Calls.{turned-away, gone-on, whole}

@@ -7,8 +7,8 @@ use native.Mathlib.Omega.{arith}
 use lib.Seq.{length-take-le}
 use Rattle.hnsr_circuit.specs.declared.records.ActionQuestion.{ActionQuestion}
 use Rattle.hnsr_circuit.specs.Queue.{send, actionsScanned}
-use Rattle.hnsr_circuit.specs.World.{proceed}
-use Rattle.hnsr_circuit.specs.Progress.{worldOf, messageOf, ending}
+use Rattle.hnsr_circuit.specs.World.{proceed, worldOf}
+use Rattle.hnsr_circuit.specs.Progress.{messageOf, ending}
 use Rattle.hnsr_circuit.specs.Laws.Route.{notice-length, notice-bytes}
 use borrow.Author.Needs.{needs}
 use Rattle.hnsr_circuit.specs.Held.{heldPending, heldCircuits, heldLedger, heldActions}

@@ -3,9 +3,9 @@ mod Tie
 use Prim.Native.Nat.{ℕ}
 use mathlib.Core.Path.{sym, ap, _∙_}
 use Rattle.hnsr_body.specs.declared.messages.Notice.the-variants.{OuterWriteFailed}
-use Rattle.hnsr_circuit.specs.World.{Outcome}
+use Rattle.hnsr_circuit.specs.World.{Outcome, worldOf}
 use Rattle.hnsr_circuit.specs.Queue.{finished}
-use Rattle.hnsr_circuit.specs.Progress.{worldOf, ending}
+use Rattle.hnsr_circuit.specs.Progress.{ending}
 use Rattle.hnsr_circuit.specs.Revocation.{revokeCircuit}
 use Rattle.hnsr_circuit.specs.Acknowledge.{failIncoming}
 use Rattle.hnsr_circuit.specs.Laws.Acknowledging.{taken-is-done, settled-failed, settled-revoked, settled-done}

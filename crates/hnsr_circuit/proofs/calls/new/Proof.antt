@@ -58,7 +58,7 @@ returns c = λ h.
     let t = sym (c .before .before .before .is-taken .ensures) ∙ c .before .before .if1 .taken in
     empties h _ (a .pending .now) _ (a .circuits .now) _ (a .ledger .now) _ (a .inflight .now) _ (c .taken-with .result) (c .before .before .before .before .before .new-answer .result) _
     (c .before .before .before .before .before .new-answer .ensures ∙ ap (λ (b : Bool). sessionAnswer (a .session) (a .generation) then validateConfig (a .config) then check (b || eqb (length (a .ledger .now)) 0) Short) (c .before .before .before .before .before .before .too-few .ensures))
-    (e .0 .0 ∙ c .before .before .before .before .new-header .ensures, e .0 .1 ∙ sym (taken-is (c .before .before .before .before .before .new-answer .result) t), e .0 .2)
+    (e .0 .0 ∙ c .before .before .before .before .new-header .ensures, e .0 .1 ∙ sym (taken-is (c .before .before .before .before .before .new-answer .result) t), e .0 .2) k
     (ap (λ (n : Places). heldPending n (a .pending .now)) k ∙ held-cleared clearPending isPending pending-still (a .pending .now))
     (ap (λ (n : Places). heldCircuits n (a .circuits .now)) k ∙ held-cleared clearCircuit isCircuit circuit-still (a .circuits .now))
     (ap (λ (n : Places). heldLedger n (a .ledger .now)) k ∙ held-cleared clearUsage isUsage usage-still (a .ledger .now))
@@ -84,7 +84,7 @@ returns-2 c = λ h.
     let b = bounds s in
     refuses-new h (newHeader (a .session) (a .generation) (a .config) (a .time)) (a .pending .now) _ (a .circuits .now) _ (a .ledger .now) _ (a .inflight .now) _ (c .refused .result) (c .before .before .before .before .before .before .new-answer .result) _
     (c .before .before .before .before .before .before .new-answer .ensures ∙ ap (λ (b : Bool). sessionAnswer (a .session) (a .generation) then validateConfig (a .config) then check (b || eqb (length (a .ledger .now)) 0) Short) (c .before .before .before .before .before .before .before .too-few .ensures))
-    (e .0 .0 ∙ c .before .before .no-runtime .ensures, e .0 .1, e .0 .2)
+    (e .0 .0 ∙ c .before .before .no-runtime .ensures, e .0 .1, e .0 .2) k
     (ap (λ (n : Places). heldPending n (a .pending .now)) k ∙ held-all clearPending 18446744073709551615 (a .pending .now) (omega (arith, b .0)))
     (ap (λ (n : Places). heldCircuits n (a .circuits .now)) k ∙ held-all clearCircuit 18446744073709551615 (a .circuits .now) (omega (arith, b .1)))
     (ap (λ (n : Places). heldLedger n (a .ledger .now)) k ∙ held-all clearUsage 18446744073709551615 (a .ledger .now) (omega (arith, b .2)))

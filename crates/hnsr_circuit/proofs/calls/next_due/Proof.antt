@@ -5,7 +5,7 @@ use mathlib.Core.Bool.{cond}
 use Rattle.hnsr_circuit.specs.declared.answer.HnsrRuntimeError.the-variants.{Short}
 use Rattle.hnsr_circuit.specs.Answers.{check}
 use Rattle.hnsr_circuit.specs.Entry.{tablesAnswer, tablesShort}
-use Rattle.hnsr_circuit.specs.Progress.{worldOf}
+use Rattle.hnsr_circuit.specs.World.{worldOf}
 use Rattle.hnsr_circuit.specs.declared.records.NextDue.{NextDue}
 use Rattle.hnsr_circuit.specs.declared.records.NextDue.the-variants.{Never}
 use Rattle.hnsr_circuit.specs.NextDue.{circuitDue, dueOf, nextDue}

@@ -7,7 +7,7 @@ use Rattle.hnsr_circuit.specs.declared.records.Question.{Question}
 use Rattle.hnsr_circuit.specs.declared.answer.HnsrRuntimeError.the-variants.{Short}
 use Rattle.hnsr_circuit.specs.Answers.{check}
 use Rattle.hnsr_circuit.specs.Entry.{tablesAnswer, tablesShort}
-use Rattle.hnsr_circuit.specs.Progress.{worldOf}
+use Rattle.hnsr_circuit.specs.World.{worldOf}
 use Rattle.hnsr_circuit.specs.Question.{pendingHas, pendingAsked, actionHas, actionAsked}
 use Rattle.hnsr_circuit.specs.Counts.{pendingCount}
 use Rattle.hnsr_circuit.specs.Status.{statusFrom, statusOf, status}

@@ -5,7 +5,6 @@ use Rattle.hnsr_circuit.proofs.circuits.circuit_raised.Tie as tie
 use Rattle.hnsr_circuit.proofs.circuits.circuit_raised.Reads as reads
 use Rattle.hnsr_circuit.proofs.circuits.circuit_raised.Lts as lts
 use Rattle.hnsr_circuit.proofs.circuits.more_credit.Reads as more-credit-reads
-use Rattle.hnsr_circuit.proofs.circuits.moved.Reads as moved-reads
 
 enum-told : tie.Need-enum-told
 enum-told c = search needs
@@ -13,23 +12,17 @@ enum-told c = search needs
 more-credit-requires : tie.Need-more-credit-requires
 more-credit-requires c κs = search needs
 
-moved-requires : tie.Need-moved-requires
-moved-requires c κs = search needs
-
 enum-told-2 : tie.Need-enum-told-2
 enum-told-2 c = search needs
 
 more-credit-requires-2 : tie.Need-more-credit-requires-2
 more-credit-requires-2 c κs = search needs
 
-moved-requires-2 : tie.Need-moved-requires-2
-moved-requires-2 c κs = search needs
-
 returns : tie.Need-returns
-returns c = rw (c .before .before .enum-told .given .1) (λ l. rw (c .moved .ensures, c .before .more-credit .ensures l))
+returns c = rw (c .before .before .before .before .enum-told .given .1) (λ l. rw (c .before .before .before .more-credit .ensures l))
 
 returns-2 : tie.Need-returns-2
-returns-2 c = rw (c .before .before .enum-told2 .given .1) (λ l. rw (c .moved2 .ensures, c .before .more-credit2 .ensures l))
+returns-2 c = rw (c .before .before .before .before .enum-told2 .given .1) (λ l. rw (c .before .before .before .more-credit2 .ensures l))
 
 pub circuit-raised-spec : {M : Type 1} → statement M
 circuit-raised-spec =
@@ -37,9 +30,7 @@ circuit-raised-spec =
     (tie.spec
     enum-told
     more-credit-requires
-    moved-requires
     enum-told-2
     more-credit-requires-2
-    moved-requires-2
     returns
     returns-2)

@@ -3,9 +3,9 @@ mod Tie
 use Prim.Native.Nat.{_<_}
 use mathlib.Core.Path.{sym, ap, _∙_}
 use lib.ListN.{length}
-use Rattle.hnsr_circuit.specs.World.{Outcome, atTime}
+use Rattle.hnsr_circuit.specs.World.{Outcome, atTime, worldOf}
 use Rattle.hnsr_circuit.specs.Handle.{handleGate, handle}
-use Rattle.hnsr_circuit.specs.Progress.{worldOf, packetOf, ending}
+use Rattle.hnsr_circuit.specs.Progress.{packetOf, ending}
 use Rattle.hnsr_circuit.specs.Call.{step, callHandle}
 use Rattle.hnsr_circuit.specs.Laws.Calls.{turned-away, whole}
 use Rattle.hnsr_circuit.specs.Laws.HandleCall.{rows, body-short, entered}

@@ -1,9 +1,9 @@
 -- Turned away by the gate, or gone on to the handling.
 mod Tie
 use mathlib.Core.Path.{sym, ap, _∙_}
-use Rattle.hnsr_circuit.specs.World.{Outcome}
+use Rattle.hnsr_circuit.specs.World.{Outcome, worldOf}
 use Rattle.hnsr_circuit.specs.Handle.{handlingOf, dispatch, gateAnswer, handleGate}
-use Rattle.hnsr_circuit.specs.Progress.{worldOf, packetOf, ending}
+use Rattle.hnsr_circuit.specs.Progress.{packetOf, ending}
 use Rattle.hnsr_circuit.specs.Laws.Calls.{turned-away, gone-on}
 use borrow.Author.Needs.{needs}
 use Rattle.hnsr_circuit.specs.Held.{heldPending, heldCircuits, heldLedger, heldActions}

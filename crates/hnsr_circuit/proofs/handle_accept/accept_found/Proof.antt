@@ -1,8 +1,8 @@
 -- What the rows refuse is refused; else the tables are the definition's, and OPENED is sent.
 mod Tie
 use mathlib.Core.Path.{ap, _∙_, _≡_, sym}
-use Rattle.hnsr_circuit.specs.World.{Outcome, proceed}
-use Rattle.hnsr_circuit.specs.Progress.{ending, worldOf, messageOf, asking}
+use Rattle.hnsr_circuit.specs.World.{Outcome, proceed, worldOf}
+use Rattle.hnsr_circuit.specs.Progress.{ending, messageOf, asking}
 use Rattle.hnsr_circuit.specs.Laws.Opening.{accept-ends, accept-refused}
 use borrow.Author.Needs.{needs}
 use native.Mathlib.Omega.{arith}

@@ -10,7 +10,7 @@ saturating-add-u64-requires : tie.Need-saturating-add-u64-requires
 saturating-add-u64-requires c κs = search needs
 
 returns : tie.Need-returns
-returns c = rw (c .saturating-add-u64 .ensures)
+returns c = rw (c .before .saturating-add-u64 .ensures)
 
 pub usage-spent-spec : {M : Type 1} → statement M
 usage-spent-spec = tie.close (tie.spec saturating-add-u64-requires returns)

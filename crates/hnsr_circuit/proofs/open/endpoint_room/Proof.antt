@@ -9,6 +9,7 @@ use Rattle.hnsr_circuit.proofs.open.endpoint_room.Reads as reads
 use Rattle.hnsr_circuit.proofs.open.endpoint_room.Lts as lts
 use Rattle.hns_encoding.proofs.numbers.saturating_add_usize.Reads as saturating-add-usize-reads
 use Rattle.hnsr_circuit.proofs.open.endpoint_answer.Reads as endpoint-answer-reads
+use Rattle.hnsr_circuit.proofs.scan.reservation_work.Reads as reservation-work-reads
 
 -- a peer's and a ticket's most are numbers of 16 bits
 small : (c : tie.Start) → c .args .config .«maximum_circuits_per_peer» < 65536
@@ -20,8 +21,8 @@ small-ticket c = search needs
 saturating-add-usize-requires : tie.Need-saturating-add-usize-requires
 saturating-add-usize-requires c κs = search needs
 
-saturating-add-usize-requires-2 : tie.Need-saturating-add-usize-requires-2
-saturating-add-usize-requires-2 c κs = search needs
+reservation-work-requires : tie.Need-reservation-work-requires
+reservation-work-requires c κs = search needs
 
 endpoint-answer-requires : tie.Need-endpoint-answer-requires
 endpoint-answer-requires c κs = search needs
@@ -31,7 +32,7 @@ unfolding endpointAnswer
 returns c = let s = c .before .before .before in
     rw (
       c .endpoint-answer .ensures,
-      c .before .saturating-add-usize2 .ensures,
+      c .before .reservation-work .ensures,
       c .before .before .saturating-add-usize .ensures,
       leb-sum (s .args .config .«maximum_circuits_per_peer») (s .args .waiting .«of_other») (s .args .running .«of_other») (small s),
       leb-sum (s .args .ticket .«max_active_circuits») (s .args .waiting .under) (s .args .running .under) (small-ticket s),
@@ -42,6 +43,6 @@ endpoint-room-spec =
     tie.close
     (tie.spec
     saturating-add-usize-requires
-    saturating-add-usize-requires-2
+    reservation-work-requires
     endpoint-answer-requires
     returns)

@@ -8,7 +8,7 @@ use Rattle.hnsr_circuit.proofs.revocation.close_to_other.Reads as reads
 use Rattle.hnsr_circuit.proofs.revocation.close_to_other.Lts as lts
 use Rattle.hnsr_circuit.proofs.peer.same_peer.Reads as same-peer-reads
 use Rattle.hnsr_circuit.proofs.revocation.close_to_endpoint.Reads as close-to-endpoint-reads
-use Rattle.hnsr_circuit.proofs.revocation.closing.Reads as closing-reads
+use Rattle.hnsr_circuit.proofs.message.closing.Reads as closing-reads
 
 same-peer-requires : tie.Need-same-peer-requires
 same-peer-requires c κs = search needs

@@ -4,7 +4,8 @@ use mathlib.Core.Path.{sym, ap, _∙_}
 use Rattle.hnsr_circuit.specs.Pending.{pendingId}
 use Rattle.hnsr_circuit.specs.Circuits.{circuitId}
 use Rattle.hnsr_circuit.specs.Question.{pendingHas, circuitHas}
-use Rattle.hnsr_circuit.specs.Progress.{worldOf, Progress, progress, advanced, advance}
+use Rattle.hnsr_circuit.specs.Progress.{Progress, progress, advanced, advance}
+use Rattle.hnsr_circuit.specs.World.{worldOf}
 use Rattle.hnsr_circuit.specs.Queue.{andThen}
 use Rattle.hnsr_circuit.specs.Revocation.{revokeAll, revokeCircuitThere, walk, pendingTable, circuitTable}
 use Rattle.hnsr_circuit.specs.Revoking.{endingPending}

@@ -11,7 +11,8 @@ use Rattle.hnsr_circuit.specs.declared.records.Outgoing.{Outgoing}
 use Rattle.hnsr_circuit.specs.Circuits.{clearCircuit}
 use Rattle.hnsr_circuit.specs.Inflight.{actionUnder, dropped}
 use Rattle.hnsr_circuit.specs.Queue.{when, tell}
-use Rattle.hnsr_circuit.specs.Progress.{worldOf, messageOf, Progress, progress, advance, underway}
+use Rattle.hnsr_circuit.specs.Progress.{messageOf, Progress, progress, advance, underway}
+use Rattle.hnsr_circuit.specs.World.{worldOf}
 use Rattle.hnsr_circuit.specs.Revoking.{closeSide}
 use Rattle.hnsr_circuit.specs.Laws.Revocation.{circuit-revoked}
 use Rattle.hnsr_circuit.specs.Laws.Held.{stored-seen}

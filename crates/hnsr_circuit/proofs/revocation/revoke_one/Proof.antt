@@ -10,7 +10,8 @@ use borrow.Author.Tests.{lt-ltb, le-ltb}
 use Rattle.hnsr_circuit.specs.Circuits.{clearCircuit, circuitAt}
 use Rattle.hnsr_circuit.specs.Question.{circuitAsked}
 use Rattle.hnsr_circuit.specs.Table.{any, placeOf}
-use Rattle.hnsr_circuit.specs.Progress.{worldOf, filledTo, placed, Progress, progress, advanced, advance}
+use Rattle.hnsr_circuit.specs.Progress.{filledTo, placed, Progress, progress, advanced, advance}
+use Rattle.hnsr_circuit.specs.World.{worldOf}
 use Rattle.hnsr_circuit.specs.Revocation.{revokeCircuitThere, revokeCircuit}
 use Rattle.hnsr_circuit.specs.Laws.Revocation.{revoked-found, revoked-none}
 use Rattle.hnsr_circuit.specs.Laws.Lookups.{place-any}

@@ -10,7 +10,8 @@ use Rattle.hnsr_circuit.specs.declared.records.RelayPending.{RelayPendin
 use Rattle.hnsr_circuit.specs.Pending.{clearPending}
 use Rattle.hnsr_circuit.specs.Inflight.{actionUnder, dropped}
 use Rattle.hnsr_circuit.specs.Queue.{when, tell}
-use Rattle.hnsr_circuit.specs.Progress.{worldOf, messageOf, Progress, progress, advance, underway}
+use Rattle.hnsr_circuit.specs.Progress.{messageOf, Progress, progress, advance, underway}
+use Rattle.hnsr_circuit.specs.World.{worldOf}
 use Rattle.hnsr_circuit.specs.Revoking.{closeOut, firstOut}
 use Rattle.hnsr_circuit.specs.Laws.Revocation.{pending-revoked}
 use Rattle.hnsr_circuit.specs.Laws.Held.{stored-seen}

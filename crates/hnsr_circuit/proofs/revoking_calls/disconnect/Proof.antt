@@ -9,10 +9,10 @@ use Rattle.hnsr_circuit.specs.Pending.{isPending, pendingId}
 use Rattle.hnsr_circuit.specs.Circuits.{isCircuit, circuitId}
 use Rattle.hnsr_circuit.specs.declared.answer.HnsrRuntimeError.the-variants.{Short}
 use Rattle.hnsr_circuit.specs.Answers.{_then_}
-use Rattle.hnsr_circuit.specs.World.{Outcome}
+use Rattle.hnsr_circuit.specs.World.{Outcome, worldOf}
 use Rattle.hnsr_circuit.specs.Counts.{pendingCount, circuitCount}
 use Rattle.hnsr_circuit.specs.Entry.{roomAnswer, tablesShort, closingWords}
-use Rattle.hnsr_circuit.specs.Progress.{worldOf, ending}
+use Rattle.hnsr_circuit.specs.Progress.{ending}
 use Rattle.hnsr_circuit.specs.Peer.{peerOf}
 use Rattle.hnsr_circuit.specs.Call.{step, callDisconnect}
 use Rattle.hnsr_circuit.specs.RevokingCalls.{disconnect, disconnectPeer}

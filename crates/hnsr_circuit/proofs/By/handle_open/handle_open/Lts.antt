@@ -201,7 +201,7 @@ ps·3 = (MutSlice.pMutS ReservationUsage.row 0 tt) ∷ (Value.pVal record { ty =
     Laws'''.the-copy Exit.yes; row = Rows.whole (Declared'.row Places.the-type); rd = λ x. x; mk = λ x. x; } λ M 𝓤 H A W. record { copies =
     Laws''''''''.copy Places.the-type Laws'''.the-copy 𝓤 H A W; lawful = Laws''''''''.lawful Places.the-type Laws'''.the-laws 𝓤 H A W; makes =
     Laws''''''''.makes Places.the-type Laws'''.the-plain 𝓤 H A; in-mem = Local.mem-whole 𝓤 H A W (Declared'.row Places.the-type); of-mem =
-    Local.whole-mem 𝓤 H A W (Declared'.row Places.the-type); }) ∷ Bool.pBool ∷ (Num.pNum Syntax.w64) ∷ List.[]
+    Local.whole-mem 𝓤 H A W (Declared'.row Places.the-type); }) ∷ (Num.pNum Syntax.w64) ∷ List.[]
 abbrev pub r·3 : Kinds.RK 1
 r·3 = Unit.rUnit
 abbrev pub ps·4 : List.List (Kinds.PK 6)
@@ -289,8 +289,8 @@ abbrev b9 : Syntax.Body
 b9 = Syntax.assign (Syntax.place 23 List.[]) (Syntax.aggregate ((Syntax.copy (Syntax.place 22 List.[])) ∷ (Syntax.copy (Syntax.place 3 ((Syntax.field
     1) ∷ List.[]))) ∷ List.[]))
 abbrev b10 : Syntax.Body
-b10 = Syntax.call "hnsr_circuit::lookup::drop_lapsed" ((Syntax.copy (Syntax.place 23 List.[])) ∷ (Syntax.copy (Syntax.place 7 List.[])) ∷
-    Syntax.opdTrue ∷ (Syntax.copy (Syntax.place 8 ((Syntax.field 2) ∷ List.[]))) ∷ List.[]) (Syntax.place 21 List.[])
+b10 = Syntax.call "hnsr_circuit::lookup::drop_lapsed" ((Syntax.copy (Syntax.place 23 List.[])) ∷ (Syntax.copy (Syntax.place 7 List.[])) ∷ (Syntax.copy
+    (Syntax.place 8 ((Syntax.field 2) ∷ List.[]))) ∷ List.[]) (Syntax.place 21 List.[])
 abbrev b11 : Syntax.Body
 b11 = Syntax.assign (Syntax.place 24 List.[]) (Syntax.addrOf (Syntax.place 1 ((Syntax.field 0) ∷ (Syntax.deref RelayPending.ty) ∷ List.[])))
 abbrev b12 : Syntax.Body
@@ -823,8 +823,8 @@ module _ (claims· : Claims) where
       ((Syntax.field 1) ∷ List.[]) (Syntax.tyInt Syntax.w64) 8 λ v. Shared.lenV (v .0))
   abbrev s29 : (bs : List.List Nat.ℕ) → Typed.Both T31 T32
   s29 = λ bs. Call.callB ps·3 r·3 (claims· .6) (claims· .7) T31 (record { pos = 23; ty = Syntax.tyRef Syntax.erased Syntax.mut ReservationUsage.to;
-      ref = λ x. x; }, (record { pos = 7; st = List.[]; d = 0; at = λ x. x }, (Bool.bLit Bool'.true, (Num.vFld 8 ((Syntax.field 2) ∷ List.[]) 16 λ x.
-      RelayPacket.struct .as-values x .1 .1 .0, tt,),),),) 21 (11 ∷ List.[]) Syntax.tyUnit
+      ref = λ x. x; }, (record { pos = 7; st = List.[]; d = 0; at = λ x. x }, (Num.vFld 8 ((Syntax.field 2) ∷ List.[]) 16 λ x. RelayPacket.struct
+      .as-values x .1 .1 .0, tt,),),) 21 (11 ∷ List.[]) Syntax.tyUnit
   abbrev s30 : (bs : List.List Nat.ℕ) → Typed.Mo T32 → Typed.Mo T33
   s30 = λ bs. Scalar.n-room T32 8 Laws''''.mir
   abbrev s31 : (bs : List.List Nat.ℕ) → Typed.Mo T33 → Typed.Mo T34
@@ -1682,14 +1682,14 @@ module _ (claims· : Claims) where
           d42 : Typed.Typed 𝓤 H A 𝓣 E G31 b34 Δ1 (at42 bs)
           d42 = Typed.s-seq 𝓤 H A W 𝓣 E G31 G32 b10 b33 Δ1 (Typed.both (s29 bs)) (at41 bs) (Plain.t-call-plain 𝓤 H A W 𝓣 1 ps·3 r·3 (claims· .6)
               (claims· .7) "hnsr_circuit::lookup::drop_lapsed" (known .3) E (λ pos β. β) G31 (record { pos = 23; ty = Syntax.tyRef Syntax.erased
-              Syntax.mut ReservationUsage.to; ref = λ x. x; }, (record { pos = 7; st = List.[]; d = 0; at = λ x. x }, (Bool.bLit Bool'.true, (Num.vFld
-              8 ((Syntax.field 2) ∷ List.[]) 16 λ x. RelayPacket.struct .as-values x .1 .1 .0, tt,),),),) 21 (11 ∷ List.[]) (Call.sub-id 𝓤 H A W (G31
-              .slots)) (Reads'.as-is 𝓤 H A (Mut.mslice ReservationUsage.row ref2 11), Mut.reads-mslice 𝓤 H A W ReservationUsage.row ref2 11,
-              Path.refl, ((Yields.yields-copy 𝓤 H A W (λ ρ. Unit) (Declared'.row Places.the-type) Path.refl (Copies.cStruct Places.the-type
-              Laws'''.the-laws Laws'''.the-copy .copy 𝓤 H A W) (Rows.whole (Declared'.row Places.the-type)) (λ x. x) (λ x. x) (λ ρ told.
-              Local.mem-whole 𝓤 H A W (Declared'.row Places.the-type) ρ) λ ρ told. Local.whole-mem 𝓤 H A W (Declared'.row Places.the-type) ρ,
-              Path.refl,), (tt, ((Reads.reads-field 𝓤 H A W RelayPacket.the-type Laws''''.the-laws 2 (Syntax.tyInt Syntax.w64) 16 Path.refl,
-              Path.refl,), tt,),),),) (Reads'.room-gone 𝓤 H A Syntax.tyUnit) (tt, tt) Path.refl) d41
+              Syntax.mut ReservationUsage.to; ref = λ x. x; }, (record { pos = 7; st = List.[]; d = 0; at = λ x. x }, (Num.vFld 8 ((Syntax.field 2) ∷
+              List.[]) 16 λ x. RelayPacket.struct .as-values x .1 .1 .0, tt,),),) 21 (11 ∷ List.[]) (Call.sub-id 𝓤 H A W (G31 .slots)) (Reads'.as-is 𝓤
+              H A (Mut.mslice ReservationUsage.row ref2 11), Mut.reads-mslice 𝓤 H A W ReservationUsage.row ref2 11, Path.refl, ((Yields.yields-copy 𝓤
+              H A W (λ ρ. Unit) (Declared'.row Places.the-type) Path.refl (Copies.cStruct Places.the-type Laws'''.the-laws Laws'''.the-copy .copy 𝓤 H
+              A W) (Rows.whole (Declared'.row Places.the-type)) (λ x. x) (λ x. x) (λ ρ told. Local.mem-whole 𝓤 H A W (Declared'.row Places.the-type)
+              ρ) λ ρ told. Local.whole-mem 𝓤 H A W (Declared'.row Places.the-type) ρ, Path.refl,), ((Reads.reads-field 𝓤 H A W RelayPacket.the-type
+              Laws''''.the-laws 2 (Syntax.tyInt Syntax.w64) 16 Path.refl, Path.refl,), tt,),),) (Reads'.room-gone 𝓤 H A Syntax.tyUnit) (tt, tt)
+              Path.refl) d41
           d43 : Typed.Typed 𝓤 H A 𝓣 E G30 b35 Δ1 (at43 bs)
           d43 = Typed.s-seq 𝓤 H A W 𝓣 E G30 G31 b9 b34 Δ1 (Typed.ask (s28 bs)) (at42 bs) (Relend.t-sl-aggregate 𝓤 H A W E ReservationUsage.row 𝓣
               (Relend.asMut ReservationUsage.row) G30 22 23 11 ref2 ref2 (λ x. x) (Scalar.oFld 3 ((Syntax.field 1) ∷ List.[]) (Syntax.tyInt
@@ -2140,18 +2140,16 @@ module _ (claims· : Claims) where
       module _ (before· : After-drop-lapsed-arg) where
         abbrev pub After-drop-lapsed·own : Type 0
         After-drop-lapsed·own = Called.Called ps·3 r·3 (claims· .7) T31 (record { pos = 23; ty = Syntax.tyRef Syntax.erased Syntax.mut
-            ReservationUsage.to; ref = λ x. x; }, (record { pos = 7; st = List.[]; d = 0; at = λ x. x }, (Bool.bLit Bool'.true, (Num.vFld 8
-            ((Syntax.field 2) ∷ List.[]) 16 λ x. RelayPacket.struct .as-values x .1 .1 .0, tt,),),),) (m22 (before· .before) (before· .drop-lapsed-arg
-            .given))
+            ReservationUsage.to; ref = λ x. x; }, (record { pos = 7; st = List.[]; d = 0; at = λ x. x }, (Num.vFld 8 ((Syntax.field 2) ∷ List.[]) 16 λ
+            x. RelayPacket.struct .as-values x .1 .1 .0, tt,),),) (m22 (before· .before) (before· .drop-lapsed-arg .given))
       pub record After-drop-lapsed : Type 0 where
         pub before : After-drop-lapsed-arg
         pub drop-lapsed : After-drop-lapsed·own before
       abbrev pub After-drop-lapsed·gave : (c : After-drop-lapsed) → s29 (c .before .before .before .before .before .before .before .before .before
           .before .before .before .before .before .blocks) .gives (m22 (c .before .before) (c .before .drop-lapsed-arg .given))
       After-drop-lapsed·gave = λ c. Called.given ps·3 r·3 (claims· .7) T31 (record { pos = 23; ty = Syntax.tyRef Syntax.erased Syntax.mut
-          ReservationUsage.to; ref = λ x. x; }, (record { pos = 7; st = List.[]; d = 0; at = λ x. x }, (Bool.bLit Bool'.true, (Num.vFld 8
-          ((Syntax.field 2) ∷ List.[]) 16 λ x. RelayPacket.struct .as-values x .1 .1 .0, tt,),),),) (m22 (c .before .before) (c .before
-          .drop-lapsed-arg .given)) (c .drop-lapsed)
+          ReservationUsage.to; ref = λ x. x; }, (record { pos = 7; st = List.[]; d = 0; at = λ x. x }, (Num.vFld 8 ((Syntax.field 2) ∷ List.[]) 16 λ
+          x. RelayPacket.struct .as-values x .1 .1 .0, tt,),),) (m22 (c .before .before) (c .before .drop-lapsed-arg .given)) (c .drop-lapsed)
       abbrev pub m24 : (before : After-drop-lapsed-arg) → (given : s29 (before .before .before .before .before .before .before .before .before .before
           .before .before .before .before .blocks) .gives (m22 (before .before) (before .drop-lapsed-arg .given))) → Typed.Mo T33
       m24 = λ before given. s30 (before .before .before .before .before .before .before .before .before .before .before .before .before .before
@@ -2612,10 +2610,10 @@ module _ (claims· : Claims) where
             .is-taken }; if1 = record { taken = taken }; }; drop-lapsed-arg = record { given = g }; }, λ g'. lay4 record { before = record { before =
             record { before = record { before = c .before; is-taken = c .is-taken }; if1 = record { taken = taken }; }; drop-lapsed-arg = record {
             given = g }; }; drop-lapsed = Called.called ps·3 r·3 (claims· .7) T31 (record { pos = 23; ty = Syntax.tyRef Syntax.erased Syntax.mut
-            ReservationUsage.to; ref = λ x. x; }, (record { pos = 7; st = List.[]; d = 0; at = λ x. x }, (Bool.bLit Bool'.true, (Num.vFld 8
-            ((Syntax.field 2) ∷ List.[]) 16 λ x. RelayPacket.struct .as-values x .1 .1 .0, tt,),),),) (m22 record { before = record { before = c
-            .before; is-taken = c .is-taken }; if1 = record { taken = taken }; } g) g'; },),), λ left. lay6 record { before = record { before = c
-            .before; is-taken = c .is-taken }; if1 = record { left = left }; },)
+            ReservationUsage.to; ref = λ x. x; }, (record { pos = 7; st = List.[]; d = 0; at = λ x. x }, (Num.vFld 8 ((Syntax.field 2) ∷ List.[]) 16 λ
+            x. RelayPacket.struct .as-values x .1 .1 .0, tt,),),) (m22 record { before = record { before = c .before; is-taken = c .is-taken }; if1 =
+            record { taken = taken }; } g) g'; },),), λ left. lay6 record { before = record { before = c .before; is-taken = c .is-taken }; if1 =
+            record { left = left }; },)
         lay2 : (c : After-open-rows) → at60 (c .before .before .before .before .before .before .before .before .before .before .blocks) (W0 (c .before
             .before .before .before .before .before .before .before .before .before .κs) (c .before .before .before .before .before .before .before
             .before .before .before .args) (c .before .before .before .before .before .before .before .before .before .before .blocks)) (m16 (c

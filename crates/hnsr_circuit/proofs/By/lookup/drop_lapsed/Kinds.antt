@@ -20,7 +20,7 @@ ps = (MutSlice.pMutS ReservationUsage.row 0 tt) ∷ (Value.pVal record { ty = De
     Places.the-type Laws.the-laws; tells = Laws'.tells Places.the-type Laws.the-laws; still = Laws'.still Places.the-type Laws.the-copy Exit.yes; row
     = Rows.whole (Declared.row Places.the-type); rd = λ x. x; mk = λ x. x; } λ M 𝓤 H A W. record { copies = Laws'.copy Places.the-type Laws.the-copy 𝓤
     H A W; lawful = Laws'.lawful Places.the-type Laws.the-laws 𝓤 H A W; makes = Laws'.makes Places.the-type Laws.the-plain 𝓤 H A; in-mem =
-    Local.mem-whole 𝓤 H A W (Declared.row Places.the-type); of-mem = Local.whole-mem 𝓤 H A W (Declared.row Places.the-type); }) ∷ Kinds.pBool ∷
-    (Kinds.pNum Syntax.w64) ∷ List.[]
+    Local.mem-whole 𝓤 H A W (Declared.row Places.the-type); of-mem = Local.whole-mem 𝓤 H A W (Declared.row Places.the-type); }) ∷ (Kinds.pNum
+    Syntax.w64) ∷ List.[]
 abbrev pub r : Kinds.RK 1
 r = Kinds.rUnit

@@ -264,7 +264,7 @@ ps·7 = (MutSlice.pMutS ReservationUsage.row 0 tt) ∷ (Value.pVal record { ty =
     Laws''''''''''''.still Places.the-type Laws'''.the-copy Exit.yes; row = Rows.whole (Declared'.row Places.the-type); rd = λ x. x; mk = λ x. x; } λ
     M 𝓤 H A W. record { copies = Laws''''''''''''.copy Places.the-type Laws'''.the-copy 𝓤 H A W; lawful = Laws''''''''''''.lawful Places.the-type
     Laws'''.the-laws 𝓤 H A W; makes = Laws''''''''''''.makes Places.the-type Laws'''.the-plain 𝓤 H A; in-mem = Local.mem-whole 𝓤 H A W (Declared'.row
-    Places.the-type); of-mem = Local.whole-mem 𝓤 H A W (Declared'.row Places.the-type); }) ∷ Bool.pBool ∷ (Num.pNum Syntax.w64) ∷ List.[]
+    Places.the-type); of-mem = Local.whole-mem 𝓤 H A W (Declared'.row Places.the-type); }) ∷ (Num.pNum Syntax.w64) ∷ List.[]
 abbrev pub r·7 : Kinds.RK 1
 r·7 = Unit.rUnit
 abbrev pub ps·8 : List.List (Kinds.PK 4)
@@ -382,8 +382,8 @@ abbrev b19 : Syntax.Body
 b19 = Syntax.assign (Syntax.place 29 List.[]) (Syntax.aggregate ((Syntax.copy (Syntax.place 28 List.[])) ∷ (Syntax.copy (Syntax.place 3 ((Syntax.field
     1) ∷ List.[]))) ∷ List.[]))
 abbrev b20 : Syntax.Body
-b20 = Syntax.call "hnsr_circuit::lookup::drop_lapsed" ((Syntax.copy (Syntax.place 29 List.[])) ∷ (Syntax.copy (Syntax.place 7 List.[])) ∷
-    Syntax.opdTrue ∷ (Syntax.copy (Syntax.place 8 List.[])) ∷ List.[]) (Syntax.place 27 List.[])
+b20 = Syntax.call "hnsr_circuit::lookup::drop_lapsed" ((Syntax.copy (Syntax.place 29 List.[])) ∷ (Syntax.copy (Syntax.place 7 List.[])) ∷ (Syntax.copy
+    (Syntax.place 8 List.[])) ∷ List.[]) (Syntax.place 27 List.[])
 abbrev b21 : Syntax.Body
 b21 = Syntax.assign (Syntax.place 30 List.[]) (Syntax.addrOf (Syntax.place 1 ((Syntax.field 0) ∷ (Syntax.deref RelayPending.ty) ∷ List.[])))
 abbrev b22 : Syntax.Body
@@ -1040,8 +1040,7 @@ module _ (claims· : Claims) where
       ((Syntax.field 1) ∷ List.[]) (Syntax.tyInt Syntax.w64) 8 λ v. Shared.lenV (v .0))
   abbrev s44 : (bs : List.List Nat.ℕ) → Typed.Both T46 T47
   s44 = λ bs. Call.callB ps·7 r·7 (claims· .14) (claims· .15) T46 (record { pos = 29; ty = Syntax.tyRef Syntax.erased Syntax.mut ReservationUsage.to;
-      ref = λ x. x; }, (record { pos = 7; st = List.[]; d = 0; at = λ x. x }, (Bool.bLit Bool'.true, (Num.vAt 8 λ x. x, tt)),),) 27 (7 ∷ List.[])
-      Syntax.tyUnit
+      ref = λ x. x; }, (record { pos = 7; st = List.[]; d = 0; at = λ x. x }, (Num.vAt 8 λ x. x, tt)),) 27 (7 ∷ List.[]) Syntax.tyUnit
   abbrev s45 : (bs : List.List Nat.ℕ) → Typed.Mo T47 → Typed.Mo T48
   s45 = λ bs. Scalar.n-room T47 27 Syntax.tyUnit
   abbrev s47 : (bs : List.List Nat.ℕ) → Typed.Both T48 T50
@@ -1879,13 +1878,13 @@ module _ (claims· : Claims) where
           d36 : Typed.Typed 𝓤 H A 𝓣 E G46 b40 Δ1 (at36 bs)
           d36 = Typed.s-seq 𝓤 H A W 𝓣 E G46 G47 b20 b39 Δ1 (Typed.both (s44 bs)) (at35 bs) (Plain.t-call-plain 𝓤 H A W 𝓣 1 ps·7 r·7 (claims· .14)
               (claims· .15) "hnsr_circuit::lookup::drop_lapsed" (known .7) E (λ pos β. β) G46 (record { pos = 29; ty = Syntax.tyRef Syntax.erased
-              Syntax.mut ReservationUsage.to; ref = λ x. x; }, (record { pos = 7; st = List.[]; d = 0; at = λ x. x }, (Bool.bLit Bool'.true, (Num.vAt
-              8 λ x. x, tt)),),) 27 (7 ∷ List.[]) (Call.sub-id 𝓤 H A W (G46 .slots)) (Reads'.as-is 𝓤 H A (Mut.mslice ReservationUsage.row ref2 7),
-              Mut.reads-mslice 𝓤 H A W ReservationUsage.row ref2 7, Path.refl, ((Yields.yields-copy 𝓤 H A W (λ ρ. Unit) (Declared'.row
-              Places.the-type) Path.refl (Copies.cStruct Places.the-type Laws'''.the-laws Laws'''.the-copy .copy 𝓤 H A W) (Rows.whole (Declared'.row
-              Places.the-type)) (λ x. x) (λ x. x) (λ ρ told. Local.mem-whole 𝓤 H A W (Declared'.row Places.the-type) ρ) λ ρ told. Local.whole-mem 𝓤 H
-              A W (Declared'.row Places.the-type) ρ, Path.refl,), (tt, ((Scalar.reads-sc 𝓤 H A W (Row.sInt Syntax.w64), Path.refl), tt)),),)
-              (Reads'.room-gone 𝓤 H A Syntax.tyUnit) (tt, tt) Path.refl) d35
+              Syntax.mut ReservationUsage.to; ref = λ x. x; }, (record { pos = 7; st = List.[]; d = 0; at = λ x. x }, (Num.vAt 8 λ x. x, tt)),) 27 (7
+              ∷ List.[]) (Call.sub-id 𝓤 H A W (G46 .slots)) (Reads'.as-is 𝓤 H A (Mut.mslice ReservationUsage.row ref2 7), Mut.reads-mslice 𝓤 H A W
+              ReservationUsage.row ref2 7, Path.refl, ((Yields.yields-copy 𝓤 H A W (λ ρ. Unit) (Declared'.row Places.the-type) Path.refl
+              (Copies.cStruct Places.the-type Laws'''.the-laws Laws'''.the-copy .copy 𝓤 H A W) (Rows.whole (Declared'.row Places.the-type)) (λ x. x)
+              (λ x. x) (λ ρ told. Local.mem-whole 𝓤 H A W (Declared'.row Places.the-type) ρ) λ ρ told. Local.whole-mem 𝓤 H A W (Declared'.row
+              Places.the-type) ρ, Path.refl,), ((Scalar.reads-sc 𝓤 H A W (Row.sInt Syntax.w64), Path.refl), tt),),) (Reads'.room-gone 𝓤 H A
+              Syntax.tyUnit) (tt, tt) Path.refl) d35
           d37 : Typed.Typed 𝓤 H A 𝓣 E G45 b41 Δ1 (at37 bs)
           d37 = Typed.s-seq 𝓤 H A W 𝓣 E G45 G46 b19 b40 Δ1 (Typed.ask (s43 bs)) (at36 bs) (Relend.t-sl-aggregate 𝓤 H A W E ReservationUsage.row 𝓣
               (Relend.asMut ReservationUsage.row) G45 28 29 7 ref2 ref2 (λ x. x) (Scalar.oFld 3 ((Syntax.field 1) ∷ List.[]) (Syntax.tyInt Syntax.w64)
@@ -2513,16 +2512,16 @@ module _ (claims· : Claims) where
       module _ (before· : After-drop-lapsed-arg) where
         abbrev pub After-drop-lapsed·own : Type 0
         After-drop-lapsed·own = Called.Called ps·7 r·7 (claims· .15) T46 (record { pos = 29; ty = Syntax.tyRef Syntax.erased Syntax.mut
-            ReservationUsage.to; ref = λ x. x; }, (record { pos = 7; st = List.[]; d = 0; at = λ x. x }, (Bool.bLit Bool'.true, (Num.vAt 8 λ x. x,
-            tt)),),) (m37 (before· .before) (before· .drop-lapsed-arg .given))
+            ReservationUsage.to; ref = λ x. x; }, (record { pos = 7; st = List.[]; d = 0; at = λ x. x }, (Num.vAt 8 λ x. x, tt)),) (m37 (before·
+            .before) (before· .drop-lapsed-arg .given))
       pub record After-drop-lapsed : Type 0 where
         pub before : After-drop-lapsed-arg
         pub drop-lapsed : After-drop-lapsed·own before
       abbrev pub After-drop-lapsed·gave : (c : After-drop-lapsed) → s44 (c .before .before .before .before .before .before .before .before .before
           .before .before .before .before .before .before .blocks) .gives (m37 (c .before .before) (c .before .drop-lapsed-arg .given))
       After-drop-lapsed·gave = λ c. Called.given ps·7 r·7 (claims· .15) T46 (record { pos = 29; ty = Syntax.tyRef Syntax.erased Syntax.mut
-          ReservationUsage.to; ref = λ x. x; }, (record { pos = 7; st = List.[]; d = 0; at = λ x. x }, (Bool.bLit Bool'.true, (Num.vAt 8 λ x. x,
-          tt)),),) (m37 (c .before .before) (c .before .drop-lapsed-arg .given)) (c .drop-lapsed)
+          ReservationUsage.to; ref = λ x. x; }, (record { pos = 7; st = List.[]; d = 0; at = λ x. x }, (Num.vAt 8 λ x. x, tt)),) (m37 (c .before
+          .before) (c .before .drop-lapsed-arg .given)) (c .drop-lapsed)
       abbrev pub m39 : (before : After-drop-lapsed-arg) → (given : s44 (before .before .before .before .before .before .before .before .before .before
           .before .before .before .before .before .blocks) .gives (m37 (before .before) (before .drop-lapsed-arg .given))) → Typed.Mo T48
       m39 = λ before given. s45 (before .before .before .before .before .before .before .before .before .before .before .before .before .before
@@ -2959,7 +2958,7 @@ module _ (claims· : Claims) where
             drop-lapsed-arg = record { given = g }; }, λ g'. lay8 record { before = record { before = record { before = c .before; with-clock = c
             .with-clock }; drop-lapsed-arg = record { given = g }; }; drop-lapsed = Called.called ps·7 r·7 (claims· .15) T46 (record { pos = 29; ty =
             Syntax.tyRef Syntax.erased Syntax.mut ReservationUsage.to; ref = λ x. x; }, (record { pos = 7; st = List.[]; d = 0; at = λ x. x },
-            (Bool.bLit Bool'.true, (Num.vAt 8 λ x. x, tt)),),) (m37 record { before = c .before; with-clock = c .with-clock } g) g'; },),)
+            (Num.vAt 8 λ x. x, tt)),) (m37 record { before = c .before; with-clock = c .with-clock } g) g'; },),)
         lay6 : (c : After-revoking) → at44 (c .before .before .before .before .before .before .before .before .before .before .before .before .blocks)
             (W1 (c .before .before .before) (After-is-taken·gave (c .before .before))) (m30 (c .before) (After-revoking·gave c))
         lay6 = λ c. (with-clock-requires record { before = c .before; revoking = c .revoking }, λ g. lay7 record { before = record { before = c

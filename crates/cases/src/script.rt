@@ -5,6 +5,7 @@ use hnsr_body::values::ReservationId;
 use hnsr_circuit::answer::HnsrAnswer;
 use hnsr_circuit::config::OpaqueRelayConfig;
 use hnsr_circuit::peer::HnsrPeerId;
+use hnsr_circuit::peer::MAXIMUM_PEER;
 use hnsr_circuit::records::InflightAction;
 use hnsr_circuit::records::RelayCircuit;
 use hnsr_circuit::records::RelayPacket;
@@ -33,7 +34,7 @@ pub(crate) const ENDPOINT: u8 = 2;
 fn no_peer() -> HnsrPeerId {
     HnsrPeerId {
         len: 0,
-        bytes: [0u8; 128],
+        bytes: [0u8; MAXIMUM_PEER],
     }
 }
 

@@ -1,5 +1,6 @@
 -- Lent tables read as found (document 01, "What the host hands over"): examples that no trace of the Rust reaches, by computation. Here 22,
 -- 23, equal ids and records that replace; the rest is in FoundMore. Above each stands what it reads.
+use Prim.Native.Nat.{_-_}
 use mathlib.Core.Path.{_≡_, refl}
 use mathlib.Core.Bool.{true, false}
 use mathlib.Core.List.{[], _∷_}
@@ -7,6 +8,7 @@ use lib.ListN.{replicate}
 use Rattle.hnsr_circuit.specs.declared.answer.HnsrAnswer.{HnsrAnswer}
 use Rattle.hnsr_circuit.specs.declared.answer.HnsrAnswer.the-variants.{Taken, Refused}
 use Rattle.hnsr_circuit.specs.declared.answer.HnsrRuntimeError.the-variants.{InvalidAdmission, UnknownAction, Short, LedgerFull}
+use Rattle.hnsr_circuit.specs.Peer.{maximumPeer}
 use Rattle.hnsr_circuit.specs.Pending.{noPending}
 use Rattle.hnsr_circuit.specs.Circuits.{noCircuit}
 use Rattle.hnsr_circuit.specs.Ledger.{noUsage}
@@ -169,7 +171,7 @@ unfolding found pendingOn circuitOn usageOn actionOn free peer
 already =
     found (pendingOn 7 9 ∷ noPending ∷ []) (circuitOn 7 (peer 1) (peer 3) 5 5 ∷ noCircuit ∷ []) (usageOn 5 0 ∷ []) (actionOn 1 99 3 0 ∷ free 7)
 
-pub accept-replaces : firstCircuit already (acceptCall 100) .endpoint .bytes ≡ 2 ∷ replicate 127 0
+pub accept-replaces : firstCircuit already (acceptCall 100) .endpoint .bytes ≡ 2 ∷ replicate (maximumPeer - 1) 0
 unfolding firstCircuit already acceptCall
 accept-replaces = refl
 

@@ -1,6 +1,6 @@
 -- Lent tables read as found, further examples: long and dirty names, a stored zero context, marks and counts that do not fit, kinds above 4,
 -- numbers and sums at their tops, and the tail of the output. Above each stands what it reads of document 01.
-use Prim.Native.Nat.{ℕ}
+use Prim.Native.Nat.{ℕ, _+_, _-_}
 use mathlib.Core.Path.{_≡_, refl}
 use mathlib.Core.Bool.{true, false}
 use mathlib.Core.List.{List, [], _∷_}
@@ -11,6 +11,7 @@ use Rattle.hnsr_body.specs.declared.error.HnsrProtocolError.the-variants.{Inval
 use Rattle.hnsr_circuit.specs.declared.peer.HnsrPeerId.{HnsrPeerId}
 use Rattle.hnsr_circuit.specs.declared.answer.HnsrAnswer.the-variants.{Taken, Refused}
 use Rattle.hnsr_circuit.specs.declared.answer.HnsrRuntimeError.the-variants.{Protocol, GenerationExhausted, Capacity}
+use Rattle.hnsr_circuit.specs.Peer.{maximumPeer}
 use Rattle.hnsr_circuit.specs.Pending.{noPending}
 use Rattle.hnsr_circuit.specs.Circuits.{noCircuit}
 use Rattle.hnsr_circuit.specs.World.{World}
@@ -20,12 +21,12 @@ use Rattle.hnsr_circuit.specs.Cases.{requesterPeer, openCall, acceptCall
 use Rattle.hnsr_circuit.specs.FoundWorlds.{peer, pendingOn, circuitOn, usageOn, actionOn, found, free, lastSequence, lastGeneration, answerOf, wordsOf, outputAfter, routes, firstCircuit, headerAfter, actionsAfter, bytesQueued}
 use Rattle.hnsr_circuit.specs.Found.{quiet, fewActions, one-of-each}
 
--- ---- "a peer length over 128 reads as 128"; what stands behind a name is not read
+-- ---- a peer length over the most reads as the most; what stands behind a name is not read
 unfoldable pub longPeer : HnsrPeerId
-longPeer = record { len = 200; bytes = replicate 128 5 }
+longPeer = record { len = maximumPeer + 72; bytes = replicate maximumPeer 5 }
 
 unfoldable pub dirtyPeer : HnsrPeerId
-dirtyPeer = record { len = 1; bytes = 1 ∷ replicate 127 6 }
+dirtyPeer = record { len = 1; bytes = 1 ∷ replicate (maximumPeer - 1) 6 }
 
 unfoldable pub longNames : World
 unfolding found circuitOn usageOn free longPeer dirtyPeer
@@ -39,12 +40,12 @@ pub long-name-hears : firstWord (wordsOf longNames (dataCall requesterPeer 1 100
 unfolding firstWord wordsOf longNames dataCall requesterPeer
 long-name-hears = refl
 
-pub long-name-sends : answerOf longNames (dataCall (replicate 128 5) 1 100) ≡ Taken
+pub long-name-sends : answerOf longNames (dataCall (replicate maximumPeer 5) 1 100) ≡ Taken
 unfolding answerOf longNames dataCall
 long-name-sends = refl
 
 -- "zero padded": the name of one byte, though the record has other bytes behind it
-pub dirty-name-padded : getD (wordsOf longNames (dataCall (replicate 128 5) 1 100)) 5 0 ≡ 1
+pub dirty-name-padded : getD (wordsOf longNames (dataCall (replicate maximumPeer 5) 1 100)) 5 0 ≡ 1
 unfolding wordsOf longNames dataCall
 dirty-name-padded = refl
 

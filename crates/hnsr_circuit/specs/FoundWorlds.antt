@@ -1,6 +1,6 @@
 -- Worlds as a host may lend them, and what is looked at, for the examples of Found and FoundMore. Names of one byte: the requester is 1,
 -- the endpoint 2, as in the cases.
-use Prim.Native.Nat.{ℕ}
+use Prim.Native.Nat.{ℕ, _-_}
 use mathlib.Core.Bool.{Bool, true}
 use mathlib.Core.List.{List, [], _∷_}
 use lib.ListN.{replicate, getD}
@@ -13,6 +13,7 @@ use Rattle.hnsr_circuit.specs.declared.records.ReservationUsage.{Reserva
 use Rattle.hnsr_circuit.specs.declared.records.InflightAction.{InflightAction}
 use Rattle.hnsr_circuit.specs.declared.runtime.OpaqueRelayRuntime.{OpaqueRelayRuntime}
 use Rattle.hnsr_circuit.specs.declared.answer.HnsrAnswer.{HnsrAnswer}
+use Rattle.hnsr_circuit.specs.Peer.{maximumPeer}
 use Rattle.hnsr_circuit.specs.Circuits.{noCircuit}
 use Rattle.hnsr_circuit.specs.Pending.{pendingRecord}
 use Rattle.hnsr_circuit.specs.Ledger.{usageRecord}
@@ -26,7 +27,7 @@ use Rattle.hnsr_circuit.specs.Cases.{caseConfig}
 
 -- ---- records
 unfoldable pub peer : ℕ → HnsrPeerId
-peer b = record { len = 1; bytes = b ∷ replicate 127 0 }
+peer b = record { len = 1; bytes = b ∷ replicate (maximumPeer - 1) 0 }
 
 unfoldable pub foundTicket : RelayTicket
 foundTicket = record {

@@ -15,7 +15,7 @@ maximumPeer = 128
 abbrev pub peerGood : (length : ℕ) → Bool
 peerGood n = leb 1 n && leb n maximumPeer
 
--- the stored form of a name that the host gives: its first 128 bytes, zeros behind them. A longer name is refused before it is stored
+-- the stored form of a name that the host gives: as many bytes as a name may have, zeros behind them. A longer name is refused before it is stored
 unfoldable pub peerOf : List ℕ → HnsrPeerId
 peerOf name = record { len = length name; bytes = padded maximumPeer (take maximumPeer name) }
 

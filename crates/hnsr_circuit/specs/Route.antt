@@ -18,19 +18,26 @@ pub record Route : Type 0 where
   pub body : List ℕ
 
 -- ---- how many words
--- a kind word; generation and sequence; the peer; a kind word; the context
+abbrev pub nameWords : ℕ
+nameWords = wordCount maximumPeer
+
+-- a kind word; generation and sequence; the peer
+abbrev pub addressWords : ℕ
+addressWords = 1 + 2 + 2 + nameWords
+
+-- and a kind word; the context
 abbrev pub headWords : ℕ
-headWords = 1 + 2 + 2 + wordCount maximumPeer + 1 + 2
+headWords = addressWords + 1 + 2
 
 -- ---- which words: a kind word's top four bits are its kind
 abbrev pub kindWord : (kind rest : ℕ) → ℕ
 kindWord kind rest = kind * 268435456 + rest
 
--- kind 1 with peer length in the low 8 bits; generation, sequence (high word first); 32 words of peer, zero padded
+-- kind 1 with peer length in the low 8 bits; generation, sequence (high word first); the words of the peer, zero padded
 unfoldable pub peerWords : Route → List ℕ
 peerWords r =
     kindWord 1 (peerLength (r .destination))
-    ∷ (highLow (r .generation) ++ highLow (r .sequence) ++ wordsOf (wordCount maximumPeer) (peerBytes (r .destination)))
+    ∷ (highLow (r .generation) ++ highLow (r .sequence) ++ wordsOf nameWords (peerBytes (r .destination)))
 
 -- kind 2 with opcode in bits 16 to 23 and body length in bits 0 to 15; 2 words of context; body
 unfoldable pub packetWords : Route → List ℕ

@@ -1,4 +1,4 @@
-// A peer's name: 1 to 128 bytes, zero padded when the relay stores it.
+// A peer's name: 1 to MAXIMUM_PEER bytes, zero padded when the relay stores it.
 ghost use mathlib.Core.Path.{_≡_};
 ghost use mathlib.Core.Bool.{true, false, not, _&&_, _||_};
 ghost use lib.Dec.{ltb, eqb};
@@ -23,7 +23,7 @@ pub(crate) fn no_peer() -> HnsrPeerId
     }
 }
 
-// A length over 128 reads as 128.
+// A length over the most reads as the most.
 pub(crate) fn peer_length(peer: HnsrPeerId) -> usize
     ensures { λ r. ⌜ r ≡ peerLength peer ⌝ }
 {

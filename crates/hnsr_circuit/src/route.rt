@@ -7,8 +7,8 @@ ghost use lib.ListN.{length};
 ghost use Rattle.hns_encoding.specs.Bytes.{beBytes};
 ghost use Rattle.hns_encoding.specs.Cursor.{written};
 ghost use Rattle.hns_encoding.specs.Words.{highLow, wordCount, words, wordsOf};
-ghost use Rattle.hnsr_circuit.specs.Peer.{peerBytes};
-ghost use Rattle.hnsr_circuit.specs.Route.{headWords, kindWord, peerWords, packetWords, routeWords};
+ghost use Rattle.hnsr_circuit.specs.Peer.{maximumPeer, peerBytes};
+ghost use Rattle.hnsr_circuit.specs.Route.{nameWords, addressWords, headWords, kindWord, peerWords, packetWords, routeWords};
 ghost use Rattle.hnsr_circuit.specs.Queue.{routeFor};
 ghost use Rattle.hnsr_circuit.specs.Progress.{messageOf};
 use crate::peer::HnsrPeerId;
@@ -24,9 +24,9 @@ use hnsr_body::messages::Message;
 // Words of a peer, and of a route in front of its body: a kind word; generation and sequence; the peer; a kind word; the context.
 const PEER_WORDS: usize = MAXIMUM_PEER / 4;
 
-const PACKET: usize = 1 + 2 + 2 + PEER_WORDS;
+const ADDRESS_WORDS: usize = 1 + 2 + 2 + PEER_WORDS;
 
-pub(crate) const HEAD_WORDS: usize = PACKET + 1 + 2;
+pub(crate) const HEAD_WORDS: usize = ADDRESS_WORDS + 1 + 2;
 
 // What a call may write: a route with the longest DATA; two with the longest notice.
 pub(crate) const HANDLE_WORDS: usize = HEAD_WORDS + DataBody::MAX_SIZE / 4;
@@ -35,7 +35,7 @@ pub(crate) const CLOSING_WORDS: usize = 2 * (HEAD_WORDS + (Message::MAX_SIZE + 3
 
 // A kind word's top four bits are its kind: 1 for the peer, with its length in the low 8 bits.
 fn peer_word(size: usize) -> u32
-    requires { ⌜ size ≤ 128 ⌝ }
+    requires { ⌜ size ≤ maximumPeer ⌝ }
     ensures { λ r. ⌜ r ≡ kindWord 1 size ⌝ }
 {
     0x1000_0000 + size as u32
@@ -77,7 +77,7 @@ fn put_context_at(out: &mut [u32], at: usize, context: u64)
 
 // A peer's name, zero padded.
 fn put_peer_at(out: &mut [u32], at: usize, peer: HnsrPeerId)
-    ensures { λ _. ⌜ now (out .exit) ≡ written (now (out .entry)) at (wordsOf 32 (peerBytes peer)) ⌝ }
+    ensures { λ _. ⌜ now (out .exit) ≡ written (now (out .entry)) at (wordsOf nameWords (peerBytes peer)) ⌝ }
 {
     let bytes = peer.bytes;
     let length = peer_length(peer);
@@ -87,7 +87,7 @@ fn put_peer_at(out: &mut [u32], at: usize, peer: HnsrPeerId)
 // ---- a route
 
 fn put_peer_words(out: &mut [u32], at: usize, message: Outgoing, generation: u64, sequence: u64)
-    requires { ⌜ at + 37 ≤ length (now out) ⌝ }
+    requires { ⌜ at + addressWords ≤ length (now out) ⌝ }
     ensures { λ _. ⌜ now (out .exit) ≡ written (now (out .entry)) at (peerWords (routeFor (messageOf message []) generation sequence)) ⌝ }
 {
     let peer = message.destination;
@@ -132,6 +132,6 @@ pub(crate) fn put_route(
     let size = route_size(body.len());
     if fits(out.len(), at, size) {
         put_peer_words(out, at, message, generation, sequence);
-        put_packet_words(out, at + PACKET, message, body);
+        put_packet_words(out, at + ADDRESS_WORDS, message, body);
     }
 }

@@ -21,6 +21,7 @@ use Rattle.hnsr_circuit.specs.declared.answer.HnsrAnswer.the-variants.{T
 use Rattle.hnsr_circuit.specs.Answers.{taken}
 use Rattle.hnsr_circuit.specs.World.{World, Outcome, proceed, worldOf}
 use Rattle.hnsr_circuit.specs.Progress.{filledTo, placed, Progress, progress, underway, Result, result, handedBack, ending, outcome}
+use Rattle.hnsr_circuit.specs.Entry.{closingWords}
 use Rattle.hnsr_circuit.specs.Call.{Call, step}
 use Rattle.hnsr_circuit.specs.Laws.StepRoom.{roomOf, routes-fit}
 use Rattle.hnsr_circuit.specs.Laws.Progress.{fits}
@@ -62,7 +63,7 @@ pub whole : (out : List ℕ) (w : World) (c : Call) → roomOf c ≤ length out 
 whole out w c r k = let n = routes-fit w c in fits out (step w c) (omega arith) k
 
 -- room for so many words for each record, by division, so that no product is too large
-pub room-tests : (room n m : ℕ) → room ≤ top 64 → ltb (room / 96) (min (n + m) (top 64)) ≡ ltb room (96 * (n + m))
-room-tests room n m k = split (ltb room (96 * (n + m)))
-    (λ e. let h = ltb-true room (96 * (n + m)) e in lt-ltb (room / 96) (min (n + m) (top 64)) (omega arith) ∙ sym e)
-    (λ e. let h = ltb-false room (96 * (n + m)) e in le-ltb (room / 96) (min (n + m) (top 64)) (omega arith) ∙ sym e)
+pub room-tests : (room n m : ℕ) → room ≤ top 64 → ltb (room / closingWords) (min (n + m) (top 64)) ≡ ltb room (closingWords * (n + m))
+room-tests room n m k = split (ltb room (closingWords * (n + m)))
+    (λ e. let h = ltb-true room (closingWords * (n + m)) e in lt-ltb (room / closingWords) (min (n + m) (top 64)) (omega arith) ∙ sym e)
+    (λ e. let h = ltb-false room (closingWords * (n + m)) e in le-ltb (room / closingWords) (min (n + m) (top 64)) (omega arith) ∙ sym e)

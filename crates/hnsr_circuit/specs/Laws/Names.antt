@@ -23,7 +23,7 @@ bytes-end : (xs ys : List ℕ) (i : ℕ) → length xs ≤ i → length ys ≤ i
 unfolding sameBytes
 bytes-end xs ys i k l = rw (drop-of-length-le xs k, drop-of-length-le ys l)
 
--- a record's 128 bytes, as a parameter that is one is known to have them
+-- a record's bytes, as a parameter that is one is known to have them
 pub whole : (p : HnsrPeerId) → length (map (λ (b : ℕ). b) (p .bytes)) ≡ maximumPeer → length (p .bytes) ≡ maximumPeer
 whole p h = sym (length-map (p .bytes) (λ (b : ℕ). b)) ∙ h
 

@@ -20,14 +20,17 @@ use Rattle.hnsr_body.specs.declared.messages.Notice.{Notice}
 use Rattle.hnsr_body.specs.declared.messages.NoticeWritten.{NoticeWritten}
 use Rattle.hnsr_body.specs.declared.messages.Notice.the-variants.{PeerDisconnected, ReservationRevoked, AcceptanceExpired, TicketExpired, RelayDisabled, EndpointWriteFailed, OuterWriteFailed}
 use Rattle.hnsr_body.specs.Messages.{noticeBody, noticeSize, noticeWritten}
-use Rattle.hnsr_circuit.specs.Peer.{peerBytes, maximumPeer}
+use Rattle.hnsr_circuit.specs.Peer.{peerBytes}
 use Rattle.hns_encoding.specs.Words.{wordCount}
-use Rattle.hnsr_circuit.specs.Route.{Route, headWords, peerWords, packetWords, routeWords, outWords, output}
+use Rattle.hnsr_circuit.specs.Route.{Route, nameWords, addressWords, headWords, peerWords, packetWords, routeWords, outWords, output}
 use Rattle.hnsr_circuit.specs.Entry.{handleWords, acknowledgeWords}
 
 -- ---- the numbers of document 01
 pub head-is-40 : headWords ≡ 40
 head-is-40 = refl
+
+pub name-is-32 : nameWords ≡ 32
+name-is-32 = refl
 
 pub handle-needs : handleWords ≡ 4136
 handle-needs = refl
@@ -67,11 +70,11 @@ pub route-words : (r : Route) → length (routeWords r) ≡ headWords + length (
 unfolding routeWords peerWords packetWords
 route-words r =
     simp length-append
-    (omega (arith, wordsOf-length (wordCount maximumPeer) (peerBytes (r .destination)), length-words (beBytes 8 (r .context)), beBytes-length 8 (r .context)))
+    (omega (arith, wordsOf-length nameWords (peerBytes (r .destination)), length-words (beBytes 8 (r .context)), beBytes-length 8 (r .context)))
 
-pub peer-words : (r : Route) → length (peerWords r) ≡ 37
+pub peer-words : (r : Route) → length (peerWords r) ≡ addressWords
 unfolding peerWords
-peer-words r = simp length-append (omega (arith, wordsOf-length (wordCount maximumPeer) (peerBytes (r .destination))))
+peer-words r = simp length-append (omega (arith, wordsOf-length nameWords (peerBytes (r .destination))))
 
 pub packet-words : (r : Route) → length (packetWords r) ≡ 3 + length (words (r .body))
 unfolding packetWords

@@ -3,6 +3,7 @@ use Prim.Native.Nat.{ℕ, _/_, _<_}
 use native.Mathlib.Omega.{arith}
 use mathlib.Core.Path.{_≡_, ap, _∙_}
 use lib.Dec.{ltb}
+use Rattle.hnsr_circuit.specs.Entry.{closingWords}
 use Rattle.hnsr_circuit.specs.Laws.Calls.{room-tests}
 use borrow.Author.Needs.{needs}
 use Rattle.hnsr_circuit.proofs.revoking_calls.room_short.Statement.{statement}
@@ -21,7 +22,7 @@ returns : tie.Need-returns
 returns c =
     let a = c .before .args in
     let k = small (c .before) in
-    ap (λ (n : ℕ). ltb (a .room / 96) n) (c .saturating-add-usize .ensures) ∙ room-tests (a .room) (a .pending) (a .circuits) (omega arith)
+    ap (λ (n : ℕ). ltb (a .room / closingWords) n) (c .saturating-add-usize .ensures) ∙ room-tests (a .room) (a .pending) (a .circuits) (omega arith)
 
 pub room-short-spec : {M : Type 1} → statement M
 room-short-spec = tie.close (tie.spec saturating-add-usize-requires returns)

@@ -5,7 +5,8 @@ use mathlib.Core.Path.{_≡_, refl, sym, ap, _∙_}
 use mathlib.Core.List.{List, [], _∷_, _++_, append-assoc}
 use lib.ListN.{length, take}
 use lib.Seq.{length-take-le}
-use Rattle.hnsr_circuit.specs.Peer.{peerLength, peerBytes}
+use Rattle.hnsr_circuit.specs.Peer.{maximumPeer, peerLength, peerBytes}
+use Rattle.hnsr_circuit.specs.Route.{nameWords}
 use Rattle.hns_encoding.specs.Words.{wordsOf}
 use Rattle.hns_encoding.specs.Cursor.{written, Puts}
 use borrow.Author.Needs.{needs}
@@ -18,7 +19,7 @@ use Rattle.hnsr_circuit.proofs.peer.peer_length.Reads as peer-length-re
 
 -- a name is no longer than its place
 within : (c : tie.Start) → peerLength (c .args .peer) ≤ length (c .args .peer .bytes)
-within c = let long : length (c .args .peer .bytes) ≡ 128 = search needs in omega arith
+within c = let long : length (c .args .peer .bytes) ≡ maximumPeer = search needs in omega arith
 
 peer-length-requires : tie.Need-peer-length-requires
 peer-length-requires c κs = search needs
@@ -37,7 +38,7 @@ same-length c = search needs
 
 returns : tie.Need-returns
 unfolding peerBytes
-returns c = c .before .before .put-padded-as-words .ensures .leaves ∙ ap (λ (n : ℕ). written (c .before .before .before .before .before .before .before .before .args .out .now) (c .before .before .before .before .before .before .before .before .args .at) (wordsOf 32 (take n (c .before .before .before .before .before .before .before .before .args .peer .bytes)))) (c .before .before .before .before .before .peer-length .ensures)
+returns c = c .before .before .put-padded-as-words .ensures .leaves ∙ ap (λ (n : ℕ). written (c .before .before .before .before .before .before .before .before .args .out .now) (c .before .before .before .before .before .before .before .before .args .at) (wordsOf nameWords (take n (c .before .before .before .before .before .before .before .before .args .peer .bytes)))) (c .before .before .before .before .before .peer-length .ensures)
 
 pub put-peer-at-spec : {M : Type 1} → statement M
 put-peer-at-spec =

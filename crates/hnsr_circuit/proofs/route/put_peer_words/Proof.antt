@@ -10,7 +10,7 @@ use Rattle.hns_encoding.specs.Laws.Words.{wordsOf-length}
 use Rattle.hns_encoding.specs.Laws.Bytes.{beBytes-length}
 use Rattle.hns_encoding.specs.Cursor.{written}
 use Rattle.hnsr_circuit.specs.Peer.{peerBytes, peerLength}
-use Rattle.hnsr_circuit.specs.Route.{kindWord, peerWords, packetWords}
+use Rattle.hnsr_circuit.specs.Route.{nameWords, kindWord, peerWords, packetWords}
 use Rattle.hnsr_circuit.specs.Laws.Route.{length-words, wrote-first, wrote-next, wrote-all}
 use borrow.Author.Needs.{needs}
 use Rattle.hnsr_circuit.proofs.route.put_peer_words.Statement.{statement}
@@ -63,8 +63,8 @@ returns c = let s = c .before .before .before .before .before .before .before .b
     let w1 = wrote-first {xs = a .out .now} (c .before .before .before .before .before .before .before .before .before .before .before .before .before .before .put-word-at .last .0) (c .before .before .before .before .before .before .before .before .before .before .before .before .before .before .before .before .peer-word .result ∷ []) (a .at) 1 refl (omega arith) (c .before .before .before .before .before .before .before .before .before .before .before .before .before .before .put-word-at .ensures) in
     let w2 = wrote-next (c .before .before .before .before .before .before .before .before .before .before .put-number-at .last .0) (highLow (a .generation)) 2 w1 refl (omega arith) (c .before .before .before .before .before .before .before .before .before .before .put-number-at .ensures) in
     let w3 = wrote-next (c .before .before .before .before .before .before .put-number-at2 .last .0) (highLow (a .sequence)) 2 w2 refl (omega arith) (c .before .before .before .before .before .before .put-number-at2 .ensures) in
-    let w4 = wrote-next (c .before .before .put-peer-at .last .0) (wordsOf 32 (peerBytes d)) 32 w3 (wordsOf-length 32 (peerBytes d)) (omega arith) (c .before .before .put-peer-at .ensures) in
-    wrote-all w4 (omega arith) ∙ ap (λ (x : ℕ). written (a .out .now) (a .at) (x ∷ (highLow (a .generation) ++ highLow (a .sequence) ++ wordsOf 32 (peerBytes d)))) word
+    let w4 = wrote-next (c .before .before .put-peer-at .last .0) (wordsOf nameWords (peerBytes d)) nameWords w3 (wordsOf-length nameWords (peerBytes d)) (omega arith) (c .before .before .put-peer-at .ensures) in
+    wrote-all w4 (omega arith) ∙ ap (λ (x : ℕ). written (a .out .now) (a .at) (x ∷ (highLow (a .generation) ++ highLow (a .sequence) ++ wordsOf nameWords (peerBytes d)))) word
 
 pub put-peer-words-spec : {M : Type 1} → statement M
 put-peer-words-spec =

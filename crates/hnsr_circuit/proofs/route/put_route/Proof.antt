@@ -8,7 +8,7 @@ use lib.ListN.{length}
 use Rattle.hns_encoding.specs.Words.{words, wordCount}
 use Rattle.hns_encoding.specs.Cursor.{within}
 use Rattle.hns_encoding.specs.Laws.Lists.{written-length}
-use Rattle.hnsr_circuit.specs.Route.{Route, headWords, peerWords, packetWords, routeWords}
+use Rattle.hnsr_circuit.specs.Route.{Route, addressWords, headWords, peerWords, packetWords, routeWords}
 use Rattle.hnsr_circuit.specs.Queue.{routeFor}
 use Rattle.hnsr_circuit.specs.Progress.{messageOf}
 use Rattle.hnsr_circuit.specs.Laws.Route.{Wrote, length-words, route-words, peer-words, packet-words, wrote-first, wrote-next, wrote-all, wrote-none}
@@ -33,16 +33,16 @@ size : (s : tie.Start) → headWords + wordCount (length (s .args .body .now)) �
 size s = ap (λ (n : ℕ). headWords + n) (sym (length-words (s .args .body .now))) ∙ sym (route-words (the-route s))
 
 -- it fits
-room : (c : tie.Then1) → st c .args .at + (40 + wordCount (length (st c .args .body .now))) ≤ length (st c .args .out .now)
+room : (c : tie.Then1) → st c .args .at + (headWords + wordCount (length (st c .args .body .now))) ≤ length (st c .args .out .now)
 room c =
-    leb-true (st c .args .at + (40 + wordCount (length (st c .args .body .now)))) (length (st c .args .out .now))
+    leb-true (st c .args .at + (headWords + wordCount (length (st c .args .body .now)))) (length (st c .args .out .now))
     (ap (λ (n : ℕ). within (length (st c .args .out .now)) (st c .args .at) n) (sym (c .before .before .route-size .ensures)) ∙ sym (c .before .fits2 .ensures) ∙ c .if1 .taken)
 
 -- its first part stands
-first : (c : tie.After-put-peer-words) → Wrote (st (c .before .before) .args .out .now) (c .put-peer-words .last .0) (peerWords (the-route (st (c .before .before)))) (st (c .before .before) .args .at) 37
+first : (c : tie.After-put-peer-words) → Wrote (st (c .before .before) .args .out .now) (c .put-peer-words .last .0) (peerWords (the-route (st (c .before .before)))) (st (c .before .before) .args .at) addressWords
 unfolding peerWords
 first c =
-    wrote-first (c .put-peer-words .last .0) (peerWords (the-route (st (c .before .before)))) (st (c .before .before) .args .at) 37 (peer-words (the-route (st (c .before .before))))
+    wrote-first (c .put-peer-words .last .0) (peerWords (the-route (st (c .before .before)))) (st (c .before .before) .args .at) addressWords (peer-words (the-route (st (c .before .before))))
     (omega (arith, room (c .before .before))) (c .put-peer-words .ensures)
 
 long : (c : tie.After-put-peer-words) → length (c .put-peer-words .last .0) ≡ length (st (c .before .before) .args .out .now)

@@ -29,7 +29,6 @@ use Rattle.hnsr_circuit.specs.Packet.{Packet}
 use Rattle.hnsr_circuit.specs.Entry.{handleWords, tooFew, tablesShort, roomAnswer, peerAnswer, packetAnswer, clockAnswer}
 use Rattle.hnsr_circuit.specs.Close.{handleClose}
 use Rattle.hnsr_circuit.specs.Handle.{Handling, other, handlingOf, dispatch, entryAnswer, handleGate, handle}
-use Rattle.hnsr_circuit.specs.Call.{step, callHandle}
 use Rattle.hnsr_circuit.specs.Progress.{filledTo, placed, result, handedBack, ending}
 use Rattle.hnsr_circuit.specs.Laws.Answers.{then-taken}
 use Rattle.hnsr_circuit.specs.Laws.Queueing.{taken-is}
@@ -104,8 +103,8 @@ module _ (h : OpaqueRelayRuntime) (p : List RelayPending) (c : List RelayCircuit
         packet-short (q .opcode) (q .context) (length (q .body)) (then-taken named enveloped (then-taken first (named then enveloped) all .1) .1)
 
     pub entered : (h′ : OpaqueRelayRuntime) → taken a ≡ true → h′ ≡ withClock h (q .now)
-        → handleGate (worldOf h′ p c l i) q ≡ step (worldOf h p c l i) (callHandle q room)
-    unfolding step handle
+        → handleGate (worldOf h′ p c l i) q ≡ handle (worldOf h p c l i) q room
+    unfolding handle
     entered h′ t eh =
         ap (λ (x : OpaqueRelayRuntime). handleGate (worldOf x p c l i) q) eh
         ∙ sym (gone-on (worldOf h p c l i) a _ (handleGate (atTime (worldOf h p c l i) (q .now)) q) t rows)

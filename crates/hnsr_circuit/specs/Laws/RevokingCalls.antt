@@ -22,7 +22,6 @@ use Rattle.hnsr_circuit.specs.World.{World, Outcome, done, worldOf}
 use Rattle.hnsr_circuit.specs.Entry.{roomAnswer, revokingWords, peerAnswer, clockAnswer}
 use Rattle.hnsr_circuit.specs.Question.{used, ofPeer, under, over, pendingAsked, circuitAsked, actionHas, actionAsked}
 use Rattle.hnsr_circuit.specs.Progress.{filledTo, placed, result, handedBack, ending}
-use Rattle.hnsr_circuit.specs.Call.{step, callDisconnect, callRevokeReservation, callExpire, callReplaceEnabled}
 use Rattle.hnsr_circuit.specs.RevokingCalls.{disconnect, disconnectPeer, revokeReservation, revokeUnder, expire, expireAt, changeAnswer, switchTo, replaceEnabled}
 use Rattle.hnsr_circuit.specs.Revoking.{endingPending, revokingAll, disconnectingAll}
 use Rattle.hnsr_circuit.specs.declared.runtime.Relayed.{Relayed}
@@ -46,8 +45,8 @@ module _ (h : OpaqueRelayRuntime) (p : List RelayPending) (c : List RelayCircuit
   pub disconnected : (peer : List ℕ) (room : ℕ) (a : HnsrAnswer) (name : HnsrPeerId) (v : Revoking) (q : Question) (i′ : List InflightAction)
       → taken a ≡ true → a ≡ (roomAnswer (worldOf h p c l i) room (revokingWords (worldOf h p c l i)) then peerAnswer (length peer))
       → name ≡ peerOf peer → v ≡ disconnectingAll name → q ≡ ofPeer name → i′ ≡ clear clearAction (actionHas q) i
-      → revokingAll v (worldOf h p c l i′) ≡ step (worldOf h p c l i) (callDisconnect peer room)
-  unfolding step disconnect disconnectPeer endingPending pendingAsked circuitAsked actionAsked dropped
+      → revokingAll v (worldOf h p c l i′) ≡ disconnect (worldOf h p c l i) peer room
+  unfolding disconnect disconnectPeer endingPending pendingAsked circuitAsked actionAsked dropped
   disconnected peer room a name v q i′ t ea en ev eq ei =
       let all = ev ∙ ap disconnectingAll en in
       let left = ei ∙ ap (λ (x : Question). clear clearAction (actionHas x) i) (eq ∙ ap ofPeer en) in
@@ -61,8 +60,8 @@ module _ (h : OpaqueRelayRuntime) (p : List RelayPending) (c : List RelayCircuit
   pub revoked-under : (id : ReservationId) (room : ℕ) (a : HnsrAnswer) (v : Revoking) (l′ : List ReservationUsage)
       → taken a ≡ true → a ≡ roomAnswer (worldOf h p c l i) room (revokingWords (worldOf h p c l i))
       → v ≡ revokes (under id) ReservationRevoked ReservationRevoked → l′ ≡ edit (usageAt id) clearUsage l
-      → revokingAll v (worldOf h p c l′ i) ≡ step (worldOf h p c l i) (callRevokeReservation id room)
-  unfolding step revokeReservation revokeUnder endingPending pendingAsked circuitAsked
+      → revokingAll v (worldOf h p c l′ i) ≡ revokeReservation (worldOf h p c l i) id room
+  unfolding revokeReservation revokeUnder endingPending pendingAsked circuitAsked
   revoked-under id room a v l′ t ea ev el =
       (λ x. revokingAll (ev x) (worldOf h p c (el x) i))
       ∙ sym (gone-on (worldOf h p c l i) a _ (revokeUnder (worldOf h p c l i) id) t ea)
@@ -70,8 +69,8 @@ module _ (h : OpaqueRelayRuntime) (p : List RelayPending) (c : List RelayCircuit
   pub expired : (time room : ℕ) (a : HnsrAnswer) (v : Revoking) (h′ : OpaqueRelayRuntime) (l′ : List ReservationUsage)
       → taken a ≡ true → a ≡ (roomAnswer (worldOf h p c l i) room (revokingWords (worldOf h p c l i)) then clockAnswer (h .«trusted_time_high_water») time)
       → v ≡ revokes (over time) AcceptanceExpired TicketExpired → h′ ≡ withClock h time → l′ ≡ lapsed time l
-      → revokingAll v (worldOf h′ p c l′ i) ≡ step (worldOf h p c l i) (callExpire time room)
-  unfolding step expire expireAt endingPending pendingAsked circuitAsked
+      → revokingAll v (worldOf h′ p c l′ i) ≡ expire (worldOf h p c l i) time room
+  unfolding expire expireAt endingPending pendingAsked circuitAsked
   expired time room a v h′ l′ t ea ev eh el =
       (λ x. revokingAll (ev x) (worldOf (eh x) p c (el x) i))
       ∙ sym (gone-on (worldOf h p c l i) a _ (expireAt (worldOf h p c l i) time) t ea)
@@ -101,16 +100,16 @@ module _ (h : OpaqueRelayRuntime) (p : List RelayPending) (c : List RelayCircuit
   module _ (expected room : ℕ) (on : Bool) (a : HnsrAnswer)
       (ea : a ≡ (roomAnswer (worldOf h p c l i) room (revokingWords (worldOf h p c l i)) then generationAnswer (h .generation) expected then changeAnswer (h .generation) (not (Bool·beq (h .enabled) on)))) where
     pub changed-state : taken a ≡ true → not (Bool·beq (h .enabled) on) ≡ true
-        → switchTo (worldOf h p c l i) on ≡ step (worldOf h p c l i) (callReplaceEnabled expected on room)
-    unfolding step replaceEnabled
+        → switchTo (worldOf h p c l i) on ≡ replaceEnabled (worldOf h p c l i) expected on room
+    unfolding replaceEnabled
     changed-state t e =
         sym (on-true _ (switchTo (worldOf h p c l i) on) (done (worldOf h p c l i) []) e)
         ∙ sym (gone-on (worldOf h p c l i) a _ (cond (not (Bool·beq (h .enabled) on)) (switchTo (worldOf h p c l i) on) (done (worldOf h p c l i) [])) t ea)
 
     pub same-state : (r : Relayed) (out : List ℕ) → taken a ≡ true → not (Bool·beq (h .enabled) on) ≡ false
         → (r .runtime ≡ h) × (r .answer ≡ Taken) × (r .words ≡ 0)
-        → handedBack r p c l i out ≡ ending out (step (worldOf h p c l i) (callReplaceEnabled expected on room))
-    unfolding step replaceEnabled filledTo placed
+        → handedBack r p c l i out ≡ ending out (replaceEnabled (worldOf h p c l i) expected on room)
+    unfolding replaceEnabled filledTo placed
     same-state r out t f e =
         let o = cond (not (Bool·beq (h .enabled) on)) (switchTo (worldOf h p c l i) on) (done (worldOf h p c l i) []) in
         (λ x. result (worldOf (e .0 x) p c l i) (e .1 x) (e .2 x) out)

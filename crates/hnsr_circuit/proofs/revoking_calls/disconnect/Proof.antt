@@ -75,7 +75,7 @@ same-length-4 : tie.Need-same-length-4
 same-length-4 c = search needs
 
 returns : tie.Need-returns
-unfolding roomAnswer tablesShort pendingCount circuitCount
+unfolding roomAnswer tablesShort pendingCount circuitCount step
 returns c = λ l₀.
     let s = c .before .before .before .before .before .before .before .before .before .before .before .before .before .before .before .before .before .before .before .before .before .before .before .before .before .before .before in
     let a = s .args in

@@ -80,7 +80,7 @@ same-length-4 : tie.Need-same-length-4
 same-length-4 c = search needs
 
 returns : tie.Need-returns
-unfolding roomAnswer tablesShort pendingCount circuitCount
+unfolding roomAnswer tablesShort pendingCount circuitCount step
 returns c = λ l₀.
     let s = c .before .before .before .before .before .before .before .before .before .before .before .before .before .before .before .before .before .before .before .before .before .before .before .before .before in
     let a = s .args in
@@ -103,7 +103,7 @@ same-length-6 : tie.Need-same-length-6
 same-length-6 c = search needs
 
 returns-2 : tie.Need-returns-2
-unfolding roomAnswer tablesShort pendingCount circuitCount
+unfolding roomAnswer tablesShort pendingCount circuitCount step
 returns-2 c = λ l₀.
     let s = c .before .before .before .before .before .before .before .before .before .before .before .before .before .before .before .before in
     let a = s .args in

@@ -1,8 +1,8 @@
 -- Demand 3: one claim about any list of calls from a taken `new`, refused ones included, over a machine: its `new` and its step.
-use Prim.Native.Nat.{ℕ, _+_, _≤_, _<_}
+use Prim.Native.Nat.{ℕ, _≤_, _<_}
 use mathlib.Core.Path.{_≡_}
 use mathlib.Core.Logic.{_↔_}
-use mathlib.Core.Bool.{Bool, true, cond, not, _&&_, _||_}
+use mathlib.Core.Bool.{Bool, true, not, _&&_, _||_}
 use mathlib.Core.List.{List, [], _∷_, map}
 use lib.Dec.{ltb, eqb}
 use lib.ListN.{length, replicate}
@@ -21,7 +21,7 @@ use Rattle.hnsr_circuit.specs.Entry.{handleWords, acknowledgeWords}
 use Rattle.hnsr_circuit.specs.Packet.{Packet, sender, circuitIn}
 use Rattle.hnsr_circuit.specs.Call.{Start, Call, callStatus, callNextDue, callObserveTime, callReplaceEnabled, callHandle, callAcknowledge, callDisconnect, callRevokeReservation, callExpire}
 use Rattle.hnsr_run.specs.Past.{Action, Past, peerOn, credit, circuitLeft, totalLeft, weight}
-use Rattle.hnsr_run.specs.History.{Event, begin, after, reckon}
+use Rattle.hnsr_run.specs.History.{Event, begin, afterEvent, reckon}
 
 -- the total that the grant of an admitted OPEN brings is below 2^64 − 1. Its bytes per circuit need no bound: the configuration's stands above them
 abbrev pub limitsBelow : Call → Bool
@@ -35,14 +35,10 @@ limitsBelow (callDisconnect peer room) = true
 limitsBelow (callRevokeReservation id room) = true
 limitsBelow (callExpire now room) = true
 
--- the action sequence, the number that the next action gets: 1 after `new` and after a switch, and one more for each route
-abbrev pub sequenceAfter : Past → ℕ → Event → ℕ
-sequenceAfter h n e = cond (eqb (after h (e .call) (e .answer) (e .routes) .head .generation) (h .head .generation)) n 1 + length (e .routes)
-
 -- every total and the action sequence are below 2^64 − 1 throughout
-abbrev pub below : Past → ℕ → List Event → Bool
-below h n [] = ltb n (top 64)
-below h n (e ∷ es) = ltb n (top 64) && (limitsBelow (e .call) && below (after h (e .call) (e .answer) (e .routes)) (sequenceAfter h n e) es)
+abbrev pub below : Past → List Event → Bool
+below h [] = ltb (h .head .next) (top 64)
+below h (e ∷ es) = ltb (h .head .next) (top 64) && (limitsBelow (e .call) && below (afterEvent h e) es)
 
 -- a list in any order: whatever is summed over its members, the sum is the same
 abbrev pub Reordered : List Action → List Action → Type 0
@@ -109,7 +105,7 @@ pub record Run (m : Machine) : Type 0 where
   pub new-taken : m .new lent began .answer ≡ Taken
   pub limit : began .config .«maximum_bytes_per_circuit» < top 64
   pub calls : List Call
-  pub bounded : below (begin began) 1 (events (m .step) (m .new lent began .world) calls) ≡ true
+  pub bounded : below (begin began) (events (m .step) (m .new lent began .world) calls) ≡ true
 
 -- the world that it leaves, and what its events tell
 abbrev pub worldAt : (m : Machine) → Run m → World

@@ -31,7 +31,7 @@ use Rattle.hnsr_circuit.specs.Draw.{undrawn, draws, drawAll}
 use Rattle.hnsr_circuit.specs.Open.{deadlineFor}
 use Rattle.hnsr_circuit.specs.Handle.{Handling, OPEN, ACCEPT, DATA, WINDOW, CLOSE, ERROR, other, handlingOf}
 use Rattle.hnsr_circuit.specs.Call.{Start, Call, callStatus, callNextDue, callObserveTime, callReplaceEnabled, callHandle, callAcknowledge, callDisconnect, callRevokeReservation, callExpire}
-use Rattle.hnsr_run.specs.Past.{Known, Asked, Action, Past, counted, onCircuit, numbered, toward, tally, heard, carriedOnce, nothing, noOne, noOpens, noBook, withHead, withBook, withOut, emit, without, movedTo, stood, unstood, openEnded, begun, learnt, circuitEnded, remade, spentBy, unmade}
+use Rattle.hnsr_run.specs.Past.{Known, Asked, Action, Past, counted, onCircuit, numbered, toward, tally, heard, carriedOnce, nothing, noOne, noOpens, noBook, withHead, withBook, withOut, emit, without, movedTo, numbering, stood, unstood, openEnded, begun, learnt, circuitEnded, remade, spentBy, unmade}
 
 pub record Event : Type 0 where
   pub call : Call
@@ -41,7 +41,7 @@ pub record Event : Type 0 where
 -- after a taken `new`
 abbrev pub begin : Start → Past
 begin s = record {
-  head = record { generation = s .generation; enabled = true; clock = s .now; config = s .config };
+  head = record { generation = s .generation; enabled = true; clock = s .now; config = s .config; next = 1 };
   active = λ j. false;
   known = λ j. noOne;
   opens = noOpens;
@@ -261,9 +261,11 @@ everyOpen k = true
 abbrev pub everyCircuit : Known → Bool
 everyCircuit k = true
 
--- a changed enabled state raises the generation, drops every action and, if off, revokes all; the same state changes nothing
+-- a changed enabled state raises the generation, starts the sequence at 1, drops every action and, if off, revokes all;
+-- the same state changes nothing
 abbrev pub switchedTo : Past → Bool → Past
-switchedTo h on = withOut (withHead h (record { generation = h .head .generation + 1; enabled = on; clock = h .head .clock; config = h .head .config })) []
+switchedTo h on =
+    withOut (withHead h (record { generation = h .head .generation + 1; enabled = on; clock = h .head .clock; config = h .head .config; next = 1 })) []
 
 abbrev pub enableIn : Bool → List Route → Past → Past
 enableIn on rs h =
@@ -292,7 +294,7 @@ handleIn q room a rs h =
     let g = movedTo h (q .now) in
     cond (taken (entered h q room)) (cond (h .head .enabled) (handledAs (handlingOf (q .opcode)) q a rs g) g) h
 
--- ---- one event, and all of them
+-- ---- what a call changes
 abbrev pub after : Past → Call → HnsrAnswer → List Route → Past
 after h callStatus a rs = h
 after h callNextDue a rs = h
@@ -308,6 +310,10 @@ after h (callRevokeReservation id room) a rs =
     cond (taken a) (revoked (withBook h (unmade (h .book) id)) (askedUnder id) (knownUnder id) (map (heard (about h)) rs)) h
 after h (callExpire now room) a rs = cond (taken a) (revoked (movedTo h now) (askedOver now) (knownOver now) (map (heard (about h)) rs)) h
 
+-- ---- one event: what its call changes, and one number for each route; and all of them
+abbrev pub afterEvent : Past → Event → Past
+afterEvent h e = numbering (after h (e .call) (e .answer) (e .routes)) (length (e .routes))
+
 abbrev pub reckon : Past → List Event → Past
 reckon h [] = h
-reckon h (e ∷ es) = reckon (after h (e .call) (e .answer) (e .routes)) es
+reckon h (e ∷ es) = reckon (afterEvent h e) es

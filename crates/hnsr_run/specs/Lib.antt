@@ -2,6 +2,7 @@
 pub mod Past
 pub mod History
 pub mod Words
+pub mod Sequence
 pub mod Claim
 pub mod Tables
 pub mod Orders

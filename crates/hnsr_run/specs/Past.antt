@@ -71,11 +71,13 @@ pub record Action : Type 0 where
   pub toEndpoint : Bool
   pub bytes : ℕ
 
+-- `next` is the action sequence: the number that the next action gets
 pub record Head : Type 0 where
   pub generation : ℕ
   pub enabled : Bool
   pub clock : ℕ
   pub config : OpaqueRelayConfig
+  pub next : ℕ
 
 pub record Past : Type 0 where
   pub head : Head
@@ -243,7 +245,23 @@ abbrev pub without : Past → (Action → Bool) → Past
 without h p = withOut h (keep (non p) (h .out))
 
 abbrev pub movedTo : Past → (now : ℕ) → Past
-movedTo h now = withHead h (record { generation = h .head .generation; enabled = h .head .enabled; clock = now; config = h .head .config })
+movedTo h now = withHead h (record {
+  generation = h .head .generation;
+  enabled = h .head .enabled;
+  clock = now;
+  config = h .head .config;
+  next = h .head .next;
+})
+
+-- so many actions more have got their numbers
+abbrev pub numbering : Past → ℕ → Past
+numbering h n = withHead h (record {
+  generation = h .head .generation;
+  enabled = h .head .enabled;
+  clock = h .head .clock;
+  config = h .head .config;
+  next = h .head .next + n;
+})
 
 -- an OPEN stands; it no longer stands; it ends, and its actions are dropped
 abbrev pub stood : Past → ℕ → Asked → Past

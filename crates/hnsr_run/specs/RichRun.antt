@@ -131,7 +131,7 @@ pub new-taken : number (start tables fresh .answer) ≡ 0
 unfolding machine lent
 new-taken = refl
 
-pub bounded : below (begin fresh) 1 (events step (start tables fresh .world) richCalls) ≡ true
+pub bounded : below (begin fresh) (events step (start tables fresh .world) richCalls) ≡ true
 unfolding machine lent notAdmitted
 bounded = refl
 
@@ -148,6 +148,11 @@ spent = refl
 pub outstanding : map (λ a. a .sequence) (pastAfter richCalls .out) ≡ 2 ∷ 4 ∷ 7 ∷ 8 ∷ 9 ∷ 10 ∷ 12 ∷ 16 ∷ 17 ∷ []
 unfolding machine lent notAdmitted
 outstanding = refl
+
+-- the sequence started again at each of the two switches
+pub next-number : pastAfter richCalls .head .next ≡ 18
+unfolding machine lent notAdmitted
+next-number = refl
 
 -- bytes of DATA taken and unacknowledged toward the requester and the endpoint of each circuit: of circuit 7 the 500 toward the endpoint are acknowledged
 pub unacknowledged : total (weight 7 Requester) (pastAfter richCalls .out) ∷ total (weight 7 Endpoint) (pastAfter richCalls .out) ∷ total (weight 8 Requester)

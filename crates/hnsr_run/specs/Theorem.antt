@@ -33,7 +33,7 @@ use Rattle.hnsr_run.specs.Run.Circuits.{Agrees}
 use Rattle.hnsr_run.specs.Run.Rel.{Rel, Places, moved-rel}
 use Rattle.hnsr_run.specs.Run.Steps.{long-enough}
 use Rattle.hnsr_run.specs.Run.Start.{start-rel}
-use Rattle.hnsr_run.specs.Run.Runs.{run-both}
+use Rattle.hnsr_run.specs.Run.Runs.{Between, run-between}
 use Rattle.hnsr_run.specs.Run.Drained.{drain}
 use Rattle.hnsr_run.specs.Run.Entering.{is-data}
 use Rattle.hnsr_run.specs.Run.Passing.{only-if, if}
@@ -66,14 +66,7 @@ sends-after h j side q room s = record {
 }
 
 sends-then : (h : Past) (j : ℕ) (side : RelaySide) (q : Packet) (room : ℕ) → Sends h j side q room
-    → Sends (record {
-      head = record { generation = h .head .generation; enabled = h .head .enabled; clock = q .now; config = h .head .config };
-      active = h .active;
-      known = h .known;
-      opens = h .opens;
-      book = h .book;
-      out = [];
-    }) j side q room
+    → Sends (movedTo (withOut h []) (q .now)) j side q room
 sends-then h j side q room s = record {
   opcode = s .opcode;
   context = s .context;
@@ -118,14 +111,15 @@ holds w h R H low = record {
 }
 
 -- ---- every run keeps the invariant
-run-rel : (r : Run relay) → Rel (worldAt relay r) (pastAt relay r) × Places (worldAt relay r) × (sequenceOf (worldAt relay r) < top 64)
+run-rel : (r : Run relay) → Between (worldAt relay r) (pastAt relay r) × (sequenceOf (worldAt relay r) < top 64)
 run-rel r =
     let b = start-rel (r .lent) (r .began) (r .new-taken) (r .limit) in
-    run-both (r .calls) (start (r .lent) (r .began) .world) (begin (r .began)) 1 (b .0) (b .1) (b .2) (r .bounded)
+    run-between (r .calls) (start (r .lent) (r .began) .world) (begin (r .began))
+    (record { rel = b .0; places = b .1; next = b .2 }) (r .bounded)
 
 -- ---- demand 3
 pub claim : Claim relay
-claim r = let k = run-rel r in holds (worldAt relay r) (pastAt relay r) (k .0) (k .1) (k .2)
+claim r = let k = run-rel r in holds (worldAt relay r) (pastAt relay r) (k .0 .rel) (k .0 .places) (k .1)
 
 -- ---- and what the tables hold
 same-circuit : (c : RelayCircuit) (k : Known) → Agrees c k → SameCircuit c k
@@ -162,7 +156,7 @@ tabled {w} {h} R = let F = R .base .full in record {
 }
 
 pub companion : Companion relay
-companion r = tabled (run-rel r .0)
+companion r = tabled (run-rel r .0 .rel)
 
 -- ---- it is not vacuous
 abbrev pub rich-run : Run relay

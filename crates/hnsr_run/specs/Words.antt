@@ -9,15 +9,15 @@ use Rattle.hnsr_circuit.specs.declared.answer.HnsrAnswer.{HnsrAnswer}
 use Rattle.hnsr_circuit.specs.declared.answer.HnsrRuntimeError.the-variants.{ByteLimit}
 use Rattle.hnsr_circuit.specs.declared.records.RelaySide.{RelaySide}
 use Rattle.hnsr_circuit.specs.declared.peer.HnsrPeerId.{HnsrPeerId}
-use lib.ListN.{length}
+use lib.ListN.{length, length-map}
 use Rattle.hnsr_circuit.specs.Table.{pick}
 use Rattle.hnsr_circuit.specs.Peer.{peerOf}
 use Rattle.hnsr_circuit.specs.Route.{Route, peerWords, packetWords, routeWords}
 use Rattle.hnsr_circuit.specs.Packet.{Packet, sender}
 use Rattle.hnsr_circuit.specs.Handle.{Handling, OPEN, ACCEPT, DATA, WINDOW, CLOSE, ERROR, other, handlingOf}
 use Rattle.hnsr_circuit.specs.Call.{Call, callStatus, callNextDue, callObserveTime, callReplaceEnabled, callHandle, callAcknowledge, callDisconnect, callRevokeReservation, callExpire}
-use Rattle.hnsr_run.specs.Past.{Action, Past, numbered, toward, nothing, carried, carriedOnce, heard, withBook, withOut, emit, without, movedTo, stood, openEnded, begun, learnt, remade, spentBy, unmade}
-use Rattle.hnsr_run.specs.History.{Event, taken, refusedBy, ends, written, askedSide, knownSide, sideIn, drawnIn, askedFor, startedBy, sent, granted, strange, failedIn, endIn, endedBy, closeIn, revoked, about, aboutClose, heardOnLeaving, askedUnder, knownUnder, askedOver, knownOver, everyOpen, everyCircuit, switchedTo, entered, handledAs, after, reckon}
+use Rattle.hnsr_run.specs.Past.{Action, Past, numbered, toward, nothing, carried, carriedOnce, heard, withBook, withOut, emit, without, movedTo, numbering, stood, openEnded, begun, learnt, remade, spentBy, unmade}
+use Rattle.hnsr_run.specs.History.{Event, taken, refusedBy, ends, written, askedSide, knownSide, sideIn, drawnIn, askedFor, startedBy, sent, granted, strange, failedIn, endIn, endedBy, closeIn, revoked, about, aboutClose, heardOnLeaving, askedUnder, knownUnder, askedOver, knownOver, everyOpen, everyCircuit, switchedTo, entered, handledAs, after, afterEvent, reckon}
 
 -- a route without the label, which is no word of it
 abbrev pub unlabelled : Route → Route
@@ -102,7 +102,11 @@ words-alone h (callExpire now room) a rs = ap (λ l. cond (taken a) (revoked (mo
 abbrev pub unlabelledEvent : Event → Event
 unlabelledEvent e = record { call = e .call; answer = e .answer; routes = map unlabelled (e .routes) }
 
+event-alone : (h : Past) (e : Event) → afterEvent h (unlabelledEvent e) ≡ afterEvent h e
+event-alone h e = λ i. numbering (words-alone h (e .call) (e .answer) (e .routes) i)
+    (length-map (e .routes) unlabelled i)
+
 pub reckoned-by-words : (h : Past) (es : List Event) → reckon h (map unlabelledEvent es) ≡ reckon h es
 reckoned-by-words h [] = refl
-reckoned-by-words h (e ∷ es) = ap (λ (g : Past). reckon g (map unlabelledEvent es)) (words-alone h (e .call) (e .answer) (e .routes))
-    ∙ reckoned-by-words (after h (e .call) (e .answer) (e .routes)) es
+reckoned-by-words h (e ∷ es) = ap (λ (g : Past). reckon g (map unlabelledEvent es)) (event-alone h e)
+    ∙ reckoned-by-words (afterEvent h e) es

@@ -80,10 +80,10 @@ abbrev pub talk : List Call
 talk = opened ++ (sends 1 7 40 100 ∷ [])
 
 abbrev pub run-from : (s : Start) (m : Machine) → m .new tables s .answer ≡ Taken → s .config .«maximum_bytes_per_circuit» < top 64 → (calls : List Call)
-    → below (begin s) 1 (events (m .step) (m .new tables s .world) calls) ≡ true → Run m
+    → below (begin s) (events (m .step) (m .new tables s .world) calls) ≡ true → Run m
 run-from s m new-taken limit calls bounded = record { lent = tables; began = s; new-taken = new-taken; limit = limit; calls = calls; bounded = bounded }
 
-abbrev pub run-of : (m : Machine) → m .new tables fresh .answer ≡ Taken → (calls : List Call) → below (begin fresh) 1 (events (m .step) (m .new tables fresh .world) calls) ≡ true
+abbrev pub run-of : (m : Machine) → m .new tables fresh .answer ≡ Taken → (calls : List Call) → below (begin fresh) (events (m .step) (m .new tables fresh .world) calls) ≡ true
     → Run m
 run-of m new-taken calls bounded = run-from fresh m new-taken (omega arith) calls bounded
 

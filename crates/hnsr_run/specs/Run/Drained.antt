@@ -1,5 +1,5 @@
 -- Every order of the outstanding actions: acknowledging each once as delivered is taken each time, and leaves nothing outstanding.
-use Prim.Native.Nat.{ℕ, _+_, _≤_, _<_}
+use Prim.Native.Nat.{ℕ, _≤_, _<_}
 use native.Mathlib.Omega.{arith}
 use mathlib.Core.Path.{_≡_, refl, sym, ap, _∙_, subst}
 use mathlib.Core.Bool.{Bool, true, false, cond, not, _&&_}
@@ -15,7 +15,7 @@ use Rattle.hnsr_circuit.specs.Answers.{check, _then_}
 use Rattle.hnsr_circuit.specs.declared.answer.HnsrRuntimeError.the-variants.{Short, StaleGeneration, UnknownAction}
 use Rattle.hnsr_circuit.specs.Table.{any, pick, keep}
 use Rattle.hnsr_circuit.specs.Inflight.{noAction, actionAt}
-use Rattle.hnsr_circuit.specs.World.{World, Outcome, done, proceed}
+use Rattle.hnsr_circuit.specs.World.{World, Outcome, configOf, done, proceed}
 use Rattle.hnsr_circuit.specs.Queue.{generationOf, sequenceOf}
 use Rattle.hnsr_circuit.specs.Entry.{acknowledgeWords}
 use Rattle.hnsr_circuit.specs.Acknowledge.{generationAnswer, actionAnswer, withoutAction, released, settled, acknowledgeTaken, acknowledgeAction, acknowledge}
@@ -29,7 +29,7 @@ use Rattle.hnsr_run.specs.Run.Undelivered.{action-found}
 use Rattle.hnsr_run.specs.Run.Acknowledge.{settled-keeps}
 use Rattle.hnsr_run.specs.Run.Rel.{Rel, Places, shrink}
 use Rattle.hnsr_run.specs.Run.Steps.{room-same}
-use Rattle.hnsr_run.specs.Run.Runs.{step-both}
+use Rattle.hnsr_run.specs.Run.Runs.{places-kept}
 
 -- ---- an order's first, and its rest
 module _ (a : Action) (rest out : List Action) (s : Reordered (a ∷ rest) out) where
@@ -119,8 +119,8 @@ drain rooms enough (a ∷ rest) w h R H low s =
     let t = ack-taken w H g q (rooms a) e (action-found w h (R .base .full) g q ∙ f) (enough a) in
     let st = ack-step w g q (rooms a) t in
     let R₁ = shrink R (h .active) (h .opens .standing) (keep (non (numbered g q)) (h .out)) (settled-keeps w h (R .base .full) g q f) (λ i x. x) (λ i x. x) in
-    let H₁ = subst (λ (o : Outcome). Places (o .world)) st (step-both R H low (callAcknowledge g q true (rooms a)) refl
-    (λ same. subst (λ (o : Outcome). sequenceOf w + length (o .routes) < top 64) (sym st) (omega arith)) .1) in
+    let H₁ = subst (λ (o : Outcome). Places (o .world)) st (places-kept (callAcknowledge g q true (rooms a)) H (ap (λ (o : Outcome). configOf (o .world)) st
+    ∙ R₁ .base .heads .config ∙ sym (R .base .heads .config))) in
     drain-one rooms a rest w (next w g q) h (numbered g q) st
     (drain rooms enough rest (next w g q) (without h (numbered g q)) R₁ H₁ (subst
     (λ n. n < top 64) (sym (next-sequence w g q)) low) (rest-ordered a rest (h .out) s (both-once (A .held) g q)))

@@ -26,7 +26,7 @@ use Rattle.hnsr_circuit.specs.Inflight.{tallied, capacityLeft, capacityAnswer}
 use Rattle.hnsr_circuit.specs.World.{World, Outcome, configOf, refuse, done, proceed, withLedger, atTime}
 use Rattle.hnsr_circuit.specs.Queue.{Message, generationOf, sequenceOf, queueAnswer, canQueue, queued, routed, send}
 use Rattle.hnsr_circuit.specs.Laws.Answers.{number-zero}
-use Rattle.hnsr_run.specs.Past.{Book, Action, Head, Past, lives, movedTo, withOut}
+use Rattle.hnsr_run.specs.Past.{Book, Action, Head, Past, lives, movedTo, numbering, withOut}
 use Rattle.hnsr_run.specs.History.{taken}
 use Rattle.hnsr_run.specs.Run.Circuits.{none}
 use Rattle.hnsr_run.specs.Run.Full.{Full, Rest, Keeps, fewer}
@@ -182,6 +182,23 @@ moved-rel {w} {h} R t l = record {
     kept = λ j a e. live-later (R .base .kept j a (earlier (h .head .clock) t (h .known j .expires) l e)) e;
     keptP = λ j a e. live-later (R .base .keptP j a (earlier (h .head .clock) t (h .opens .asked j .ticket .«expires_at») l e)) e;
     heads = record { generation = R .base .heads .generation; enabled = R .base .heads .enabled; clock = refl; config = R .base .heads .config };
+    names = R .base .names;
+    good = R .base .good;
+    below = R .base .below;
+  };
+  quiet = R .quiet;
+  quietP = R .quietP;
+}
+
+-- ---- numbers given change nothing else
+pub numbering-rel : {w : World} {h : Past} → Rel w h → (n : ℕ) → Rel w (numbering h n)
+numbering-rel R n = let H = R .base .heads in record {
+  base = record {
+    full = R .base .full;
+    books = R .base .books;
+    kept = R .base .kept;
+    keptP = R .base .keptP;
+    heads = record { generation = H .generation; enabled = H .enabled; clock = H .clock; config = H .config };
     names = R .base .names;
     good = R .base .good;
     below = R .base .below;

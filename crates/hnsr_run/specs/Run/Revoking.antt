@@ -4,11 +4,11 @@ use native.Mathlib.Omega.{arith}
 use mathlib.Core.Path.{_≡_, refl, sym, ap, _∙_, subst}
 use mathlib.Core.Bool.{Bool, true, false, cond, not, _&&_, _||_, true≢false, false≢true, or-true}
 use mathlib.Core.List.{List, []}
-use lib.Dec.{leb, ltb, eqb}
+use lib.Dec.{leb, ltb}
 use lib.ListN.{length}
-use borrow.Author.Tests.{eqb-true, eq-eqb, ltb-false, not-true}
+use borrow.Author.Tests.{eqb-true, ltb-false, not-true}
 use Rattle.hns_encoding.specs.Numbers.{top}
-use Rattle.hns_encoding.specs.Laws.Tests.{choose, both}
+use Rattle.hns_encoding.specs.Laws.Tests.{both}
 use Rattle.hns_encoding.specs.Sums.{only, non, total}
 use Rattle.hns_encoding.specs.Laws.Sums.{total-zero}
 use Rattle.hnsr_body.specs.declared.values.ReservationId.{ReservationId}
@@ -36,7 +36,7 @@ use Rattle.hnsr_circuit.specs.Laws.Peer.{same-names, names-same}
 use Rattle.hnsr_circuit.specs.Laws.Answers.{then-taken, check-taken}
 use Rattle.hnsr_circuit.specs.Laws.Keyed.{same-comm}
 use Rattle.hnsr_run.specs.Past.{Known, Book, Action, Past, peerOn, isData, onCircuit, toward, towardSide, weight, without, withBook, movedTo, lives, unmade}
-use Rattle.hnsr_run.specs.History.{taken, askedSide, knownSide, revoked, about, heardOnLeaving, askedUnder, knownUnder, askedOver, knownOver, after}
+use Rattle.hnsr_run.specs.History.{askedSide, knownSide, revoked, about, heardOnLeaving, askedUnder, knownUnder, askedOver, knownOver, after}
 use Rattle.hnsr_run.specs.Run.Actions.{drop-acts}
 use Rattle.hnsr_run.specs.Run.Circuits.{stray, sideTo, none, suspend, drop-queue}
 use Rattle.hnsr_run.specs.Run.Full.{Full, Keeps, rest-same}
@@ -98,17 +98,14 @@ pub less : (f g : ℕ → Bool) (i : ℕ) → (f i && g i) ≡ true → f i ≡ 
 less f g i e = both (f i) (g i) e .0
 
 pub disconnect-keeps : {w : World} {h : Past} → Rel w h → (peer : List ℕ) (room : ℕ)
-    → let o = disconnect w peer room in
-    (eqb (after h (callDisconnect peer room) (o .answer) (o .routes) .head .generation) (h .head .generation) ≡ true → sequenceOf w + length (o .routes) < top 64)
+    → let o = disconnect w peer room in sequenceOf w + length (o .routes) < top 64
     → Rel (o .world) (after h (callDisconnect peer room) (o .answer) (o .routes))
 unfolding disconnect disconnectPeer revokeAll pendingOf circuitOf
 disconnect-keeps {w} {h} R peer room next = proceed-cases
     (λ (o : Outcome). sequenceOf w + length (o .routes) < top 64 → Rel (o .world) (after h (callDisconnect peer room) (o .answer) (o .routes))) w (roomAnswer w room
     (revokingWords w) then peerAnswer (length peer)) (disconnectPeer w p)
     (λ e low. left-keeps low)
-    (λ e f low. if-taken (λ (g : Past). Rel w g) e _ h R)
-    (next (choose (λ (g : Past). eqb (g .head .generation) (h .head .generation) ≡ true) (taken (disconnect w peer room .answer)) _ h
-    (λ x. eq-eqb (h .head .generation) (h .head .generation) refl) (λ x. eq-eqb (h .head .generation) (h .head .generation) refl)))
+    (λ e f low. if-taken (λ (g : Past). Rel w g) e _ h R) next
   where
     p : HnsrPeerId
     p = peerOf peer

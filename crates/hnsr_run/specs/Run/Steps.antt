@@ -29,7 +29,7 @@ use Rattle.hnsr_circuit.specs.NextDue.{dueOf, nextDue}
 use Rattle.hnsr_circuit.specs.Call.{Call, callStatus, callNextDue, callObserveTime, callReplaceEnabled, callHandle, callAcknowledge, callDisconnect, callRevokeReservation, callExpire, step}
 use Rattle.hnsr_circuit.specs.Laws.Answers.{then-taken, check-taken}
 use Rattle.hnsr_run.specs.Past.{Past, movedTo}
-use Rattle.hnsr_run.specs.History.{taken, entered, handledAs, handleIn, after}
+use Rattle.hnsr_run.specs.History.{Event, taken, entered, handledAs, handleIn, after, afterEvent}
 use Rattle.hnsr_run.specs.Claim.{limitsBelow}
 use Rattle.hnsr_run.specs.Run.Revoking.{clock-taken, disconnect-keeps, revoke-keeps, expire-keeps}
 use Rattle.hnsr_run.specs.Run.Switching.{replace-keeps}
@@ -161,18 +161,26 @@ observe-keeps {w} {h} R now = proceed-cases (λ (o : Outcome). Rel (o .world) (a
     (λ e. moved-rel R now (let l = clock-taken (w .header .«trusted_time_high_water») now e in omega (arith, R .base .heads .clock)))
     (λ e f. if-taken (λ (g : Past). Rel w g) e _ h R)
 
--- the sequence is below its top before the call; and after it, unless a switch starts it again
-pub step-keeps : {w : World} {h : Past} → Rel w h → Places w → sequenceOf w < top 64 → (c : Call) → limitsBelow c ≡ true
-    → (eqb (after h c (step w c .answer) (step w c .routes) .head .generation) (h .head .generation) ≡ true → sequenceOf w + length (step w c .routes) < top 64)
+-- what a call of the machine tells
+abbrev pub eventOf : World → Call → Event
+eventOf w c = record { call = c; answer = step w c .answer; routes = step w c .routes }
+
+-- the sequence is what the events tell, and below its top before the call and after it
+pub step-keeps : {w : World} {h : Past} → Rel w h → Places w → sequenceOf w ≡ h .head .next → sequenceOf w < top 64
+    → (c : Call) → limitsBelow c ≡ true → afterEvent h (eventOf w c) .head .next < top 64
     → Rel (step w c .world) (after h c (step w c .answer) (step w c .routes))
 unfolding step status nextDue
-step-keeps {w} {h} R H low callStatus lim next = proceed-cases (λ (o : Outcome). Rel (o .world) h) w (tablesAnswer w) (telling w (statusIs (statusOf w))) (λ e. R)
+step-keeps {w} {h} R H now low callStatus lim next = proceed-cases (λ (o : Outcome). Rel (o .world) h) w (tablesAnswer w) (telling w (statusIs (statusOf w))) (λ e. R)
     (λ e f. R)
-step-keeps {w} {h} R H low callNextDue lim next = proceed-cases (λ (o : Outcome). Rel (o .world) h) w (tablesAnswer w) (telling w (dueIs (dueOf w))) (λ e. R) (λ e f. R)
-step-keeps R H low (callObserveTime now) lim next = observe-keeps R now
-step-keeps R H low (callReplaceEnabled expected on room) lim next = replace-keeps R expected on room
-step-keeps R H low (callHandle q room) lim next = handle-keeps R H low q room lim
-step-keeps R H low (callAcknowledge g s delivered room) lim next = acknowledge-keeps R low g s delivered room
-step-keeps R H low (callDisconnect peer room) lim next = disconnect-keeps R peer room next
-step-keeps R H low (callRevokeReservation id room) lim next = revoke-keeps R id room
-step-keeps R H low (callExpire now room) lim next = expire-keeps R now room
+step-keeps {w} {h} R H now low callNextDue lim next = proceed-cases (λ (o : Outcome). Rel (o .world) h) w (tablesAnswer w) (telling w (dueIs (dueOf w))) (λ e. R) (λ e f. R)
+step-keeps R H s low (callObserveTime now) lim next = observe-keeps R now
+step-keeps R H now low (callReplaceEnabled expected on room) lim next = replace-keeps R expected on room
+step-keeps R H now low (callHandle q room) lim next = handle-keeps R H low q room lim
+step-keeps R H now low (callAcknowledge g s delivered room) lim next = acknowledge-keeps R low g s delivered room
+step-keeps {w} {h} R H now low (callDisconnect peer room) lim next =
+    let o = step w (callDisconnect peer room) in
+    let n = length (o .routes) in
+    disconnect-keeps R peer room (choose (λ (g : Past). g .head .next + n < top 64 → sequenceOf w + n < top 64)
+    (taken (o .answer)) _ h (λ x l. omega arith) (λ x l. omega arith) next)
+step-keeps R H now low (callRevokeReservation id room) lim next = revoke-keeps R id room
+step-keeps R H s low (callExpire now room) lim next = expire-keeps R now room

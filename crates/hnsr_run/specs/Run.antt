@@ -1,6 +1,7 @@
 -- ---- the parts of the invariant, and the small changes to each
 pub mod Actions
 pub mod Circuits
+pub mod Books
 pub mod Full
 pub mod Ended
 pub mod InPlace
@@ -11,8 +12,7 @@ pub mod ByLookup
 pub mod Ends
 pub mod Revocations
 pub mod Leaving
--- ---- the ledger, and the whole invariant
-pub mod Books
+-- ---- the whole invariant
 pub mod Rel
 pub mod Disconnecting
 -- ---- each call keeps it

@@ -28,6 +28,7 @@ use Rattle.hnsr_circuit.specs.Laws.Totals.{total-keep}
 use Rattle.hnsr_run.specs.Past.{Action, Past, peerOn, isData, numbered, towardSide, weight, without}
 use Rattle.hnsr_run.specs.Run.Actions.{view, remove-acts, found-is}
 use Rattle.hnsr_run.specs.Run.Circuits.{stray, sideTo, none, drop-queue}
+use Rattle.hnsr_run.specs.Run.Books.{one-ledger}
 use Rattle.hnsr_run.specs.Run.Full.{Body, Full, Keeps, Rest, plain-weight}
 use Rattle.hnsr_run.specs.Run.InPlace.{only-one, agreed, place-circuit, looked, resume-at, lowered-at, lower-agrees}
 
@@ -155,7 +156,8 @@ module _ (w : World) (h : Past) (F : Full none w h) (g s : ℕ) (found : any (nu
 
   settle-rest : Rest w (released (withoutAction w g s) action)
   unfolding released
-  settle-rest = record { ledger = refl; clock = refl; generation = refl; enabled = refl; config = refl }
+  settle-rest =
+      record { ledger = one-ledger (w .ledger); clock = refl; generation = refl; enabled = refl; config = refl }
 
   pub settled-keeps : Keeps none w (released (withoutAction w g s) action) (without h (numbered g s))
   settled-keeps = record { full = settle; rest = settle-rest }

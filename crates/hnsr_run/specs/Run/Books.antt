@@ -44,6 +44,34 @@ pub record Books (t : List ReservationUsage) (now : ℕ) (b : Book) : Type 0 whe
   pub stands : (r : ReservationId) → lives now b r ≡ true → Stands (usageOf r t) b r
   pub known : (r : ReservationId) → any (usageAt r) t ≡ true → ltb now (usageOf r t .«expires_at») ≡ true → lives now b r ≡ true
 
+-- ---- two ledgers that a book cannot tell apart: of every reservation as many records, and of the one found the same bytes
+-- and expiry. What else a record holds may differ
+pub record SameBooks (t u : List ReservationUsage) : Type 0 where
+  pub many : (r : ReservationId) → count (usageAt r) u ≡ count (usageAt r) t
+  pub there : (r : ReservationId) → any (usageAt r) u ≡ any (usageAt r) t
+  pub bytes : (r : ReservationId) → usageOf r u .bytes ≡ usageOf r t .bytes
+  pub expires : (r : ReservationId) → usageOf r u .«expires_at» ≡ usageOf r t .«expires_at»
+
+pub one-ledger : (t : List ReservationUsage) → SameBooks t t
+one-ledger t = record { many = λ r. refl; there = λ r. refl; bytes = λ r. refl; expires = λ r. refl }
+
+pub books-then : {t u v : List ReservationUsage} → SameBooks t u → SameBooks u v → SameBooks t v
+books-then a b = record {
+  many = λ r. b .many r ∙ a .many r;
+  there = λ r. b .there r ∙ a .there r;
+  bytes = λ r. b .bytes r ∙ a .bytes r;
+  expires = λ r. b .expires r ∙ a .expires r;
+}
+
+pub same-books : {t u : List ReservationUsage} {now : ℕ} {b : Book} → SameBooks t u → Books t now b → Books u now b
+same-books {now = now} s B = record {
+  once = λ r. omega (arith, s .many r, B .once r);
+  there = λ r e. s .there r ∙ B .there r e;
+  stands = λ r e. let x = B .stands r e in
+      record { expires = s .expires r ∙ x .expires; bytes = s .bytes r ∙ x .bytes };
+  known = λ r f e. B .known r (sym (s .there r) ∙ f) (ap (ltb now) (sym (s .expires r)) ∙ e);
+}
+
 pub lives-earlier : (n m : ℕ) (b : Book) (r : ReservationId) → n ≤ m → lives m b r ≡ true → lives n b r ≡ true
 lives-earlier n m b r l e = let k = both (b .made r) (ltb m (b .due r)) e in
     join (b .made r) (ltb n (b .due r)) (k .0) (lt-ltb n (b .due r) (omega (arith, ltb-true m (b .due r) (k .1))))

@@ -32,6 +32,7 @@ use Rattle.hnsr_circuit.specs.Laws.Keyed.{Keys, Tells}
 use Rattle.hnsr_run.specs.Past.{Known, Asked, Action, Past, peerOn, isData, onCircuit, towardSide, weight, emit}
 use Rattle.hnsr_run.specs.Run.Actions.{Acts, view, inUse, queue-acts, room-of}
 use Rattle.hnsr_run.specs.Run.Circuits.{Circs, Queue, stray, sideTo, queue-queue}
+use Rattle.hnsr_run.specs.Run.Books.{SameBooks, one-ledger, books-then}
 
 -- ---- a pending record and the OPEN that is known
 pub record AgreesP (x : RelayPending) (k : Asked) : Type 0 where
@@ -72,16 +73,16 @@ abbrev pub Full : (ℕ → Bool) → World → Past → Type 0
 Full S w h = Body S (configOf w) (generationOf w) (sequenceOf w) (w .pending) (w .circuits) (w .inflight) (h .active) (h .known) (h .opens .standing)
     (h .opens .asked) (h .out)
 
--- ---- what the parts of a revocation leave alone
+-- ---- what the parts of a revocation leave alone; of the ledger, what the book is about
 pub record Rest (w v : World) : Type 0 where
-  pub ledger : v .ledger ≡ w .ledger
+  pub ledger : SameBooks (w .ledger) (v .ledger)
   pub clock : v .header .«trusted_time_high_water» ≡ w .header .«trusted_time_high_water»
   pub generation : v .header .generation ≡ w .header .generation
   pub enabled : v .header .enabled ≡ w .header .enabled
   pub config : v .header .config ≡ w .header .config
 
 pub rest-same : (w : World) → Rest w w
-rest-same w = record { ledger = refl; clock = refl; generation = refl; enabled = refl; config = refl }
+rest-same w = record { ledger = one-ledger (w .ledger); clock = refl; generation = refl; enabled = refl; config = refl }
 
 pub record Keeps (S : ℕ → Bool) (u w : World) (h : Past) : Type 0 where
   pub full : Full S w h
@@ -114,11 +115,12 @@ can-room m w h =
 
 pub queued-rest : (m : Message) (w : World) → Rest w (queued m w)
 unfolding queued
-queued-rest m w = record { ledger = refl; clock = refl; generation = refl; enabled = refl; config = refl }
+queued-rest m w =
+    record { ledger = one-ledger (w .ledger); clock = refl; generation = refl; enabled = refl; config = refl }
 
 pub rest-then : {u v w : World} → Rest u v → Rest v w → Rest u w
 rest-then r s = record {
-  ledger = s .ledger ∙ r .ledger;
+  ledger = books-then (r .ledger) (s .ledger);
   clock = s .clock ∙ r .clock;
   generation = s .generation ∙ r .generation;
   enabled = s .enabled ∙ r .enabled;

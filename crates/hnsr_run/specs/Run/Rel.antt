@@ -30,7 +30,7 @@ use Rattle.hnsr_run.specs.Past.{Book, Action, Head, Past, lives, movedTo
 use Rattle.hnsr_run.specs.History.{taken}
 use Rattle.hnsr_run.specs.Run.Circuits.{none}
 use Rattle.hnsr_run.specs.Run.Full.{Full, Rest, Keeps, fewer}
-use Rattle.hnsr_run.specs.Run.Books.{Books, later-books}
+use Rattle.hnsr_run.specs.Run.Books.{Books, same-books, later-books}
 
 -- ---- the invariant
 pub record Heads (w : World) (d : Head) : Type 0 where
@@ -146,7 +146,7 @@ pub shrink-base : {S : ℕ → Bool} {w : World} {h : Past} → Base S w h → {
     → ((i : ℕ) → ac i ≡ true → h .active i ≡ true) → ((i : ℕ) → st i ≡ true → h .opens .standing i ≡ true) → Base none v (fewer h ac st out)
 shrink-base {S} {w} {h} R {v} ac st out K l m = record {
   full = K .full;
-  books = subst (λ t. Books t (h .head .clock) (h .book)) (sym (K .rest .ledger)) (R .books);
+  books = same-books (K .rest .ledger) (R .books);
   kept = λ j a. R .kept j (l j a);
   keptP = λ j a. R .keptP j (m j a);
   heads = heads-rest (K .rest) (R .heads);

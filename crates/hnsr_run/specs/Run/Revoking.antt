@@ -43,7 +43,7 @@ use Rattle.hnsr_run.specs.Run.Full.{Full, Keeps, rest-same}
 use Rattle.hnsr_run.specs.Run.Ends.{byError, labelled, labelled-own, revoking, disconnecting}
 use Rattle.hnsr_run.specs.Run.Revocations.{revoke-all}
 use Rattle.hnsr_run.specs.Run.Disconnecting.{leaving-heard}
-use Rattle.hnsr_run.specs.Run.Books.{Books, usageKeys, lapse-books, unmake-books}
+use Rattle.hnsr_run.specs.Run.Books.{usageKeys, one-ledger, same-books, lapse-books, unmake-books}
 use Rattle.hnsr_run.specs.Run.Rel.{Live, Rel, proceed-cases, if-taken, shrink, moved-rel, reledger, heads-rest}
 
 -- ---- disconnect
@@ -91,7 +91,7 @@ toward-keeps w h p F = record {
     real = F .real;
     realP = F .realP;
   };
-  rest = record { ledger = refl; clock = refl; generation = refl; enabled = refl; config = refl };
+  rest = record { ledger = one-ledger (w .ledger); clock = refl; generation = refl; enabled = refl; config = refl };
 }
 
 pub less : (f g : ℕ → Bool) (i : ℕ) → (f i && g i) ≡ true → f i ≡ true
@@ -143,7 +143,7 @@ revoke-keeps {w} {h} R id room = proceed-cases (λ (o : Outcome). Rel (o .world)
     record {
       base = record {
         full = K .full;
-        books = subst (λ t. Books t (h .head .clock) (unmade (h .book) id)) (sym (K .rest .ledger)) (unmake-books (R .base .books) id);
+        books = same-books (K .rest .ledger) (unmake-books (R .base .books) id);
         kept = λ j a x. let k = both (h .active j) (not (knownUnder id (h .known j))) a in
             unmade-live (h .head .clock) (h .book) id (h .known j .reservation) (h .known j .expires) (k .1) (R .base .kept j (k .0) x);
         keptP = λ j a x. let k = both (h .opens .standing j) (not (askedUnder id (h .opens .asked j))) a in

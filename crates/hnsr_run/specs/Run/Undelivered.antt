@@ -37,6 +37,7 @@ use Rattle.hnsr_run.specs.History.{ends, failedIn, acknowledgeIn, after}
 use Rattle.hnsr_run.specs.Run.Actions.{actions, view, both-once, found-is}
 use Rattle.hnsr_run.specs.Run.Circuits.{none}
 use Rattle.hnsr_run.specs.Run.Walks.{when-cases}
+use Rattle.hnsr_run.specs.Run.Books.{one-ledger}
 use Rattle.hnsr_run.specs.Run.Full.{Full, Keeps, Quiet, rest-same, rest-then, queued-rest, can-room, queue-full}
 use Rattle.hnsr_run.specs.Run.Ended.{at-false, remove-pends}
 use Rattle.hnsr_run.specs.Run.Ends.{quiet-about, pending-is, pending-there, circuit-there, revoke-circuit}
@@ -60,7 +61,7 @@ less-pending {w} {g} R j = let F = R .base .full in record {
     real = F .real;
     realP = λ i s. F .realP i (at-false j (g .opens .standing) i s);
   };
-  rest = record { ledger = refl; clock = refl; generation = refl; enabled = refl; config = refl };
+  rest = record { ledger = one-ledger (w .ledger); clock = refl; generation = refl; enabled = refl; config = refl };
 }
 
 same-sequence : (w : World) (j : ℕ) → sequenceOf (counting countRevoked (withoutPending w (pendingAt j))) ≡ sequenceOf w

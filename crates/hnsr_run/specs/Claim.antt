@@ -92,7 +92,7 @@ module _ (step : World → Call → Outcome) where
     pub queued : (j : ℕ) → h .active j ≡ true → (side : RelaySide) → queuedTo side (circuitIn w j) ≡ total (weight j side) (h .out)
     -- (c) for every order of the outstanding actions, acknowledging each once as delivered is taken each time; and then DATA from either
     -- side of any active circuit passes unchanged if and only if it is within credit and what circuit and reservation have left
-    pub drained : (order : List Action) → Reordered order (h .out) → (rooms : Action → ℕ) → ((a : Action) → acknowledgeWords ≤ rooms a)
+    pub acknowledged : (order : List Action) → Reordered order (h .out) → (rooms : Action → ℕ) → ((a : Action) → acknowledgeWords ≤ rooms a)
         → (map (λ e. e .answer) (events w (map (delivered rooms) order)) ≡ replicate (length order) Taken)
         × ((j : ℕ) → h .active j ≡ true → (side : RelaySide) (q : Packet) (room : ℕ) → Sends h j side q room
         → Passes (step (leftBy w (map (delivered rooms) order)) (callHandle q room)) h j side q

@@ -176,19 +176,19 @@ backward (a ∷ more) = backward more ++ (a ∷ [])
 abbrev acksOf : List Call → List Call
 acksOf calls = map (delivered step (λ a. acknowledgeWords)) (backward (pastAfter calls .out))
 
-abbrev drainedOf : List Call → World
-drainedOf calls = leftBy step (worldAfter calls) (acksOf calls)
+abbrev afterAcks : List Call → World
+afterAcks calls = leftBy step (worldAfter calls) (acksOf calls)
 
 pub all-acknowledged : map numberOf (events step (worldAfter richCalls) (acksOf richCalls)) ≡ 0 ∷ 0 ∷ 0 ∷ 0 ∷ 0 ∷ 0 ∷ 0 ∷ 0 ∷ 0 ∷ []
 unfolding machine lent notAdmitted
 all-acknowledged = refl
 
-pub circuit-full : number (step (drainedOf richCalls) (sends 2 7 3200 200) .answer) ∷ number (step (drainedOf richCalls)
+pub circuit-full : number (step (afterAcks richCalls) (sends 2 7 3200 200) .answer) ∷ number (step (afterAcks richCalls)
     (sends 2 7 3201 200) .answer) ∷ [] ≡ 0 ∷ 18 ∷ []
 unfolding machine lent notAdmitted
 circuit-full = refl
 
-pub reservation-full : number (step (drainedOf richCalls) (sends 3 8 3650 200) .answer) ∷ number (step (drainedOf richCalls)
+pub reservation-full : number (step (afterAcks richCalls) (sends 3 8 3650 200) .answer) ∷ number (step (afterAcks richCalls)
     (sends 3 8 3651 200) .answer) ∷ [] ≡ 0 ∷ 18 ∷ []
 unfolding machine lent notAdmitted
 reservation-full = refl

@@ -36,6 +36,6 @@ pub mod Steps
 pub mod Start
 pub mod Numbers
 pub mod Runs
-pub mod Drained
+pub mod AllAcknowledged
 pub mod Entering
 pub mod Passing

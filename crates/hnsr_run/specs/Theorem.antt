@@ -34,7 +34,7 @@ use Rattle.hnsr_run.specs.Run.Rel.{Rel, Places, moved-rel}
 use Rattle.hnsr_run.specs.Run.Steps.{long-enough}
 use Rattle.hnsr_run.specs.Run.Start.{start-rel}
 use Rattle.hnsr_run.specs.Run.Runs.{Between, run-between}
-use Rattle.hnsr_run.specs.Run.Drained.{drain}
+use Rattle.hnsr_run.specs.Run.AllAcknowledged.{acknowledge-all}
 use Rattle.hnsr_run.specs.Run.Entering.{is-data}
 use Rattle.hnsr_run.specs.Run.Passing.{only-if, if}
 
@@ -95,7 +95,7 @@ holds : (w : World) (h : Past) → Rel w h → Places w → sequenceOf w < top 6
 holds w h R H low = record {
   status = (statusOf w, ap (λ (o : Outcome). o .answer) (status-is w H), ap (λ (o : Outcome). o .told) (status-is w H), actions-are R);
   queued = λ j a side. sym (R .base .full .queue .queued j refl a side);
-  drained = λ order s rooms enough. let D = drain rooms enough order w h R H low s in (
+  acknowledged = λ order s rooms enough. let D = acknowledge-all rooms enough order w h R H low s in (
     D .answers,
     λ j a side q room S.
         let W = leftBy step w (map (delivered step rooms) order) in

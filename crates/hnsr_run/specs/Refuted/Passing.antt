@@ -61,7 +61,7 @@ pub doubly-refuted : Claim doubly → ⊥
 unfolding machine lent notAdmitted
 doubly-refuted C =
     let r = run-of doubly refl (talk ++ (acked 1 2 ∷ acked 1 3 ∷ [])) refl in
-    let d = C r .drained [] (λ f. refl) (λ a. acknowledgeWords) (λ a. omega arith) in
+    let d = C r .acknowledged [] (λ f. refl) (λ a. acknowledgeWords) (λ a. omega arith) in
     let p = d .1 7 refl Requester (bytes 1 30) handleWords (can-send (pastAt doubly r) 7 Requester (bytes 1 30) handleWords refl) .1
     (omega arith, omega arith, omega arith) in
     let k : _≡_ {A = ℕ} 18 0 = ap number (p .taken) in
@@ -96,7 +96,7 @@ pub stranger-refuted : Claim stranger → ⊥
 unfolding machine lent notAdmitted
 stranger-refuted C =
     let r = run-of stranger refl (wide ++ (sends 3 7 10 100 ∷ acked 1 2 ∷ acked 1 3 ∷ [])) refl in
-    let d = C r .drained [] (λ f. refl) (λ a. acknowledgeWords) (λ a. omega arith) in
+    let d = C r .acknowledged [] (λ f. refl) (λ a. acknowledgeWords) (λ a. omega arith) in
     let p = d .1 7 refl Endpoint (bytes 2 16384) handleWords (can-send (pastAt stranger r) 7 Endpoint (bytes 2 16384) handleWords refl) .1
     (omega arith, omega arith, omega arith) in
     let k : _≡_ {A = ℕ} 17 0 = ap number (p .taken) in
@@ -120,7 +120,7 @@ pub uncredited-refuted : Claim uncredited → ⊥
 unfolding machine lent notAdmitted
 uncredited-refuted C =
     let r = run-of uncredited refl (wide ++ (sends 1 7 16384 100 ∷ acked 1 2 ∷ acked 1 3 ∷ [])) refl in
-    let d = C r .drained [] (λ f. refl) (λ a. acknowledgeWords) (λ a. omega arith) in
+    let d = C r .acknowledged [] (λ f. refl) (λ a. acknowledgeWords) (λ a. omega arith) in
     let p = d .1 7 refl Requester (bytes 1 1) handleWords (can-send (pastAt uncredited r) 7 Requester (bytes 1 1) handleWords refl) .0
     (record { taken = refl; route = _; one = refl; to = refl; opcode = refl; context = refl; body = refl }) in
     omega (arith, p .0)
@@ -139,7 +139,7 @@ pub unmeasured-refuted : Claim unmeasured → ⊥
 unfolding machine lent notAdmitted
 unmeasured-refuted C =
     let r = run-of unmeasured refl (opens 1 2 9 (7 ∷ []) (granting 5 50 4000) 100 ∷ accepts 2 7 100 ∷ sends 1 7 40 100 ∷ acked 1 2 ∷ acked 1 3 ∷ []) refl in
-    let d = C r .drained [] (λ f. refl) (λ a. acknowledgeWords) (λ a. omega arith) in
+    let d = C r .acknowledged [] (λ f. refl) (λ a. acknowledgeWords) (λ a. omega arith) in
     let p = d .1 7 refl Requester (bytes 1 20) handleWords (can-send (pastAt unmeasured r) 7 Requester (bytes 1 20) handleWords refl) .0
     (record { taken = refl; route = _; one = refl; to = refl; opcode = refl; context = refl; body = refl }) in
     omega (arith, p .1)
@@ -168,7 +168,7 @@ pub uncharged-refuted : Claim uncharged → ⊥
 unfolding machine lent notAdmitted
 uncharged-refuted C =
     let r = run-of uncharged refl (talk ++ (sends 1 7 20 100 ∷ acked 1 2 ∷ acked 1 3 ∷ acked 1 4 ∷ [])) refl in
-    let d = C r .drained [] (λ f. refl) (λ a. acknowledgeWords) (λ a. omega arith) in
+    let d = C r .acknowledged [] (λ f. refl) (λ a. acknowledgeWords) (λ a. omega arith) in
     let p = d .1 7 refl Requester (bytes 1 50) handleWords (can-send (pastAt uncharged r) 7 Requester (bytes 1 50) handleWords refl) .0
     (record { taken = refl; route = _; one = refl; to = refl; opcode = refl; context = refl; body = refl }) in
     omega (arith, p .2)
@@ -192,7 +192,7 @@ pub resetting-refuted : Claim resetting → ⊥
 unfolding machine lent notAdmitted
 resetting-refuted C =
     let r = run-of resetting refl (talk ++ (opens 3 2 9 (8 ∷ []) (grant 5 100) 100 ∷ acked 1 2 ∷ acked 1 3 ∷ acked 1 4 ∷ [])) refl in
-    let d = C r .drained [] (λ f. refl) (λ a. acknowledgeWords) (λ a. omega arith) in
+    let d = C r .acknowledged [] (λ f. refl) (λ a. acknowledgeWords) (λ a. omega arith) in
     let p = d .1 7 refl Requester (bytes 1 70) handleWords (can-send (pastAt resetting r) 7 Requester (bytes 1 70) handleWords refl) .0
     (record { taken = refl; route = _; one = refl; to = refl; opcode = refl; context = refl; body = refl }) in
     omega (arith, p .2)

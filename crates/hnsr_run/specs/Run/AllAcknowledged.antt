@@ -86,15 +86,15 @@ unfolding released
 next-sequence w g s = refl
 
 -- ---- all of them
-pub record Drained (rooms : Action → ℕ) (order : List Action) (w : World) (h : Past) : Type 0 where
+pub record AllAcknowledged (rooms : Action → ℕ) (order : List Action) (w : World) (h : Past) : Type 0 where
   pub answers : map (λ e. e .answer) (events step w (map (delivered step rooms) order)) ≡ replicate (length order) Taken
   pub rel : Rel (leftBy step w (map (delivered step rooms) order)) (withOut h [])
   pub places : Places (leftBy step w (map (delivered step rooms) order))
   pub low : sequenceOf (leftBy step w (map (delivered step rooms) order)) < top 64
 
-drain-one : (rooms : Action → ℕ) (a : Action) (rest : List Action) (w v : World) (h : Past) (p : Action → Bool) → step w (delivered step rooms a) ≡ done v []
-    → Drained rooms rest v (without h p) → Drained rooms (a ∷ rest) w h
-drain-one rooms a rest w v h p st D = record {
+acknowledge-one : (rooms : Action → ℕ) (a : Action) (rest : List Action) (w v : World) (h : Past) (p : Action → Bool) → step w (delivered step rooms a) ≡ done v []
+    → AllAcknowledged rooms rest v (without h p) → AllAcknowledged rooms (a ∷ rest) w h
+acknowledge-one rooms a rest w v h p st D = record {
   answers = subst (λ (o : Outcome). (o .answer ∷ map (λ e. e .answer) (events step (o .world) (map (delivered step rooms) rest))) ≡ replicate (length
       (a ∷ rest)) Taken) (sym st) (ap {B = List HnsrAnswer} (λ l. Taken ∷ l) (D .answers));
   rel = subst (λ (o : Outcome). Rel (leftBy step (o .world) (map (delivered step rooms) rest)) (withOut h [])) (sym st) (D .rel);
@@ -102,15 +102,15 @@ drain-one rooms a rest w v h p st D = record {
   low = subst (λ (o : Outcome). sequenceOf (leftBy step (o .world) (map (delivered step rooms) rest)) < top 64) (sym st) (D .low);
 }
 
-pub drain : (rooms : Action → ℕ) → ((a : Action) → acknowledgeWords ≤ rooms a) → (order : List Action) (w : World) (h : Past) → Rel w h → Places w
-    → sequenceOf w < top 64 → Reordered order (h .out) → Drained rooms order w h
-drain rooms enough [] w h R H low s = record {
+pub acknowledge-all : (rooms : Action → ℕ) → ((a : Action) → acknowledgeWords ≤ rooms a) → (order : List Action) (w : World) (h : Past) → Rel w h → Places w
+    → sequenceOf w < top 64 → Reordered order (h .out) → AllAcknowledged rooms order w h
+acknowledge-all rooms enough [] w h R H low s = record {
   answers = refl;
   rel = subst (λ o. Rel w (withOut h o)) (nothing-left (h .out) (sym (s (λ a. 1)))) R;
   places = H;
   low = low;
 }
-drain rooms enough (a ∷ rest) w h R H low s =
+acknowledge-all rooms enough (a ∷ rest) w h R H low s =
     let A = R .base .full .acts in
     let g = a .generation in
     let q = a .sequence in
@@ -121,6 +121,6 @@ drain rooms enough (a ∷ rest) w h R H low s =
     let R₁ = shrink R (h .active) (h .opens .standing) (keep (non (numbered g q)) (h .out)) (settled-keeps w h (R .base .full) g q f) (λ i x. x) (λ i x. x) in
     let H₁ = subst (λ (o : Outcome). Places (o .world)) st (places-kept (callAcknowledge g q true (rooms a)) H (ap (λ (o : Outcome). configOf (o .world)) st
     ∙ R₁ .base .heads .config ∙ sym (R .base .heads .config))) in
-    drain-one rooms a rest w (next w g q) h (numbered g q) st
-    (drain rooms enough rest (next w g q) (without h (numbered g q)) R₁ H₁ (subst
+    acknowledge-one rooms a rest w (next w g q) h (numbered g q) st
+    (acknowledge-all rooms enough rest (next w g q) (without h (numbered g q)) R₁ H₁ (subst
     (λ n. n < top 64) (sym (next-sequence w g q)) low) (rest-ordered a rest (h .out) s (both-once (A .held) g q)))

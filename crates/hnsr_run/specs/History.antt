@@ -31,7 +31,7 @@ use Rattle.hnsr_circuit.specs.Draw.{undrawn, draws, drawAll}
 use Rattle.hnsr_circuit.specs.Open.{deadlineFor}
 use Rattle.hnsr_circuit.specs.Handle.{Handling, OPEN, ACCEPT, DATA, WINDOW, CLOSE, ERROR, other, handlingOf}
 use Rattle.hnsr_circuit.specs.Call.{Start, Call, callStatus, callNextDue, callObserveTime, callReplaceEnabled, callHandle, callAcknowledge, callDisconnect, callRevokeReservation, callExpire}
-use Rattle.hnsr_run.specs.Past.{Known, Asked, Action, Past, counted, onCircuit, numbered, toward, tally, heard, carriedOnce, nothing, noOne, noOpens, noBook, withHead, withBook, withOut, emit, without, movedTo, numbering, stood, unstood, openEnded, begun, learnt, circuitEnded, remade, spentBy, unmade}
+use Rattle.hnsr_run.specs.Past.{Known, Asked, Action, Past, counted, onCircuit, numbered, toward, tally, heard, carriedOnce, nothing, noOne, noOpens, noBook, withHead, withBook, withOut, stillStanding, emit, without, movedTo, numbering, stood, unstood, openEnded, begun, learnt, circuitEnded, remade, spentBy, unmade}
 
 pub record Event : Type 0 where
   pub call : Call
@@ -190,7 +190,7 @@ revoked h qo qc told = record {
   head = h .head;
   active = λ j. h .active j && not (qc (h .known j));
   known = h .known;
-  opens = record { standing = λ j. h .opens .standing j && not (qo (h .opens .asked j)); asked = h .opens .asked; named = h .opens .named };
+  opens = stillStanding (h .opens) (λ j. h .opens .standing j && not (qo (h .opens .asked j)));
   book = h .book;
   out = keep (non (goneCircuit h qc)) (keep (non (goneOpen h qo)) (h .out)) ++ told;
 }

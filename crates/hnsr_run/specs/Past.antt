@@ -49,11 +49,12 @@ pub record Asked : Type 0 where
   pub ticket : RelayTicket
   pub deadline : ℕ
 
--- by id; and the id of the last OPEN that a requester sent under a context
+-- by id; the id of the last OPEN that a requester sent under a context; every id that a taken OPEN drew, newest first
 pub record Opens : Type 0 where
   pub standing : ℕ → Bool
   pub asked : ℕ → Asked
   pub named : HnsrPeerId → ℕ → ℕ
+  pub ids : List ℕ
 
 -- reservations: whether an OPEN made the ledger record, its expiry, and the DATA taken under its id since then
 pub record Book : Type 0 where
@@ -212,7 +213,7 @@ abbrev pub noAsked : Asked
 noAsked = record { requester = noPeer; endpoint = noPeer; context = 0; ticket = noTicket; deadline = 0 }
 
 abbrev pub noOpens : Opens
-noOpens = record { standing = λ j. false; asked = λ j. noAsked; named = λ p x. 0 }
+noOpens = record { standing = λ j. false; asked = λ j. noAsked; named = λ p x. 0; ids = [] }
 
 abbrev pub noBook : Book
 noBook = record { made = λ r. false; due = λ r. 0; spent = λ r. 0 }
@@ -235,6 +236,10 @@ withOut h out = record { head = h .head; active = h .active; known = h .known; o
 
 abbrev pub withCircuit : Past → (ℕ → Bool) → (ℕ → Known) → Past
 withCircuit h ac kn = record { head = h .head; active = ac; known = kn; opens = h .opens; book = h .book; out = h .out }
+
+-- these still stand
+abbrev pub stillStanding : Opens → (ℕ → Bool) → Opens
+stillStanding o st = record { standing = st; asked = o .asked; named = o .named; ids = o .ids }
 
 -- ---- small changes
 -- routes written are outstanding actions
@@ -269,10 +274,11 @@ stood h j k = withOpens h (record {
   standing = at j true (h .opens .standing);
   asked = at j k (h .opens .asked);
   named = λ p x. cond (samePeer (k .requester) p && eqb (k .context) x) j (h .opens .named p x);
+  ids = j ∷ h .opens .ids;
 })
 
 abbrev pub unstood : Past → ℕ → Past
-unstood h j = withOpens h (record { standing = at j false (h .opens .standing); asked = h .opens .asked; named = h .opens .named })
+unstood h j = withOpens h (stillStanding (h .opens) (at j false (h .opens .standing)))
 
 abbrev pub openEnded : Past → ℕ → Past
 openEnded h j = unstood (without h (onCircuit j)) j

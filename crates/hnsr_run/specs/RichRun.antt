@@ -149,6 +149,11 @@ pub outstanding : map (λ a. a .sequence) (pastAfter richCalls .out) ≡ 2 ∷ 4
 unfolding machine lent notAdmitted
 outstanding = refl
 
+-- the ids that OPENs drew, the last first
+pub drawn : pastAfter richCalls .opens .ids ≡ 12 ∷ 11 ∷ 8 ∷ 7 ∷ 7 ∷ 15 ∷ 14 ∷ 13 ∷ 12 ∷ 11 ∷ 10 ∷ 8 ∷ 7 ∷ 7 ∷ []
+unfolding machine lent notAdmitted
+drawn = refl
+
 -- the sequence started again at each of the two switches
 pub next-number : pastAfter richCalls .head .next ≡ 18
 unfolding machine lent notAdmitted

@@ -203,6 +203,10 @@ module _ {w : World} {h : Past} (R : Rel w h) (H : Places w) (low : sequenceOf w
       keptP = λ i a. R .base .keptP i (at-false j (h .opens .standing) i a);
       heads = record { generation = R .base .heads .generation; enabled = R .base .heads .enabled; clock = R .base .heads .clock; config = R .base .heads .config };
       names = λ i a. R .base .names i (at-false j (h .opens .standing) i a);
+      drawn = λ i a. split (eqb j i)
+          (λ x. subst (λ n. any (λ m. eqb m n) (h .opens .ids) ≡ true) (eqb-true j i x) (R .base .drawnP j stands))
+          (λ x. R .base .drawn i (sym (ap (λ b. cond b true (h .active i)) x) ∙ a));
+      drawnP = λ i a. R .base .drawnP i (at-false j (h .opens .standing) i a);
       good = R .base .good;
       below = R .base .below;
     };

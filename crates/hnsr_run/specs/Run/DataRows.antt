@@ -77,6 +77,8 @@ known-rel {w} {h} R v j k sp out F B er ee H = record {
     keptP = λ i a e. let K = R .base .keptP i a e in record { lives = K .lives; due = K .due };
     heads = H;
     names = R .base .names;
+    drawn = R .base .drawn;
+    drawnP = R .base .drawnP;
     good = R .base .good;
     below = R .base .below;
   };

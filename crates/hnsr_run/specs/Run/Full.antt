@@ -29,7 +29,7 @@ use Rattle.hnsr_circuit.specs.Queue.{Message, routeFor, actionFor, generationOf
 use Rattle.hnsr_circuit.specs.Route.{Route}
 use Rattle.hnsr_circuit.specs.Laws.Answers.{then-taken}
 use Rattle.hnsr_circuit.specs.Laws.Keyed.{Keys, Tells}
-use Rattle.hnsr_run.specs.Past.{Known, Asked, Action, Past, peerOn, isData, onCircuit, towardSide, weight, emit}
+use Rattle.hnsr_run.specs.Past.{Known, Asked, Action, Past, peerOn, isData, onCircuit, towardSide, weight, stillStanding, emit}
 use Rattle.hnsr_run.specs.Run.Actions.{Acts, view, inUse, queue-acts, room-of}
 use Rattle.hnsr_run.specs.Run.Circuits.{Circs, Queue, stray, sideTo, queue-queue}
 use Rattle.hnsr_run.specs.Run.Books.{SameBooks, one-ledger, books-then}
@@ -94,7 +94,7 @@ fewer h ac st out = record {
   head = h .head;
   active = ac;
   known = h .known;
-  opens = record { standing = st; asked = h .opens .asked; named = h .opens .named };
+  opens = stillStanding (h .opens) st;
   book = h .book;
   out = out;
 }

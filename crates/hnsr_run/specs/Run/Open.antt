@@ -177,6 +177,8 @@ module _ {w : World} {h : Past} (R : Rel w h) (t : RelayTicket) (l : ltb (h .hea
             config = R .base .heads .config;
           };
           names = R .base .names;
+          drawn = R .base .drawn;
+          drawnP = R .base .drawnP;
           good = R .base .good;
           below = R .base .below;
         };

@@ -2,7 +2,7 @@
 use Prim.Native.Nat.{ℕ, _<_}
 use native.Mathlib.Omega.{arith}
 use mathlib.Core.Path.{_≡_, refl, sym, ap, _∙_, subst}
-use mathlib.Core.Bool.{true, false, cond, _&&_, true≢false}
+use mathlib.Core.Bool.{true, false, cond, _&&_, _||_, true≢false, or-true}
 use mathlib.Core.List.{[], _∷_}
 use lib.Dec.{ltb, eqb}
 use borrow.Author.Tests.{eqb-true, eq-eqb}
@@ -121,6 +121,10 @@ module _ {w : World} {h : Past} (R : Rel w h) (H : Places w) (low : sequenceOf w
           (λ x. let y = ap (λ b. cond b k (h .opens .asked i)) x in
           subst (λ (z : Asked). samePeer (z .requester) p ≡ true → cond (samePeer (k .requester) p && eqb (k .context) (z .context)) j (h .opens .named p
           (z .context)) ≡ i) (sym y) (λ t. other-name i (sym (ap (λ b. cond b true (h .opens .standing i)) x) ∙ a) p t) s);
+      drawn = λ i a. ap (λ b. eqb j i || b) (R .base .drawn i a) ∙ or-true (eqb j i);
+      drawnP = λ i a. split (eqb j i) (λ x. ap (λ b. b || any (λ m. eqb m i) (h .opens .ids)) x)
+          (λ x. ap (λ b. eqb j i || b) (R .base .drawnP i (sym (ap (λ b. cond b true (h .opens .standing i)) x) ∙ a))
+          ∙ or-true (eqb j i));
       good = R .base .good;
       below = R .base .below;
     };

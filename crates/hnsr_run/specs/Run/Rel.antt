@@ -20,6 +20,7 @@ use Rattle.hnsr_circuit.specs.declared.answer.HnsrAnswer.the-variants.{Taken, R
 use Rattle.hnsr_circuit.specs.declared.answer.HnsrRuntimeError.{HnsrRuntimeError}
 use Rattle.hnsr_circuit.specs.declared.answer.HnsrRuntimeError.the-variants.{Protocol, Capacity, GenerationExhausted}
 use Rattle.hnsr_circuit.specs.Answers.{errorNumber, check, _then_}
+use Rattle.hnsr_circuit.specs.Table.{any}
 use Rattle.hnsr_circuit.specs.Config.{configGood}
 use Rattle.hnsr_circuit.specs.Peer.{samePeer}
 use Rattle.hnsr_circuit.specs.Inflight.{tallied, capacityLeft, capacityAnswer}
@@ -56,6 +57,9 @@ pub record Base (S : ℕ → Bool) (w : World) (h : Past) : Type 0 where
   -- the requester's context leads to the id
   pub names : (j : ℕ) → h .opens .standing j ≡ true → (p : HnsrPeerId) → samePeer (h .opens .asked j .requester) p ≡ true
       → h .opens .named p (h .opens .asked j .context) ≡ j
+  -- what is active or stands was drawn by an OPEN
+  pub drawn : (j : ℕ) → h .active j ≡ true → any (λ i. eqb i j) (h .opens .ids) ≡ true
+  pub drawnP : (j : ℕ) → h .opens .standing j ≡ true → any (λ i. eqb i j) (h .opens .ids) ≡ true
   pub good : configGood (h .head .config) ≡ true
   pub below : h .head .config .«maximum_bytes_per_circuit» < top 64
 
@@ -151,6 +155,8 @@ shrink-base {S} {w} {h} R {v} ac st out K l m = record {
   keptP = λ j a. R .keptP j (m j a);
   heads = heads-rest (K .rest) (R .heads);
   names = λ j a. R .names j (m j a);
+  drawn = λ j a. R .drawn j (l j a);
+  drawnP = λ j a. R .drawnP j (m j a);
   good = R .good;
   below = R .below;
 }
@@ -183,6 +189,8 @@ moved-rel {w} {h} R t l = record {
     keptP = λ j a e. live-later (R .base .keptP j a (earlier (h .head .clock) t (h .opens .asked j .ticket .«expires_at») l e)) e;
     heads = record { generation = R .base .heads .generation; enabled = R .base .heads .enabled; clock = refl; config = R .base .heads .config };
     names = R .base .names;
+    drawn = R .base .drawn;
+    drawnP = R .base .drawnP;
     good = R .base .good;
     below = R .base .below;
   };
@@ -200,6 +208,8 @@ numbering-rel R n = let H = R .base .heads in record {
     keptP = R .base .keptP;
     heads = record { generation = H .generation; enabled = H .enabled; clock = H .clock; config = H .config };
     names = R .base .names;
+    drawn = R .base .drawn;
+    drawnP = R .base .drawnP;
     good = R .base .good;
     below = R .base .below;
   };
@@ -217,6 +227,8 @@ reledger R t B = record {
     keptP = R .base .keptP;
     heads = record { generation = R .base .heads .generation; enabled = R .base .heads .enabled; clock = R .base .heads .clock; config = R .base .heads .config };
     names = R .base .names;
+    drawn = R .base .drawn;
+    drawnP = R .base .drawnP;
     good = R .base .good;
     below = R .base .below;
   };

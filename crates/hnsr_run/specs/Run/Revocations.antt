@@ -22,7 +22,7 @@ use Rattle.hnsr_circuit.specs.Revocation.{revokeCircuitThere, revokeCircuit, wa
 use Rattle.hnsr_circuit.specs.Laws.Revocation.{revoked-found}
 use Rattle.hnsr_circuit.specs.Laws.Totals.{keep-append, keep-whole}
 use Rattle.hnsr_circuit.specs.Laws.Sweep.{none-ends, none-goes, one-ends, one-goes}
-use Rattle.hnsr_run.specs.Past.{Known, Asked, Action, Past, at, onCircuit, heard, emit, openEnded, circuitEnded}
+use Rattle.hnsr_run.specs.Past.{Known, Asked, Action, Past, at, onCircuit, heard, stillStanding, emit, openEnded, circuitEnded}
 use Rattle.hnsr_run.specs.History.{goneOpen, goneCircuit, revoked}
 use Rattle.hnsr_run.specs.Run.Circuits.{Agrees, circuitKeys, none}
 use Rattle.hnsr_run.specs.Run.Walks.{walked}
@@ -37,7 +37,7 @@ partedOpens f h q rs = record {
   head = h .head;
   active = h .active;
   known = h .known;
-  opens = record { standing = λ j. h .opens .standing j && not (q (h .opens .asked j)); asked = h .opens .asked; named = h .opens .named };
+  opens = stillStanding (h .opens) (λ j. h .opens .standing j && not (q (h .opens .asked j)));
   book = h .book;
   out = keep (non (goneOpen h q)) (h .out) ++ map f rs;
 }
@@ -62,7 +62,7 @@ module _ (qc : Known → Bool) (T : ℕ → Asked → Bool) (Q : RelayPending �
     head = h .head;
     active = h .active;
     known = h .known;
-    opens = record { standing = λ j. none-ends placed q (h .opens .standing) (h .opens .asked) free j i; asked = h .opens .asked; named = h .opens .named };
+    opens = stillStanding (h .opens) (λ j. none-ends placed q (h .opens .standing) (h .opens .asked) free j i);
     book = h .book;
     out = none-goes placed q (h .opens .standing) (h .opens .asked) free (h .out) i;
   }
@@ -73,7 +73,7 @@ module _ (qc : Known → Bool) (T : ℕ → Asked → Bool) (Q : RelayPending �
     head = h .head;
     active = h .active;
     known = h .known;
-    opens = record { standing = λ j. one-ends placed q (h .opens .standing) (h .opens .asked) m a s j i; asked = h .opens .asked; named = h .opens .named };
+    opens = stillStanding (h .opens) (λ j. one-ends placed q (h .opens .standing) (h .opens .asked) m a s j i);
     book = h .book;
     out = outs i;
   }
@@ -176,7 +176,7 @@ both-path told h qo qc r rs z = λ i. record {
   head = h .head;
   active = λ j. h .active j && not (qc (h .known j));
   known = h .known;
-  opens = record { standing = λ j. h .opens .standing j && not (qo (h .opens .asked j)); asked = h .opens .asked; named = h .opens .named };
+  opens = stillStanding (h .opens) (λ j. h .opens .standing j && not (qo (h .opens .asked j)));
   book = h .book;
   out = outs i;
 }

@@ -156,6 +156,8 @@ revoke-keeps {w} {h} R id room = proceed-cases (λ (o : Outcome). Rel (o .world)
           config = R .base .heads .config;
         });
         names = λ j a. R .base .names j (both (h .opens .standing j) (not (askedUnder id (h .opens .asked j))) a .0);
+        drawn = λ j a. R .base .drawn j (both (h .active j) (not (knownUnder id (h .known j))) a .0);
+        drawnP = λ j a. R .base .drawnP j (both (h .opens .standing j) (not (askedUnder id (h .opens .asked j))) a .0);
         good = R .base .good;
         below = R .base .below;
       };

@@ -163,6 +163,8 @@ module _ (w : World) (s : Start) (D : NewRows w (s .config)) (low : s .config .�
       keptP = λ j a. absurd (false≢true a);
       heads = record { generation = refl; enabled = refl; clock = refl; config = refl };
       names = λ j a. absurd (false≢true a);
+      drawn = λ j a. absurd (false≢true a);
+      drawnP = λ j a. absurd (false≢true a);
       good = D .good;
       below = low;
     };

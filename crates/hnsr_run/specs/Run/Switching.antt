@@ -66,6 +66,8 @@ switched-base {w} {h} R on = record {
   keptP = R .base .keptP;
   heads = record { generation = ap (λ n. n + 1) (R .base .heads .generation); enabled = refl; clock = R .base .heads .clock; config = R .base .heads .config };
   names = R .base .names;
+  drawn = R .base .drawn;
+  drawnP = R .base .drawnP;
   good = R .base .good;
   below = R .base .below;
 }
@@ -80,6 +82,8 @@ on-keeps {w} {h} R off = let B = switched-base R true in record {
     keptP = B .keptP;
     heads = B .heads;
     names = B .names;
+    drawn = B .drawn;
+    drawnP = B .drawnP;
     good = B .good;
     below = B .below;
   };

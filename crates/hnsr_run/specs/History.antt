@@ -31,7 +31,7 @@ use Rattle.hnsr_circuit.specs.Draw.{undrawn, draws, drawAll}
 use Rattle.hnsr_circuit.specs.Open.{deadlineFor}
 use Rattle.hnsr_circuit.specs.Handle.{Handling, OPEN, ACCEPT, DATA, WINDOW, CLOSE, ERROR, other, handlingOf}
 use Rattle.hnsr_circuit.specs.Call.{Start, Call, callStatus, callNextDue, callObserveTime, callReplaceEnabled, callHandle, callAcknowledge, callDisconnect, callRevokeReservation, callExpire}
-use Rattle.hnsr_run.specs.Past.{Known, Asked, Action, Past, counted, onCircuit, numbered, toward, tally, heard, carriedOnce, nothing, noOne, noOpens, noBook, withHead, withBook, withOut, stillStanding, emit, without, movedTo, numbering, stood, unstood, openEnded, begun, learnt, circuitEnded, remade, spentBy, unmade}
+use Rattle.hnsr_run.specs.Past.{Known, Asked, Action, Past, starting, counted, onCircuit, numbered, toward, tally, heard, carriedOnce, nothing, noOne, noOpens, noBook, headAt, withHead, withBook, withOut, fewer, emit, without, movedTo, numbering, stood, unstood, openEnded, begun, learnt, circuitEnded, remade, spentBy, unmade}
 
 pub record Event : Type 0 where
   pub call : Call
@@ -96,20 +96,7 @@ openIn q a rs h =
 
 -- ---- ACCEPT: the pending's actions are dropped, and the circuit is active
 abbrev pub startedBy : OpaqueRelayConfig → Asked → (window : ℕ) → Known
-startedBy c k window = record {
-  requester = k .requester;
-  endpoint = k .endpoint;
-  reservation = k .ticket .«reservation_id»;
-  expires = k .ticket .«expires_at»;
-  limit = min (k .ticket .«max_bytes_per_circuit») (c .«maximum_bytes_per_circuit»);
-  total = k .ticket .«max_total_bytes»;
-  window = window;
-  bytes = 0;
-  dataR = 0;
-  dataE = 0;
-  windowR = 0;
-  windowE = 0;
-}
+startedBy c k window = starting k (min (k .ticket .«max_bytes_per_circuit») (c .«maximum_bytes_per_circuit»)) window
 
 abbrev pub acceptIn : Packet → HnsrAnswer → List Route → Past → Past
 acceptIn q a rs h =
@@ -186,14 +173,11 @@ abbrev pub goneCircuit : Past → (Known → Bool) → Action → Bool
 goneCircuit h q a = h .active (a .circuit) && q (h .known (a .circuit))
 
 abbrev pub revoked : Past → (Asked → Bool) → (Known → Bool) → List Action → Past
-revoked h qo qc told = record {
-  head = h .head;
-  active = λ j. h .active j && not (qc (h .known j));
-  known = h .known;
-  opens = stillStanding (h .opens) (λ j. h .opens .standing j && not (qo (h .opens .asked j)));
-  book = h .book;
-  out = keep (non (goneCircuit h qc)) (keep (non (goneOpen h qo)) (h .out)) ++ told;
-}
+revoked h qo qc told =
+    fewer h
+    (λ j. h .active j && not (qc (h .known j)))
+    (λ j. h .opens .standing j && not (qo (h .opens .asked j)))
+    (keep (non (goneCircuit h qc)) (keep (non (goneOpen h qo)) (h .out)) ++ told)
 
 -- ---- what a revocation says is about: ERROR, to the requester of an OPEN, goes under its own context; CLOSE goes under the id
 abbrev pub about : Past → Route → ℕ
@@ -264,8 +248,7 @@ everyCircuit k = true
 -- a changed enabled state raises the generation, starts the sequence at 1, drops every action and, if off, revokes all;
 -- the same state changes nothing
 abbrev pub switchedTo : Past → Bool → Past
-switchedTo h on =
-    withOut (withHead h (record { generation = h .head .generation + 1; enabled = on; clock = h .head .clock; config = h .head .config; next = 1 })) []
+switchedTo h on = let d = h .head in withOut (withHead h (headAt d (d .generation + 1) on (d .clock) 1)) []
 
 abbrev pub enableIn : Bool → List Route → Past → Past
 enableIn on rs h =

@@ -17,7 +17,7 @@ use Rattle.hnsr_circuit.specs.declared.records.RelaySide.{RelaySide}
 use Rattle.hnsr_circuit.specs.declared.records.RelaySide.the-variants.{Requester, Endpoint}
 use Rattle.hnsr_circuit.specs.Table.{keep}
 use Rattle.hnsr_circuit.specs.Peer.{noPeer, samePeer}
-use Rattle.hnsr_circuit.specs.Pending.{noReservation, noTicket}
+use Rattle.hnsr_circuit.specs.Pending.{noTicket}
 use Rattle.hnsr_circuit.specs.declared.records.InflightKind.the-variants.{Incoming, Opened, Data, Control, Close}
 use Rattle.hnsr_circuit.specs.Inflight.{kindNumber, toEndpoint}
 use Rattle.hnsr_circuit.specs.Circuits.{otherSide}
@@ -146,34 +146,47 @@ kindFor n =
     (cond (eqb n opData) (kindNumber Data)
     (cond (eqb n opWindow) (kindNumber Control) (kindNumber Close))))
 
--- the action of a route: its numbers, its destination and its kind are among the route's words; `about` tells the circuit, from the call and the words
-abbrev pub heard : (about : Route → ℕ) → Route → Action
-heard about r = record {
+-- its numbers and its destination are among the route's words
+abbrev pub ofRoute : Route → (circuit kind : ℕ) → (toEndpoint : Bool) → (bytes : ℕ) → Action
+ofRoute r circuit kind toEndpoint bytes = record {
   generation = r .generation;
   sequence = r .sequence;
-  circuit = about r;
+  circuit = circuit;
   destination = r .destination;
-  kind = kindFor (r .opcode);
-  toEndpoint = false;
-  bytes = 0;
+  kind = kind;
+  toEndpoint = toEndpoint;
+  bytes = bytes;
 }
+
+-- the action of a route: its kind is among the words too; `about` tells the circuit, from the call and the words
+abbrev pub heard : (about : Route → ℕ) → Route → Action
+heard about r = ofRoute r (about r) (kindFor (r .opcode)) false 0
 
 -- the action of DATA taken: its circuit, its direction and its bytes are those of the packet, whatever the route has
 abbrev pub carried : (circuit : ℕ) → (from : RelaySide) → (bytes : ℕ) → Route → Action
-carried j from n r = record {
-  generation = r .generation;
-  sequence = r .sequence;
-  circuit = j;
-  destination = r .destination;
-  kind = kindNumber Data;
-  toEndpoint = toEndpoint (otherSide from);
-  bytes = n;
-}
+carried j from n r = ofRoute r j (kindNumber Data) (toEndpoint (otherSide from)) n
 
 -- the bytes of one DATA are taken once, however many routes it has
 abbrev pub carriedOnce : (circuit : ℕ) → (from : RelaySide) → (bytes : ℕ) → List Route → List Action
 carriedOnce j from n [] = []
 carriedOnce j from n (r ∷ rs) = carried j from n r ∷ map (carried j from 0) rs
+
+-- a circuit of which nothing was taken yet
+abbrev pub starting : Asked → (limit window : ℕ) → Known
+starting k limit window = record {
+  requester = k .requester;
+  endpoint = k .endpoint;
+  reservation = k .ticket .«reservation_id»;
+  expires = k .ticket .«expires_at»;
+  limit = limit;
+  total = k .ticket .«max_total_bytes»;
+  window = window;
+  bytes = 0;
+  dataR = 0;
+  dataE = 0;
+  windowR = 0;
+  windowE = 0;
+}
 
 -- DATA and WINDOW taken, replaced
 abbrev pub counted : Known → (bytes dataR dataE windowR windowE : ℕ) → Known
@@ -193,24 +206,11 @@ counted k bytes dataR dataE windowR windowE = record {
 }
 
 -- ---- nothing yet
-abbrev pub noOne : Known
-noOne = record {
-  requester = noPeer;
-  endpoint = noPeer;
-  reservation = noReservation;
-  expires = 0;
-  limit = 0;
-  total = 0;
-  window = 0;
-  bytes = 0;
-  dataR = 0;
-  dataE = 0;
-  windowR = 0;
-  windowE = 0;
-}
-
 abbrev pub noAsked : Asked
 noAsked = record { requester = noPeer; endpoint = noPeer; context = 0; ticket = noTicket; deadline = 0 }
+
+abbrev pub noOne : Known
+noOne = starting noAsked 0 0
 
 abbrev pub noOpens : Opens
 noOpens = record { standing = λ j. false; asked = λ j. noAsked; named = λ p x. 0; ids = [] }
@@ -221,25 +221,38 @@ noBook = record { made = λ r. false; due = λ r. 0; spent = λ r. 0 }
 abbrev pub nothing : Action
 nothing = record { generation = 0; sequence = 0; circuit = 0; destination = noPeer; kind = 0; toEndpoint = false; bytes = 0 }
 
--- ---- one part replaced
+-- ---- parts replaced, the others staying. Every other change goes by these, so that a new part is copied here alone
+-- all but the configuration, which no call changes
+abbrev pub headAt : Head → (generation : ℕ) → (enabled : Bool) → (clock next : ℕ) → Head
+headAt d generation enabled clock next =
+    record { generation = generation; enabled = enabled; clock = clock; config = d .config; next = next }
+
+-- which OPENs stand
+abbrev pub stillStanding : Opens → (ℕ → Bool) → Opens
+stillStanding o st = record { standing = st; asked = o .asked; named = o .named; ids = o .ids }
+
 abbrev pub withHead : Past → Head → Past
 withHead h d = record { head = d; active = h .active; known = h .known; opens = h .opens; book = h .book; out = h .out }
-
-abbrev pub withOpens : Past → Opens → Past
-withOpens h o = record { head = h .head; active = h .active; known = h .known; opens = o; book = h .book; out = h .out }
 
 abbrev pub withBook : Past → Book → Past
 withBook h b = record { head = h .head; active = h .active; known = h .known; opens = h .opens; book = b; out = h .out }
 
-abbrev pub withOut : Past → List Action → Past
-withOut h out = record { head = h .head; active = h .active; known = h .known; opens = h .opens; book = h .book; out = out }
+-- circuits, OPENs and actions
+abbrev pub withRecords : Past → (ℕ → Bool) → (ℕ → Known) → Opens → List Action → Past
+withRecords h ac kn o out = record { head = h .head; active = ac; known = kn; opens = o; book = h .book; out = out }
 
 abbrev pub withCircuit : Past → (ℕ → Bool) → (ℕ → Known) → Past
-withCircuit h ac kn = record { head = h .head; active = ac; known = kn; opens = h .opens; book = h .book; out = h .out }
+withCircuit h ac kn = withRecords h ac kn (h .opens) (h .out)
 
--- these still stand
-abbrev pub stillStanding : Opens → (ℕ → Bool) → Opens
-stillStanding o st = record { standing = st; asked = o .asked; named = o .named; ids = o .ids }
+abbrev pub withOpens : Past → Opens → Past
+withOpens h o = withRecords h (h .active) (h .known) o (h .out)
+
+abbrev pub withOut : Past → List Action → Past
+withOut h out = withRecords h (h .active) (h .known) (h .opens) out
+
+-- which circuits are active, which OPENs stand, and the actions
+abbrev pub fewer : Past → (active standing : ℕ → Bool) → List Action → Past
+fewer h ac st out = withRecords h ac (h .known) (stillStanding (h .opens) st) out
 
 -- ---- small changes
 -- routes written are outstanding actions
@@ -250,23 +263,11 @@ abbrev pub without : Past → (Action → Bool) → Past
 without h p = withOut h (keep (non p) (h .out))
 
 abbrev pub movedTo : Past → (now : ℕ) → Past
-movedTo h now = withHead h (record {
-  generation = h .head .generation;
-  enabled = h .head .enabled;
-  clock = now;
-  config = h .head .config;
-  next = h .head .next;
-})
+movedTo h now = let d = h .head in withHead h (headAt d (d .generation) (d .enabled) now (d .next))
 
 -- so many actions more have got their numbers
 abbrev pub numbering : Past → ℕ → Past
-numbering h n = withHead h (record {
-  generation = h .head .generation;
-  enabled = h .head .enabled;
-  clock = h .head .clock;
-  config = h .head .config;
-  next = h .head .next + n;
-})
+numbering h n = let d = h .head in withHead h (headAt d (d .generation) (d .enabled) (d .clock) (d .next + n))
 
 -- an OPEN stands; it no longer stands; it ends, and its actions are dropped
 abbrev pub stood : Past → ℕ → Asked → Past
@@ -298,16 +299,22 @@ circuitEnded h j = withCircuit (without h (onCircuit j)) (at j false (h .active)
 abbrev pub lives : (now : ℕ) → Book → ReservationId → Bool
 lives now b r = b .made r && ltb now (b .due r)
 
--- made anew, unless it lives
-abbrev pub remade : (now : ℕ) → Book → RelayTicket → Book
-remade now b t = cond (lives now b (t .«reservation_id»)) b (record {
+-- made anew; and so, unless it lives
+abbrev pub anew : Book → RelayTicket → Book
+anew b t = record {
   made = under (t .«reservation_id») true (b .made);
   due = under (t .«reservation_id») (t .«expires_at») (b .due);
   spent = under (t .«reservation_id») 0 (b .spent);
-})
+}
+
+abbrev pub remade : (now : ℕ) → Book → RelayTicket → Book
+remade now b t = cond (lives now b (t .«reservation_id»)) b (anew b t)
+
+abbrev pub withSpent : Book → (ReservationId → ℕ) → Book
+withSpent b spent = record { made = b .made; due = b .due; spent = spent }
 
 abbrev pub spentBy : Book → ReservationId → ℕ → Book
-spentBy b r n = record { made = b .made; due = b .due; spent = under r (b .spent r + n) (b .spent) }
+spentBy b r n = withSpent b (under r (b .spent r + n) (b .spent))
 
 abbrev pub unmade : Book → ReservationId → Book
 unmade b r = record { made = under r false (b .made); due = b .due; spent = b .spent }

@@ -26,7 +26,7 @@ use Rattle.hnsr_circuit.specs.Circuits.{noCircuit, isCircuit, circuitAt, clearC
 use Rattle.hnsr_circuit.specs.declared.records.InflightKind.the-variants.{Opened}
 use Rattle.hnsr_circuit.specs.Inflight.{kindNumber, actionUnder, dropped, tallied, capacityAnswer}
 use Rattle.hnsr_circuit.specs.World.{World, Outcome, configOf, done}
-use Rattle.hnsr_circuit.specs.Queue.{Message, generationOf, sequenceOf, queued, routed, send}
+use Rattle.hnsr_circuit.specs.Queue.{Message, routeFor, generationOf, sequenceOf, queued, routed, send}
 use Rattle.hnsr_circuit.specs.Counts.{circuitCount}
 use Rattle.hnsr_circuit.specs.Packet.{Packet}
 use Rattle.hnsr_circuit.specs.Revocation.{withoutActions, withoutPending, endPending, pendingIn}
@@ -34,7 +34,7 @@ use Rattle.hnsr_circuit.specs.Accept.{circuitFor, withAccept, openedMessage, ac
 use Rattle.hnsr_circuit.specs.Laws.Inflight.{replacing-tally}
 use Rattle.hnsr_circuit.specs.Laws.Marks.{room}
 use Rattle.hnsr_circuit.specs.Laws.Keyed.{Looks, store-looks, store-tells}
-use Rattle.hnsr_run.specs.Past.{Known, Past, at, onCircuit, heard, emit, openEnded, begun}
+use Rattle.hnsr_run.specs.Past.{Known, Past, at, onCircuit, ofRoute, heard, emit, openEnded, begun}
 use Rattle.hnsr_run.specs.History.{written, startedBy, acceptIn}
 use Rattle.hnsr_run.specs.Run.Actions.{room-of}
 use Rattle.hnsr_run.specs.Run.Circuits.{Agrees, circuitKeys, none, suspend, store-queue, idle}
@@ -151,15 +151,7 @@ module _ {w : World} {h : Past} (R : Rel w h) (H : Places w) (low : sequenceOf w
   unfolding message openedMessage
   quiet-opened = record {
     plain = refl;
-    same = λ g s i. record {
-      generation = g;
-      sequence = s;
-      circuit = sym own i;
-      destination = p .requester;
-      kind = kindNumber Opened;
-      toEndpoint = false;
-      bytes = 0;
-    };
+    same = λ g s i. ofRoute (routeFor message g s) (sym own i) (kindNumber Opened) false 0;
   }
 
   some : eqb (message .context) 0 ≡ false

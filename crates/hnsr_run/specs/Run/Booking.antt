@@ -15,21 +15,13 @@ use Rattle.hnsr_circuit.specs.Ledger.{noUsage, isUsage, usageAt, freshUsage, bo
 use Rattle.hnsr_circuit.specs.Draw.{zeroDrawn, takenDrawn, freshDrawn, drawTurn, drawAll}
 use Rattle.hnsr_circuit.specs.Laws.Lookups.{pick-has, pick-none}
 use Rattle.hnsr_circuit.specs.Laws.Keys.{reservation-refl}
-use Rattle.hnsr_run.specs.Past.{Book, under, lives, remade}
+use Rattle.hnsr_run.specs.Past.{Book, lives, anew, remade}
 use Rattle.hnsr_run.specs.Run.Books.{Books, usage-looks, store-books}
 
 -- what is found does not depend on the default
 pick-default : {A : Type 0} (p : A → Bool) (d e : A) (t : List A) → any p t ≡ true → pick p d t ≡ pick p e t
 pick-default p d e [] h = absurd (false≢true h)
 pick-default p d e (x ∷ xs) h = split (p x) (λ u. rw u) (λ u. rw u (pick-default p d e xs (rw u at h)))
-
--- ---- the book with the record made
-abbrev pub made : Book → RelayTicket → Book
-made b t = record {
-  made = under (t .«reservation_id») true (b .made);
-  due = under (t .«reservation_id») (t .«expires_at») (b .due);
-  spent = under (t .«reservation_id») 0 (b .spent);
-}
 
 fresh-at : (t : RelayTicket) → usageAt (t .«reservation_id») (freshUsage t) ≡ true
 unfolding usageAt
@@ -46,10 +38,10 @@ module _ {ls : List ReservationUsage} {now : ℕ} {b : Book} (B : Books ls now b
       (λ x. clash f x))
       (λ i q. (refl, refl, refl)) (B .stands r) (B .known r f))
 
-  pub book-made : any (usageAt r) ls ≡ false → any (non isUsage) ls ≡ true → ltb now (t .«expires_at») ≡ true → Books (booked t ls) now (made b t)
+  pub book-made : any (usageAt r) ls ≡ false → any (non isUsage) ls ≡ true → ltb now (t .«expires_at») ≡ true → Books (booked t ls) now (anew b t)
   unfolding booked
-  book-made f space l = subst (λ (u : ReservationUsage). Books (put isUsage (usageAt r) u ls) now (made b t)) (sym (pick-none (usageAt r) (freshUsage t) ls f))
-      (store-books B r (freshUsage t) (put isUsage (usageAt r) (freshUsage t) ls) (made b t) (usage-looks r (freshUsage t) ls (fresh-at t) (λ x. space))
+  book-made f space l = subst (λ (u : ReservationUsage). Books (put isUsage (usageAt r) u ls) now (anew b t)) (sym (pick-none (usageAt r) (freshUsage t) ls f))
+      (store-books B r (freshUsage t) (put isUsage (usageAt r) (freshUsage t) ls) (anew b t) (usage-looks r (freshUsage t) ls (fresh-at t) (λ x. space))
       (λ i q. (ap (λ x. cond x true (b .made i)) q, ap (λ x. cond x (t .«expires_at») (b .due i)) q, ap (λ x. cond x 0 (b .spent i)) q))
       (λ e. record {
         expires = sym (ap (λ x. cond x (t .«expires_at») (b .due r)) (reservation-refl r));
@@ -58,12 +50,12 @@ module _ {ls : List ReservationUsage} {now : ℕ} {b : Book} (B : Books ls now b
       })
       (λ e. made-lives))
     where
-      made-lives : lives now (made b t) r ≡ true
+      made-lives : lives now (anew b t) r ≡ true
       made-lives = ap (λ x. cond x true (b .made r) && ltb now (cond x (t .«expires_at») (b .due r))) (reservation-refl r) ∙ l
 
 -- the reservation lives after
 pub lives-remade : (now : ℕ) (b : Book) (t : RelayTicket) → ltb now (t .«expires_at») ≡ true → lives now (remade now b t) (t .«reservation_id») ≡ true
-lives-remade now b t l = choose (λ (x : Book). lives now x (t .«reservation_id») ≡ true) (lives now b (t .«reservation_id»)) b (made b t) (λ y. y)
+lives-remade now b t l = choose (λ (x : Book). lives now x (t .«reservation_id») ≡ true) (lives now b (t .«reservation_id»)) b (anew b t) (λ y. y)
     (λ y. ap (λ x. cond x true (b .made (t .«reservation_id»)) && ltb now (cond x (t .«expires_at») (b .due (t .«reservation_id»)))) (reservation-refl
     (t .«reservation_id»)) ∙ l)
 

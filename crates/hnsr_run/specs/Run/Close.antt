@@ -19,11 +19,11 @@ use Rattle.hnsr_circuit.specs.Queue.{Message, sequenceOf, send}
 use Rattle.hnsr_circuit.specs.Revocation.{pendingIn}
 use Rattle.hnsr_circuit.specs.Laws.Lookups.{pick-has, any-count, any-pick, any-imp}
 use Rattle.hnsr_circuit.specs.Laws.Keyed.{seen, shown, seen-two}
-use Rattle.hnsr_run.specs.Past.{Action, Past, at, emit, openEnded, circuitEnded}
+use Rattle.hnsr_run.specs.Past.{Action, Past, at, fewer, emit, openEnded, circuitEnded}
 use Rattle.hnsr_run.specs.History.{ends, byContext, byId, endIn, endedBy}
 use Rattle.hnsr_circuit.specs.Route.{Route}
 use Rattle.hnsr_run.specs.Run.Circuits.{none}
-use Rattle.hnsr_run.specs.Run.Full.{pendingKeys, Keeps, fewer, Quiet, rest-then, queued-rest, can-room, queue-full}
+use Rattle.hnsr_run.specs.Run.Full.{pendingKeys, Keeps, Quiet, rest-then, queued-rest, can-room, queue-full}
 use Rattle.hnsr_run.specs.Run.Rel.{Rel, send-cases, emit-nothing, shrink}
 
 -- ---- two lookups that find the same record, where at most one has the second

@@ -24,14 +24,14 @@ use Rattle.hnsr_circuit.specs.Circuits.{isSide}
 use Rattle.hnsr_circuit.specs.declared.records.InflightKind.the-variants.{Close}
 use Rattle.hnsr_circuit.specs.Inflight.{kindNumber}
 use Rattle.hnsr_circuit.specs.World.{World, Outcome}
-use Rattle.hnsr_circuit.specs.Queue.{Message, message, sequenceOf}
+use Rattle.hnsr_circuit.specs.Queue.{Message, message, routeFor, sequenceOf}
 use Rattle.hnsr_circuit.specs.Opcode.{opData}
 use Rattle.hnsr_circuit.specs.Packet.{Packet, sender, hasCircuit, namedCircuit, circuitAnswer, forwarded}
 use Rattle.hnsr_circuit.specs.Revocation.{withoutActions, withoutPending, endPending, endCircuit}
 use Rattle.hnsr_circuit.specs.Close.{detailAnswer, closeAnswer, translated, closeTaken, closePending, closeCircuit, handleClose}
 use Rattle.hnsr_circuit.specs.Laws.Lookups.{none-count}
 use Rattle.hnsr_circuit.specs.Laws.Answers.{then-taken, check-taken}
-use Rattle.hnsr_run.specs.Past.{Action, Past, at, kindFor, heard, emit, openEnded}
+use Rattle.hnsr_run.specs.Past.{Action, Past, at, kindFor, ofRoute, heard, emit, openEnded}
 use Rattle.hnsr_run.specs.History.{ends, endIn, endedBy, closeIn}
 use Rattle.hnsr_circuit.specs.Route.{Route}
 use Rattle.hnsr_run.specs.Run.Circuits.{none}
@@ -82,15 +82,8 @@ quiet-message : (to : HnsrPeerId) (j circuit context : ℕ) (q : Packet) (n : �
     → Quiet (heard (λ r. j)) (message to circuit (q .opcode) context (q .body) Close)
 quiet-message to j circuit context q n on op is-kind = record {
   plain = refl;
-  same = λ g s i. record {
-    generation = g;
-    sequence = s;
-    circuit = on i;
-    destination = to;
-    kind = (ap kindFor op ∙ is-kind) i;
-    toEndpoint = false;
-    bytes = 0;
-  };
+  same = λ g s i. ofRoute (routeFor (message to circuit (q .opcode) context (q .body) Close) g s) (on i)
+      ((ap kindFor op ∙ is-kind) i) false 0;
 }
 
 module _ {w : World} {h : Past} (R : Rel w h) (low : sequenceOf w < top 64) (q : Packet) (n : ℕ) (op : q .opcode ≡ n) (no-data : eqb n opData ≡ false)

@@ -19,14 +19,14 @@ use Rattle.hnsr_circuit.specs.declared.answer.HnsrRuntimeError.the-variants.{In
 use Rattle.hnsr_circuit.specs.Answers.{check, bodyAnswer, _then_}
 use Rattle.hnsr_circuit.specs.Peer.{samePeer}
 use Rattle.hnsr_circuit.specs.Circuits.{isSide, sideOf, otherSide, peerAt, creditOf, queuedTo, charged}
-use Rattle.hnsr_circuit.specs.Ledger.{hasUsage, usageOf, spent}
+use Rattle.hnsr_circuit.specs.Ledger.{hasUsage, usageOf}
 use Rattle.hnsr_circuit.specs.Inflight.{toEndpoint, tallied, capacityAnswer}
 use Rattle.hnsr_circuit.specs.World.{World, configOf}
 use Rattle.hnsr_circuit.specs.Packet.{Packet, sender, hasCircuit, circuitAnswer, receiver}
 use Rattle.hnsr_circuit.specs.Data.{bytesAnswer, flowAnswer, dataTaken}
 use Rattle.hnsr_circuit.specs.Laws.Answers.{then-taken, check-taken}
 use Rattle.hnsr_circuit.specs.Laws.Peer.{same-refl, same-comm}
-use Rattle.hnsr_run.specs.Past.{Known, Action, Past, at, peerOn, towardSide, lives}
+use Rattle.hnsr_run.specs.Past.{Known, Action, Past, at, peerOn, towardSide, withBook, withOut, learnt, lives, withSpent}
 use Rattle.hnsr_run.specs.History.{knownSide, sideIn}
 use Rattle.hnsr_run.specs.Run.Circuits.{Agrees, none}
 use Rattle.hnsr_run.specs.Run.Full.{Full}
@@ -39,32 +39,10 @@ at-field : {B : Type 0} (f : Known → B) (j : ℕ) (k : Known) (kn : ℕ → Kn
 at-field f j k kn e i = split (eqb j i) (λ q. ap (λ b. f (cond b k (kn i))) q ∙ e ∙ ap (λ x. f (kn x)) (eqb-true j i q)) (λ q. ap (λ b. f (cond b k (kn i))) q)
 
 pub known-rel : {w : World} {h : Past} → Rel w h → (v : World) (j : ℕ) (k : Known) (sp : ReservationId → ℕ) (out : List Action)
-    → Full none v (record {
-      head = h .head;
-      active = h .active;
-      known = at j k (h .known);
-      opens = h .opens;
-      book = record {
-        made = h .book .made;
-        due = h .book .due;
-        spent = sp;
-      };
-      out = out;
-    })
-    → Books (v .ledger) (h .head .clock) (record { made = h .book .made; due = h .book .due; spent = sp })
+    → Full none v (withOut (withBook (learnt h j k) (withSpent (h .book) sp)) out)
+    → Books (v .ledger) (h .head .clock) (withSpent (h .book) sp)
     → k .reservation ≡ h .known j .reservation → k .expires ≡ h .known j .expires → Heads v (h .head)
-    → Rel v (record {
-      head = h .head;
-      active = h .active;
-      known = at j k (h .known);
-      opens = h .opens;
-      book = record {
-        made = h .book .made;
-        due = h .book .due;
-        spent = sp;
-      };
-      out = out;
-    })
+    → Rel v (withOut (withBook (learnt h j k) (withSpent (h .book) sp)) out)
 known-rel {w} {h} R v j k sp out F B er ee H = record {
   base = record {
     full = F;

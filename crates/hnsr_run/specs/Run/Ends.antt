@@ -28,11 +28,11 @@ use Rattle.hnsr_circuit.specs.RevokingCalls.{closeToOther, disconnectPending}
 use Rattle.hnsr_circuit.specs.Laws.Lookups.{pick-has}
 use Rattle.hnsr_circuit.specs.Laws.Peer.{same-refl}
 use Rattle.hnsr_circuit.specs.Laws.Edits.{edit-clear}
-use Rattle.hnsr_run.specs.Past.{Known, Asked, Action, Past, peerOn, onCircuit, kindFor, heard, emit, openEnded, circuitEnded}
+use Rattle.hnsr_run.specs.Past.{Known, Asked, Action, Past, peerOn, onCircuit, kindFor, ofRoute, heard, fewer, emit, openEnded, circuitEnded}
 use Rattle.hnsr_run.specs.History.{askedSide, about}
 use Rattle.hnsr_run.specs.Run.Walks.{when-cases}
 use Rattle.hnsr_run.specs.Run.ByLookup.{byId, revoked-by-id, disconnected-by-id, circuit-by-id}
-use Rattle.hnsr_run.specs.Run.Full.{AgreesP, Full, Keeps, fewer, Quiet, tell-keeps, two-tells, tell-on, two-on, tell-tables, two-tables}
+use Rattle.hnsr_run.specs.Run.Full.{AgreesP, Full, Keeps, Quiet, tell-keeps, two-tells, tell-on, two-on, tell-tables, two-tables}
 use Rattle.hnsr_run.specs.Run.Ended.{end-circuit, end-pending}
 
 -- ---- the relay's own messages are no DATA, and their routes tell what they are about: of the OPENs with qo and the circuits with qc, that end, the
@@ -56,7 +56,7 @@ heard-as : (told : Route → ℕ) (peer : HnsrPeerId) (id opcode context : ℕ) 
     → ((g s : ℕ) → told (routeFor (closing peer id opcode context n) g s) ≡ id) → Quiet (heard told) (closing peer id opcode context n)
 heard-as told peer id opcode context n k e = record {
   plain = refl;
-  same = λ g s i. record { generation = g; sequence = s; circuit = e g s i; destination = peer; kind = k i; toEndpoint = false; bytes = 0 };
+  same = λ g s i. ofRoute (routeFor (closing peer id opcode context n) g s) (e g s i) (k i) false 0;
 }
 
 pub labelled : (qo : Asked → Bool) (qc : Known → Bool) (h : Past) → Leads h → Labelled qo qc byError (heard (about h)) h
@@ -80,7 +80,7 @@ pub quiet-about : (peer : HnsrPeerId) (j id opcode context : ℕ) (n : Notice) �
     → Quiet (heard (λ r. j)) (closing peer id opcode context n)
 quiet-about peer j id opcode context n e k = record {
   plain = refl;
-  same = λ g s i. record { generation = g; sequence = s; circuit = e i; destination = peer; kind = k i; toEndpoint = false; bytes = 0 };
+  same = λ g s i. ofRoute (routeFor (closing peer id opcode context n) g s) (e i) (k i) false 0;
 }
 
 -- the same of a past in which fewer OPENs stand and fewer circuits are active

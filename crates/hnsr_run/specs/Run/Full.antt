@@ -29,7 +29,7 @@ use Rattle.hnsr_circuit.specs.Queue.{Message, routeFor, actionFor, generationOf
 use Rattle.hnsr_circuit.specs.Route.{Route}
 use Rattle.hnsr_circuit.specs.Laws.Answers.{then-taken}
 use Rattle.hnsr_circuit.specs.Laws.Keyed.{Keys, Tells}
-use Rattle.hnsr_run.specs.Past.{Known, Asked, Action, Past, peerOn, isData, onCircuit, towardSide, weight, stillStanding, emit}
+use Rattle.hnsr_run.specs.Past.{Known, Asked, Action, Past, peerOn, isData, onCircuit, towardSide, weight, emit}
 use Rattle.hnsr_run.specs.Run.Actions.{Acts, view, inUse, queue-acts, room-of}
 use Rattle.hnsr_run.specs.Run.Circuits.{Circs, Queue, stray, sideTo, queue-queue}
 use Rattle.hnsr_run.specs.Run.Books.{SameBooks, one-ledger, books-then}
@@ -87,17 +87,6 @@ rest-same w = record { ledger = one-ledger (w .ledger); clock = refl; generation
 pub record Keeps (S : ℕ → Bool) (u w : World) (h : Past) : Type 0 where
   pub full : Full S w h
   pub rest : Rest u w
-
--- ---- records end, actions come and go
-abbrev pub fewer : Past → (ac st : ℕ → Bool) → List Action → Past
-fewer h ac st out = record {
-  head = h .head;
-  active = ac;
-  known = h .known;
-  opens = stillStanding (h .opens) st;
-  book = h .book;
-  out = out;
-}
 
 -- ---- a message told
 -- one that is not DATA, whose route tells its action

@@ -35,9 +35,9 @@ use Rattle.hnsr_circuit.specs.Open.{openAnswer, admissionAnswer, endpointAnswer
 use Rattle.hnsr_circuit.specs.Laws.Answers.{then-taken, check-taken}
 use Rattle.hnsr_circuit.specs.Laws.Marks.{room}
 use Rattle.hnsr_circuit.specs.Laws.Keys.{same-reservation}
-use Rattle.hnsr_run.specs.Past.{Book, Past, withBook, lives, remade}
+use Rattle.hnsr_run.specs.Past.{Book, Past, withBook, lives, anew, remade}
 use Rattle.hnsr_run.specs.History.{taken, openIn}
-use Rattle.hnsr_run.specs.Run.Booking.{made, book-found, book-made}
+use Rattle.hnsr_run.specs.Run.Booking.{book-found, book-made}
 use Rattle.hnsr_run.specs.Run.Rel.{Live, Rel, if-not, not-taken, reledger}
 
 -- ---- the rows
@@ -147,7 +147,7 @@ module _ {w : World} {h : Past} (R : Rel w h) (t : RelayTicket) (l : ltb (h .hea
     (w .ledger) ≡ lives (h .head .clock) (h .book) (t .«reservation_id»))
     (space : (not (hasUsage (t .«reservation_id») (w .ledger)) && leb (length (w .ledger)) (count isUsage (w .ledger))) ≡ false) where
   made-live : (r : ReservationId) (e : ℕ) → lives (h .head .clock) (h .book) (t .«reservation_id») ≡ false → Live (h .head .clock) (h .book) r e
-      → Live (h .head .clock) (made (h .book) t) r e
+      → Live (h .head .clock) (anew (h .book) t) r e
   made-live r e n L = split (sameReservation (t .«reservation_id») r)
       (λ q. clash (L .lives) (ap (lives (h .head .clock) (h .book)) (sym (same-reservation (t .«reservation_id») r q)) ∙ n))
       (λ q. record {
@@ -162,7 +162,7 @@ module _ {w : World} {h : Past} (R : Rel w h) (t : RelayTicket) (l : ltb (h .hea
 
   pub booked-rel : Rel (withLedger w (booked t (w .ledger))) (withBook h (remade (h .head .clock) (h .book) t))
   booked-rel = choose (λ (b : Book). Rel (withLedger w (booked t (w .ledger))) (withBook h b)) (lives (h .head .clock) (h .book) (t .«reservation_id»)) (h .book)
-      (made (h .book) t)
+      (anew (h .book) t)
       (λ y. reledger R (booked t (w .ledger)) (book-found (R .base .books) t (same ∙ y)))
       (λ y. record {
         base = record {

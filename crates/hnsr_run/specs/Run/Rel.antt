@@ -27,10 +27,10 @@ use Rattle.hnsr_circuit.specs.Inflight.{tallied, capacityLeft, capacityAnswer}
 use Rattle.hnsr_circuit.specs.World.{World, Outcome, configOf, refuse, done, proceed, withLedger, atTime}
 use Rattle.hnsr_circuit.specs.Queue.{Message, generationOf, sequenceOf, queueAnswer, canQueue, queued, routed, send}
 use Rattle.hnsr_circuit.specs.Laws.Answers.{number-zero}
-use Rattle.hnsr_run.specs.Past.{Book, Action, Head, Past, lives, movedTo, numbering, withOut}
+use Rattle.hnsr_run.specs.Past.{Book, Action, Head, Past, lives, movedTo, numbering, withOut, fewer}
 use Rattle.hnsr_run.specs.History.{taken}
 use Rattle.hnsr_run.specs.Run.Circuits.{none}
-use Rattle.hnsr_run.specs.Run.Full.{Full, Rest, Keeps, fewer}
+use Rattle.hnsr_run.specs.Run.Full.{Full, Rest, Keeps}
 use Rattle.hnsr_run.specs.Run.Books.{Books, same-books, later-books}
 
 -- ---- the invariant

@@ -22,7 +22,7 @@ use Rattle.hnsr_circuit.specs.Revocation.{revokeCircuitThere, revokeCircuit, wa
 use Rattle.hnsr_circuit.specs.Laws.Revocation.{revoked-found}
 use Rattle.hnsr_circuit.specs.Laws.Totals.{keep-append, keep-whole}
 use Rattle.hnsr_circuit.specs.Laws.Sweep.{none-ends, none-goes, one-ends, one-goes}
-use Rattle.hnsr_run.specs.Past.{Known, Asked, Action, Past, at, onCircuit, heard, stillStanding, emit, openEnded, circuitEnded}
+use Rattle.hnsr_run.specs.Past.{Known, Asked, Action, Past, at, onCircuit, heard, withRecords, fewer, emit, openEnded, circuitEnded}
 use Rattle.hnsr_run.specs.History.{goneOpen, goneCircuit, revoked}
 use Rattle.hnsr_run.specs.Run.Circuits.{Agrees, circuitKeys, none}
 use Rattle.hnsr_run.specs.Run.Walks.{walked}
@@ -33,14 +33,9 @@ use Rattle.hnsr_run.specs.Run.Ends.{Labelled, still-labelled, quiet-to, 
 
 -- ---- the walk over the pending records: routes are about ids that are no circuits
 abbrev pub partedOpens : (Route → Action) → Past → (Asked → Bool) → List Route → Past
-partedOpens f h q rs = record {
-  head = h .head;
-  active = h .active;
-  known = h .known;
-  opens = stillStanding (h .opens) (λ j. h .opens .standing j && not (q (h .opens .asked j)));
-  book = h .book;
-  out = keep (non (goneOpen h q)) (h .out) ++ map f rs;
-}
+partedOpens f h q rs =
+    fewer h (h .active) (λ j. h .opens .standing j && not (q (h .opens .asked j)))
+    (keep (non (goneOpen h q)) (h .out) ++ map f rs)
 
 abbrev pub activeOn : Past → Action → Bool
 activeOn h a = h .active (a .circuit)
@@ -58,25 +53,14 @@ module _ (qc : Known → Bool) (T : ℕ → Asked → Bool) (Q : RelayPending �
   Told w h = Keeps S u w h × Labelled q qc T f h
 
   none-open : (h : Past) → ((i : ℕ) → h .opens .standing i ≡ true → q (h .opens .asked i) ≡ false) → partedOpens f h q [] ≡ h
-  none-open h free = λ i. record {
-    head = h .head;
-    active = h .active;
-    known = h .known;
-    opens = stillStanding (h .opens) (λ j. none-ends placed q (h .opens .standing) (h .opens .asked) free j i);
-    book = h .book;
-    out = none-goes placed q (h .opens .standing) (h .opens .asked) free (h .out) i;
-  }
+  none-open h free = λ i.
+      fewer h (h .active) (λ j. none-ends placed q (h .opens .standing) (h .opens .asked) free j i)
+      (none-goes placed q (h .opens .standing) (h .opens .asked) free (h .out) i)
 
   more-open : (w : World) (h : Past) (m : ℕ) (rs : List Route) → Told w h → h .opens .standing m ≡ true → q (h .opens .asked m) ≡ true
       → partedOpens f (emit (openEnded h m) f (byId end w m .routes)) q rs ≡ partedOpens f h q (byId end w m .routes ++ rs)
-  more-open w h m rs K a s = λ i. record {
-    head = h .head;
-    active = h .active;
-    known = h .known;
-    opens = stillStanding (h .opens) (λ j. one-ends placed q (h .opens .standing) (h .opens .asked) m a s j i);
-    book = h .book;
-    out = outs i;
-  }
+  more-open w h m rs K a s = λ i.
+      fewer h (h .active) (λ j. one-ends placed q (h .opens .standing) (h .opens .asked) m a s j i) (outs i)
     where
       outs : partedOpens f (emit (openEnded h m) f (byId end w m .routes)) q rs .out ≡ partedOpens f h q (byId end w m .routes ++ rs) .out
       outs = one-goes placed q (h .opens .standing) (h .opens .asked) m a s (h .out) (map f (byId end w m .routes)) (map f rs) (E .about w h m (K .1) (K .0 .full) a s) ∙ ap
@@ -111,14 +95,9 @@ module _ (qc : Known → Bool) (T : ℕ → Asked → Bool) (Q : RelayPending �
 
 -- ---- the walk over the circuits: those that will end are in suspense
 abbrev pub partedCircuits : (Route → Action) → Past → (Known → Bool) → List Route → Past
-partedCircuits f h q rs = record {
-  head = h .head;
-  active = λ j. h .active j && not (q (h .known j));
-  known = h .known;
-  opens = h .opens;
-  book = h .book;
-  out = keep (non (goneCircuit h q)) (h .out) ++ map f rs;
-}
+partedCircuits f h q rs =
+    withRecords h (λ j. h .active j && not (q (h .known j))) (h .known) (h .opens)
+    (keep (non (goneCircuit h q)) (h .out) ++ map f rs)
 
 module _ (qo : Asked → Bool) (T : ℕ → Asked → Bool) (n : Notice) (Q : RelayCircuit → Bool) (q : Known → Bool) (same-q : (x : RelayCircuit) (k : Known) → Agrees x k → Q x ≡ q k)
     (f : Route → Action) (u : World) where
@@ -126,25 +105,14 @@ module _ (qo : Asked → Bool) (T : ℕ → Asked → Bool) (n : Notice) (Q : Re
   Going w h = Keeps (λ i. q (h .known i)) u w h × Labelled qo q T f h
 
   none-circuit : (h : Past) → ((i : ℕ) → h .active i ≡ true → q (h .known i) ≡ false) → partedCircuits f h q [] ≡ h
-  none-circuit h free = λ i. record {
-    head = h .head;
-    active = λ j. none-ends placed q (h .active) (h .known) free j i;
-    known = h .known;
-    opens = h .opens;
-    book = h .book;
-    out = none-goes placed q (h .active) (h .known) free (h .out) i;
-  }
+  none-circuit h free = λ i.
+      withRecords h (λ j. none-ends placed q (h .active) (h .known) free j i) (h .known) (h .opens)
+      (none-goes placed q (h .active) (h .known) free (h .out) i)
 
   more-circuit : (w : World) (h : Past) (m : ℕ) (rs : List Route) → Going w h → h .active m ≡ true → q (h .known m) ≡ true
       → partedCircuits f (emit (circuitEnded h m) f (revokeCircuit n w m .routes)) q rs ≡ partedCircuits f h q (revokeCircuit n w m .routes ++ rs)
-  more-circuit w h m rs K a s = λ i. record {
-    head = h .head;
-    active = λ j. one-ends placed q (h .active) (h .known) m a s j i;
-    known = h .known;
-    opens = h .opens;
-    book = h .book;
-    out = outs i;
-  }
+  more-circuit w h m rs K a s = λ i.
+      withRecords h (λ j. one-ends placed q (h .active) (h .known) m a s j i) (h .known) (h .opens) (outs i)
     where
       outs : partedCircuits f (emit (circuitEnded h m) f (revokeCircuit n w m .routes)) q rs .out ≡ partedCircuits f h q (revokeCircuit n w m .routes ++ rs) .out
       outs = one-goes placed q (h .active) (h .known) m a s (h .out) (map f (revokeCircuit n w m .routes)) (map f rs) (circuit-about n w m (quiet-to (K .1) n w m (K .0 .full) a s)) ∙ ap
@@ -172,14 +140,9 @@ module _ (qo : Asked → Bool) (T : ℕ → Asked → Bool) (n : Notice) (Q : Re
 -- ---- both
 both-path : (told : Route → ℕ) (h : Past) (qo : Asked → Bool) (qc : Known → Bool) (r rs : List Route) → count (activeOn h) (map (heard told) r) ≡ 0
     → partedCircuits (heard told) (partedOpens (heard told) h qo r) qc rs ≡ revoked h qo qc (map (heard told) (r ++ rs))
-both-path told h qo qc r rs z = λ i. record {
-  head = h .head;
-  active = λ j. h .active j && not (qc (h .known j));
-  known = h .known;
-  opens = stillStanding (h .opens) (λ j. h .opens .standing j && not (qo (h .opens .asked j)));
-  book = h .book;
-  out = outs i;
-}
+both-path told h qo qc r rs z = λ i.
+    fewer h (λ j. h .active j && not (qc (h .known j)))
+    (λ j. h .opens .standing j && not (qo (h .opens .asked j))) (outs i)
   where
     f : Route → Action
     f = heard told

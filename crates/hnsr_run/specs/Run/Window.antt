@@ -17,12 +17,12 @@ use Rattle.hnsr_circuit.specs.declared.records.InflightKind.{InflightKind}
 use Rattle.hnsr_circuit.specs.declared.records.InflightKind.the-variants.{Data, Control}
 use Rattle.hnsr_circuit.specs.Inflight.{kindNumber, tallied, capacityAnswer}
 use Rattle.hnsr_circuit.specs.World.{World, Outcome, configOf, done}
-use Rattle.hnsr_circuit.specs.Queue.{Message, sequenceOf, queued, routed, send}
+use Rattle.hnsr_circuit.specs.Queue.{Message, routeFor, sequenceOf, queued, routed, send}
 use Rattle.hnsr_circuit.specs.Opcode.{opWindow}
 use Rattle.hnsr_circuit.specs.Packet.{Packet, sender, hasCircuit, namedCircuit, circuitAnswer, receiver, forwarded}
 use Rattle.hnsr_circuit.specs.Window.{creditAnswer, withWindow, windowTaken, windowWith, handleWindow}
 use Rattle.hnsr_circuit.specs.Laws.Answers.{then-taken}
-use Rattle.hnsr_run.specs.Past.{Past, at, kindFor, heard, emit, learnt}
+use Rattle.hnsr_run.specs.Past.{Past, at, kindFor, ofRoute, heard, emit, learnt}
 use Rattle.hnsr_run.specs.History.{sideIn, granted, windowIn}
 use Rattle.hnsr_run.specs.Run.Actions.{room-of}
 use Rattle.hnsr_run.specs.Run.Circuits.{none}
@@ -36,15 +36,7 @@ pub quiet-forwarded : (q : Packet) (c : RelayCircuit) (kind : InflightKind) (j n
     → eqb (kindNumber kind) (kindNumber Data) ≡ false → Quiet (heard (λ r. j)) (forwarded q c kind)
 quiet-forwarded q c kind j n on op is-kind plain = record {
   plain = plain;
-  same = λ g s i. record {
-    generation = g;
-    sequence = s;
-    circuit = on i;
-    destination = receiver c (sender q);
-    kind = (ap kindFor op ∙ is-kind) i;
-    toEndpoint = false;
-    bytes = 0;
-  };
+  same = λ g s i. ofRoute (routeFor (forwarded q c kind) g s) (on i) ((ap kindFor op ∙ is-kind) i) false 0;
 }
 
 raised-queue : (side s : RelaySide) (n : ℕ) (c : RelayCircuit) → queuedTo s (raised side n c) ≡ queuedTo s c

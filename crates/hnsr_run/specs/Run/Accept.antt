@@ -193,7 +193,7 @@ module _ {w : World} {h : Past} (R : Rel w h) (H : Places w) (low : sequenceOf w
           (λ b. cond b started (h .known i)) x)) (R .base .kept i (sym (ap (λ b. cond b true (h .active i)) x) ∙ a) (ap
           (λ (k : Known). ltb (h .head .clock) (k .expires)) (sym (ap (λ b. cond b started (h .known i)) x)) ∙ e)));
       keptP = λ i a. R .base .keptP i (at-false j (h .opens .standing) i a);
-      heads = record { generation = R .base .heads .generation; enabled = R .base .heads .enabled; clock = R .base .heads .clock; config = R .base .heads .config };
+      heads = R .base .heads;
       names = λ i a. R .base .names i (at-false j (h .opens .standing) i a);
       drawn = λ i a. split (eqb j i)
           (λ x. subst (λ n. any (λ m. eqb m n) (h .opens .ids) ≡ true) (eqb-true j i x) (R .base .drawnP j stands))

@@ -34,7 +34,7 @@ use Rattle.hnsr_run.specs.Run.Full.{Body, Full, reout}
 use Rattle.hnsr_run.specs.Run.Books.{Books, spend-books}
 use Rattle.hnsr_run.specs.Run.InPlace.{only-one, agreed, place-circuit, looked, resume-at, charged-at, charge-agrees, sent-peers}
 use Rattle.hnsr_run.specs.Run.Limits.{limits, within-top}
-use Rattle.hnsr_run.specs.Run.Rel.{Heads, Rel, proceed-cases, if-taken, can-queue, send-taken}
+use Rattle.hnsr_run.specs.Run.Rel.{Rel, proceed-cases, if-taken, can-queue, send-taken}
 use Rattle.hnsr_run.specs.Run.DataRows.{named-side, known-rel, named-active, side-same, DataRows, data-rows, to-side, charged-queue}
 
 -- ---- DATA, taken: the circuit charged, the ledger charged, the action queued
@@ -152,7 +152,7 @@ module _ {w : World} {h : Past} (R : Rel w h) (q : Packet) (op : q .opcode ≡ o
         (h .book) (circuit .«reservation_id») bytes)) (carried id side bytes) (routed message (withData w id (circuit .«reservation_id») side bytes) ∷ []))
     unfolding queued withData
     rel = known-rel R (queued message (withData w id (circuit .«reservation_id») side bytes)) id (sent side bytes (h .known id)) (spentBy (h .book)
-        (circuit .«reservation_id») bytes .spent) _ full ledger (same-res side) (same-exp side) heads
+        (circuit .«reservation_id») bytes .spent) _ full ledger (same-res side) (same-exp side) (R .base .heads)
       where
         same-res : (s : RelaySide) → sent s bytes (h .known id) .reservation ≡ h .known id .reservation
         same-res Requester = refl
@@ -165,9 +165,6 @@ module _ {w : World} {h : Past} (R : Rel w h) (q : Packet) (op : q .opcode ≡ o
         ledger : Books (queued message (withData w id (circuit .«reservation_id») side bytes) .ledger) (h .head .clock) (spentBy (h .book)
             (circuit .«reservation_id») bytes)
         ledger = spend-books (R .base .books) (circuit .«reservation_id») bytes (D .ledger) total-fits
-
-        heads : Heads (queued message (withData w id (circuit .«reservation_id») side bytes)) (h .head)
-        heads = record { generation = R .base .heads .generation; enabled = R .base .heads .enabled; clock = R .base .heads .clock; config = R .base .heads .config }
 
 pub data-keeps : {w : World} {h : Past} → Rel w h → sequenceOf w < top 64 → (q : Packet) → q .opcode ≡ opData
     → let o = handleData w q in Rel (o .world) (dataIn q (o .answer) (o .routes) h)

@@ -170,12 +170,7 @@ module _ {w : World} {h : Past} (R : Rel w h) (t : RelayTicket) (l : ltb (h .hea
           books = book-made (R .base .books) t (same ∙ y) (has-space (same ∙ y)) l;
           kept = λ j a x. made-live (h .known j .reservation) (h .known j .expires) y (R .base .kept j a x);
           keptP = λ j a x. made-live (h .opens .asked j .ticket .«reservation_id») (h .opens .asked j .ticket .«expires_at») y (R .base .keptP j a x);
-          heads = record {
-            generation = R .base .heads .generation;
-            enabled = R .base .heads .enabled;
-            clock = R .base .heads .clock;
-            config = R .base .heads .config;
-          };
+          heads = R .base .heads;
           names = R .base .names;
           drawn = R .base .drawn;
           drawnP = R .base .drawnP;

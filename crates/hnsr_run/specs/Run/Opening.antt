@@ -112,7 +112,7 @@ module _ {w : World} {h : Past} (R : Rel w h) (H : Places w) (low : sequenceOf w
           (λ x. subst (λ (y : Asked). Live (h .head .clock) (h .book) (y .ticket .«reservation_id») (y .ticket .«expires_at»)) (sym (ap
           (λ b. cond b k (h .opens .asked i)) x)) (R .base .keptP i (sym (ap (λ b. cond b true (h .opens .standing i)) x) ∙ a) (ap
           (λ (y : Asked). ltb (h .head .clock) (y .ticket .«expires_at»)) (sym (ap (λ b. cond b k (h .opens .asked i)) x)) ∙ e)));
-      heads = record { generation = R .base .heads .generation; enabled = R .base .heads .enabled; clock = R .base .heads .clock; config = R .base .heads .config };
+      heads = R .base .heads;
       names = λ i a p s. split (eqb j i)
           (λ x. let y = ap (λ b. cond b k (h .opens .asked i)) x in
           subst (λ (z : Asked). samePeer (z .requester) p ≡ true → cond (samePeer (k .requester) p && eqb (k .context) (z .context)) j (h .opens .named p

@@ -14,6 +14,7 @@ use Rattle.hnsr_body.specs.declared.values.ReservationId.{ReservationId}
 use Rattle.hnsr_body.specs.declared.error.HnsrInvalid.the-variants.{ContextZero}
 use Rattle.hnsr_body.specs.declared.error.HnsrProtocolError.the-variants.{Invalid}
 use Rattle.hnsr_circuit.specs.declared.peer.HnsrPeerId.{HnsrPeerId}
+use Rattle.hnsr_circuit.specs.declared.config.OpaqueRelayConfig.{OpaqueRelayConfig}
 use Rattle.hnsr_circuit.specs.declared.records.ReservationUsage.{ReservationUsage}
 use Rattle.hnsr_circuit.specs.declared.answer.HnsrAnswer.{HnsrAnswer}
 use Rattle.hnsr_circuit.specs.declared.answer.HnsrAnswer.the-variants.{Taken, Refused}
@@ -34,11 +35,15 @@ use Rattle.hnsr_run.specs.Run.Full.{Full, Rest, Keeps}
 use Rattle.hnsr_run.specs.Run.Books.{Books, same-books, later-books}
 
 -- ---- the invariant
-pub record Heads (w : World) (d : Head) : Type 0 where
-  pub generation : generationOf w ≡ d .generation
-  pub enabled : w .header .enabled ≡ d .enabled
-  pub clock : w .header .«trusted_time_high_water» ≡ d .clock
-  pub config : configOf w ≡ d .config
+-- over the header's fields, so that a world that leaves them alone needs no proof
+pub record HeadIs (d : Head) (g : ℕ) (on : Bool) (now : ℕ) (c : OpaqueRelayConfig) : Type 0 where
+  pub generation : g ≡ d .generation
+  pub enabled : on ≡ d .enabled
+  pub clock : now ≡ d .clock
+  pub config : c ≡ d .config
+
+abbrev pub Heads : World → Head → Type 0
+Heads w d = HeadIs d (generationOf w) (w .header .enabled) (w .header .«trusted_time_high_water») (configOf w)
 
 -- the reservation r lives, and is due at e
 pub record Live (now : ℕ) (b : Book) (r : ReservationId) (e : ℕ) : Type 0 where
@@ -225,7 +230,7 @@ reledger R t B = record {
     books = B;
     kept = R .base .kept;
     keptP = R .base .keptP;
-    heads = record { generation = R .base .heads .generation; enabled = R .base .heads .enabled; clock = R .base .heads .clock; config = R .base .heads .config };
+    heads = R .base .heads;
     names = R .base .names;
     drawn = R .base .drawn;
     drawnP = R .base .drawnP;

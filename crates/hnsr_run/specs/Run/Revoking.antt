@@ -149,12 +149,7 @@ revoke-keeps {w} {h} R id room = proceed-cases (λ (o : Outcome). Rel (o .world)
         keptP = λ j a x. let k = both (h .opens .standing j) (not (askedUnder id (h .opens .asked j))) a in
             unmade-live (h .head .clock) (h .book) id (h .opens .asked j .ticket .«reservation_id») (h .opens .asked j .ticket .«expires_at») (k .1)
             (R .base .keptP j (k .0) x);
-        heads = heads-rest (K .rest) (record {
-          generation = R .base .heads .generation;
-          enabled = R .base .heads .enabled;
-          clock = R .base .heads .clock;
-          config = R .base .heads .config;
-        });
+        heads = heads-rest (K .rest) (R .base .heads);
         names = λ j a. R .base .names j (both (h .opens .standing j) (not (askedUnder id (h .opens .asked j))) a .0);
         drawn = λ j a. R .base .drawn j (both (h .active j) (not (knownUnder id (h .known j))) a .0);
         drawnP = λ j a. R .base .drawnP j (both (h .opens .standing j) (not (askedUnder id (h .opens .asked j))) a .0);

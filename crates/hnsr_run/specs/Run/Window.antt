@@ -71,12 +71,7 @@ module _ {w : World} {h : Past} (R : Rel w h) (q : Packet) (op : q .opcode ≡ o
   rel = known-rel R (queued passed (withWindow w (q .context) side n)) (q .context) (granted side n (h .known (q .context))) (h .book .spent) _
       (queue-full (withWindow w (q .context) side n) (learnt h (q .context) (granted side n (h .known (q .context)))) passed wider (quiet-forwarded q
       (namedCircuit w q) Control (q .context) opWindow refl op refl refl) (room-of (configOf w) (q .context) (receiver (namedCircuit w q) (sender q)) (w .inflight) room))
-      (R .base .books) (same-res side) (same-exp side) (record {
-        generation = R .base .heads .generation;
-        enabled = R .base .heads .enabled;
-        clock = R .base .heads .clock;
-        config = R .base .heads .config;
-      })
+      (R .base .books) (same-res side) (same-exp side) (R .base .heads)
     where
       same-res : (s : RelaySide) → granted s n (h .known (q .context)) .reservation ≡ h .known (q .context) .reservation
       same-res Requester = refl

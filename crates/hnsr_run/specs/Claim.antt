@@ -19,21 +19,18 @@ use Rattle.hnsr_circuit.specs.Route.{Route}
 use Rattle.hnsr_circuit.specs.Opcode.{opOpen, opData}
 use Rattle.hnsr_circuit.specs.Entry.{handleWords, acknowledgeWords}
 use Rattle.hnsr_circuit.specs.Packet.{Packet, sender, circuitIn}
-use Rattle.hnsr_circuit.specs.Call.{Start, Call, callStatus, callNextDue, callObserveTime, callReplaceEnabled, callHandle, callAcknowledge, callDisconnect, callRevokeReservation, callExpire}
+use Rattle.hnsr_circuit.specs.Call.{Start, Call, callStatus, callHandle, callAcknowledge}
 use Rattle.hnsr_run.specs.Past.{Action, Past, peerOn, credit, circuitLeft, totalLeft, weight}
+use Rattle.hnsr_run.specs.OnCall.{onHandle}
 use Rattle.hnsr_run.specs.History.{Event, begin, afterEvent, reckon}
 
 -- the total that the grant of an admitted OPEN brings is below 2^64 − 1. Its bytes per circuit need no bound: the configuration's stands above them
 abbrev pub limitsBelow : Call → Bool
-limitsBelow (callHandle q room) = not (eqb (q .opcode) opOpen && q .admission .admitted) || ltb (q .admission .ticket .«max_total_bytes») (top 64)
-limitsBelow callStatus = true
-limitsBelow callNextDue = true
-limitsBelow (callObserveTime now) = true
-limitsBelow (callReplaceEnabled expected enabled room) = true
-limitsBelow (callAcknowledge generation sequence delivered room) = true
-limitsBelow (callDisconnect peer room) = true
-limitsBelow (callRevokeReservation id room) = true
-limitsBelow (callExpire now room) = true
+limitsBelow c =
+    onHandle true
+    (λ q room. not (eqb (q .opcode) opOpen && q .admission .admitted)
+    || ltb (q .admission .ticket .«max_total_bytes») (top 64))
+    c
 
 -- every total and the action sequence are below 2^64 − 1 throughout
 abbrev pub below : Past → List Event → Bool

@@ -1,4 +1,5 @@
 -- ---- the claim
+pub mod OnCall
 pub mod Past
 pub mod History
 pub mod Words

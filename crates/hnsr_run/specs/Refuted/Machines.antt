@@ -20,7 +20,8 @@ use Rattle.hnsr_circuit.specs.Opcode.{opData}
 use Rattle.hnsr_circuit.specs.Entry.{handleWords, clockAnswer}
 use Rattle.hnsr_circuit.specs.Handle.{entryAnswer}
 use Rattle.hnsr_circuit.specs.Packet.{Packet, sender}
-use Rattle.hnsr_circuit.specs.Call.{Start, Call, start, step, callStatus, callNextDue, callObserveTime, callReplaceEnabled, callHandle, callAcknowledge, callDisconnect, callRevokeReservation, callExpire}
+use Rattle.hnsr_circuit.specs.Call.{Start, Call, start, step, callStatus, callHandle, callAcknowledge, callDisconnect}
+use Rattle.hnsr_run.specs.OnCall.{onCall}
 use Rattle.hnsr_run.specs.Past.{Past, peerOn}
 use Rattle.hnsr_run.specs.History.{begin}
 use Rattle.hnsr_run.specs.Claim.{Sends, Machine, events, below, Holds, Run}
@@ -34,15 +35,7 @@ pub record Replaced : Type 0 where
   pub tells : World → Outcome
 
 abbrev replacing : Replaced → World → Call → Outcome
-replacing r w callStatus = r .tells w
-replacing r w callNextDue = step w callNextDue
-replacing r w (callObserveTime now) = step w (callObserveTime now)
-replacing r w (callReplaceEnabled expected on room) = step w (callReplaceEnabled expected on room)
-replacing r w (callHandle q room) = r .handles w q room
-replacing r w (callAcknowledge g s delivered room) = r .acknowledges w g s delivered room
-replacing r w (callDisconnect peer room) = r .disconnects w peer room
-replacing r w (callRevokeReservation id room) = step w (callRevokeReservation id room)
-replacing r w (callExpire now room) = step w (callExpire now room)
+replacing r w c = onCall (r .tells w) (r .handles w) (r .acknowledges w) (r .disconnects w) (step w) c
 
 abbrev handled : World → Packet → (room : ℕ) → Outcome
 handled w q room = step w (callHandle q room)

@@ -39,3 +39,9 @@ pub mod Runs
 pub mod AllAcknowledged
 pub mod Entering
 pub mod Passing
+-- ---- an invariant of the world alone
+pub mod ShapeTables
+pub mod Shape
+pub mod ShapeParts
+pub mod ShapeCalls
+pub mod ShapeRuns

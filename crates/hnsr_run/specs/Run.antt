@@ -45,3 +45,4 @@ pub mod Shape
 pub mod ShapeParts
 pub mod ShapeCalls
 pub mod ShapeRuns
+pub mod ShapeRefuted

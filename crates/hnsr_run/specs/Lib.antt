@@ -16,3 +16,4 @@ pub mod Refuted
 pub mod Run
 pub mod SameRun
 pub mod Theorem
+pub mod Facts

@@ -17,7 +17,8 @@ use Rattle.hnsr_circuit.specs.Peer.{peerOf}
 use Rattle.hnsr_circuit.specs.Circuits.{sideOf}
 use Rattle.hnsr_circuit.specs.Ledger.{isUsage, freshUsage}
 use Rattle.hnsr_circuit.specs.World.{World, Outcome, withPending, withLedger, atTime}
-use Rattle.hnsr_circuit.specs.Queue.{opOpen, opWindow, send}
+use Rattle.hnsr_circuit.specs.Queue.{send}
+use Rattle.hnsr_circuit.specs.Opcode.{opOpen, opWindow}
 use Rattle.hnsr_circuit.specs.Packet.{Packet, sender, namedCircuit, forwarded}
 use Rattle.hnsr_circuit.specs.Window.{withWindow}
 use Rattle.hnsr_circuit.specs.Cases.{lent, notAdmitted}

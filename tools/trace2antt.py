@@ -128,7 +128,7 @@ use Rattle.hnsr_circuit.specs.Header.{withSequence}
 use Rattle.hnsr_circuit.specs.World.{World, Outcome, Told, silent, statusIs, dueIs, withHeader}
 use Rattle.hnsr_circuit.specs.Packet.{Admission, Packet}
 use Rattle.hnsr_circuit.specs.Call.{Start, Call, callHandle, callStatus, callNextDue, start, step}
-use Rattle.hnsr_circuit.specs.All.{machine}
+use Rattle.hnsr_circuit.specs.Worked.All.{machine}
 
 pub data Item : Type 0 where
   begin : Start → Item
@@ -343,7 +343,7 @@ def module(path, places, rows, per):
     out = [f'-- {os.path.basename(path)}. Made by tools/trace2antt.py.',
            'use mathlib.Core.Path.{_≡_, refl}', 'use mathlib.Core.Bool.{true, false}', 'use mathlib.Core.List.{List, [], _∷_}',
            'use Rattle.hnsr_circuit.specs.Call.{callAcknowledge, callDisconnect, callRevokeReservation, callExpire, callObserveTime, callReplaceEnabled}',
-           'use Rattle.hnsr_circuit.specs.Cases.{lent}',
+           'use Rattle.hnsr_circuit.specs.Worked.Cases.{lent}',
            'use Rattle.traces.specs.Help.{Item, begin, item, poke, Line, bytes, pattern, reservationOf, configFrom, startOf, refused, grantOf, packetOf, observed, recorded}', '']
     for n, part in enumerate(parts(rows, per)): out += theorem(n, places, part)
     return '\n'.join(out)

@@ -1,21 +1,23 @@
 #!/usr/bin/env python3
-"""Writes crates/hnsr_circuit/specs/All.antt: one name, `machine`, whose unfolding opens every definition, so that a theorem
+"""Writes crates/hnsr_circuit/specs/Worked/All.antt: one name, `machine`, whose unfolding opens every definition, so that a theorem
 by computation says `unfolding machine`.   usage: tools/unfolding.py   (from the repository's root)"""
-import re
+import os, re
 CRATES = ['hns_encoding', 'hnsr_body', 'hnsr_circuit']
-LEFT_OUT = {'All', 'Laws', 'Cases', 'Found', 'FoundMore', 'FoundWorlds', 'Examples', 'Utf8Form', 'Utf8Encode', 'Utf8CodePoints', 'Utf8Examples'}
+LEFT_OUT = {'Laws', 'Worked', 'Examples', 'Utf8Form', 'Utf8Encode', 'Utf8CodePoints', 'Utf8Examples'}
 
-def modules(crate):
-    return [l.split()[-1] for l in open(f'crates/{crate}/specs/Lib.antt') if l.startswith('pub mod')]
+def modules(crate, index='Lib', room=''):
+    for m in [l.split()[-1] for l in open(f'crates/{crate}/specs/{index}.antt') if l.startswith('pub mod')]:
+        if m in LEFT_OUT: continue
+        if os.path.isdir(f'crates/{crate}/specs/{m}'): yield from modules(crate, m, f'{m}.')
+        else: yield room + m
 
 def names(crate, module):
-    return re.findall(r'^\s*unfoldable pub (\S+) :', open(f'crates/{crate}/specs/{module}.antt').read(), re.M)
+    return re.findall(r'^\s*unfoldable pub (\S+) :', open(f'crates/{crate}/specs/{module.replace(".", "/")}.antt').read(), re.M)
 
 def main():
     uses, every, seen = [], [], {}
     for crate in CRATES:
         for m in modules(crate):
-            if m in LEFT_OUT: continue
             ns = names(crate, m)
             for n in ns:
                 if n in seen: raise SystemExit(f'{n} is declared in {seen[n]} and in {crate}.{m}')
@@ -34,7 +36,7 @@ unfoldable pub machine : World → Start → List Call → List Outcome
 unfolding ''' + ' '.join(every) + '''
 machine w s calls = run w s calls
 '''
-    open('crates/hnsr_circuit/specs/All.antt', 'w').write(text)
+    open('crates/hnsr_circuit/specs/Worked/All.antt', 'w').write(text)
     print(len(every), 'definitions')
 
 main()

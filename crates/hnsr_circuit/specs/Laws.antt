@@ -27,6 +27,7 @@ pub mod Handlers
 pub mod Opening
 pub mod Revocation
 -- ---- what holds of every call
+pub mod Rows
 pub mod Refusals
 pub mod Places
 pub mod StepPlaces

@@ -9,8 +9,6 @@ pub mod Pending
 pub mod Circuits
 pub mod Ledger
 pub mod Inflight
-pub mod Question
-pub mod Lookup
 pub mod Header
 -- ---- the world, routes, queueing, the entry
 pub mod Route
@@ -20,9 +18,6 @@ pub mod Queue
 pub mod Entry
 -- ---- the calls
 pub mod Packet
-pub mod Progress
-pub mod Held
-pub mod Queueing
 pub mod Draw
 pub mod Open
 pub mod Accept
@@ -30,25 +25,16 @@ pub mod Data
 pub mod Window
 pub mod Revocation
 pub mod Close
-pub mod Message
-pub mod Plans
 pub mod Handle
 pub mod Acknowledge
-pub mod Settling
 pub mod RevokingCalls
-pub mod Revoking
 pub mod New
 pub mod Status
 pub mod NextDue
 pub mod Call
-pub mod Told
--- ---- by computation
-pub mod All
-pub mod Cases
-pub mod FoundWorlds
-pub mod Found
-pub mod FoundMore
--- ---- rows in front of rows
-pub mod Rows
+-- ---- how the code holds it
+pub mod Code
+-- ---- worked examples, by computation
+pub mod Worked
 -- ---- what is proved of them
 pub mod Laws

@@ -5,19 +5,16 @@ use mathlib.Core.Bool.{Bool, true, false}
 use mathlib.Core.List.{List, [], _∷_, _++_}
 use lib.Dec.{eqb}
 use Rattle.hns_encoding.specs.Numbers.{top}
-use Rattle.hns_encoding.specs.Sums.{non}
 use Rattle.hnsr_body.specs.declared.error.HnsrInvalid.the-variants.{ContextZero}
 use Rattle.hnsr_body.specs.declared.error.HnsrProtocolError.the-variants.{Invalid}
 use Rattle.hnsr_circuit.specs.declared.peer.HnsrPeerId.{HnsrPeerId}
 use Rattle.hnsr_circuit.specs.declared.config.OpaqueRelayConfig.{OpaqueRelayConfig}
 use Rattle.hnsr_circuit.specs.declared.records.InflightAction.{InflightAction}
-use Rattle.hnsr_circuit.specs.declared.records.ActionQuestion.{ActionQuestion}
-use Rattle.hnsr_circuit.specs.declared.records.ActionScan.{ActionScan}
 use Rattle.hnsr_circuit.specs.declared.records.InflightTally.{InflightTally}
 use Rattle.hnsr_circuit.specs.declared.answer.HnsrAnswer.{HnsrAnswer}
 use Rattle.hnsr_circuit.specs.declared.answer.HnsrAnswer.the-variants.{Taken, Refused}
 use Rattle.hnsr_circuit.specs.declared.answer.HnsrRuntimeError.the-variants.{Protocol, GenerationExhausted}
-use Rattle.hnsr_circuit.specs.Table.{any, placeOf, put}
+use Rattle.hnsr_circuit.specs.Table.{any, put}
 use Rattle.hnsr_circuit.specs.Answers.{check, _then_}
 use Rattle.hnsr_circuit.specs.declared.records.InflightKind.{InflightKind}
 use Rattle.hnsr_circuit.specs.Inflight.{actionRecord, kindNumber, isAction, actionAt, tallied, capacityAnswer}
@@ -46,16 +43,6 @@ message destination circuit opcode context body kind = record
 unfoldable pub queueAnswer : OpaqueRelayConfig → InflightTally → (sequence context : ℕ) → HnsrAnswer
 queueAnswer c t sequence context =
     check (eqb context 0) (Protocol (Invalid ContextZero)) then capacityAnswer c t then check (eqb sequence (top 64)) GenerationExhausted
-
--- what a message asks of all actions: the tally; where its number stands already; the lowest unused place
-unfoldable pub actionsScanned : ActionQuestion → List InflightAction → ActionScan
-actionsScanned q t = record {
-  tally = tallied (q .replacing) (q .«circuit_id») (q .peer) t;
-  found = any (actionAt (q .generation) (q .sequence)) t;
-  place = placeOf (actionAt (q .generation) (q .sequence)) t;
-  spare = any (non isAction) t;
-  «spare_place» = placeOf (non isAction) t;
-}
 
 abbrev pub actionFor : Message → (generation sequence : ℕ) → InflightAction
 actionFor m generation sequence = actionRecord true generation sequence (m .circuit) (m .destination) (kindNumber (m .kind)) (m .toEndpoint) (m .bytes)

@@ -4,7 +4,7 @@ ghost use Prim.Native.Nat.{_+_};
 ghost use Rattle.hnsr_circuit.specs.Answers.{bodyAnswer, _then_};
 ghost use Rattle.hnsr_circuit.specs.Pending.{clearPending};
 ghost use Rattle.hnsr_circuit.specs.Accept.{requestAnswer, acceptAnswer, circuitFor};
-ghost use Rattle.hnsr_circuit.specs.Laws.Opening.{acceptRows, acceptWork, replacing, acceptPlan};
+ghost use Rattle.hnsr_circuit.specs.Code.Opening.{acceptRows, acceptWork, replacing, acceptPlan};
 use crate::answer::HnsrAnswer;
 use crate::answer::HnsrRuntimeError;
 use crate::answer::body_answer;

@@ -4,7 +4,7 @@ ghost use Rattle.hnsr_body.specs.Data.{dataChecked};
 ghost use Rattle.hnsr_circuit.specs.Packet.{circuitAnswer};
 ghost use Rattle.hnsr_circuit.specs.Answers.{bodyAnswer, _then_};
 ghost use Rattle.hnsr_circuit.specs.Data.{bytesAnswer, flowAnswer};
-ghost use Rattle.hnsr_circuit.specs.Plans.{dataRows, dataPlan};
+ghost use Rattle.hnsr_circuit.specs.Code.Plans.{dataRows, dataPlan};
 use crate::answer::HnsrAnswer;
 use crate::answer::HnsrRuntimeError;
 use crate::answer::body_answer;

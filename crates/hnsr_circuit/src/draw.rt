@@ -6,7 +6,7 @@ ghost use lib.Dec.{ltb};
 ghost use lib.ListN.{length, take, drop};
 ghost use Rattle.hns_encoding.specs.Bytes.{be};
 ghost use Rattle.hnsr_circuit.specs.Draw.{undrawn, drawTurn, drawAnswer};
-ghost use Rattle.hnsr_circuit.specs.Laws.Opening.{firstDraw};
+ghost use Rattle.hnsr_circuit.specs.Code.Opening.{firstDraw};
 use crate::answer::HnsrAnswer;
 use crate::answer::HnsrRuntimeError;
 use crate::answer::check;

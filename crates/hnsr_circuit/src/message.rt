@@ -1,7 +1,7 @@
 // A packet of a circuit: its row, and the message that takes it on to the other side.
 ghost use mathlib.Core.Path.{_≡_};
 ghost use Rattle.hnsr_circuit.specs.Packet.{circuitAnswer};
-ghost use Rattle.hnsr_circuit.specs.Message.{passedOn, dataOn, closeOn};
+ghost use Rattle.hnsr_circuit.specs.Code.Message.{passedOn, dataOn, closeOn};
 use crate::answer::HnsrAnswer;
 use crate::answer::HnsrRuntimeError;
 use crate::answer::check;

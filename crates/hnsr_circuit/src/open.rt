@@ -4,7 +4,7 @@ ghost use mathlib.Core.Bool.{cond, _||_};
 ghost use Prim.Native.Nat.{_+_};
 ghost use Rattle.hnsr_circuit.specs.Ledger.{freshUsage};
 ghost use Rattle.hnsr_circuit.specs.Open.{openAnswer, admissionAnswer, endpointAnswer, deadlineAnswer, deadlineFor, pendingFor, incomingFor};
-ghost use Rattle.hnsr_circuit.specs.Laws.Opening.{openWork, openGathering, openRows, openPlan, openingOf, incomingOut, placedRows, placedEntry};
+ghost use Rattle.hnsr_circuit.specs.Code.Opening.{openWork, openGathering, openRows, openPlan, openingOf, incomingOut, placedRows, placedEntry};
 use crate::answer::HnsrAnswer;
 use crate::answer::HnsrRuntimeError;
 use crate::answer::body_answer;

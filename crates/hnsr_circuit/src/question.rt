@@ -1,6 +1,6 @@
 // What a scan of a table asks of each row: the questions by value, and what each means in each table.
 ghost use mathlib.Core.Path.{_≡_};
-ghost use Rattle.hnsr_circuit.specs.Question.{unused, used, at, atReservation, named, ofPeer, under, over, pendingHas, circuitHas, usageHas, actionHas};
+ghost use Rattle.hnsr_circuit.specs.Code.Question.{unused, used, at, atReservation, named, ofPeer, under, over, pendingHas, circuitHas, usageHas, actionHas};
 use crate::circuits::circuit_is;
 use crate::circuits::circuit_of;
 use crate::circuits::circuit_over;

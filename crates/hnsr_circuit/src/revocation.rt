@@ -3,7 +3,7 @@
 ghost use mathlib.Core.Path.{_≡_};
 ghost use mathlib.Core.Bool.{cond, true, false, not};
 ghost use mathlib.Core.List.{List};
-ghost use Rattle.hnsr_circuit.specs.Held.{heldPending, heldCircuits, asksUnused, worldSeen, handedSeen, underwaySeen};
+ghost use Rattle.hnsr_circuit.specs.Code.Held.{heldPending, heldCircuits, asksUnused, worldSeen, handedSeen, underwaySeen};
 ghost use Rattle.hnsr_circuit.specs.declared.records.RelayPending.{RelayPending};
 ghost use Rattle.hnsr_circuit.specs.declared.records.RelayCircuit.{RelayCircuit};
 ghost use Rattle.hnsr_circuit.specs.declared.records.ReservationUsage.{ReservationUsage};
@@ -11,12 +11,12 @@ ghost use Rattle.hnsr_body.specs.declared.messages.Notice.the-variants.{PeerDis
 ghost use Rattle.hnsr_circuit.specs.Pending.{clearPending, pendingId};
 ghost use Rattle.hnsr_circuit.specs.Circuits.{circuitId};
 ghost use Rattle.hnsr_circuit.specs.Table.{notYet, next};
-ghost use Rattle.hnsr_circuit.specs.Question.{pendingHas, circuitHas};
+ghost use Rattle.hnsr_circuit.specs.Code.Question.{pendingHas, circuitHas};
 ghost use Rattle.hnsr_circuit.specs.Queue.{finished};
 ghost use Rattle.hnsr_circuit.specs.declared.answer.HnsrAnswer.the-variants.{Taken};
-ghost use Rattle.hnsr_circuit.specs.Progress.{advance, ending};
+ghost use Rattle.hnsr_circuit.specs.Code.Progress.{advance, ending};
 ghost use Rattle.hnsr_circuit.specs.Revocation.{revokeCircuitThere, revokeCircuit, walk, pendingTable, circuitTable};
-ghost use Rattle.hnsr_circuit.specs.Revoking.{closeSide, errorOut, closeOut, otherOut, firstOut, revokedIf, endingPending, revokingAll};
+ghost use Rattle.hnsr_circuit.specs.Code.Revoking.{closeSide, errorOut, closeOut, otherOut, firstOut, revokedIf, endingPending, revokingAll};
 use crate::answer::HnsrAnswer;
 use crate::circuits::circuit_unmarked;
 use crate::header::revoked;

@@ -10,7 +10,7 @@ ghost use Rattle.hns_encoding.specs.Words.{highLow, wordCount, words, wordsOf};
 ghost use Rattle.hnsr_circuit.specs.Peer.{maximumPeer, peerBytes};
 ghost use Rattle.hnsr_circuit.specs.Route.{nameWords, addressWords, headWords, kindWord, peerWords, packetWords, routeWords};
 ghost use Rattle.hnsr_circuit.specs.Queue.{routeFor};
-ghost use Rattle.hnsr_circuit.specs.Progress.{messageOf};
+ghost use Rattle.hnsr_circuit.specs.Code.Progress.{messageOf};
 use crate::peer::HnsrPeerId;
 use crate::peer::MAXIMUM_PEER;
 use crate::peer::peer_length;

@@ -3,7 +3,7 @@ ghost use mathlib.Core.Path.{_≡_};
 ghost use Rattle.hnsr_circuit.specs.Packet.{circuitAnswer};
 ghost use Rattle.hnsr_circuit.specs.Answers.{bodyAnswer, _then_};
 ghost use Rattle.hnsr_circuit.specs.Window.{creditAnswer};
-ghost use Rattle.hnsr_circuit.specs.Plans.{windowRows, windowPlan};
+ghost use Rattle.hnsr_circuit.specs.Code.Plans.{windowRows, windowPlan};
 use crate::answer::HnsrAnswer;
 use crate::answer::HnsrRuntimeError;
 use crate::answer::body_answer;

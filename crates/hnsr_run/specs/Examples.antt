@@ -13,9 +13,9 @@ use Rattle.hnsr_circuit.specs.Route.{Route}
 use Rattle.hnsr_circuit.specs.Opcode.{opError, opClose}
 use Rattle.hnsr_circuit.specs.Entry.{handleWords}
 use Rattle.hnsr_circuit.specs.Peer.{peerOf}
-use Rattle.hnsr_circuit.specs.Cases.{lent, notAdmitted}
+use Rattle.hnsr_circuit.specs.Worked.Cases.{lent, notAdmitted}
 use Rattle.hnsr_circuit.specs.Call.{Start, Call, callReplaceEnabled, callHandle, callExpire}
-use Rattle.hnsr_circuit.specs.All.{machine}
+use Rattle.hnsr_circuit.specs.Worked.All.{machine}
 use Rattle.hnsr_run.specs.Past.{Past}
 use Rattle.hnsr_run.specs.History.{Event, after}
 use Rattle.hnsr_run.specs.Talk.{fresh, tight, grant, opens, packet, accepts, sends, widens, closes, fails, acked, lost, ample, leaves, revokes, eventsFrom, pastFrom, pastAfter, numberOf}

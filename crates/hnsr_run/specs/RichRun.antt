@@ -9,9 +9,9 @@ use Rattle.hnsr_circuit.specs.Answers.{number}
 use Rattle.hnsr_circuit.specs.World.{World}
 use Rattle.hnsr_circuit.specs.Opcode.{opError}
 use Rattle.hnsr_circuit.specs.Entry.{handleWords, acknowledgeWords}
-use Rattle.hnsr_circuit.specs.Cases.{lent, notAdmitted}
+use Rattle.hnsr_circuit.specs.Worked.Cases.{lent, notAdmitted}
 use Rattle.hnsr_circuit.specs.Call.{Call, start, step, callStatus, callNextDue, callObserveTime, callReplaceEnabled, callHandle, callDisconnect, callRevokeReservation, callExpire}
-use Rattle.hnsr_circuit.specs.All.{machine}
+use Rattle.hnsr_circuit.specs.Worked.All.{machine}
 use Rattle.hnsr_run.specs.Past.{Action, credit, circuitLeft, totalLeft, weight}
 use Rattle.hnsr_run.specs.History.{begin}
 use Rattle.hnsr_run.specs.Claim.{leftBy, events, below, delivered}

@@ -11,7 +11,7 @@ use Rattle.hnsr_circuit.specs.World.{World}
 use Rattle.hnsr_circuit.specs.Opcode.{opOpen, opAccept, opData, opWindow, opClose, opError}
 use Rattle.hnsr_circuit.specs.Entry.{handleWords, acknowledgeWords}
 use Rattle.hnsr_circuit.specs.Packet.{Packet}
-use Rattle.hnsr_circuit.specs.Cases.{lent, notAdmitted}
+use Rattle.hnsr_circuit.specs.Worked.Cases.{lent, notAdmitted}
 use Rattle.hnsr_circuit.specs.Call.{Start, start, Call, step, callHandle, callAcknowledge, callDisconnect, callRevokeReservation}
 use Rattle.hnsr_run.specs.Past.{Past}
 use Rattle.hnsr_run.specs.History.{Event, begin, reckon}

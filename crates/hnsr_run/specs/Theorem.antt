@@ -17,7 +17,7 @@ use Rattle.hnsr_circuit.specs.Entry.{tablesAnswer}
 use Rattle.hnsr_circuit.specs.Packet.{Packet, circuitIn}
 use Rattle.hnsr_circuit.specs.Data.{handleData}
 use Rattle.hnsr_circuit.specs.Status.{statusOf, status}
-use Rattle.hnsr_circuit.specs.Cases.{lent}
+use Rattle.hnsr_circuit.specs.Worked.Cases.{lent}
 use Rattle.hnsr_circuit.specs.Call.{start, callStatus, step}
 use Rattle.hnsr_circuit.specs.Pending.{pendingAt}
 use Rattle.hnsr_circuit.specs.Circuits.{circuitAt, otherSide, peerAt, creditOf}

@@ -16,8 +16,8 @@ use Rattle.hnsr_circuit.specs.declared.runtime.DueTold.{DueTold}
 use Rattle.hnsr_circuit.specs.Answers.{number, causeOf, taken}
 use Rattle.hnsr_circuit.specs.Header.{noHeader}
 use Rattle.hnsr_circuit.specs.World.{World, Outcome, worldOf}
-use Rattle.hnsr_circuit.specs.Held.{noPlace, everyPlace, worldSeen}
-use Rattle.hnsr_circuit.specs.Progress.{Result}
+use Rattle.hnsr_circuit.specs.Code.Held.{noPlace, everyPlace, worldSeen}
+use Rattle.hnsr_circuit.specs.Code.Progress.{Result}
 use Rattle.lekchnam.specs.declared.relay.RelayReply.{RelayReply}
 use Rattle.lekchnam.specs.declared.relay.StatusReply.{StatusReply}
 use Rattle.lekchnam.specs.declared.relay.DueReply.{DueReply}

@@ -11,10 +11,10 @@ ghost use Rattle.hnsr_circuit.specs.declared.records.InflightAction.{InflightAc
 ghost use Rattle.hnsr_circuit.specs.declared.runtime.OpaqueRelayRuntime.{OpaqueRelayRuntime};
 ghost use Rattle.hnsr_circuit.specs.Answers.{number};
 ghost use Rattle.hnsr_circuit.specs.Config.{defaultConfig, validateConfig};
-ghost use Rattle.hnsr_circuit.specs.Held.{heldPending, heldCircuits, heldLedger, heldActions, worldSeen};
-ghost use Rattle.hnsr_circuit.specs.Progress.{packetOf, outcome};
+ghost use Rattle.hnsr_circuit.specs.Code.Held.{heldPending, heldCircuits, heldLedger, heldActions, worldSeen};
+ghost use Rattle.hnsr_circuit.specs.Code.Progress.{packetOf, outcome};
 ghost use Rattle.hnsr_circuit.specs.World.{worldOf};
-ghost use Rattle.hnsr_circuit.specs.Told.{statusTold, dueTold};
+ghost use Rattle.hnsr_circuit.specs.Code.Told.{statusTold, dueTold};
 ghost use Rattle.hnsr_circuit.specs.Call.{start, step, callHandle, callAcknowledge, callDisconnect, callRevokeReservation, callExpire, callReplaceEnabled, callObserveTime, callStatus, callNextDue};
 ghost use Rattle.lekchnam.specs.Replies.{replyOf, replied, numbered, MadeReply, statusNumbered, dueSome, dueTime, dueNumbered};
 use hnsr_body::error::Cause;

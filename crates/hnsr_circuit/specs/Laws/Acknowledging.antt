@@ -23,11 +23,11 @@ use Rattle.hnsr_circuit.specs.Circuits.{circuitAt, lowered}
 use Rattle.hnsr_circuit.specs.Inflight.{noAction, actionAt, clearAction, kindOf, towardSide}
 use Rattle.hnsr_circuit.specs.World.{World, Outcome, done, worldOf}
 use Rattle.hnsr_circuit.specs.Queue.{Message, finished, send}
-use Rattle.hnsr_circuit.specs.Progress.{messageOf, filledTo, placed, result, handedBack, ending}
+use Rattle.hnsr_circuit.specs.Code.Progress.{messageOf, filledTo, placed, result, handedBack, ending}
 use Rattle.hnsr_circuit.specs.Revocation.{withoutPending, errorToRequester, revokeCircuit}
 use Rattle.hnsr_circuit.specs.Acknowledge.{lowerFor, released, failPending, failIncoming, undelivered, settled, acknowledgeAction}
-use Rattle.hnsr_circuit.specs.Revoking.{errorOut, revokedIf}
-use Rattle.hnsr_circuit.specs.Settling.{settlementFor}
+use Rattle.hnsr_circuit.specs.Code.Revoking.{errorOut, revokedIf}
+use Rattle.hnsr_circuit.specs.Code.Settling.{settlementFor}
 use Rattle.hnsr_circuit.specs.Laws.Lookups.{pick-at}
 use Rattle.hnsr_circuit.specs.Laws.Edits.{edit-set}
 

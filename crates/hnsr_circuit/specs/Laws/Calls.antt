@@ -20,7 +20,7 @@ use Rattle.hnsr_circuit.specs.declared.answer.HnsrAnswer.{HnsrAnswer}
 use Rattle.hnsr_circuit.specs.declared.answer.HnsrAnswer.the-variants.{Taken, Refused}
 use Rattle.hnsr_circuit.specs.Answers.{taken}
 use Rattle.hnsr_circuit.specs.World.{World, Outcome, proceed, worldOf}
-use Rattle.hnsr_circuit.specs.Progress.{filledTo, placed, Progress, progress, underway, Result, result, handedBack, ending, outcome}
+use Rattle.hnsr_circuit.specs.Code.Progress.{filledTo, placed, Progress, progress, underway, Result, result, handedBack, ending, outcome}
 use Rattle.hnsr_circuit.specs.Entry.{closingWords}
 use Rattle.hnsr_circuit.specs.Call.{Call, step}
 use Rattle.hnsr_circuit.specs.Laws.StepRoom.{roomOf, routes-fit}

@@ -29,7 +29,7 @@ use Rattle.hnsr_circuit.specs.Packet.{Packet}
 use Rattle.hnsr_circuit.specs.Entry.{handleWords, tooFew, tablesShort, roomAnswer, peerAnswer, packetAnswer, clockAnswer}
 use Rattle.hnsr_circuit.specs.Close.{handleClose}
 use Rattle.hnsr_circuit.specs.Handle.{Handling, other, handlingOf, dispatch, entryAnswer, handleGate, handle}
-use Rattle.hnsr_circuit.specs.Progress.{filledTo, placed, result, handedBack, ending}
+use Rattle.hnsr_circuit.specs.Code.Progress.{filledTo, placed, result, handedBack, ending}
 use Rattle.hnsr_circuit.specs.Laws.Answers.{then-taken}
 use Rattle.hnsr_circuit.specs.Laws.Queueing.{taken-is}
 use Rattle.hnsr_circuit.specs.Laws.Calls.{gone-on}

@@ -42,19 +42,20 @@ use Rattle.hnsr_circuit.specs.Pending.{noPending, namedBy, clearPending}
 use Rattle.hnsr_circuit.specs.Circuits.{noCircuit, circuitAt, sideOf, otherSide, creditOf, charged, raised, clearCircuit}
 use Rattle.hnsr_circuit.specs.Ledger.{noUsage, usageAt, spent}
 use Rattle.hnsr_circuit.specs.Inflight.{actionUnder, dropped, capacityAnswer}
-use Rattle.hnsr_circuit.specs.Question.{at, circuitAsked, usageAsked, pendingAsked}
-use Rattle.hnsr_circuit.specs.Lookup.{circuitFound}
+use Rattle.hnsr_circuit.specs.Code.Question.{at, circuitAsked, usageAsked, pendingAsked}
+use Rattle.hnsr_circuit.specs.Code.Lookup.{circuitFound}
 use Rattle.hnsr_circuit.specs.Header.{withCounters, countBytes, countRevoked}
 use Rattle.hnsr_circuit.specs.World.{proceed, worldOf}
-use Rattle.hnsr_circuit.specs.Queue.{Message, send, actionsScanned}
+use Rattle.hnsr_circuit.specs.Queue.{Message, send}
+use Rattle.hnsr_circuit.specs.Code.Turns.{actionsScanned}
 use Rattle.hnsr_circuit.specs.Packet.{sender, circuitAnswer}
-use Rattle.hnsr_circuit.specs.Progress.{Result, messageOf, packetOf, asking, ending, handedBack}
+use Rattle.hnsr_circuit.specs.Code.Progress.{Result, messageOf, packetOf, asking, ending, handedBack}
 use Rattle.hnsr_circuit.specs.Data.{withData, dataMessage, dataTaken, dataWith, handleData}
 use Rattle.hnsr_circuit.specs.Window.{creditAnswer, withWindow, windowTaken, windowWith, handleWindow}
 use Rattle.hnsr_circuit.specs.Revocation.{withoutActions, withoutPending, endPending, endCircuit}
 use Rattle.hnsr_circuit.specs.Close.{detailAnswer, translated, closeTaken, closePending, closeCircuit, handleClose}
-use Rattle.hnsr_circuit.specs.Message.{passedOn, closeOn}
-use Rattle.hnsr_circuit.specs.Plans.{dataPlanned, windowRows, windowPlanned, closePlanned}
+use Rattle.hnsr_circuit.specs.Code.Message.{passedOn, closeOn}
+use Rattle.hnsr_circuit.specs.Code.Plans.{dataPlanned, windowRows, windowPlanned, closePlanned}
 use Rattle.hnsr_circuit.specs.Laws.Answers.{check-taken, then-taken, stop, stop-two}
 use Rattle.hnsr_circuit.specs.Laws.Lookups.{pick-at}
 use Rattle.hnsr_circuit.specs.Laws.Edits.{edit-set}

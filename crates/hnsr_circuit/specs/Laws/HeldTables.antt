@@ -1,10 +1,10 @@
 -- Laws of the four tables as they are seen: an unused record is its own clearing, what unmarked records answer, turns that do nothing at them, the
 -- end of the scan of the actions, and what is handed back with the numbers that came in.
 use Prim.Native.Nat.{ℕ, suc, _+_, _≤_, _<_, min}
-use native.Mathlib.Nat.{add-suc, add-zero}
+use native.Mathlib.Nat.{add-zero}
 use native.Mathlib.Omega.{arith}
 use mathlib.Core.Path.{_≡_, refl, sym, ap, _∙_}
-use mathlib.Core.Bool.{Bool, true, false, cond, not, _&&_, _||_, or-true, or-false}
+use mathlib.Core.Bool.{Bool, true, false, cond, not, _||_, or-true, or-false}
 use mathlib.Core.List.{List, [], _∷_, map}
 use lib.Dec.{ltb}
 use lib.ListN.{length, drop, length-drop}
@@ -36,18 +36,17 @@ use Rattle.hnsr_circuit.specs.declared.config.OpaqueRelayConfig.{OpaqueR
 use Rattle.hnsr_circuit.specs.declared.answer.HnsrRuntimeError.{HnsrRuntimeError}
 use Rattle.hnsr_circuit.specs.Answers.{check}
 use Rattle.hnsr_circuit.specs.Entry.{tooFew}
-use Rattle.hnsr_circuit.specs.Table.{placeOf, any}
+use Rattle.hnsr_circuit.specs.Table.{any}
 use Rattle.hnsr_circuit.specs.Pending.{isPending, pendingAt, pendingOf, pendingUnder, namedBy, pendingOver, pendingMarked, clearPending}
 use Rattle.hnsr_circuit.specs.Circuits.{isCircuit, circuitAt, circuitOf, circuitUnder, circuitOver, queuedIn, circuitMarked, clearCircuit}
 use Rattle.hnsr_circuit.specs.Ledger.{isUsage, usageAt, usageOver, usageMarked, clearUsage}
 use Rattle.hnsr_circuit.specs.Inflight.{isAction, actionAt, actionUnder, actionToward, actionMarked, clearAction}
-use Rattle.hnsr_circuit.specs.Question.{pendingAsked, pendingHas, circuitAsked, circuitHas, usageAsked, usageHas, actionAsked, actionHas}
-use Rattle.hnsr_circuit.specs.Queue.{actionsScanned}
-use Rattle.hnsr_circuit.specs.Progress.{scanPlace, handedBack, underway}
-use Rattle.hnsr_circuit.specs.Held.{held, heldPending, heldCircuits, heldLedger, heldActions, handedSeen, underwaySeen, asksUnused}
-use Rattle.hnsr_circuit.specs.Laws.Lookups.{place-found}
+use Rattle.hnsr_circuit.specs.Code.Question.{pendingAsked, pendingHas, circuitAsked, circuitHas, usageAsked, usageHas, actionAsked, actionHas}
+use Rattle.hnsr_circuit.specs.Code.Turns.{actionsScanned, firstPlace, scanned, pendingWorked, circuitWorked, totalled, roomOn, scanSpared, roomSpared}
+use Rattle.hnsr_circuit.specs.Code.Progress.{scanPlace, handedBack, underway}
+use Rattle.hnsr_circuit.specs.Code.Held.{held, heldPending, heldCircuits, heldLedger, heldActions, handedSeen, underwaySeen, asksUnused}
 use Rattle.hnsr_circuit.specs.Laws.Held.{length-held, rest-held, place-below, place-upto}
-use Rattle.hnsr_circuit.specs.Laws.Turns.{firstPlace, scanned, scan-unused, pendingWorked, circuitWorked, totalled, roomOn}
+use Rattle.hnsr_circuit.specs.Laws.Turns.{scan-unused}
 
 -- ---- an unused record is its own clearing
 pub pending-still : (p : RelayPending) → isPending p ≡ false → clearPending p ≡ p
@@ -152,15 +151,6 @@ pub totals-rest : (n : ℕ) (t : List RelayCircuit) (i : ℕ) (b r : CircuitTota
 totals-rest n t i b r m l h = sym (totals-unmarked (drop i t) i b m) ∙ (rw (rest-held clearCircuit n t i l) at h)
 
 -- ---- the end of the scan: the first place that is left, if there is one, is a spare one
-abbrev pub scanSpared : ActionScan → (place places : ℕ) → ActionScan
-scanSpared s place places = record {
-  tally = s .tally;
-  found = s .found;
-  place = s .place;
-  spare = s .spare || ltb place places;
-  «spare_place» = firstPlace (s .spare) (ltb place places) place (s .«spare_place»);
-}
-
 stays : (s : ActionScan) (place : ℕ) (b : Bool) → b ≡ false → s ≡ record {
   tally = s .tally;
   found = s .found;
@@ -227,17 +217,6 @@ module _ (q : ActionQuestion) where
       not-is a = refl
 
 -- ---- the same of the ledger's
-abbrev pub roomSpared : LedgerRoom → (place places : ℕ) → LedgerRoom
-roomSpared r place places = record {
-  found = r .found;
-  place = r .place;
-  usage = r .usage;
-  used = r .used;
-  spare = r .spare || ltb place places;
-  «spare_place» = firstPlace (r .spare) (ltb place places) place (r .«spare_place»);
-  places = r .places;
-}
-
 kept : {A : Type 0} (b : Bool) (x : A) → cond b x x ≡ x
 kept true x = refl
 kept false x = refl

@@ -1,6 +1,6 @@
 -- Laws of the action capacity: nothing is left exactly where one of the three counts is at its limit; the tally is one scan; ACCEPT's tally
 -- is the ordinary one of the table after its own actions are dropped.
-use Prim.Native.Nat.{ℕ, _+_, _-_, min}
+use Prim.Native.Nat.{ℕ, _-_, min}
 use native.Mathlib.Nat.{zero-add}
 use native.Mathlib.Omega.{arith}
 use mathlib.Core.Path.{_≡_, refl, sym, _∙_}
@@ -14,6 +14,7 @@ use Rattle.hnsr_circuit.specs.declared.records.InflightAction.{InflightA
 use Rattle.hnsr_circuit.specs.declared.records.InflightTally.{InflightTally}
 use Rattle.hns_encoding.specs.Laws.Tests.{split, choose}
 use Rattle.hns_encoding.specs.Loops.{foldFrom}
+use Rattle.hnsr_circuit.specs.Code.Turns.{noTally, tallyTurn}
 use Rattle.hnsr_circuit.specs.Laws.Folds.{fold-count}
 use Rattle.hns_encoding.specs.Sums.{one, total, count}
 use Rattle.hnsr_circuit.specs.Table.{also, cleared}
@@ -40,27 +41,17 @@ capacity-tests c t =
     (t .«for_circuit») (t .«for_peer»)
 
 -- ---- the tally as one scan: each turn adds what the action counts
-abbrev pub noTally : InflightTally
-noTally = record { total = 0; «for_circuit» = 0; «for_peer» = 0 }
-
 module _ (replacing : Bool) (id : ℕ) (peer : HnsrPeerId) where
-  unfoldable pub tallyTurn : InflightTally → InflightAction → (place : ℕ) → InflightTally
-  tallyTurn t a place = record {
-    total = t .total + one (retained replacing id) a;
-    «for_circuit» = t .«for_circuit» + one (also (retained replacing id) (actionUnder id)) a;
-    «for_peer» = t .«for_peer» + one (also (retained replacing id) (actionToward peer)) a;
-  }
-
-  pub tally-fold : (inflight : List InflightAction) → foldFrom tallyTurn inflight 0 noTally ≡ tallied replacing id peer inflight
+  pub tally-fold : (inflight : List InflightAction) → foldFrom (tallyTurn replacing id peer) inflight 0 noTally ≡ tallied replacing id peer inflight
   unfolding tallied tallyTurn
   tally-fold inflight =
       rw (
         ← (zero-add (count (retained replacing id) inflight)),
         ← (zero-add (count (also (retained replacing id) (actionUnder id)) inflight)),
         ← (zero-add (count (also (retained replacing id) (actionToward peer)) inflight)),
-        ← (fold-count tallyTurn (λ t. t .total) (retained replacing id) (λ b x i. refl) inflight 0 noTally),
-        ← (fold-count tallyTurn (λ t. t .«for_circuit») (also (retained replacing id) (actionUnder id)) (λ b x i. refl) inflight 0 noTally),
-        ← (fold-count tallyTurn (λ t. t .«for_peer») (also (retained replacing id) (actionToward peer)) (λ b x i. refl) inflight 0 noTally),
+        ← (fold-count (tallyTurn replacing id peer) (λ t. t .total) (retained replacing id) (λ b x i. refl) inflight 0 noTally),
+        ← (fold-count (tallyTurn replacing id peer) (λ t. t .«for_circuit») (also (retained replacing id) (actionUnder id)) (λ b x i. refl) inflight 0 noTally),
+        ← (fold-count (tallyTurn replacing id peer) (λ t. t .«for_peer») (also (retained replacing id) (actionToward peer)) (λ b x i. refl) inflight 0 noTally),
       )
 
 -- ---- ACCEPT's tally

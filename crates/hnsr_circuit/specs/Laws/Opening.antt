@@ -1,5 +1,4 @@
--- What the code of ACCEPT and OPEN decides before it writes, and that what it writes where it goes on is the definition's world, while a
--- refusal leaves everything as it was.
+-- What the code of ACCEPT and OPEN writes where it goes on is the definition's world, while a refusal leaves everything as it was.
 use Prim.Native.Nat.{ℕ, suc, _+_, _-_, _/_, _≤_, _<_}
 use native.Mathlib.Omega.{arith}
 use mathlib.Core.Path.{_≡_, refl, sym, ap, _∙_}
@@ -16,32 +15,27 @@ use Rattle.hns_encoding.specs.Laws.Tests.{split, both, on-true, cond-map}
 use Rattle.hnsr_body.specs.declared.accept_body.AcceptRead.{AcceptRead}
 use Rattle.hnsr_body.specs.declared.accept_body.AcceptBody.{AcceptBody}
 use Rattle.hnsr_body.specs.Accept.{decodeAccept, acceptFields, openedBytes}
-use Rattle.hnsr_body.specs.declared.open_body.OpenRead.{OpenRead}
 use Rattle.hnsr_body.specs.declared.incoming_body.IncomingBody.{IncomingBody}
 use Rattle.hnsr_body.specs.Open.{decodeOpen, openFields}
 use Rattle.hnsr_body.specs.Incoming.{incomingBytes}
 use Rattle.hnsr_circuit.specs.declared.runtime.Relayed.{Relayed}
+use Rattle.hnsr_circuit.specs.Code.Opening.{putPlace, acceptRows, acceptWork, acceptPlan, isTaken, gathering, openRows, openPlan, openingOf, incomingOut, placedEntry, placedRows}
 use Rattle.hnsr_circuit.specs.Laws.Calls.{turned-away, gone-on}
 use Rattle.hnsr_circuit.specs.declared.accept.AcceptPlan.{AcceptPlan}
 use Rattle.hnsr_circuit.specs.declared.open.OpenGathered.{OpenGathered}
 use Rattle.hnsr_circuit.specs.declared.open.OpenPlan.{OpenPlan}
 use Rattle.hnsr_circuit.specs.declared.config.OpaqueRelayConfig.{OpaqueRelayConfig}
-use Rattle.hnsr_circuit.specs.declared.peer.HnsrPeerId.{HnsrPeerId}
 use Rattle.hnsr_circuit.specs.declared.records.RelayTicket.{RelayTicket}
 use Rattle.hnsr_circuit.specs.declared.records.RelayPending.{RelayPending}
 use Rattle.hnsr_circuit.specs.declared.records.RelayCircuit.{RelayCircuit}
 use Rattle.hnsr_circuit.specs.declared.records.ReservationUsage.{ReservationUsage}
 use Rattle.hnsr_circuit.specs.declared.records.InflightAction.{InflightAction}
-use Rattle.hnsr_circuit.specs.declared.records.InflightTally.{InflightTally}
 use Rattle.hnsr_circuit.specs.declared.records.PendingFound.{PendingFound}
 use Rattle.hnsr_circuit.specs.declared.records.LedgerRoom.{LedgerRoom}
 use Rattle.hnsr_circuit.specs.declared.records.ActionScan.{ActionScan}
 use Rattle.hnsr_circuit.specs.declared.records.Drawing.{Drawing}
 use Rattle.hnsr_circuit.specs.declared.records.Outgoing.{Outgoing}
-use Rattle.hnsr_circuit.specs.declared.records.Work.{Work}
-use Rattle.hnsr_circuit.specs.declared.records.WorkQuestion.{WorkQuestion}
 use Rattle.hnsr_circuit.specs.declared.records.ActionQuestion.{ActionQuestion}
-use Rattle.hnsr_circuit.specs.declared.records.InflightKind.the-variants.{Opened, Incoming}
 use Rattle.hnsr_circuit.specs.declared.records.RelayPacket.{RelayPacket}
 use Rattle.hnsr_circuit.specs.declared.runtime.OpaqueRelayRuntime.{OpaqueRelayRuntime}
 use Rattle.hnsr_circuit.specs.declared.answer.HnsrAnswer.{HnsrAnswer}
@@ -54,24 +48,23 @@ use Rattle.hnsr_circuit.specs.Pending.{noPending, isPending, pendingAt, 
 use Rattle.hnsr_circuit.specs.Ledger.{noUsage, isUsage, usageAt, clearUsage, freshUsage, lapsed, usageOf, booked, ledgerAnswer, usageAnswer}
 use Rattle.hnsr_circuit.specs.Circuits.{isCircuit, circuitAt}
 use Rattle.hnsr_circuit.specs.Inflight.{actionUnder, dropped, tallied, capacityAnswer}
-use Rattle.hnsr_circuit.specs.Header.{withCounters, countAccept, countOpen}
+use Rattle.hnsr_circuit.specs.Header.{withCounters, countOpen}
 use Rattle.hnsr_circuit.specs.World.{World, Outcome, proceed, worldOf}
-use Rattle.hnsr_circuit.specs.Queue.{send, actionsScanned}
-use Rattle.hnsr_circuit.specs.Opcode.{opOpened, opIncoming}
+use Rattle.hnsr_circuit.specs.Queue.{send}
+use Rattle.hnsr_circuit.specs.Code.Turns.{actionsScanned, ledgerAsked}
 use Rattle.hnsr_circuit.specs.Counts.{pendingCount, circuitCount, peerWork, reservationWork}
-use Rattle.hnsr_circuit.specs.Question.{at, pendingAsked, pendingWork, circuitWork}
-use Rattle.hnsr_circuit.specs.Lookup.{pendingFound}
+use Rattle.hnsr_circuit.specs.Code.Question.{at, pendingAsked, pendingWork, circuitWork}
+use Rattle.hnsr_circuit.specs.Code.Lookup.{pendingFound}
 use Rattle.hnsr_circuit.specs.Entry.{peerAnswer}
 use Rattle.hnsr_circuit.specs.Draw.{undrawn, drawsFrom, draws, drawTurn, drawAll, idTaken, drawn, drawAnswer}
 use Rattle.hnsr_circuit.specs.Packet.{Packet, sender}
-use Rattle.hnsr_circuit.specs.Accept.{requestAnswer, acceptAnswer, circuitFor, withAccept, openedFor, openedMessage, acceptTaken, acceptWith, handleAccept}
-use Rattle.hnsr_circuit.specs.Open.{Opening, opening, openAnswer, admissionAnswer, endpointAnswer, deadlineAnswer, deadlineFor, pendingFor, incomingFor, incomingMessage, withOpen, openAdmitted, openPlaced, openBooked, openGranted, openLapsed, handleOpen}
-use Rattle.hnsr_circuit.specs.Progress.{messageOf, packetOf, asking, handedBack, ending}
+use Rattle.hnsr_circuit.specs.Accept.{requestAnswer, circuitFor, withAccept, openedMessage, acceptTaken, acceptWith, handleAccept}
+use Rattle.hnsr_circuit.specs.Open.{Opening, opening, endpointAnswer, deadlineAnswer, pendingFor, incomingFor, incomingMessage, withOpen, openAdmitted, openPlaced, openBooked, openGranted, openLapsed, handleOpen}
+use Rattle.hnsr_circuit.specs.Code.Progress.{messageOf, packetOf, asking, handedBack, ending}
 use Rattle.hnsr_circuit.specs.Laws.Answers.{check-taken, then-taken, stop-two, stop-three}
 use Rattle.hnsr_circuit.specs.Laws.Lookups.{pick-at, pick-has, pick-none, place-any}
 use Rattle.hnsr_circuit.specs.Laws.Marks.{room, put-new-same, put-old-same}
 use Rattle.hnsr_circuit.specs.Laws.Keys.{reservation-refl}
-use Rattle.hnsr_circuit.specs.Laws.Turns.{ledgerAsked}
 use Rattle.hnsr_circuit.specs.Laws.Queueing.{taken-is}
 use Rattle.hnsr_circuit.specs.Laws.Edits.{edit-set}
 
@@ -87,9 +80,6 @@ leb-sum n a b h = split (leb n (a + b))
     (λ e. lt-leb n (saturatingAdd 64 a b) (omega (arith, leb-false n (a + b) e)) ∙ sym e)
 
 -- ---- a place for a record: what is found, else the lowest unused
-abbrev pub putPlace : (place places spare : ℕ) → ℕ
-putPlace place places spare = cond (ltb place places) place spare
-
 pub put-place : {A : Type 0} (p u : A → Bool) (t : List A) → putPlace (placeOf p t) (length t) (placeOf u t) ≡ cond (any p t) (placeOf p t) (placeOf u t)
 put-place p u t = ap (λ (b : Bool). cond b (placeOf p t) (placeOf u t)) (place-any p t)
 
@@ -100,43 +90,6 @@ proceed-on Taken w x f = refl
 proceed-on (Refused e) w x f = refl
 
 -- ---- ACCEPT
-abbrev pub acceptRows : OpaqueRelayConfig → PendingFound → HnsrPeerId → (now : ℕ) → AcceptRead → (waiting running : Work) → InflightTally → HnsrAnswer
-acceptRows c f peer now read waiting running t =
-    requestAnswer (f .found) (f .pending) peer now
-    then bodyAnswer (read .result)
-    then acceptAnswer c (f .pending) (read .body) (running .used) (waiting .under + running .under)
-    then capacityAnswer c t
-
-abbrev pub acceptWork : PendingFound → WorkQuestion
-acceptWork f = record {
-  peer = f .pending .requester;
-  other = f .pending .requester;
-  reservation = f .pending .ticket .«reservation_id»;
-  context = 0;
-  id = f .pending .«circuit_id»;
-}
-
-abbrev pub replacing : PendingFound → (id : ℕ) → ActionQuestion
-replacing f id = record { replacing = true; «circuit_id» = id; peer = f .pending .requester; generation = 0; sequence = 0 }
-
-abbrev pub acceptPlan : HnsrAnswer → OpaqueRelayRuntime → PendingFound → AcceptRead → AcceptPlan
-acceptPlan a h f read = record {
-  go = taken a;
-  place = f .place;
-  id = f .pending .«circuit_id»;
-  runtime = cond (taken a) (withCounters h (countAccept (h .counters))) h;
-  message = record {
-    destination = f .pending .requester;
-    «circuit_id» = f .pending .«circuit_id»;
-    opcode = opOpened;
-    «context_id» = f .pending .«requester_context»;
-    kind = Opened;
-    «to_endpoint» = false;
-    bytes = 0;
-  };
-  opened = openedFor (f .pending) (read .body);
-}
-
 -- the rows over the tables are the definition's
 pub accept-taken : (h : OpaqueRelayRuntime) (p : List RelayPending) (c : List RelayCircuit) (l : List ReservationUsage) (i : List InflightAction)
     (q : RelayPacket) (source body e rs : List ℕ)
@@ -238,13 +191,6 @@ ltb-less now n h = split (ltb (top 64) (now + n))
     (λ e. le-ltb (top 64 - now) n (omega (arith, ltb-false (top 64) (now + n) e)) ∙ sym e)
 
 -- ---- OPEN: the drawing
-abbrev pub isTaken : List RelayPending → List RelayCircuit → (id : ℕ) → Bool
-isTaken p c id = any (pendingAt id) p || any (circuitAt id) c
-
--- the first draw, where there is one
-abbrev pub firstDraw : List ℕ → ℕ
-firstDraw xs = cond (leb 8 (length xs)) (be (take 8 xs)) 0
-
 pub draws-step : (xs : List ℕ) → 8 ≤ length xs → draws xs ≡ be (take 8 xs) ∷ draws (drop 8 xs)
 unfolding draws drawsFrom
 draws-step xs h =
@@ -337,77 +283,6 @@ module _ (t : ℕ → Bool) (xs : List ℕ) (at : ℕ) (s r : Drawing) (h : draw
       sym (ap (λ (ids : List ℕ). drawAll t s ids) (draws-short (drop at xs) (omega arith))) ∙ h
 
 -- ---- OPEN: what the code gathers and decides
-abbrev pub openWork : RelayPacket → (requester endpoint : HnsrPeerId) → OpenRead → (id : ℕ) → WorkQuestion
-openWork q requester endpoint read id = record
-    { peer = requester; other = endpoint; reservation = read .body .«reservation_id»; context = q .«context_id»; id = id }
-
-abbrev pub openGathering : RelayPacket → (requester endpoint : HnsrPeerId) → (size : ℕ) → OpenRead → (waiting running : Work) → OpenGathered
-openGathering q requester endpoint size read waiting running = record
-    { packet = q; requester = requester; endpoint = endpoint; size = size; read = read; waiting = waiting; running = running }
-
-abbrev pub gathering : RelayPacket → (source body endpoint random : List ℕ) → List RelayPending → List RelayCircuit → OpenGathered
-gathering q source body endpoint random p c =
-    let read = decodeOpen (q .«key_valid») body in
-    let k = openWork q (peerOf source) (peerOf endpoint) read (firstDraw random) in
-    openGathering q (peerOf source) (peerOf endpoint) (length endpoint) read (pendingWork k p) (circuitWork k c)
-
-abbrev pub openRows : OpaqueRelayConfig → OpenGathered → HnsrAnswer
-openRows c g =
-    openAnswer c (g .waiting .used) (g .running .used) (g .waiting .«of_peer» + g .running .«of_peer») (g .waiting .repeated)
-    then bodyAnswer (g .read .result)
-    then admissionAnswer (g .packet .admitted) (g .packet .ticket .«expires_at») (g .packet .now)
-
-abbrev pub openPlan : OpaqueRelayConfig → OpenGathered → Drawing → OpenPlan
-openPlan c g d = record {
-  requester = g .requester;
-  context = g .packet .«context_id»;
-  body = g .read .body;
-  endpoint = g .endpoint;
-  ticket = g .packet .ticket;
-  id = d .id;
-  deadline = deadlineFor c (g .packet .ticket) (g .packet .now);
-}
-
-abbrev pub openingOf : OpenPlan → Opening
-openingOf o = record {
-  requester = o .requester;
-  context = o .context;
-  body = o .body;
-  endpoint = o .endpoint;
-  ticket = o .ticket;
-  id = o .id;
-  deadline = o .deadline;
-}
-
-abbrev pub incomingOut : OpenPlan → Outgoing
-incomingOut o = record {
-  destination = o .endpoint;
-  «circuit_id» = o .id;
-  opcode = opIncoming;
-  «context_id» = o .id;
-  kind = Incoming;
-  «to_endpoint» = false;
-  bytes = 0;
-}
-
--- those that ask nothing of actions and ledger
-abbrev pub placedEntry : OpaqueRelayConfig → OpenGathered → OpenPlan → Drawing → HnsrAnswer
-placedEntry c g o d =
-    peerAnswer (g .size)
-    then endpointAnswer c (o .ticket) (samePeer (o .endpoint) (o .requester)) (g .waiting .«of_other» + g .running .«of_other»)
-    (g .waiting .under + g .running .under)
-    then drawAnswer d
-
-abbrev pub placedRows : OpaqueRelayConfig → OpenGathered → OpenPlan → Drawing → ActionScan → LedgerRoom → HnsrAnswer
-placedRows c g o d s r =
-    peerAnswer (g .size)
-    then endpointAnswer c (o .ticket) (samePeer (o .endpoint) (o .requester)) (g .waiting .«of_other» + g .running .«of_other»)
-    (g .waiting .under + g .running .under)
-    then drawAnswer d
-    then capacityAnswer c (s .tally)
-    then deadlineAnswer c (g .packet .now)
-    then ledgerAnswer (r .found) (r .used) (r .places)
-
 -- ---- OPEN: the ledger record
 pick-else : {A : Type 0} (p : A → Bool) (d e : A) (t : List A) → cond (any p t) (pick p e t) d ≡ pick p d t
 pick-else p d e [] = refl

@@ -14,7 +14,7 @@ use Rattle.hns_encoding.specs.Laws.Lists.{written-behind, written-length}
 use Rattle.hnsr_circuit.specs.Route.{Route, routeWords, outWords, output}
 use Rattle.hnsr_circuit.specs.World.{World, Outcome}
 use Rattle.hnsr_circuit.specs.Queue.{Sent, andThen, when, silently}
-use Rattle.hnsr_circuit.specs.Progress.{filledTo, placed, Progress, progress, advanced, advance, Result, ending, outcome}
+use Rattle.hnsr_circuit.specs.Code.Progress.{filledTo, placed, Progress, progress, advanced, advance, Result, ending, outcome}
 
 -- ---- one part after the other
 filled-append : (at : ℕ) (rs ss : List Route) → filledTo at (rs ++ ss) ≡ filledTo (filledTo at rs) ss

@@ -32,9 +32,10 @@ use Rattle.hnsr_circuit.specs.Answers.{check, taken, _then_}
 use Rattle.hnsr_circuit.specs.Header.{withSequence}
 use Rattle.hnsr_circuit.specs.Route.{routeWords, headWords}
 use Rattle.hnsr_circuit.specs.World.{proceed, done, worldOf}
-use Rattle.hnsr_circuit.specs.Queue.{queueAnswer, actionsScanned, actionFor, routeFor, routed, canQueue, queued, send, when, tellIf, tell, silently}
-use Rattle.hnsr_circuit.specs.Progress.{messageOf, asking, scanPlace, filledTo, placed, progress, advanced, advance, underway, result, handedBack, ending}
-use Rattle.hnsr_circuit.specs.Queueing.{Queueing}
+use Rattle.hnsr_circuit.specs.Queue.{queueAnswer, actionFor, routeFor, routed, canQueue, queued, send, when, tellIf, tell, silently}
+use Rattle.hnsr_circuit.specs.Code.Turns.{actionsScanned}
+use Rattle.hnsr_circuit.specs.Code.Progress.{messageOf, asking, scanPlace, filledTo, placed, progress, advanced, advance, underway, result, handedBack, ending}
+use Rattle.hnsr_circuit.specs.Code.Queueing.{Queueing}
 use Rattle.hnsr_circuit.specs.Laws.Answers.{check-taken, then-taken}
 use Rattle.hnsr_circuit.specs.Laws.Route.{route-words, length-words}
 

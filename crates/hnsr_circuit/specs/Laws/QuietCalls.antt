@@ -25,12 +25,12 @@ use Rattle.hnsr_circuit.specs.Circuits.{isCircuit, clearCircuit}
 use Rattle.hnsr_circuit.specs.Ledger.{isUsage, clearUsage}
 use Rattle.hnsr_circuit.specs.Inflight.{isAction, clearAction, dropped}
 use Rattle.hnsr_circuit.specs.Header.{withClock, noHeader}
-use Rattle.hnsr_circuit.specs.Held.{noPlace, everyPlace}
+use Rattle.hnsr_circuit.specs.Code.Held.{noPlace, everyPlace}
 use Rattle.hnsr_circuit.specs.Route.{outWords, output}
 use Rattle.hnsr_circuit.specs.World.{World, statusIs, dueIs, Outcome, done, proceed, telling, atTime, worldOf}
 use Rattle.hnsr_circuit.specs.New.{emptied}
-use Rattle.hnsr_circuit.specs.Progress.{result, handedBack, outcome}
-use Rattle.hnsr_circuit.specs.Told.{noStatus, statusTold, dueTold, Made}
+use Rattle.hnsr_circuit.specs.Code.Progress.{result, handedBack, outcome}
+use Rattle.hnsr_circuit.specs.Code.Told.{noStatus, statusTold, dueTold, Made}
 use Rattle.hnsr_circuit.specs.Laws.Queueing.{taken-is}
 
 -- ---- what is told

@@ -22,11 +22,11 @@ use Rattle.hnsr_circuit.specs.Inflight.{actionUnder, dropped}
 use Rattle.hnsr_circuit.specs.World.{World, worldOf}
 use Rattle.hnsr_circuit.specs.Queue.{Message, Sent, silently, andThen, when, tell}
 use Rattle.hnsr_circuit.specs.Opcode.{opClose}
-use Rattle.hnsr_circuit.specs.Progress.{messageOf, filledTo, placed, Progress, progress, advanced, advance}
+use Rattle.hnsr_circuit.specs.Code.Progress.{messageOf, filledTo, placed, Progress, progress, advanced, advance}
 use Rattle.hnsr_circuit.specs.Revocation.{withoutActions, endPendingThere, endCircuitThere, errorToRequester, closeToRequester, closeToEndpoint, closeTo, revokePending, revokeCircuitThere, revokeCircuit, walkFrom}
 use Rattle.hnsr_circuit.specs.RevokingCalls.{closeToOther, disconnectPending}
-use Rattle.hnsr_circuit.specs.Revoking.{closeSide, errorOut, closeOut, firstOut, revokedIf, endingPending}
-use Rattle.hnsr_circuit.specs.Message.{closeOn}
+use Rattle.hnsr_circuit.specs.Code.Revoking.{closeSide, errorOut, closeOut, firstOut, revokedIf, endingPending}
+use Rattle.hnsr_circuit.specs.Code.Message.{closeOn}
 use Rattle.hnsr_circuit.specs.Peer.{samePeer}
 use Rattle.hnsr_circuit.specs.Laws.Progress.{advance-then}
 

@@ -20,10 +20,10 @@ use Rattle.hnsr_circuit.specs.Peer.{peerOf}
 use Rattle.hnsr_circuit.specs.Inflight.{isAction, clearAction, dropped}
 use Rattle.hnsr_circuit.specs.World.{World, Outcome, done, worldOf}
 use Rattle.hnsr_circuit.specs.Entry.{roomAnswer, revokingWords, peerAnswer, clockAnswer}
-use Rattle.hnsr_circuit.specs.Question.{used, ofPeer, under, over, pendingAsked, circuitAsked, actionHas, actionAsked}
-use Rattle.hnsr_circuit.specs.Progress.{filledTo, placed, result, handedBack, ending}
+use Rattle.hnsr_circuit.specs.Code.Question.{used, ofPeer, under, over, pendingAsked, circuitAsked, actionHas, actionAsked}
+use Rattle.hnsr_circuit.specs.Code.Progress.{filledTo, placed, result, handedBack, ending}
 use Rattle.hnsr_circuit.specs.RevokingCalls.{disconnect, disconnectPeer, revokeReservation, revokeUnder, expire, expireAt, changeAnswer, switchTo, replaceEnabled}
-use Rattle.hnsr_circuit.specs.Revoking.{endingPending, revokingAll, disconnectingAll}
+use Rattle.hnsr_circuit.specs.Code.Revoking.{endingPending, revokingAll, disconnectingAll}
 use Rattle.hnsr_circuit.specs.declared.runtime.Relayed.{Relayed}
 use Rattle.hnsr_circuit.specs.declared.answer.HnsrAnswer.the-variants.{Taken}
 use Rattle.hnsr_circuit.specs.declared.answer.HnsrRuntimeError.the-variants.{GenerationExhausted}

@@ -27,7 +27,7 @@ use Rattle.hnsr_circuit.specs.Entry.{closingWords}
 use Rattle.hnsr_circuit.specs.Revocation.{withoutActions, pendingThere, circuitThere, endPendingThere, endCircuitThere, errorToRequester, closeToRequester, closeToEndpoint, closeTo, revokePending, revokeCircuitThere, revokeCircuit, walkFrom, walk, pendingTable, circuitTable, revokeAll}
 use Rattle.hnsr_circuit.specs.RevokingCalls.{closeToOther, disconnectPending}
 use Rattle.hnsr_circuit.specs.declared.revocation.Revoking.{Revoking}
-use Rattle.hnsr_circuit.specs.Revoking.{endingPending}
+use Rattle.hnsr_circuit.specs.Code.Revoking.{endingPending}
 use Rattle.hnsr_circuit.specs.Laws.Room.{filled, filled-append, notice-told, two-told, when-fits, one-fewer, walk-fits}
 
 -- ---- telling leaves both tables alone

@@ -1,9 +1,9 @@
--- One turn of each scan of a table, as the code makes it, and what the scan as a whole then says.
+-- What the scans of a table say as a whole, turn by turn.
 use Prim.Native.Nat.{ℕ, _+_, _≤_, min}
 use native.Mathlib.Nat.{zero-add, add-zero}
 use native.Mathlib.Omega.{arith}
 use mathlib.Core.Path.{_≡_, refl, sym, ap, _∙_}
-use mathlib.Core.Bool.{Bool, true, false, cond, not, _&&_, _||_, and-false, or-true, or-false}
+use mathlib.Core.Bool.{Bool, true, false, cond, not, _||_, and-false, or-true, or-false}
 use mathlib.Core.List.{List}
 use lib.Dec.{eqb}
 use lib.ListN.{length}
@@ -16,49 +16,26 @@ use Rattle.hnsr_circuit.specs.declared.records.Work.{Work}
 use Rattle.hnsr_circuit.specs.declared.records.WorkQuestion.{WorkQuestion}
 use Rattle.hnsr_circuit.specs.declared.records.ActionQuestion.{ActionQuestion}
 use Rattle.hnsr_circuit.specs.declared.records.ActionScan.{ActionScan}
-use Rattle.hnsr_circuit.specs.declared.records.CircuitTotals.{CircuitTotals}
-use Rattle.hnsr_circuit.specs.declared.records.LedgerRoom.{LedgerRoom}
 use Rattle.hnsr_circuit.specs.declared.records.ReservationUsage.{ReservationUsage}
-use Rattle.hns_encoding.specs.Numbers.{top, saturatingAdd}
+use Rattle.hns_encoding.specs.Numbers.{top}
 use Rattle.hns_encoding.specs.Laws.Tests.{split, cond-le}
 use Rattle.hns_encoding.specs.Loops.{foldFrom}
 use Rattle.hns_encoding.specs.Sums.{non, one, total, count}
-use Rattle.hnsr_circuit.specs.Table.{also, any, pick, placeOf}
+use Rattle.hnsr_circuit.specs.Table.{also, any, placeOf}
 use Rattle.hnsr_circuit.specs.Peer.{samePeer}
 use Rattle.hnsr_circuit.specs.Pending.{isPending, pendingAt, pendingOf, pendingUnder, requestedBy}
 use Rattle.hnsr_circuit.specs.Circuits.{isCircuit, circuitAt, circuitOf, circuitUnder, queuedIn}
-use Rattle.hnsr_circuit.specs.Ledger.{noUsage, isUsage, usageAt}
+use Rattle.hnsr_circuit.specs.Ledger.{isUsage, usageAt}
 use Rattle.hnsr_circuit.specs.Inflight.{isAction, actionAt, actionUnder, actionToward, retained}
-use Rattle.hnsr_circuit.specs.Question.{pendingWork, circuitWork}
-use Rattle.hnsr_circuit.specs.Queue.{actionsScanned}
+use Rattle.hnsr_circuit.specs.Code.Question.{pendingWork, circuitWork}
+use Rattle.hnsr_circuit.specs.Code.Turns.{noWork, workOn, WorkAtMost, workTurn, never, pendingWorked, circuitWorked, noTotals, totalled, TallyAtMost, tallyTurn, noTally, noScan, firstPlace, tallyOn, numbered, scanned, replaced, ledgerAsked, noRoom, roomOn, actionsScanned}
 use Rattle.hnsr_circuit.specs.Status.{circuitTotals}
 use Rattle.hnsr_circuit.specs.Laws.Folds.{fold-count, fold-stopping, fold-kept, fold-any, fold-place, fold-pick}
-use Rattle.hnsr_circuit.specs.Laws.Inflight.{noTally, tallyTurn, tally-fold}
+use Rattle.hnsr_circuit.specs.Laws.Inflight.{tally-fold}
 use Rattle.hnsr_circuit.specs.Laws.Lookups.{place-none}
 use Rattle.hnsr_circuit.specs.Laws.Scans.{fold-part, any-never}
 
 -- ---- how much work there is
-abbrev pub noWork : Work
-noWork = record { used = 0; «of_peer» = 0; «of_other» = 0; under = 0; repeated = false; holds = false }
-
--- a used record more, and which questions it answers
-abbrev pub workOn : Work → (peer other under again is : Bool) → Work
-workOn w peer other under again is = record {
-  used = w .used + 1;
-  «of_peer» = w .«of_peer» + cond peer 1 0;
-  «of_other» = w .«of_other» + cond other 1 0;
-  under = w .under + cond under 1 0;
-  repeated = w .repeated || again;
-  holds = w .holds || is;
-}
-
--- so many records at most were counted
-pub record WorkAtMost (n : ℕ) (w : Work) : Type 0 where
-  pub used : w .used ≤ n
-  pub peer : w .«of_peer» ≤ n
-  pub other : w .«of_other» ≤ n
-  pub under : w .under ≤ n
-
 pub work-more : (m n : ℕ) (w : Work) → m ≤ n → WorkAtMost m w → WorkAtMost n w
 work-more m n w l h = record { used = omega arith; peer = omega arith; other = omega arith; under = omega arith }
 
@@ -66,14 +43,11 @@ pub work-none : WorkAtMost 0 noWork
 work-none = record { used = omega arith; peer = omega arith; other = omega arith; under = omega arith }
 
 module _ {A : Type 0} (used peer other under again is : A → Bool) where
-  abbrev pub workTurn : Work → A → (place : ℕ) → Work
-  workTurn w x place = cond (used x) (workOn w (peer x) (other x) (under x) (again x) (is x)) w
-
   pub works : (w : Work) (x : A) (place : ℕ) → used x ≡ true → (a b c d e : Bool) → a ≡ peer x → b ≡ other x → c ≡ under x → d ≡ again x → e ≡ is x
-      → (r : Work) → r ≡ workOn w a b c d e → r ≡ workTurn w x place
+      → (r : Work) → r ≡ workOn w a b c d e → r ≡ (workTurn used peer other under again is) w x place
   works w x place u a b c d e ea eb ec ed ee r h = h ∙ rw (u, ea, eb, ec, ed, ee)
 
-  pub work-most : (n : ℕ) (w : Work) (x : A) (place : ℕ) → WorkAtMost n w → WorkAtMost (n + 1) (workTurn w x place)
+  pub work-most : (n : ℕ) (w : Work) (x : A) (place : ℕ) → WorkAtMost n w → WorkAtMost (n + 1) (workTurn used peer other under again is w x place)
   work-most n w x place h =
       let a = cond-le (peer x) in
       let b = cond-le (other x) in
@@ -86,59 +60,49 @@ module _ {A : Type 0} (used peer other under again is : A → Bool) where
   module _ (np : (x : A) → used x ≡ false → peer x ≡ false) (no : (x : A) → used x ≡ false → other x ≡ false)
       (nu : (x : A) → used x ≡ false → under x ≡ false) (na : (x : A) → used x ≡ false → again x ≡ false)
       (ni : (x : A) → used x ≡ false → is x ≡ false) where
-    counts-used : (w : Work) (x : A) (i : ℕ) → workTurn w x i .used ≡ w .used + one used x
+    counts-used : (w : Work) (x : A) (i : ℕ) → (workTurn used peer other under again is) w x i .used ≡ w .used + one used x
     counts-used w x i = split (used x) (λ e. rw e) (λ e. rw e (omega arith))
 
-    counts-peer : (w : Work) (x : A) (i : ℕ) → workTurn w x i .«of_peer» ≡ w .«of_peer» + one peer x
+    counts-peer : (w : Work) (x : A) (i : ℕ) → (workTurn used peer other under again is) w x i .«of_peer» ≡ w .«of_peer» + one peer x
     counts-peer w x i = split (used x) (λ e. rw e) (λ e. rw (e, np x e) (omega arith))
 
-    counts-other : (w : Work) (x : A) (i : ℕ) → workTurn w x i .«of_other» ≡ w .«of_other» + one other x
+    counts-other : (w : Work) (x : A) (i : ℕ) → (workTurn used peer other under again is) w x i .«of_other» ≡ w .«of_other» + one other x
     counts-other w x i = split (used x) (λ e. rw e) (λ e. rw (e, no x e) (omega arith))
 
-    counts-under : (w : Work) (x : A) (i : ℕ) → workTurn w x i .under ≡ w .under + one under x
+    counts-under : (w : Work) (x : A) (i : ℕ) → (workTurn used peer other under again is) w x i .under ≡ w .under + one under x
     counts-under w x i = split (used x) (λ e. rw e) (λ e. rw (e, nu x e) (omega arith))
 
-    finds-again : (w : Work) (x : A) (i : ℕ) → workTurn w x i .repeated ≡ (w .repeated || again x)
+    finds-again : (w : Work) (x : A) (i : ℕ) → (workTurn used peer other under again is) w x i .repeated ≡ (w .repeated || again x)
     finds-again w x i = split (used x) (λ e. rw e) (λ e. rw (e, na x e, or-false))
 
-    finds-id : (w : Work) (x : A) (i : ℕ) → workTurn w x i .holds ≡ (w .holds || is x)
+    finds-id : (w : Work) (x : A) (i : ℕ) → (workTurn used peer other under again is) w x i .holds ≡ (w .holds || is x)
     finds-id w x i = split (used x) (λ e. rw e) (λ e. rw (e, ni x e, or-false))
 
     pub work-fold : (t : List A)
-        → foldFrom workTurn t 0 noWork
+        → foldFrom (workTurn used peer other under again is) t 0 noWork
         ≡ record { used = count used t; «of_peer» = count peer t; «of_other» = count other t; under = count under t; repeated = any again t; holds = any is t }
     work-fold t = λ j. record {
-      used = (fold-count workTurn (λ w. w .used) used counts-used t 0 noWork ∙ zero-add (count used t)) j;
-      «of_peer» = (fold-count workTurn (λ w. w .«of_peer») peer counts-peer t 0 noWork ∙ zero-add (count peer t)) j;
-      «of_other» = (fold-count workTurn (λ w. w .«of_other») other counts-other t 0 noWork ∙ zero-add (count other t)) j;
-      under = (fold-count workTurn (λ w. w .under) under counts-under t 0 noWork ∙ zero-add (count under t)) j;
-      repeated = fold-any workTurn (λ w. w .repeated) again finds-again t 0 noWork j;
-      holds = fold-any workTurn (λ w. w .holds) is finds-id t 0 noWork j;
+      used = (fold-count (workTurn used peer other under again is) (λ w. w .used) used counts-used t 0 noWork ∙ zero-add (count used t)) j;
+      «of_peer» = (fold-count (workTurn used peer other under again is) (λ w. w .«of_peer») peer counts-peer t 0 noWork ∙ zero-add (count peer t)) j;
+      «of_other» = (fold-count (workTurn used peer other under again is) (λ w. w .«of_other») other counts-other t 0 noWork ∙ zero-add (count other t)) j;
+      under = (fold-count (workTurn used peer other under again is) (λ w. w .under) under counts-under t 0 noWork ∙ zero-add (count under t)) j;
+      repeated = fold-any (workTurn used peer other under again is) (λ w. w .repeated) again finds-again t 0 noWork j;
+      holds = fold-any (workTurn used peer other under again is) (λ w. w .holds) is finds-id t 0 noWork j;
     }
 
--- a circuit repeats no OPEN
-abbrev pub never : RelayCircuit → Bool
-never c = false
-
 module _ (q : WorkQuestion) where
-  abbrev pub pendingWorked : Work → RelayPending → (place : ℕ) → Work
-  pendingWorked = workTurn isPending (pendingOf (q .peer)) (pendingOf (q .other)) (pendingUnder (q .reservation)) (requestedBy (q .peer) (q .context)) (pendingAt (q .id))
-
-  pub pending-most : (n : ℕ) (w : Work) (p : RelayPending) (place : ℕ) → WorkAtMost n w → WorkAtMost (n + 1) (pendingWorked w p place)
+  pub pending-most : (n : ℕ) (w : Work) (p : RelayPending) (place : ℕ) → WorkAtMost n w → WorkAtMost (n + 1) ((pendingWorked q) w p place)
   pending-most = work-most isPending (pendingOf (q .peer)) (pendingOf (q .other)) (pendingUnder (q .reservation)) (requestedBy (q .peer) (q .context)) (pendingAt (q .id))
 
-  pub pending-work : (t : List RelayPending) → foldFrom pendingWorked t 0 noWork ≡ pendingWork q t
+  pub pending-work : (t : List RelayPending) → foldFrom (pendingWorked q) t 0 noWork ≡ pendingWork q t
   unfolding pendingWork isPending pendingOf pendingUnder requestedBy pendingAt
   pending-work t = work-fold isPending (pendingOf (q .peer)) (pendingOf (q .other)) (pendingUnder (q .reservation)) (requestedBy (q .peer) (q .context)) (pendingAt (q .id))
       (λ p e. rw e) (λ p e. rw e) (λ p e. rw e) (λ p e. rw e) (λ p e. rw e) t
 
-  abbrev pub circuitWorked : Work → RelayCircuit → (place : ℕ) → Work
-  circuitWorked = workTurn isCircuit (circuitOf (q .peer)) (circuitOf (q .other)) (circuitUnder (q .reservation)) never (circuitAt (q .id))
-
-  pub circuit-most : (n : ℕ) (w : Work) (c : RelayCircuit) (place : ℕ) → WorkAtMost n w → WorkAtMost (n + 1) (circuitWorked w c place)
+  pub circuit-most : (n : ℕ) (w : Work) (c : RelayCircuit) (place : ℕ) → WorkAtMost n w → WorkAtMost (n + 1) ((circuitWorked q) w c place)
   circuit-most = work-most isCircuit (circuitOf (q .peer)) (circuitOf (q .other)) (circuitUnder (q .reservation)) never (circuitAt (q .id))
 
-  pub circuit-work : (t : List RelayCircuit) → foldFrom circuitWorked t 0 noWork ≡ circuitWork q t
+  pub circuit-work : (t : List RelayCircuit) → foldFrom (circuitWorked q) t 0 noWork ≡ circuitWork q t
   unfolding circuitWork isCircuit circuitOf circuitUnder circuitAt
   circuit-work t =
       work-fold isCircuit (circuitOf (q .peer)) (circuitOf (q .other)) (circuitUnder (q .reservation)) never (circuitAt (q .id))
@@ -146,12 +110,6 @@ module _ (q : WorkQuestion) where
       ∙ rw (any-never t)
 
 -- ---- what `status` asks of the circuits
-abbrev pub noTotals : CircuitTotals
-noTotals = record { used = 0; «queued_bytes» = 0 }
-
-abbrev pub totalled : CircuitTotals → RelayCircuit → (place : ℕ) → CircuitTotals
-totalled t c place = record { used = t .used + one isCircuit c; «queued_bytes» = saturatingAdd 64 (t .«queued_bytes») (queuedIn c) }
-
 pub totals-fold : (t : List RelayCircuit) → foldFrom totalled t 0 noTotals ≡ circuitTotals t
 totals-fold t = λ j. record {
   used = (fold-count totalled (λ s. s .used) isCircuit (λ b x i. refl) t 0 noTotals ∙ zero-add (count isCircuit t)) j;
@@ -161,11 +119,6 @@ totals-fold t = λ j. record {
 }
 
 -- ---- what a message asks of all actions
-pub record TallyAtMost (n : ℕ) (t : InflightTally) : Type 0 where
-  pub all : t .total ≤ n
-  pub circuit : t .«for_circuit» ≤ n
-  pub peer : t .«for_peer» ≤ n
-
 pub tally-more : (m n : ℕ) (t : InflightTally) → m ≤ n → TallyAtMost m t → TallyAtMost n t
 tally-more m n t l h = record { all = omega arith; circuit = omega arith; peer = omega arith }
 
@@ -180,34 +133,11 @@ adds-none t = λ j. record {
   «for_peer» = sym (add-zero (t .«for_peer»)) j;
 }
 
--- nothing found yet stands at the number of places
-abbrev pub noScan : (places : ℕ) → ActionScan
-noScan places = record { tally = noTally; found = false; place = places; spare = false; «spare_place» = places }
-
 place-of : {A : Type 0} (p : A → Bool) (t : List A) → cond (any p t) (0 + placeOf p t) (length t) ≡ placeOf p t
 place-of p t = split (any p t) (λ e. rw e (zero-add (placeOf p t))) (λ e. rw e (sym (place-none p t e)))
 
--- the place that stays once something is found
-abbrev pub firstPlace : (found here : Bool) → (place kept : ℕ) → ℕ
-firstPlace found here place kept = cond found kept (cond here place kept)
-
 module _ (q : ActionQuestion) where
-  abbrev pub tallyOn : InflightTally → InflightAction → (place : ℕ) → InflightTally
-  tallyOn = tallyTurn (q .replacing) (q .«circuit_id») (q .peer)
-
-  abbrev pub numbered : InflightAction → Bool
-  numbered = actionAt (q .generation) (q .sequence)
-
-  abbrev pub scanned : ActionScan → InflightAction → (place : ℕ) → ActionScan
-  scanned s a place = record {
-    tally = tallyOn (s .tally) a place;
-    found = s .found || numbered a;
-    place = firstPlace (s .found) (numbered a) place (s .place);
-    spare = s .spare || non isAction a;
-    «spare_place» = firstPlace (s .spare) (non isAction a) place (s .«spare_place»);
-  }
-
-  pub tally-most : (n : ℕ) (t : InflightTally) (a : InflightAction) (place : ℕ) → TallyAtMost n t → TallyAtMost (n + 1) (tallyOn t a place)
+  pub tally-most : (n : ℕ) (t : InflightTally) (a : InflightAction) (place : ℕ) → TallyAtMost n t → TallyAtMost (n + 1) ((tallyOn q) t a place)
   unfolding tallyTurn
   tally-most n t a place h = record {
     all = omega (arith, cond-le (retained (q .replacing) (q .«circuit_id») a));
@@ -215,25 +145,21 @@ module _ (q : ActionQuestion) where
     peer = omega (arith, cond-le (also (retained (q .replacing) (q .«circuit_id»)) (actionToward (q .peer)) a));
   }
 
-  -- as the code counts: nothing of an unused action, nothing of one that is replaced
-  abbrev pub replaced : InflightAction → Bool
-  replaced a = q .replacing && eqb (a .«circuit_id») (q .«circuit_id»)
-
-  pub tally-counts : (t : InflightTally) (a : InflightAction) (place : ℕ) → a .used ≡ true → replaced a ≡ false
+  pub tally-counts : (t : InflightTally) (a : InflightAction) (place : ℕ) → a .used ≡ true → (replaced q) a ≡ false
       → record {
         total = t .total + 1;
         «for_circuit» = t .«for_circuit» + cond (eqb (a .«circuit_id») (q .«circuit_id»)) 1 0;
         «for_peer» = t .«for_peer» + cond (samePeer (a .destination) (q .peer)) 1 0;
       }
-      ≡ tallyOn t a place
+      ≡ (tallyOn q) t a place
   unfolding tallyTurn actionUnder actionToward
   tally-counts t a place u e = rw (u, e)
 
-  pub tally-replaces : (t : InflightTally) (a : InflightAction) (place : ℕ) → replaced a ≡ true → t ≡ tallyOn t a place
+  pub tally-replaces : (t : InflightTally) (a : InflightAction) (place : ℕ) → (replaced q) a ≡ true → t ≡ (tallyOn q) t a place
   unfolding tallyTurn
   tally-replaces t a place e = rw (e, and-false (a .used)) (adds-none t)
 
-  tally-passes : (t : InflightTally) (a : InflightAction) (place : ℕ) → a .used ≡ false → t ≡ tallyOn t a place
+  tally-passes : (t : InflightTally) (a : InflightAction) (place : ℕ) → a .used ≡ false → t ≡ (tallyOn q) t a place
   unfolding tallyTurn
   tally-passes t a place u = rw u (adds-none t)
 
@@ -243,8 +169,8 @@ module _ (q : ActionQuestion) where
   not-here false place kept = refl
 
   pub scan-used : (s : ActionScan) (a : InflightAction) (place : ℕ) → a .used ≡ true → (tally : InflightTally) (is found : Bool) (at : ℕ)
-      → tally ≡ tallyOn (s .tally) a place → is ≡ numbered a → found ≡ (s .found || is) → at ≡ firstPlace (s .found) is place (s .place)
-      → record { tally = tally; found = found; place = at; spare = s .spare; «spare_place» = s .«spare_place» } ≡ scanned s a place
+      → tally ≡ (tallyOn q) (s .tally) a place → is ≡ (numbered q) a → found ≡ (s .found || is) → at ≡ firstPlace (s .found) is place (s .place)
+      → record { tally = tally; found = found; place = at; spare = s .spare; «spare_place» = s .«spare_place» } ≡ (scanned q) s a place
   unfolding isAction
   scan-used s a place u tally is found at et ei ef ep = λ j. record {
     tally = et j;
@@ -255,10 +181,10 @@ module _ (q : ActionQuestion) where
   }
 
   pub scan-unused : (s : ActionScan) (a : InflightAction) (place : ℕ) → a .used ≡ false → (at : ℕ) → at ≡ firstPlace (s .spare) true place (s .«spare_place»)
-      → record { tally = s .tally; found = s .found; place = s .place; spare = true; «spare_place» = at } ≡ scanned s a place
+      → record { tally = s .tally; found = s .found; place = s .place; spare = true; «spare_place» = at } ≡ (scanned q) s a place
   unfolding isAction actionAt
   scan-unused s a place u at ep =
-      let n : false ≡ numbered a = rw u in
+      let n : false ≡ (numbered q) a = rw u in
       λ j. record {
         tally = tally-passes (s .tally) a place u j;
         found = (sym (or-false (s .found)) ∙ ap (λ (b : Bool). s .found || b) n) j;
@@ -267,52 +193,27 @@ module _ (q : ActionQuestion) where
         «spare_place» = (ep ∙ ap (λ (b : Bool). firstPlace (s .spare) (not b) place (s .«spare_place»)) (sym u)) j;
       }
 
-  pub scan-fold : (t : List InflightAction) → foldFrom scanned t 0 (noScan (length t)) ≡ actionsScanned q t
+  pub scan-fold : (t : List InflightAction) → foldFrom (scanned q) t 0 (noScan (length t)) ≡ actionsScanned q t
   unfolding actionsScanned
   scan-fold t =
       let b = noScan (length t) in
-      let found = fold-any scanned (λ s. s .found) numbered (λ s x i. refl) t 0 b in
-      let spare = fold-any scanned (λ s. s .spare) (non isAction) (λ s x i. refl) t 0 b in
-      let place = fold-place scanned (λ s. s .found) (λ s. s .place) numbered (λ s x i. refl) (λ s x i. refl) t 0 b ∙ place-of numbered t in
-      let empty = fold-place scanned (λ s. s .spare) (λ s. s .«spare_place») (non isAction) (λ s x i. refl) (λ s x i. refl) t 0 b ∙ place-of (non isAction) t in
-      let tally = fold-part scanned (λ s. s .tally) tallyOn (λ s x i. refl) t 0 b ∙ tally-fold (q .replacing) (q .«circuit_id») (q .peer) t in
+      let found = fold-any (scanned q) (λ s. s .found) (numbered q) (λ s x i. refl) t 0 b in
+      let spare = fold-any (scanned q) (λ s. s .spare) (non isAction) (λ s x i. refl) t 0 b in
+      let place = fold-place (scanned q) (λ s. s .found) (λ s. s .place) (numbered q) (λ s x i. refl) (λ s x i. refl) t 0 b ∙ place-of (numbered q) t in
+      let empty = fold-place (scanned q) (λ s. s .spare) (λ s. s .«spare_place») (non isAction) (λ s x i. refl) (λ s x i. refl) t 0 b ∙ place-of (non isAction) t in
+      let tally = fold-part (scanned q) (λ s. s .tally) (tallyOn q) (λ s x i. refl) t 0 b ∙ tally-fold (q .replacing) (q .«circuit_id») (q .peer) t in
       λ j. record { tally = tally j; found = found j; place = place j; spare = spare j; «spare_place» = empty j }
 
 -- ---- what OPEN asks of the ledger
-abbrev pub ledgerAsked : ReservationId → List ReservationUsage → LedgerRoom
-ledgerAsked id l = record {
-  found = any (usageAt id) l;
-  place = placeOf (usageAt id) l;
-  usage = pick (usageAt id) noUsage l;
-  used = count isUsage l;
-  spare = any (non isUsage) l;
-  «spare_place» = placeOf (non isUsage) l;
-  places = length l;
-}
-
-abbrev pub noRoom : (places : ℕ) → LedgerRoom
-noRoom places = record { found = false; place = places; usage = noUsage; used = 0; spare = false; «spare_place» = places; places = places }
-
 module _ (id : ReservationId) where
-  abbrev pub roomOn : LedgerRoom → ReservationUsage → (place : ℕ) → LedgerRoom
-  roomOn r u place = record {
-    found = r .found || usageAt id u;
-    place = firstPlace (r .found) (usageAt id u) place (r .place);
-    usage = cond (r .found) (r .usage) (cond (usageAt id u) u (r .usage));
-    used = r .used + one isUsage u;
-    spare = r .spare || non isUsage u;
-    «spare_place» = firstPlace (r .spare) (non isUsage u) place (r .«spare_place»);
-    places = r .places;
-  }
-
-  pub room-fold : (t : List ReservationUsage) → foldFrom roomOn t 0 (noRoom (length t)) ≡ ledgerAsked id t
+  pub room-fold : (t : List ReservationUsage) → foldFrom (roomOn id) t 0 (noRoom (length t)) ≡ ledgerAsked id t
   room-fold t =
       let b = noRoom (length t) in
-      let found = fold-any roomOn (λ r. r .found) (usageAt id) (λ r x i. refl) t 0 b in
-      let spare = fold-any roomOn (λ r. r .spare) (non isUsage) (λ r x i. refl) t 0 b in
-      let place = fold-place roomOn (λ r. r .found) (λ r. r .place) (usageAt id) (λ r x i. refl) (λ r x i. refl) t 0 b ∙ place-of (usageAt id) t in
-      let empty = fold-place roomOn (λ r. r .spare) (λ r. r .«spare_place») (non isUsage) (λ r x i. refl) (λ r x i. refl) t 0 b ∙ place-of (non isUsage) t in
-      let usage = fold-pick roomOn (λ r. r .found) (λ r. r .usage) (usageAt id) (λ r x i. refl) (λ r x i. refl) t 0 b in
-      let used = fold-count roomOn (λ r. r .used) isUsage (λ r x i. refl) t 0 b ∙ zero-add (count isUsage t) in
-      let places = fold-kept roomOn (λ r. r .places) (λ r x i. refl) t 0 b in
+      let found = fold-any (roomOn id) (λ r. r .found) (usageAt id) (λ r x i. refl) t 0 b in
+      let spare = fold-any (roomOn id) (λ r. r .spare) (non isUsage) (λ r x i. refl) t 0 b in
+      let place = fold-place (roomOn id) (λ r. r .found) (λ r. r .place) (usageAt id) (λ r x i. refl) (λ r x i. refl) t 0 b ∙ place-of (usageAt id) t in
+      let empty = fold-place (roomOn id) (λ r. r .spare) (λ r. r .«spare_place») (non isUsage) (λ r x i. refl) (λ r x i. refl) t 0 b ∙ place-of (non isUsage) t in
+      let usage = fold-pick (roomOn id) (λ r. r .found) (λ r. r .usage) (usageAt id) (λ r x i. refl) (λ r x i. refl) t 0 b in
+      let used = fold-count (roomOn id) (λ r. r .used) isUsage (λ r x i. refl) t 0 b ∙ zero-add (count isUsage t) in
+      let places = fold-kept (roomOn id) (λ r. r .places) (λ r x i. refl) t 0 b in
       λ j. record { found = found j; place = place j; usage = usage j; used = used j; spare = spare j; «spare_place» = empty j; places = places j }

@@ -3,11 +3,11 @@
 ghost use mathlib.Core.Path.{_≡_};
 ghost use mathlib.Core.Bool.{cond};
 ghost use lib.ListN.{getD, set};
-ghost use Rattle.hnsr_circuit.specs.Held.{held, heldLedger};
+ghost use Rattle.hnsr_circuit.specs.Code.Held.{held, heldLedger};
 ghost use Rattle.hnsr_circuit.specs.Table.{clear, placeOf};
 ghost use Rattle.hnsr_circuit.specs.Ledger.{noUsage, clearUsage};
-ghost use Rattle.hnsr_circuit.specs.Question.{usageHas};
-ghost use Rattle.hnsr_circuit.specs.Laws.Turns.{ledgerAsked};
+ghost use Rattle.hnsr_circuit.specs.Code.Question.{usageHas};
+ghost use Rattle.hnsr_circuit.specs.Code.Turns.{ledgerAsked};
 use crate::ledger::is_usage;
 use crate::ledger::no_usage;
 use crate::ledger::usage_unmarked;

@@ -16,9 +16,9 @@ use Rattle.hnsr_circuit.specs.Peer.{peerOf}
 use Rattle.hnsr_circuit.specs.Inflight.{kindNumber, actionAt}
 use Rattle.hnsr_circuit.specs.World.{refuse}
 use Rattle.hnsr_circuit.specs.Entry.{acknowledgeWords}
-use Rattle.hnsr_circuit.specs.Cases.{lent, notAdmitted}
+use Rattle.hnsr_circuit.specs.Worked.Cases.{lent, notAdmitted}
 use Rattle.hnsr_circuit.specs.Call.{step, callAcknowledge}
-use Rattle.hnsr_circuit.specs.All.{machine}
+use Rattle.hnsr_circuit.specs.Worked.All.{machine}
 use Rattle.hnsr_run.specs.Past.{Action}
 use Rattle.hnsr_run.specs.Orders.{swapped, any-order}
 use Rattle.hnsr_run.specs.Claim.{Machine, Claim}

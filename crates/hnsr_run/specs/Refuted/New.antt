@@ -9,9 +9,9 @@ use Rattle.hnsr_circuit.specs.declared.records.InflightAction.{InflightAction}
 use Rattle.hnsr_circuit.specs.Peer.{noPeer}
 use Rattle.hnsr_circuit.specs.Inflight.{noAction}
 use Rattle.hnsr_circuit.specs.World.{World, Outcome, withHeader, withInflight}
-use Rattle.hnsr_circuit.specs.Cases.{lent}
+use Rattle.hnsr_circuit.specs.Worked.Cases.{lent}
 use Rattle.hnsr_circuit.specs.Call.{Start, start, step}
-use Rattle.hnsr_circuit.specs.All.{machine}
+use Rattle.hnsr_circuit.specs.Worked.All.{machine}
 use Rattle.hnsr_run.specs.Claim.{Machine, Run, worldAt, pastAt, Claim}
 use Rattle.hnsr_run.specs.Talk.{tables, fresh}
 use Rattle.hnsr_run.specs.Refuted.Machines.{status-tells}

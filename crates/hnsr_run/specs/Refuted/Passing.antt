@@ -24,9 +24,9 @@ use Rattle.hnsr_circuit.specs.Opcode.{opOpen, opData}
 use Rattle.hnsr_circuit.specs.Entry.{handleWords, acknowledgeWords}
 use Rattle.hnsr_circuit.specs.Packet.{Packet, sender, hasCircuit, namedCircuit, receiver}
 use Rattle.hnsr_circuit.specs.Data.{withData, dataMessage, dataTaken, bytesAnswer, flowAnswer}
-use Rattle.hnsr_circuit.specs.Cases.{lent, notAdmitted}
+use Rattle.hnsr_circuit.specs.Worked.Cases.{lent, notAdmitted}
 use Rattle.hnsr_circuit.specs.Call.{Call, step, callHandle}
-use Rattle.hnsr_circuit.specs.All.{machine}
+use Rattle.hnsr_circuit.specs.Worked.All.{machine}
 use Rattle.hnsr_run.specs.Claim.{Machine, pastAt, Claim}
 use Rattle.hnsr_run.specs.Talk.{granting, grant, opens, accepts, packet, sends, acked}
 use Rattle.hnsr_run.specs.Refuted.Machines.{handling, entering, talk, run-of, can-send}

@@ -22,9 +22,9 @@ use Rattle.hnsr_circuit.specs.Opcode.{opData}
 use Rattle.hnsr_circuit.specs.Packet.{Packet, sender, namedCircuit, receiver}
 use Rattle.hnsr_circuit.specs.Data.{dataMessage, dataTaken}
 use Rattle.hnsr_circuit.specs.Acknowledge.{acknowledgeTaken, withoutAction, settled}
-use Rattle.hnsr_circuit.specs.Cases.{lent, notAdmitted}
+use Rattle.hnsr_circuit.specs.Worked.Cases.{lent, notAdmitted}
 use Rattle.hnsr_circuit.specs.Call.{step, callHandle}
-use Rattle.hnsr_circuit.specs.All.{machine}
+use Rattle.hnsr_circuit.specs.Worked.All.{machine}
 use Rattle.hnsr_run.specs.Claim.{Machine, Claim}
 use Rattle.hnsr_run.specs.Talk.{sends, acked}
 use Rattle.hnsr_run.specs.Refuted.Machines.{handling, acknowledging, entering, talk, run-of}

@@ -18,9 +18,9 @@ use Rattle.hnsr_circuit.specs.World.{World, Outcome, statusIs, telling, withCir
 use Rattle.hnsr_circuit.specs.Route.{Route}
 use Rattle.hnsr_circuit.specs.Opcode.{opOpen, opIncoming}
 use Rattle.hnsr_circuit.specs.Status.{statusOf}
-use Rattle.hnsr_circuit.specs.Cases.{lent, notAdmitted}
+use Rattle.hnsr_circuit.specs.Worked.Cases.{lent, notAdmitted}
 use Rattle.hnsr_circuit.specs.Call.{step, callHandle, callDisconnect}
-use Rattle.hnsr_circuit.specs.All.{machine}
+use Rattle.hnsr_circuit.specs.Worked.All.{machine}
 use Rattle.hnsr_run.specs.Claim.{Machine, worldAt, pastAt, Claim}
 use Rattle.hnsr_run.specs.Talk.{tight, grant, opens, widens, closes, leaves}
 use Rattle.hnsr_run.specs.Refuted.Machines.{handling, disconnecting, telling-status, opened, talk, run-from, run-of, status-tells}

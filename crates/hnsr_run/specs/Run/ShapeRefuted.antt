@@ -21,9 +21,9 @@ use Rattle.hnsr_circuit.specs.Queue.{send}
 use Rattle.hnsr_circuit.specs.Opcode.{opOpen, opWindow}
 use Rattle.hnsr_circuit.specs.Packet.{Packet, sender, namedCircuit, forwarded}
 use Rattle.hnsr_circuit.specs.Window.{withWindow}
-use Rattle.hnsr_circuit.specs.Cases.{lent, notAdmitted}
+use Rattle.hnsr_circuit.specs.Worked.Cases.{lent, notAdmitted}
 use Rattle.hnsr_circuit.specs.Call.{Call, callHandle, step}
-use Rattle.hnsr_circuit.specs.All.{machine}
+use Rattle.hnsr_circuit.specs.Worked.All.{machine}
 use Rattle.hnsr_run.specs.Claim.{Machine, leftBy}
 use Rattle.hnsr_run.specs.Talk.{tables, fresh, grant, opens, widens}
 use Rattle.hnsr_run.specs.Refuted.Machines.{handling, opened}

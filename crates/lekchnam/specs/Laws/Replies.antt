@@ -9,9 +9,9 @@ use Rattle.hnsr_circuit.specs.declared.records.InflightAction.{InflightAction}
 use Rattle.hnsr_circuit.specs.declared.runtime.Relayed.{Relayed}
 use Rattle.hnsr_circuit.specs.Answers.{number, causeOf}
 use Rattle.hnsr_circuit.specs.World.{Outcome}
-use Rattle.hnsr_circuit.specs.Held.{heldPending, heldCircuits, heldLedger, heldActions, worldSeen, handedSeen}
-use Rattle.hnsr_circuit.specs.Progress.{Result}
-use Rattle.hnsr_circuit.specs.Told.{Made}
+use Rattle.hnsr_circuit.specs.Code.Held.{heldPending, heldCircuits, heldLedger, heldActions, worldSeen, handedSeen}
+use Rattle.hnsr_circuit.specs.Code.Progress.{Result}
+use Rattle.hnsr_circuit.specs.Code.Told.{Made}
 use Rattle.lekchnam.specs.declared.relay.RelayReply.{RelayReply}
 use Rattle.lekchnam.specs.Replies.{replyOf, replied, numbered, MadeReply}
 

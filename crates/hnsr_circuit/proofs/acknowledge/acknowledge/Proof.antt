@@ -12,15 +12,15 @@ use Rattle.hnsr_circuit.specs.Answers.{check, _then_}
 use Rattle.hnsr_circuit.specs.World.{Outcome, worldOf}
 use Rattle.hnsr_circuit.specs.Table.{pick}
 use Rattle.hnsr_circuit.specs.Inflight.{noAction, actionAt}
-use Rattle.hnsr_circuit.specs.Question.{actionAsked}
+use Rattle.hnsr_circuit.specs.Code.Question.{actionAsked}
 use Rattle.hnsr_circuit.specs.Entry.{acknowledgeWords, roomAnswer, tablesShort}
-use Rattle.hnsr_circuit.specs.Progress.{ending}
+use Rattle.hnsr_circuit.specs.Code.Progress.{ending}
 use Rattle.hnsr_circuit.specs.Acknowledge.{generationAnswer, actionAnswer, acknowledgeTaken, acknowledgeAction, acknowledge}
 use Rattle.hnsr_circuit.specs.Call.{step, callAcknowledge}
 use Rattle.hnsr_circuit.specs.Laws.Calls.{turned-away, gone-on, whole}
 use borrow.Author.Needs.{needs}
 use native.Mathlib.Omega.{arith}
-use Rattle.hnsr_circuit.specs.Held.{heldPending, heldCircuits, heldLedger, heldActions}
+use Rattle.hnsr_circuit.specs.Code.Held.{heldPending, heldCircuits, heldLedger, heldActions}
 use Rattle.hnsr_circuit.specs.Laws.HeldTables.{places-kept, few-held}
 use Rattle.hnsr_circuit.proofs.acknowledge.acknowledge.Statement.{statement}
 use Rattle.hnsr_circuit.proofs.acknowledge.acknowledge.Proof.Tie as tie

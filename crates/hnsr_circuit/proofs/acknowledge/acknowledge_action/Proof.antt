@@ -8,11 +8,11 @@ use Rattle.hnsr_circuit.specs.declared.records.ActionFound.{ActionFound}
 use Rattle.hnsr_circuit.specs.World.{Outcome}
 use Rattle.hnsr_circuit.specs.Table.{edit}
 use Rattle.hnsr_circuit.specs.Circuits.{circuitAt, lowered}
-use Rattle.hnsr_circuit.specs.Question.{actionAsked}
-use Rattle.hnsr_circuit.specs.Progress.{ending}
+use Rattle.hnsr_circuit.specs.Code.Question.{actionAsked}
+use Rattle.hnsr_circuit.specs.Code.Progress.{ending}
 use Rattle.hnsr_circuit.specs.Laws.Acknowledging.{action-settled}
 use borrow.Author.Needs.{needs}
-use Rattle.hnsr_circuit.specs.Held.{heldPending, heldCircuits, heldLedger, heldActions}
+use Rattle.hnsr_circuit.specs.Code.Held.{heldPending, heldCircuits, heldLedger, heldActions}
 use Rattle.hnsr_circuit.specs.Laws.Held.{stored-seen}
 use Rattle.hnsr_circuit.proofs.acknowledge.acknowledge_action.Statement.{statement}
 use Rattle.hnsr_circuit.proofs.acknowledge.acknowledge_action.Proof.Tie as tie

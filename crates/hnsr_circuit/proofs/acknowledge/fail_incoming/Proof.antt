@@ -5,13 +5,13 @@ use lib.ListN.{set}
 use Rattle.hnsr_circuit.specs.declared.records.PendingFound.{PendingFound}
 use Rattle.hnsr_circuit.specs.World.{Outcome}
 use Rattle.hnsr_circuit.specs.Pending.{clearPending}
-use Rattle.hnsr_circuit.specs.Question.{pendingAsked}
-use Rattle.hnsr_circuit.specs.Progress.{ending}
-use Rattle.hnsr_circuit.specs.Revoking.{errorOut}
+use Rattle.hnsr_circuit.specs.Code.Question.{pendingAsked}
+use Rattle.hnsr_circuit.specs.Code.Progress.{ending}
+use Rattle.hnsr_circuit.specs.Code.Revoking.{errorOut}
 use Rattle.hnsr_circuit.specs.Laws.Acknowledging.{incoming-failed, none-failed}
 use borrow.Author.Needs.{needs}
 use mathlib.Core.Bool.{true}
-use Rattle.hnsr_circuit.specs.Held.{heldPending, heldCircuits, heldLedger, heldActions}
+use Rattle.hnsr_circuit.specs.Code.Held.{heldPending, heldCircuits, heldLedger, heldActions}
 use Rattle.hnsr_circuit.specs.Laws.HeldTables.{places-kept}
 use Rattle.hnsr_circuit.specs.Laws.Held.{stored-seen}
 use Rattle.hnsr_circuit.proofs.acknowledge.fail_incoming.Statement.{statement}

@@ -7,10 +7,10 @@ use mathlib.Core.List.{List}
 use lib.ListN.{set, getD}
 use Rattle.hnsr_circuit.specs.declared.records.RelayCircuit.{RelayCircuit}
 use Rattle.hnsr_circuit.specs.Circuits.{noCircuit, circuitAt, lowered, clearCircuit}
-use Rattle.hnsr_circuit.specs.Question.{at}
+use Rattle.hnsr_circuit.specs.Code.Question.{at}
 use Rattle.hnsr_circuit.specs.Laws.Edits.{edit-set}
 use borrow.Author.Needs.{needs}
-use Rattle.hnsr_circuit.specs.Held.{heldCircuits}
+use Rattle.hnsr_circuit.specs.Code.Held.{heldCircuits}
 use Rattle.hnsr_circuit.specs.Laws.Held.{stored-held, place-below}
 use Rattle.hnsr_circuit.proofs.acknowledge.lower_circuit.Statement.{statement}
 use Rattle.hnsr_circuit.proofs.acknowledge.lower_circuit.Proof.Tie as tie

@@ -6,12 +6,13 @@ use mathlib.Core.List.{List}
 use native.Mathlib.Omega.{arith}
 use lib.Seq.{length-take-le}
 use Rattle.hnsr_circuit.specs.declared.records.ActionQuestion.{ActionQuestion}
-use Rattle.hnsr_circuit.specs.Queue.{send, actionsScanned}
+use Rattle.hnsr_circuit.specs.Queue.{send}
+use Rattle.hnsr_circuit.specs.Code.Turns.{actionsScanned}
 use Rattle.hnsr_circuit.specs.World.{proceed, worldOf}
-use Rattle.hnsr_circuit.specs.Progress.{messageOf, ending}
+use Rattle.hnsr_circuit.specs.Code.Progress.{messageOf, ending}
 use Rattle.hnsr_circuit.specs.Laws.Route.{notice-length, notice-bytes}
 use borrow.Author.Needs.{needs}
-use Rattle.hnsr_circuit.specs.Held.{heldPending, heldCircuits, heldLedger, heldActions}
+use Rattle.hnsr_circuit.specs.Code.Held.{heldPending, heldCircuits, heldLedger, heldActions}
 use Rattle.hnsr_circuit.proofs.acknowledge.send_notice.Statement.{statement}
 use Rattle.hnsr_circuit.proofs.acknowledge.send_notice.Proof.Tie as tie
 

@@ -5,12 +5,12 @@ use mathlib.Core.Path.{sym, ap, _∙_}
 use Rattle.hnsr_body.specs.declared.messages.Notice.the-variants.{OuterWriteFailed}
 use Rattle.hnsr_circuit.specs.World.{Outcome, worldOf}
 use Rattle.hnsr_circuit.specs.Queue.{finished}
-use Rattle.hnsr_circuit.specs.Progress.{ending}
+use Rattle.hnsr_circuit.specs.Code.Progress.{ending}
 use Rattle.hnsr_circuit.specs.Revocation.{revokeCircuit}
 use Rattle.hnsr_circuit.specs.Acknowledge.{failIncoming}
 use Rattle.hnsr_circuit.specs.Laws.Acknowledging.{taken-is-done, settled-failed, settled-revoked, settled-done}
 use borrow.Author.Needs.{needs}
-use Rattle.hnsr_circuit.specs.Held.{heldPending, heldCircuits, heldLedger, heldActions}
+use Rattle.hnsr_circuit.specs.Code.Held.{heldPending, heldCircuits, heldLedger, heldActions}
 use Rattle.hnsr_circuit.specs.Laws.HeldTables.{places-kept}
 use Rattle.hnsr_circuit.proofs.acknowledge.settle.Statement.{statement}
 use Rattle.hnsr_circuit.proofs.acknowledge.settle.Proof.Tie as tie

@@ -2,7 +2,7 @@
 use mathlib.Core.Path.{refl, ap, _∙_}
 use mathlib.Core.Bool.{_&&_}
 use Rattle.hnsr_circuit.specs.declared.acknowledge.Settlement.{Settlement}
-use Rattle.hnsr_circuit.specs.Settling.{settlementFor}
+use Rattle.hnsr_circuit.specs.Code.Settling.{settlementFor}
 use borrow.Author.Needs.{needs}
 use Rattle.hnsr_circuit.proofs.acknowledge.settle_plan.Statement.{statement}
 use Rattle.hnsr_circuit.proofs.acknowledge.settle_plan.Tie as tie

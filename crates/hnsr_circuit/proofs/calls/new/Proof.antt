@@ -20,7 +20,7 @@ use Prim.Native.Nat.{_<_}
 use Rattle.hnsr_circuit.specs.Pending.{isPending, clearPending}
 use Rattle.hnsr_circuit.specs.Circuits.{isCircuit, clearCircuit}
 use Rattle.hnsr_circuit.specs.Ledger.{isUsage, clearUsage}
-use Rattle.hnsr_circuit.specs.Held.{heldPending, heldCircuits, heldLedger, heldActions}
+use Rattle.hnsr_circuit.specs.Code.Held.{heldPending, heldCircuits, heldLedger, heldActions}
 use Rattle.hnsr_circuit.specs.Laws.HeldTables.{pending-still, circuit-still, usage-still, action-still}
 use Rattle.hnsr_circuit.specs.declared.places.Places.{Places}
 use Rattle.hnsr_circuit.specs.Header.{newHeader}

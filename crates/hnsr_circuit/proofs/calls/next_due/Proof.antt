@@ -12,7 +12,7 @@ use Rattle.hnsr_circuit.specs.NextDue.{circuitDue, dueOf, nextDue}
 use Rattle.hnsr_circuit.specs.Call.{step}
 use Rattle.hnsr_circuit.specs.Laws.QuietCalls.{tells-due}
 use borrow.Author.Needs.{needs}
-use Rattle.hnsr_circuit.specs.Held.{heldPending, heldCircuits, heldLedger, heldActions}
+use Rattle.hnsr_circuit.specs.Code.Held.{heldPending, heldCircuits, heldLedger, heldActions}
 use Rattle.hnsr_circuit.specs.Laws.HeldTables.{few-held}
 use Rattle.hnsr_circuit.proofs.calls.next_due.Statement.{statement}
 use Rattle.hnsr_circuit.proofs.calls.next_due.Proof.Tie as tie

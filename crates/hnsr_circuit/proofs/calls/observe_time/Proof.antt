@@ -1,6 +1,6 @@
 -- The clock moves where the row passes.
 use mathlib.Core.Path.{_≡_, refl, sym, ap, _∙_}
-use Rattle.hnsr_circuit.specs.Held.{heldPending, heldCircuits, heldLedger, heldActions}
+use Rattle.hnsr_circuit.specs.Code.Held.{heldPending, heldCircuits, heldLedger, heldActions}
 use Rattle.hnsr_circuit.specs.Laws.HeldTables.{places-kept}
 use Rattle.hnsr_circuit.specs.New.{observeTime}
 use Rattle.hnsr_circuit.specs.Call.{step}

@@ -8,14 +8,14 @@ use Rattle.hnsr_circuit.specs.declared.answer.HnsrRuntimeError.the-varia
 use Rattle.hnsr_circuit.specs.Answers.{check}
 use Rattle.hnsr_circuit.specs.Entry.{tablesAnswer, tablesShort}
 use Rattle.hnsr_circuit.specs.World.{worldOf}
-use Rattle.hnsr_circuit.specs.Question.{pendingHas, pendingAsked, actionHas, actionAsked}
+use Rattle.hnsr_circuit.specs.Code.Question.{pendingHas, pendingAsked, actionHas, actionAsked}
 use Rattle.hnsr_circuit.specs.Counts.{pendingCount}
 use Rattle.hnsr_circuit.specs.Status.{statusFrom, statusOf, status}
 use Rattle.hnsr_circuit.specs.Call.{step}
-use Rattle.hnsr_circuit.specs.Told.{noStatus}
+use Rattle.hnsr_circuit.specs.Code.Told.{noStatus}
 use Rattle.hnsr_circuit.specs.Laws.QuietCalls.{tells-status}
 use borrow.Author.Needs.{needs}
-use Rattle.hnsr_circuit.specs.Held.{heldPending, heldCircuits, heldLedger, heldActions, asksUnused}
+use Rattle.hnsr_circuit.specs.Code.Held.{heldPending, heldCircuits, heldLedger, heldActions, asksUnused}
 use Rattle.hnsr_circuit.specs.Laws.HeldTables.{few-held}
 use Rattle.hnsr_circuit.proofs.calls.status.Statement.{statement}
 use Rattle.hnsr_circuit.proofs.calls.status.Proof.Tie as tie

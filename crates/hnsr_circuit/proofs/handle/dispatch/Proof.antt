@@ -5,10 +5,10 @@ use mathlib.Core.Path.{sym, ap, _∙_}
 use mathlib.Core.Logic.{inl, inr, ⊎-elim}
 use Rattle.hnsr_circuit.specs.World.{Outcome, worldOf}
 use Rattle.hnsr_circuit.specs.Handle.{handlingOf, dispatch}
-use Rattle.hnsr_circuit.specs.Progress.{packetOf, ending}
+use Rattle.hnsr_circuit.specs.Code.Progress.{packetOf, ending}
 use Rattle.hnsr_circuit.specs.Laws.HandleCall.{closes, at-nineteen, other-below, other-above, other-incoming, other-opened, left-alone}
 use borrow.Author.Needs.{needs}
-use Rattle.hnsr_circuit.specs.Held.{heldPending, heldCircuits, heldLedger, heldActions}
+use Rattle.hnsr_circuit.specs.Code.Held.{heldPending, heldCircuits, heldLedger, heldActions}
 use Rattle.hnsr_circuit.specs.Laws.HeldTables.{places-kept}
 use Rattle.hnsr_circuit.proofs.handle.dispatch.Statement.{statement}
 use Rattle.hnsr_circuit.proofs.handle.dispatch.Proof.Tie as tie

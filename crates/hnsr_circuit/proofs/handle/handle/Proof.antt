@@ -5,13 +5,13 @@ use mathlib.Core.Path.{sym, ap, _∙_}
 use lib.ListN.{length}
 use Rattle.hnsr_circuit.specs.World.{Outcome, atTime, worldOf}
 use Rattle.hnsr_circuit.specs.Handle.{handleGate, handle}
-use Rattle.hnsr_circuit.specs.Progress.{packetOf, ending}
+use Rattle.hnsr_circuit.specs.Code.Progress.{packetOf, ending}
 use Rattle.hnsr_circuit.specs.Call.{step, callHandle}
 use Rattle.hnsr_circuit.specs.Laws.Calls.{turned-away, whole}
 use Rattle.hnsr_circuit.specs.Laws.HandleCall.{rows, body-short, entered}
 use borrow.Author.Needs.{needs}
 use native.Mathlib.Omega.{arith}
-use Rattle.hnsr_circuit.specs.Held.{heldPending, heldCircuits, heldLedger, heldActions}
+use Rattle.hnsr_circuit.specs.Code.Held.{heldPending, heldCircuits, heldLedger, heldActions}
 use Rattle.hnsr_circuit.specs.Laws.HeldTables.{places-kept, few-held}
 use Rattle.hnsr_circuit.proofs.handle.handle.Statement.{statement}
 use Rattle.hnsr_circuit.proofs.handle.handle.Proof.Tie as tie

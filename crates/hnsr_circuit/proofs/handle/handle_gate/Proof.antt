@@ -3,10 +3,10 @@ mod Tie
 use mathlib.Core.Path.{sym, ap, _∙_}
 use Rattle.hnsr_circuit.specs.World.{Outcome, worldOf}
 use Rattle.hnsr_circuit.specs.Handle.{handlingOf, dispatch, gateAnswer, handleGate}
-use Rattle.hnsr_circuit.specs.Progress.{packetOf, ending}
+use Rattle.hnsr_circuit.specs.Code.Progress.{packetOf, ending}
 use Rattle.hnsr_circuit.specs.Laws.Calls.{turned-away, gone-on}
 use borrow.Author.Needs.{needs}
-use Rattle.hnsr_circuit.specs.Held.{heldPending, heldCircuits, heldLedger, heldActions}
+use Rattle.hnsr_circuit.specs.Code.Held.{heldPending, heldCircuits, heldLedger, heldActions}
 use Rattle.hnsr_circuit.specs.Laws.HeldTables.{places-kept}
 use Rattle.hnsr_circuit.proofs.handle.handle_gate.Statement.{statement}
 use Rattle.hnsr_circuit.proofs.handle.handle_gate.Proof.Tie as tie

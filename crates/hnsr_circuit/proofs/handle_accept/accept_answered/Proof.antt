@@ -3,11 +3,11 @@ mod Tie
 use mathlib.Core.Path.{ap, _∙_}
 use Rattle.hnsr_circuit.specs.declared.records.WorkQuestion.{WorkQuestion}
 use Rattle.hnsr_circuit.specs.declared.records.ActionQuestion.{ActionQuestion}
-use Rattle.hnsr_circuit.specs.Question.{pendingWork, circuitWork}
-use Rattle.hnsr_circuit.specs.Queue.{actionsScanned}
-use Rattle.hnsr_circuit.specs.Laws.Opening.{acceptRows}
+use Rattle.hnsr_circuit.specs.Code.Question.{pendingWork, circuitWork}
+use Rattle.hnsr_circuit.specs.Code.Turns.{actionsScanned}
+use Rattle.hnsr_circuit.specs.Code.Opening.{acceptRows}
 use borrow.Author.Needs.{needs}
-use Rattle.hnsr_circuit.specs.Held.{heldPending, heldCircuits, heldActions}
+use Rattle.hnsr_circuit.specs.Code.Held.{heldPending, heldCircuits, heldActions}
 use Rattle.hnsr_circuit.proofs.handle_accept.accept_answered.Statement.{statement}
 use Rattle.hnsr_circuit.proofs.handle_accept.accept_answered.Proof.Tie as tie
 

@@ -2,12 +2,13 @@
 mod Tie
 use mathlib.Core.Path.{ap, _∙_, _≡_, sym}
 use Rattle.hnsr_circuit.specs.World.{Outcome, proceed, worldOf}
-use Rattle.hnsr_circuit.specs.Progress.{ending, messageOf, asking}
+use Rattle.hnsr_circuit.specs.Code.Progress.{ending, messageOf, asking}
 use Rattle.hnsr_circuit.specs.Laws.Opening.{accept-ends, accept-refused}
 use borrow.Author.Needs.{needs}
 use native.Mathlib.Omega.{arith}
 use Rattle.hnsr_circuit.specs.declared.accept.AcceptPlan.{AcceptPlan}
-use Rattle.hnsr_circuit.specs.Queue.{send, actionsScanned}
+use Rattle.hnsr_circuit.specs.Queue.{send}
+use Rattle.hnsr_circuit.specs.Code.Turns.{actionsScanned}
 use mathlib.Core.Bool.{true}
 use mathlib.Core.List.{List}
 use Prim.Native.Nat.{ℕ}
@@ -15,7 +16,7 @@ use Rattle.hns_encoding.specs.Laws.Tests.{on-true}
 use Rattle.hnsr_circuit.specs.Pending.{clearPending}
 use Rattle.hnsr_circuit.specs.Circuits.{clearCircuit}
 use Rattle.hnsr_circuit.specs.Inflight.{actionUnder, dropped}
-use Rattle.hnsr_circuit.specs.Held.{held, heldPending, heldCircuits, heldLedger, heldActions, worldSeen}
+use Rattle.hnsr_circuit.specs.Code.Held.{held, heldPending, heldCircuits, heldLedger, heldActions, worldSeen}
 use Rattle.hnsr_circuit.specs.Laws.HeldTables.{places-kept}
 use Rattle.hnsr_circuit.specs.declared.places.Places.{Places}
 use Rattle.hnsr_circuit.proofs.handle_accept.accept_found.Statement.{statement}

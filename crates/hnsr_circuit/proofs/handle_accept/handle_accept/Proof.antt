@@ -6,7 +6,7 @@ use Rattle.hnsr_circuit.specs.Accept.{requestAnswer}
 use Rattle.hnsr_circuit.specs.Laws.Opening.{accept-entered}
 use mathlib.Core.Path.{sym, ap, _∙_}
 use borrow.Author.Needs.{needs}
-use Rattle.hnsr_circuit.specs.Held.{heldPending, heldCircuits, heldLedger, heldActions}
+use Rattle.hnsr_circuit.specs.Code.Held.{heldPending, heldCircuits, heldLedger, heldActions}
 use Rattle.hnsr_circuit.specs.Laws.HeldTables.{places-kept}
 use Rattle.hnsr_circuit.proofs.handle_accept.handle_accept.Statement.{statement}
 use Rattle.hnsr_circuit.proofs.handle_accept.handle_accept.Proof.Tie as tie

@@ -8,10 +8,11 @@ use Rattle.hns_encoding.specs.Sums.{non}
 use Rattle.hnsr_circuit.specs.declared.records.Question.{Question}
 use Rattle.hnsr_circuit.specs.Table.{placeOf}
 use Rattle.hnsr_circuit.specs.Circuits.{isCircuit, circuitAt, clearCircuit}
-use Rattle.hnsr_circuit.specs.Question.{circuitHas, circuitAsked}
-use Rattle.hnsr_circuit.specs.Laws.Opening.{putPlace, put-place}
+use Rattle.hnsr_circuit.specs.Code.Question.{circuitHas, circuitAsked}
+use Rattle.hnsr_circuit.specs.Laws.Opening.{put-place}
+use Rattle.hnsr_circuit.specs.Code.Opening.{putPlace}
 use borrow.Author.Needs.{needs}
-use Rattle.hnsr_circuit.specs.Held.{heldCircuits}
+use Rattle.hnsr_circuit.specs.Code.Held.{heldCircuits}
 use Rattle.hnsr_circuit.specs.Laws.Held.{length-held, put-upto, put-held}
 use Rattle.hnsr_circuit.proofs.handle_accept.put_circuit.Statement.{statement}
 use Rattle.hnsr_circuit.proofs.handle_accept.put_circuit.Proof.Tie as tie

@@ -1,14 +1,14 @@
 -- What the rows refuse is refused; else one record ends, its actions are dropped, and the other side is told.
 mod Tie
 use mathlib.Core.Path.{ap, _∙_, sym}
-use Rattle.hnsr_circuit.specs.Queue.{actionsScanned}
+use Rattle.hnsr_circuit.specs.Code.Turns.{actionsScanned}
 use Rattle.hnsr_circuit.specs.Laws.Handlers.{close-handled, close-refused}
 use borrow.Author.Needs.{needs}
-use Rattle.hnsr_circuit.specs.Plans.{closePlannedOn}
+use Rattle.hnsr_circuit.specs.Code.Plans.{closePlannedOn}
 use Rattle.hnsr_body.specs.declared.detail_body.DetailRead.{DetailRead}
 use Rattle.hns_encoding.specs.Laws.Tests.{on-true}
 use Rattle.hnsr_circuit.specs.Inflight.{actionUnder, dropped}
-use Rattle.hnsr_circuit.specs.Held.{heldPending, heldCircuits, heldLedger, heldActions}
+use Rattle.hnsr_circuit.specs.Code.Held.{heldPending, heldCircuits, heldLedger, heldActions}
 use Rattle.hnsr_circuit.specs.Laws.HeldTables.{places-kept}
 use Rattle.hnsr_circuit.proofs.handle_close.close_read.Statement.{statement}
 use Rattle.hnsr_circuit.proofs.handle_close.close_read.Proof.Tie as tie

@@ -3,7 +3,7 @@ mod Tie
 use Rattle.hnsr_circuit.specs.Laws.Handlers.{detail-refused}
 use mathlib.Core.Path.{sym, _∙_}
 use borrow.Author.Needs.{needs}
-use Rattle.hnsr_circuit.specs.Held.{heldPending, heldCircuits, heldLedger, heldActions}
+use Rattle.hnsr_circuit.specs.Code.Held.{heldPending, heldCircuits, heldLedger, heldActions}
 use Rattle.hnsr_circuit.specs.Laws.HeldTables.{places-kept}
 use Rattle.hnsr_circuit.proofs.handle_close.handle_close.Statement.{statement}
 use Rattle.hnsr_circuit.proofs.handle_close.handle_close.Proof.Tie as tie

@@ -4,11 +4,11 @@ use mathlib.Core.Path.{ap, _∙_}
 use Rattle.hns_encoding.specs.Sums.{count}
 use Rattle.hnsr_circuit.specs.declared.peer.HnsrPeerId.{HnsrPeerId}
 use Rattle.hnsr_circuit.specs.declared.records.Question.{Question}
-use Rattle.hnsr_circuit.specs.Question.{named, pendingHas}
-use Rattle.hnsr_circuit.specs.Lookup.{pendingFound}
-use Rattle.hnsr_circuit.specs.Plans.{closePlan}
+use Rattle.hnsr_circuit.specs.Code.Question.{named, pendingHas}
+use Rattle.hnsr_circuit.specs.Code.Lookup.{pendingFound}
+use Rattle.hnsr_circuit.specs.Code.Plans.{closePlan}
 use borrow.Author.Needs.{needs}
-use Rattle.hnsr_circuit.specs.Held.{heldPending, asksUnused}
+use Rattle.hnsr_circuit.specs.Code.Held.{heldPending, asksUnused}
 use Rattle.hnsr_circuit.proofs.handle_close.plan_close.Statement.{statement}
 use Rattle.hnsr_circuit.proofs.handle_close.plan_close.Proof.Tie as tie
 

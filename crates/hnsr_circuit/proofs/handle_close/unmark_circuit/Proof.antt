@@ -6,7 +6,7 @@ use lib.ListN.{set}
 use Rattle.hnsr_circuit.specs.declared.records.RelayCircuit.{RelayCircuit}
 use Rattle.hnsr_circuit.specs.Circuits.{clearCircuit}
 use borrow.Author.Needs.{needs}
-use Rattle.hnsr_circuit.specs.Held.{heldCircuits}
+use Rattle.hnsr_circuit.specs.Code.Held.{heldCircuits}
 use Rattle.hnsr_circuit.specs.Laws.Held.{stored-seen}
 use Rattle.hnsr_circuit.proofs.handle_close.unmark_circuit.Statement.{statement}
 use Rattle.hnsr_circuit.proofs.handle_close.unmark_circuit.Proof.Tie as tie

@@ -6,7 +6,7 @@ use lib.ListN.{set}
 use Rattle.hnsr_circuit.specs.declared.records.RelayPending.{RelayPending}
 use Rattle.hnsr_circuit.specs.Pending.{clearPending}
 use borrow.Author.Needs.{needs}
-use Rattle.hnsr_circuit.specs.Held.{heldPending}
+use Rattle.hnsr_circuit.specs.Code.Held.{heldPending}
 use Rattle.hnsr_circuit.specs.Laws.Held.{stored-seen}
 use Rattle.hnsr_circuit.proofs.handle_close.unmark_pending.Statement.{statement}
 use Rattle.hnsr_circuit.proofs.handle_close.unmark_pending.Proof.Tie as tie

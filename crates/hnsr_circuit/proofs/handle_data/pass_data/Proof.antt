@@ -2,14 +2,14 @@
 mod Tie
 use Rattle.hnsr_circuit.specs.Laws.Handlers.{data-scanned, data-handled}
 use borrow.Author.Needs.{needs}
-use Rattle.hnsr_circuit.specs.Question.{at, circuitHas}
+use Rattle.hnsr_circuit.specs.Code.Question.{at, circuitHas}
 use Rattle.hnsr_circuit.specs.Circuits.{charged, noCircuit, clearCircuit}
 use Rattle.hnsr_circuit.specs.declared.«data».DataPlan.{DataPlan}
-use Rattle.hnsr_circuit.specs.Plans.{dataPlannedOn}
+use Rattle.hnsr_circuit.specs.Code.Plans.{dataPlannedOn}
 use Rattle.hnsr_circuit.specs.declared.records.CircuitFound.{CircuitFound}
 use mathlib.Core.Path.{ap, _∙_}
 use lib.ListN.{length}
-use Rattle.hnsr_circuit.specs.Held.{heldPending, heldCircuits, heldLedger, heldActions}
+use Rattle.hnsr_circuit.specs.Code.Held.{heldPending, heldCircuits, heldLedger, heldActions}
 use Rattle.hnsr_circuit.specs.Laws.HeldTables.{circuit-unmarked}
 use Rattle.hnsr_circuit.specs.Laws.Held.{edited-held, place-below}
 use Rattle.hnsr_circuit.proofs.handle_data.pass_data.Statement.{statement}

@@ -4,14 +4,14 @@ use mathlib.Core.Path.{ap, _∙_}
 use Rattle.hnsr_circuit.specs.declared.records.Question.{Question}
 use Rattle.hnsr_circuit.specs.declared.records.ActionQuestion.{ActionQuestion}
 use Rattle.hnsr_circuit.specs.declared.records.Outgoing.{Outgoing}
-use Rattle.hnsr_circuit.specs.Question.{atReservation}
-use Rattle.hnsr_circuit.specs.Lookup.{usageFound}
-use Rattle.hnsr_circuit.specs.Queue.{actionsScanned}
-use Rattle.hnsr_circuit.specs.Progress.{asking}
-use Rattle.hnsr_circuit.specs.Message.{dataOn}
-use Rattle.hnsr_circuit.specs.Plans.{dataPlan}
+use Rattle.hnsr_circuit.specs.Code.Question.{atReservation}
+use Rattle.hnsr_circuit.specs.Code.Lookup.{usageFound}
+use Rattle.hnsr_circuit.specs.Code.Turns.{actionsScanned}
+use Rattle.hnsr_circuit.specs.Code.Progress.{asking}
+use Rattle.hnsr_circuit.specs.Code.Message.{dataOn}
+use Rattle.hnsr_circuit.specs.Code.Plans.{dataPlan}
 use borrow.Author.Needs.{needs}
-use Rattle.hnsr_circuit.specs.Held.{heldLedger, heldActions}
+use Rattle.hnsr_circuit.specs.Code.Held.{heldLedger, heldActions}
 use Rattle.hnsr_circuit.proofs.handle_data.plan_data.Statement.{statement}
 use Rattle.hnsr_circuit.proofs.handle_data.plan_data.Proof.Tie as tie
 

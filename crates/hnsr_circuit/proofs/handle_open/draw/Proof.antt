@@ -5,8 +5,9 @@ use Prim.Native.Nat.{_-_, _≤_}
 use native.Mathlib.Omega.{arith}
 use lib.ListN.{length, drop}
 use borrow.Author.Needs.{needs}
-use Rattle.hnsr_circuit.specs.Held.{heldPending, heldCircuits}
-use Rattle.hnsr_circuit.specs.Laws.Opening.{isTaken, DrawSmall, draw-start, draw-on, draw-next, draw-stop, draw-over}
+use Rattle.hnsr_circuit.specs.Code.Held.{heldPending, heldCircuits}
+use Rattle.hnsr_circuit.specs.Laws.Opening.{DrawSmall, draw-start, draw-on, draw-next, draw-stop, draw-over}
+use Rattle.hnsr_circuit.specs.Code.Opening.{isTaken}
 use Rattle.hnsr_circuit.specs.Draw.{undrawn, draws, drawAll}
 use Rattle.hnsr_circuit.specs.declared.records.Drawing.{Drawing}
 use Rattle.hnsr_circuit.proofs.handle_open.draw.Statement.{statement}

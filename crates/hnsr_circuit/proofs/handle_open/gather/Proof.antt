@@ -3,9 +3,9 @@ mod Tie
 use mathlib.Core.Path.{_∙_}
 use lib.ListN.{length}
 use borrow.Author.Needs.{needs}
-use Rattle.hnsr_circuit.specs.Question.{pendingWork, circuitWork}
-use Rattle.hnsr_circuit.specs.Held.{heldPending, heldCircuits}
-use Rattle.hnsr_circuit.specs.Laws.Opening.{openWork, openGathering}
+use Rattle.hnsr_circuit.specs.Code.Question.{pendingWork, circuitWork}
+use Rattle.hnsr_circuit.specs.Code.Held.{heldPending, heldCircuits}
+use Rattle.hnsr_circuit.specs.Code.Opening.{openWork, openGathering}
 use Rattle.hnsr_circuit.proofs.handle_open.gather.Statement.{statement}
 use Rattle.hnsr_circuit.proofs.handle_open.gather.Proof.Tie as tie
 

@@ -3,11 +3,11 @@ mod Tie
 use mathlib.Core.Path.{refl, sym, ap, _∙_}
 use mathlib.Core.Bool.{true, _||_}
 use borrow.Author.Needs.{needs}
-use Rattle.hnsr_circuit.specs.Question.{pendingWork, circuitWork}
-use Rattle.hnsr_circuit.specs.Held.{heldPending, heldCircuits, heldLedger, heldActions, worldSeen}
+use Rattle.hnsr_circuit.specs.Code.Question.{pendingWork, circuitWork}
+use Rattle.hnsr_circuit.specs.Code.Held.{heldPending, heldCircuits, heldLedger, heldActions, worldSeen}
 use Rattle.hnsr_circuit.specs.Laws.HeldTables.{places-kept}
 use Rattle.hnsr_circuit.specs.World.{Outcome}
-use Rattle.hnsr_circuit.specs.Progress.{ending, packetOf}
+use Rattle.hnsr_circuit.specs.Code.Progress.{ending, packetOf}
 use Rattle.hnsr_circuit.specs.Laws.Opening.{open-ends, open-refused}
 use Rattle.hnsr_circuit.specs.Open.{openLapsed}
 use Rattle.hnsr_circuit.specs.Laws.Calls.{gone-on}

@@ -6,9 +6,9 @@ use lib.Dec.{ltb}
 use borrow.Author.Needs.{needs}
 use Rattle.hnsr_circuit.specs.Pending.{clearPending, pendingAt}
 use Rattle.hnsr_circuit.specs.Circuits.{clearCircuit, circuitAt}
-use Rattle.hnsr_circuit.specs.Held.{heldPending, heldCircuits}
+use Rattle.hnsr_circuit.specs.Code.Held.{heldPending, heldCircuits}
 use Rattle.hnsr_circuit.specs.Laws.Held.{length-held}
-use Rattle.hnsr_circuit.specs.Laws.Opening.{isTaken}
+use Rattle.hnsr_circuit.specs.Code.Opening.{isTaken}
 use Rattle.hnsr_circuit.specs.Laws.Lookups.{place-any}
 use Rattle.hnsr_circuit.proofs.handle_open.id_taken.Statement.{statement}
 use Rattle.hnsr_circuit.proofs.handle_open.id_taken.Proof.Tie as tie

@@ -3,12 +3,13 @@ mod Tie
 use mathlib.Core.Path.{sym, ap, _∙_}
 use native.Mathlib.Omega.{arith}
 use borrow.Author.Needs.{needs}
-use Rattle.hnsr_circuit.specs.Queue.{actionsScanned, send}
-use Rattle.hnsr_circuit.specs.Held.{heldPending, heldCircuits, heldLedger, heldActions, worldSeen}
+use Rattle.hnsr_circuit.specs.Queue.{send}
+use Rattle.hnsr_circuit.specs.Code.Turns.{actionsScanned}
+use Rattle.hnsr_circuit.specs.Code.Held.{heldPending, heldCircuits, heldLedger, heldActions, worldSeen}
 use Rattle.hnsr_circuit.specs.Laws.HeldTables.{places-kept}
 use Rattle.hnsr_circuit.specs.declared.places.Places.{Places}
 use Rattle.hnsr_circuit.specs.World.{Outcome, proceed}
-use Rattle.hnsr_circuit.specs.Progress.{asking, ending, messageOf}
+use Rattle.hnsr_circuit.specs.Code.Progress.{asking, ending, messageOf}
 use Rattle.hnsr_circuit.specs.Laws.Opening.{booked-ends, booked-refused}
 use Rattle.hnsr_circuit.proofs.handle_open.open_booked.Statement.{statement}
 use Rattle.hnsr_circuit.proofs.handle_open.open_booked.Proof.Tie as tie

@@ -2,9 +2,10 @@
 mod Tie
 use mathlib.Core.Path.{sym, ap, _∙_}
 use borrow.Author.Needs.{needs}
-use Rattle.hnsr_circuit.specs.Held.{heldPending, heldCircuits, heldLedger, heldActions}
+use Rattle.hnsr_circuit.specs.Code.Held.{heldPending, heldCircuits, heldLedger, heldActions}
 use Rattle.hnsr_circuit.specs.Laws.HeldTables.{places-kept}
-use Rattle.hnsr_circuit.specs.Laws.Opening.{isTaken, placed-refused}
+use Rattle.hnsr_circuit.specs.Laws.Opening.{placed-refused}
+use Rattle.hnsr_circuit.specs.Code.Opening.{isTaken}
 use Rattle.hnsr_circuit.proofs.handle_open.open_lapsed.Statement.{statement}
 use Rattle.hnsr_circuit.proofs.handle_open.open_lapsed.Proof.Tie as tie
 

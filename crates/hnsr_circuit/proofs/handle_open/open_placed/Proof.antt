@@ -8,15 +8,16 @@ use borrow.Author.Needs.{needs}
 use Rattle.hnsr_circuit.specs.Table.{any}
 use Rattle.hnsr_circuit.specs.Pending.{pendingAt}
 use Rattle.hnsr_circuit.specs.Ledger.{isUsage, clearUsage, usageAt, freshUsage, usageOf}
-use Rattle.hnsr_circuit.specs.Queue.{actionsScanned}
-use Rattle.hnsr_circuit.specs.Held.{held, heldPending, heldCircuits, heldLedger, heldActions, worldSeen}
+use Rattle.hnsr_circuit.specs.Code.Turns.{actionsScanned}
+use Rattle.hnsr_circuit.specs.Code.Held.{held, heldPending, heldCircuits, heldLedger, heldActions, worldSeen}
 use Rattle.hnsr_circuit.specs.Laws.HeldTables.{places-kept}
 use Rattle.hnsr_circuit.specs.Laws.Held.{put-upto, put-held}
 use Rattle.hnsr_circuit.specs.declared.places.Places.{Places}
 use Rattle.hnsr_circuit.specs.declared.records.Outgoing.{Outgoing}
 use Rattle.hnsr_circuit.specs.World.{Outcome}
-use Rattle.hnsr_circuit.specs.Progress.{asking, ending}
-use Rattle.hnsr_circuit.specs.Laws.Opening.{booked-set, booked-usage, lapsed-ends, lapsed-refused, openingOf, booked-free}
+use Rattle.hnsr_circuit.specs.Code.Progress.{asking, ending}
+use Rattle.hnsr_circuit.specs.Laws.Opening.{booked-set, booked-usage, lapsed-ends, lapsed-refused, booked-free}
+use Rattle.hnsr_circuit.specs.Code.Opening.{openingOf}
 use Rattle.hnsr_circuit.specs.Open.{openBooked}
 use Rattle.hnsr_circuit.specs.Draw.{draws}
 use Rattle.hnsr_circuit.proofs.handle_open.open_placed.Statement.{statement}

@@ -8,8 +8,8 @@ use borrow.Author.Needs.{needs}
 use Rattle.hns_encoding.specs.Sums.{non}
 use Rattle.hnsr_circuit.specs.Table.{placeOf}
 use Rattle.hnsr_circuit.specs.Pending.{isPending, clearPending}
-use Rattle.hnsr_circuit.specs.Question.{pendingHas, pendingAsked}
-use Rattle.hnsr_circuit.specs.Held.{heldPending}
+use Rattle.hnsr_circuit.specs.Code.Question.{pendingHas, pendingAsked}
+use Rattle.hnsr_circuit.specs.Code.Held.{heldPending}
 use Rattle.hnsr_circuit.specs.Laws.Held.{put-held, place-upto}
 use Rattle.hnsr_circuit.specs.declared.records.Question.{Question}
 use Rattle.hnsr_circuit.proofs.handle_open.put_pending.Statement.{statement}

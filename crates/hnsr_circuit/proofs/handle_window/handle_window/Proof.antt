@@ -6,7 +6,7 @@ use Rattle.hnsr_circuit.specs.Packet.{circuitAnswer}
 use Rattle.hnsr_circuit.specs.Laws.Handlers.{window-refused}
 use mathlib.Core.Path.{sym, ap, _∙_}
 use borrow.Author.Needs.{needs}
-use Rattle.hnsr_circuit.specs.Held.{heldPending, heldCircuits, heldLedger, heldActions}
+use Rattle.hnsr_circuit.specs.Code.Held.{heldPending, heldCircuits, heldLedger, heldActions}
 use Rattle.hnsr_circuit.specs.Laws.HeldTables.{places-kept}
 use Rattle.hnsr_circuit.proofs.handle_window.handle_window.Statement.{statement}
 use Rattle.hnsr_circuit.proofs.handle_window.handle_window.Proof.Tie as tie

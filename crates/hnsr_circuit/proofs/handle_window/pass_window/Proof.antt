@@ -2,9 +2,9 @@
 mod Tie
 use Rattle.hnsr_circuit.specs.Laws.Handlers.{window-scanned, window-fits, window-handled}
 use borrow.Author.Needs.{needs}
-use Rattle.hnsr_circuit.specs.Plans.{windowPlannedOn}
+use Rattle.hnsr_circuit.specs.Code.Plans.{windowPlannedOn}
 use mathlib.Core.Path.{_∙_}
-use Rattle.hnsr_circuit.specs.Held.{heldPending, heldCircuits, heldLedger, heldActions}
+use Rattle.hnsr_circuit.specs.Code.Held.{heldPending, heldCircuits, heldLedger, heldActions}
 use Rattle.hnsr_circuit.proofs.handle_window.pass_window.Statement.{statement}
 use Rattle.hnsr_circuit.proofs.handle_window.pass_window.Proof.Tie as tie
 

@@ -4,12 +4,12 @@ use mathlib.Core.Path.{ap, _∙_}
 use Rattle.hnsr_circuit.specs.declared.records.ActionQuestion.{ActionQuestion}
 use Rattle.hnsr_circuit.specs.declared.records.InflightKind.the-variants.{Control}
 use Rattle.hnsr_circuit.specs.declared.records.Outgoing.{Outgoing}
-use Rattle.hnsr_circuit.specs.Queue.{actionsScanned}
-use Rattle.hnsr_circuit.specs.Progress.{asking}
-use Rattle.hnsr_circuit.specs.Message.{passedOn}
-use Rattle.hnsr_circuit.specs.Plans.{windowPlan}
+use Rattle.hnsr_circuit.specs.Code.Turns.{actionsScanned}
+use Rattle.hnsr_circuit.specs.Code.Progress.{asking}
+use Rattle.hnsr_circuit.specs.Code.Message.{passedOn}
+use Rattle.hnsr_circuit.specs.Code.Plans.{windowPlan}
 use borrow.Author.Needs.{needs}
-use Rattle.hnsr_circuit.specs.Held.{heldActions}
+use Rattle.hnsr_circuit.specs.Code.Held.{heldActions}
 use Rattle.hnsr_circuit.proofs.handle_window.plan_window.Statement.{statement}
 use Rattle.hnsr_circuit.proofs.handle_window.plan_window.Proof.Tie as tie
 

@@ -10,7 +10,7 @@ use Rattle.hnsr_circuit.specs.declared.records.RelaySide.{RelaySide}
 use Rattle.hnsr_circuit.specs.declared.records.RelaySide.the-variants.{Requester, Endpoint}
 use mathlib.Core.Bool.{cond}
 use Prim.Native.Nat.{ℕ}
-use Rattle.hnsr_circuit.specs.Held.{held, heldCircuits}
+use Rattle.hnsr_circuit.specs.Code.Held.{held, heldCircuits}
 use Rattle.hnsr_circuit.specs.Laws.HeldTables.{circuit-still}
 use Rattle.hnsr_circuit.specs.Laws.Held.{held-spare, stored-seen}
 use Rattle.hnsr_circuit.proofs.handle_window.raise_circuit.Statement.{statement}

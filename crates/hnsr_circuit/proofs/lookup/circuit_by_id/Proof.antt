@@ -7,8 +7,8 @@ use lib.Dec.{ltb}
 use lib.ListN.{getD}
 use borrow.Author.Needs.{needs}
 use Rattle.hnsr_circuit.specs.Circuits.{noCircuit, clearCircuit, circuitAt}
-use Rattle.hnsr_circuit.specs.Question.{circuitAsked}
-use Rattle.hnsr_circuit.specs.Held.{heldCircuits}
+use Rattle.hnsr_circuit.specs.Code.Question.{circuitAsked}
+use Rattle.hnsr_circuit.specs.Code.Held.{heldCircuits}
 use Rattle.hnsr_circuit.specs.Laws.Held.{length-held}
 use Rattle.hnsr_circuit.proofs.lookup.circuit_by_id.Statement.{statement}
 use Rattle.hnsr_circuit.proofs.lookup.circuit_by_id.Proof.Tie as tie

@@ -4,9 +4,9 @@ use mathlib.Core.Path.{ap, _∙_}
 use Rattle.hnsr_circuit.specs.declared.records.Question.{Question}
 use Rattle.hnsr_circuit.specs.Table.{clear}
 use Rattle.hnsr_circuit.specs.Ledger.{clearUsage, lapsed}
-use Rattle.hnsr_circuit.specs.Question.{usageHas, usageAsked}
+use Rattle.hnsr_circuit.specs.Code.Question.{usageHas, usageAsked}
 use borrow.Author.Needs.{needs}
-use Rattle.hnsr_circuit.specs.Held.{heldLedger}
+use Rattle.hnsr_circuit.specs.Code.Held.{heldLedger}
 use Rattle.hnsr_circuit.proofs.lookup.drop_lapsed.Statement.{statement}
 use Rattle.hnsr_circuit.proofs.lookup.drop_lapsed.Proof.Tie as tie
 

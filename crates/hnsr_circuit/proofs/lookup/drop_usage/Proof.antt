@@ -6,11 +6,11 @@ use lib.ListN.{set, getD}
 use Rattle.hnsr_circuit.specs.declared.records.Question.{Question}
 use Rattle.hnsr_circuit.specs.Table.{placeOf}
 use Rattle.hnsr_circuit.specs.Ledger.{noUsage, usageAt, clearUsage}
-use Rattle.hnsr_circuit.specs.Question.{usageHas, usageAsked}
+use Rattle.hnsr_circuit.specs.Code.Question.{usageHas, usageAsked}
 use Rattle.hnsr_circuit.specs.Laws.Edits.{edit-set}
 use borrow.Author.Needs.{needs}
 use mathlib.Core.Bool.{true}
-use Rattle.hnsr_circuit.specs.Held.{heldLedger}
+use Rattle.hnsr_circuit.specs.Code.Held.{heldLedger}
 use Rattle.hnsr_circuit.specs.Laws.Held.{stored-seen}
 use Rattle.hnsr_circuit.proofs.lookup.drop_usage.Statement.{statement}
 use Rattle.hnsr_circuit.proofs.lookup.drop_usage.Proof.Tie as tie

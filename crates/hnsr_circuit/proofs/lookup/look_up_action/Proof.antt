@@ -8,8 +8,8 @@ use Rattle.hnsr_circuit.specs.Inflight.{noAction, clearAction, actionAt}
 use Rattle.hnsr_circuit.specs.Laws.Held.{length-held}
 use Rattle.hnsr_circuit.specs.Laws.Lookups.{place-any, pick-at}
 use borrow.Author.Needs.{needs}
-use Rattle.hnsr_circuit.specs.Question.{actionAsked}
-use Rattle.hnsr_circuit.specs.Held.{heldActions}
+use Rattle.hnsr_circuit.specs.Code.Question.{actionAsked}
+use Rattle.hnsr_circuit.specs.Code.Held.{heldActions}
 use Rattle.hnsr_circuit.proofs.lookup.look_up_action.Statement.{statement}
 use Rattle.hnsr_circuit.proofs.lookup.look_up_action.Proof.Tie as tie
 

@@ -5,10 +5,10 @@ use Prim.Native.Nat.{ℕ}
 use lib.Dec.{ltb}
 use lib.ListN.{getD}
 use Rattle.hnsr_circuit.specs.Pending.{noPending, clearPending}
-use Rattle.hnsr_circuit.specs.Question.{pendingHas}
+use Rattle.hnsr_circuit.specs.Code.Question.{pendingHas}
 use Rattle.hnsr_circuit.specs.Laws.Lookups.{place-any, pick-at}
 use borrow.Author.Needs.{needs}
-use Rattle.hnsr_circuit.specs.Held.{heldPending}
+use Rattle.hnsr_circuit.specs.Code.Held.{heldPending}
 use Rattle.hnsr_circuit.specs.Laws.Held.{length-held}
 use Rattle.hnsr_circuit.proofs.lookup.look_up_pending.Statement.{statement}
 use Rattle.hnsr_circuit.proofs.lookup.look_up_pending.Proof.Tie as tie

@@ -5,10 +5,10 @@ use Prim.Native.Nat.{ℕ}
 use lib.Dec.{ltb}
 use lib.ListN.{getD}
 use Rattle.hnsr_circuit.specs.Ledger.{noUsage, clearUsage}
-use Rattle.hnsr_circuit.specs.Question.{usageHas}
+use Rattle.hnsr_circuit.specs.Code.Question.{usageHas}
 use Rattle.hnsr_circuit.specs.Laws.Lookups.{place-any, pick-at}
 use borrow.Author.Needs.{needs}
-use Rattle.hnsr_circuit.specs.Held.{heldLedger}
+use Rattle.hnsr_circuit.specs.Code.Held.{heldLedger}
 use Rattle.hnsr_circuit.specs.Laws.Held.{length-held}
 use Rattle.hnsr_circuit.proofs.lookup.look_up_usage.Statement.{statement}
 use Rattle.hnsr_circuit.proofs.lookup.look_up_usage.Proof.Tie as tie

@@ -7,8 +7,8 @@ use lib.Dec.{ltb}
 use lib.ListN.{getD}
 use borrow.Author.Needs.{needs}
 use Rattle.hnsr_circuit.specs.Pending.{noPending, clearPending, pendingAt}
-use Rattle.hnsr_circuit.specs.Question.{pendingAsked}
-use Rattle.hnsr_circuit.specs.Held.{heldPending}
+use Rattle.hnsr_circuit.specs.Code.Question.{pendingAsked}
+use Rattle.hnsr_circuit.specs.Code.Held.{heldPending}
 use Rattle.hnsr_circuit.specs.Laws.Held.{length-held}
 use Rattle.hnsr_circuit.proofs.lookup.pending_by_id.Statement.{statement}
 use Rattle.hnsr_circuit.proofs.lookup.pending_by_id.Proof.Tie as tie

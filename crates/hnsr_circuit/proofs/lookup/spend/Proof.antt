@@ -6,7 +6,7 @@ use lib.ListN.{set}
 use Rattle.hnsr_circuit.specs.declared.records.ReservationUsage.{ReservationUsage}
 use Rattle.hnsr_circuit.specs.Ledger.{spent, isUsage, noUsage, clearUsage}
 use borrow.Author.Needs.{needs}
-use Rattle.hnsr_circuit.specs.Held.{heldLedger}
+use Rattle.hnsr_circuit.specs.Code.Held.{heldLedger}
 use Rattle.hnsr_circuit.specs.Laws.HeldTables.{usage-still}
 use Rattle.hnsr_circuit.specs.Laws.Held.{held-spare, stored-seen}
 use Rattle.hnsr_circuit.proofs.lookup.spend.Statement.{statement}

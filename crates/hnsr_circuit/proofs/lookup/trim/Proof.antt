@@ -7,7 +7,7 @@ use Rattle.hnsr_circuit.specs.Pending.{clearPending}
 use Rattle.hnsr_circuit.specs.Circuits.{clearCircuit}
 use Rattle.hnsr_circuit.specs.Ledger.{clearUsage}
 use Rattle.hnsr_circuit.specs.Inflight.{clearAction}
-use Rattle.hnsr_circuit.specs.Held.{held}
+use Rattle.hnsr_circuit.specs.Code.Held.{held}
 use Rattle.hnsr_circuit.proofs.lookup.trim.Statement.{statement}
 use Rattle.hnsr_circuit.proofs.lookup.trim.Proof.Tie as tie
 

@@ -1,5 +1,5 @@
 -- One arm for each question.
-use Rattle.hnsr_circuit.specs.Question.{actionAsked}
+use Rattle.hnsr_circuit.specs.Code.Question.{actionAsked}
 use borrow.Author.Needs.{needs}
 use Rattle.hnsr_circuit.proofs.question.action_has.Statement.{statement}
 use Rattle.hnsr_circuit.proofs.question.action_has.Tie as tie

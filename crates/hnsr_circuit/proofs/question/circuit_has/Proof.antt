@@ -1,5 +1,5 @@
 -- One arm for each question.
-use Rattle.hnsr_circuit.specs.Question.{circuitAsked}
+use Rattle.hnsr_circuit.specs.Code.Question.{circuitAsked}
 use borrow.Author.Needs.{needs}
 use Rattle.hnsr_circuit.proofs.question.circuit_has.Statement.{statement}
 use Rattle.hnsr_circuit.proofs.question.circuit_has.Tie as tie

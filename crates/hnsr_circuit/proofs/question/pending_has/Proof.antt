@@ -1,5 +1,5 @@
 -- One arm for each question.
-use Rattle.hnsr_circuit.specs.Question.{pendingAsked}
+use Rattle.hnsr_circuit.specs.Code.Question.{pendingAsked}
 use borrow.Author.Needs.{needs}
 use Rattle.hnsr_circuit.proofs.question.pending_has.Statement.{statement}
 use Rattle.hnsr_circuit.proofs.question.pending_has.Tie as tie

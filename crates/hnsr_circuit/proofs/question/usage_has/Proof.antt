@@ -1,5 +1,5 @@
 -- One arm for each question.
-use Rattle.hnsr_circuit.specs.Question.{usageAsked}
+use Rattle.hnsr_circuit.specs.Code.Question.{usageAsked}
 use borrow.Author.Needs.{needs}
 use Rattle.hnsr_circuit.proofs.question.usage_has.Statement.{statement}
 use Rattle.hnsr_circuit.proofs.question.usage_has.Tie as tie

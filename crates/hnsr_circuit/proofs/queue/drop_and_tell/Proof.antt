@@ -3,8 +3,9 @@ mod Tie
 use mathlib.Core.Path.{sym, ap, _∙_}
 use mathlib.Core.List.{List}
 use Prim.Native.Nat.{ℕ}
-use Rattle.hnsr_circuit.specs.Queue.{when, tell, actionsScanned}
-use Rattle.hnsr_circuit.specs.Progress.{messageOf, underway, advance}
+use Rattle.hnsr_circuit.specs.Queue.{when, tell}
+use Rattle.hnsr_circuit.specs.Code.Turns.{actionsScanned}
+use Rattle.hnsr_circuit.specs.Code.Progress.{messageOf, underway, advance}
 use Rattle.hnsr_circuit.specs.Laws.Route.{notice-length, notice-bytes}
 use lib.Seq.{length-take-le}
 use native.Mathlib.Omega.{arith}
@@ -12,7 +13,7 @@ use borrow.Author.Needs.{needs}
 use mathlib.Core.Bool.{true}
 use lib.ListN.{take}
 use Rattle.hnsr_circuit.specs.Inflight.{actionUnder, dropped}
-use Rattle.hnsr_circuit.specs.Held.{heldPending, heldCircuits, heldLedger, heldActions}
+use Rattle.hnsr_circuit.specs.Code.Held.{heldPending, heldCircuits, heldLedger, heldActions}
 use Rattle.hnsr_circuit.specs.declared.records.InflightAction.{InflightAction}
 use Rattle.hnsr_circuit.proofs.queue.drop_and_tell.Statement.{statement}
 use Rattle.hnsr_circuit.proofs.queue.drop_and_tell.Proof.Tie as tie

@@ -10,11 +10,11 @@ use Rattle.hns_encoding.specs.Words.{wordCount}
 use Rattle.hnsr_circuit.specs.Route.{headWords, routeWords}
 use Rattle.hnsr_circuit.specs.Queue.{routeFor}
 use Rattle.hnsr_circuit.specs.Inflight.{clearAction}
-use Rattle.hnsr_circuit.specs.Progress.{messageOf, asking}
+use Rattle.hnsr_circuit.specs.Code.Progress.{messageOf, asking}
 use Rattle.hnsr_circuit.specs.Laws.Held.{put-held}
 use Rattle.hnsr_circuit.specs.Laws.Queueing.{sent}
 use borrow.Author.Needs.{needs}
-use Rattle.hnsr_circuit.specs.Held.{heldPending, heldCircuits, heldLedger, heldActions, withActions}
+use Rattle.hnsr_circuit.specs.Code.Held.{heldPending, heldCircuits, heldLedger, heldActions, withActions}
 use Rattle.hnsr_circuit.specs.Laws.HeldTables.{places-kept, scan-upto}
 use Rattle.hnsr_circuit.proofs.queue.send.Statement.{statement}
 use Rattle.hnsr_circuit.proofs.queue.send.Proof.Tie as tie

@@ -3,14 +3,15 @@ mod Tie
 use mathlib.Core.Path.{sym, ap, _∙_}
 use mathlib.Core.List.{List}
 use Prim.Native.Nat.{ℕ}
-use Rattle.hnsr_circuit.specs.Queue.{when, tell, actionsScanned}
-use Rattle.hnsr_circuit.specs.Progress.{messageOf, advance}
+use Rattle.hnsr_circuit.specs.Queue.{when, tell}
+use Rattle.hnsr_circuit.specs.Code.Turns.{actionsScanned}
+use Rattle.hnsr_circuit.specs.Code.Progress.{messageOf, advance}
 use Rattle.hnsr_circuit.specs.Laws.Route.{notice-length, notice-bytes}
 use lib.Seq.{length-take-le}
 use native.Mathlib.Omega.{arith}
 use borrow.Author.Needs.{needs}
 use Rattle.hnsr_circuit.specs.declared.records.ActionQuestion.{ActionQuestion}
-use Rattle.hnsr_circuit.specs.Held.{heldActions, underwaySeen}
+use Rattle.hnsr_circuit.specs.Code.Held.{heldActions, underwaySeen}
 use Rattle.hnsr_circuit.proofs.queue.tell_notice.Statement.{statement}
 use Rattle.hnsr_circuit.proofs.queue.tell_notice.Proof.Tie as tie
 

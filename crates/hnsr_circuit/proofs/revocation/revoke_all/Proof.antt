@@ -3,12 +3,12 @@ mod Tie
 use mathlib.Core.Path.{sym, ap, _∙_}
 use Rattle.hnsr_circuit.specs.Pending.{pendingId}
 use Rattle.hnsr_circuit.specs.Circuits.{circuitId}
-use Rattle.hnsr_circuit.specs.Question.{pendingHas, circuitHas}
-use Rattle.hnsr_circuit.specs.Progress.{Progress, progress, advanced, advance}
+use Rattle.hnsr_circuit.specs.Code.Question.{pendingHas, circuitHas}
+use Rattle.hnsr_circuit.specs.Code.Progress.{Progress, progress, advanced, advance}
 use Rattle.hnsr_circuit.specs.World.{worldOf}
 use Rattle.hnsr_circuit.specs.Queue.{andThen}
 use Rattle.hnsr_circuit.specs.Revocation.{revokeAll, revokeCircuitThere, walk, pendingTable, circuitTable}
-use Rattle.hnsr_circuit.specs.Revoking.{endingPending}
+use Rattle.hnsr_circuit.specs.Code.Revoking.{endingPending}
 use Rattle.hnsr_circuit.specs.Laws.Progress.{advance-then}
 use Rattle.hnsr_circuit.specs.Laws.Calls.{begun, over}
 use borrow.Author.Needs.{needs}
@@ -17,7 +17,7 @@ use mathlib.Core.List.{List, []}
 use Rattle.hnsr_circuit.specs.declared.records.RelayCircuit.{RelayCircuit}
 use Rattle.hnsr_circuit.specs.declared.places.Places.{Places}
 use Rattle.hnsr_circuit.specs.Table.{next, notYet}
-use Rattle.hnsr_circuit.specs.Held.{heldPending, heldCircuits, heldLedger, heldActions}
+use Rattle.hnsr_circuit.specs.Code.Held.{heldPending, heldCircuits, heldLedger, heldActions}
 use Rattle.hnsr_circuit.specs.Laws.RoomEnds.{walk-pending-circuits}
 use Rattle.hnsr_circuit.proofs.revocation.revoke_all.Statement.{statement}
 use Rattle.hnsr_circuit.proofs.revocation.revoke_all.Proof.Tie as tie

@@ -11,12 +11,12 @@ use Rattle.hnsr_circuit.specs.declared.records.Outgoing.{Outgoing}
 use Rattle.hnsr_circuit.specs.Circuits.{clearCircuit}
 use Rattle.hnsr_circuit.specs.Inflight.{actionUnder, dropped}
 use Rattle.hnsr_circuit.specs.Queue.{when, tell}
-use Rattle.hnsr_circuit.specs.Progress.{messageOf, Progress, progress, advance, underway}
+use Rattle.hnsr_circuit.specs.Code.Progress.{messageOf, Progress, progress, advance, underway}
 use Rattle.hnsr_circuit.specs.World.{worldOf}
-use Rattle.hnsr_circuit.specs.Revoking.{closeSide}
+use Rattle.hnsr_circuit.specs.Code.Revoking.{closeSide}
 use Rattle.hnsr_circuit.specs.Laws.Revocation.{circuit-revoked}
 use Rattle.hnsr_circuit.specs.Laws.Held.{stored-seen}
-use Rattle.hnsr_circuit.specs.Held.{heldPending, heldCircuits, heldLedger, heldActions}
+use Rattle.hnsr_circuit.specs.Code.Held.{heldPending, heldCircuits, heldLedger, heldActions}
 use Rattle.hnsr_circuit.specs.declared.places.Places.{Places}
 use Rattle.hnsr_circuit.proofs.revocation.revoke_circuit.Statement.{statement}
 use Rattle.hnsr_circuit.proofs.revocation.revoke_circuit.Proof.Tie as tie

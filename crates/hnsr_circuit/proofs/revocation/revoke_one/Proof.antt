@@ -8,9 +8,9 @@ use native.Mathlib.Omega.{arith}
 use borrow.Author.Needs.{needs}
 use borrow.Author.Tests.{lt-ltb, le-ltb}
 use Rattle.hnsr_circuit.specs.Circuits.{clearCircuit, circuitAt}
-use Rattle.hnsr_circuit.specs.Question.{circuitAsked}
+use Rattle.hnsr_circuit.specs.Code.Question.{circuitAsked}
 use Rattle.hnsr_circuit.specs.Table.{any, placeOf}
-use Rattle.hnsr_circuit.specs.Progress.{filledTo, placed, Progress, progress, advanced, advance}
+use Rattle.hnsr_circuit.specs.Code.Progress.{filledTo, placed, Progress, progress, advanced, advance}
 use Rattle.hnsr_circuit.specs.World.{worldOf}
 use Rattle.hnsr_circuit.specs.Revocation.{revokeCircuitThere, revokeCircuit}
 use Rattle.hnsr_circuit.specs.Laws.Revocation.{revoked-found, revoked-none}
@@ -18,7 +18,7 @@ use Rattle.hnsr_circuit.specs.Laws.Lookups.{place-any}
 use Rattle.hnsr_circuit.specs.Laws.Calls.{begun, over}
 use Rattle.hnsr_circuit.specs.Laws.HeldTables.{places-kept, sending-kept}
 use Rattle.hnsr_circuit.specs.Laws.Held.{length-held}
-use Rattle.hnsr_circuit.specs.Held.{heldPending, heldCircuits, heldLedger, heldActions}
+use Rattle.hnsr_circuit.specs.Code.Held.{heldPending, heldCircuits, heldLedger, heldActions}
 use Rattle.hnsr_circuit.proofs.revocation.revoke_one.Statement.{statement}
 use Rattle.hnsr_circuit.proofs.revocation.revoke_one.Proof.Tie as tie
 

@@ -10,13 +10,13 @@ use Rattle.hnsr_circuit.specs.declared.records.RelayPending.{RelayPendin
 use Rattle.hnsr_circuit.specs.Pending.{clearPending}
 use Rattle.hnsr_circuit.specs.Inflight.{actionUnder, dropped}
 use Rattle.hnsr_circuit.specs.Queue.{when, tell}
-use Rattle.hnsr_circuit.specs.Progress.{messageOf, Progress, progress, advance, underway}
+use Rattle.hnsr_circuit.specs.Code.Progress.{messageOf, Progress, progress, advance, underway}
 use Rattle.hnsr_circuit.specs.World.{worldOf}
-use Rattle.hnsr_circuit.specs.Revoking.{closeOut, firstOut}
+use Rattle.hnsr_circuit.specs.Code.Revoking.{closeOut, firstOut}
 use Rattle.hnsr_circuit.specs.Laws.Revocation.{pending-revoked}
 use Rattle.hnsr_circuit.specs.Laws.Held.{stored-seen}
 use Rattle.hns_encoding.specs.Sums.{one}
-use Rattle.hnsr_circuit.specs.Held.{heldPending, heldCircuits, heldLedger, heldActions}
+use Rattle.hnsr_circuit.specs.Code.Held.{heldPending, heldCircuits, heldLedger, heldActions}
 use Rattle.hnsr_circuit.specs.declared.places.Places.{Places}
 use Rattle.hnsr_circuit.proofs.revocation.revoke_pending.Statement.{statement}
 use Rattle.hnsr_circuit.proofs.revocation.revoke_pending.Proof.Tie as tie

@@ -8,15 +8,15 @@ use lib.ListN.{length}
 use Rattle.hnsr_circuit.specs.declared.records.RelayPending.{RelayPending}
 use Rattle.hnsr_circuit.specs.declared.records.ReservationUsage.{ReservationUsage}
 use Rattle.hnsr_circuit.specs.Circuits.{circuitId, clearCircuit}
-use Rattle.hnsr_circuit.specs.Question.{circuitHas}
-use Rattle.hnsr_circuit.specs.Progress.{Progress, advance}
+use Rattle.hnsr_circuit.specs.Code.Question.{circuitHas}
+use Rattle.hnsr_circuit.specs.Code.Progress.{Progress, advance}
 use Rattle.hnsr_circuit.specs.Revocation.{revokeCircuitThere, walkFrom, walk, circuitTable}
 use Rattle.hnsr_circuit.specs.Table.{notYet, next}
 use Rattle.hnsr_circuit.specs.Laws.Revocation.{not-true, not-false, walk-turn, walk-stops, walk-over, walkOn, walk-on}
 use borrow.Author.Needs.{needs}
 use native.Mathlib.Omega.{arith}
 use Rattle.hnsr_circuit.specs.Laws.Held.{length-held}
-use Rattle.hnsr_circuit.specs.Held.{underwaySeen}
+use Rattle.hnsr_circuit.specs.Code.Held.{underwaySeen}
 use Rattle.hnsr_circuit.proofs.revocation.walk_circuits.Statement.{statement}
 use Rattle.hnsr_circuit.proofs.revocation.walk_circuits.Proof.Tie as tie
 

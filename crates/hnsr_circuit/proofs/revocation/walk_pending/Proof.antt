@@ -8,16 +8,16 @@ use lib.ListN.{length}
 use Rattle.hnsr_circuit.specs.declared.records.RelayCircuit.{RelayCircuit}
 use Rattle.hnsr_circuit.specs.declared.records.ReservationUsage.{ReservationUsage}
 use Rattle.hnsr_circuit.specs.Pending.{pendingId, clearPending}
-use Rattle.hnsr_circuit.specs.Question.{pendingHas}
-use Rattle.hnsr_circuit.specs.Progress.{Progress, advance}
+use Rattle.hnsr_circuit.specs.Code.Question.{pendingHas}
+use Rattle.hnsr_circuit.specs.Code.Progress.{Progress, advance}
 use Rattle.hnsr_circuit.specs.Revocation.{walkFrom, walk, pendingTable}
-use Rattle.hnsr_circuit.specs.Revoking.{endingPending}
+use Rattle.hnsr_circuit.specs.Code.Revoking.{endingPending}
 use Rattle.hnsr_circuit.specs.Table.{notYet, next}
 use Rattle.hnsr_circuit.specs.Laws.Revocation.{not-true, not-false, walk-turn, walk-stops, walk-over, walkOn, walk-on}
 use borrow.Author.Needs.{needs}
 use native.Mathlib.Omega.{arith}
 use Rattle.hnsr_circuit.specs.Laws.Held.{length-held}
-use Rattle.hnsr_circuit.specs.Held.{underwaySeen}
+use Rattle.hnsr_circuit.specs.Code.Held.{underwaySeen}
 use Rattle.hnsr_circuit.proofs.revocation.walk_pending.Statement.{statement}
 use Rattle.hnsr_circuit.proofs.revocation.walk_pending.Proof.Tie as tie
 

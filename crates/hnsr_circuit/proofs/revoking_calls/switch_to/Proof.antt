@@ -2,7 +2,7 @@
 mod Tie
 use mathlib.Core.Path.{ap, _∙_, sym}
 use Rattle.hnsr_circuit.specs.World.{Outcome}
-use Rattle.hnsr_circuit.specs.Progress.{ending}
+use Rattle.hnsr_circuit.specs.Code.Progress.{ending}
 use Rattle.hnsr_circuit.specs.Laws.RevokingCalls.{switched-on, switched-off}
 use borrow.Author.Needs.{needs}
 use Rattle.hnsr_circuit.specs.Laws.HeldTables.{places-kept}
@@ -10,8 +10,8 @@ use Rattle.hnsr_circuit.specs.declared.records.Question.{Question}
 use Rattle.hnsr_circuit.specs.Table.{next, notYet}
 use Rattle.hnsr_circuit.specs.Pending.{pendingId}
 use Rattle.hnsr_circuit.specs.Circuits.{circuitId}
-use Rattle.hnsr_circuit.specs.Question.{pendingHas, circuitHas}
-use Rattle.hnsr_circuit.specs.Held.{heldPending, heldCircuits, heldLedger, heldActions, asksUnused}
+use Rattle.hnsr_circuit.specs.Code.Question.{pendingHas, circuitHas}
+use Rattle.hnsr_circuit.specs.Code.Held.{heldPending, heldCircuits, heldLedger, heldActions, asksUnused}
 use Rattle.hnsr_circuit.proofs.revoking_calls.switch_to.Statement.{statement}
 use Rattle.hnsr_circuit.proofs.revoking_calls.switch_to.Proof.Tie as tie
 

@@ -10,7 +10,7 @@ use Rattle.hns_encoding.specs.Cursor.{within}
 use Rattle.hns_encoding.specs.Laws.Lists.{written-length}
 use Rattle.hnsr_circuit.specs.Route.{Route, addressWords, headWords, peerWords, packetWords, routeWords}
 use Rattle.hnsr_circuit.specs.Queue.{routeFor}
-use Rattle.hnsr_circuit.specs.Progress.{messageOf}
+use Rattle.hnsr_circuit.specs.Code.Progress.{messageOf}
 use Rattle.hnsr_circuit.specs.Laws.Route.{Wrote, length-words, route-words, peer-words, packet-words, wrote-first, wrote-next, wrote-all, wrote-none}
 use borrow.Author.Needs.{needs}
 use Rattle.hnsr_circuit.proofs.route.put_route.Statement.{statement}

@@ -1,6 +1,6 @@
 -- A used action has a number and is tallied, an unused one is a spare place.
 use Rattle.hnsr_circuit.specs.Laws.Turns.{scan-used, scan-unused}
-use Rattle.hnsr_circuit.specs.Laws.Inflight.{tallyTurn}
+use Rattle.hnsr_circuit.specs.Code.Turns.{tallyTurn}
 use borrow.Author.Needs.{needs}
 use Rattle.hnsr_circuit.proofs.scan.action_scanned.Statement.{statement}
 use Rattle.hnsr_circuit.proofs.scan.action_scanned.Tie as tie

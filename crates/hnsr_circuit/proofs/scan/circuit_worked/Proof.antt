@@ -1,5 +1,6 @@
 -- The questions of a used record.
-use Rattle.hnsr_circuit.specs.Laws.Turns.{works, never}
+use Rattle.hnsr_circuit.specs.Laws.Turns.{works}
+use Rattle.hnsr_circuit.specs.Code.Turns.{never}
 use Rattle.hnsr_circuit.specs.Circuits.{circuitAt, circuitOf, circuitUnder, isCircuit}
 use mathlib.Core.Path.{refl}
 use mathlib.Core.Bool.{false}

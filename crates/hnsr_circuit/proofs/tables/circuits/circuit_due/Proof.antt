@@ -9,7 +9,7 @@ use borrow.Author.Needs.{needs}
 use Rattle.hns_encoding.specs.Loops.{foldFrom}
 use Rattle.hnsr_circuit.specs.Circuits.{isCircuit, noCircuit, clearCircuit}
 use Rattle.hnsr_circuit.specs.NextDue.{dueTurn, expiryOf, circuitDue}
-use Rattle.hnsr_circuit.specs.Held.{held}
+use Rattle.hnsr_circuit.specs.Code.Held.{held}
 use Rattle.hnsr_circuit.specs.Laws.HeldTables.{circuit-due-idle}
 use Rattle.hnsr_circuit.specs.Laws.Held.{held-min, fold-rest, held-fold-step}
 use Rattle.hnsr_circuit.specs.declared.records.RelayCircuit.{RelayCircuit}

@@ -8,10 +8,11 @@ use lib.ListN.{length, getD, drop}
 use borrow.Author.Needs.{needs}
 use Rattle.hns_encoding.specs.Loops.{foldFrom}
 use Rattle.hnsr_circuit.specs.Circuits.{noCircuit, clearCircuit}
-use Rattle.hnsr_circuit.specs.Question.{circuitWork}
-use Rattle.hnsr_circuit.specs.Held.{held}
+use Rattle.hnsr_circuit.specs.Code.Question.{circuitWork}
+use Rattle.hnsr_circuit.specs.Code.Held.{held}
 use Rattle.hnsr_circuit.specs.declared.records.Work.{Work}
-use Rattle.hnsr_circuit.specs.Laws.Turns.{WorkAtMost, work-more, work-none, circuitWorked, circuit-most, circuit-work}
+use Rattle.hnsr_circuit.specs.Laws.Turns.{work-more, work-none, circuit-most, circuit-work}
+use Rattle.hnsr_circuit.specs.Code.Turns.{WorkAtMost, circuitWorked}
 use Rattle.hnsr_circuit.specs.Laws.HeldTables.{circuit-idle}
 use Rattle.hnsr_circuit.specs.Laws.Held.{held-min, fold-rest, held-fold-step}
 use Rattle.hnsr_circuit.specs.declared.records.RelayCircuit.{RelayCircuit}

@@ -9,8 +9,8 @@ use lib.ListN.{length, drop}
 use borrow.Author.Needs.{needs}
 use Rattle.hnsr_circuit.specs.Table.{placeOf}
 use Rattle.hnsr_circuit.specs.Circuits.{noCircuit, clearCircuit}
-use Rattle.hnsr_circuit.specs.Question.{circuitHas}
-use Rattle.hnsr_circuit.specs.Held.{held, asksUnused}
+use Rattle.hnsr_circuit.specs.Code.Question.{circuitHas}
+use Rattle.hnsr_circuit.specs.Code.Held.{held, asksUnused}
 use Rattle.hnsr_circuit.specs.Laws.HeldTables.{circuit-unmarked}
 use Rattle.hnsr_circuit.specs.Laws.Held.{held-min, find-rest, held-find-next, held-find-here}
 use Rattle.hnsr_circuit.proofs.tables.circuits.find_circuit.Statement.{statement}

@@ -9,8 +9,8 @@ use borrow.Author.Needs.{needs}
 use Rattle.hns_encoding.specs.Loops.{foldFrom}
 use Rattle.hnsr_circuit.specs.Table.{nextTurn, next}
 use Rattle.hnsr_circuit.specs.Circuits.{noCircuit, clearCircuit, circuitId}
-use Rattle.hnsr_circuit.specs.Question.{circuitHas}
-use Rattle.hnsr_circuit.specs.Held.{held}
+use Rattle.hnsr_circuit.specs.Code.Question.{circuitHas}
+use Rattle.hnsr_circuit.specs.Code.Held.{held}
 use Rattle.hnsr_circuit.specs.declared.records.Walked.{Walked}
 use Rattle.hnsr_circuit.specs.Laws.HeldTables.{circuit-unmarked}
 use Rattle.hnsr_circuit.specs.Laws.Held.{held-min, fold-rest, held-fold-step, next-idle}

@@ -6,7 +6,7 @@ use native.Mathlib.Omega.{arith}
 use lib.ListN.{length}
 use borrow.Author.Needs.{needs}
 use Rattle.hnsr_circuit.specs.Circuits.{isCircuit, noCircuit, clearCircuit}
-use Rattle.hnsr_circuit.specs.Held.{held}
+use Rattle.hnsr_circuit.specs.Code.Held.{held}
 use Rattle.hnsr_circuit.specs.Laws.HeldTables.{circuit-still}
 use Rattle.hnsr_circuit.specs.Laws.Held.{held-min, lower-step}
 use Rattle.hnsr_circuit.proofs.tables.circuits.trim_circuits.Statement.{statement}

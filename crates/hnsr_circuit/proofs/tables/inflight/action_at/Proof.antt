@@ -8,7 +8,7 @@ use borrow.Author.Tests.{ltb-true, ltb-false}
 use borrow.Author.Needs.{needs}
 use Rattle.hns_encoding.specs.Laws.Tests.{split}
 use Rattle.hnsr_circuit.specs.Inflight.{noAction, clearAction}
-use Rattle.hnsr_circuit.specs.Held.{heldActions}
+use Rattle.hnsr_circuit.specs.Code.Held.{heldActions}
 use Rattle.hnsr_circuit.specs.Laws.Held.{length-held, held-past, held-at}
 use Rattle.hnsr_circuit.proofs.tables.inflight.action_at.Statement.{statement}
 use Rattle.hnsr_circuit.proofs.tables.inflight.action_at.Proof.Tie as tie

@@ -10,8 +10,8 @@ use borrow.Author.Needs.{needs}
 use Rattle.hns_encoding.specs.Sums.{count}
 use Rattle.hns_encoding.specs.Laws.Tests.{cond-le}
 use Rattle.hnsr_circuit.specs.Inflight.{noAction, clearAction}
-use Rattle.hnsr_circuit.specs.Question.{actionHas}
-use Rattle.hnsr_circuit.specs.Held.{held}
+use Rattle.hnsr_circuit.specs.Code.Question.{actionHas}
+use Rattle.hnsr_circuit.specs.Code.Held.{held}
 use Rattle.hnsr_circuit.specs.Laws.HeldTables.{action-unmarked}
 use Rattle.hnsr_circuit.specs.Laws.Held.{held-min, count-rest, held-count-next}
 use Rattle.hnsr_circuit.proofs.tables.inflight.count_action.Statement.{statement}

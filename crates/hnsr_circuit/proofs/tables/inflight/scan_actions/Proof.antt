@@ -7,10 +7,10 @@ use lib.ListN.{length, getD, drop}
 use borrow.Author.Needs.{needs}
 use Rattle.hns_encoding.specs.Loops.{foldFrom}
 use Rattle.hnsr_circuit.specs.Inflight.{noAction, clearAction}
-use Rattle.hnsr_circuit.specs.Queue.{actionsScanned}
-use Rattle.hnsr_circuit.specs.Held.{held}
+use Rattle.hnsr_circuit.specs.Code.Turns.{actionsScanned, noScan, TallyAtMost, scanned}
+use Rattle.hnsr_circuit.specs.Code.Held.{held}
 use Rattle.hnsr_circuit.specs.declared.records.ActionScan.{ActionScan}
-use Rattle.hnsr_circuit.specs.Laws.Turns.{noScan, TallyAtMost, tally-more, tally-none, tally-most, scanned, scan-fold}
+use Rattle.hnsr_circuit.specs.Laws.Turns.{tally-more, tally-none, tally-most, scan-fold}
 use Rattle.hnsr_circuit.specs.Laws.HeldTables.{scan-rest}
 use Rattle.hnsr_circuit.specs.Laws.Held.{length-held, held-min, held-fold-step}
 use Rattle.hnsr_circuit.proofs.tables.inflight.scan_actions.Statement.{statement}

@@ -8,8 +8,8 @@ use lib.ListN.{length, take, drop}
 use borrow.Author.Needs.{needs}
 use Rattle.hnsr_circuit.specs.Table.{clear}
 use Rattle.hnsr_circuit.specs.Ledger.{noUsage, clearUsage}
-use Rattle.hnsr_circuit.specs.Question.{usageHas}
-use Rattle.hnsr_circuit.specs.Held.{held}
+use Rattle.hnsr_circuit.specs.Code.Question.{usageHas}
+use Rattle.hnsr_circuit.specs.Code.Held.{held}
 use Rattle.hnsr_circuit.specs.Laws.Held.{held-min, clear-rest, held-clear-step}
 use Rattle.hnsr_circuit.proofs.tables.ledger.clear_usage.Statement.{statement}
 use Rattle.hnsr_circuit.proofs.tables.ledger.clear_usage.Proof.Tie as tie

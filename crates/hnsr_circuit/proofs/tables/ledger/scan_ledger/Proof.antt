@@ -8,8 +8,9 @@ use borrow.Author.Needs.{needs}
 use Rattle.hns_encoding.specs.Loops.{foldFrom}
 use Rattle.hns_encoding.specs.Laws.Tests.{cond-le}
 use Rattle.hnsr_circuit.specs.Ledger.{isUsage, noUsage, clearUsage}
-use Rattle.hnsr_circuit.specs.Held.{held}
-use Rattle.hnsr_circuit.specs.Laws.Turns.{noRoom, roomOn, room-fold, ledgerAsked}
+use Rattle.hnsr_circuit.specs.Code.Held.{held}
+use Rattle.hnsr_circuit.specs.Laws.Turns.{room-fold}
+use Rattle.hnsr_circuit.specs.Code.Turns.{noRoom, roomOn, ledgerAsked}
 use Rattle.hnsr_circuit.specs.Laws.HeldTables.{room-rest}
 use Rattle.hnsr_circuit.specs.Laws.Held.{length-held, held-min, held-fold-step}
 use Rattle.hnsr_circuit.specs.declared.records.LedgerRoom.{LedgerRoom}

@@ -8,7 +8,7 @@ use borrow.Author.Tests.{ltb-true, ltb-false}
 use borrow.Author.Needs.{needs}
 use Rattle.hns_encoding.specs.Laws.Tests.{split}
 use Rattle.hnsr_circuit.specs.Ledger.{noUsage, clearUsage}
-use Rattle.hnsr_circuit.specs.Held.{heldLedger}
+use Rattle.hnsr_circuit.specs.Code.Held.{heldLedger}
 use Rattle.hnsr_circuit.specs.Laws.Held.{length-held, held-past, held-at}
 use Rattle.hnsr_circuit.proofs.tables.ledger.usage_at.Statement.{statement}
 use Rattle.hnsr_circuit.proofs.tables.ledger.usage_at.Proof.Tie as tie

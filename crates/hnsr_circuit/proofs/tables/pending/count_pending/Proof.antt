@@ -10,8 +10,8 @@ use borrow.Author.Needs.{needs}
 use Rattle.hns_encoding.specs.Sums.{count}
 use Rattle.hns_encoding.specs.Laws.Tests.{cond-le}
 use Rattle.hnsr_circuit.specs.Pending.{noPending, clearPending}
-use Rattle.hnsr_circuit.specs.Question.{pendingHas}
-use Rattle.hnsr_circuit.specs.Held.{held}
+use Rattle.hnsr_circuit.specs.Code.Question.{pendingHas}
+use Rattle.hnsr_circuit.specs.Code.Held.{held}
 use Rattle.hnsr_circuit.specs.Laws.HeldTables.{pending-unmarked}
 use Rattle.hnsr_circuit.specs.Laws.Held.{held-min, count-rest, held-count-next}
 use Rattle.hnsr_circuit.proofs.tables.pending.count_pending.Statement.{statement}

@@ -9,8 +9,8 @@ use borrow.Author.Needs.{needs}
 use Rattle.hns_encoding.specs.Loops.{foldFrom}
 use Rattle.hnsr_circuit.specs.Table.{nextTurn, next}
 use Rattle.hnsr_circuit.specs.Pending.{noPending, clearPending, pendingId}
-use Rattle.hnsr_circuit.specs.Question.{pendingHas}
-use Rattle.hnsr_circuit.specs.Held.{held}
+use Rattle.hnsr_circuit.specs.Code.Question.{pendingHas}
+use Rattle.hnsr_circuit.specs.Code.Held.{held}
 use Rattle.hnsr_circuit.specs.declared.records.Walked.{Walked}
 use Rattle.hnsr_circuit.specs.Laws.HeldTables.{pending-unmarked}
 use Rattle.hnsr_circuit.specs.Laws.Held.{held-min, fold-rest, held-fold-step, next-idle}

@@ -8,10 +8,11 @@ use lib.ListN.{length, getD, drop}
 use borrow.Author.Needs.{needs}
 use Rattle.hns_encoding.specs.Loops.{foldFrom}
 use Rattle.hnsr_circuit.specs.Pending.{noPending, clearPending}
-use Rattle.hnsr_circuit.specs.Question.{pendingWork}
-use Rattle.hnsr_circuit.specs.Held.{held}
+use Rattle.hnsr_circuit.specs.Code.Question.{pendingWork}
+use Rattle.hnsr_circuit.specs.Code.Held.{held}
 use Rattle.hnsr_circuit.specs.declared.records.Work.{Work}
-use Rattle.hnsr_circuit.specs.Laws.Turns.{WorkAtMost, work-more, work-none, pendingWorked, pending-most, pending-work}
+use Rattle.hnsr_circuit.specs.Laws.Turns.{work-more, work-none, pending-most, pending-work}
+use Rattle.hnsr_circuit.specs.Code.Turns.{WorkAtMost, pendingWorked}
 use Rattle.hnsr_circuit.specs.Laws.HeldTables.{pending-idle}
 use Rattle.hnsr_circuit.specs.Laws.Held.{held-min, fold-rest, held-fold-step}
 use Rattle.hnsr_circuit.specs.declared.records.RelayPending.{RelayPending}

@@ -12,8 +12,8 @@ use Rattle.hns_encoding.specs.Laws.Tests.{cond-le}
 use Rattle.hnsr_circuit.specs.declared.records.Walked.{Walked}
 use Rattle.hnsr_circuit.specs.Table.{nextTurn, next}
 use Rattle.hnsr_circuit.specs.Pending.{isPending, pendingId, noPending, clearPending}
-use Rattle.hnsr_circuit.specs.Question.{pendingHas}
-use Rattle.hnsr_circuit.specs.Held.{held}
+use Rattle.hnsr_circuit.specs.Code.Question.{pendingHas}
+use Rattle.hnsr_circuit.specs.Code.Held.{held}
 use Rattle.hnsr_circuit.specs.Laws.HeldTables.{pending-unmarked}
 use Rattle.hnsr_circuit.specs.Laws.Held.{held-min, count-rest, held-count-next, fold-rest, held-fold-step, next-idle}
 use native.Mathlib.Omega.{arith}

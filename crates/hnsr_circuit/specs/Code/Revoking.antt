@@ -8,7 +8,7 @@ use Rattle.hnsr_circuit.specs.declared.peer.HnsrPeerId.{HnsrPeerId}
 use Rattle.hnsr_circuit.specs.declared.records.RelayPending.{RelayPending}
 use Rattle.hnsr_circuit.specs.declared.records.RelayCircuit.{RelayCircuit}
 use Rattle.hnsr_circuit.specs.declared.records.Outgoing.{Outgoing}
-use Rattle.hnsr_circuit.specs.Message.{closeOn}
+use Rattle.hnsr_circuit.specs.Code.Message.{closeOn}
 use Rattle.hnsr_circuit.specs.declared.records.Question.{Question}
 use Rattle.hnsr_circuit.specs.declared.revocation.Revoking.{Revoking}
 use Rattle.hnsr_circuit.specs.declared.runtime.OpaqueRelayRuntime.{OpaqueRelayRuntime}
@@ -17,7 +17,7 @@ use Rattle.hnsr_circuit.specs.Header.{countRevoked, withCounters}
 use Rattle.hnsr_circuit.specs.World.{World, Outcome}
 use Rattle.hnsr_circuit.specs.Queue.{Sent}
 use Rattle.hnsr_circuit.specs.Opcode.{opClose, opError}
-use Rattle.hnsr_circuit.specs.Question.{ofPeer, pendingHas, circuitHas}
+use Rattle.hnsr_circuit.specs.Code.Question.{ofPeer, pendingHas, circuitHas}
 use Rattle.hnsr_circuit.specs.Revocation.{revokePending, revokeCircuitThere, revokeAll}
 use Rattle.hnsr_circuit.specs.RevokingCalls.{disconnectPending}
 

@@ -22,7 +22,7 @@ use Rattle.hnsr_circuit.specs.Opcode.{opOpen, opAccept, opData, opWindow
 use Rattle.hnsr_circuit.specs.Entry.{handleWords, acknowledgeWords}
 use Rattle.hnsr_circuit.specs.Packet.{Admission}
 use Rattle.hnsr_circuit.specs.Call.{Start, Call, callHandle, callAcknowledge}
-use Rattle.hnsr_circuit.specs.All.{machine}
+use Rattle.hnsr_circuit.specs.Worked.All.{machine}
 
 unfoldable pub caseConfig : (queue : ℕ) → OpaqueRelayConfig
 caseConfig queue = record {

@@ -31,12 +31,12 @@ use Rattle.hnsr_circuit.specs.Circuits.{sideOf}
 use Rattle.hnsr_circuit.specs.Inflight.{capacityAnswer}
 use Rattle.hnsr_circuit.specs.Header.{withCounters, countBytes, countRevoked}
 use Rattle.hnsr_circuit.specs.Peer.{peerOf}
-use Rattle.hnsr_circuit.specs.Question.{at, atReservation, named, pendingHas}
-use Rattle.hnsr_circuit.specs.Lookup.{pendingFound, circuitFound, usageFound}
-use Rattle.hnsr_circuit.specs.Queue.{actionsScanned}
-use Rattle.hnsr_circuit.specs.Progress.{asking}
+use Rattle.hnsr_circuit.specs.Code.Question.{at, atReservation, named, pendingHas}
+use Rattle.hnsr_circuit.specs.Code.Lookup.{pendingFound, circuitFound, usageFound}
+use Rattle.hnsr_circuit.specs.Code.Turns.{actionsScanned}
+use Rattle.hnsr_circuit.specs.Code.Progress.{asking}
 use Rattle.hnsr_circuit.specs.Packet.{circuitAnswer}
-use Rattle.hnsr_circuit.specs.Message.{passedOn, dataOn, translatedOn}
+use Rattle.hnsr_circuit.specs.Code.Message.{passedOn, dataOn, translatedOn}
 use Rattle.hnsr_circuit.specs.Data.{bytesAnswer, flowAnswer}
 use Rattle.hnsr_circuit.specs.Window.{creditAnswer}
 use Rattle.hnsr_circuit.specs.Close.{closeAnswer}

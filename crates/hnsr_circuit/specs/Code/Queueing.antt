@@ -11,7 +11,7 @@ use Rattle.hnsr_circuit.specs.declared.answer.HnsrAnswer.{HnsrAnswer}
 use Rattle.hnsr_circuit.specs.Answers.{taken, _then_}
 use Rattle.hnsr_circuit.specs.Header.{withSequence}
 use Rattle.hnsr_circuit.specs.Queue.{queueAnswer, actionFor}
-use Rattle.hnsr_circuit.specs.Progress.{messageOf, scanPlace}
+use Rattle.hnsr_circuit.specs.Code.Progress.{messageOf, scanPlace}
 
 pub record Queueing (before : HnsrAnswer) (h : OpaqueRelayRuntime) (m : Outgoing) (s : ActionScan) (r : Queued) : Type 0 where
   pub answer : r .answer ≡ (before then queueAnswer (h .config) (s .tally) (h .«next_action_sequence») (m .«context_id»))

@@ -14,7 +14,7 @@ use Rattle.hnsr_circuit.specs.Pending.{noPending}
 use Rattle.hnsr_circuit.specs.Circuits.{noCircuit}
 use Rattle.hnsr_circuit.specs.Ledger.{noUsage}
 use Rattle.hnsr_circuit.specs.Inflight.{noAction}
-use Rattle.hnsr_circuit.specs.Question.{pendingHas, circuitHas, usageHas, actionHas}
+use Rattle.hnsr_circuit.specs.Code.Question.{pendingHas, circuitHas, usageHas, actionHas}
 
 abbrev pub pendingFound : Question → List RelayPending → PendingFound
 pendingFound q t = record { found = any (pendingHas q) t; place = placeOf (pendingHas q) t; pending = pick (pendingHas q) noPending t }

@@ -22,8 +22,8 @@ use Rattle.hnsr_circuit.specs.Header.{newHeader, withSequence}
 use Rattle.hnsr_circuit.specs.Route.{Route, outWords, output}
 use Rattle.hnsr_circuit.specs.World.{World, Told, silent, statusIs, dueIs, withHeader}
 use Rattle.hnsr_circuit.specs.Call.{Call, callStatus, callNextDue, step}
-use Rattle.hnsr_circuit.specs.All.{machine}
-use Rattle.hnsr_circuit.specs.Cases.{caseConfig}
+use Rattle.hnsr_circuit.specs.Worked.All.{machine}
+use Rattle.hnsr_circuit.specs.Worked.Cases.{caseConfig}
 
 -- ---- records
 unfoldable pub peer : ℕ → HnsrPeerId

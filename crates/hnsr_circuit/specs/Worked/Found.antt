@@ -16,9 +16,9 @@ use Rattle.hnsr_circuit.specs.declared.records.NextDue.the-variants.{At}
 use Rattle.hnsr_circuit.specs.World.{World, dueIs}
 use Rattle.hnsr_circuit.specs.Opcode.{opClose, opError}
 use Rattle.hnsr_circuit.specs.Call.{callStatus, callNextDue, callObserveTime, callAcknowledge, callDisconnect, callExpire, start}
-use Rattle.hnsr_circuit.specs.All.{machine}
-use Rattle.hnsr_circuit.specs.Cases.{lent, newAt, requesterPeer, endpointPeer, openCall, acceptCall, packetCall}
-use Rattle.hnsr_circuit.specs.FoundWorlds.{peer, pendingBetween, pendingOn, until, circuitOn, usageOn, actionOn, found, free, answerOf, toldOf, dueAfter, routes, pendingAfter, firstCircuit, firstAction}
+use Rattle.hnsr_circuit.specs.Worked.All.{machine}
+use Rattle.hnsr_circuit.specs.Worked.Cases.{lent, newAt, requesterPeer, endpointPeer, openCall, acceptCall, packetCall}
+use Rattle.hnsr_circuit.specs.Worked.FoundWorlds.{peer, pendingBetween, pendingOn, until, circuitOn, usageOn, actionOn, found, free, answerOf, toldOf, dueAfter, routes, pendingAfter, firstCircuit, firstAction}
 
 -- ---- "22 output words too few or a table shorter than its maximum"
 unfoldable pub quiet : World

@@ -17,9 +17,9 @@ use Rattle.hnsr_circuit.specs.Circuits.{noCircuit}
 use Rattle.hnsr_circuit.specs.World.{World}
 use Rattle.hnsr_circuit.specs.Opcode.{opClose, opError}
 use Rattle.hnsr_circuit.specs.Call.{callReplaceEnabled, callAcknowledge, callDisconnect, callExpire}
-use Rattle.hnsr_circuit.specs.Cases.{requesterPeer, openCall, acceptCall, dataCall}
-use Rattle.hnsr_circuit.specs.FoundWorlds.{peer, pendingOn, circuitOn, usageOn, actionOn, found, free, lastSequence, lastGeneration, answerOf, wordsOf, outputAfter, routes, firstCircuit, headerAfter, actionsAfter, bytesQueued}
-use Rattle.hnsr_circuit.specs.Found.{quiet, fewActions, one-of-each}
+use Rattle.hnsr_circuit.specs.Worked.Cases.{requesterPeer, openCall, acceptCall, dataCall}
+use Rattle.hnsr_circuit.specs.Worked.FoundWorlds.{peer, pendingOn, circuitOn, usageOn, actionOn, found, free, lastSequence, lastGeneration, answerOf, wordsOf, outputAfter, routes, firstCircuit, headerAfter, actionsAfter, bytesQueued}
+use Rattle.hnsr_circuit.specs.Worked.Found.{quiet, fewActions, one-of-each}
 
 -- ---- a peer length over the most reads as the most; what stands behind a name is not read
 unfoldable pub longPeer : HnsrPeerId

@@ -20,7 +20,7 @@ use Rattle.hnsr_circuit.specs.Circuits.{clearCircuit}
 use Rattle.hnsr_circuit.specs.Ledger.{clearUsage}
 use Rattle.hnsr_circuit.specs.Inflight.{clearAction}
 use Rattle.hnsr_circuit.specs.World.{World, worldOf}
-use Rattle.hnsr_circuit.specs.Progress.{Progress, Result, underway, handedBack}
+use Rattle.hnsr_circuit.specs.Code.Progress.{Progress, Result, underway, handedBack}
 
 -- ---- a table as it is seen
 module _ {A : Type 0} (unmark : A → A) where

@@ -20,16 +20,14 @@ use Rattle.hnsr_circuit.specs.Packet.{hasCircuit, circuitIn}
 use Rattle.hnsr_circuit.specs.Revocation.{hasPending, pendingIn}
 use Rattle.hnsr_circuit.specs.Call.{start}
 use Rattle.hnsr_run.specs.Past.{Action, Past, credit, weight, tally, lives}
-use Rattle.hnsr_run.specs.History.{begin}
 use Rattle.hnsr_run.specs.Claim.{Run, worldAt, pastAt}
 use Rattle.hnsr_run.specs.Tables.{SameCircuit, SameOpen}
 use Rattle.hnsr_run.specs.SameRun.{same-world}
-use Rattle.hnsr_run.specs.Theorem.{relay, companion}
+use Rattle.hnsr_run.specs.Theorem.{relay, run-rel, companion}
 use Rattle.hnsr_run.specs.Run.Actions.{view, tally-held}
 use Rattle.hnsr_run.specs.Run.Circuits.{none, stray, idle}
-use Rattle.hnsr_run.specs.Run.Rel.{Live, Base, Rel, Places}
-use Rattle.hnsr_run.specs.Run.Start.{start-rel}
-use Rattle.hnsr_run.specs.Run.Runs.{run-both}
+use Rattle.hnsr_run.specs.Run.Rel.{Live, Base}
+use Rattle.hnsr_run.specs.Run.Runs.{Between}
 use Rattle.hnsr_run.specs.Run.Shape.{Shape}
 use Rattle.hnsr_run.specs.Run.ShapeRuns.{run-shape as left-shape}
 
@@ -46,13 +44,11 @@ module _ (r : Run relay) where
       (left-shape (r .lent) (r .began) (r .calls) (r .new-taken))
 
   -- ---- the whole relation to history, of which the rest are parts
-  pub run-rel : Rel left told × Places left × (sequenceOf left < top 64)
-  run-rel =
-      let b = start-rel (r .lent) (r .began) (r .new-taken) (r .limit) in
-      run-both (r .calls) (start (r .lent) (r .began) .world) (begin (r .began)) 1 (b .0) (b .1) (b .2) (r .bounded)
+  pub related : Between left told × (sequenceOf left < top 64)
+  related = run-rel r
 
   base : Base none left told
-  base = run-rel .0 .base
+  base = related .0 .rel .base
 
   -- ---- header
   pub generation-is : generationOf left ≡ told .head .generation
@@ -67,12 +63,16 @@ module _ (r : Run relay) where
   pub config-is : configOf left ≡ told .head .config
   config-is = base .heads .config
 
+  -- the number that the next action gets
+  pub next-is : sequenceOf left ≡ told .head .next
+  next-is = related .0 .next
+
   -- off: no circuit is active, and no OPEN stands
   pub off-circuits : told .head .enabled ≡ false → (j : ℕ) → told .active j ≡ false
-  off-circuits = run-rel .0 .quiet
+  off-circuits = related .0 .rel .quiet
 
   pub off-opens : told .head .enabled ≡ false → (j : ℕ) → told .opens .standing j ≡ false
-  off-opens = run-rel .0 .quietP
+  off-opens = related .0 .rel .quietP
 
   -- ---- circuits
   pub circuit-there : (j : ℕ) → hasCircuit left j ≡ told .active j
@@ -155,7 +155,7 @@ module _ (r : Run relay) where
   numbers-ours = base .full .acts .ours
 
   pub sequence-below : sequenceOf left < top 64
-  sequence-below = run-rel .2
+  sequence-below = related .1
 
   -- the three counts of the action capacity
   pub tally-is : (j : ℕ) (peer : HnsrPeerId) → tallied false j peer (left .inflight) ≡ tally j peer (told .out)

@@ -111,7 +111,7 @@ holds w h R H low = record {
 }
 
 -- ---- every run keeps the invariant
-run-rel : (r : Run relay) → Between (worldAt relay r) (pastAt relay r) × (sequenceOf (worldAt relay r) < top 64)
+pub run-rel : (r : Run relay) → Between (worldAt relay r) (pastAt relay r) × (sequenceOf (worldAt relay r) < top 64)
 run-rel r =
     let b = start-rel (r .lent) (r .began) (r .new-taken) (r .limit) in
     run-between (r .calls) (start (r .lent) (r .began) .world) (begin (r .began))

@@ -27,7 +27,8 @@ impl<'a> Admission<'a> {
 /// Who is called, and by which ticket.
 #[derive(Clone, Copy, Debug, Default, Eq, PartialEq)]
 pub struct Grant<'a> {
-    /// The endpoint's name. An OPEN is refused with 4 where it does not have 1 to 128 bytes.
+    /// The endpoint's name. An OPEN is refused with 4 where it does not have 1 to [`MAXIMUM_PEER`](crate::MAXIMUM_PEER)
+    /// bytes.
     pub endpoint: &'a [u8],
     /// The reservation.
     pub reservation_id: [u8; 16],

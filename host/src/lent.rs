@@ -30,13 +30,14 @@ use crate::ffi::Cause;
 use crate::route::HnsrActionId;
 use crate::status::HnsrRuntimeStatus;
 
+pub use crate::limits::{CLOSING_WORDS, HANDLE_WORDS};
 pub use places::Places;
 pub use records::{
     InflightAction, RelayCircuit, RelayPacket, RelayPending, RelayTicket, ReservationId, ReservationUsage, Runtime,
     RuntimeCounters, StoredPeer,
 };
 pub(crate) use tables::unused;
-pub use tables::{InUse, Tables, CLOSING_WORDS, HANDLE_WORDS};
+pub use tables::{InUse, Tables};
 
 /// A packet, and what the host hands over with it.
 #[derive(Clone, Copy, Debug, Default, Eq, PartialEq)]

@@ -44,7 +44,8 @@
 //! # Ok::<(), HnsrRuntimeError>(())
 //! ```
 //!
-//! [`lent`] has the same calls over tables that the host keeps itself, and [`body`] the checks of the messages' bodies.
+//! [`lent`] has the same calls over tables that the host keeps itself, [`body`] the checks of the messages' bodies, and
+//! [`limits`] document 01's figures.
 //!
 //! Proved is what stands behind the calls, in the crates of the project. This crate is not: it declares the C functions of the
 //! archive that `rt staticlib lekchnam` writes, and gives them these types. It runs on x86-64, as the archive does. `host/archive`
@@ -58,6 +59,7 @@ mod error;
 #[allow(unsafe_code)]
 mod ffi;
 pub mod lent;
+pub mod limits;
 mod packet;
 mod peer;
 mod random;
@@ -68,8 +70,9 @@ mod status;
 pub use admission::{Admission, Grant};
 pub use config::OpaqueRelayConfig;
 pub use error::HnsrRuntimeError;
+pub use limits::MAXIMUM_PEER;
 pub use packet::{HnsrOpcode, HnsrPacket, UnknownOpcode};
-pub use peer::{HnsrPeerId, MAXIMUM_PEER};
+pub use peer::HnsrPeerId;
 pub use random::{OsRandom, RandomSource, RANDOM_BYTES};
 pub use relay::OpaqueRelayRuntime;
 pub use route::{HnsrActionId, HnsrRoute, QueuedHnsrRoute, RouteIter, Routes};

@@ -106,6 +106,11 @@ impl UnknownOpcode {
     }
 }
 
+impl HnsrOpcode {
+    /// How many messages there are. Their numbers lie below this.
+    pub const COUNT: u8 = NAMED.len() as u8;
+}
+
 impl From<u8> for HnsrOpcode {
     fn from(number: u8) -> Self {
         NAMED.get(usize::from(number)).copied().unwrap_or(Self::Unknown(UnknownOpcode(number)))

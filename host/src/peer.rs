@@ -1,20 +1,18 @@
 //! The name of a peer.
 use crate::error::HnsrRuntimeError;
 use crate::lent::StoredPeer;
+use crate::limits::MAXIMUM_PEER;
 use std::cmp::Ordering;
 use std::fmt::{self, Debug, Formatter};
 
-/// The most bytes that a name has.
-pub const MAXIMUM_PEER: usize = 128;
-
-/// The name that the host gives to one connection: 1 to 128 bytes.
+/// The name that the host gives to one connection: 1 to [`MAXIMUM_PEER`] bytes.
 ///
 /// A name in a route is what the tables hold. Only tables that a host put together can hold one of no bytes.
 #[derive(Clone, Copy, Eq, Hash, PartialEq)]
 pub struct HnsrPeerId(StoredPeer);
 
 impl HnsrPeerId {
-    /// A name of these bytes; 4 where there are none or more than 128.
+    /// A name of these bytes; 4 where there are none or more than [`MAXIMUM_PEER`].
     pub fn new(bytes: impl Into<Vec<u8>>) -> Result<Self, HnsrRuntimeError> {
         let bytes = bytes.into();
         match bytes.len() {
@@ -28,7 +26,7 @@ impl HnsrPeerId {
         self.0.as_bytes()
     }
 
-    /// A name of at most 128 bytes, with zeros behind it, as the relay stores one.
+    /// A name of at most `MAXIMUM_PEER` bytes, with zeros behind it, as the relay stores one.
     pub(crate) fn padded(name: &[u8]) -> Self {
         let mut stored = StoredPeer { len: name.len(), ..StoredPeer::default() };
         stored.bytes[..name.len()].copy_from_slice(name);

@@ -1,7 +1,8 @@
 //! The routes that a call hands out, read from its output words.
 use crate::ffi::bytes_of;
+use crate::limits::{words_of, ADDRESS_WORDS, HEAD_WORDS, MAXIMUM_PEER};
 use crate::packet::HnsrPacket;
-use crate::peer::{HnsrPeerId, MAXIMUM_PEER};
+use crate::peer::HnsrPeerId;
 use std::fmt::{self, Debug, Formatter};
 use std::iter::FusedIterator;
 
@@ -10,16 +11,8 @@ use std::iter::FusedIterator;
 const GENERATION: usize = 1;
 const SEQUENCE: usize = GENERATION + 2;
 const NAME: usize = SEQUENCE + 2;
-const PACKET: usize = NAME + words_of(MAXIMUM_PEER);
+const PACKET: usize = ADDRESS_WORDS;
 const CONTEXT: usize = PACKET + 1;
-
-/// Words of a route in front of its body.
-pub(crate) const HEAD_WORDS: usize = CONTEXT + 2;
-
-/// How many words so many bytes take.
-pub(crate) const fn words_of(bytes: usize) -> usize {
-    bytes.div_ceil(4)
-}
 
 /// The number of a route, by which the host acknowledges it.
 #[derive(Clone, Copy, Debug, Eq, Hash, PartialEq)]

@@ -3,6 +3,8 @@ use lekchnam_host::body::{
     validate_packet, AcceptBody, CloseBody, DataBody, ErrorBody, IncomingBody, Invalid, OpenBody, OpenedBody, ProtocolError,
     Read, ReasonDetail, WindowBody,
 };
+use lekchnam_host::limits::{HNSR_HEADER_SIZE, MAX_DATA_SIZE, MAX_DETAIL_SIZE, MAX_PACKET_SIZE, MAX_WINDOW, MIN_WINDOW};
+use lekchnam_host::HnsrOpcode;
 use std::fmt::Debug;
 
 #[path = "support/inputs.rs"]
@@ -75,8 +77,8 @@ fn allowed(field: Field, bytes: &[u8], key_valid: bool) -> bool {
     match field {
         Field::Id(_) | Field::Nonce | Field::Profile => bytes.iter().any(|byte| *byte != 0),
         Field::Key => key_valid,
-        Field::Window => (16_384..=1_048_576).contains(&number()),
-        Field::Delta => (1..=1_048_576).contains(&number()),
+        Field::Window => (u64::from(MIN_WINDOW)..=u64::from(MAX_WINDOW)).contains(&number()),
+        Field::Delta => (1..=u64::from(MAX_WINDOW)).contains(&number()),
         Field::Reason | Field::Length => true,
     }
 }
@@ -84,7 +86,7 @@ fn allowed(field: Field, bytes: &[u8], key_valid: bool) -> bool {
 /// DATA is 1 to 16,384 bytes (cases 1 to 3).
 fn data_size(length: usize) -> Result<(), ProtocolError> {
     match length {
-        1..=16_384 => Ok(()),
+        1..=MAX_DATA_SIZE => Ok(()),
         _ => Err(ProtocolError::Invalid(Invalid::DataSize)),
     }
 }
@@ -92,7 +94,7 @@ fn data_size(length: usize) -> Result<(), ProtocolError> {
 /// "a length over 128, or not the count of bytes left, is Invalid"; "Detail is UTF-8".
 fn detail(length_and_text: &[u8]) -> Result<(), ProtocolError> {
     let (length, text) = (usize::from(length_and_text[0]), &length_and_text[1..]);
-    if length > 128 || length != text.len() {
+    if length > MAX_DETAIL_SIZE || length != text.len() {
         return Err(ProtocolError::Invalid(Invalid::DiagnosticDetail));
     }
     if !rfc_3629(text) {
@@ -234,10 +236,10 @@ fn packets_of_every_opcode() {
     let list = packets();
     for packet in &list {
         let Packet { opcode, context_id, body_length } = *packet;
-        let actual = body_length.saturating_add(12);
-        let documented = if actual > 65_535 {
-            Err(ProtocolError::TooLarge { actual, maximum: 65_535 })
-        } else if context_id == [0; 8] && opcode != 6 {
+        let actual = body_length.saturating_add(HNSR_HEADER_SIZE);
+        let documented = if actual > MAX_PACKET_SIZE {
+            Err(ProtocolError::TooLarge { actual, maximum: MAX_PACKET_SIZE })
+        } else if context_id == [0; 8] && HnsrOpcode::from(opcode) != HnsrOpcode::SampleRoutes {
             Err(ProtocolError::Invalid(Invalid::ContextZero))
         } else {
             Ok(())
@@ -256,7 +258,7 @@ fn a_refusal_has_the_words_of_the_rust() {
     );
     assert_eq!(words(ProtocolError::TrailingBytes { remaining: 3 }), "3 trailing byte(s) remain");
     assert_eq!(
-        words(ProtocolError::TooLarge { actual: 65_536, maximum: 65_535 }),
+        words(ProtocolError::TooLarge { actual: MAX_PACKET_SIZE + 1, maximum: MAX_PACKET_SIZE }),
         "HNSR field length 65536 exceeds maximum 65535"
     );
     assert_eq!(words(ProtocolError::Invalid(Invalid::NotUtf8)), "invalid HNSR value: HNSR detail is not UTF-8");

@@ -6,6 +6,7 @@ mod bodies;
 mod office;
 mod reckoning;
 
+use lekchnam_host::HnsrRuntimeError;
 use office::{Office, Result};
 use std::process::ExitCode;
 
@@ -80,7 +81,7 @@ fn a_broken_connection(office: &mut Office) -> Result<()> {
 
     office.step("Its acknowledgement comes too late: the circuit is gone, and so is the action.");
     for letter in under_way {
-        office.refused(letter, 20)?;
+        office.refused(letter, HnsrRuntimeError::UnknownAction)?;
     }
     office.settle()?;
     office.check()
@@ -111,7 +112,7 @@ fn off_and_on(office: &mut Office) -> Result<()> {
 
     office.step("Off: acknowledgements of the last generation are stale. Then it is switched on again.");
     for letter in under_way {
-        office.refused(letter, 5)?;
+        office.refused(letter, HnsrRuntimeError::StaleGeneration)?;
     }
     office.settle()?;
     office.switch(true)?;

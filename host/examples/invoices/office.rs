@@ -3,8 +3,8 @@ use crate::bodies;
 use crate::reckoning::{Id, Reckoning, Work};
 use lekchnam_host::body::CloseBody;
 use lekchnam_host::{
-    Admission, Grant, HnsrActionId, HnsrOpcode, HnsrPacket, HnsrPeerId, HnsrRuntimeStatus, OpaqueRelayConfig, OpaqueRelayRuntime,
-    QueuedHnsrRoute, Routes,
+    Admission, Grant, HnsrActionId, HnsrOpcode, HnsrPacket, HnsrPeerId, HnsrRuntimeError, HnsrRuntimeStatus, OpaqueRelayConfig,
+    OpaqueRelayRuntime, QueuedHnsrRoute, Routes,
 };
 use std::collections::VecDeque;
 use std::error::Error;
@@ -194,14 +194,14 @@ impl Office {
         self.acknowledge(letter, false)
     }
 
-    /// An acknowledgement that the relay must refuse with this number.
-    pub fn refused(&mut self, letter: Letter, number: u32) -> Result<()> {
+    /// An acknowledgement that the relay must refuse so.
+    pub fn refused(&mut self, letter: Letter, expected: HnsrRuntimeError) -> Result<()> {
         match self.relay.acknowledge(letter.action_id, true) {
-            Err(refusal) if refusal.number() == number => {
-                println!("     the acknowledgement is refused, {number}: {refusal}");
+            Err(refusal) if refusal == expected => {
+                println!("     the acknowledgement is refused, {}: {refusal}", refusal.number());
                 Ok(())
             }
-            other => Err(format!("refusal {number} expected, not {other:?}").into()),
+            other => Err(format!("{expected:?} expected, not {other:?}").into()),
         }
     }
 

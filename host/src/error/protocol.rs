@@ -17,11 +17,12 @@ pub enum Invalid {
     AcceptResponse = 4,
     /// OPENED: the circuit is zero.
     CircuitZero = 5,
-    /// DATA: no bytes, or more than 16,384.
+    /// DATA: no bytes, or more than [`MAX_DATA_SIZE`](crate::limits::MAX_DATA_SIZE).
     DataSize = 6,
-    /// WINDOW: a delta of 0, or over 1,048,576.
+    /// WINDOW: a delta of 0, or over [`MAX_WINDOW`](crate::limits::MAX_WINDOW).
     WindowCredit = 7,
-    /// CLOSE, ERROR: the length is over 128, or not the count of bytes left.
+    /// CLOSE, ERROR: the length is over [`MAX_DETAIL_SIZE`](crate::limits::MAX_DETAIL_SIZE), or not the count of bytes
+    /// left.
     DiagnosticDetail = 8,
     /// CLOSE, ERROR: the detail is not UTF-8.
     NotUtf8 = 9,

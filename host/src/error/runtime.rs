@@ -14,7 +14,7 @@ pub enum HnsrRuntimeError {
     InvalidConfig,
     /// 3: the session or the generation is zero.
     InvalidSession,
-    /// 4: a name does not have 1 to 128 bytes.
+    /// 4: a name does not have 1 to [`MAXIMUM_PEER`](crate::MAXIMUM_PEER) bytes.
     InvalidPeer,
     /// 5: the relay has another generation.
     StaleGeneration,
@@ -56,7 +56,10 @@ pub enum HnsrRuntimeError {
     LedgerFull,
 }
 
-/// Those without a cause, by number from 2 on, with their words.
+/// The number of a refusal that has a cause.
+const PROTOCOL: u32 = 1;
+
+/// Those without a cause, by number from the one behind `PROTOCOL` on, with their words.
 const PLAIN: [(HnsrRuntimeError, &str); 22] = {
     use HnsrRuntimeError::*;
     [
@@ -89,7 +92,7 @@ impl HnsrRuntimeError {
     /// Document 01's number: 1 to 23.
     pub fn number(self) -> u32 {
         let place = PLAIN.iter().position(|(plain, _)| *plain == self);
-        place.map_or(1, |place| place as u32 + 2)
+        place.map_or(PROTOCOL, |place| PROTOCOL + 1 + place as u32)
     }
 }
 
@@ -97,7 +100,7 @@ impl Display for HnsrRuntimeError {
     fn fmt(&self, f: &mut Formatter<'_>) -> fmt::Result {
         match self {
             Self::Protocol(cause) => cause.fmt(f),
-            plain => f.write_str(PLAIN[plain.number() as usize - 2].1),
+            plain => f.write_str(by_number(plain.number()).expect("it has no cause").1),
         }
     }
 }
@@ -110,12 +113,17 @@ impl From<ProtocolError> for HnsrRuntimeError {
     }
 }
 
-/// The archive's answer by its name: 0 is taken, and a 1 has a cause.
+/// The refusal without a cause that has a number.
+fn by_number(number: u32) -> Option<&'static (HnsrRuntimeError, &'static str)> {
+    PLAIN.get(number.checked_sub(PROTOCOL + 1)? as usize)
+}
+
+/// The archive's answer by its name: 0 is taken.
 pub(crate) fn answered(answer: u32, cause: Cause) -> Result<(), HnsrRuntimeError> {
-    match (answer, checked(cause)) {
-        (0, Ok(())) => Ok(()),
-        (1, Err(cause)) => Err(cause.into()),
-        (2..=23, Ok(())) => Err(PLAIN[answer as usize - 2].0),
-        unknown => panic!("liblekchnam.a is of another version: answer {unknown:?}"),
+    match (answer, checked(cause), by_number(answer)) {
+        (0, Ok(()), _) => Ok(()),
+        (PROTOCOL, Err(cause), _) => Err(cause.into()),
+        (_, Ok(()), Some((refused, _))) => Err(*refused),
+        (answer, cause, _) => panic!("liblekchnam.a is of another version: answer {:?}", (answer, cause)),
     }
 }

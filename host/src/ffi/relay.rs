@@ -253,6 +253,7 @@ pub fn next_due(tables: &Tables, runtime: Runtime) -> DueReply {
 #[cfg(test)]
 mod tests {
     use super::*;
+    use crate::error::HnsrRuntimeError::{ClockRollback, InvalidConfig, InvalidSession, Short};
     use crate::lent::RuntimeCounters;
 
     /// Of limits: as many places as they ask, every mark set.
@@ -308,17 +309,17 @@ mod tests {
             tables
         };
         let refused = [
-            (3, new(&tables, [0; 16], 1, config, 9)),
-            (3, new(&tables, [1; 16], 0, wrong, 9)),
-            (2, new(&tables, [1; 16], 1, wrong, 9)),
-            (22, new(&Tables::default(), [1; 16], 1, config, 9)),
-            (22, new(&without(|tables| tables.pending.truncate(1)), [1; 16], 1, config, 9)),
-            (22, new(&without(|tables| tables.circuits.truncate(2)), [1; 16], 1, config, 9)),
-            (22, new(&without(|tables| tables.inflight.truncate(7)), [1; 16], 1, config, 9)),
-            (22, new(&without(|tables| tables.ledger.clear()), [1; 16], 1, config, 9)),
+            (InvalidSession, new(&tables, [0; 16], 1, config, 9)),
+            (InvalidSession, new(&tables, [1; 16], 0, wrong, 9)),
+            (InvalidConfig, new(&tables, [1; 16], 1, wrong, 9)),
+            (Short, new(&Tables::default(), [1; 16], 1, config, 9)),
+            (Short, new(&without(|tables| tables.pending.truncate(1)), [1; 16], 1, config, 9)),
+            (Short, new(&without(|tables| tables.circuits.truncate(2)), [1; 16], 1, config, 9)),
+            (Short, new(&without(|tables| tables.inflight.truncate(7)), [1; 16], 1, config, 9)),
+            (Short, new(&without(|tables| tables.ledger.clear()), [1; 16], 1, config, 9)),
         ];
-        for (number, reply) in refused {
-            assert_eq!((reply.answer, reply.words), (number, 0));
+        for (refusal, reply) in refused {
+            assert_eq!((reply.answer, reply.words), (refusal.number(), 0));
             assert_eq!((reply.runtime, reply.places), (no_header(), Places::EVERY));
         }
         let taken = new(&tables, [1; 16], 5, config, 9);
@@ -338,7 +339,7 @@ mod tests {
     fn observe_time_hands_back_the_numbers() {
         for places in [Places::NONE, Places::EVERY, Places { pending: 1, circuits: 2, ledger: 3, actions: 4 }] {
             let runtime = Runtime { trusted_time_high_water: 5, ..no_header() };
-            for (time, number) in [(4, 7), (5, 0), (6, 0)] {
+            for (time, number) in [(4, ClockRollback.number()), (5, 0), (6, 0)] {
                 let reply = observe_time(runtime, places, time);
                 assert_eq!((reply.answer, reply.places), (number, places));
                 assert_eq!(reply.runtime, Runtime { trusted_time_high_water: time.max(5), ..runtime });

@@ -1,7 +1,7 @@
 //! The records of the four tables, as the archive has them. An id is a number whose highest byte is the first on the wire. Zero bytes
 //! are an unused record: `ffi::memory` goes by that.
 use crate::config::OpaqueRelayConfig;
-use crate::peer::MAXIMUM_PEER;
+use crate::limits::MAXIMUM_PEER;
 use std::hash::{Hash, Hasher};
 
 /// A reservation's sixteen bytes.
@@ -32,16 +32,17 @@ impl From<ReservationId> for [u8; 16] {
 ///
 /// ```
 /// use lekchnam_host::lent::StoredPeer;
+/// use lekchnam_host::MAXIMUM_PEER;
 ///
-/// let long = StoredPeer { len: 128, bytes: [7; 128] };
+/// let long = StoredPeer { len: MAXIMUM_PEER, bytes: [7; MAXIMUM_PEER] };
 /// assert_eq!(long, StoredPeer { len: usize::MAX, ..long });
 /// assert_eq!(StoredPeer { len: 0, ..long }, StoredPeer::default());
-/// assert_ne!(long, StoredPeer { len: 127, ..long });
+/// assert_ne!(long, StoredPeer { len: MAXIMUM_PEER - 1, ..long });
 /// ```
 #[repr(C)]
 #[derive(Clone, Copy, Debug)]
 pub struct StoredPeer {
-    /// How long the name is; over 128 reads as 128.
+    /// How long the name is; over [`MAXIMUM_PEER`] reads as that.
     pub len: usize,
     /// The name, and zeros behind it where the relay stored it.
     pub bytes: [u8; MAXIMUM_PEER],

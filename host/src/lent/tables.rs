@@ -3,14 +3,7 @@ use super::{InflightAction, Places, RelayCircuit, RelayPending, ReservationUsage
 use crate::config::OpaqueRelayConfig;
 use crate::error::HnsrRuntimeError;
 use crate::ffi::memory::{zeroed, Zeroed};
-use crate::route::{words_of, HEAD_WORDS};
-
-/// The output words that [`handle`](super::handle) needs: a route with the longest DATA.
-pub const HANDLE_WORDS: usize = HEAD_WORDS + words_of(16_384);
-
-/// The output words that [`acknowledge`](super::acknowledge) needs, and a revoking call for each used pending record and circuit:
-/// two routes with the longest message of the relay's own, which is 30 bytes.
-pub const CLOSING_WORDS: usize = 2 * (HEAD_WORDS + words_of(30));
+use crate::limits::{CLOSING_WORDS, HANDLE_WORDS};
 
 /// The tables that a call is lent, and how many places of each are in use. A call may be lent any records and any numbers, also such
 /// as no relay would leave.

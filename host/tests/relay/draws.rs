@@ -115,8 +115,8 @@ fn only_an_open_draws() {
         calls.set(calls.get() + 1);
         OsRandom::default().supply(room)
     });
-    for number in (0..=255_u8).filter(|number| *number != 13) {
-        let packet = HnsrPacket { opcode: number.into(), context_id: [1; 8], body: &[] };
+    for opcode in (0..=255_u8).map(HnsrOpcode::from).filter(|opcode| *opcode != HnsrOpcode::Open) {
+        let packet = HnsrPacket { opcode, context_id: [1; 8], body: &[] };
         assert!(relay.handle(&Admission::Refused, &peer(b"r"), &packet, START).is_err());
     }
     assert_eq!(calls.get(), 0);

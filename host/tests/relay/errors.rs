@@ -2,6 +2,7 @@
 use crate::fixture::{circuit, grant, open, open_body, peer, relay, say, small, START};
 use lekchnam_host::body::{Invalid, ProtocolError};
 use lekchnam_host::lent::{ReservationUsage, Tables};
+use lekchnam_host::limits::*;
 use lekchnam_host::HnsrRuntimeError::{self, *};
 use lekchnam_host::{
     Admission, Grant, HnsrActionId, HnsrOpcode, HnsrPacket, HnsrPeerId, OpaqueRelayConfig, OpaqueRelayRuntime, OsRandom,
@@ -64,7 +65,7 @@ fn opcodes_have_the_numbers_of_the_rust() {
 #[test]
 fn every_opcode_from_21_on_is_refused_with_16_and_moves_the_clock() {
     let mut relay = relay(small());
-    for (number, now) in (21..=255_u8).zip(START..) {
+    for (number, now) in (HnsrOpcode::COUNT..=255).zip(START..) {
         let packet = HnsrPacket::new(number.into(), [1; 8], b"").expect("a packet");
         assert_eq!(relay.handle(&Admission::Refused, &peer(b"r"), &packet, now).unwrap_err(), UnexpectedOpcode);
         assert_eq!(relay.status().trusted_time_high_water, now);
@@ -74,8 +75,8 @@ fn every_opcode_from_21_on_is_refused_with_16_and_moves_the_clock() {
 #[test]
 fn names_of_peers() {
     assert_eq!(HnsrPeerId::new(""), Err(InvalidPeer));
-    assert_eq!(HnsrPeerId::new([7; 129]), Err(InvalidPeer));
-    for length in [1, 2, 127, 128] {
+    assert_eq!(HnsrPeerId::new([7; MAXIMUM_PEER + 1]), Err(InvalidPeer));
+    for length in [1, 2, MAXIMUM_PEER - 1, MAXIMUM_PEER] {
         let name = vec![7; length];
         assert_eq!(peer(&name).as_bytes(), name);
     }
@@ -110,6 +111,31 @@ fn new_refuses_session_then_configuration_then_ledger() {
     }
     assert_eq!(refused_new([1; 16], 1, small(), 0), Short);
     assert_eq!(small().validate(), Ok(small()));
+}
+
+#[test]
+fn a_limit_may_be_at_its_most_and_not_above() {
+    let most = OpaqueRelayConfig {
+        maximum_pending: MAX_RUNTIME_PENDING,
+        maximum_circuits: MAX_RUNTIME_CIRCUITS,
+        maximum_circuits_per_peer: MAX_CIRCUITS,
+        maximum_queue_bytes: MAX_CIRCUIT_QUEUE,
+        maximum_inflight_actions: MAX_RUNTIME_INFLIGHT_ACTIONS,
+        accept_timeout_seconds: MAX_OPEN_DEADLINE_SECONDS,
+        ..OpaqueRelayConfig::default()
+    };
+    assert_eq!(most.validate(), Ok(most));
+    let above = [
+        OpaqueRelayConfig { maximum_pending: MAX_RUNTIME_PENDING + 1, ..most },
+        OpaqueRelayConfig { maximum_circuits: MAX_RUNTIME_CIRCUITS + 1, ..most },
+        OpaqueRelayConfig { maximum_circuits_per_peer: MAX_CIRCUITS + 1, ..most },
+        OpaqueRelayConfig { maximum_queue_bytes: MAX_CIRCUIT_QUEUE + 1, ..most },
+        OpaqueRelayConfig { maximum_inflight_actions: MAX_RUNTIME_INFLIGHT_ACTIONS + 1, ..most },
+        OpaqueRelayConfig { accept_timeout_seconds: MAX_OPEN_DEADLINE_SECONDS + 1, ..most },
+    ];
+    for config in above {
+        assert_eq!(config.validate(), Err(InvalidConfig));
+    }
 }
 
 #[test]
@@ -160,7 +186,7 @@ fn an_open_is_refused_by_what_the_host_says_of_it() {
     assert_eq!(answer(Admission::Refused), Err(ProtocolError::Admission.into()));
     assert_eq!(answer(Admission::Granted(ended)), Err(ProtocolError::Admission.into()));
     assert_eq!(answer(Admission::Granted(grant(b""))), Err(InvalidPeer));
-    assert_eq!(answer(Admission::Granted(grant(&[7; 129]))), Err(InvalidPeer));
+    assert_eq!(answer(Admission::Granted(grant(&[7; MAXIMUM_PEER + 1]))), Err(InvalidPeer));
     assert_eq!(answer(Admission::Granted(grant(b"r"))), Err(Capacity));
     assert_eq!(answer(Admission::Granted(spent)), Err(ByteLimit));
     assert_eq!(answer(Admission::Granted(grant(b"e"))), Ok(1));
@@ -182,7 +208,7 @@ fn a_refused_call_has_no_words_and_may_move_the_clock() {
     assert!(!relay.words().is_empty());
     assert_eq!(say(&mut relay, b"r", HnsrOpcode::Data, id + 1, b"x").unwrap_err(), UnknownCircuit);
     assert!(relay.words().is_empty() && relay.routes().is_empty());
-    let unknown = HnsrPacket::new(21.into(), [1; 8], b"").expect("a packet");
+    let unknown = HnsrPacket::new(HnsrOpcode::COUNT.into(), [1; 8], b"").expect("a packet");
     assert_eq!(relay.handle(&Admission::Refused, &peer(b"r"), &unknown, START + 5).unwrap_err(), UnexpectedOpcode);
     assert_eq!(relay.status().trusted_time_high_water, START + 5);
     assert_eq!(relay.observe_time(START), Err(ClockRollback));

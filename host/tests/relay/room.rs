@@ -1,6 +1,7 @@
 //! Output words: what a call needs, and that a relay of its own tables always has them.
 use crate::fixture::{accept_body, circuit, grant, open, peer, relay, say, small, Counting, Relay, EXPIRY, START};
-use lekchnam_host::lent::{self, Packet, Places, RelayPacket, Runtime, Tables, CLOSING_WORDS, HANDLE_WORDS};
+use lekchnam_host::lent::{self, Packet, Places, RelayPacket, Runtime, Tables};
+use lekchnam_host::limits::*;
 use lekchnam_host::{Grant, HnsrActionId, HnsrOpcode, HnsrRuntimeError, OpaqueRelayConfig};
 
 /// So many records that their closings need more words than the longest DATA, and room for all of these.
@@ -95,8 +96,17 @@ fn needs(relay: &Relay, words: usize, call: impl Fn(&mut Tables, &mut [u32], &mu
 }
 
 #[test]
-fn each_call_needs_what_document_01_says() {
+fn the_figures_are_document_01s() {
     assert_eq!((HANDLE_WORDS, CLOSING_WORDS), (4_136, 96));
+    assert_eq!((MAXIMUM_PEER, PEER_WORDS, ADDRESS_WORDS, HEAD_WORDS), (128, 32, 37, 40));
+    assert_eq!((MAX_PACKET_SIZE, HNSR_HEADER_SIZE, MAX_DATA_SIZE, MAX_DETAIL_SIZE), (65_535, 12, 16_384, 128));
+    assert_eq!((MIN_WINDOW, MAX_WINDOW), (16_384, 1_048_576));
+    assert_eq!((MAX_RUNTIME_PENDING, MAX_RUNTIME_CIRCUITS, MAX_RUNTIME_INFLIGHT_ACTIONS), (65_536, 65_536, 262_144));
+    assert_eq!((MAX_CIRCUITS, MAX_CIRCUIT_QUEUE, MAX_OPEN_DEADLINE_SECONDS), (32, 65_536, 10));
+}
+
+#[test]
+fn each_call_needs_what_document_01_says() {
     for relay in [&filled(), &crammed()] {
         let status = relay.status();
         let closing = 96 * (status.pending_circuits + status.active_circuits);
@@ -113,8 +123,8 @@ fn each_call_needs_what_document_01_says() {
 fn handle_needs_a_route_with_the_longest_data_and_may_fill_it() {
     let mut relay = relay(small());
     let id = circuit(&mut relay, b"r", b"e", 1);
-    let head = RelayPacket { opcode: 17, context_id: id, now: START, ..RelayPacket::default() };
-    let packet = Packet { head, source: b"r", body: &[7; 16_384], ..Packet::default() };
+    let head = RelayPacket { opcode: HnsrOpcode::Data.into(), context_id: id, now: START, ..RelayPacket::default() };
+    let packet = Packet { head, source: b"r", body: &[7; MAX_DATA_SIZE], ..Packet::default() };
     needs(&relay, HANDLE_WORDS, |tables, out, runtime| lent::handle(tables, out, runtime, &packet));
     let words = with_room(&relay, HANDLE_WORDS, |tables, out, runtime| lent::handle(tables, out, runtime, &packet));
     assert_eq!(words, Ok(HANDLE_WORDS));

@@ -1,7 +1,8 @@
 //! Routes, read from output words.
 use crate::fixture::{self, circuit, grant, open, peer, relay, say, small, WINDOW};
 use lekchnam_host::body::{CloseBody, ErrorBody, IncomingBody, OpenedBody};
-use lekchnam_host::{HnsrActionId, HnsrOpcode, HnsrPacket, HnsrRoute, OpaqueRelayConfig, QueuedHnsrRoute, Routes};
+use lekchnam_host::limits::{ADDRESS_WORDS, MAX_BODY_SIZE, MAX_DATA_SIZE, PEER_WORDS};
+use lekchnam_host::{HnsrActionId, HnsrOpcode, HnsrPacket, HnsrRoute, OpaqueRelayConfig, QueuedHnsrRoute, Routes, MAXIMUM_PEER};
 
 /// Bytes that are all different as far as that goes.
 fn bytes(length: usize) -> Vec<u8> {
@@ -21,7 +22,7 @@ fn words(queued: &QueuedHnsrRoute<'_>) -> Vec<u32> {
         vec![0x1000_0000 + name.len() as u32],
         number(queued.action_id.generation),
         number(queued.action_id.sequence),
-        pack(name, 32),
+        pack(name, PEER_WORDS),
         vec![0x2000_0000 + u32::from(u8::from(packet.opcode)) * 0x1_0000 + packet.body.len() as u32],
         pack(&packet.context_id, 2),
         pack(packet.body, packet.body.len().div_ceil(4)),
@@ -37,8 +38,8 @@ fn route<'a>(name: &[u8], body: &'a [u8]) -> QueuedHnsrRoute<'a> {
 
 #[test]
 fn what_was_written_is_read_back() {
-    for name_length in [1, 2, 3, 4, 5, 127, 128] {
-        for body_length in [0, 1, 2, 3, 4, 5, 6, 7, 131, 16_383, 16_384, 65_523] {
+    for name_length in [1, 2, 3, 4, 5, MAXIMUM_PEER - 1, MAXIMUM_PEER] {
+        for body_length in [0, 1, 2, 3, 4, 5, 6, 7, 131, MAX_DATA_SIZE - 1, MAX_DATA_SIZE, MAX_BODY_SIZE] {
             let (name, body) = (bytes(name_length), bytes(body_length));
             let written = route(&name, &body);
             let words = words(&written);
@@ -71,26 +72,26 @@ fn words_that_are_no_route_end_them() {
     for length in 0..whole.len() {
         assert!(Routes::new(&whole[..length]).is_empty(), "{length} words");
     }
-    for (at, word) in [(0, 0), (0, 0x2000_0001), (37, 0x1011_0006), (37, 0x2011_ffff)] {
+    for (at, word) in [(0, 0), (0, 0x2000_0001), (ADDRESS_WORDS, 0x1011_0006), (ADDRESS_WORDS, 0x2011_ffff)] {
         let mut changed = whole.clone();
         changed[at] = word;
         assert!(Routes::new(&changed).is_empty(), "word {at} is {word:x}");
     }
     let followed = [&whole[..], &[7, 7, 7]].concat();
     assert_eq!(Routes::new(&followed).len(), 1);
-    // a length over 128 cannot be read past the name
+    // a length over the most cannot be read past the name
     let mut long = whole.clone();
     long[0] = 0x1000_00ff;
-    assert_eq!(Routes::new(&long).iter().next().expect("a route").route.destination.as_bytes().len(), 128);
+    assert_eq!(Routes::new(&long).iter().next().expect("a route").route.destination.as_bytes().len(), MAXIMUM_PEER);
     assert!(Routes::new(&vec![u32::MAX; 200]).is_empty());
 }
 
 #[test]
 fn data_passes_unchanged_whatever_its_length_and_the_names() {
     let config = OpaqueRelayConfig { maximum_circuits: 4, maximum_pending: 4, ..small() };
-    for (requester, endpoint) in [(1, 128), (128, 1), (127, 128), (2, 3)] {
+    for (requester, endpoint) in [(1, MAXIMUM_PEER), (MAXIMUM_PEER, 1), (MAXIMUM_PEER - 1, MAXIMUM_PEER), (2, 3)] {
         let (requester, endpoint) = (bytes(requester), [&[9], &bytes(endpoint)[1..]].concat());
-        for length in [1, 2, 3, 4, 5, 16_381, 16_382, 16_383, 16_384] {
+        for length in (1..=5).chain(MAX_DATA_SIZE - 3..=MAX_DATA_SIZE) {
             let mut relay = relay(config);
             let id = circuit(&mut relay, &requester, &endpoint, 1);
             let body = bytes(length);

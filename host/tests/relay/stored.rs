@@ -1,7 +1,7 @@
 //! A relay that goes on from stored parts.
 use crate::fixture::{circuit, grant, open, relay, restored, say, small, Counting, Relay, START};
 use lekchnam_host::lent::{self, Packet, RelayPacket, RelayPending, StoredPeer, Tables};
-use lekchnam_host::{HnsrActionId, HnsrOpcode, HnsrRuntimeError, Routes};
+use lekchnam_host::{HnsrActionId, HnsrOpcode, HnsrRuntimeError, Routes, MAXIMUM_PEER};
 use std::collections::HashSet;
 
 /// Every field of every place, also what stands behind a name, which `==` does not look at.
@@ -50,15 +50,17 @@ fn parts_with_too_few_places_are_refused() {
     assert!(Relay::from_parts(runtime, tables, Counting::default()).is_ok());
 }
 
-/// Two stored names are the same where the names are, as the relay reads them: no length over 128, nothing behind the name.
+/// Two stored names are the same where the names are, as the relay reads them: no length over the most, nothing behind
+/// the name.
 #[test]
 fn stored_names_are_equal_where_they_read_the_same() {
     let name = |len, behind| {
-        let mut bytes = [behind; 128];
+        let mut bytes = [behind; MAXIMUM_PEER];
         bytes[..2].copy_from_slice(b"ab");
         StoredPeer { len, bytes }
     };
-    let names = [0, 1, 2, 3, 127, 128, 129, usize::MAX].map(|len| [name(len, 0), name(len, 9)]);
+    let names =
+        [0, 1, 2, 3, MAXIMUM_PEER - 1, MAXIMUM_PEER, MAXIMUM_PEER + 1, usize::MAX].map(|len| [name(len, 0), name(len, 9)]);
     for one in names.as_flattened() {
         for other in names.as_flattened() {
             let same = one.as_bytes() == other.as_bytes();
@@ -69,18 +71,19 @@ fn stored_names_are_equal_where_they_read_the_same() {
         }
     }
     assert_eq!(name(2, 0), name(2, 9));
-    assert_eq!(name(128, 9), name(usize::MAX, 9));
+    assert_eq!(name(MAXIMUM_PEER, 9), name(usize::MAX, 9));
     assert_ne!(name(3, 0), name(3, 9));
 }
 
 /// "a peer length over 128 reads as 128"; a name of no bytes is in a table only where a host put it there.
 #[test]
 fn names_in_tables_are_read_as_found() {
-    for (len, read) in [(0, 0), (1, 1), (128, 128), (129, 128), (usize::MAX, 128)] {
+    for len in [0, 1, MAXIMUM_PEER, MAXIMUM_PEER + 1, usize::MAX] {
+        let read = len.min(MAXIMUM_PEER);
         let mut relay = relay(small());
         circuit(&mut relay, b"r", b"e", 1);
         let (runtime, mut tables) = relay.into_parts();
-        tables.circuits[0].endpoint = StoredPeer { len, bytes: [7; 128] };
+        tables.circuits[0].endpoint = StoredPeer { len, bytes: [7; MAXIMUM_PEER] };
         assert_eq!(tables.circuits[0].endpoint.as_bytes().len(), read);
         let mut relay = Relay::from_parts(runtime, tables, Counting::default()).expect("stored parts");
         let routes = relay.revoke_reservation([5; 16]).expect("not short");
@@ -113,7 +116,7 @@ fn lent_and_owned_agree() {
     let id = circuit(&mut relay, b"r", b"e", 1);
     let (mut runtime, mut tables) = (*relay.runtime(), relay.tables().clone());
     let mut out = vec![0xdead_beef; tables.most_words()];
-    let head = RelayPacket { opcode: 17, context_id: id, now: START, ..RelayPacket::default() };
+    let head = RelayPacket { opcode: HnsrOpcode::Data.into(), context_id: id, now: START, ..RelayPacket::default() };
     let packet = Packet { head, source: b"r", body: b"hello", ..Packet::default() };
     let words = lent::handle(&mut tables, &mut out, &mut runtime, &packet).expect("DATA");
     assert!(out[words..].iter().all(|word| *word == 0xdead_beef), "words beyond stay");

@@ -1,6 +1,9 @@
 //! The inputs that the readers are compared on, here and against the Rust: each length, each byte changed in turn, each limit, and
 //! bodies made and damaged by chance.
 use crate::random::Random;
+use lekchnam_host::limits::{
+    HNSR_HEADER_SIZE, MAX_BODY_SIZE, MAX_DATA_SIZE, MAX_DETAIL_SIZE, MAX_PACKET_SIZE, MAX_WINDOW, MIN_WINDOW,
+};
 
 #[derive(Clone, Copy, Debug, Eq, PartialEq)]
 pub enum Message {
@@ -54,8 +57,8 @@ impl Field {
     /// Values at and around its limits.
     fn edges(self) -> Vec<Vec<u8>> {
         match self {
-            Self::Window => numbers(&[0, 1, 16_383, 16_384, 16_385, 1_048_575, 1_048_576, 1_048_577, 1 << 30, u32::MAX]),
-            Self::Delta => numbers(&[0, 1, 2, 1_048_575, 1_048_576, 1_048_577, 1 << 24, u32::MAX]),
+            Self::Window => [numbers(&[0, 1, 1 << 30, u32::MAX]), around(MIN_WINDOW), around(MAX_WINDOW)].concat(),
+            Self::Delta => [numbers(&[0, 1, 2, 1 << 24, u32::MAX]), around(MAX_WINDOW)].concat(),
             Self::Reason => [0_u16, 1, 17, 18, 255, 256, 65_535].map(|n| n.to_le_bytes().to_vec()).to_vec(),
             Self::Length => Vec::new(),
             Self::Id(_) | Self::Key | Self::Profile | Self::Nonce => lone_bytes(self.width()),
@@ -65,6 +68,10 @@ impl Field {
 
 fn numbers(list: &[u32]) -> Vec<Vec<u8>> {
     list.iter().map(|n| n.to_le_bytes().to_vec()).collect()
+}
+
+fn around(limit: u32) -> Vec<Vec<u8>> {
+    numbers(&[limit - 1, limit, limit + 1])
 }
 
 /// All zero, all ones, and all zero but one byte.
@@ -211,7 +218,7 @@ fn zeroed(message: Message, good: &[u8]) -> Vec<Vec<u8>> {
 }
 
 fn data_bodies() -> Vec<Vec<u8>> {
-    let sizes = [0, 1, 2, 255, 256, 16_383, 16_384, 16_385, 65_523, 65_536];
+    let sizes = [0, 1, 2, 255, 256, MAX_DATA_SIZE - 1, MAX_DATA_SIZE, MAX_DATA_SIZE + 1, MAX_BODY_SIZE, MAX_PACKET_SIZE + 1];
     sizes.map(|size| (0..size).map(|at| (at * 7) as u8).collect()).to_vec()
 }
 
@@ -232,12 +239,13 @@ fn detail_bodies(message: Message) -> Vec<Vec<u8>> {
     list
 }
 
-/// Details of one and two bytes, all there are; around each edge of RFC 3629, alone and at the end of 128 bytes and of 129.
+/// Details of one and two bytes, all there are; around each edge of RFC 3629, alone and at the end of the most bytes and
+/// of one more.
 fn details() -> Vec<Vec<u8>> {
     let mut list: Vec<Vec<u8>> = (0..=255).map(|a| vec![a]).collect();
     list.extend((0..=65_535_u16).map(|pair| pair.to_be_bytes().to_vec()));
     for sample in samples() {
-        for length in [sample.len(), 127, 128, 129] {
+        for length in [sample.len(), MAX_DETAIL_SIZE - 1, MAX_DETAIL_SIZE, MAX_DETAIL_SIZE + 1] {
             list.push([&vec![b'a'; length - sample.len()][..], &sample].concat());
         }
         list.push([&sample, &b"a"[..]].concat());
@@ -278,7 +286,7 @@ fn good_by_chance(message: Message, random: &mut Random) -> Vec<u8> {
     match message {
         Message::Data => vec![random.byte(); 1 + random.below(300)],
         Message::Close | Message::Error => {
-            let most = random.below(129);
+            let most = random.below(MAX_DETAIL_SIZE + 1);
             let detail = random.text(most);
             detailed(random.below(65_536) as u16, &detail)
         }
@@ -286,11 +294,11 @@ fn good_by_chance(message: Message, random: &mut Random) -> Vec<u8> {
             let mut body: Vec<u8> = (0..message.size()).map(|_| random.byte()).collect();
             for (at, field) in message.places() {
                 let window = match field {
-                    Field::Window => 16_384 + random.below(1_048_576 - 16_384 + 1),
-                    Field::Delta => 1 + random.below(1_048_576),
+                    Field::Window => MIN_WINDOW + random.below((MAX_WINDOW - MIN_WINDOW) as usize + 1) as u32,
+                    Field::Delta => 1 + random.below(MAX_WINDOW as usize) as u32,
                     _ => continue,
                 };
-                body[at..at + 4].copy_from_slice(&(window as u32).to_le_bytes());
+                body[at..at + 4].copy_from_slice(&window.to_le_bytes());
             }
             body
         }
@@ -306,13 +314,18 @@ pub struct Packet {
 
 /// Every opcode, with contexts of no byte, of one and of eight that are not zero, and lengths around the limits.
 pub fn packets() -> Vec<Packet> {
-    let lengths = [0, 1, 65_522, 65_523, 65_524, 65_535, 65_536, usize::MAX - 12, usize::MAX - 11, usize::MAX];
+    let lengths = [
+        [0, 1, usize::MAX].as_slice(),
+        &[MAX_BODY_SIZE - 1, MAX_BODY_SIZE, MAX_BODY_SIZE + 1, MAX_PACKET_SIZE, MAX_PACKET_SIZE + 1],
+        &[usize::MAX - HNSR_HEADER_SIZE, usize::MAX - HNSR_HEADER_SIZE + 1],
+    ]
+    .concat();
     let contexts = lone_bytes(8);
     let mut list = Vec::new();
     for opcode in 0..=255 {
         for context in &contexts {
             let context_id = context[..].try_into().expect("eight bytes");
-            list.extend(lengths.map(|body_length| Packet { opcode, context_id, body_length }));
+            list.extend(lengths.iter().map(|body_length| Packet { opcode, context_id, body_length: *body_length }));
         }
     }
     list

@@ -1,7 +1,8 @@
 //! What is measured, and in which turns.
+use lekchnam_host::limits::MAX_DATA_SIZE;
 
 /// The bytes of the DATA that is measured.
-pub const SIZES: [usize; 3] = [1, 1_024, 16_384];
+pub const SIZES: [usize; 3] = [1, 1_024, MAX_DATA_SIZE];
 
 #[derive(Clone, Copy, Debug, Eq, PartialEq)]
 pub enum Call {

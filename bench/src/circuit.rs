@@ -1,6 +1,7 @@
 //! The circuits of a run, and the messages about them.
 use crate::call::{Refusal, SIZES};
 use crate::side::{Message, Name};
+use lekchnam_host::HnsrOpcode;
 use lekchnam_traces::Grant;
 
 /// The window that each OPEN offers and each ACCEPT takes.
@@ -45,24 +46,24 @@ impl Circuit {
     pub fn open(&self) -> Message {
         let window = WINDOW.to_le_bytes();
         let body = [&[1; 32][..], &self.endpoint, &[2; 33], &[1, 0], &[3; 16], &window].concat();
-        Message { source: self.requester, opcode: 13, context: self.context, body, grant: Some(self.grant()) }
+        Message { source: self.requester, opcode: HnsrOpcode::Open, context: self.context, body, grant: Some(self.grant()) }
     }
 
     pub fn accept(&self) -> Message {
-        self.message(self.endpoint, 15, [&WINDOW.to_le_bytes()[..], &[4; 16]].concat())
+        self.message(self.endpoint, HnsrOpcode::Accept, [&WINDOW.to_le_bytes()[..], &[4; 16]].concat())
     }
 
     pub fn data(&self, source: Name, size: usize) -> Message {
-        self.message(source, 17, vec![5; size])
+        self.message(source, HnsrOpcode::Data, vec![5; size])
     }
 
     /// What the endpoint sends when it has taken so many bytes.
     pub fn window(&self, delta: usize) -> Message {
-        self.message(self.endpoint, 18, (delta as u32).to_le_bytes().to_vec())
+        self.message(self.endpoint, HnsrOpcode::Window, (delta as u32).to_le_bytes().to_vec())
     }
 
     pub fn close(&self) -> Message {
-        self.message(self.requester, 19, vec![0, 0, 0])
+        self.message(self.requester, HnsrOpcode::Close, vec![0, 0, 0])
     }
 
     /// The CLOSE of a requester that does not wait for the ACCEPT.
@@ -74,13 +75,13 @@ impl Circuit {
     pub fn refused(&self, refusal: Refusal) -> Message {
         match refusal {
             Refusal::Circuit => Message { context: self.context, ..self.data(self.requester, SIZES[1]) },
-            Refusal::Body => self.message(self.endpoint, 18, vec![0; 3]),
+            Refusal::Body => self.message(self.endpoint, HnsrOpcode::Window, vec![0; 3]),
             Refusal::Request => Message { context: self.context, ..self.accept() },
-            Refusal::Opcode => self.message(self.endpoint, 16, Vec::new()),
+            Refusal::Opcode => self.message(self.endpoint, HnsrOpcode::Opened, Vec::new()),
         }
     }
 
-    fn message(&self, source: Name, opcode: u8, body: Vec<u8>) -> Message {
+    fn message(&self, source: Name, opcode: HnsrOpcode, body: Vec<u8>) -> Message {
         Message { source, opcode, context: self.id, body, grant: None }
     }
 }

@@ -5,6 +5,7 @@ mod rust;
 pub use library::Library;
 pub use rust::Rust;
 
+use lekchnam_host::HnsrOpcode;
 use lekchnam_traces::{Config, Grant};
 use std::fmt::{Debug, Display};
 use std::hint::black_box;
@@ -22,7 +23,7 @@ pub type Name = [u8; 16];
 /// What `handle` is given.
 pub struct Message {
     pub source: Name,
-    pub opcode: u8,
+    pub opcode: HnsrOpcode,
     pub context: [u8; 8],
     pub body: Vec<u8>,
     /// Of an OPEN.

@@ -7,6 +7,8 @@ mod run;
 mod start;
 
 pub use details::{invalid_details, valid_details};
+use lekchnam_host::HnsrOpcode;
+use lekchnam_host::limits::{MAX_BODY_SIZE, MAXIMUM_PEER};
 use lekchnam_traces::bytes::pattern;
 use lekchnam_traces::file::Places;
 use lekchnam_traces::rng::Rng;
@@ -14,6 +16,10 @@ use lekchnam_traces::state::Kind;
 use lekchnam_traces::words::Route;
 use lekchnam_traces::{Call, Class, Config, State};
 pub use run::Run;
+
+/// What the relay takes.
+const HANDLED: [HnsrOpcode; 6] =
+    [HnsrOpcode::Open, HnsrOpcode::Accept, HnsrOpcode::Data, HnsrOpcode::Window, HnsrOpcode::Close, HnsrOpcode::Error];
 
 struct Reservation {
     id: [u8; 16],
@@ -65,7 +71,8 @@ impl Generator {
     pub fn new(seed: u64) -> Self {
         let mut rng = Rng::new(seed);
         let config = start::config(&mut rng);
-        let mut peers = vec![b"a".to_vec(), b"a\0".to_vec(), vec![0], rng.bytes::<128>().to_vec(), rng.bytes::<33>().to_vec()];
+        let mut peers =
+            vec![b"a".to_vec(), b"a\0".to_vec(), vec![0], rng.bytes::<MAXIMUM_PEER>().to_vec(), rng.bytes::<33>().to_vec()];
         peers.truncate(rng.range(3, 5) as usize);
         let mut ids: Vec<[u8; 8]> = [1, 1 << 8, 1 << 56, 1 << 63 | 2, u64::MAX].map(u64::to_be_bytes).to_vec();
         ids.extend([rng.bytes(), rng.bytes()]);
@@ -164,8 +171,8 @@ impl Generator {
         self.rng.chance(damage)
     }
 
-    fn handle(&mut self, state: &State, source: Vec<u8>, opcode: u8, context: [u8; 8], body: Vec<u8>) -> Call {
-        let now = self.tick(state);
+    fn handle(&mut self, state: &State, source: Vec<u8>, opcode: HnsrOpcode, context: [u8; 8], body: Vec<u8>) -> Call {
+        let (opcode, now) = (opcode.into(), self.tick(state));
         // with other opcodes than OPEN these are not looked at
         let random = if self.rng.chance(3) { self.rng.bytes::<8>().to_vec() } else { Vec::new() };
         Call::Handle { source, opcode, context, body, now, key_valid: self.rng.chance(50), admission: None, random }
@@ -210,15 +217,16 @@ impl Generator {
             _ => self.close(state),
         };
         let Call::Handle { source, opcode, context, body, .. } = &mut call else { unreachable!("all three are packets") };
-        let peer = vec![b'q'; *self.rng.pick(&[0, 129, 200])];
+        // 72 more: a seed gives the bytes that it has always given
+        let peer = vec![b'q'; *self.rng.pick(&[0, MAXIMUM_PEER + 1, MAXIMUM_PEER + 72])];
         match self.rng.below(7) {
             0 => *source = peer,
             1 => *context = [0; 8],
-            2 => *body = pattern(65_524, 3),
+            2 => *body = pattern(MAX_BODY_SIZE + 1, 3),
             3 => {
-                *opcode = self.rng.range(0, 20) as u8;
+                *opcode = self.rng.range(0, u64::from(HnsrOpcode::COUNT) - 1) as u8;
                 *context = [0; 8];
-                if *opcode == 6 {
+                if HnsrOpcode::from(*opcode) == HnsrOpcode::SampleRoutes {
                     return ('d', call); // the one that may: it meets the gate's 16
                 }
             }
@@ -230,7 +238,7 @@ impl Generator {
             5 => {
                 // a zero context and too large: too large first
                 *context = [0; 8];
-                *body = pattern(65_524, 9);
+                *body = pattern(MAX_BODY_SIZE + 1, 9);
             }
             _ => return ('e', Call::Disconnect { peer }),
         }
@@ -242,8 +250,9 @@ impl Generator {
             Some(chosen) => chosen,
             None => self.choose(state),
         };
+        let is_open = call.message() == Some(HnsrOpcode::Open);
         let class = match &call {
-            Call::Handle { opcode: 13, admission: Some(g), now, .. } if class == 'd' && g.expires_at <= *now => 'g',
+            Call::Handle { admission: Some(g), now, .. } if class == 'd' && is_open && g.expires_at <= *now => 'g',
             _ => class,
         };
         if let Call::Handle { .. } = call
@@ -344,15 +353,17 @@ impl Generator {
         Call::Replace { expected, enabled: self.rng.chance(50) }
     }
 
-    /// Opcodes that have no handling here, one in four of them 21 or more.
+    /// Opcodes that have no handling here, one in four of them of no message.
     fn other_opcode(&mut self, state: &State) -> (Class, Call) {
-        let opcode = *self.rng.pick(&[0, 1, 2, 3, 4, 5, 6, 7, 8, 9, 10, 11, 12, 14, 16]);
+        let messages = (0..HnsrOpcode::COUNT).map(HnsrOpcode::from);
+        let others: Vec<HnsrOpcode> = messages.filter(|opcode| !HANDLED.contains(opcode)).collect();
+        let opcode = *self.rng.pick(&others);
         let (source, context) = (self.peer(), self.id());
         let mut call = self.handle(state, source, opcode, context, pattern(30, 1));
         if self.rng.chance(25)
             && let Call::Handle { opcode, .. } = &mut call
         {
-            *opcode = self.rng.range(21, 255) as u8;
+            *opcode = self.rng.range(HnsrOpcode::COUNT.into(), 255) as u8;
             return ('o', call);
         }
         ('d', call)

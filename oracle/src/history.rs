@@ -1,6 +1,7 @@
 //! Document 01, "Reckoned from history", and its sentence on the counters, held against the Rust's state after each call. This is a
 //! check of the document, not part of the oracle.
 
+use lekchnam_host::{HnsrOpcode, HnsrRuntimeError};
 use lekchnam_traces::event::Change;
 use lekchnam_traces::state::{Circuit, Kind};
 use lekchnam_traces::{Call, Event, State};
@@ -28,17 +29,17 @@ impl History {
     pub fn step(&mut self, event: &Event) -> Vec<&'static str> {
         let Some(change) = event.change() else { return Vec::new() };
         let Change { before, after } = change;
-        let taken = event.taken() || (self.lenient && event.answer.number == 6);
+        let taken = event.taken() || (self.lenient && event.refused_with(HnsrRuntimeError::GenerationExhausted));
         let mut accepted = None;
         if let Call::Handle { source, opcode, context, body, .. } = &event.call {
-            match opcode {
-                13 => self.open(before, after),
-                15 if after.circuits.len() > before.circuits.len() => {
+            match HnsrOpcode::from(*opcode) {
+                HnsrOpcode::Open => self.open(before, after),
+                HnsrOpcode::Accept if after.circuits.len() > before.circuits.len() => {
                     self.accept(*context, number(body));
                     accepted = Some(*context);
                 }
-                17 if taken => self.data(circuit(before, context), source, body.len() as u64),
-                18 if taken => self.window(circuit(before, context), source, number(body)),
+                HnsrOpcode::Data if taken => self.data(circuit(before, context), source, body.len() as u64),
+                HnsrOpcode::Window if taken => self.window(circuit(before, context), source, number(body)),
                 _ => {}
             }
         }

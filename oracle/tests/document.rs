@@ -1,4 +1,6 @@
 //! What document 01 says of itself: that its rule of details is UTF-8, and that its sizes of output are enough.
+use hns_hnsr_protocol as rust;
+use lekchnam_host::limits::*;
 use oracle::generate::{invalid_details, valid_details};
 
 /// Document 01, "Bodies and their cursor": the rule of details.
@@ -58,7 +60,7 @@ fn details_are_what_from_utf8_takes() {
 #[test]
 fn output_sizes() {
     // 4,136 words for handle; 96 for a record
-    assert_eq!(40 + 16_384 / 4, 4_136);
+    assert_eq!((HANDLE_WORDS, 40 + 16_384 / 4), (4_136, 4_136));
     let texts = [
         "outer peer disconnected",
         "reservation revoked",
@@ -69,5 +71,15 @@ fn output_sizes() {
         "outer write failed",
     ];
     let most = texts.iter().map(|t| 2 * (40 + (3 + t.len()).div_ceil(4))).max();
-    assert_eq!(most, Some(96));
+    assert_eq!((CLOSING_WORDS, most), (96, Some(96)));
+}
+
+/// Those that the Rust tells; of names it has none, and is asked.
+#[test]
+fn the_limits_are_the_rusts() {
+    assert_eq!((MAX_PACKET_SIZE, MAX_DATA_SIZE), (rust::MAX_PACKET_SIZE, rust::MAX_DATA_SIZE));
+    assert_eq!((MIN_WINDOW, MAX_WINDOW), (rust::MIN_WINDOW, rust::MAX_WINDOW));
+    assert_eq!((MAX_CIRCUITS, MAX_CIRCUIT_QUEUE), (rust::MAX_CIRCUITS, rust::MAX_CIRCUIT_QUEUE));
+    assert!(rust::HnsrPeerId::new(vec![1; MAXIMUM_PEER]).is_ok());
+    assert!(rust::HnsrPeerId::new(vec![1; MAXIMUM_PEER + 1]).is_err());
 }

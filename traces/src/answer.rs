@@ -149,10 +149,11 @@ impl After {
 impl Answer {
     /// From the output words of a call that is taken, or the refusal.
     pub fn of(answer: Result<Vec<u32>, HnsrRuntimeError>, after: Option<After>) -> Self {
-        let (number, cause, words) = match answer {
-            Ok(words) => (0, Cause::None, words),
-            Err(HnsrRuntimeError::Protocol(error)) => (1, error.into(), Vec::new()),
-            Err(error) => (error.number() as u8, Cause::None, Vec::new()),
+        let number = answer.as_ref().err().map_or(0, |refusal| refusal.number() as u8);
+        let (cause, words) = match answer {
+            Ok(words) => (Cause::None, words),
+            Err(HnsrRuntimeError::Protocol(error)) => (error.into(), Vec::new()),
+            Err(_) => (Cause::None, Vec::new()),
         };
         Self { number, cause, words: Words::of(words), after }
     }

@@ -1,6 +1,8 @@
 //! A call with all its inputs.
 use crate::Config;
+use lekchnam_host::HnsrOpcode;
 use lekchnam_host::lent::RelayTicket;
+use lekchnam_host::limits::{CLOSING_WORDS, HANDLE_WORDS};
 
 /// What the host hands over with an OPEN that it admits.
 #[derive(Clone, Debug, Eq, PartialEq)]
@@ -71,20 +73,27 @@ impl Call {
         }
     }
 
-    /// The message of a packet, else the call's name.
-    pub fn label(&self) -> &'static str {
+    /// The message of a packet.
+    pub fn message(&self) -> Option<HnsrOpcode> {
         match self {
-            Self::Handle { opcode, .. } => match opcode {
-                13 => "OPEN",
-                15 => "ACCEPT",
-                17 => "DATA",
-                18 => "WINDOW",
-                19 => "CLOSE",
-                20 => "ERROR",
-                21.. => "opcode 21+",
-                _ => "opcode other",
-            },
-            other => other.name(),
+            Self::Handle { opcode, .. } => Some((*opcode).into()),
+            _ => None,
+        }
+    }
+
+    /// The message of a packet by its name, else the call's name.
+    pub fn label(&self) -> &'static str {
+        use HnsrOpcode::*;
+        match self.message() {
+            Some(Open) => "OPEN",
+            Some(Accept) => "ACCEPT",
+            Some(Data) => "DATA",
+            Some(Window) => "WINDOW",
+            Some(Close) => "CLOSE",
+            Some(Error) => "ERROR",
+            Some(Unknown(_)) => "opcode 21+",
+            Some(_) => "opcode other",
+            None => self.name(),
         }
     }
 
@@ -92,9 +101,9 @@ impl Call {
     /// acknowledge 96, the revoking calls 96 for each pending record and circuit".
     pub fn words_needed(&self, records: usize) -> usize {
         match self {
-            Self::Handle { .. } => 4_136,
-            Self::Acknowledge { .. } => 96,
-            Self::Disconnect { .. } | Self::Revoke { .. } | Self::Expire { .. } | Self::Replace { .. } => 96 * records,
+            Self::Handle { .. } => HANDLE_WORDS,
+            Self::Acknowledge { .. } => CLOSING_WORDS,
+            Self::Disconnect { .. } | Self::Revoke { .. } | Self::Expire { .. } | Self::Replace { .. } => CLOSING_WORDS * records,
             Self::New { .. } | Self::Observe { .. } | Self::Poke { .. } => 0,
         }
     }

@@ -1,14 +1,15 @@
 //! What traces show: answers, causes, acknowledgements, ends of records, what refusals leave, edges.
 use crate::event::{Change, Event};
 use crate::state::{Kind, Pending};
-use crate::{Call, Class, Grant};
+use crate::{Call, Cause, Class, Grant};
+use lekchnam_host::{HnsrOpcode, HnsrRuntimeError};
 use std::fmt::{self, Display, Formatter};
 
 /// One thing that a call shows. A label is the message of a packet, else the call's name.
 #[derive(Clone, Debug, Eq, Ord, PartialEq, PartialOrd)]
 pub enum Item {
     Class(Class),
-    /// Numbers from 21 on are one.
+    /// Those of no message are one.
     Opcode(u8),
     Answer(&'static str, u8),
     /// The cause of a 1.
@@ -82,11 +83,11 @@ pub enum Edge {
 pub fn items(event: &Event) -> Vec<Item> {
     let (label, number) = (event.call.label(), event.answer.number);
     let mut items = vec![Item::Class(event.class), Item::Answer(label, number)];
-    if number == 1 {
+    if event.answer.cause != Cause::None {
         items.push(Item::Cause(label, event.answer.cause.kind()));
     }
     if let Call::Handle { opcode, .. } = &event.call {
-        items.push(Item::Opcode((*opcode).min(21)));
+        items.push(Item::Opcode((*opcode).min(HnsrOpcode::COUNT)));
     }
     if let Some(change) = event.change() {
         items.extend(acknowledged(event, &change));
@@ -141,16 +142,17 @@ fn edges(event: &Event, change: &Change<'_>) -> Vec<Edge> {
         ((1 << 32..top).contains(&after.generation), Edge::GenerationOver32Bits),
         (after.generation == top, Edge::GenerationAtTop),
         (after.high_water == top, Edge::TimeAtTop),
-        (before.next_sequence == top && event.answer.number == 6, Edge::SequenceAtTop),
+        (before.next_sequence == top && event.refused_with(HnsrRuntimeError::GenerationExhausted), Edge::SequenceAtTop),
         (change.written().iter().any(|action| action.sequence == top - 1), Edge::LastSequence),
     ]);
-    match &event.call {
-        Call::Handle { opcode: 13, .. } => edges.extend(edges_of_open(event, change)),
-        Call::Handle { opcode: 17, context, now, .. } if event.taken() => {
+    let Call::Handle { source, opcode, context, now, .. } = &event.call else { return edges };
+    match HnsrOpcode::from(*opcode) {
+        HnsrOpcode::Open => edges.extend(edges_of_open(event, change)),
+        HnsrOpcode::Data if event.taken() => {
             let over = before.circuits.iter().any(|c| c.id == *context && c.expires_at <= *now);
             edges.extend(over.then_some(Edge::DataPastExpiry));
         }
-        Call::Handle { opcode: 19 | 20, source, .. } => edges.extend(edge_of_close(source, change)),
+        HnsrOpcode::Close | HnsrOpcode::Error => edges.extend(edge_of_close(source, change)),
         _ => {}
     }
     edges
@@ -162,7 +164,7 @@ fn edges_of_open(event: &Event, change: &Change<'_>) -> Vec<Edge> {
     let outstanding = |made: &Pending| before.actions.iter().any(|action| action.circuit_id == made.id);
     let id_taken = |id: &[u8]| before.pending.iter().any(|p| p.id == id) || before.circuits.iter().any(|c| c.id == id);
     let another_id = |grant: &Grant| body.get(32..48) != Some(&grant.reservation_id);
-    let (taken, out_of_draws) = (event.taken(), event.answer.number == 8);
+    let (taken, out_of_draws) = (event.taken(), event.refused_with(HnsrRuntimeError::Randomness));
     shown([
         (taken && admission.as_ref().is_some_and(another_id), Edge::GrantUnderAnotherId),
         (change.made_pending().is_some_and(outstanding), Edge::IdWithActionsOutstanding),

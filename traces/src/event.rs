@@ -1,6 +1,7 @@
 //! A call with all that is seen of it.
 use crate::state::{Action, Circuit, Pending};
 use crate::{Answer, Call, Class, State};
+use lekchnam_host::HnsrRuntimeError;
 
 /// A call, what it answered, and the private state before and after it.
 #[derive(Clone, Debug, Eq, PartialEq)]
@@ -21,6 +22,10 @@ pub struct Change<'event> {
 impl Event {
     pub fn taken(&self) -> bool {
         self.answer.number == 0
+    }
+
+    pub fn refused_with(&self, refusal: HnsrRuntimeError) -> bool {
+        u32::from(self.answer.number) == refusal.number()
     }
 
     /// None before a `new` is taken, and of a `new`.

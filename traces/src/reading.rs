@@ -15,7 +15,7 @@ use lekchnam_host::body::validate_packet;
 use lekchnam_host::lent::{
     InflightAction, Places, RelayCircuit, RelayPending, ReservationUsage, Runtime, RuntimeCounters, StoredPeer, Tables,
 };
-use lekchnam_host::{HnsrRuntimeError as Refused, MAXIMUM_PEER};
+use lekchnam_host::{HnsrOpcode, HnsrRuntimeError as Refused, MAXIMUM_PEER};
 use table::{count, drop_all, used};
 
 pub use crate::words::Route;
@@ -134,12 +134,12 @@ impl World {
         validate_packet(packet.opcode, packet.context.to_be_bytes(), packet.body.len())?;
         self.clock(packet.now)?;
         refuse(!self.runtime.enabled, Refused::Disabled)?;
-        match packet.opcode {
-            13 => self.open(packet),
-            15 => self.accept(packet),
-            17 => self.data(packet),
-            18 => self.window(packet),
-            19 | 20 => self.close(packet),
+        match HnsrOpcode::from(packet.opcode) {
+            HnsrOpcode::Open => self.open(packet),
+            HnsrOpcode::Accept => self.accept(packet),
+            HnsrOpcode::Data => self.data(packet),
+            HnsrOpcode::Window => self.window(packet),
+            HnsrOpcode::Close | HnsrOpcode::Error => self.close(packet),
             _ => Err(Refused::UnexpectedOpcode),
         }
     }

@@ -2,6 +2,7 @@
 use crate::call::CLASSES;
 use crate::coverage::{Edge, Ended, Item};
 use crate::state::Kind;
+use lekchnam_host::HnsrOpcode;
 
 type Numbers = &'static [u8];
 
@@ -86,7 +87,7 @@ const EDGES: [Edge; 15] = [
 /// All of it.
 pub fn required() -> Vec<Item> {
     let mut items: Vec<Item> = CLASSES.into_iter().map(Item::Class).collect();
-    items.extend((0..=21).map(Item::Opcode));
+    items.extend((0..=HnsrOpcode::COUNT).map(Item::Opcode));
     items.extend(numbered(&ANSWERS, Item::Answer));
     items.extend(numbered(&CLOCK, Item::Clock));
     items.extend(numbered(&KEPT, Item::Kept));

@@ -1,4 +1,5 @@
 //! Document 01, "Output words".
+use lekchnam_host::limits::PEER_WORDS;
 
 /// A packet on its way to a peer, and its number.
 #[derive(Clone, Debug, Eq, PartialEq)]
@@ -28,7 +29,7 @@ pub fn words(routes: &[Route]) -> Vec<u32> {
         out.push(1 << 28 | route.peer.len() as u32);
         push_number(&mut out, route.generation);
         push_number(&mut out, route.sequence);
-        pack(&mut out, &route.peer, 32);
+        pack(&mut out, &route.peer, PEER_WORDS);
         out.push(2 << 28 | u32::from(route.opcode) << 16 | route.body.len() as u32);
         pack(&mut out, &route.context, 2);
         pack(&mut out, &route.body, route.body.len().div_ceil(4));

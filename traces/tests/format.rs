@@ -1,4 +1,5 @@
 //! The format: lines are read back as they are written, and a damaged one is refused with its number.
+use lekchnam_host::limits::{MAX_BODY_SIZE, MAX_DATA_SIZE};
 use lekchnam_traces::bytes::{body_bytes, body_text, hex, pattern, unhex};
 use lekchnam_traces::file::{Fault, Places, Writer, read};
 use lekchnam_traces::{Answer, Call, Cause, Config, Grant, Words};
@@ -40,7 +41,7 @@ fn calls() -> Vec<Call> {
         Call::New { session: [7; 16], generation: u64::MAX, config: config(), now: u64::MAX },
         packet(Vec::new(), None),
         packet(vec![0xab], Some(grant())),
-        packet(pattern(65_524, 255), None),
+        packet(pattern(MAX_BODY_SIZE + 1, 255), None),
         packet(pattern(23, 1), None),
         Call::Acknowledge { generation: 1, sequence: u64::MAX, delivered: false },
         Call::Disconnect { peer: Vec::new() },
@@ -89,7 +90,7 @@ fn few_words_are_listed_and_many_are_hashed() {
 
 #[test]
 fn bytes_read_back() {
-    for bytes in [vec![], vec![0], pattern(24, 5), pattern(16_384, 0), vec![9; 24]] {
+    for bytes in [vec![], vec![0], pattern(24, 5), pattern(MAX_DATA_SIZE, 0), vec![9; 24]] {
         assert_eq!(body_bytes(&body_text(&bytes)), Ok(bytes.clone()));
         assert_eq!(unhex(&hex(&bytes)), Ok(bytes));
     }

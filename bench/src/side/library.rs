@@ -66,7 +66,7 @@ impl Side for Library {
     fn packet(message: &Message) -> Packet {
         Packet {
             source: Self::peer(&message.source),
-            opcode: message.opcode,
+            opcode: message.opcode.into(),
             context: message.context,
             body: message.body.clone(),
             grant: message.grant.clone(),

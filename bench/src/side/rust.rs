@@ -47,7 +47,7 @@ impl Side for Rust {
     }
 
     fn packet(message: &Message) -> Packet {
-        let opcode = HnsrOpcode::try_from(message.opcode).expect("an opcode of the relay");
+        let opcode = HnsrOpcode::try_from(u8::from(message.opcode)).expect("an opcode of the relay");
         Packet {
             source: Self::peer(&message.source),
             message: HnsrPacket::new(opcode, message.context, message.body.clone()).expect("a good packet"),

@@ -1,4 +1,6 @@
 //! The sixteen cases of document 01. Prints its table and fails where an answer differs.
+use lekchnam_host::HnsrOpcode;
+use lekchnam_host::limits::HEAD_WORDS;
 use lekchnam_traces::words::words;
 use lekchnam_traces::{Config, Grant};
 use oracle::{Oracle, Outcome, Packet, default_config};
@@ -8,6 +10,8 @@ const ENDPOINT: &[u8] = b"endpoint";
 const THIRD: &[u8] = b"third";
 const CONTEXT: [u8; 8] = *b"context1";
 const CIRCUIT: [u8; 8] = *b"circuit1";
+/// What the OPEN offers and the ACCEPT takes.
+const WINDOW: u32 = 32_768;
 
 fn config(queue: Option<usize>) -> Config {
     let default = default_config();
@@ -37,10 +41,10 @@ fn grant() -> Grant {
 fn relay(queue: Option<usize>) -> Oracle {
     let mut relay = Oracle::new([7; 16], 1, config(queue), 100).expect("a configuration within its bounds");
     let (ticket, reservation, key, profile, nonce) = ([1; 32], [2; 16], [3; 33], 1_u16.to_le_bytes(), [4; 16]);
-    let body = [&ticket[..], &reservation, &key, &profile, &nonce, &32_768_u32.to_le_bytes()].concat();
+    let body = [&ticket[..], &reservation, &key, &profile, &nonce, &WINDOW.to_le_bytes()].concat();
     let open = Packet {
         source: REQUESTER,
-        opcode: 13,
+        opcode: HnsrOpcode::Open.into(),
         context: CONTEXT,
         body: &body,
         now: 100,
@@ -49,19 +53,20 @@ fn relay(queue: Option<usize>) -> Oracle {
         random: &CIRCUIT,
     };
     let routes = relay.handle(&open).expect("the OPEN is taken");
-    assert_eq!((routes[0].opcode, routes[0].context, &routes[0].peer[..]), (14, CIRCUIT, ENDPOINT));
-    assert_eq!(words(&routes).len(), 40 + 16);
+    assert_eq!((routes[0].opcode.into(), routes[0].context, &routes[0].peer[..]), (HnsrOpcode::Incoming, CIRCUIT, ENDPOINT));
+    assert_eq!(words(&routes).len(), HEAD_WORDS + 16);
     relay
 }
 
-fn send(relay: &mut Oracle, source: &[u8], opcode: u8, body: &[u8], now: u64) -> Outcome {
+fn send(relay: &mut Oracle, source: &[u8], opcode: HnsrOpcode, body: &[u8], now: u64) -> Outcome {
+    let opcode = opcode.into();
     relay.handle(&Packet { source, opcode, context: CIRCUIT, body, now, key_valid: true, admission: None, random: &[] })
 }
 
 fn accept(relay: &mut Oracle, now: u64) -> Outcome {
-    let mut body = 32_768_u32.to_le_bytes().to_vec();
+    let mut body = WINDOW.to_le_bytes().to_vec();
     body.extend([5; 16]);
-    send(relay, ENDPOINT, 15, &body, now)
+    send(relay, ENDPOINT, HnsrOpcode::Accept, &body, now)
 }
 
 fn active(queue: Option<usize>) -> Oracle {
@@ -71,7 +76,7 @@ fn active(queue: Option<usize>) -> Oracle {
 }
 
 fn data(relay: &mut Oracle, size: usize) -> Outcome {
-    send(relay, REQUESTER, 17, &vec![9; size], 100)
+    send(relay, REQUESTER, HnsrOpcode::Data, &vec![9; size], 100)
 }
 
 fn case(number: u32) -> Outcome {
@@ -86,14 +91,14 @@ fn case(number: u32) -> Outcome {
         }
         6..=8 => {
             let delta: u32 = [1_015_808, 1_015_809, 0][number as usize - 6];
-            send(&mut active(None), ENDPOINT, 18, &delta.to_le_bytes(), 100)
+            send(&mut active(None), ENDPOINT, HnsrOpcode::Window, &delta.to_le_bytes(), 100)
         }
-        9 => send(&mut active(None), REQUESTER, 17, &[9], 99),
+        9 => send(&mut active(None), REQUESTER, HnsrOpcode::Data, &[9], 99),
         10 => accept(&mut relay(None), 110),
         11 => accept(&mut relay(None), 109),
-        12 => send(&mut active(None), REQUESTER, 20, &[0xff, 0xff, 0], 100),
-        13 => send(&mut active(None), REQUESTER, 19, &[0, 0, 2, 0xc0, 0x80], 100),
-        14 => send(&mut active(None), THIRD, 17, &[9], 100),
+        12 => send(&mut active(None), REQUESTER, HnsrOpcode::Error, &[0xff, 0xff, 0], 100),
+        13 => send(&mut active(None), REQUESTER, HnsrOpcode::Close, &[0, 0, 2, 0xc0, 0x80], 100),
+        14 => send(&mut active(None), THIRD, HnsrOpcode::Data, &[9], 100),
         15 | 16 => {
             let mut r = active(Some(16_384));
             let first = data(&mut r, 16_384).unwrap();

@@ -1,5 +1,6 @@
 //! CLOSE and ERROR: details around every edge of RFC 3629, and their bodies.
 use super::Generator;
+use lekchnam_host::limits::MAX_DETAIL_SIZE;
 
 const VALID: [&str; 23] = [
     "",
@@ -39,13 +40,11 @@ const INVALID: [&[u8]; 41] = [
     &[b'o', b'k', 0xe2, 0x82], &[0xf4, 0x8f, 0xbf], &[0xf1], &[0xf1, 0x80], &[0xe1], &[b'a', 0x80, b'b'],
 ];
 
-const MAX_DETAIL: usize = 128;
-
 pub fn valid_details() -> Vec<Vec<u8>> {
     let mut list: Vec<Vec<u8>> = VALID.iter().map(|text| text.as_bytes().to_vec()).collect();
-    list.push(vec![b'a'; MAX_DETAIL - 1]);
-    list.push(vec![b'a'; MAX_DETAIL]);
-    list.push([vec![b'a'; MAX_DETAIL - 4], "\u{10ffff}".as_bytes().to_vec()].concat());
+    list.push(vec![b'a'; MAX_DETAIL_SIZE - 1]);
+    list.push(vec![b'a'; MAX_DETAIL_SIZE]);
+    list.push([vec![b'a'; MAX_DETAIL_SIZE - 4], "\u{10ffff}".as_bytes().to_vec()].concat());
     list
 }
 
@@ -59,7 +58,7 @@ impl Generator {
         let mut detail = self.rng.pick(&valid_details()).clone();
         if self.rng.chance(30) {
             let other = self.rng.pick(&valid_details()).clone();
-            if detail.len() + other.len() <= MAX_DETAIL {
+            if detail.len() + other.len() <= MAX_DETAIL_SIZE {
                 detail.extend(other);
             }
         }
@@ -68,7 +67,7 @@ impl Generator {
         if wrong {
             match self.rng.below(10) {
                 0..=4 => detail = self.not_utf8(detail),
-                5 => detail = vec![b'a'; *self.rng.pick(&[129, 130, 200, 255])],
+                5 => detail = vec![b'a'; *self.rng.pick(&[MAX_DETAIL_SIZE + 1, MAX_DETAIL_SIZE + 2, 200, 255])],
                 6 => length = Some(self.rng.byte()),
                 7 => length = Some((detail.len() as u8).wrapping_add(1)),
                 8 => cut = true,
@@ -86,11 +85,11 @@ impl Generator {
 
     fn not_utf8(&mut self, mut detail: Vec<u8>) -> Vec<u8> {
         let bad = *self.rng.pick(&INVALID);
-        if detail.len() + bad.len() > MAX_DETAIL {
+        if detail.len() + bad.len() > MAX_DETAIL_SIZE {
             detail.clear();
         }
         detail.extend(bad);
-        if self.rng.chance(40) && detail.len() < MAX_DETAIL {
+        if self.rng.chance(40) && detail.len() < MAX_DETAIL_SIZE {
             detail.push(b'z');
         }
         detail

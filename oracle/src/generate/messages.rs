@@ -1,7 +1,12 @@
 //! ACCEPT, DATA, WINDOW, CLOSE and ERROR, aimed at records that are there, or beside them.
 use super::Generator;
+use lekchnam_host::HnsrOpcode;
+use lekchnam_host::limits::{MAX_BODY_SIZE, MAX_DATA_SIZE, MAX_WINDOW, MIN_WINDOW};
 use lekchnam_traces::bytes::pattern;
 use lekchnam_traces::{Call, State};
+
+const LONGEST_DATA: u64 = MAX_DATA_SIZE as u64;
+const LONGEST_BODY: u64 = MAX_BODY_SIZE as u64;
 
 /// Who sends on which circuit.
 struct Aim {
@@ -14,25 +19,26 @@ struct Aim {
 
 impl Generator {
     pub(super) fn window(&mut self) -> u32 {
-        *self.rng.pick(&[16_384, 16_384, 16_384, 16_385, 32_768, 32_768, 65_536, 1_048_575, 1_048_576])
+        let (least, most) = (MIN_WINDOW, MAX_WINDOW);
+        *self.rng.pick(&[least, least, least, least + 1, 2 * least, 2 * least, 4 * least, most - 1, most])
     }
 
     pub(super) fn accept(&mut self, state: &State) -> Call {
         let wrong = self.bad();
         let (mut source, mut context, offer) = if state.pending.is_empty() || (wrong && self.rng.chance(25)) {
-            (self.peer(), self.id(), 16_384)
+            (self.peer(), self.id(), MIN_WINDOW)
         } else {
             let p = self.rng.pick(&state.pending);
             (p.endpoint.clone(), p.id, p.initial_window)
         };
-        let mut window = if self.rng.chance(60) { 16_384.min(offer) } else { offer };
+        let mut window = if self.rng.chance(60) { MIN_WINDOW.min(offer) } else { offer };
         let mut nonce: [u8; 16] = self.rng.bytes();
         let mut cut = false;
         if wrong {
             match self.rng.below(8) {
                 0 => source = self.peer(),
                 1 => window = offer + 1,
-                2 => window = *self.rng.pick(&[0, 16_383, 1_048_576, 1_048_577]),
+                2 => window = *self.rng.pick(&[0, MIN_WINDOW - 1, MAX_WINDOW, MAX_WINDOW + 1]),
                 3 => nonce = [0; 16],
                 4 | 5 => cut = true,
                 6 => {
@@ -49,7 +55,7 @@ impl Generator {
         if cut {
             self.cut(&mut body);
         }
-        self.handle(state, source, 15, context, body)
+        self.handle(state, source, HnsrOpcode::Accept, context, body)
     }
 
     fn aim(&mut self, state: &State, wrong: bool) -> Aim {
@@ -86,17 +92,17 @@ impl Generator {
         let aim = self.aim(state, wrong);
         let mut size = match self.rng.below(10) {
             0..=3 => self.rng.range(1, 40),
-            4..=5 => 16_384,
-            6 => self.rng.range(1, 16_384),
-            7 => *self.rng.pick(&[1, 2, 3, 4, 5, 16_383]),
+            4..=5 => LONGEST_DATA,
+            6 => self.rng.range(1, LONGEST_DATA),
+            7 => *self.rng.pick(&[1, 2, 3, 4, 5, LONGEST_DATA - 1]),
             _ => aim.index.map_or(1, |index| self.edge(state, index, aim.from_requester)),
         };
         if wrong {
-            size = *self.rng.pick(&[0, 16_385, 20_000, 65_523, size]);
+            size = *self.rng.pick(&[0, LONGEST_DATA + 1, 20_000, LONGEST_BODY, size]);
         }
-        let size = size.min(if wrong { 65_523 } else { 16_384 });
+        let size = size.min(if wrong { LONGEST_BODY } else { LONGEST_DATA });
         let body = if size < 24 { (0..size).map(|_| self.rng.byte()).collect() } else { pattern(size as usize, self.rng.byte()) };
-        self.handle(state, aim.source, 17, aim.context, body)
+        self.handle(state, aim.source, HnsrOpcode::Data, aim.context, body)
     }
 
     /// As many bytes as reach an edge, or one more.
@@ -121,27 +127,27 @@ impl Generator {
     pub(super) fn window_call(&mut self, state: &State) -> Call {
         let wrong = self.bad();
         let aim = self.aim(state, wrong);
-        let mut delta = *self.rng.pick(&[1, 100, 16_384, 20_000]);
+        let mut delta = *self.rng.pick(&[1, 100, MIN_WINDOW, 20_000]);
         if let Some(index) = aim.index
             && self.rng.chance(30)
         {
             let circuit = &state.circuits[index];
             let other = if aim.source == circuit.requester { circuit.endpoint_credit } else { circuit.requester_credit };
-            delta = 1_048_576 - other + self.rng.below(2) as u32;
+            delta = MAX_WINDOW - other + self.rng.below(2) as u32;
         }
         if wrong && self.rng.chance(50) {
-            delta = *self.rng.pick(&[0, 1_048_576, 1_048_577, u32::MAX]);
+            delta = *self.rng.pick(&[0, MAX_WINDOW, MAX_WINDOW + 1, u32::MAX]);
         }
         let mut body = delta.to_le_bytes().to_vec();
         if wrong && self.rng.chance(30) {
             self.cut(&mut body);
         }
-        self.handle(state, aim.source, 18, aim.context, body)
+        self.handle(state, aim.source, HnsrOpcode::Window, aim.context, body)
     }
 
     pub(super) fn close(&mut self, state: &State) -> Call {
         let wrong = self.bad();
-        let opcode = if self.rng.chance(50) { 19 } else { 20 };
+        let opcode = if self.rng.chance(50) { HnsrOpcode::Close } else { HnsrOpcode::Error };
         let damaged_body = wrong && self.rng.chance(60);
         let body = self.reason_body(damaged_body);
         let misaddressed = wrong && !damaged_body;

@@ -1,5 +1,7 @@
 //! OPEN: what the requester asks, what the host grants, and the bytes that it draws ids from.
 use super::{Generator, Reservation};
+use lekchnam_host::HnsrOpcode;
+use lekchnam_host::limits::{MAX_WINDOW, MAXIMUM_PEER, MIN_WINDOW};
 use lekchnam_traces::bytes::unhex;
 use lekchnam_traces::{Call, Grant, State};
 
@@ -55,7 +57,7 @@ impl Generator {
         let random = self.draws(state, offer.admission.as_ref());
         let now = self.tick(state);
         let Offer { source, context, key_valid, admission, .. } = offer;
-        Call::Handle { source, opcode: 13, context, body, now, key_valid, admission, random }
+        Call::Handle { source, opcode: HnsrOpcode::Open.into(), context, body, now, key_valid, admission, random }
     }
 
     fn offer(&mut self, state: &State) -> Offer {
@@ -133,10 +135,10 @@ impl Generator {
             2 | 3 => offer.key_valid = false,
             4 => offer.profile = 0,
             5 => offer.nonce = [0; 16],
-            6 => offer.window = *self.rng.pick(&[0, 16_383, 1_048_577, u32::MAX]),
+            6 => offer.window = *self.rng.pick(&[0, MIN_WINDOW - 1, MAX_WINDOW + 1, u32::MAX]),
             7 | 8 => offer.cut = true,
             9 | 10 => offer.admission = None,
-            11 => grant.endpoint = vec![b'x'; *self.rng.pick(&[0, 129, 130, 256])],
+            11 => grant.endpoint = vec![b'x'; *self.rng.pick(&[0, MAXIMUM_PEER + 1, MAXIMUM_PEER + 2, 2 * MAXIMUM_PEER])],
             12 => grant.endpoint = offer.source.clone(),
             13 => grant.expires_at = grant.expires_at.saturating_add(self.rng.range(0, 2)),
             // OPEN names one reservation, the grant another

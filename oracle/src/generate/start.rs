@@ -1,5 +1,6 @@
 //! The start of a run: its configuration, and `new`, refused perhaps before it is taken.
 use super::Generator;
+use lekchnam_host::limits::*;
 use lekchnam_traces::rng::Rng;
 use lekchnam_traces::{Call, Config};
 
@@ -19,16 +20,17 @@ fn action_limits(rng: &mut Rng) -> (usize, usize, usize) {
 pub fn config(rng: &mut Rng) -> Config {
     let (per_circuit, per_peer, total) = action_limits(rng);
     let most = *rng.pick(&[1, 2, 4, 6]);
+    let most_queued = MAX_CIRCUIT_QUEUE;
     Config {
         maximum_pending: rng.range(1, most) as usize,
         maximum_circuits: rng.range(1, most) as usize,
-        maximum_circuits_per_peer: *rng.pick(&[1, 2, 3, 4, 6, 12, 32]),
-        maximum_queue_bytes: *rng.pick(&[1, 50, 16_384, 20_000, 32_768, 65_536, 65_536, 65_536]),
+        maximum_circuits_per_peer: *rng.pick(&[1, 2, 3, 4, 6, 12, MAX_CIRCUITS]),
+        maximum_queue_bytes: *rng.pick(&[1, 50, MAX_DATA_SIZE, 20_000, 32_768, most_queued, most_queued, most_queued]),
         maximum_inflight_actions: total,
         maximum_inflight_actions_per_circuit: per_circuit,
         maximum_inflight_actions_per_peer: per_peer,
         maximum_bytes_per_circuit: *rng.pick(&[100, 20_000, 60_000, 16 * 1024 * 1024, 16 * 1024 * 1024, u64::MAX]),
-        accept_timeout_seconds: rng.range(1, 10),
+        accept_timeout_seconds: rng.range(1, MAX_OPEN_DEADLINE_SECONDS),
     }
 }
 
@@ -52,22 +54,22 @@ impl Generator {
                 0 => session = [0; 16],
                 1 => generation = 0,
                 2 => config.maximum_pending = 0,
-                3 => config.maximum_pending = 65_537,
+                3 => config.maximum_pending = MAX_RUNTIME_PENDING + 1,
                 4 => config.maximum_circuits = 0,
-                5 => config.maximum_circuits = 65_537,
+                5 => config.maximum_circuits = MAX_RUNTIME_CIRCUITS + 1,
                 6 => config.maximum_circuits_per_peer = 0,
-                7 => config.maximum_circuits_per_peer = 33,
+                7 => config.maximum_circuits_per_peer = MAX_CIRCUITS + 1,
                 8 => config.maximum_queue_bytes = 0,
-                9 => config.maximum_queue_bytes = 65_537,
+                9 => config.maximum_queue_bytes = MAX_CIRCUIT_QUEUE + 1,
                 10 => config.maximum_inflight_actions = 0,
-                11 => config.maximum_inflight_actions = 262_145,
+                11 => config.maximum_inflight_actions = MAX_RUNTIME_INFLIGHT_ACTIONS + 1,
                 12 => config.maximum_inflight_actions_per_circuit = 1,
                 13 => config.maximum_inflight_actions_per_circuit = config.maximum_inflight_actions_per_peer + 1,
                 14 => config.maximum_inflight_actions_per_peer = config.maximum_inflight_actions_per_circuit - 1,
                 15 => config.maximum_inflight_actions_per_peer = config.maximum_inflight_actions + 1,
                 16 => config.maximum_bytes_per_circuit = 0,
                 17 => config.accept_timeout_seconds = 0,
-                18 => config.accept_timeout_seconds = 11,
+                18 => config.accept_timeout_seconds = MAX_OPEN_DEADLINE_SECONDS + 1,
                 _ => config.maximum_inflight_actions_per_circuit = config.maximum_inflight_actions + 1,
             }
         }

@@ -3,14 +3,9 @@ use super::found::{config, given_name, id, reservation, time};
 use crate::reading::World;
 use crate::rng::Rng;
 use crate::{Call, Grant};
+use lekchnam_host::HnsrOpcode;
 use lekchnam_host::lent::StoredPeer;
-
-const OPEN: u8 = 13;
-const ACCEPT: u8 = 15;
-const DATA: u8 = 17;
-const WINDOW: u8 = 18;
-const CLOSE: u8 = 19;
-const ERROR: u8 = 20;
+use lekchnam_host::limits::{MAX_BODY_SIZE, MAX_DATA_SIZE, MAX_WINDOW, MIN_WINDOW};
 
 /// Who sends, and the context.
 type Aim = (Vec<u8>, u64);
@@ -44,14 +39,14 @@ impl World {
         }
     }
 
-    fn packet(&self, rng: &mut Rng, (source, context): Aim, opcode: u8, body: Vec<u8>) -> Call {
-        let (context, now) = (context.to_be_bytes(), self.now(rng));
+    fn packet(&self, rng: &mut Rng, (source, context): Aim, opcode: HnsrOpcode, body: Vec<u8>) -> Call {
+        let (opcode, context, now) = (opcode.into(), context.to_be_bytes(), self.now(rng));
         Call::Handle { source, opcode, context, body, now, key_valid: rng.chance(50), admission: None, random: Vec::new() }
     }
 
     fn open_by_chance(&self, rng: &mut Rng) -> Call {
         let now = self.now(rng);
-        let window = *rng.pick(&[16_384_u32, 32_768, 1_048_576]);
+        let window = *rng.pick(&[MIN_WINDOW, 2 * MIN_WINDOW, MAX_WINDOW]);
         let reservation_id: [u8; 16] = reservation(rng).into();
         let asked: [u8; 16] = if rng.chance(80) { reservation_id } else { reservation(rng).into() };
         let body = [&[1; 32][..], &asked, &[3; 33], &[1, 0], &[4; 16], &window.to_le_bytes()].concat();
@@ -65,7 +60,7 @@ impl World {
         };
         Call::Handle {
             source: given_name(rng),
-            opcode: OPEN,
+            opcode: HnsrOpcode::Open.into(),
             context: id(rng).to_be_bytes(),
             body: damaged(rng, body),
             now,
@@ -82,24 +77,24 @@ impl World {
     }
 
     fn accept_by_chance(&self, rng: &mut Rng) -> Call {
-        let window = *rng.pick(&[16_384_u32, 16_384, 32_768, 1_048_576]);
+        let window = *rng.pick(&[MIN_WINDOW, MIN_WINDOW, 2 * MIN_WINDOW, MAX_WINDOW]);
         let aim = self.at_pending(rng, false);
         let body = damaged(rng, [&window.to_le_bytes()[..], &[5; 16]].concat());
-        self.packet(rng, aim, ACCEPT, body)
+        self.packet(rng, aim, HnsrOpcode::Accept, body)
     }
 
     fn data_by_chance(&self, rng: &mut Rng) -> Call {
-        let size = *rng.pick(&[0, 1, 2, 3, 4, 5, 40, 100, 101, 1_000, 16_384, 16_385]);
+        let size = *rng.pick(&[0, 1, 2, 3, 4, 5, 40, 100, 101, 1_000, MAX_DATA_SIZE, MAX_DATA_SIZE + 1]);
         let aim = self.at_circuit(rng);
         let body = (0..size).map(|_| rng.byte()).collect();
-        self.packet(rng, aim, DATA, body)
+        self.packet(rng, aim, HnsrOpcode::Data, body)
     }
 
     fn window_by_chance(&self, rng: &mut Rng) -> Call {
-        let delta = *rng.pick(&[0_u32, 1, 100, 1_048_476, 1_048_576, 1_048_577]);
+        let delta = *rng.pick(&[0, 1, 100, MAX_WINDOW - 100, MAX_WINDOW, MAX_WINDOW + 1]);
         let aim = self.at_circuit(rng);
         let body = damaged(rng, delta.to_le_bytes().to_vec());
-        self.packet(rng, aim, WINDOW, body)
+        self.packet(rng, aim, HnsrOpcode::Window, body)
     }
 
     fn close_by_chance(&self, rng: &mut Rng) -> Call {
@@ -109,7 +104,7 @@ impl World {
             let by_requester = rng.chance(50);
             self.at_pending(rng, by_requester)
         };
-        let opcode = *rng.pick(&[CLOSE, ERROR]);
+        let opcode = *rng.pick(&[HnsrOpcode::Close, HnsrOpcode::Error]);
         let body = damaged(rng, vec![9, 0, 3, b'b', b'y', b'e']);
         self.packet(rng, aim, opcode, body)
     }
@@ -117,9 +112,9 @@ impl World {
     /// Any opcode.
     fn other_by_chance(&self, rng: &mut Rng) -> Call {
         let aim = (given_name(rng), id(rng));
-        let opcode = if rng.chance(50) { rng.below(21) as u8 } else { rng.byte() };
-        let length = *rng.pick(&[0, 1, 40, 65_523, 65_524]);
-        self.packet(rng, aim, opcode, vec![1; length])
+        let opcode = if rng.chance(50) { rng.below(HnsrOpcode::COUNT.into()) as u8 } else { rng.byte() };
+        let length = *rng.pick(&[0, 1, 40, MAX_BODY_SIZE, MAX_BODY_SIZE + 1]);
+        self.packet(rng, aim, opcode.into(), vec![1; length])
     }
 
     /// Most times a pending record, as its requester or as its endpoint names it.

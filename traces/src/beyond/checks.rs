@@ -7,10 +7,8 @@ use crate::rng::Rng;
 use crate::words::words;
 use crate::{Answer, Call};
 use lekchnam_host::lent::{self, Places, StoredPeer, Tables};
-use lekchnam_host::{HnsrRuntimeError, MAXIMUM_PEER};
-
-/// The words of a route in front of its body.
-const HEAD_WORDS: usize = 40;
+use lekchnam_host::limits::{HEAD_WORDS, MAXIMUM_PEER};
+use lekchnam_host::{HnsrOpcode, HnsrRuntimeError};
 
 type Checked = Result<(), String>;
 
@@ -122,7 +120,7 @@ fn names(tables: &mut Tables) -> impl Iterator<Item = &mut StoredPeer> {
     pending.chain(circuits).chain(tables.inflight.iter_mut().map(|action| &mut action.destination))
 }
 
-/// The world with zeros behind every name, and no length over 128.
+/// The world with zeros behind every name, and no length over the most.
 fn plain(world: &World) -> World {
     let mut plain = world.clone();
     for name in names(&mut plain.tables) {
@@ -135,7 +133,8 @@ fn plain(world: &World) -> World {
 /// DATA is opaque: other bytes of the same number change the words of the body and nothing else.
 fn opaque(case: &Case, left: &Left, rng: &mut Rng) -> Checked {
     let mut call = case.call.clone();
-    let Call::Handle { opcode: 17, body, .. } = &mut call else { return Ok(()) };
+    let is_data = call.message() == Some(HnsrOpcode::Data);
+    let (true, Call::Handle { body, .. }) = (is_data, &mut call) else { return Ok(()) };
     body.iter_mut().for_each(|byte| *byte = rng.byte());
     let case = Case { world: case.world.clone(), call, out: case.out.clone() };
     let other = case.made();

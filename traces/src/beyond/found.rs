@@ -2,10 +2,12 @@
 use crate::Config;
 use crate::reading::World;
 use crate::rng::Rng;
-use lekchnam_host::MAXIMUM_PEER;
 use lekchnam_host::lent::{
     InflightAction, Places, RelayCircuit, RelayPending, RelayTicket, ReservationId, ReservationUsage, Runtime, RuntimeCounters,
     StoredPeer, Tables,
+};
+use lekchnam_host::limits::{
+    MAX_CIRCUIT_QUEUE, MAX_CIRCUITS, MAX_DATA_SIZE, MAX_OPEN_DEADLINE_SECONDS, MAX_WINDOW, MAXIMUM_PEER, MIN_WINDOW,
 };
 
 /// No table has more places than this and some; limits above it are never met.
@@ -27,7 +29,7 @@ pub fn reservation(rng: &mut Rng) -> ReservationId {
     ReservationId { high, low }
 }
 
-/// A name as a record may hold it: of no bytes, of more than 128, with what it likes behind.
+/// A name as a record may hold it: of no bytes, of more than the most, with what it likes behind.
 pub fn stored_name(rng: &mut Rng) -> StoredPeer {
     let mut name = StoredPeer::default();
     if rng.chance(30) {
@@ -36,7 +38,7 @@ pub fn stored_name(rng: &mut Rng) -> StoredPeer {
     match rng.below(24) {
         0 => name.len = 0,
         1 => (name.len, name.bytes) = (MAXIMUM_PEER, LONG_NAME),
-        2 => (name.len, name.bytes) = (*rng.pick(&[129, 200, usize::MAX]), LONG_NAME),
+        2 => (name.len, name.bytes) = (*rng.pick(&[MAXIMUM_PEER + 1, 2 * MAXIMUM_PEER, usize::MAX]), LONG_NAME),
         _ => {
             let bytes = *rng.pick(&NAMES);
             name.len = bytes.len();
@@ -51,7 +53,7 @@ pub fn given_name(rng: &mut Rng) -> Vec<u8> {
     match rng.below(40) {
         0 => Vec::new(),
         1 | 2 => LONG_NAME.to_vec(),
-        3 => vec![b'x'; *rng.pick(&[129, 130, 1_000])],
+        3 => vec![b'x'; *rng.pick(&[MAXIMUM_PEER + 1, MAXIMUM_PEER + 2, 1_000])],
         _ => rng.pick(&NAMES).to_vec(),
     }
 }
@@ -80,13 +82,21 @@ pub fn config(rng: &mut Rng) -> Config {
     Config {
         maximum_pending,
         maximum_circuits,
-        maximum_circuits_per_peer: *rng.pick(&[0, 2, 8, 8, 32, 32, 32, u16::MAX]),
-        maximum_queue_bytes: *rng.pick(&[0, 100, 16_384, 65_536, 65_536, 65_536, usize::MAX]),
+        maximum_circuits_per_peer: *rng.pick(&[0, 2, 8, 8, MAX_CIRCUITS, MAX_CIRCUITS, MAX_CIRCUITS, u16::MAX]),
+        maximum_queue_bytes: *rng.pick(&[
+            0,
+            100,
+            MAX_DATA_SIZE,
+            MAX_CIRCUIT_QUEUE,
+            MAX_CIRCUIT_QUEUE,
+            MAX_CIRCUIT_QUEUE,
+            usize::MAX,
+        ]),
         maximum_inflight_actions: actions,
         maximum_inflight_actions_per_circuit: per_circuit,
         maximum_inflight_actions_per_peer: per_peer,
         maximum_bytes_per_circuit: amount(rng),
-        accept_timeout_seconds: *rng.pick(&[0, 1, 10, 10, TOP]),
+        accept_timeout_seconds: *rng.pick(&[0, 1, MAX_OPEN_DEADLINE_SECONDS, MAX_OPEN_DEADLINE_SECONDS, TOP]),
     }
 }
 
@@ -138,13 +148,13 @@ fn pending(rng: &mut Rng, now: u64) -> RelayPending {
         endpoint: stored_name(rng),
         requester_context: id(rng),
         ticket: ticket(rng, now),
-        initial_window: *rng.pick(&[0, 16_384, 32_768, 1 << 20, u32::MAX]),
+        initial_window: *rng.pick(&[0, MIN_WINDOW, 2 * MIN_WINDOW, MAX_WINDOW, u32::MAX]),
         deadline: time(rng, now),
     }
 }
 
 fn circuit(rng: &mut Rng, now: u64) -> RelayCircuit {
-    let mut queued = || *rng.pick(&[0, 0, 0, 0, 100, 65_536, usize::MAX]);
+    let mut queued = || *rng.pick(&[0, 0, 0, 0, 100, MAX_CIRCUIT_QUEUE, usize::MAX]);
     let (queued_to_requester, queued_to_endpoint) = (queued(), queued());
     RelayCircuit {
         used: rng.chance(40),
@@ -155,8 +165,8 @@ fn circuit(rng: &mut Rng, now: u64) -> RelayCircuit {
         expires_at: time(rng, now),
         maximum_bytes: amount(rng),
         maximum_total_bytes: amount(rng),
-        requester_credit: *rng.pick(&[0, 100, 16_384, 16_384, 1 << 20, u32::MAX]),
-        endpoint_credit: *rng.pick(&[0, 100, 16_384, 1 << 20, u32::MAX]),
+        requester_credit: *rng.pick(&[0, 100, MIN_WINDOW, MIN_WINDOW, MAX_WINDOW, u32::MAX]),
+        endpoint_credit: *rng.pick(&[0, 100, MIN_WINDOW, MAX_WINDOW, u32::MAX]),
         forwarded_bytes: *rng.pick(&[0, 0, 0, 100, TOP - 1, TOP]),
         queued_to_requester,
         queued_to_endpoint,

@@ -2,10 +2,12 @@
 use super::queue::{Kind, Message};
 use super::table::{count, drop_all, lowest, put};
 use super::{Outcome, Packet, Refused, World, named, refuse, same};
+use lekchnam_host::HnsrOpcode;
 use lekchnam_host::body::{AcceptBody, CloseBody, DataBody, WindowBody};
 use lekchnam_host::lent::{InflightAction, RelayCircuit, RelayPending, ReservationUsage, StoredPeer};
+use lekchnam_host::limits::MAX_WINDOW;
 
-const MOST_CREDIT: u64 = 1_048_576;
+const MOST_CREDIT: u64 = MAX_WINDOW as u64;
 
 /// The circuit that a packet names: its place, and whether the requester sends.
 struct Named {
@@ -36,7 +38,7 @@ impl World {
         self.queue(Message {
             destination: p.requester,
             circuit: id,
-            opcode: 16,
+            opcode: HnsrOpcode::Opened,
             context: p.requester_context,
             // "OPENED 28: circuit 8, then ACCEPT."
             body: [&id.to_be_bytes()[..], packet.body].concat(),
@@ -153,7 +155,7 @@ fn forwarded(packet: &Packet<'_>, receiver: StoredPeer, kind: Kind) -> Message {
     Message {
         destination: receiver,
         circuit: packet.context,
-        opcode: packet.opcode,
+        opcode: packet.opcode.into(),
         context: packet.context,
         body: packet.body.to_vec(),
         kind,

@@ -3,6 +3,7 @@ use super::queue::{Kind, Message};
 use super::table::{count, lowest, put};
 use super::{Outcome, Packet, Refused, World, named, refuse, same};
 use crate::Grant;
+use lekchnam_host::HnsrOpcode;
 use lekchnam_host::body::{OpenBody, ProtocolError};
 use lekchnam_host::lent::{RelayCircuit, RelayPending, ReservationId, ReservationUsage, StoredPeer};
 
@@ -108,7 +109,7 @@ fn incoming(record: &RelayPending, open: &OpenBody) -> Message {
     Message {
         destination: record.endpoint,
         circuit: record.circuit_id,
-        opcode: 14,
+        opcode: HnsrOpcode::Incoming,
         context: record.circuit_id,
         body: [&open.ticket_id[..], &request, &profile, &open.requester_nonce, &window].concat(),
         kind: Kind::Incoming,

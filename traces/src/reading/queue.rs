@@ -1,6 +1,7 @@
 //! A message becomes a route and an outstanding action.
 use super::table::{count, put};
 use super::{Outcome, Refused, Route, World, refuse, same};
+use lekchnam_host::HnsrOpcode;
 use lekchnam_host::body::{Invalid, ProtocolError};
 use lekchnam_host::lent::{InflightAction, StoredPeer};
 
@@ -23,7 +24,7 @@ impl Kind {
 pub struct Message {
     pub destination: StoredPeer,
     pub circuit: u64,
-    pub opcode: u8,
+    pub opcode: HnsrOpcode,
     pub context: u64,
     pub body: Vec<u8>,
     pub kind: Kind,
@@ -68,7 +69,7 @@ impl World {
             peer: message.destination.as_bytes().to_vec(),
             generation,
             sequence,
-            opcode: message.opcode,
+            opcode: message.opcode.into(),
             context: message.context.to_be_bytes(),
             body: message.body,
         }])

@@ -2,6 +2,7 @@
 use super::queue::{Kind, Message};
 use super::table::{drop_all, lowest, next};
 use super::{Outcome, Refused, Route, World, named, refuse, same};
+use lekchnam_host::HnsrOpcode;
 use lekchnam_host::lent::{InflightAction, RelayCircuit, RelayPending, ReservationId, ReservationUsage, StoredPeer};
 
 /// "Reason and detail are constants".
@@ -15,20 +16,17 @@ const RELAY_DISABLED: Notice = (15, "opaque relay disabled");
 const ENDPOINT_WRITE_FAILED: Notice = (11, "endpoint write failed");
 const OUTER_WRITE_FAILED: Notice = (11, "outer write failed");
 
-const CLOSE: u8 = 19;
-const ERROR: u8 = 20;
-
-fn notice(destination: StoredPeer, circuit: u64, opcode: u8, context: u64, (reason, detail): Notice) -> Message {
+fn notice(destination: StoredPeer, circuit: u64, opcode: HnsrOpcode, context: u64, (reason, detail): Notice) -> Message {
     let body = [&reason.to_le_bytes()[..], &[detail.len() as u8], detail.as_bytes()].concat();
     Message { destination, circuit, opcode, context, body, kind: Kind::Close, to_endpoint: false }
 }
 
-fn to_requester(p: &RelayPending, opcode: u8, why: Notice) -> Message {
+fn to_requester(p: &RelayPending, opcode: HnsrOpcode, why: Notice) -> Message {
     notice(p.requester, p.circuit_id, opcode, p.requester_context, why)
 }
 
 fn close_to_endpoint(p: &RelayPending, why: Notice) -> Message {
-    notice(p.endpoint, p.circuit_id, CLOSE, p.circuit_id, why)
+    notice(p.endpoint, p.circuit_id, HnsrOpcode::Close, p.circuit_id, why)
 }
 
 impl World {
@@ -56,7 +54,7 @@ impl World {
     fn revoke_pending(&mut self, place: usize, why: Notice) -> Vec<Route> {
         let p = self.tables.pending[place];
         self.end_pending(place);
-        [self.tell(to_requester(&p, ERROR, why)), self.tell(close_to_endpoint(&p, why))].concat()
+        [self.tell(to_requester(&p, HnsrOpcode::Error, why)), self.tell(close_to_endpoint(&p, why))].concat()
     }
 
     /// "Revocation ends the record, drops its actions, then sends CLOSE to requester, then endpoint, also to a peer that just
@@ -64,7 +62,7 @@ impl World {
     fn revoke_circuit_there(&mut self, place: usize, why: Notice) -> Vec<Route> {
         let c = self.tables.circuits[place];
         self.end_circuit(place);
-        [c.requester, c.endpoint].map(|peer| self.tell(notice(peer, c.circuit_id, CLOSE, c.circuit_id, why))).concat()
+        [c.requester, c.endpoint].map(|peer| self.tell(notice(peer, c.circuit_id, HnsrOpcode::Close, c.circuit_id, why))).concat()
     }
 
     /// An action stores an id and no place: the lowest record of that id is meant.
@@ -79,7 +77,7 @@ impl World {
         self.end_pending(place);
         let close = match same(&p.requester, peer) {
             true => close_to_endpoint(&p, PEER_DISCONNECTED),
-            false => to_requester(&p, CLOSE, PEER_DISCONNECTED),
+            false => to_requester(&p, HnsrOpcode::Close, PEER_DISCONNECTED),
         };
         self.tell(close)
     }
@@ -187,6 +185,6 @@ impl World {
         let p = self.tables.pending[place];
         self.tables.pending[place].used = false;
         self.count_revoked();
-        self.queue(to_requester(&p, ERROR, ENDPOINT_WRITE_FAILED))
+        self.queue(to_requester(&p, HnsrOpcode::Error, ENDPOINT_WRITE_FAILED))
     }
 }

@@ -1,5 +1,7 @@
 //! Each body cut at every length, and each value at its edges.
 use crate::script::*;
+use lekchnam_host::HnsrOpcode;
+use lekchnam_host::limits::{MAX_BODY_SIZE, MAX_DATA_SIZE, MAX_DETAIL_SIZE, MAX_WINDOW, MIN_WINDOW};
 use lekchnam_traces::bytes::pattern;
 
 const STRANGER: &[u8] = b"third";
@@ -11,8 +13,8 @@ pub fn script() -> Script {
     accepts(&mut script);
     windows(&mut script);
     data(&mut script);
-    closings(&mut script, CLOSE);
-    closings(&mut script, ERROR);
+    closings(&mut script, HnsrOpcode::Close);
+    closings(&mut script, HnsrOpcode::Error);
     script
 }
 
@@ -33,7 +35,7 @@ fn opens(script: &mut Script) {
         body[field].fill(0);
         assert_eq!(script.open(REQUESTER, CONTEXT, &body, &CIRCUIT), 1);
     }
-    for window in [16_383_u32, 1_048_577, u32::MAX] {
+    for window in [MIN_WINDOW - 1, MAX_WINDOW + 1, u32::MAX] {
         let body = [&good[..99], &window.to_le_bytes()].concat();
         assert_eq!(script.open(REQUESTER, CONTEXT, &body, &CIRCUIT), 1);
     }
@@ -41,40 +43,41 @@ fn opens(script: &mut Script) {
 }
 
 fn accepts(script: &mut Script) {
-    let good = accept_body(32_768, 5);
+    let good = accept_body(WINDOW, 5);
     let full = long(&good);
     for length in (0..=full.len()).filter(|length| *length != good.len()) {
-        assert_eq!(script.packet(ENDPOINT, ACCEPT, CIRCUIT, &full[..length]), 1);
+        assert_eq!(script.packet(ENDPOINT, HnsrOpcode::Accept, CIRCUIT, &full[..length]), 1);
     }
     for (window, nonce, answer) in
-        [(16_383, 1, 1), (0, 1, 1), (1_048_577, 1, 1), (1_048_576, 1, 10), (32_769, 1, 10), (16_384, 0, 1)]
+        [(MIN_WINDOW - 1, 1, 1), (0, 1, 1), (MAX_WINDOW + 1, 1, 1), (MAX_WINDOW, 1, 10), (WINDOW + 1, 1, 10), (MIN_WINDOW, 0, 1)]
     {
-        assert_eq!(script.packet(ENDPOINT, ACCEPT, CIRCUIT, &accept_body(window, nonce)), answer);
+        assert_eq!(script.packet(ENDPOINT, HnsrOpcode::Accept, CIRCUIT, &accept_body(window, nonce)), answer);
     }
-    assert_eq!(script.packet(ENDPOINT, ACCEPT, CIRCUIT, &good), 0);
+    assert_eq!(script.packet(ENDPOINT, HnsrOpcode::Accept, CIRCUIT, &good), 0);
 }
 
 fn windows(script: &mut Script) {
-    for delta in [0_u32, 1, 1_048_576, 1_048_577, u32::MAX, 1_015_808, 1_015_807] {
+    for delta in [0, 1, MAX_WINDOW, MAX_WINDOW + 1, u32::MAX, MAX_WINDOW - WINDOW, MAX_WINDOW - WINDOW - 1] {
         let full = long(&delta.to_le_bytes());
         for length in 0..=full.len() {
-            script.packet(REQUESTER, WINDOW, CIRCUIT, &full[..length]);
+            script.packet(REQUESTER, HnsrOpcode::Window, CIRCUIT, &full[..length]);
         }
     }
 }
 
 fn data(script: &mut Script) {
-    for size in [0, 1, 2, 3, 4, 5, 255, 256, 257, 16_383, 16_384, 16_385, 65_523] {
-        script.packet(REQUESTER, DATA, CIRCUIT, &pattern(size, 5));
-        script.packet(ENDPOINT, DATA, CIRCUIT, &pattern(size, 6));
+    for size in [0, 1, 2, 3, 4, 5, 255, 256, 257, MAX_DATA_SIZE - 1, MAX_DATA_SIZE, MAX_DATA_SIZE + 1, MAX_BODY_SIZE] {
+        script.packet(REQUESTER, HnsrOpcode::Data, CIRCUIT, &pattern(size, 5));
+        script.packet(ENDPOINT, HnsrOpcode::Data, CIRCUIT, &pattern(size, 6));
     }
 }
 
 /// By a third peer, so that nothing ends: 15 says that the body is good.
-fn closings(script: &mut Script, opcode: u8) {
-    for said in [0_u8, 1, 2, 127, 128, 129, 255] {
-        for length in [0, 1, 2, 3, 127, 128, 129, 255, 256] {
-            let body = [&[1, 2, said], &vec![b'a'; length][..]].concat();
+fn closings(script: &mut Script, opcode: HnsrOpcode) {
+    let most = MAX_DETAIL_SIZE;
+    for said in [0, 1, 2, most - 1, most, most + 1, 255] {
+        for length in [0, 1, 2, 3, most - 1, most, most + 1, 255, 256] {
+            let body = [&[1, 2, said as u8], &vec![b'a'; length][..]].concat();
             script.packet(STRANGER, opcode, CIRCUIT, &body);
         }
     }

@@ -1,10 +1,12 @@
 //! `new` at and past every bound of the configuration.
 use crate::script::{Script, small};
+use lekchnam_host::limits::*;
 use lekchnam_traces::file::Places;
 use lekchnam_traces::{Call, Config};
 use oracle::default_config;
 
-const PLACES: Places = Places { pending: 65_536, circuits: 65_536, actions: 262_144, ledger: 1 };
+const PLACES: Places =
+    Places { pending: MAX_RUNTIME_PENDING, circuits: MAX_RUNTIME_CIRCUITS, actions: MAX_RUNTIME_INFLIGHT_ACTIONS, ledger: 1 };
 
 pub fn script() -> Script {
     let mut script = Script::new("config", PLACES);
@@ -18,12 +20,15 @@ pub fn script() -> Script {
 fn sizes() -> Vec<Config> {
     let d = default_config();
     let mut list = Vec::new();
-    for n in [0, 1, 65_535, 65_536, 65_537] {
-        list.push(Config { maximum_pending: n, ..d });
-        list.push(Config { maximum_circuits: n, ..d });
-        list.push(Config { maximum_queue_bytes: n, ..d });
+    let around = |most: usize| [0, 1, most - 1, most, most + 1];
+    let (pending, circuits, queue) = (around(MAX_RUNTIME_PENDING), around(MAX_RUNTIME_CIRCUITS), around(MAX_CIRCUIT_QUEUE));
+    for ((pending, circuits), queue) in pending.into_iter().zip(circuits).zip(queue) {
+        list.push(Config { maximum_pending: pending, ..d });
+        list.push(Config { maximum_circuits: circuits, ..d });
+        list.push(Config { maximum_queue_bytes: queue, ..d });
     }
-    list.extend([0, 1, 31, 32, 33, 65_535].map(|n| Config { maximum_circuits_per_peer: n, ..d }));
+    let per_peer = [0, 1, MAX_CIRCUITS - 1, MAX_CIRCUITS, MAX_CIRCUITS + 1, u16::MAX];
+    list.extend(per_peer.map(|n| Config { maximum_circuits_per_peer: n, ..d }));
     list
 }
 
@@ -38,7 +43,10 @@ fn actions() -> Vec<Config> {
     let (per_circuit, per_peer) = (d.maximum_inflight_actions_per_circuit, d.maximum_inflight_actions_per_peer);
     let total = d.maximum_inflight_actions;
     let mut list = Vec::new();
-    for n in [0, 1, 2, 127, 128, 129, 4_095, 4_096, 4_097, 65_536, 262_143, 262_144, 262_145] {
+    let most = MAX_RUNTIME_INFLIGHT_ACTIONS;
+    let beside = |n: usize| [n - 1, n, n + 1];
+    let edges = [&[0, 1, 2], &beside(per_circuit)[..], &beside(per_peer), &[total], &beside(most)].concat();
+    for n in edges {
         list.push(all(n, per_circuit, per_peer));
         list.push(all(total, n, per_peer));
         list.push(all(total, per_circuit, n));
@@ -51,7 +59,7 @@ fn actions() -> Vec<Config> {
 fn amounts() -> Vec<Config> {
     let d = default_config();
     let both = |n| [Config { maximum_bytes_per_circuit: n, ..d }, Config { accept_timeout_seconds: n, ..d }];
-    [0, 1, 10, 11, u64::MAX].map(both).concat()
+    [0, 1, MAX_OPEN_DEADLINE_SECONDS, MAX_OPEN_DEADLINE_SECONDS + 1, u64::MAX].map(both).concat()
 }
 
 fn sessions(script: &mut Script) {

@@ -1,4 +1,5 @@
 //! A trace written call by call, and the calls that every script is made of.
+use lekchnam_host::HnsrOpcode;
 use lekchnam_traces::bytes::unhex;
 use lekchnam_traces::file::{Places, Writer};
 use lekchnam_traces::replay::Machine;
@@ -10,12 +11,8 @@ pub const REQUESTER: &[u8] = b"req";
 pub const ENDPOINT: &[u8] = b"end";
 pub const CONTEXT: [u8; 8] = *b"context1";
 pub const CIRCUIT: [u8; 8] = *b"circuit1";
-pub const OPEN: u8 = 13;
-pub const ACCEPT: u8 = 15;
-pub const DATA: u8 = 17;
-pub const WINDOW: u8 = 18;
-pub const CLOSE: u8 = 19;
-pub const ERROR: u8 = 20;
+/// The window that every OPEN offers.
+pub const WINDOW: u32 = 32_768;
 /// The time of every packet.
 pub const NOW: u64 = 100;
 
@@ -60,25 +57,25 @@ impl Script {
         self.call(Call::New { session: [1; 16], generation: 1, config, now: NOW })
     }
 
-    pub fn packet(&mut self, source: &[u8], opcode: u8, context: [u8; 8], body: &[u8]) -> u8 {
+    pub fn packet(&mut self, source: &[u8], opcode: HnsrOpcode, context: [u8; 8], body: &[u8]) -> u8 {
         self.handle(source, opcode, context, body, None, &[])
     }
 
     /// An OPEN that is admitted.
     pub fn open(&mut self, source: &[u8], context: [u8; 8], body: &[u8], random: &[u8]) -> u8 {
-        self.handle(source, OPEN, context, body, Some(grant()), random)
+        self.handle(source, HnsrOpcode::Open, context, body, Some(grant()), random)
     }
 
     fn handle(
         &mut self,
         source: &[u8],
-        opcode: u8,
+        opcode: HnsrOpcode,
         context: [u8; 8],
         body: &[u8],
         admission: Option<Grant>,
         random: &[u8],
     ) -> u8 {
-        let (source, body, random) = (source.to_vec(), body.to_vec(), random.to_vec());
+        let (source, opcode, body, random) = (source.to_vec(), opcode.into(), body.to_vec(), random.to_vec());
         self.call(Call::Handle { source, opcode, context, body, now: NOW, key_valid: true, admission, random })
     }
 }
@@ -110,7 +107,7 @@ fn grant() -> Grant {
 pub fn open_body() -> Vec<u8> {
     let (ticket, reservation, profile, nonce) = ([1; 32], [2; 16], 1_u16.to_le_bytes(), [4; 16]);
     let key = unhex(KEY).expect("a key in hex");
-    [&ticket[..], &reservation, &key, &profile, &nonce, &32_768_u32.to_le_bytes()].concat()
+    [&ticket[..], &reservation, &key, &profile, &nonce, &WINDOW.to_le_bytes()].concat()
 }
 
 /// The body of an ACCEPT.

@@ -1,5 +1,6 @@
 //! Every queueing with the sequence at, or one below, 2^64 - 1.
 use crate::script::*;
+use lekchnam_host::HnsrOpcode;
 use lekchnam_traces::file::Places;
 use lekchnam_traces::{Call, Config};
 
@@ -75,7 +76,7 @@ fn poked(script: &mut Script, config: Config, tight: bool, top: u64, step: Step)
     script.new_relay(config);
     script.open(REQUESTER, CONTEXT, &open_body(), &CIRCUIT);
     if step.active() {
-        script.packet(ENDPOINT, ACCEPT, CIRCUIT, &accept_body(32_768, 5));
+        script.packet(ENDPOINT, HnsrOpcode::Accept, CIRCUIT, &accept_body(WINDOW, 5));
     }
     if tight && step != Step::Accept {
         fill(script, step);
@@ -91,7 +92,7 @@ fn poked(script: &mut Script, config: Config, tight: bool, top: u64, step: Step)
 fn fill(script: &mut Script, step: Step) {
     let mut close_another = |context, id: [u8; 8]| {
         script.open(REQUESTER, context, &open_body(), &id);
-        script.packet(ENDPOINT, CLOSE, id, &CLOSING);
+        script.packet(ENDPOINT, HnsrOpcode::Close, id, &CLOSING);
     };
     close_another(SECOND_CONTEXT, SECOND_CIRCUIT);
     if !step.active() {
@@ -101,13 +102,13 @@ fn fill(script: &mut Script, step: Step) {
 
 fn take(script: &mut Script, step: Step) {
     match step {
-        Step::Accept => _ = script.packet(ENDPOINT, ACCEPT, CIRCUIT, &accept_body(32_768, 5)),
-        Step::CloseByRequester => _ = script.packet(REQUESTER, CLOSE, CONTEXT, &CLOSING),
-        Step::ErrorByEndpoint | Step::ErrorCircuit => _ = script.packet(ENDPOINT, ERROR, CIRCUIT, &CLOSING),
+        Step::Accept => _ = script.packet(ENDPOINT, HnsrOpcode::Accept, CIRCUIT, &accept_body(WINDOW, 5)),
+        Step::CloseByRequester => _ = script.packet(REQUESTER, HnsrOpcode::Close, CONTEXT, &CLOSING),
+        Step::ErrorByEndpoint | Step::ErrorCircuit => _ = script.packet(ENDPOINT, HnsrOpcode::Error, CIRCUIT, &CLOSING),
         Step::IncomingFails => _ = script.call(Call::Acknowledge { generation: 1, sequence: 1, delivered: false }),
-        Step::Data => both_twice(script, DATA, b"data"),
-        Step::Window => both_twice(script, WINDOW, &[1, 0, 0, 0]),
-        Step::CloseCircuit => _ = script.packet(REQUESTER, CLOSE, CIRCUIT, &CLOSING),
+        Step::Data => both_twice(script, HnsrOpcode::Data, b"data"),
+        Step::Window => both_twice(script, HnsrOpcode::Window, &[1, 0, 0, 0]),
+        Step::CloseCircuit => _ = script.packet(REQUESTER, HnsrOpcode::Close, CIRCUIT, &CLOSING),
         Step::Disconnect => _ = script.call(Call::Disconnect { peer: REQUESTER.to_vec() }),
         Step::ExpirePending => _ = script.call(Call::Expire { now: 200 }),
         Step::Revoke => _ = script.call(Call::Revoke { reservation: [2; 16] }),
@@ -116,7 +117,7 @@ fn take(script: &mut Script, step: Step) {
     }
 }
 
-fn both_twice(script: &mut Script, opcode: u8, body: &[u8]) {
+fn both_twice(script: &mut Script, opcode: HnsrOpcode, body: &[u8]) {
     for _ in 0..2 {
         script.packet(REQUESTER, opcode, CIRCUIT, body);
         script.packet(ENDPOINT, opcode, CIRCUIT, body);

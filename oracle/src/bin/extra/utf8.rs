@@ -1,5 +1,6 @@
 //! Details around every edge of RFC 3629. No circuit is there, so 14 says that the body is good.
-use crate::script::{CLOSE, ERROR, REQUESTER, Script, small};
+use crate::script::{REQUESTER, Script, small};
+use lekchnam_host::HnsrOpcode;
 
 const SAMPLES: [&str; 4] = ["A\u{2262}\u{391}.", "\u{d55c}\u{ad6d}\u{c5b4}", "\u{65e5}\u{672c}\u{8a9e}", "\u{feff}\u{233b4}"];
 const SECOND: [u8; 10] = [0x00, 0x7f, 0x80, 0x8f, 0x90, 0x9f, 0xa0, 0xbf, 0xc0, 0xff];
@@ -9,7 +10,7 @@ pub fn script() -> Script {
     let mut script = Script::of_small("utf8: no circuit is there, so 14 says that the body is good");
     script.new_relay(small());
     for (index, detail) in details().iter().enumerate() {
-        let opcode = if index % 2 == 0 { CLOSE } else { ERROR };
+        let opcode = if index % 2 == 0 { HnsrOpcode::Close } else { HnsrOpcode::Error };
         let body = [&[9, 0, detail.len() as u8], &detail[..]].concat();
         script.packet(REQUESTER, opcode, *b"nowhere!", &body);
     }

@@ -1,7 +1,7 @@
 //! What traces reach, counted.
 use lekchnam_traces::Event;
 use lekchnam_traces::coverage::{Item, items};
-use std::collections::BTreeMap;
+use std::collections::{BTreeMap, BTreeSet};
 use std::fmt::Display;
 
 type Counts<Key> = BTreeMap<Key, u64>;
@@ -57,7 +57,8 @@ impl Stats {
         let total: u64 = answers.values().sum();
         let taken: u64 = answers.iter().filter(|((_, number), _)| *number == 0).map(|(_, count)| count).sum();
         println!("traces {}  calls {total}  taken {taken} ({:.1} %)\n", self.traces, 100.0 * taken as f64 / total as f64);
-        let numbers: Vec<u8> = (0..=21).filter(|n| answers.keys().any(|(_, m)| m == n)).collect();
+        let numbers: BTreeSet<u8> = answers.keys().map(|(_, number)| *number).collect();
+        let numbers: Vec<u8> = numbers.into_iter().collect();
         let mut labels: Vec<&str> = answers.keys().map(|(label, _)| *label).collect();
         labels.dedup();
         let cell = |label, number: &u8| answers.get(&(label, *number)).copied().unwrap_or(0);

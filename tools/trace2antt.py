@@ -14,6 +14,8 @@ A trace file is made with `trace gen SEED COUNT CALLS DIR --full [--state]`.
 Of a trace that needs tables of more than LIMIT places only answers and words are compared.
 """
 import os, sys
+from limits import CLOSING_WORDS, HANDLE_WORDS
+ROOM = 1000000  # output words lent to a call that revokes: more than any trace's records need
 LIMIT = 3000  # places of the largest table that is still lent
 TEXTS = ['HNSR_context_ID_is_zero', 'invalid_HNSR_open_parameters', 'invalid_HNSR_incoming_parameters', 'invalid_HNSR_accept_response',
          'HNSR_circuit_ID_is_zero', 'invalid_HNSR_DATA_size', 'invalid_HNSR_window_credit', 'invalid_HNSR_diagnostic_detail', 'HNSR_detail_is_not_UTF-8']
@@ -40,12 +42,12 @@ def call(name, f):
             e, r, x, m, b, t = f[6].split(':')
             adm = f'(grantOf {byte_list(hx(e) if e else b"")} {reservation(hx(r))} {x} {m} {b} {t})'
         return f'item (packetOf {byte_list(hx(f[0]))} {f[1]} {number(hx(f[2]))} {body(f[3])} {f[4]} {boolean(f[5])} {adm} {byte_list(hx(f[7]))})'
-    if name == 'acknowledge': return f'item (callAcknowledge {f[0]} {f[1]} {boolean(f[2])} 96)'
-    if name == 'disconnect': return f'item (callDisconnect {byte_list(hx(f[0]))} 1000000)'
-    if name == 'revoke_reservation': return f'item (callRevokeReservation {reservation(hx(f[0]))} 1000000)'
-    if name == 'expire': return f'item (callExpire {f[0]} 1000000)'
+    if name == 'acknowledge': return f'item (callAcknowledge {f[0]} {f[1]} {boolean(f[2])} {CLOSING_WORDS})'
+    if name == 'disconnect': return f'item (callDisconnect {byte_list(hx(f[0]))} {ROOM})'
+    if name == 'revoke_reservation': return f'item (callRevokeReservation {reservation(hx(f[0]))} {ROOM})'
+    if name == 'expire': return f'item (callExpire {f[0]} {ROOM})'
     if name == 'observe_time': return f'item (callObserveTime {f[0]})'
-    if name == 'replace_enabled': return f'item (callReplaceEnabled {f[0]} {boolean(f[1])} 1000000)'
+    if name == 'replace_enabled': return f'item (callReplaceEnabled {f[0]} {boolean(f[1])} {ROOM})'
     if name == 'poke_sequence': return f'poke {f[0]}'
     raise SystemExit('unknown call ' + name)
 
@@ -179,7 +181,7 @@ grantOf endpoint id expiry most each total = record
 
 unfoldable pub packetOf : List ℕ → ℕ → ℕ → List ℕ → ℕ → Bool → Admission → List ℕ → Call
 packetOf source opcode context body now key admission random =
-    callHandle (record { source = source; opcode = opcode; context = context; body = body; now = now; keyValid = key; admission = admission; random = random }) 4136
+    callHandle (record { source = source; opcode = opcode; context = context; body = body; now = now; keyValid = key; admission = admission; random = random }) HANDLE_WORDS
 
 -- ---- what is seen of an outcome
 -- words two to a number, again and again: sixteen to a number. With the count it says every word
@@ -365,7 +367,7 @@ def main():
     open(f'{out}/crates/traces/src/lib.rt', 'w').write('pub fn one() -> u64 {\n    1\n}\n')
     S = f'{out}/crates/traces/specs'
     for n in os.listdir(S): os.remove(f'{S}/{n}')
-    open(f'{S}/Help.antt', 'w').write(HELP)
+    open(f'{S}/Help.antt', 'w').write(HELP.replace('HANDLE_WORDS', str(HANDLE_WORDS)))
     names, calls = [], 0
     for path in files:
         places, rows = read(path, with_state)

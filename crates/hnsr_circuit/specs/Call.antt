@@ -34,6 +34,25 @@ pub data Call : Type 0 where
   callRevokeReservation : (id : ReservationId) → (room : ℕ) → Call
   callExpire : (now : ℕ) → (room : ℕ) → Call
 
+-- ---- what is said of some calls, and of all others alike
+abbrev pub onCall : {A : Type 0} → (status : A) → (handle : Packet → (room : ℕ) → A)
+    → (acknowledge : (generation sequence : ℕ) → (delivered : Bool) → (room : ℕ) → A)
+    → (disconnect : (peer : List ℕ) → (room : ℕ) → A) → (other : Call → A) → Call → A
+onCall s h a d o callStatus = s
+onCall s h a d o (callHandle q room) = h q room
+onCall s h a d o (callAcknowledge generation sequence delivered room) = a generation sequence delivered room
+onCall s h a d o (callDisconnect peer room) = d peer room
+onCall s h a d o callNextDue = o callNextDue
+onCall s h a d o (callObserveTime now) = o (callObserveTime now)
+onCall s h a d o (callReplaceEnabled expected enabled room) = o (callReplaceEnabled expected enabled room)
+onCall s h a d o (callRevokeReservation id room) = o (callRevokeReservation id room)
+onCall s h a d o (callExpire now room) = o (callExpire now room)
+
+-- of `handle` alone
+abbrev pub onHandle : {A : Type 0} → (other : A) → (handle : Packet → (room : ℕ) → A) → Call → A
+onHandle o h c = onCall o h (λ generation sequence delivered room. o) (λ peer room. o) (λ x. o) c
+
+-- ---- the steps
 unfoldable pub start : World → Start → Outcome
 start w s = newRelay w (s .session) (s .generation) (s .config) (s .now)
 

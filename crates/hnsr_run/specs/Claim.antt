@@ -19,9 +19,8 @@ use Rattle.hnsr_circuit.specs.Route.{Route}
 use Rattle.hnsr_circuit.specs.Opcode.{opOpen, opData}
 use Rattle.hnsr_circuit.specs.Entry.{handleWords, acknowledgeWords}
 use Rattle.hnsr_circuit.specs.Packet.{Packet, sender, circuitIn}
-use Rattle.hnsr_circuit.specs.Call.{Start, Call, callStatus, callHandle, callAcknowledge}
+use Rattle.hnsr_circuit.specs.Call.{Start, Call, callStatus, callHandle, callAcknowledge, onHandle}
 use Rattle.hnsr_run.specs.Past.{Action, Past, peerOn, credit, circuitLeft, totalLeft, weight}
-use Rattle.hnsr_run.specs.OnCall.{onHandle}
 use Rattle.hnsr_run.specs.History.{Event, begin, afterEvent, reckon}
 
 -- the total that the grant of an admitted OPEN brings is below 2^64 − 1. Its bytes per circuit need no bound: the configuration's stands above them

@@ -1,5 +1,4 @@
 -- ---- the claim
-pub mod OnCall
 pub mod Past
 pub mod History
 pub mod Words

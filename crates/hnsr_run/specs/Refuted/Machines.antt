@@ -20,8 +20,7 @@ use Rattle.hnsr_circuit.specs.Opcode.{opData}
 use Rattle.hnsr_circuit.specs.Entry.{handleWords, clockAnswer}
 use Rattle.hnsr_circuit.specs.Handle.{entryAnswer}
 use Rattle.hnsr_circuit.specs.Packet.{Packet, sender}
-use Rattle.hnsr_circuit.specs.Call.{Start, Call, start, step, callStatus, callHandle, callAcknowledge, callDisconnect}
-use Rattle.hnsr_run.specs.OnCall.{onCall}
+use Rattle.hnsr_circuit.specs.Call.{Start, Call, start, step, callStatus, callHandle, callAcknowledge, callDisconnect, onCall}
 use Rattle.hnsr_run.specs.Past.{Past, peerOn}
 use Rattle.hnsr_run.specs.History.{begin}
 use Rattle.hnsr_run.specs.Claim.{Sends, Machine, events, below, Holds, Run}
